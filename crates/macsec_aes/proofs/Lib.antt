@@ -1,0 +1,5 @@
+pub mod Tables
+pub mod States
+pub mod Expansion
+pub mod Products
+pub mod Inverses

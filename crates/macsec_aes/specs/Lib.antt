@@ -1,0 +1,5 @@
+pub mod Field
+pub mod Aes
+pub mod Keys
+pub mod Schedule
+pub mod Laws

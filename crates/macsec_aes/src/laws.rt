@@ -1,0 +1,10 @@
+//! A law of the field of bytes (FIPS 197, 4.2), over its definition alone: it is the contract of a
+//! function that does nothing.
+
+ghost use Rattle.macsec_aes.specs.Laws.{InverseIsByte, OneInverse};
+
+/// For each byte other than 0 there is one byte, and only one, whose product with it is 1.
+pub fn one_inverse()
+    ensures byte { InverseIsByte }
+    ensures only { OneInverse }
+{}
