@@ -1,0 +1,2 @@
+pub mod Iterations
+pub mod Sums
