@@ -1,0 +1,11 @@
+use Rattle.std.proofs.Common.{refl, ◌∷◌, []}
+use Rattle.macsec_ghash.specs.Ghash.{ghash}
+use Rattle.macsec_ghash.proofs.Blocks.{ghash-append}
+use Rattle.macsec_ghash.proofs.laws.ghash_by_steps.Goals as goal
+
+pub returns-clause-none : goal.returns-clause-none
+unfolding ghash
+returns-clause-none c = λ h. refl
+
+pub returns-clause-one_more : goal.returns-clause-one_more
+returns-clause-one_more c = λ h xs x. ghash-append h xs (x ∷ [])

@@ -1,0 +1,25 @@
+-- GHASH (SP 800-38D, 6.4). A block is a number of 128 bits, a text is a list of octets.
+use Rattle.std.specs.Prelude.{ℕ, zero, suc, ◌+◌, ◌-◌, ◌/◌, List, [], ◌∷◌, ◌++◌, length, take, drop, fold, replicate, bit_xor}
+use Rattle.std.specs.Int.{w128, from_be_bytes}
+use Rattle.macsec_field128.specs.Field.{block_product}
+
+-- the hash y of some blocks, with one block x more (6.4, step 3)
+abbrev pub hash_next : ℕ → ℕ → ℕ → ℕ
+hash_next h y x = block_product (bit_xor y x) h
+
+-- the hash of blocks under h: from 0 on, each block is added and the sum multiplied by h (6.4)
+unfoldable pub ghash : ℕ → List ℕ → ℕ
+ghash h blocks = fold (hash_next h) 0 blocks
+
+-- the block of at most 16 octets, filled with zeros on the right (7.1, steps 4 and 5)
+unfoldable pub block_of : List ℕ → ℕ
+block_of octets = from_be_bytes w128 (octets ++ replicate (16 - length octets) 0)
+
+-- the first n blocks of a text, filled with zeros past its end (7.1, steps 4 and 5)
+unfoldable pub blocks_of : ℕ → List ℕ → List ℕ
+blocks_of zero text = []
+blocks_of (suc n) text = block_of (take 16 text) ∷ blocks_of n (drop 16 text)
+
+-- the blocks of a text, the last of them filled with zeros: none of an empty text (7.1, steps 4 and 5)
+unfoldable pub pad : List ℕ → List ℕ
+pad text = blocks_of ((length text + 15) / 16) text

@@ -1,0 +1,2 @@
+pub mod Ghash
+pub mod Laws
