@@ -1,0 +1,11 @@
+use Rattle.std.proofs.Common.{◌≡◌, ◌*◌}
+use Rattle.std.specs.Fn.{iterate}
+use Rattle.macsec_gcm.specs.Gcm.{inc32}
+use Rattle.macsec_gcm.proofs.KeyStreams.{IsSumBelow, key_stream}
+use Rattle.macsec_gcm.proofs.GcmKey.gctr.Given as goal
+
+abbrev pub invariant-loop-i : goal.invariant-loop-i
+invariant-loop-i l = record {
+  counter : l.counter ≡ iterate inc32 l.i l.fn.icb;
+  sum : IsSumBelow (key_stream l.self l.fn.icb) l.fn.text l.text (16 * l.i);
+}

@@ -1,0 +1,8 @@
+use Rattle.std.proofs.Common.{List, ℕ, ap, ◌∙◌}
+use Rattle.std.specs.Int.{w128, from_be_bytes}
+use Rattle.macsec_gcm.specs.Gcm.{hash_subkey}
+use Rattle.macsec_gcm.proofs.GcmKey.new.Goals as goal
+
+pub invariant_of-result : goal.invariant_of-result
+unfolding hash_subkey
+invariant_of-result c = c.from_be_bytes.ensures ∙ ap (λ (b : List ℕ). from_be_bytes w128 b) c.encrypt.ensures

@@ -1,0 +1,2 @@
+pub mod Gcm
+pub mod Octets
