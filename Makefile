@@ -1,13 +1,32 @@
-# `make run` builds the proved program and runs it on the first example; `make check` is the gate.
+# `make` builds the proved program as build/macsec, `make run` runs it on the first example,
+# `make check` is the gate, and `make bench` measures the plain cipher.
 RT := $(shell command -v rt 2>/dev/null)
+SOURCES := crates.txt $(shell find crates -name out -prune -o -type f \( -name '*.rt' -o -name '*.antt' \) -print)
 
-.PHONY: check toolchain
+.PHONY: all run check bench toolchain clean
+
+all: build/macsec
+
+run: build/macsec
+	@build/macsec run - < examples/first-frame.macsec
 
 check: toolchain
 	rt ci
 
+bench: toolchain
+	cd crates/macsec_bench && rt run -- measure
+
+# The program is built once it is proved; here it is run on an empty script, which prints nothing.
+build/macsec: $(SOURCES) | toolchain
+	cd crates/macsec_cli && rt run -- run - < /dev/null
+	mkdir -p build
+	cp crates/macsec_cli/out/macsec_cli build/macsec
+
 toolchain:
 ifeq ($(RT),)
-	@echo "rt, the command of the Rattle toolchain, is not on the PATH: install Rattle and put its bin/ there." >&2
+	@echo "rt, the command of the Rattle toolchain, is not on the PATH: install Rattle and put its bin/ on the PATH." >&2
 	@exit 1
 endif
+
+clean:
+	rm -rf build

@@ -1,0 +1,160 @@
+-- Lines of the script language and what they say.
+use Rattle.std.specs.Prelude.{◌≡◌, ℕ, ◌++◌, List, [], ◌∷◌, replicate, false, codes, Some, None, Ok, Err, refl}
+use Rattle.std.specs.Fmt.{digits}
+use Rattle.hex.proofs.OnLiterals.{hex_on_literals}
+use Rattle.macsec_aes.specs.declared.Key.TheVariants.{K128}
+use Rattle.macsec_cli.specs.declared.channel.TagForm.TheVariants as form
+use Rattle.macsec_cli.specs.declared.endpoint.Command.TheVariants as by
+use Rattle.macsec_cli.specs.declared.endpoint.Suite.TheVariants.{Gcm128}
+use Rattle.macsec_cli.specs.declared.lines.End.TheVariants.{A, B}
+use Rattle.macsec_cli.specs.declared.lines.Line.TheVariants as line
+use Rattle.macsec_cli.specs.declared.lines.LineFault.TheVariants.{Word, Count, Hex, Number, LineLong}
+use Rattle.macsec_cli.specs.declared.faults.ScriptFault.TheVariants as script
+use Rattle.macsec_cli.specs.Kinds.{line_of}
+use Rattle.macsec_cli.specs.Printed.{printed}
+
+-- ---- lines that are skipped
+
+blank : line_of (codes " \t\r") ≡ Ok None
+blank = refl
+
+comment : line_of (codes " \t#frob") ≡ Ok None
+comment = refl
+
+-- ---- keywords that there are not
+
+frob : line_of (codes "A frob") ≡ Err Word
+frob = refl
+
+of_b : line_of (codes "B send 00") ≡ Err Word
+of_b = refl
+
+other_end : line_of (codes "C send 00") ≡ Err Word
+other_end = refl
+
+no_end : line_of (codes "send 00") ≡ Err Word
+no_end = refl
+
+tag_form : line_of (codes "end A gcm128 12153524c0895e81 1518 none") ≡ Err Word
+unfolding hex_on_literals
+tag_form = refl
+
+protection : line_of (codes "A txsa 2 0 b2c28465 conf") ≡ Err Word
+protection = refl
+
+-- ---- too few words or too many
+
+alone : line_of (codes "A") ≡ Err Count
+alone = refl
+
+too_few : line_of (codes "A send") ≡ Err Count
+too_few = refl
+
+too_many : line_of (codes "A txon 2 3") ≡ Err Count
+too_many = refl
+
+-- ---- words that are not hex
+
+odd : line_of (codes "A send 0") ≡ Err Hex
+unfolding hex_on_literals
+odd = refl
+
+no_digit : line_of (codes "A send 0g") ≡ Err Hex
+unfolding hex_on_literals
+no_digit = refl
+
+short_sci : line_of (codes "end A gcm128 00 1518 sci") ≡ Err Hex
+unfolding hex_on_literals
+short_sci = refl
+
+short_key : line_of (codes "A key 0 ad7a 0") ≡ Err Hex
+unfolding hex_on_literals
+short_key = refl
+
+seventeen_digits : line_of (codes "A txsa 0 0 00000000000000001 int") ≡ Err Hex
+seventeen_digits = refl
+
+-- ---- numbers out of range
+
+key_256 : line_of (codes "A key 256 ad7a2bd03eac835a6f620fdcb506b345 0") ≡ Err Number
+key_256 = refl
+
+an_4 : line_of (codes "A txon 4") ≡ Err Number
+an_4 = refl
+
+offset_30 : line_of (codes "A key 0 ad7a2bd03eac835a6f620fdcb506b345 30") ≡ Err Number
+unfolding hex_on_literals
+offset_30 = refl
+
+small_frames : line_of (codes "end A gcm128 12153524c0895e81 63 sci") ≡ Err Number
+unfolding hex_on_literals
+small_frames = refl
+
+twenty_one_digits : line_of (codes "A txon 000000000000000000002") ≡ Err Number
+twenty_one_digits = refl
+
+-- ---- long lines
+
+longest : line_of (codes "A send " ++ replicate 19993 103) ≡ Err Hex
+unfolding hex_on_literals
+longest = refl
+
+too_long : line_of (codes "A send " ++ replicate 19994 48) ≡ Err LineLong
+too_long = refl
+
+-- ---- lines that say something
+
+end_a : line_of (codes "end A gcm128 12153524c0895e81 1518 sci") ≡
+    Ok (Some (line.End A (record {
+      suite = Gcm128;
+      sci = record { 0 = 18 ∷ 21 ∷ 53 ∷ 36 ∷ 192 ∷ 137 ∷ 94 ∷ 129 ∷ [] };
+      max_frame = 1518;
+      form = form.Sci;
+    })))
+unfolding hex_on_literals
+end_a = refl
+
+key : line_of (codes "A key 7 000102030405060708090A0B0C0D0E0F 0") ≡
+    Ok (Some (line.Command (by.Key (record {
+      number = 7;
+      bytes = K128 (0 ∷ 1 ∷ 2 ∷ 3 ∷ 4 ∷ 5 ∷ 6 ∷ 7 ∷ 8 ∷ 9 ∷ 10 ∷ 11 ∷ 12 ∷ 13 ∷ 14 ∷ 15 ∷ []);
+    }))))
+unfolding hex_on_literals
+key = refl
+
+tx_sa : line_of (codes "A  txsa\t2 00 b2C28465 int\r") ≡ Ok (Some (line.Command (by.TxSa 2 0 2999092325)))
+tx_sa = refl
+
+tx_on : line_of (codes "A txon 02") ≡ Ok (Some (line.Command (by.TxOn 2)))
+tx_on = refl
+
+send : line_of (codes "A send 0aFf") ≡ Ok (Some (line.Send (10 ∷ 255 ∷ [])))
+unfolding hex_on_literals
+send = refl
+
+-- ---- scripts
+
+nothing : printed (codes "# nothing\n\n") ≡ Ok []
+nothing = refl
+
+no_end_b : printed (codes "end A gcm128 12153524c0895e81 1518 sci\n") ≡ Err (script.Ends 1)
+unfolding hex_on_literals
+no_end_b = refl
+
+-- the fault of a line of the script is Word
+few_words_for_a_key : printed (codes "end A gcm128 12153524c0895e81 1518 sci\nA key 256\n") ≡ Err (script.Word 2)
+unfolding hex_on_literals
+few_words_for_a_key = refl
+
+other_port : printed (codes "end A gcm128 12153524c0895e81 1518 sci\nend B gcm128 0000000000000002 1518 es\n") ≡ Err (script.Word 2)
+unfolding hex_on_literals
+other_port = refl
+
+five_lines : printed (codes "end A gcm128 12153524c0895e81 1518 sci\nend B gcm128 0000000000000002 1518 auto\nA key 0 ad7a2bd03eac835a6f620fdcb506b345 0\nA txsa 2 0 b2c28465 int\nA txon 2\n") ≡ Ok (codes "3 done\n4 done\n5 done\n")
+unfolding hex_on_literals digits
+five_lines = refl
+
+-- a last line without a line feed counts, and a skipped line has its number
+four_lines : printed (codes "#\nend A gcm128 12153524c0895e81 1518 sci\nend B gcm128 0000000000000001 1518 es\nA key 0 ad7a2bd03eac835a6f620fdcb506b345 0") ≡ Err (script.Ends 4)
+unfolding hex_on_literals
+four_lines = refl

@@ -1,0 +1,84 @@
+-- The endpoint as a machine: its state, what comes in, what goes out.
+use Rattle.std.specs.Prelude.{◌==◌, ℕ, ◌+◌, List, length, Bool, true, false, nat_lt, if◌then◌else◌, Option, Some, None, option_map}
+use Rattle.macsec_aes.specs.Keys.{key_bytes}
+use Rattle.macsec_cli.specs.declared.channel.TxRow.{TxRow}
+use Rattle.macsec_cli.specs.declared.endpoint.EndConfig.{EndConfig}
+use Rattle.macsec_cli.specs.declared.endpoint.NewKey.{NewKey}
+use Rattle.macsec_cli.specs.declared.endpoint.Command.{Command}
+use Rattle.macsec_cli.specs.declared.endpoint.Command.TheVariants.{Key, TxSa, TxOn}
+use Rattle.macsec_cli.specs.declared.endpoint.FrameFault.{FrameFault}
+use Rattle.macsec_cli.specs.declared.endpoint.FrameFault.TheVariants.{Short, Long}
+use Rattle.macsec_cli.specs.declared.channel.TxOptions.{TxOptions}
+use Rattle.macsec_cli.specs.declared.suite.KeyRow.{KeyRow}
+use Rattle.macsec_cli.specs.Transmit.{Leaving, no_sa, too_long, made, leaving, row_after}
+
+-- the key and the transmit association, once they are there
+pub record State : Type 0 where
+  pub config : EndConfig
+  pub key : Option KeyRow
+  pub association : Option TxRow
+
+-- the state after making
+abbrev pub start : EndConfig → State
+start config = record { config = config; key = None; association = None }
+
+-- ---- commands
+
+abbrev pub new_row : NewKey → KeyRow
+new_row k = record { number = k.number; key = key_bytes k.bytes }
+
+abbrev pub new_association : ℕ → ℕ → ℕ → TxRow
+new_association an key next = record { an = an; key = key; next = next; on = false }
+
+-- this association is on, and every other one off
+abbrev pub switch_to : ℕ → TxRow → TxRow
+switch_to an row = record row { on = row.an == an }
+
+abbrev pub state_after_command : Command → State → State
+state_after_command (Key k) s = record s { key = Some (new_row k) }
+state_after_command (TxSa an key next) s = record s { association = Some (new_association an key next) }
+state_after_command (TxOn an) s = record s { association = option_map (switch_to an) s.association }
+
+-- ---- a client's frame
+
+-- what transmission goes by
+abbrev pub tx_options : State → TxOptions
+tx_options s = record { sci = s.config.sci; max_frame = s.config.max_frame }
+
+abbrev pub leaving_frame : List ℕ → State → Leaving
+leaving_frame frame s = leaving (tx_options s) s.key s.association frame
+
+abbrev pub state_after_frame : List ℕ → State → State
+state_after_frame frame s = record s { association = option_map (row_after (leaving_frame frame s)) s.association }
+
+-- ---- the machine
+
+pub data Input : Type 0 where
+  operator_command : Command → Input
+  client_frame : List ℕ → Input
+
+pub data Output : Type 0 where
+  done : Output
+  leaves : (frame : List ℕ) → Output
+  dropped_no_sa : Output
+  dropped_too_long : Output
+  fault : FrameFault → Output
+
+-- a frame of fewer than 14 octets, or of more than 9,248
+abbrev pub frame_fault : List ℕ → Option FrameFault
+frame_fault frame = if nat_lt (length frame) 14 then Some Short else if nat_lt 9248 (length frame) then Some Long else None
+
+abbrev pub sent_output : Leaving → Output
+sent_output no_sa = dropped_no_sa
+sent_output too_long = dropped_too_long
+sent_output (made frame) = leaves frame
+
+-- a fault of the frame leaves the state
+abbrev pub unless_fault : Option FrameFault → State → Output × State → Output × State
+unless_fault None s answer = answer
+unless_fault (Some f) s answer = (fault f, s)
+
+abbrev pub step : State → Input → Output × State
+step s (operator_command c) = (done, state_after_command c s)
+step s (client_frame frame) =
+    unless_fault (frame_fault frame) s (sent_output (leaving_frame frame s), state_after_frame frame s)

@@ -1,0 +1,77 @@
+-- What a word of a line can be, the value that it then has, and how it is read.
+use Rattle.std.specs.Prelude.{ℕ, List, [], ◌∷◌, Bool, true, false, bytes_eq, codes, Result, Ok, Err}
+use Rattle.macsec_aes.specs.declared.Key.{Key}
+use Rattle.macsec_aes.specs.declared.Key.TheVariants.{K128}
+use Rattle.macsec_cli.specs.declared.tag.Sci.{Sci}
+use Rattle.macsec_cli.specs.declared.channel.TagForm.{TagForm}
+use Rattle.macsec_cli.specs.declared.channel.TagForm.TheVariants as form
+use Rattle.macsec_cli.specs.declared.endpoint.Suite.{Suite}
+use Rattle.macsec_cli.specs.declared.endpoint.Suite.TheVariants.{Gcm128}
+use Rattle.macsec_cli.specs.declared.lines.End.{End}
+use Rattle.macsec_cli.specs.declared.lines.End.TheVariants.{A, B}
+use Rattle.macsec_cli.specs.declared.lines.LineFault.{LineFault}
+use Rattle.macsec_cli.specs.declared.lines.LineFault.TheVariants.{Word}
+use Rattle.macsec_cli.specs.Numerals.{decimal_in, packet_number, octets_of, some_octets}
+
+pub data Field : Type 0 where
+  number : (low : ℕ) → (high : ℕ) → Field
+  sci : Field
+  key : Field
+  frame : Field
+  pn : Field
+  at_end : Field
+  suite : Field
+  tag_form : Field
+  protection : Field
+
+abbrev pub Value : Field → Type 0
+Value (number low high) = ℕ
+Value sci = Sci
+Value key = Key
+Value frame = List ℕ
+Value pn = ℕ
+Value at_end = End
+Value suite = Suite
+Value tag_form = TagForm
+Value protection = Bool
+
+-- what a table has for a keyword
+abbrev pub listed : {A : Type 0} → List (List ℕ × A) → List ℕ → Result A LineFault
+listed [] word = Err Word
+listed (row ∷ rows) word = value_or (bytes_eq row.0 word) row.1 (listed rows word)
+  where
+    value_or : {A : Type 0} → Bool → A → Result A LineFault → Result A LineFault
+    value_or true value other = Ok value
+    value_or false value other = other
+
+abbrev pub ends : List (List ℕ × End)
+ends = (codes "A", A) ∷ (codes "B", B) ∷ []
+
+abbrev pub suites : List (List ℕ × Suite)
+suites = (codes "gcm128", Gcm128) ∷ []
+
+abbrev pub forms : List (List ℕ × TagForm)
+forms = (codes "auto", form.Auto) ∷ (codes "sci", form.Sci) ∷ (codes "es", form.Es) ∷ (codes "scb", form.Scb) ∷ []
+
+-- is the client's data also encrypted?
+abbrev pub protections : List (List ℕ × Bool)
+protections = (codes "int", false) ∷ []
+
+-- what a value becomes, where there is one
+abbrev pub map_ok : {A B E : Type 0} → (A → B) → Result A E → Result B E
+map_ok f (Ok x) = Ok (f x)
+map_ok f (Err fault) = Err fault
+
+abbrev pub as_sci : List ℕ → Sci
+as_sci octets = record { 0 = octets }
+
+abbrev pub read_word : (f : Field) → List ℕ → Result (Value f) LineFault
+read_word (number low high) word = decimal_in low high word
+read_word sci word = map_ok as_sci (octets_of 8 word)
+read_word key word = map_ok K128 (octets_of 16 word)
+read_word frame word = some_octets word
+read_word pn word = packet_number word
+read_word at_end word = listed ends word
+read_word suite word = listed suites word
+read_word tag_form word = listed forms word
+read_word protection word = listed protections word

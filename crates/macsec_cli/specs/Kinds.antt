@@ -1,0 +1,96 @@
+-- The kinds of lines, each by its keyword, the words after it, and what it says.
+use Rattle.std.specs.Prelude.{ℕ, ◌==◌, ◌&&◌, List, [], ◌∷◌, length, filter, find, drop, Bool, true, false, not, nat_lt, nat_le, bytes_eq, codes, if◌then◌else◌, Option, Some, None, Result, Ok, Err}
+use Rattle.macsec_cli.specs.declared.endpoint.EndConfig.{EndConfig}
+use Rattle.macsec_cli.specs.declared.endpoint.Command.TheVariants as by
+use Rattle.macsec_cli.specs.declared.lines.End.{End}
+use Rattle.macsec_cli.specs.declared.lines.End.TheVariants.{A, B}
+use Rattle.macsec_cli.specs.declared.lines.Line.{Line}
+use Rattle.macsec_cli.specs.declared.lines.Line.TheVariants as line
+use Rattle.macsec_cli.specs.declared.lines.LineFault.{LineFault}
+use Rattle.macsec_cli.specs.declared.lines.LineFault.TheVariants.{Word, Count, LineLong}
+use Rattle.macsec_cli.specs.Words.{words_of}
+use Rattle.macsec_cli.specs.Fields.{Field, Value, read_word, listed, ends, number, sci, key, frame, pn, at_end, suite, tag_form, protection}
+
+-- what makes a line of the values of its words
+abbrev pub Makes : List Field → Type 0
+Makes [] = Line
+Makes (field ∷ fields) = Value field → Makes fields
+
+pub record Kind : Type 0 where
+  pub keyword : List ℕ
+  pub fields : List Field
+  pub makes : Makes fields
+
+abbrev pub kind : List ℕ → (fields : List Field) → Makes fields → Kind
+kind keyword fields makes = record { keyword = keyword; fields = fields; makes = makes }
+
+abbrev pub an : Field
+an = number 0 3
+
+abbrev pub key_number : Field
+key_number = number 0 255
+
+abbrev pub offset : Field
+offset = number 0 0
+
+abbrev pub max_frame : Field
+max_frame = number 64 9248
+
+-- the lines that begin with an end's letter; they are A's alone
+abbrev pub kinds_at : End → List Kind
+kinds_at A =
+    kind (codes "key") (key_number ∷ key ∷ offset ∷ [])
+    (λ n bytes offset. line.Command (by.Key (record { number = n; bytes = bytes }))) ∷
+    kind (codes "txsa") (an ∷ key_number ∷ pn ∷ protection ∷ []) (λ an n pn conf. line.Command (by.TxSa an n pn)) ∷
+    kind (codes "txon") (an ∷ []) (λ an. line.Command (by.TxOn an)) ∷
+    kind (codes "send") (frame ∷ []) (λ frame. line.Send frame) ∷ []
+kinds_at B = []
+
+-- the other lines
+abbrev pub kinds : List Kind
+kinds =
+    kind (codes "end") (at_end ∷ suite ∷ sci ∷ max_frame ∷ tag_form ∷ [])
+    (λ e suite sci most form. line.End e (record { suite = suite; sci = sci; max_frame = most; form = form })) ∷ []
+
+-- then what an answer is, or its fault
+abbrev pub and_then : {X Y E : Type 0} → Result X E → (X → Result Y E) → Result Y E
+and_then (Ok x) f = f x
+and_then (Err fault) f = Err fault
+
+-- the words from left to right
+abbrev pub read_words : (fields : List Field) → Makes fields → List (List ℕ) → Result Line LineFault
+read_words [] makes words = Ok makes
+read_words (field ∷ fields) makes [] = Err Count
+read_words (field ∷ fields) makes (word ∷ words) = and_then (read_word field word) (λ value. read_words fields (makes value) words)
+
+-- a line of the kind that has this number of words
+abbrev pub read_kind : Option Kind → List (List ℕ) → Result Line LineFault
+read_kind None words = Err Count
+read_kind (Some kind) words = read_words kind.fields kind.makes words
+
+-- the kinds of a keyword, of which there is one or more
+abbrev pub read_as : List Kind → List (List ℕ) → Result Line LineFault
+read_as [] words = Err Word
+read_as (kind ∷ more) words = read_kind (find (λ kind. length kind.fields == length words) (kind ∷ more)) words
+
+-- a line by its keyword and the words after it
+abbrev pub read_line : List Kind → List ℕ → List (List ℕ) → Result Line LineFault
+read_line kinds keyword words = read_as (filter (λ kind. bytes_eq kind.keyword keyword) kinds) words
+
+-- a line that begins with an end's letter has its keyword after it
+abbrev pub read_at : Result End LineFault → List ℕ → List (List ℕ) → Result Line LineFault
+read_at (Ok e) first [] = Err Count
+read_at (Ok e) first (keyword ∷ words) = read_line (kinds_at e) keyword words
+read_at (Err fault) first words = read_line kinds first words
+
+-- a line of no words, or whose first word begins with '#', is skipped
+abbrev pub of_words : List (List ℕ) → Result (Option Line) LineFault
+of_words [] = Ok None
+of_words ([] ∷ words) = Ok None
+of_words ((letter ∷ letters) ∷ words) =
+    if letter == 35 then Ok None
+    else and_then (read_at (listed ends (letter ∷ letters)) (letter ∷ letters) words) (λ line. Ok (Some line))
+
+-- what a line says, without its line feed
+abbrev pub line_of : List ℕ → Result (Option Line) LineFault
+line_of text = if nat_lt 20000 (length text) then Err LineLong else of_words (words_of text)

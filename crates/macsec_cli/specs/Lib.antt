@@ -1,0 +1,15 @@
+pub mod Tag
+pub mod Parts
+pub mod Transmit
+pub mod InPlace
+pub mod Endpoint
+pub mod Shown
+pub mod Rests
+pub mod Words
+pub mod Numerals
+pub mod Fields
+pub mod Kinds
+pub mod Scripts
+pub mod Printed
+pub mod Runs
+pub mod Told

@@ -1,0 +1,69 @@
+-- What a script prints.
+use Rattle.std.specs.Prelude.{ℕ, ◌+◌, List, [], ◌∷◌, ◌++◌, decimal, codes, Option, Some, None, Result}
+use Rattle.hex.specs.Hex.{encode_lower}
+use Rattle.macsec_cli.specs.declared.endpoint.EndConfig.{EndConfig}
+use Rattle.macsec_cli.specs.declared.endpoint.FrameFault.TheVariants.{Short, Long}
+use Rattle.macsec_cli.specs.declared.lines.End.TheVariants.{A, B}
+use Rattle.macsec_cli.specs.declared.lines.Line.{Line}
+use Rattle.macsec_cli.specs.declared.lines.Line.TheVariants as line
+use Rattle.macsec_cli.specs.declared.running.Run.{Run}
+use Rattle.macsec_cli.specs.declared.faults.ScriptFault.{ScriptFault}
+use Rattle.macsec_cli.specs.Endpoint.{State, start, operator_command, client_frame, Output, done, leaves, dropped_no_sa, dropped_too_long, fault, step}
+use Rattle.macsec_cli.specs.Fields.{map_ok}
+use Rattle.macsec_cli.specs.Scripts.{Numbered, script_of}
+
+-- the line that tells an output of line n; a link frame is the next one after k
+abbrev pub output_text : ℕ → ℕ → Output → List ℕ
+output_text n k done = decimal n ++ codes " done\n"
+output_text n k (leaves frame) = decimal n ++ codes " frame " ++ decimal k ++ codes " " ++ encode_lower frame ++ codes "\n"
+output_text n k dropped_no_sa = decimal n ++ codes " dropped NoSA\n"
+output_text n k dropped_too_long = decimal n ++ codes " dropped TooLong\n"
+output_text n k (fault Short) = decimal n ++ codes " fault 5 Short\n"
+output_text n k (fault Long) = decimal n ++ codes " fault 6 Long\n"
+
+abbrev pub frames_after : ℕ → Output → ℕ
+frames_after k done = k
+frames_after k (leaves frame) = k + 1
+frames_after k dropped_no_sa = k
+frames_after k dropped_too_long = k
+frames_after k (fault f) = k
+
+-- what line n prints, and the run after it
+abbrev pub shown_step : Run → ℕ → Output × State → List ℕ × Run
+shown_step r n answer =
+    (output_text n r.frames answer.0, record { endpoint = answer.1; frames = frames_after r.frames answer.0 })
+
+abbrev pub shown_send : Run → ℕ → List ℕ → List ℕ × Run
+shown_send r n frame = shown_step r n (step r.endpoint (client_frame frame))
+
+abbrev pub shown : Run → ℕ → Line → List ℕ × Run
+shown r n (line.End e config) = ([], r)
+shown r n (line.Command c) = shown_step r n (step r.endpoint (operator_command c))
+shown r n (line.Send frame) = shown_send r n frame
+
+abbrev pub text_from : Run → List Numbered → List ℕ
+text_from r [] = []
+text_from r ((n, said) ∷ more) = (shown r n said).0 ++ text_from (shown r n said).1 more
+
+abbrev pub new_run : EndConfig → Run
+new_run config = record { endpoint = start config; frames = 0 }
+
+-- the configuration of an 'end' line for A
+abbrev pub a_config : Line → Option EndConfig
+a_config (line.End A config) = Some config
+a_config (line.End B config) = None
+a_config (line.Command c) = None
+a_config (line.Send frame) = None
+
+abbrev pub text_behind : Option EndConfig → List Numbered → List ℕ
+text_behind None said = []
+text_behind (Some config) said = text_from (new_run config) said
+
+-- what the lines of a script print: the first one makes endpoint A
+abbrev pub text_of : List Numbered → List ℕ
+text_of [] = []
+text_of ((n, first) ∷ said) = text_behind (a_config first) said
+
+-- what a script without fault prints, or its fault
+abbrev pub printed : List ℕ → Result (List ℕ) ScriptFault
+printed text = map_ok text_of (script_of text)

@@ -1,0 +1,151 @@
+//! The endpoint: one key, one transmit association and what its client sends (IEEE 802.1AE, 10).
+
+ghost use Rattle.std.specs.Prelude.{◌≡◌, IfOk};
+ghost use Rattle.std.specs.Borrow.{sem};
+ghost use Rattle.macsec_cli.specs.Endpoint.{start, step, operator_command, client_frame};
+ghost use Rattle.macsec_cli.specs.Rests.{RestsAs};
+ghost use Rattle.macsec_cli.specs.Shown.{shown_sent};
+
+use crate::channel::{TagForm, TxChannel, TxOptions, TxResult};
+use crate::suite::{KeyRow, SuiteKey};
+use crate::tag::{An, Sci};
+use macsec_aes::Key;
+use std::alloc::{AllocError, Global};
+use std::marker::Model;
+
+/// The fewest octets of a client's frame: DA, SA and EtherType.
+const SHORTEST_FRAME: usize = 14;
+
+/// The most octets of a client's frame.
+const LONGEST_FRAME: usize = 9248;
+
+/// The cipher suite of an endpoint.
+#[derive(Clone, Copy)]
+pub enum Suite {
+    Gcm128,
+}
+
+/// What an endpoint is made of: its suite, its SCI, the octets of its largest frame and its tag form.
+#[derive(Clone, Copy)]
+pub struct EndConfig {
+    pub suite: Suite,
+    pub sci: Sci,
+    pub max_frame: u32,
+    pub form: TagForm,
+}
+
+/// A key to be installed.
+#[derive(Clone, Copy)]
+pub struct NewKey {
+    pub number: u8,
+    pub bytes: Key,
+}
+
+/// What an operator asks of an endpoint.
+#[derive(Clone, Copy)]
+pub enum Command {
+    /// Install a key.
+    Key(NewKey),
+    /// Make a transmit association, off.
+    TxSa { an: An, key: u8, next: u64 },
+    /// Switch the transmit association of this number on.
+    TxOn(An),
+}
+
+/// Why a client's frame is not taken: it has fewer than 14 octets, or more than 9,248.
+#[derive(Clone, Copy)]
+pub enum FrameFault {
+    Short,
+    Long,
+}
+
+/// Why nothing leaves for a client's frame.
+#[derive(Clone, Copy)]
+pub enum DropReason {
+    NoSa,
+    TooLong,
+}
+
+/// What becomes of a client's frame: the link frame, lent, or nothing.
+#[derive(Drop)]
+pub enum Sent<'a> {
+    Link(&'a [u8]),
+    Dropped(DropReason),
+}
+
+/// An endpoint. Contracts see it as the state of the machine.
+#[derive(Drop)]
+pub struct Secy {
+    config: EndConfig,
+    key: Option<KeyRow>,
+    tx: TxChannel,
+    room: Vec<u8>,
+}
+
+impl Model for Secy {
+    ghost use Rattle.std.specs.Prelude.{◌≡◌, vec_len};
+    ghost use Rattle.macsec_cli.specs.Endpoint.{State};
+
+    ghost Value = { State };
+
+    ghost view = { λ s. record { config = s.config; key = s.key; association = s.tx } };
+
+    // There is room for the largest frame.
+    ghost invariant = { λ s. vec_len s.room ≡ s.config.max_frame };
+}
+
+impl Secy {
+    /// An endpoint without a key or an association, with room for its largest frame.
+    pub fn new(alloc: Global, config: EndConfig) -> Result<Secy, AllocError>
+        ensures { IfOk result (λ s. s ≡ start config) }
+    {
+        let room = vec![in alloc; 0; config.max_frame as usize]?;
+        Ok(Secy {
+            config,
+            key: None,
+            tx: TxChannel::new(),
+            room,
+        })
+    }
+
+    /// Does what an operator asks.
+    pub fn command(&mut self, command: &Command)
+        ensures { self.new ≡ (step self.old (operator_command command.now)).1 }
+    {
+        match *command {
+            Command::Key(key) => {
+                self.key = Some(KeyRow {
+                    number: key.number,
+                    key: SuiteKey::new(key.bytes),
+                });
+            }
+            Command::TxSa { an, key, next } => self.tx.tx_sa(an, key, next),
+            Command::TxOn(an) => self.tx.tx_on(an),
+        }
+    }
+
+    /// Protects a client's frame and lends the link frame, or says why nothing leaves.
+    pub fn send<'a>(&'a mut self, frame: &'a [u8]) -> Result<Sent<'a>, FrameFault>
+        ensures* after { sem 𝓛 (RestsAs self.entry (step self.old (client_frame frame.now)).1) }
+        ensures sent { shown_sent result ≡ (step self.old (client_frame frame.now)).0 }
+    {
+        if frame.len() < SHORTEST_FRAME {
+            return Err(FrameFault::Short);
+        }
+        if frame.len() > LONGEST_FRAME {
+            return Err(FrameFault::Long);
+        }
+        let options = TxOptions {
+            sci: self.config.sci,
+            max_frame: self.config.max_frame,
+        };
+        let result = self
+            .tx
+            .next_frame(&self.key, &options, frame, self.room.as_mut_slice());
+        match result {
+            TxResult::Made { len } => Ok(Sent::Link(&self.room.as_slice()[..len])),
+            TxResult::NoSa => Ok(Sent::Dropped(DropReason::NoSa)),
+            TxResult::TooLong => Ok(Sent::Dropped(DropReason::TooLong)),
+        }
+    }
+}

@@ -1,0 +1,144 @@
+//! What goes wrong in the program, as a line on standard error and as its status.
+
+ghost use Rattle.std.specs.Prelude.{◌≡◌, OnOk};
+ghost use Rattle.std.specs.Io.KnownBytes.{Appends};
+ghost use Rattle.macsec_cli.specs.Told.{failure_text, fault_line, fault_name, fault_status, failure_status, fault_text, text_at};
+
+use std::io::{self, Write};
+use thiserror::Error;
+
+/// Why a script is not run to its end. The first six are told with the number of their line, from 1.
+#[derive(Clone, Copy, Debug, Error)]
+pub enum ScriptFault {
+    /// A line, or a word of it, is none that the program takes.
+    #[error("line {0} is none that can stand there")]
+    Word(u32),
+    /// A line has too few words or too many.
+    #[error("line {0} has too few words or too many")]
+    Count(u32),
+    /// A word is not the hex text of as many octets as are wanted.
+    #[error("line {0} has a word that is no such hex text")]
+    Hex(u32),
+    /// A word is not a decimal number in its range.
+    #[error("line {0} has a word that is no number in its range")]
+    Number(u32),
+    /// An `end` line is missing, or in a wrong place; or the script ends too early.
+    #[error("the ends are not as wanted at line {0}")]
+    Ends(u32),
+    /// A line has more than 20,000 octets.
+    #[error("line {0} is too long")]
+    LineLong(u32),
+    /// The script has more than 1,048,576 octets or more than 65,536 lines.
+    #[error("the script is too long")]
+    ScriptLong,
+    /// Memory was wanting.
+    #[error("memory was wanting")]
+    Memory,
+    /// The reader failed.
+    #[error("the script can't be read")]
+    Read,
+    /// The writer failed.
+    #[error("the text can't be written")]
+    Write,
+}
+
+/// Why the program does not end well.
+#[derive(Clone, Copy, Debug, Error)]
+pub enum Failure<'a> {
+    /// The words are not `run SCRIPT`.
+    #[error("the words are none that the program takes")]
+    Usage,
+    /// The file of this path can't be opened.
+    #[error("{0} can't be opened")]
+    CannotOpen(&'a str),
+    /// The script is at fault, or its run is.
+    #[error(transparent)]
+    Script(#[from] ScriptFault),
+}
+
+impl Failure<'_> {
+    /// Writes the one line that tells the failure.
+    pub fn tell<W: Write>(self, writer: &mut W) -> io::Result<()>
+        ensures { OnOk result (Appends (W.contents writer.old) (W.contents writer.new) (failure_text self.entry)) }
+    {
+        match self {
+            Failure::Usage => writeln!(writer, "macsec: usage"),
+            Failure::CannotOpen(path) => writeln!(writer, "macsec: cannot open {path}"),
+            Failure::Script(fault) => fault.tell(writer),
+        }
+    }
+
+    /// The program's status: 2 where the words or the script are at fault, else 1.
+    pub fn status(self) -> u8
+        ensures { result ≡ failure_status self.entry }
+    {
+        match self {
+            Failure::Usage => 2,
+            Failure::CannotOpen(_) => 1,
+            Failure::Script(fault) => fault.status(),
+        }
+    }
+}
+
+impl ScriptFault {
+    fn tell<W: Write>(self, writer: &mut W) -> io::Result<()>
+        ensures { OnOk result (Appends (W.contents writer.old) (W.contents writer.new) (fault_text self)) }
+    {
+        tell_name(writer, self.line(), self.name())
+    }
+
+    /// The name of the fault.
+    pub fn name(self) -> &'static str
+        ensures { result.now ≡ fault_name self }
+    {
+        match self {
+            ScriptFault::Word(_) => "Word",
+            ScriptFault::Count(_) => "Count",
+            ScriptFault::Hex(_) => "Hex",
+            ScriptFault::Number(_) => "Number",
+            ScriptFault::Ends(_) => "Ends",
+            ScriptFault::LineLong(_) => "LineLong",
+            ScriptFault::ScriptLong => "ScriptLong",
+            ScriptFault::Memory => "Memory",
+            ScriptFault::Read => "Read",
+            ScriptFault::Write => "Write",
+        }
+    }
+
+    /// The number of the line at fault, from 1, where the fault is a line's.
+    pub fn line(self) -> Option<u32>
+        ensures { result ≡ fault_line self }
+    {
+        match self {
+            ScriptFault::Word(n)
+            | ScriptFault::Count(n)
+            | ScriptFault::Hex(n)
+            | ScriptFault::Number(n)
+            | ScriptFault::Ends(n)
+            | ScriptFault::LineLong(n) => Some(n),
+            ScriptFault::ScriptLong
+            | ScriptFault::Memory
+            | ScriptFault::Read
+            | ScriptFault::Write => None,
+        }
+    }
+
+    fn status(self) -> u8
+        ensures { result ≡ fault_status self }
+    {
+        match self {
+            ScriptFault::Memory | ScriptFault::Read | ScriptFault::Write => 1,
+            _ => 2,
+        }
+    }
+}
+
+/// Writes the name of a fault, and its line where it has one.
+fn tell_name<W: Write>(writer: &mut W, line: Option<u32>, name: &str) -> io::Result<()>
+    ensures { OnOk result (Appends (W.contents writer.old) (W.contents writer.new) (text_at line name.now)) }
+{
+    match line {
+        Some(n) => writeln!(writer, "macsec: line {n}: {name}"),
+        None => writeln!(writer, "macsec: {name}"),
+    }
+}

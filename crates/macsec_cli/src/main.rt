@@ -1,0 +1,105 @@
+//! The program `macsec`: runs a script for a MACsec endpoint.
+#![tactic(auto)]
+
+mod channel;
+mod endpoint;
+mod faults;
+mod lines;
+mod running;
+mod script;
+mod suite;
+mod tag;
+#[cfg(test)]
+mod tests;
+mod words;
+
+use clap::error::ErrorKind;
+use clap::{Arg, ArgAction, ArgMatches, Command};
+use faults::Failure;
+pub use faults::ScriptFault;
+pub use running::run_script;
+use std::alloc::{AllocError, Global};
+use std::io::{BufWriter, Read, Write};
+use std::process::ExitCode;
+use std::{env, fs, io};
+
+fn main(rt: HostRuntime) -> ExitCode {
+    let Ok(words) = own_words(&rt) else {
+        return ended(&rt, Err(Failure::Script(ScriptFault::Memory)));
+    };
+    ended(&rt, run(&rt, words.as_slice()))
+}
+
+/// The program's words, its own name among them.
+fn own_words(rt: &HostRuntime) -> io::Result<Vec<String>> {
+    Ok(env::args(rt)?.collect(rt.alloc())?)
+}
+
+/// The status of the program, after it has told a failure.
+fn ended(rt: &HostRuntime, done: Result<(), Failure<'_>>) -> ExitCode {
+    match done {
+        Ok(()) => ExitCode::SUCCESS,
+        Err(failure) => {
+            let _ = failure.tell(&mut rt.stderr());
+            ExitCode::from(failure.status())
+        }
+    }
+}
+
+/// Does what the words ask for.
+fn run<'a>(rt: &HostRuntime, words: &'a [String]) -> Result<(), Failure<'a>> {
+    let script = script_named(rt.alloc(), words)?;
+    if script == "-" {
+        return run_to_stdout(rt, &mut rt.stdin());
+    }
+    match fs::open(rt, script) {
+        Ok(mut file) => run_to_stdout(rt, &mut file),
+        Err(_) => Err(Failure::CannotOpen(script)),
+    }
+}
+
+/// The script that the words `run SCRIPT` name.
+fn script_named<'a>(alloc: Global, words: &'a [String]) -> Result<&'a str, Failure<'a>> {
+    let Ok(command) = command(alloc) else {
+        return Err(Failure::Script(ScriptFault::Memory));
+    };
+    match command.try_get_matches_from(words) {
+        Ok(matches) => match script_of(&matches) {
+            Some(script) => Ok(script),
+            None => Err(Failure::Usage),
+        },
+        Err(error) => match error.kind() {
+            ErrorKind::OutOfMemory => Err(Failure::Script(ScriptFault::Memory)),
+            _ => Err(Failure::Usage),
+        },
+    }
+}
+
+fn script_of<'a>(matches: &ArgMatches<'a>) -> Option<&'a str> {
+    matches.subcommand_matches("run")?.get_str("SCRIPT")
+}
+
+/// The command line that the program takes.
+fn command<'a>(alloc: Global) -> Result<Command<'a>, AllocError> {
+    let script = Arg::new(alloc, "SCRIPT")
+        .required(true)
+        .action(ArgAction::Set);
+    let run = Command::new(alloc, "run").arg(script)?;
+    Command::new(alloc, "macsec")
+        .subcommand_required(true)
+        .subcommand(run)
+}
+
+/// Runs a script to standard output.
+fn run_to_stdout<'a, R: Read>(rt: &HostRuntime, reader: &mut R) -> Result<(), Failure<'a>> {
+    let Ok(mut writer) = BufWriter::new(rt.alloc(), rt.stdout()) else {
+        return Err(Failure::Script(ScriptFault::Memory));
+    };
+    let done = run_script(rt.alloc(), reader, &mut writer);
+    let flushed = writer.flush();
+    match (done, flushed) {
+        (Ok(()), Ok(())) => Ok(()),
+        (Ok(()), Err(_)) => Err(Failure::Script(ScriptFault::Write)),
+        (Err(fault), _) => Err(Failure::Script(fault)),
+    }
+}
