@@ -1,17 +1,17 @@
 -- Lines of the script language and what they say.
-use Rattle.std.specs.Prelude.{◌≡◌, ℕ, ◌++◌, List, [], ◌∷◌, replicate, false, codes, Some, None, Ok, Err, refl}
+use Rattle.std.specs.Prelude.{◌≡◌, ◌++◌, [], ◌∷◌, replicate, codes, Some, None, Ok, Err, refl}
 use Rattle.std.specs.Fmt.{digits}
 use Rattle.hex.proofs.OnLiterals.{hex_on_literals}
 use Rattle.macsec_aes.specs.declared.Key.TheVariants.{K128}
 use Rattle.macsec_cli.specs.declared.channel.TagForm.TheVariants as form
 use Rattle.macsec_cli.specs.declared.endpoint.Command.TheVariants as by
 use Rattle.macsec_cli.specs.declared.endpoint.Suite.TheVariants.{Gcm128}
-use Rattle.macsec_cli.specs.declared.lines.End.TheVariants.{A, B}
+use Rattle.macsec_cli.specs.declared.lines.End.TheVariants.{A}
 use Rattle.macsec_cli.specs.declared.lines.Line.TheVariants as line
 use Rattle.macsec_cli.specs.declared.lines.LineFault.TheVariants.{Word, Count, Hex, Number, LineLong}
 use Rattle.macsec_cli.specs.declared.faults.ScriptFault.TheVariants as script
 use Rattle.macsec_cli.specs.Kinds.{line_of}
-use Rattle.macsec_cli.specs.Printed.{printed}
+use Rattle.macsec_cli.specs.Printed.{printed_text}
 
 -- ---- lines that are skipped
 
@@ -134,27 +134,27 @@ send = refl
 
 -- ---- scripts
 
-nothing : printed (codes "# nothing\n\n") ≡ Ok []
+nothing : printed_text (codes "# nothing\n\n") ≡ Ok []
 nothing = refl
 
-no_end_b : printed (codes "end A gcm128 12153524c0895e81 1518 sci\n") ≡ Err (script.Ends 1)
+no_end_b : printed_text (codes "end A gcm128 12153524c0895e81 1518 sci\n") ≡ Err (script.Ends 1)
 unfolding hex_on_literals
 no_end_b = refl
 
 -- the fault of a line of the script is Word
-few_words_for_a_key : printed (codes "end A gcm128 12153524c0895e81 1518 sci\nA key 256\n") ≡ Err (script.Word 2)
+few_words_for_a_key : printed_text (codes "end A gcm128 12153524c0895e81 1518 sci\nA key 256\n") ≡ Err (script.Word 2)
 unfolding hex_on_literals
 few_words_for_a_key = refl
 
-other_port : printed (codes "end A gcm128 12153524c0895e81 1518 sci\nend B gcm128 0000000000000002 1518 es\n") ≡ Err (script.Word 2)
+other_port : printed_text (codes "end A gcm128 12153524c0895e81 1518 sci\nend B gcm128 0000000000000002 1518 es\n") ≡ Err (script.Word 2)
 unfolding hex_on_literals
 other_port = refl
 
-five_lines : printed (codes "end A gcm128 12153524c0895e81 1518 sci\nend B gcm128 0000000000000002 1518 auto\nA key 0 ad7a2bd03eac835a6f620fdcb506b345 0\nA txsa 2 0 b2c28465 int\nA txon 2\n") ≡ Ok (codes "3 done\n4 done\n5 done\n")
+five_lines : printed_text (codes "end A gcm128 12153524c0895e81 1518 sci\nend B gcm128 0000000000000002 1518 auto\nA key 0 ad7a2bd03eac835a6f620fdcb506b345 0\nA txsa 2 0 b2c28465 int\nA txon 2\n") ≡ Ok (codes "3 done\n4 done\n5 done\n")
 unfolding hex_on_literals digits
 five_lines = refl
 
 -- a last line without a line feed counts, and a skipped line has its number
-four_lines : printed (codes "#\nend A gcm128 12153524c0895e81 1518 sci\nend B gcm128 0000000000000001 1518 es\nA key 0 ad7a2bd03eac835a6f620fdcb506b345 0") ≡ Err (script.Ends 4)
+four_lines : printed_text (codes "#\nend A gcm128 12153524c0895e81 1518 sci\nend B gcm128 0000000000000001 1518 es\nA key 0 ad7a2bd03eac835a6f620fdcb506b345 0") ≡ Err (script.Ends 4)
 unfolding hex_on_literals
 four_lines = refl

@@ -1,5 +1,5 @@
 -- A number of up to 16 hex digits has 64 bits.
-use Rattle.std.proofs.Common.{◌≡◌, ℕ, ◌+◌, ◌*◌, ◌^◌, ◌≤◌, ◌<◌, arith, suc, sym}
+use Rattle.std.proofs.Common.{ℕ, ◌+◌, ◌*◌, ◌^◌, ◌≤◌, ◌<◌, arith, suc}
 use Rattle.std.proofs.Math.Nat.{pow-suc, pow-le-pow_right}
 
 power_more : (i : ℕ) → i < 16 → (16 ^ i) * 16 ≤ 2 ^ 64

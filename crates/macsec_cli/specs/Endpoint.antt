@@ -1,5 +1,5 @@
 -- The endpoint as a machine: its state, what comes in, what goes out.
-use Rattle.std.specs.Prelude.{◌==◌, ℕ, ◌+◌, List, length, Bool, true, false, nat_lt, if◌then◌else◌, Option, Some, None, option_map}
+use Rattle.std.specs.Prelude.{◌==◌, ℕ, List, length, false, nat_lt, if◌then◌else◌, Option, Some, None, option_map}
 use Rattle.macsec_aes.specs.Keys.{key_bytes}
 use Rattle.macsec_cli.specs.declared.channel.TxRow.{TxRow}
 use Rattle.macsec_cli.specs.declared.endpoint.EndConfig.{EndConfig}
@@ -10,9 +10,10 @@ use Rattle.macsec_cli.specs.declared.endpoint.FrameFault.{FrameFault}
 use Rattle.macsec_cli.specs.declared.endpoint.FrameFault.TheVariants.{Short, Long}
 use Rattle.macsec_cli.specs.declared.channel.TxOptions.{TxOptions}
 use Rattle.macsec_cli.specs.declared.suite.KeyRow.{KeyRow}
-use Rattle.macsec_cli.specs.Transmit.{Leaving, no_sa, too_long, made, leaving, row_after}
+use Rattle.macsec_cli.specs.Transmit.{Leaving, no_sa, too_long, link_frame, what_leaves, row_after}
+use Rattle.macsec_cli.specs.Limits.{min_frame_len, max_frame_len}
 
--- the key and the transmit association, once they are there
+-- the configuration, and the key and the transmit association, once they are there
 pub record State : Type 0 where
   pub config : EndConfig
   pub key : Option KeyRow
@@ -45,11 +46,11 @@ state_after_command (TxOn an) s = record s { association = option_map (switch_to
 abbrev pub tx_options : State → TxOptions
 tx_options s = record { sci = s.config.sci; max_frame = s.config.max_frame }
 
-abbrev pub leaving_frame : List ℕ → State → Leaving
-leaving_frame frame s = leaving (tx_options s) s.key s.association frame
+abbrev pub what_leaves_of : List ℕ → State → Leaving
+what_leaves_of frame s = what_leaves (tx_options s) s.key s.association frame
 
 abbrev pub state_after_frame : List ℕ → State → State
-state_after_frame frame s = record s { association = option_map (row_after (leaving_frame frame s)) s.association }
+state_after_frame frame s = record s { association = option_map (row_after (what_leaves_of frame s)) s.association }
 
 -- ---- the machine
 
@@ -64,14 +65,14 @@ pub data Output : Type 0 where
   dropped_too_long : Output
   fault : FrameFault → Output
 
--- a frame of fewer than 14 octets, or of more than 9,248
+-- a frame that is too short, or too long
 abbrev pub frame_fault : List ℕ → Option FrameFault
-frame_fault frame = if nat_lt (length frame) 14 then Some Short else if nat_lt 9248 (length frame) then Some Long else None
+frame_fault frame = if nat_lt (length frame) min_frame_len then Some Short else if nat_lt max_frame_len (length frame) then Some Long else None
 
 abbrev pub sent_output : Leaving → Output
 sent_output no_sa = dropped_no_sa
 sent_output too_long = dropped_too_long
-sent_output (made frame) = leaves frame
+sent_output (link_frame frame) = leaves frame
 
 -- a fault of the frame leaves the state
 abbrev pub unless_fault : Option FrameFault → State → Output × State → Output × State
@@ -81,4 +82,4 @@ unless_fault (Some f) s answer = (fault f, s)
 abbrev pub step : State → Input → Output × State
 step s (operator_command c) = (done, state_after_command c s)
 step s (client_frame frame) =
-    unless_fault (frame_fault frame) s (sent_output (leaving_frame frame s), state_after_frame frame s)
+    unless_fault (frame_fault frame) s (sent_output (what_leaves_of frame s), state_after_frame frame s)

@@ -36,9 +36,9 @@ Value tag_form = TagForm
 Value protection = Bool
 
 -- what a table has for a keyword
-abbrev pub listed : {A : Type 0} → List (List ℕ × A) → List ℕ → Result A LineFault
-listed [] word = Err Word
-listed (row ∷ rows) word = value_or (bytes_eq row.0 word) row.1 (listed rows word)
+abbrev pub value_of_keyword : {A : Type 0} → List (List ℕ × A) → List ℕ → Result A LineFault
+value_of_keyword [] word = Err Word
+value_of_keyword (row ∷ rows) word = value_or (bytes_eq row.0 word) row.1 (value_of_keyword rows word)
   where
     value_or : {A : Type 0} → Bool → A → Result A LineFault → Result A LineFault
     value_or true value other = Ok value
@@ -57,7 +57,7 @@ forms = (codes "auto", form.Auto) ∷ (codes "sci", form.Sci) ∷ (codes "es", f
 abbrev pub protections : List (List ℕ × Bool)
 protections = (codes "int", false) ∷ []
 
--- what a value becomes, where there is one
+-- a function of the value, where there is one
 abbrev pub map_ok : {A B E : Type 0} → (A → B) → Result A E → Result B E
 map_ok f (Ok x) = Ok (f x)
 map_ok f (Err fault) = Err fault
@@ -71,7 +71,7 @@ read_word sci word = map_ok as_sci (octets_of 8 word)
 read_word key word = map_ok K128 (octets_of 16 word)
 read_word frame word = some_octets word
 read_word pn word = packet_number word
-read_word at_end word = listed ends word
-read_word suite word = listed suites word
-read_word tag_form word = listed forms word
-read_word protection word = listed protections word
+read_word at_end word = value_of_keyword ends word
+read_word suite word = value_of_keyword suites word
+read_word tag_form word = value_of_keyword forms word
+read_word protection word = value_of_keyword protections word

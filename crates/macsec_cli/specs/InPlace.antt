@@ -1,10 +1,9 @@
 -- What the layers under the endpoint leave in their slices.
-use Rattle.std.specs.Prelude.{◌≡◌, ◌≤◌, ℕ, ◌-◌, List, [], ◌++◌, length, take, Option, Some, None, Result, Ok, Err}
-use Rattle.std.specs.Borrow.{Bor}
+use Rattle.std.specs.Prelude.{◌≡◌, ◌≤◌, ℕ, ◌-◌, List, [], ◌++◌, length, take}
 use Rattle.macsec_gcm.specs.Gcm.{seal_of}
 use Rattle.macsec_cli.specs.declared.channel.TxResult.{TxResult}
 use Rattle.macsec_cli.specs.declared.channel.TxResult.TheVariants.{Made, NoSa, TooLong}
-use Rattle.macsec_cli.specs.Transmit.{Leaving, no_sa, too_long, made}
+use Rattle.macsec_cli.specs.Transmit.{Leaving, no_sa, too_long, link_frame}
 
 -- DA, SA, SecTAG and data, with the ICV in place of the 16 octets after them
 abbrev pub with_icv : List ℕ → List ℕ → List ℕ → List ℕ
@@ -14,6 +13,6 @@ with_icv key iv frame =
 
 -- the channel's answer, and the frame that it left in a slice
 abbrev pub ShowsLeaving : TxResult → List ℕ → Leaving → Type 0
-ShowsLeaving (Made len) out leaving = (leaving ≡ made (take len out)) × (len ≤ length out)
+ShowsLeaving (Made len) out leaving = (leaving ≡ link_frame (take len out)) × (len ≤ length out)
 ShowsLeaving NoSa out leaving = leaving ≡ no_sa
 ShowsLeaving TooLong out leaving = leaving ≡ too_long

@@ -1,6 +1,5 @@
 -- The kinds of lines, each by its keyword, the words after it, and what it says.
-use Rattle.std.specs.Prelude.{ℕ, ◌==◌, ◌&&◌, List, [], ◌∷◌, length, filter, find, drop, Bool, true, false, not, nat_lt, nat_le, bytes_eq, codes, if◌then◌else◌, Option, Some, None, Result, Ok, Err}
-use Rattle.macsec_cli.specs.declared.endpoint.EndConfig.{EndConfig}
+use Rattle.std.specs.Prelude.{ℕ, ◌==◌, List, [], ◌∷◌, length, filter, find, nat_lt, bytes_eq, codes, if◌then◌else◌, Option, Some, None, Result, Ok, Err}
 use Rattle.macsec_cli.specs.declared.endpoint.Command.TheVariants as by
 use Rattle.macsec_cli.specs.declared.lines.End.{End}
 use Rattle.macsec_cli.specs.declared.lines.End.TheVariants.{A, B}
@@ -9,7 +8,8 @@ use Rattle.macsec_cli.specs.declared.lines.Line.TheVariants as line
 use Rattle.macsec_cli.specs.declared.lines.LineFault.{LineFault}
 use Rattle.macsec_cli.specs.declared.lines.LineFault.TheVariants.{Word, Count, LineLong}
 use Rattle.macsec_cli.specs.Words.{words_of}
-use Rattle.macsec_cli.specs.Fields.{Field, Value, read_word, listed, ends, number, sci, key, frame, pn, at_end, suite, tag_form, protection}
+use Rattle.macsec_cli.specs.Fields.{Field, Value, read_word, value_of_keyword, ends, number, sci, key, frame, pn, at_end, suite, tag_form, protection}
+use Rattle.macsec_cli.specs.Limits.{max_line_len, max_frame_len, min_max_frame}
 
 -- what makes a line of the values of its words
 abbrev pub Makes : List Field → Type 0
@@ -34,7 +34,7 @@ abbrev pub offset : Field
 offset = number 0 0
 
 abbrev pub max_frame : Field
-max_frame = number 64 9248
+max_frame = number min_max_frame max_frame_len
 
 -- the lines that begin with an end's letter; they are A's alone
 abbrev pub kinds_at : End → List Kind
@@ -52,7 +52,7 @@ kinds =
     kind (codes "end") (at_end ∷ suite ∷ sci ∷ max_frame ∷ tag_form ∷ [])
     (λ e suite sci most form. line.End e (record { suite = suite; sci = sci; max_frame = most; form = form })) ∷ []
 
--- then what an answer is, or its fault
+-- the next step, where there is a value
 abbrev pub and_then : {X Y E : Type 0} → Result X E → (X → Result Y E) → Result Y E
 and_then (Ok x) f = f x
 and_then (Err fault) f = Err fault
@@ -89,8 +89,8 @@ of_words [] = Ok None
 of_words ([] ∷ words) = Ok None
 of_words ((letter ∷ letters) ∷ words) =
     if letter == 35 then Ok None
-    else and_then (read_at (listed ends (letter ∷ letters)) (letter ∷ letters) words) (λ line. Ok (Some line))
+    else and_then (read_at (value_of_keyword ends (letter ∷ letters)) (letter ∷ letters) words) (λ line. Ok (Some line))
 
 -- what a line says, without its line feed
 abbrev pub line_of : List ℕ → Result (Option Line) LineFault
-line_of text = if nat_lt 20000 (length text) then Err LineLong else of_words (words_of text)
+line_of text = if nat_lt max_line_len (length text) then Err LineLong else of_words (words_of text)

@@ -1,9 +1,10 @@
+pub mod Limits
 pub mod Tag
 pub mod Parts
 pub mod Transmit
 pub mod InPlace
 pub mod Endpoint
-pub mod Shown
+pub mod Outputs
 pub mod Rests
 pub mod Words
 pub mod Numerals
@@ -12,4 +13,4 @@ pub mod Kinds
 pub mod Scripts
 pub mod Printed
 pub mod Runs
-pub mod Told
+pub mod Failures

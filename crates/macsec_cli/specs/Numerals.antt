@@ -1,5 +1,5 @@
 -- Words that stand for numbers and octets.
-use Rattle.std.specs.Prelude.{ℕ, ◌+◌, ◌*◌, ◌-◌, ◌==◌, List, [], ◌∷◌, length, Bool, nat_le, ◌&&◌, if◌then◌else◌, unwrap_or, Option, Some, None, Result, Ok, Err}
+use Rattle.std.specs.Prelude.{ℕ, ◌+◌, ◌*◌, ◌-◌, ◌==◌, List, [], ◌∷◌, length, Bool, nat_le, ◌&&◌, if◌then◌else◌, unwrap_or, Result, Ok, Err}
 use Rattle.std.specs.List.{list_all}
 use Rattle.hex.specs.Hex.{decode_of, decode_sized, hex_digit_value, is_hex_digit}
 use Rattle.hex.specs.declared.error.FromHexError.{FromHexError}

@@ -1,7 +1,6 @@
 -- How the cipher takes a frame that is protected for integrity alone (IEEE 802.1AE, 14.5).
 use Rattle.std.specs.Prelude.{ℕ, List, [], ◌++◌}
 use Rattle.std.specs.Int.{w32, to_be_bytes}
-use Rattle.macsec_gcm.specs.Gcm.{seal_of}
 use Rattle.macsec_cli.specs.declared.tag.Sci.{Sci}
 use Rattle.macsec_cli.specs.Tag.{Tag, spelling}
 

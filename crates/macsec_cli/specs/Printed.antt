@@ -10,7 +10,7 @@ use Rattle.macsec_cli.specs.declared.running.Run.{Run}
 use Rattle.macsec_cli.specs.declared.faults.ScriptFault.{ScriptFault}
 use Rattle.macsec_cli.specs.Endpoint.{State, start, operator_command, client_frame, Output, done, leaves, dropped_no_sa, dropped_too_long, fault, step}
 use Rattle.macsec_cli.specs.Fields.{map_ok}
-use Rattle.macsec_cli.specs.Scripts.{Numbered, script_of}
+use Rattle.macsec_cli.specs.Scripts.{NumberedLine, script_of}
 
 -- the line that tells an output of line n; a link frame is the next one after k
 abbrev pub output_text : ℕ → ℕ → Output → List ℕ
@@ -29,21 +29,21 @@ frames_after k dropped_too_long = k
 frames_after k (fault f) = k
 
 -- what line n prints, and the run after it
-abbrev pub shown_step : Run → ℕ → Output × State → List ℕ × Run
-shown_step r n answer =
+abbrev pub text_and_run : Run → ℕ → Output × State → List ℕ × Run
+text_and_run r n answer =
     (output_text n r.frames answer.0, record { endpoint = answer.1; frames = frames_after r.frames answer.0 })
 
-abbrev pub shown_send : Run → ℕ → List ℕ → List ℕ × Run
-shown_send r n frame = shown_step r n (step r.endpoint (client_frame frame))
+abbrev pub send_step : Run → ℕ → List ℕ → List ℕ × Run
+send_step r n frame = text_and_run r n (step r.endpoint (client_frame frame))
 
-abbrev pub shown : Run → ℕ → Line → List ℕ × Run
-shown r n (line.End e config) = ([], r)
-shown r n (line.Command c) = shown_step r n (step r.endpoint (operator_command c))
-shown r n (line.Send frame) = shown_send r n frame
+abbrev pub line_step : Run → ℕ → Line → List ℕ × Run
+line_step r n (line.End e config) = ([], r)
+line_step r n (line.Command c) = text_and_run r n (step r.endpoint (operator_command c))
+line_step r n (line.Send frame) = send_step r n frame
 
-abbrev pub text_from : Run → List Numbered → List ℕ
+abbrev pub text_from : Run → List NumberedLine → List ℕ
 text_from r [] = []
-text_from r ((n, said) ∷ more) = (shown r n said).0 ++ text_from (shown r n said).1 more
+text_from r ((n, said) ∷ more) = (line_step r n said).0 ++ text_from (line_step r n said).1 more
 
 abbrev pub new_run : EndConfig → Run
 new_run config = record { endpoint = start config; frames = 0 }
@@ -55,15 +55,15 @@ a_config (line.End B config) = None
 a_config (line.Command c) = None
 a_config (line.Send frame) = None
 
-abbrev pub text_behind : Option EndConfig → List Numbered → List ℕ
-text_behind None said = []
-text_behind (Some config) said = text_from (new_run config) said
+abbrev pub text_with : Option EndConfig → List NumberedLine → List ℕ
+text_with None said = []
+text_with (Some config) said = text_from (new_run config) said
 
 -- what the lines of a script print: the first one makes endpoint A
-abbrev pub text_of : List Numbered → List ℕ
+abbrev pub text_of : List NumberedLine → List ℕ
 text_of [] = []
-text_of ((n, first) ∷ said) = text_behind (a_config first) said
+text_of ((n, first) ∷ said) = text_with (a_config first) said
 
 -- what a script without fault prints, or its fault
-abbrev pub printed : List ℕ → Result (List ℕ) ScriptFault
-printed text = map_ok text_of (script_of text)
+abbrev pub printed_text : List ℕ → Result (List ℕ) ScriptFault
+printed_text text = map_ok text_of (script_of text)

@@ -1,12 +1,13 @@
 -- What a run of a script answers and writes.
-use Rattle.std.specs.Prelude.{◌≡◌, ◌<◌, ℕ, List, [], ◌++◌, length, Option, Some, None, Result, Ok, Err}
+use Rattle.std.specs.Prelude.{◌≡◌, ◌<◌, ℕ, List, [], ◌++◌, length, Option, Result, Ok, Err}
 use Rattle.std.specs.Io.KnownBytes.{Appends, Keeps}
 use Rattle.macsec_cli.specs.declared.faults.ScriptFault.{ScriptFault}
 use Rattle.macsec_cli.specs.declared.faults.ScriptFault.TheVariants.{Word, Count, Hex, Number, Ends, LineLong, ScriptLong, Memory, Read, Write}
 use Rattle.macsec_cli.specs.declared.lines.LineFault.{LineFault}
 use Rattle.macsec_cli.specs.declared.lines.LineFault.TheVariants as fault
-use Rattle.macsec_cli.specs.Scripts.{Numbered}
-use Rattle.macsec_cli.specs.Printed.{printed}
+use Rattle.macsec_cli.specs.Scripts.{NumberedLine}
+use Rattle.macsec_cli.specs.Printed.{printed_text}
+use Rattle.macsec_cli.specs.Limits.{max_script_len}
 
 -- the text is the front of the whole
 abbrev pub Begins : List ℕ → List ℕ → Type 0
@@ -20,21 +21,34 @@ IsBegun (Err fault) text = text ≡ []
 -- what a run of a script answers, with the known octets of the writer before it and after it: a fault of
 -- the script is told unless Memory or Read comes first, and Write says nothing of what was written
 abbrev pub RunGives : List ℕ → Option (List ℕ) → Option (List ℕ) → Result (Unit {0}) ScriptFault → Type 0
-RunGives script old new (Ok done) = (text : List ℕ) × (printed script ≡ Ok text) × Appends old new text
-RunGives script old new (Err Memory) = (text : List ℕ) × IsBegun (printed script) text × Appends old new text
+RunGives script old new (Ok done) = (text : List ℕ) × (printed_text script ≡ Ok text) × Appends old new text
+RunGives script old new (Err Memory) = (text : List ℕ) × IsBegun (printed_text script) text × Appends old new text
 RunGives script old new (Err Read) = Keeps old new
-RunGives script old new (Err Write) = (text : List ℕ) × (printed script ≡ Ok text)
-RunGives script old new (Err (Word n)) = (printed script ≡ Err (Word n)) × Keeps old new
-RunGives script old new (Err (Count n)) = (printed script ≡ Err (Count n)) × Keeps old new
-RunGives script old new (Err (Hex n)) = (printed script ≡ Err (Hex n)) × Keeps old new
-RunGives script old new (Err (Number n)) = (printed script ≡ Err (Number n)) × Keeps old new
-RunGives script old new (Err (Ends n)) = (printed script ≡ Err (Ends n)) × Keeps old new
-RunGives script old new (Err (LineLong n)) = (printed script ≡ Err (LineLong n)) × Keeps old new
-RunGives script old new (Err ScriptLong) = (printed script ≡ Err ScriptLong) × Keeps old new
+RunGives script old new (Err Write) = (text : List ℕ) × (printed_text script ≡ Ok text)
+RunGives script old new (Err (Word n)) = (printed_text script ≡ Err (Word n)) × Keeps old new
+RunGives script old new (Err (Count n)) = (printed_text script ≡ Err (Count n)) × Keeps old new
+RunGives script old new (Err (Hex n)) = (printed_text script ≡ Err (Hex n)) × Keeps old new
+RunGives script old new (Err (Number n)) = (printed_text script ≡ Err (Number n)) × Keeps old new
+RunGives script old new (Err (Ends n)) = (printed_text script ≡ Err (Ends n)) × Keeps old new
+RunGives script old new (Err (LineLong n)) = (printed_text script ≡ Err (LineLong n)) × Keeps old new
+RunGives script old new (Err ScriptLong) = (printed_text script ≡ Err ScriptLong) × Keeps old new
+
+-- every fault but Memory and Write comes before anything is written
+abbrev pub LeavesText : Option (List ℕ) → Option (List ℕ) → ScriptFault → Type 0
+LeavesText old new Memory = Unit {0}
+LeavesText old new Write = Unit {0}
+LeavesText old new Read = Keeps old new
+LeavesText old new ScriptLong = Keeps old new
+LeavesText old new (Word n) = Keeps old new
+LeavesText old new (Count n) = Keeps old new
+LeavesText old new (Hex n) = Keeps old new
+LeavesText old new (Number n) = Keeps old new
+LeavesText old new (Ends n) = Keeps old new
+LeavesText old new (LineLong n) = Keeps old new
 
 -- why a reader's input was not taken whole
 abbrev pub IsInputFault : List ℕ → ScriptFault → Type 0
-IsInputFault input ScriptLong = 1048576 < length input
+IsInputFault input ScriptLong = max_script_len < length input
 IsInputFault input Memory = Unit {0}
 IsInputFault input Read = Unit {0}
 IsInputFault input Write = ⊥
@@ -46,7 +60,7 @@ IsInputFault input (Ends n) = ⊥
 IsInputFault input (LineLong n) = ⊥
 
 -- what parsing answers is the definition's answer, or want of memory
-abbrev pub Parses : Result (List Numbered) ScriptFault → Result (List Numbered) ScriptFault → Type 0
+abbrev pub Parses : Result (List NumberedLine) ScriptFault → Result (List NumberedLine) ScriptFault → Type 0
 Parses meant (Ok lines) = meant ≡ Ok lines
 Parses meant (Err Memory) = Unit {0}
 Parses meant (Err Read) = ⊥

@@ -1,5 +1,5 @@
 -- A script: its lines that are not skipped, with their numbers, or its first fault.
-use Rattle.std.specs.Prelude.{ℕ, ◌+◌, ◌-◌, ◌==◌, ◌&&◌, ◌||◌, List, [], ◌∷◌, length, take, drop, slice_index, Bool, true, false, not, nat_lt, nat_le, if◌then◌else◌, Option, Some, None, Result, Ok, Err}
+use Rattle.std.specs.Prelude.{ℕ, ◌+◌, ◌-◌, ◌==◌, ◌&&◌, ◌||◌, List, [], ◌∷◌, length, slice_index, Bool, true, false, nat_lt, nat_le, if◌then◌else◌, Option, Some, None, Result, Ok, Err}
 use Rattle.macsec_cli.specs.declared.tag.Sci.{Sci}
 use Rattle.macsec_cli.specs.declared.channel.TagForm.{TagForm}
 use Rattle.macsec_cli.specs.declared.channel.TagForm.TheVariants as form
@@ -17,10 +17,11 @@ use Rattle.macsec_cli.specs.Transmit.{last_number}
 use Rattle.macsec_cli.specs.Words.{lines_of}
 use Rattle.macsec_cli.specs.Fields.{map_ok}
 use Rattle.macsec_cli.specs.Kinds.{line_of, and_then}
+use Rattle.macsec_cli.specs.Limits.{max_script_len, max_line_count}
 
 -- a line with its number
-abbrev pub Numbered : Type 0
-Numbered = ℕ × Line
+abbrev pub NumberedLine : Type 0
+NumberedLine = ℕ × Line
 
 -- a line that the program does not take is at fault by Word, whatever is wrong with it
 abbrev pub at_line : ℕ → LineFault → ScriptFault
@@ -32,9 +33,9 @@ at_line n fault.Ends = Word n
 at_line n fault.LineLong = LineLong n
 at_line n fault.Memory = Memory
 
-abbrev pub numbered : {X : Type 0} → ℕ → Result X LineFault → Result X ScriptFault
-numbered n (Ok x) = Ok x
-numbered n (Err fault) = Err (at_line n fault)
+abbrev pub result_at_line : {X : Type 0} → ℕ → Result X LineFault → Result X ScriptFault
+result_at_line n (Ok x) = Ok x
+result_at_line n (Err fault) = Err (at_line n fault)
 
 -- the form puts the SCI into each tag
 abbrev pub is_sci_form : TagForm → Bool
@@ -71,7 +72,7 @@ place_after Sends (line.Send frame) = Some Sends
 place_after Sends other = None
 
 -- a script may end where it has said nothing yet, or all but the frames to send; n is its last line
-abbrev pub at_script_end : Place → ℕ → Result (List Numbered) ScriptFault
+abbrev pub at_script_end : Place → ℕ → Result (List NumberedLine) ScriptFault
 at_script_end EndA n = Ok []
 at_script_end EndB n = Err (Ends n)
 at_script_end Key n = Err (Ends n)
@@ -85,20 +86,20 @@ next_place n None = Err (Word n)
 next_place n (Some place) = Ok place
 
 -- a line, where it is not skipped, before the lines that follow it
-abbrev pub line_before : Place → ℕ → Option Line → (Place → Result (List Numbered) ScriptFault) → Result (List Numbered) ScriptFault
+abbrev pub line_before : Place → ℕ → Option Line → (Place → Result (List NumberedLine) ScriptFault) → Result (List NumberedLine) ScriptFault
 line_before place n None more = more place
 line_before place n (Some said) more =
     and_then (next_place n (place_after place said)) (λ next. map_ok (λ lines. (n, said) ∷ lines) (more next))
 
 -- the lines from number n on
-abbrev pub lines_from : Place → ℕ → List (List ℕ) → Result (List Numbered) ScriptFault
+abbrev pub lines_from : Place → ℕ → List (List ℕ) → Result (List NumberedLine) ScriptFault
 lines_from place n [] = at_script_end place (n - 1)
 lines_from place n (text ∷ more) =
-    and_then (numbered n (line_of text)) (λ said. line_before place n said (λ next. lines_from next (n + 1) more))
+    and_then (result_at_line n (line_of text)) (λ said. line_before place n said (λ next. lines_from next (n + 1) more))
 
--- more than 1,048,576 octets, or more than 65,536 lines
+-- too many octets, or too many lines
 abbrev pub is_too_long : List ℕ → Bool
-is_too_long text = nat_lt 1048576 (length text) || nat_lt 65536 (length (lines_of text))
+is_too_long text = nat_lt max_script_len (length text) || nat_lt max_line_count (length (lines_of text))
 
-abbrev pub script_of : List ℕ → Result (List Numbered) ScriptFault
+abbrev pub script_of : List ℕ → Result (List NumberedLine) ScriptFault
 script_of text = if is_too_long text then Err ScriptLong else lines_from EndA 1 (lines_of text)

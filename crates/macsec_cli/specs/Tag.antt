@@ -1,11 +1,11 @@
--- The SecTAG and its one spelling (IEEE 802.1AE, 9.3 to 9.9).
-use Rattle.std.specs.Prelude.{◌≡◌, ℕ, ◌+◌, ◌^◌, ◌<◌, List, [], ◌∷◌, ◌++◌, length, Bool, false, true, Option, Some, None, is_some, IsSome, if◌then◌else◌}
+-- The SecTAG and its one spelling (IEEE 802.1AE, 9.3 to 9.9). A list of numbers stands for octets.
+use Rattle.std.specs.Prelude.{◌≡◌, ℕ, ◌+◌, ◌^◌, ◌<◌, List, [], ◌∷◌, ◌++◌, length, Bool, false, Option, Some, None, is_some, IsSome, if◌then◌else◌}
 use Rattle.std.specs.Option.{ForSome}
 use Rattle.std.specs.Int.{w32, to_be_bytes}
 use Rattle.macsec_cli.specs.declared.tag.Sci.{Sci}
 
--- what a SecTAG says: the bits ES, SCB, E and C, the association number, the short length,
--- the packet number's octets and the SCI, where it carries one
+-- what a SecTAG says: the bits ES, SCB, E and C, the association number, the short length, the packet
+-- number, of 32 bits, and the SCI, where it carries one
 pub record Tag : Type 0 where
   pub es : Bool
   pub scb : Bool

@@ -1,5 +1,5 @@
 -- What becomes of a client's frame (IEEE 802.1AE, 10.5).
-use Rattle.std.specs.Prelude.{ℕ, ◌+◌, ◌-◌, ◌^◌, List, ◌++◌, length, take, drop, slice_range, Bool, false, nat_lt, ◌==◌, if◌then◌else◌, Option, Some, None}
+use Rattle.std.specs.Prelude.{ℕ, ◌+◌, ◌-◌, ◌^◌, List, ◌++◌, length, take, drop, slice_range, false, nat_lt, ◌==◌, if◌then◌else◌, Option, Some, None}
 use Rattle.macsec_gcm.specs.Gcm.{seal_of}
 use Rattle.macsec_cli.specs.declared.tag.Sci.{Sci}
 use Rattle.macsec_cli.specs.declared.channel.TxRow.{TxRow}
@@ -49,7 +49,7 @@ octets_added tag = length (spelling tag) + 16
 pub data Leaving : Type 0 where
   no_sa : Leaving
   too_long : Leaving
-  made : (frame : List ℕ) → Leaving
+  link_frame : (frame : List ℕ) → Leaving
 
 -- the bytes of the key of this number, where it is installed
 abbrev pub bytes_of_key : ℕ → Option KeyRow → Option (List ℕ)
@@ -57,22 +57,22 @@ bytes_of_key number None = None
 bytes_of_key number (Some row) = if row.number == number then Some row.key else None
 
 -- what leaves from an association that is on, under its key
-abbrev pub leaving_under : TxOptions → TxRow → List ℕ → Option (List ℕ) → Leaving
-leaving_under options row frame None = no_sa
-leaving_under options row frame (Some key) =
+abbrev pub what_leaves_under : TxOptions → TxRow → List ℕ → Option (List ℕ) → Leaving
+what_leaves_under options row frame None = no_sa
+what_leaves_under options row frame (Some key) =
     if nat_lt last_number row.next then no_sa
     else if nat_lt options.max_frame (length frame + octets_added (tag_sent options.sci row frame)) then too_long
-    else made (protected_frame options.sci key row frame)
+    else link_frame (protected_frame options.sci key row frame)
 
 -- what leaves: nothing where no association is on, or the one that is on is exhausted; nothing
 -- where the protected frame is too long; else the protected frame
-abbrev pub leaving : TxOptions → Option KeyRow → Option TxRow → List ℕ → Leaving
-leaving options key None frame = no_sa
-leaving options key (Some row) frame =
-    if row.on then leaving_under options row frame (bytes_of_key row.key key) else no_sa
+abbrev pub what_leaves : TxOptions → Option KeyRow → Option TxRow → List ℕ → Leaving
+what_leaves options key None frame = no_sa
+what_leaves options key (Some row) frame =
+    if row.on then what_leaves_under options row frame (bytes_of_key row.key key) else no_sa
 
--- a frame that was made has used a packet number
+-- a link frame has used a packet number
 abbrev pub row_after : Leaving → TxRow → TxRow
 row_after no_sa row = row
 row_after too_long row = row
-row_after (made frame) row = record row { next = row.next + 1 }
+row_after (link_frame frame) row = record row { next = row.next + 1 }

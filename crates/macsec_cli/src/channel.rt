@@ -2,8 +2,9 @@
 
 ghost use Rattle.std.specs.Prelude.{◌≡◌, ◌≤◌, ◌+◌, ◌++◌, [], length, take, drop, option_map, Some, None};
 ghost use Rattle.macsec_gcm.specs.Gcm.{seal_of};
+ghost use Rattle.macsec_cli.specs.Limits.{min_frame_len, max_frame_len};
 ghost use Rattle.macsec_cli.specs.Tag.{spelling};
-ghost use Rattle.macsec_cli.specs.Transmit.{bytes_of_key, last_number, leaving, leaving_under, octets_added, row_after, sl_of, tag_sent};
+ghost use Rattle.macsec_cli.specs.Transmit.{bytes_of_key, last_number, what_leaves, what_leaves_under, octets_added, row_after, sl_of, tag_sent};
 ghost use Rattle.macsec_cli.specs.Endpoint.{new_association, switch_to};
 ghost use Rattle.macsec_cli.specs.InPlace.{ShowsLeaving};
 
@@ -97,7 +98,8 @@ impl TxChannel {
         }
     }
 
-    /// What leaves for a client's frame of 14 to 9,248 octets; a protected frame is at the front of `out`.
+    /// What leaves for a client's frame of 14 to 9,248 octets; a protected frame is at the
+    /// front of `out`, which has room for the largest frame.
     pub fn next_frame(
         &mut self,
         key: &Option<KeyRow>,
@@ -105,11 +107,11 @@ impl TxChannel {
         frame: &[u8],
         out: &mut [u8],
     ) -> TxResult
-        requires frame_long { 14 ≤ length frame.now }
-        requires frame_short { length frame.now ≤ 9248 }
+        requires frame_long { min_frame_len ≤ length frame.now }
+        requires frame_short { length frame.now ≤ max_frame_len }
         requires room { options.now.max_frame ≤ length out.old }
-        ensures leaving { ShowsLeaving result out.new (leaving options.now key.now self.old frame.now) }
-        ensures association { self.new ≡ option_map (row_after (leaving options.now key.now self.old frame.now)) self.old }
+        ensures leaving { ShowsLeaving result out.new (what_leaves options.now key.now self.old frame.now) }
+        ensures association { self.new ≡ option_map (row_after (what_leaves options.now key.now self.old frame.now)) self.old }
     {
         let Some(row) = self.association else {
             return TxResult::NoSa;
@@ -149,7 +151,7 @@ fn sl_of(octets: usize) -> u8
 /// The SecTAG of a client's frame that the association sends.
 fn tag_of(sci: Sci, row: TxRow, frame: &[u8]) -> SecTag
     requires number { row.next ≤ last_number }
-    requires frame_long { 14 ≤ length frame.now }
+    requires frame_long { min_frame_len ≤ length frame.now }
     ensures { result ≡ tag_sent sci row frame.now }
 {
     SecTag::new(
@@ -174,10 +176,10 @@ fn frame_under(
     out: &mut [u8],
 ) -> TxResult
     requires number { row.now.next ≤ last_number }
-    requires frame_long { 14 ≤ length frame.now }
-    requires frame_short { length frame.now ≤ 9248 }
+    requires frame_long { min_frame_len ≤ length frame.now }
+    requires frame_short { length frame.now ≤ max_frame_len }
     requires room { options.now.max_frame ≤ length out.old }
-    ensures { ShowsLeaving result out.new (leaving_under options.now row.now frame.now (Some key.now)) }
+    ensures { ShowsLeaving result out.new (what_leaves_under options.now row.now frame.now (Some key.now)) }
 {
     let tag = tag_of(options.sci, *row, frame);
     if frame.len() + tag.length() + ICV_LENGTH > options.max_frame as usize {
@@ -191,8 +193,8 @@ fn frame_under(
 /// Puts DA, SA, SecTAG, Secure Data and ICV at the front of `out`, and answers how many octets they
 /// are.
 fn write_frame(key: &SuiteKey, iv: &[u8; 12], tag: &SecTag, frame: &[u8], out: &mut [u8]) -> usize
-    requires frame_long { 14 ≤ length frame.now }
-    requires frame_short { length frame.now ≤ 9248 }
+    requires frame_long { min_frame_len ≤ length frame.now }
+    requires frame_short { length frame.now ≤ max_frame_len }
     requires room { length frame.now + octets_added tag.now ≤ length out.old }
     ensures length { result ≡ length frame.now + octets_added tag.now }
     ensures octets { let clear = take 12 frame.now ++ spelling tag.now ++ drop 12 frame.now in
@@ -205,8 +207,8 @@ fn write_frame(key: &SuiteKey, iv: &[u8; 12], tag: &SecTag, frame: &[u8], out: &
 
 /// Puts DA, SA, SecTAG and Secure Data at the front of `out`, and answers how many octets they are.
 fn write_clear(tag: &SecTag, frame: &[u8], out: &mut [u8]) -> usize
-    requires frame_long { 14 ≤ length frame.now }
-    requires frame_short { length frame.now ≤ 9248 }
+    requires frame_long { min_frame_len ≤ length frame.now }
+    requires frame_short { length frame.now ≤ max_frame_len }
     requires room { length frame.now + octets_added tag.now ≤ length out.old }
     ensures length { result ≡ length frame.now + length (spelling tag.now) }
     ensures short { result ≤ length frame.now + 16 }

@@ -4,7 +4,7 @@ ghost use Rattle.std.specs.Prelude.{◌≡◌, IfOk};
 ghost use Rattle.std.specs.Borrow.{sem};
 ghost use Rattle.macsec_cli.specs.Endpoint.{start, step, operator_command, client_frame};
 ghost use Rattle.macsec_cli.specs.Rests.{RestsAs};
-ghost use Rattle.macsec_cli.specs.Shown.{shown_sent};
+ghost use Rattle.macsec_cli.specs.Outputs.{output_of_sent};
 
 use crate::channel::{TagForm, TxChannel, TxOptions, TxResult};
 use crate::suite::{KeyRow, SuiteKey};
@@ -14,10 +14,10 @@ use std::alloc::{AllocError, Global};
 use std::marker::Model;
 
 /// The fewest octets of a client's frame: DA, SA and EtherType.
-const SHORTEST_FRAME: usize = 14;
+const MIN_FRAME_LEN: usize = 14;
 
 /// The most octets of a client's frame.
-const LONGEST_FRAME: usize = 9248;
+pub const MAX_FRAME_LEN: usize = 9248;
 
 /// The cipher suite of an endpoint.
 #[derive(Clone, Copy)]
@@ -127,12 +127,12 @@ impl Secy {
     /// Protects a client's frame and lends the link frame, or says why nothing leaves.
     pub fn send<'a>(&'a mut self, frame: &'a [u8]) -> Result<Sent<'a>, FrameFault>
         ensures* after { sem 𝓛 (RestsAs self.entry (step self.old (client_frame frame.now)).1) }
-        ensures sent { shown_sent result ≡ (step self.old (client_frame frame.now)).0 }
+        ensures sent { output_of_sent result ≡ (step self.old (client_frame frame.now)).0 }
     {
-        if frame.len() < SHORTEST_FRAME {
+        if frame.len() < MIN_FRAME_LEN {
             return Err(FrameFault::Short);
         }
-        if frame.len() > LONGEST_FRAME {
+        if frame.len() > MAX_FRAME_LEN {
             return Err(FrameFault::Long);
         }
         let options = TxOptions {

@@ -2,7 +2,7 @@
 
 ghost use Rattle.std.specs.Prelude.{◌≡◌, OnOk};
 ghost use Rattle.std.specs.Io.KnownBytes.{Appends};
-ghost use Rattle.macsec_cli.specs.Told.{failure_text, fault_line, fault_name, fault_status, failure_status, fault_text, text_at};
+ghost use Rattle.macsec_cli.specs.Failures.{failure_text, fault_line, fault_name, fault_status, failure_status, fault_text, text_at};
 
 use std::io::{self, Write};
 use thiserror::Error;
@@ -10,22 +10,23 @@ use thiserror::Error;
 /// Why a script is not run to its end. The first six are told with the number of their line, from 1.
 #[derive(Clone, Copy, Debug, Error)]
 pub enum ScriptFault {
-    /// A line, or a word of it, is none that the program takes.
+    /// A line that the program does not take at its place, whatever is wrong with it.
     #[error("line {0} is none that can stand there")]
     Word(u32),
-    /// A line has too few words or too many.
+    /// A line has too few words or too many. No script gets this fault yet: such a line is `Word`.
     #[error("line {0} has too few words or too many")]
     Count(u32),
-    /// A word is not the hex text of as many octets as are wanted.
+    /// A word is not the hex text of as many octets as are wanted. Such a line is `Word` yet.
     #[error("line {0} has a word that is no such hex text")]
     Hex(u32),
-    /// A word is not a decimal number in its range.
+    /// A word is not a decimal number in its range. Such a line is `Word` yet.
     #[error("line {0} has a word that is no number in its range")]
     Number(u32),
-    /// An `end` line is missing, or in a wrong place; or the script ends too early.
-    #[error("the ends are not as wanted at line {0}")]
+    /// The script ends after its first line and before its fifth, skipped ones aside; the number is its
+    /// last line's, skipped or not.
+    #[error("the script ends too early, at line {0}")]
     Ends(u32),
-    /// A line has more than 20,000 octets.
+    /// A line has more than 20,000 octets, without its line feed.
     #[error("line {0} is too long")]
     LineLong(u32),
     /// The script has more than 1,048,576 octets or more than 65,536 lines.
@@ -51,7 +52,7 @@ pub enum Failure<'a> {
     /// The file of this path can't be opened.
     #[error("{0} can't be opened")]
     CannotOpen(&'a str),
-    /// The script is at fault, or its run is.
+    /// The script is at fault, or its run is, or memory was wanting before it.
     #[error(transparent)]
     Script(#[from] ScriptFault),
 }

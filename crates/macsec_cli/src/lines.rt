@@ -2,11 +2,11 @@
 
 ghost use Rattle.std.specs.Prelude.{◌≡◌, map, codes};
 ghost use Rattle.macsec_cli.specs.Numerals.{decimal_in};
-ghost use Rattle.macsec_cli.specs.Fields.{listed, ends};
+ghost use Rattle.macsec_cli.specs.Fields.{value_of_keyword, ends};
 ghost use Rattle.macsec_cli.specs.Kinds.{read_line, read_at, kinds_at, kinds, of_words, line_of};
 ghost use Rattle.macsec_cli.specs.Runs.{Answers};
 
-use crate::endpoint::{Command, EndConfig, NewKey};
+use crate::endpoint::{Command, EndConfig, MAX_FRAME_LEN, NewKey};
 use crate::tag::An;
 use crate::words;
 use crate::words::decimal;
@@ -71,7 +71,10 @@ pub enum LineFault {
 }
 
 /// The octets of the longest line.
-const MOST_OCTETS: usize = 20_000;
+const MAX_LINE_LEN: usize = 20_000;
+
+/// The least that an endpoint's largest frame may have.
+const MIN_MAX_FRAME: u64 = 64;
 
 /// An association number.
 fn association(word: &[u8]) -> Result<An, LineFault>
@@ -100,7 +103,7 @@ fn configured_end(words: &[&[u8]]) -> Result<Line, LineFault>
     let at = words::end(at)?;
     let suite = words::suite(suite)?;
     let sci = words::sci(sci)?;
-    let max_frame = decimal(64, 9248, max_frame)? as u32;
+    let max_frame = decimal(MIN_MAX_FRAME, MAX_FRAME_LEN as u64, max_frame)? as u32;
     let form = words::tag_form(form)?;
     Ok(Line::End(
         at,
@@ -195,7 +198,7 @@ fn line_of_none(keyword: &[u8], words: &[&[u8]]) -> Result<Line, LineFault>
 
 /// A line of its first word and the words after it.
 fn line_from(alloc: Global, first: &[u8], words: &[&[u8]]) -> Result<Line, LineFault>
-    ensures { Answers (read_at (listed ends first.now) first.now (map (λ w. w.now) words.now)) result }
+    ensures { Answers (read_at (value_of_keyword ends first.now) first.now (map (λ w. w.now) words.now)) result }
 {
     let Ok(at) = words::end(first) else {
         return line_of_none(first, words);
@@ -223,7 +226,7 @@ fn line_of_words(alloc: Global, words: &[&[u8]]) -> Result<Option<Line>, LineFau
 pub fn parse_line(alloc: Global, text: &[u8]) -> Result<Option<Line>, LineFault>
     ensures { Answers (line_of text.now) result }
 {
-    if text.len() > MOST_OCTETS {
+    if text.len() > MAX_LINE_LEN {
         return Err(LineFault::LineLong);
     }
     let Ok(words) = words::words(alloc, text) else {

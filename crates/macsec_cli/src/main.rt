@@ -24,10 +24,10 @@ use std::process::ExitCode;
 use std::{env, fs, io};
 
 fn main(rt: HostRuntime) -> ExitCode {
-    let Ok(words) = own_words(&rt) else {
-        return ended(&rt, Err(Failure::Script(ScriptFault::Memory)));
-    };
-    ended(&rt, run(&rt, words.as_slice()))
+    match own_words(&rt) {
+        Ok(words) => status_of(&rt, run(&rt, words.as_slice())),
+        Err(error) => status_of(&rt, Err(failure_of_words(&error))),
+    }
 }
 
 /// The program's words, its own name among them.
@@ -35,8 +35,16 @@ fn own_words(rt: &HostRuntime) -> io::Result<Vec<String>> {
     Ok(env::args(rt)?.collect(rt.alloc())?)
 }
 
+/// Why the program's words can't be had: memory was wanting, or one of them is no text.
+fn failure_of_words<'a>(error: &io::Error) -> Failure<'a> {
+    match error.kind() {
+        io::ErrorKind::OutOfMemory => Failure::Script(ScriptFault::Memory),
+        _ => Failure::Usage,
+    }
+}
+
 /// The status of the program, after it has told a failure.
-fn ended(rt: &HostRuntime, done: Result<(), Failure<'_>>) -> ExitCode {
+fn status_of(rt: &HostRuntime, done: Result<(), Failure<'_>>) -> ExitCode {
     match done {
         Ok(()) => ExitCode::SUCCESS,
         Err(failure) => {

@@ -1,17 +1,18 @@
 //! A script from a reader, and what it prints to a writer.
 
-ghost use Rattle.std.specs.Prelude.{◌≡◌, ◌≤◌, ◌<◌, ◌^◌, ◌+◌, ℕ, length, IfSome, OnOk, MatchResult, Ok, Err};
+ghost use Rattle.std.specs.Prelude.{◌≡◌, ◌≤◌, ◌<◌, ◌^◌, ◌+◌, ℕ, length, IfSome, IfErr, OnOk, MatchResult, Ok, Err};
 ghost use Rattle.macsec_cli.specs.declared.faults.ScriptFault.TheVariants.{Write};
-ghost use Rattle.macsec_cli.specs.Printed.{output_text, frames_after, shown, shown_send, text_from, text_behind, text_of, a_config};
+ghost use Rattle.macsec_cli.specs.Limits.{max_script_len};
+ghost use Rattle.macsec_cli.specs.Printed.{output_text, frames_after, line_step, send_step, text_from, text_with, text_of, a_config};
 ghost use Rattle.macsec_cli.specs.Endpoint.{leaves};
 ghost use Rattle.macsec_cli.specs.Endpoint as output;
-ghost use Rattle.macsec_cli.specs.Shown.{drop_output, shown_sent};
-ghost use Rattle.macsec_cli.specs.Runs.{RunGives, IsInputFault, Prints};
+ghost use Rattle.macsec_cli.specs.Outputs.{drop_output, output_of_sent};
+ghost use Rattle.macsec_cli.specs.Runs.{RunGives, LeavesText, IsInputFault, Prints};
 
 use crate::endpoint::{DropReason, EndConfig, FrameFault, Secy, Sent};
 use crate::faults::ScriptFault;
 use crate::lines::{End, Frame, Line};
-use crate::script::{MOST_OCTETS, parse_script};
+use crate::script::{MAX_SCRIPT_LEN, parse_script};
 use std::alloc::Global;
 use std::io::{self, Read, Write};
 
@@ -22,13 +23,15 @@ pub struct Run {
     pub frames: u64,
 }
 
-/// Runs a script: reads and parses it whole, and then prints what its lines say.
+/// Runs a script: reads and parses it whole, and then prints what its lines say. Answers the script's
+/// first fault, having written nothing, or `Memory`, `Read` or `Write`.
 pub fn run_script<R: Read, W: Write>(
     alloc: Global,
     reader: &mut R,
     writer: &mut W,
 ) -> Result<(), ScriptFault>
-    ensures { IfSome (R.remaining reader.old) (λ script. RunGives script (W.contents writer.old) (W.contents writer.new) result) }
+    ensures run { IfSome (R.remaining reader.old) (λ script. RunGives script (W.contents writer.old) (W.contents writer.new) result) }
+    ensures unwritten { IfErr result (λ fault. LeavesText (W.contents writer.old) (W.contents writer.new) fault) }
 {
     let text = input(alloc, reader)?;
     let lines = parse_script(alloc, text.as_slice())?;
@@ -38,7 +41,7 @@ pub fn run_script<R: Read, W: Write>(
 /// All that a reader has, up to the longest script.
 fn input<R: Read>(alloc: Global, reader: &mut R) -> Result<Vec<u8>, ScriptFault>
     ensures { IfSome (R.remaining reader.old) (λ all. MatchResult result
-        (λ text. (text.items ≡ all) × (length all ≤ 1048576)) (λ fault. IsInputFault all fault)) }
+        (λ text. (text.items ≡ all) × (length all ≤ max_script_len)) (λ fault. IsInputFault all fault)) }
 {
     let mut text = Vec::new(alloc);
     let mut piece = [0u8; 4096];
@@ -50,7 +53,7 @@ fn input<R: Read>(alloc: Global, reader: &mut R) -> Result<Vec<u8>, ScriptFault>
         if count == 0 {
             return Ok(text);
         }
-        if text.len() + count > MOST_OCTETS {
+        if text.len() + count > MAX_SCRIPT_LEN {
             return Err(ScriptFault::ScriptLong);
         }
         if text.extend_from_slice(&piece[..count]).is_err() {
@@ -119,15 +122,15 @@ fn print_line<W: Write>(
     line: &Line,
 ) -> Result<(), ScriptFault>
     requires { run.old.frames < 2 ^ 63 }
-    ensures text { Prints (shown run.old n line.now).0 (W.contents writer.old) (W.contents writer.new) result }
-    ensures run { OnOk result (run.new ≡ (shown run.old n line.now).1) }
+    ensures text { Prints (line_step run.old n line.now).0 (W.contents writer.old) (W.contents writer.new) result }
+    ensures run { OnOk result (run.new ≡ (line_step run.old n line.now).1) }
     ensures frames { OnOk result (run.new.frames ≤ run.old.frames + 1) }
 {
     match line {
         Line::End(_, _) => Ok(()),
         Line::Command(command) => {
             run.endpoint.command(command);
-            told(writeln!(writer, "{n} done"))
+            write_fault(writeln!(writer, "{n} done"))
         }
         Line::Send(frame) => print_sent(alloc, run, writer, n, frame),
     }
@@ -142,8 +145,8 @@ fn print_sent<W: Write>(
     frame: &Frame,
 ) -> Result<(), ScriptFault>
     requires { run.old.frames < 2 ^ 63 }
-    ensures text { Prints (shown_send run.old n frame.now).0 (W.contents writer.old) (W.contents writer.new) result }
-    ensures run { OnOk result (run.new ≡ (shown_send run.old n frame.now).1) }
+    ensures text { Prints (send_step run.old n frame.now).0 (W.contents writer.old) (W.contents writer.new) result }
+    ensures run { OnOk result (run.new ≡ (send_step run.old n frame.now).1) }
     ensures frames { OnOk result (run.new.frames ≤ run.old.frames + 1) }
 {
     let sent = run.endpoint.send(frame.octets());
@@ -155,7 +158,7 @@ fn print_sent<W: Write>(
 /// How many link frames were made after an output, of which there were `frames` before it.
 fn frames_after(frames: u64, sent: &Result<Sent<'_>, FrameFault>) -> u64
     requires { frames < 2 ^ 63 }
-    ensures count { result ≡ frames_after frames (shown_sent sent.now) }
+    ensures count { result ≡ frames_after frames (output_of_sent sent.now) }
     ensures bound { result ≤ frames + 1 }
 {
     match sent {
@@ -172,7 +175,7 @@ fn print_output<W: Write>(
     frames: u64,
     sent: Result<Sent<'_>, FrameFault>,
 ) -> Result<(), ScriptFault>
-    ensures { Prints (output_text n frames (shown_sent sent.entry)) (W.contents writer.old) (W.contents writer.new) result }
+    ensures { Prints (output_text n frames (output_of_sent sent.entry)) (W.contents writer.old) (W.contents writer.new) result }
 {
     match sent {
         Ok(Sent::Link(octets)) => print_link(alloc, writer, n, frames, octets),
@@ -193,15 +196,15 @@ fn print_link<W: Write>(
     let Ok(text) = hex::encode(alloc, octets) else {
         return Err(ScriptFault::Memory);
     };
-    told(writeln!(writer, "{n} frame {frames} {text}"))
+    write_fault(writeln!(writer, "{n} frame {frames} {text}"))
 }
 
 fn print_dropped<W: Write>(writer: &mut W, n: u32, reason: DropReason) -> Result<(), ScriptFault>
     ensures { Prints (output_text n 0 (drop_output reason)) (W.contents writer.old) (W.contents writer.new) result }
 {
     match reason {
-        DropReason::NoSa => told(writeln!(writer, "{n} dropped NoSA")),
-        DropReason::TooLong => told(writeln!(writer, "{n} dropped TooLong")),
+        DropReason::NoSa => write_fault(writeln!(writer, "{n} dropped NoSA")),
+        DropReason::TooLong => write_fault(writeln!(writer, "{n} dropped TooLong")),
     }
 }
 
@@ -209,13 +212,13 @@ fn print_fault<W: Write>(writer: &mut W, n: u32, fault: FrameFault) -> Result<()
     ensures { Prints (output_text n 0 (output.fault fault)) (W.contents writer.old) (W.contents writer.new) result }
 {
     match fault {
-        FrameFault::Short => told(writeln!(writer, "{n} fault 5 Short")),
-        FrameFault::Long => told(writeln!(writer, "{n} fault 6 Long")),
+        FrameFault::Short => write_fault(writeln!(writer, "{n} fault 5 Short")),
+        FrameFault::Long => write_fault(writeln!(writer, "{n} fault 6 Long")),
     }
 }
 
 /// A write that failed, as the fault of a script.
-fn told(written: io::Result<()>) -> Result<(), ScriptFault>
+fn write_fault(written: io::Result<()>) -> Result<(), ScriptFault>
     ensures { MatchResult written (λ _. result ≡ Ok tt) (λ _. result ≡ Err Write) }
 {
     match written {

@@ -1,6 +1,7 @@
 //! A script as its lines, in the one order that they come in.
 
 ghost use Rattle.std.specs.Prelude.{◌≡◌, ◌≤◌, length, map};
+ghost use Rattle.macsec_cli.specs.Limits.{max_line_count};
 ghost use Rattle.macsec_cli.specs.Fields.{map_ok};
 ghost use Rattle.macsec_cli.specs.Scripts.{place_after, is_fit, at_line, lines_from, script_of};
 ghost use Rattle.macsec_cli.specs.Runs.{Parses};
@@ -14,10 +15,10 @@ use crate::words::lines;
 use std::alloc::Global;
 
 /// The octets of the longest script.
-pub const MOST_OCTETS: usize = 1_048_576;
+pub const MAX_SCRIPT_LEN: usize = 1_048_576;
 
 /// The lines of the longest script.
-const MOST_LINES: usize = 65_536;
+const MAX_LINE_COUNT: usize = 65_536;
 
 /// The line that a script wants next; of an association its key's number, and of the line that
 /// switches it on its own number.
@@ -132,7 +133,7 @@ fn at_line(n: u32, fault: LineFault) -> ScriptFault
 
 /// The lines that are not skipped, with their numbers from 1, or the first fault.
 fn parse_lines(alloc: Global, lines: &[&[u8]]) -> Result<Vec<(u32, Line)>, ScriptFault>
-    requires { length lines.now ≤ 65536 }
+    requires { length lines.now ≤ max_line_count }
     ensures { Parses (lines_from Place.EndA 1 (map (λ line. line.now) lines.now)) (map_ok (λ said. said.items) result) }
 {
     let mut said = Vec::new(alloc);
@@ -162,13 +163,13 @@ fn parse_lines(alloc: Global, lines: &[&[u8]]) -> Result<Vec<(u32, Line)>, Scrip
 pub fn parse_script(alloc: Global, script: &[u8]) -> Result<Vec<(u32, Line)>, ScriptFault>
     ensures { Parses (script_of script.now) (map_ok (λ lines. lines.items) result) }
 {
-    if script.len() > MOST_OCTETS {
+    if script.len() > MAX_SCRIPT_LEN {
         return Err(ScriptFault::ScriptLong);
     }
     let Ok(lines) = lines(alloc, script) else {
         return Err(ScriptFault::Memory);
     };
-    if lines.len() > MOST_LINES {
+    if lines.len() > MAX_LINE_COUNT {
         return Err(ScriptFault::ScriptLong);
     }
     parse_lines(alloc, lines.as_slice())

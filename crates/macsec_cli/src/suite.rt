@@ -56,7 +56,8 @@ pub fn iv_of(sci: Sci, pn: u32) -> [u8; 12]
     iv
 }
 
-/// Authenticates DA, SA, SecTAG and data, and puts the ICV into the 16 octets after them.
+/// Authenticates DA, SA, SecTAG and data, and puts the ICV into the 16 octets after them, the
+/// last of `frame`.
 pub fn protect_in_place(key: &SuiteKey, iv: &[u8; 12], frame: &mut [u8])
     requires room { 16 ≤ length frame.old }
     requires frame_length { length frame.old < 2 ^ 61 }

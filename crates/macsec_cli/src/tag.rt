@@ -6,7 +6,7 @@ ghost use Rattle.macsec_cli.specs.Tag.{IsTag, bit_where, spelling, tag_from, tci
 use byteorder::{BigEndian, ByteOrder};
 use std::marker::Model;
 
-/// The EtherType of MACsec (9.8).
+/// The EtherType of MACsec (9.4).
 const MACSEC_ETHERTYPE: u16 = 0x88e5;
 
 /// The bits of the octet of TCI and AN (9.5).
@@ -141,7 +141,7 @@ fn tci_an(tag: &SecTag) -> u8
 }
 
 /// Writes the 8 or 16 octets of the tag to the front of `out`, leaves the rest, and answers how many
-/// they are.
+/// they are; `out` has 16 octets or more.
 pub fn write_tag(tag: &SecTag, out: &mut [u8]) -> usize
     requires { 16 ≤ length out.old }
     ensures length { result ≡ length (spelling tag.now) }

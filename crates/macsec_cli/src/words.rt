@@ -6,7 +6,7 @@ ghost use Rattle.hex.specs.Hex.{hex_digit_value};
 ghost use Rattle.macsec_aes.specs.declared.Key.TheVariants.{K128};
 ghost use Rattle.macsec_cli.specs.Words.{lines_of, words_of, without_return};
 ghost use Rattle.macsec_cli.specs.Numerals.{decimal_in, packet_number, octets_of, some_octets};
-ghost use Rattle.macsec_cli.specs.Fields.{listed, ends, suites, forms, protections, map_ok, as_sci};
+ghost use Rattle.macsec_cli.specs.Fields.{value_of_keyword, ends, suites, forms, protections, map_ok, as_sci};
 ghost use Rattle.macsec_cli.specs.Runs.{Answers};
 
 use crate::channel::TagForm;
@@ -153,7 +153,7 @@ pub fn frame(alloc: Global, word: &[u8]) -> Result<Frame, LineFault>
 
 /// The letter of an end.
 pub fn end(word: &[u8]) -> Result<End, LineFault>
-    ensures { result ≡ listed ends word.now }
+    ensures { result ≡ value_of_keyword ends word.now }
 {
     match word {
         b"A" => Ok(End::A),
@@ -164,7 +164,7 @@ pub fn end(word: &[u8]) -> Result<End, LineFault>
 
 /// The keyword of a cipher suite.
 pub fn suite(word: &[u8]) -> Result<Suite, LineFault>
-    ensures { result ≡ listed suites word.now }
+    ensures { result ≡ value_of_keyword suites word.now }
 {
     match word {
         b"gcm128" => Ok(Suite::Gcm128),
@@ -174,7 +174,7 @@ pub fn suite(word: &[u8]) -> Result<Suite, LineFault>
 
 /// The keyword of a tag form.
 pub fn tag_form(word: &[u8]) -> Result<TagForm, LineFault>
-    ensures { result ≡ listed forms word.now }
+    ensures { result ≡ value_of_keyword forms word.now }
 {
     match word {
         b"auto" => Ok(TagForm::Auto),
@@ -187,7 +187,7 @@ pub fn tag_form(word: &[u8]) -> Result<TagForm, LineFault>
 
 /// Is the client's data also encrypted? The only keyword is `int`: it is not.
 pub fn protection(word: &[u8]) -> Result<bool, LineFault>
-    ensures { result ≡ listed protections word.now }
+    ensures { result ≡ value_of_keyword protections word.now }
 {
     match word {
         b"int" => Ok(false),

@@ -40,8 +40,9 @@ impl GcmKey {
         GcmKey { schedule, subkey }
     }
 
-    /// Encrypts the plaintext `text` in place and gives the authentication tag of it and of the
-    /// additional authenticated data.
+    /// Encrypts the plaintext `text` in place, at most 2^36 - 32 octets, and gives the authentication
+    /// tag of the ciphertext and of the additional authenticated data, at most 2^61 - 1 octets
+    /// (SP 800-38D, 7.1). No contract keeps a caller from using an IV twice under a key.
     #[tactic(auto, unfolding(crate::specs::Gcm::seal_of))]
     pub fn seal(&self, iv: &[u8; 12], aad: &[u8], text: &mut [u8]) -> [u8; 16]
         requires text_length { length text.old ≤ max_plaintext_len }
@@ -115,7 +116,7 @@ fn pre_counter_block(iv: &[u8; 12]) -> [u8; 16]
     counter
 }
 
-/// Adds one to the last four octets modulo 2^32, and leaves the first twelve.
+/// Adds one to the last four octets modulo 2^32, and leaves the first twelve (SP 800-38D, 6.2).
 pub fn inc32(block: [u8; 16]) -> [u8; 16]
     ensures { result ≡ inc32 block }
 {

@@ -1,4 +1,4 @@
-use Rattle.std.proofs.Common.{rules, arith}
+use Rattle.std.proofs.Common.{arith}
 use Rattle.std.proofs.lemmas.Result.{err_from_is_err_and}
 use Rattle.macsec_cli.proofs.Runs.{one_more, given_up}
 use Rattle.macsec_cli.proofs.running.print_lines.Goals as goal

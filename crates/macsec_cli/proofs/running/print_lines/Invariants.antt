@@ -1,5 +1,4 @@
-use Rattle.std.proofs.Common.{◌≡◌, ◌≤◌, ◌++◌, ℕ, List, drop}
-use Rattle.std.specs.Io.KnownBytes.{Appends}
+use Rattle.std.proofs.Common.{◌≤◌, drop}
 use Rattle.macsec_cli.specs.Printed.{text_from}
 use Rattle.macsec_cli.proofs.Runs.{IsOnTheWay}
 use Rattle.macsec_cli.proofs.running.print_lines.Given as goal
