@@ -18,9 +18,10 @@ bench: toolchain
 
 # The program is built once it is proved; here it is run on an empty script, which prints nothing.
 build/macsec: $(SOURCES) | toolchain
-	cd crates/macsec_cli && rt run -- run - < /dev/null
-	mkdir -p build
-	cp crates/macsec_cli/out/macsec_cli build/macsec
+	@echo "proving and building build/macsec, which takes some minutes the first time" >&2
+	@cd crates/macsec_cli && rt run -- run - < /dev/null >&2
+	@mkdir -p build
+	@cp crates/macsec_cli/out/macsec_cli build/macsec
 
 toolchain:
 ifeq ($(RT),)
