@@ -5,8 +5,10 @@ use Rattle.std.proofs.lemmas.List.FromFn.{length-map-range_with_len, get_or-map-
 use Rattle.std.proofs.lemmas.Bool.{cases_lt}
 use Rattle.std.specs.Fn.{iterate}
 use borrow.Rule.Slice.PartMut.{put_mid}
+use Rattle.std.proofs.lemmas.Grind.{same_number_lists}
+use Rattle.std.specs.Int.Bits.{xor_assoc, xor_self, xor_zero_r}
 use Rattle.macsec_aes.specs.Aes.{aes}
-use Rattle.macsec_gcm.specs.Gcm.{inc32}
+use Rattle.macsec_gcm.specs.Gcm.{gctr, inc32}
 use Rattle.macsec_gcm.specs.Octets.{sum_with_stream}
 
 -- octet k of the key stream from icb on
@@ -83,3 +85,27 @@ sum_below_more f old text stream ys a e held same lt ee ey fs =
         | inr past ↦ put_past a m text ys long fits k (omega arith) ∙ held.left k (omega arith)
       ];
     }
+
+-- ---- the key stream added twice
+
+pub length-gctr : (key icb text : List ℕ) → length (gctr key icb text) ≡ length text
+unfolding gctr
+length-gctr key icb text = length-map-range_with_len (λ k. bit_xor (get_or text k 0) (key_stream key icb k)) 0 (length text)
+
+get_or-gctr : (key icb text : List ℕ) (k : ℕ) → k < length text → get_or (gctr key icb text) k 0 ≡ bit_xor (get_or text k 0) (key_stream key icb k)
+unfolding gctr
+get_or-gctr key icb text k lt =
+    get_or-map-range_with_len (λ k. bit_xor (get_or text k 0) (key_stream key icb k)) 0 (length text) k k 0 lt (omega arith)
+
+pub gctr-gctr : (key icb text : List ℕ) → gctr key icb (gctr key icb text) ≡ text
+gctr-gctr key icb text =
+    let once = length-gctr key icb text in
+    let twice = length-gctr key icb (gctr key icb text) in
+    same_number_lists (gctr key icb (gctr key icb text)) text (twice ∙ once)
+    (λ k lt.
+    let inside : k < length text = omega arith in
+    get_or-gctr key icb (gctr key icb text) k (omega arith)
+    ∙ ap (λ (x : ℕ). bit_xor x (key_stream key icb k)) (get_or-gctr key icb text k inside)
+    ∙ xor_assoc (get_or text k 0) (key_stream key icb k) (key_stream key icb k)
+    ∙ ap (bit_xor (get_or text k 0)) (xor_self (key_stream key icb k))
+    ∙ xor_zero_r (get_or text k 0))

@@ -1,1 +1,2 @@
 pub mod KeyStreams
+pub mod Opening

@@ -1,11 +1,12 @@
 -- GCM with IVs of 96 bits and tags of 128 bits (SP 800-38D). Keys, IVs, texts, blocks and tags are
 -- lists of octets.
-use Rattle.std.specs.Prelude.{ℕ, ◌+◌, ◌-◌, ◌*◌, ◌/◌, ◌%◌, ◌^◌, List, [], ◌∷◌, ◌++◌, length, take, drop, map, replicate, bit_xor, slice_index}
+use Rattle.std.specs.Prelude.{ℕ, ◌+◌, ◌-◌, ◌*◌, ◌/◌, ◌%◌, ◌^◌, List, [], ◌∷◌, ◌++◌, length, take, drop, map, replicate, bit_xor, slice_index, Option, Some, None, ◌&&◌, if◌then◌else◌}
 use Rattle.std.specs.Fn.{iterate}
 use Rattle.std.specs.Int.{w32, w64, w128, from_be_bytes, to_be_bytes}
 use Rattle.std.specs.List.{range_with_len}
 use Rattle.macsec_aes.specs.Aes.{aes}
 use Rattle.macsec_ghash.specs.Ghash.{ghash, pad}
+use Rattle.macsec_gcm.specs.Octets.{same_octets}
 
 -- the most octets of a plaintext: 2^39 - 256 bits (5.2.1.1)
 abbrev pub max_plaintext_len : ℕ
@@ -51,3 +52,12 @@ unfoldable pub seal_of : List ℕ → List ℕ → List ℕ → List ℕ → Lis
 seal_of key iv aad plaintext =
     let ciphertext = gctr key (inc32 (pre_counter_block iv)) plaintext in
     (ciphertext, authentication_tag key (pre_counter_block iv) aad ciphertext)
+
+-- GCM-AD: the plaintext that seals to the ciphertext and the tag, where there is one, and else none.
+-- Only the sum of the ciphertext with the key stream can be that plaintext, and it is sealed again to
+-- see that it is (7.2)
+unfoldable pub open_of : List ℕ → List ℕ → List ℕ → List ℕ → List ℕ → Option (List ℕ)
+open_of key iv aad ciphertext tag =
+    let plaintext = gctr key (inc32 (pre_counter_block iv)) ciphertext in
+    let sealed = seal_of key iv aad plaintext in
+    if same_octets sealed.0 ciphertext && same_octets sealed.1 tag then Some plaintext else None

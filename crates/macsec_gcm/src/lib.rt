@@ -1,16 +1,19 @@
 //! AES-GCM with IVs of 96 bits and tags of 128 bits (SP 800-38D).
 #![tactic(auto)]
 
-ghost use Rattle.std.specs.Prelude.{◌≡◌, ◌*◌, ◌^◌, ◌<◌, ◌≤◌, ◌++◌, ℕ, List, length};
+ghost use Rattle.std.specs.Prelude.{◌≡◌, ◌*◌, ◌^◌, ◌<◌, ◌≤◌, ◌++◌, ℕ, List, length, if◌then◌else◌};
+ghost use Rattle.std.specs.Bool.{OnTrue, OnFalse};
 ghost use Rattle.macsec_aes.specs.Keys.{key_bytes};
 ghost use Rattle.macsec_ghash.specs.Ghash.{ghash, pad};
-ghost use Rattle.macsec_gcm.specs.Gcm.{authentication_tag, gctr, inc32, length_block, max_aad_len, max_plaintext_len, pre_counter_block, seal_of};
+ghost use Rattle.macsec_gcm.specs.Gcm.{authentication_tag, gctr, inc32, length_block, max_aad_len, max_plaintext_len, open_of, pre_counter_block, seal_of};
 ghost use Rattle.macsec_gcm.specs.Octets.{sum_with_stream};
 
 use macsec_aes::{Key, Schedule, encrypt};
 use macsec_field128::Block;
 use macsec_ghash::{Hash128, PlainHash};
 use std::marker::Model;
+
+pub mod laws;
 
 /// A key of GCM. Contracts see it as the octets of the AES key.
 #[derive(Drop)]
@@ -52,6 +55,33 @@ impl GcmKey {
         let j0 = pre_counter_block(iv);
         self.gctr(inc32(j0), text);
         self.authentication_tag(j0, aad, text)
+    }
+
+    /// Decrypts the ciphertext `text` in place where it and the additional authenticated data have
+    /// this tag, and says whether they have; else leaves the text as it is (SP 800-38D, 7.2). Lengths
+    /// are those of `seal`.
+    #[tactic(auto, using(crate::proofs::Opening::tests_of_tags))]
+    pub fn open(&self, iv: &[u8; 12], aad: &[u8], text: &mut [u8], tag: &[u8; 16]) -> bool
+        requires text_length { length text.old ≤ max_plaintext_len }
+        requires aad_length { length aad.now ≤ max_aad_len }
+        // The text that then stands there seals to the ciphertext and the tag.
+        ensures opened { OnTrue result
+            (seal_of self.now iv.now aad.now text.new ≡ (text.old, tag.now)) }
+        // No text seals to them.
+        ensures refused { OnFalse result
+            ((p : List ℕ) → seal_of self.now iv.now aad.now p ≡ (text.old, tag.now) → ⊥) }
+        ensures unchanged { OnFalse result (text.new ≡ text.old) }
+        // The same as one function, for the layers above.
+        ensures gives { open_of self.now iv.now aad.now text.old tag.now
+            ≡ (if result then Some text.new else None) }
+    {
+        let j0 = pre_counter_block(iv);
+        let is_genuine = self.authentication_tag(j0, aad, text) == *tag;
+        if is_genuine {
+            let icb = inc32(j0);
+            self.gctr(icb, text);
+        }
+        is_genuine
     }
 
     /// Adds the key stream from the initial counter block on to `text`.
@@ -169,6 +199,8 @@ mod tests {
             tag,
             0xab6e_47d4_2cec_13bd_f53a_67b2_1257_bddfu128.to_be_bytes()
         );
+        assert!(rt; key.open(&[0; 12], &[], &mut text, &tag));
+        assert_eq!(rt; text, [0; 16]);
     }
 
     #[test]
@@ -184,6 +216,27 @@ mod tests {
             tag,
             0xd0d1_c8a7_9999_6bf0_265b_98b5_d48a_b919u128.to_be_bytes()
         );
+        assert!(rt; key.open(&[0; 12], &[], &mut text, &tag));
+        assert_eq!(rt; text, [0; 16]);
+    }
+
+    #[test]
+    fn changed_texts_and_tags(rt: HostRuntime) {
+        let key = GcmKey::new(Key::K128([0; 16]));
+        let ciphertext = 0x0388_dace_60b6_a392_f328_c2b9_71b2_fe78u128.to_be_bytes();
+        let tag = 0xab6e_47d4_2cec_13bd_f53a_67b2_1257_bddfu128.to_be_bytes();
+        let mut text = ciphertext;
+        let mut changed_tag = tag;
+        changed_tag[15] ^= 1;
+        assert!(rt; !key.open(&[0; 12], &[], &mut text, &changed_tag));
+        assert_eq!(rt; text, ciphertext);
+        assert!(rt; !key.open(&[0; 12], &[0], &mut text, &tag));
+        assert_eq!(rt; text, ciphertext);
+        let mut changed = ciphertext;
+        changed[0] ^= 1;
+        text = changed;
+        assert!(rt; !key.open(&[0; 12], &[], &mut text, &tag));
+        assert_eq!(rt; text, changed);
     }
 
     // Test case 4 of the GCM specification: 20 octets of additional authenticated data and a

@@ -1,0 +1,18 @@
+//! Opening undoes sealing (SP 800-38D, 7): the contracts of functions that do nothing.
+
+ghost use Rattle.macsec_gcm.specs.Laws.{OpenUndoesSeal, SealedLengths, SealingIsInjective};
+
+/// Opening gives a plaintext exactly where that plaintext seals to the ciphertext and the tag.
+pub fn open_undoes_seal()
+    ensures { OpenUndoesSeal }
+{}
+
+/// No two plaintexts have one ciphertext under a key, an IV and additional authenticated data.
+pub fn sealing_is_injective()
+    ensures { SealingIsInjective }
+{}
+
+/// A ciphertext is as long as its plaintext, and a tag has 16 octets.
+pub fn sealed_lengths()
+    ensures { SealedLengths }
+{}
