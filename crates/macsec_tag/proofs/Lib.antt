@@ -1,0 +1,4 @@
+pub mod TciBits
+pub mod ByPlace
+pub mod ByGrammar
+pub mod Readings

@@ -1,0 +1,28 @@
+-- Laws of the SecTAG and of the grammar of frames.
+use Rattle.std.specs.Prelude.{◌≡◌, ◌↔◌, ◌<◌, ℕ, List}
+use Rattle.std.specs.List.{All}
+use Rattle.macsec_tag.specs.Tag.{Tag, IsTag, spelling}
+use Rattle.macsec_tag.specs.Frame.{MpduParts, HasLengths, IsTagged, IsUntagged, in_a_row}
+use Rattle.macsec_tag.specs.Table.{reading, tagged, untagged}
+
+-- each number is an octet
+abbrev pub AreOctets : List ℕ → Type 0
+AreOctets xs = All (λ x. x < 256) xs
+
+-- a SecTAG has one spelling, and no other SecTAG has it
+abbrev pub SpelledOnce : Tag → Tag → Type 0
+SpelledOnce t u = IsTag t → IsTag u → spelling t ≡ spelling u → t ≡ u
+
+-- a frame has at most one reading: one list of parts, or none and another EtherType
+pub record OneReading (frame : List ℕ) : Type 0 where
+  pub one : (p q : MpduParts) → IsTagged frame p → IsTagged frame q → p ≡ q
+  pub not_both : (p : MpduParts) → IsTagged frame p → IsUntagged frame → ⊥
+
+-- a frame that is built of parts is read again as these parts
+abbrev pub ReadAgain : MpduParts → Type 0
+ReadAgain p = IsTag p.tag → HasLengths p → reading (in_a_row p) ≡ tagged p
+
+-- the table reads a list of octets as the grammar has it
+pub record ReadsByGrammar (frame : List ℕ) : Type 0 where
+  pub is_tagged : (p : MpduParts) → (reading frame ≡ tagged p) ↔ IsTagged frame p
+  pub is_untagged : (reading frame ≡ untagged) ↔ IsUntagged frame

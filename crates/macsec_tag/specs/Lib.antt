@@ -1,0 +1,6 @@
+pub mod Tag
+pub mod Frame
+pub mod Table
+pub mod Standing
+pub mod Read
+pub mod Laws

@@ -1,0 +1,9 @@
+-- What the reader answers, as the table says it.
+use Rattle.macsec_tag.specs.declared.Read.{Read}
+use Rattle.macsec_tag.specs.declared.Read.TheVariants.{Untagged, Bad, Tagged}
+use Rattle.macsec_tag.specs.Table.{Reading, untagged, bad, tagged}
+
+abbrev pub reading_of : Read → Reading
+reading_of Untagged = untagged
+reading_of (Bad fault) = bad fault
+reading_of (Tagged mpdu) = tagged mpdu

@@ -1,0 +1,167 @@
+//! Reading a frame, by the places of its octets.
+
+ghost use Rattle.std.specs.Prelude.{◌≡◌, ◌≤◌, ◌+◌, ◌↔◌, length, true, IfNone};
+ghost use Rattle.macsec_tag.specs.Frame.{MpduParts, IsTagged, IsUntagged, has_macsec_ethertype};
+ghost use Rattle.macsec_tag.specs.Table.{reading, untagged, tagged, tag_fault, sec_tag_at, parts_at, tag_length_at, after_tag, data_length_at, has_wrong_length};
+ghost use Rattle.macsec_tag.specs.Standing.{StandsAsTagged};
+ghost use Rattle.macsec_tag.specs.Read.{reading_of};
+
+use crate::{
+    An, C_BIT, E_BIT, ES_BIT, MACSEC_ETHERTYPE, Mpdu, Read, SC_BIT, SCB_BIT, Sci, SecTag, TagFault,
+    V_BIT,
+};
+use byteorder::{BigEndian, ByteOrder};
+
+/// The octets of destination and source address.
+const ADDRESSES_LENGTH: usize = 12;
+
+/// The octets of an ICV.
+const ICV_LENGTH: usize = 16;
+
+/// How a frame reads: its parts where it is tagged, `Untagged` where another EtherType stands behind
+/// its addresses, or its first fault.
+pub fn read(frame: &[u8]) -> Read<'_>
+    // The parts are answered exactly where the grammar has them.
+    ensures is_tagged { (p : MpduParts) → (reading_of result ≡ tagged p) ↔ IsTagged frame.now p }
+    // Untagged is answered exactly where the grammar says so.
+    ensures is_untagged { (reading_of result ≡ untagged) ↔ IsUntagged frame.now }
+    // In any other case the fault is the first one of the table.
+    ensures table { reading_of result ≡ reading frame.now }
+{
+    if frame.len() < 14 {
+        return Read::Bad(TagFault::Cut);
+    }
+    if BigEndian::read_u16(&frame[ADDRESSES_LENGTH..]) != MACSEC_ETHERTYPE {
+        return Read::Untagged;
+    }
+    match fault_of(frame) {
+        Some(fault) => Read::Bad(fault),
+        None => Read::Tagged(parts_of(frame)),
+    }
+}
+
+/// The first fault of a frame with the MACsec EtherType.
+fn fault_of(frame: &[u8]) -> Option<TagFault>
+    requires { has_macsec_ethertype frame.now ≡ true }
+    ensures fault { result ≡ tag_fault frame.now }
+    ensures none { IfNone result (StandsAsTagged frame.now) }
+{
+    if frame.len() < 20 {
+        return Some(TagFault::Cut);
+    }
+    let tci = frame[14];
+    let has_sci = tci & SC_BIT != 0;
+    if has_sci && frame.len() < 28 {
+        return Some(TagFault::Cut);
+    }
+    if tci & V_BIT != 0 {
+        return Some(TagFault::Version);
+    }
+    if has_sci && (tci & ES_BIT != 0 || tci & SCB_BIT != 0) {
+        return Some(TagFault::SciBits);
+    }
+    if frame[15] >= 64 {
+        return Some(TagFault::ShortBits);
+    }
+    if frame[15] >= 48 || is_wrong_length(frame) {
+        return Some(TagFault::Length);
+    }
+    None
+}
+
+/// The octets of the SecTAG.
+fn tag_length(frame: &[u8]) -> usize
+    requires { 20 ≤ length frame.now }
+    ensures { result ≡ tag_length_at frame.now }
+{
+    if frame[14] & SC_BIT != 0 { 16 } else { 8 }
+}
+
+/// The octets behind the SecTAG.
+fn after_tag(frame: &[u8]) -> &[u8]
+    requires long { 20 ≤ length frame.now }
+    requires tag { 12 + tag_length_at frame.now ≤ length frame.now }
+    ensures { result.now ≡ after_tag frame.now }
+{
+    let (_addresses, rest) = frame.split_at(ADDRESSES_LENGTH);
+    let (_tag, rest) = rest.split_at(tag_length(frame));
+    rest
+}
+
+/// Are there fewer octets behind the SecTAG than its SL asks for?
+fn is_wrong_length(frame: &[u8]) -> bool
+    requires long { 20 ≤ length frame.now }
+    requires tag { 12 + tag_length_at frame.now ≤ length frame.now }
+    ensures { result ≡ has_wrong_length frame.now }
+{
+    let rest = after_tag(frame);
+    let sl = frame[15];
+    if sl == 0 {
+        rest.len() < 48 + ICV_LENGTH
+    } else {
+        rest.len() < sl as usize + ICV_LENGTH
+    }
+}
+
+/// The parts of a tagged frame.
+fn parts_of(frame: &[u8]) -> Mpdu<'_>
+    requires { StandsAsTagged frame.now }
+    ensures { result ≡ parts_at frame.now }
+{
+    let (addresses, rest) = frame.split_at(ADDRESSES_LENGTH);
+    let (tag_bytes, _after) = rest.split_at(tag_length(frame));
+    let (secure_data, rest) = after_tag(frame).split_at(data_length(frame));
+    let (icv, padding) = rest.split_at(ICV_LENGTH);
+    Mpdu {
+        addresses,
+        tag_bytes,
+        secure_data,
+        icv,
+        padding,
+        tag: sec_tag(frame),
+    }
+}
+
+/// How many octets of Secure Data a tagged frame has.
+fn data_length(frame: &[u8]) -> usize
+    requires { StandsAsTagged frame.now }
+    ensures value { result ≡ data_length_at frame.now }
+    ensures within { result + 16 ≤ length (after_tag frame.now) }
+{
+    if frame[15] == 0 {
+        after_tag(frame).len() - ICV_LENGTH
+    } else {
+        frame[15] as usize
+    }
+}
+
+/// The SecTAG of a tagged frame.
+fn sec_tag(frame: &[u8]) -> SecTag
+    requires { StandsAsTagged frame.now }
+    ensures { result ≡ sec_tag_at frame.now }
+{
+    let tci = frame[14];
+    SecTag {
+        es: tci & ES_BIT != 0,
+        scb: tci & SCB_BIT != 0,
+        e: tci & E_BIT != 0,
+        c: tci & C_BIT != 0,
+        an: An(tci & 3),
+        sl: frame[15],
+        pn: BigEndian::read_u32(&frame[16..]),
+        sci: sci(frame),
+    }
+}
+
+/// The SCI that the SecTAG of a tagged frame carries.
+fn sci(frame: &[u8]) -> Option<Sci>
+    requires { StandsAsTagged frame.now }
+    ensures { result ≡ (sec_tag_at frame.now).sci }
+{
+    if frame[14] & SC_BIT == 0 {
+        return None;
+    }
+    let mut octets = [0; 8];
+    octets.copy_from_slice(&frame[20..28]);
+    Some(Sci(octets))
+}
