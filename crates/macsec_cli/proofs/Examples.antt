@@ -1,12 +1,12 @@
 -- Lines of the script language and what they say.
-use Rattle.std.specs.Prelude.{◌≡◌, ◌++◌, [], ◌∷◌, replicate, codes, Some, None, Ok, Err, refl}
+use Rattle.std.specs.Prelude.{◌≡◌, ◌++◌, [], ◌∷◌, replicate, codes, Some, None, Ok, Err, true, false, refl}
 use Rattle.std.specs.Fmt.{digits}
 use Rattle.hex.proofs.OnLiterals.{hex_on_literals}
-use Rattle.macsec_aes.specs.declared.Key.TheVariants.{K128}
+use Rattle.macsec_aes.specs.declared.Key.TheVariants.{K128, K256}
 use Rattle.macsec_cli.specs.declared.channel.TagForm.TheVariants as form
 use Rattle.macsec_cli.specs.declared.endpoint.Command.TheVariants as by
-use Rattle.macsec_cli.specs.declared.endpoint.Suite.TheVariants.{Gcm128}
-use Rattle.macsec_cli.specs.declared.lines.End.TheVariants.{A}
+use Rattle.macsec_suite.specs.declared.Suite.TheVariants.{Gcm128, Gcm256}
+use Rattle.macsec_cli.specs.declared.lines.End.TheVariants.{A, B}
 use Rattle.macsec_cli.specs.declared.lines.Line.TheVariants as line
 use Rattle.macsec_cli.specs.declared.lines.LineFault.TheVariants.{Word, Count, Hex, Number, LineLong}
 use Rattle.macsec_cli.specs.declared.faults.ScriptFault.TheVariants as script
@@ -39,7 +39,7 @@ tag_form : line_of (codes "end A gcm128 12153524c0895e81 1518 none") ≡ Err Wor
 unfolding hex_on_literals
 tag_form = refl
 
-protection : line_of (codes "A txsa 2 0 b2c28465 conf") ≡ Err Word
+protection : line_of (codes "A txsa 2 0 b2c28465 none") ≡ Err Word
 protection = refl
 
 -- ---- too few words or too many
@@ -82,9 +82,9 @@ key_256 = refl
 an_4 : line_of (codes "A txon 4") ≡ Err Number
 an_4 = refl
 
-offset_30 : line_of (codes "A key 0 ad7a2bd03eac835a6f620fdcb506b345 30") ≡ Err Number
+offset_256 : line_of (codes "A key 0 ad7a2bd03eac835a6f620fdcb506b345 256") ≡ Err Number
 unfolding hex_on_literals
-offset_30 = refl
+offset_256 = refl
 
 small_frames : line_of (codes "end A gcm128 12153524c0895e81 63 sci") ≡ Err Number
 unfolding hex_on_literals
@@ -114,16 +114,48 @@ end_a : line_of (codes "end A gcm128 12153524c0895e81 1518 sci") ≡
 unfolding hex_on_literals
 end_a = refl
 
+end_b : line_of (codes "end B gcm256 0000000000000001 64 es") ≡
+    Ok (Some (line.End B (record {
+      suite = Gcm256;
+      sci = record { 0 = 0 ∷ 0 ∷ 0 ∷ 0 ∷ 0 ∷ 0 ∷ 0 ∷ 1 ∷ [] };
+      max_frame = 64;
+      form = form.Es;
+    })))
+unfolding hex_on_literals
+end_b = refl
+
 key : line_of (codes "A key 7 000102030405060708090A0B0C0D0E0F 0") ≡
     Ok (Some (line.Command (by.Key (record {
       number = 7;
       bytes = K128 (0 ∷ 1 ∷ 2 ∷ 3 ∷ 4 ∷ 5 ∷ 6 ∷ 7 ∷ 8 ∷ 9 ∷ 10 ∷ 11 ∷ 12 ∷ 13 ∷ 14 ∷ 15 ∷ []);
+      offset = 0;
     }))))
 unfolding hex_on_literals
 key = refl
 
-tx_sa : line_of (codes "A  txsa\t2 00 b2C28465 int\r") ≡ Ok (Some (line.Command (by.TxSa 2 0 2999092325)))
+key_of_32_octets : line_of (codes "A key 7 000102030405060708090a0b0c0d0e0f101112131415161718191a1b1c1d1e1f 0") ≡
+    Ok (Some (line.Command (by.Key (record {
+      number = 7;
+      bytes = K256 (0 ∷ 1 ∷ 2 ∷ 3 ∷ 4 ∷ 5 ∷ 6 ∷ 7 ∷ 8 ∷ 9 ∷ 10 ∷ 11 ∷ 12 ∷ 13 ∷ 14 ∷ 15 ∷ 16 ∷ 17 ∷ 18 ∷ 19 ∷ 20 ∷ 21 ∷ 22 ∷ 23 ∷ 24 ∷ 25 ∷ 26 ∷ 27 ∷ 28 ∷ 29 ∷ 30 ∷ 31 ∷ []);
+      offset = 0;
+    }))))
+unfolding hex_on_literals
+key_of_32_octets = refl
+
+offset_30 : line_of (codes "A key 7 000102030405060708090a0b0c0d0e0f 30") ≡
+    Ok (Some (line.Command (by.Key (record {
+      number = 7;
+      bytes = K128 (0 ∷ 1 ∷ 2 ∷ 3 ∷ 4 ∷ 5 ∷ 6 ∷ 7 ∷ 8 ∷ 9 ∷ 10 ∷ 11 ∷ 12 ∷ 13 ∷ 14 ∷ 15 ∷ []);
+      offset = 30;
+    }))))
+unfolding hex_on_literals
+offset_30 = refl
+
+tx_sa : line_of (codes "A  txsa\t2 00 b2C28465 int\r") ≡ Ok (Some (line.Command (by.TxSa 2 0 2999092325 false)))
 tx_sa = refl
+
+encrypts : line_of (codes "A txsa 2 0 b2c28465 conf") ≡ Ok (Some (line.Command (by.TxSa 2 0 2999092325 true)))
+encrypts = refl
 
 tx_on : line_of (codes "A txon 02") ≡ Ok (Some (line.Command (by.TxOn 2)))
 tx_on = refl
@@ -149,6 +181,19 @@ few_words_for_a_key = refl
 other_port : printed_text (codes "end A gcm128 12153524c0895e81 1518 sci\nend B gcm128 0000000000000002 1518 es\n") ≡ Err (script.Word 2)
 unfolding hex_on_literals
 other_port = refl
+
+-- a key of 32 octets under gcm128, one of 16 under gcm256, and an offset that is none of the three
+long_key : printed_text (codes "end A gcm128 12153524c0895e81 1518 sci\nend B gcm256 0000000000000002 1518 auto\nA key 0 000102030405060708090a0b0c0d0e0f101112131415161718191a1b1c1d1e1f 0\n") ≡ Err (script.Word 3)
+unfolding hex_on_literals
+long_key = refl
+
+short_key_of_a : printed_text (codes "end A gcm256 12153524c0895e81 1518 sci\nend B gcm128 0000000000000002 1518 auto\nA key 0 ad7a2bd03eac835a6f620fdcb506b345 0\n") ≡ Err (script.Word 3)
+unfolding hex_on_literals
+short_key_of_a = refl
+
+offset_31 : printed_text (codes "end A gcm128 12153524c0895e81 1518 sci\nend B gcm128 0000000000000002 1518 auto\nA key 0 ad7a2bd03eac835a6f620fdcb506b345 31\n") ≡ Err (script.Word 3)
+unfolding hex_on_literals
+offset_31 = refl
 
 five_lines : printed_text (codes "end A gcm128 12153524c0895e81 1518 sci\nend B gcm128 0000000000000002 1518 auto\nA key 0 ad7a2bd03eac835a6f620fdcb506b345 0\nA txsa 2 0 b2c28465 int\nA txon 2\n") ≡ Ok (codes "3 done\n4 done\n5 done\n")
 unfolding hex_on_literals digits

@@ -1,6 +1,7 @@
 -- The endpoint as a machine: its state, what comes in, what goes out.
-use Rattle.std.specs.Prelude.{◌==◌, ℕ, List, length, false, nat_lt, if◌then◌else◌, Option, Some, None, option_map}
-use Rattle.macsec_aes.specs.Keys.{key_bytes}
+use Rattle.std.specs.Prelude.{◌==◌, ℕ, List, length, Bool, false, not, is_some, nat_lt, if◌then◌else◌, Option, Some, None, option_map}
+use Rattle.macsec_suite.specs.declared.Suite.{Suite}
+use Rattle.macsec_suite.specs.Keys.{prepared_from, suite_key_fault}
 use Rattle.macsec_cli.specs.declared.channel.TxRow.{TxRow}
 use Rattle.macsec_cli.specs.declared.endpoint.EndConfig.{EndConfig}
 use Rattle.macsec_cli.specs.declared.endpoint.NewKey.{NewKey}
@@ -9,7 +10,7 @@ use Rattle.macsec_cli.specs.declared.endpoint.Command.TheVariants.{Key, TxSa, Tx
 use Rattle.macsec_cli.specs.declared.endpoint.FrameFault.{FrameFault}
 use Rattle.macsec_cli.specs.declared.endpoint.FrameFault.TheVariants.{Short, Long}
 use Rattle.macsec_cli.specs.declared.channel.TxOptions.{TxOptions}
-use Rattle.macsec_cli.specs.declared.suite.KeyRow.{KeyRow}
+use Rattle.macsec_cli.specs.declared.channel.KeyRow.{KeyRow}
 use Rattle.macsec_cli.specs.Transmit.{Leaving, no_sa, too_long, link_frame, what_leaves, row_after}
 use Rattle.macsec_cli.specs.Limits.{min_frame_len, max_frame_len}
 
@@ -25,19 +26,25 @@ start config = record { config = config; key = None; association = None }
 
 -- ---- commands
 
-abbrev pub new_row : NewKey → KeyRow
-new_row k = record { number = k.number; key = key_bytes k.bytes }
+-- the key fits the suite
+abbrev pub fits : Suite → NewKey → Bool
+fits suite k = not (is_some (suite_key_fault suite k.bytes k.offset))
 
-abbrev pub new_association : ℕ → ℕ → ℕ → TxRow
-new_association an key next = record { an = an; key = key; next = next; on = false }
+-- a key that fits the suite takes the place of the one before it
+abbrev pub key_after : Suite → NewKey → Option KeyRow → Option KeyRow
+key_after suite k before =
+    if fits suite k then Some (record { number = k.number; key = prepared_from suite k.bytes k.offset }) else before
+
+abbrev pub new_association : ℕ → ℕ → ℕ → Bool → TxRow
+new_association an key next conf = record { an = an; key = key; next = next; conf = conf; on = false }
 
 -- this association is on, and every other one off
 abbrev pub switch_to : ℕ → TxRow → TxRow
 switch_to an row = record row { on = row.an == an }
 
 abbrev pub state_after_command : Command → State → State
-state_after_command (Key k) s = record s { key = Some (new_row k) }
-state_after_command (TxSa an key next) s = record s { association = Some (new_association an key next) }
+state_after_command (Key k) s = record s { key = key_after s.config.suite k s.key }
+state_after_command (TxSa an key next conf) s = record s { association = Some (new_association an key next conf) }
 state_after_command (TxOn an) s = record s { association = option_map (switch_to an) s.association }
 
 -- ---- a client's frame

@@ -1,12 +1,12 @@
 -- What a word of a line can be, the value that it then has, and how it is read.
 use Rattle.std.specs.Prelude.{ℕ, List, [], ◌∷◌, Bool, true, false, bytes_eq, codes, Result, Ok, Err}
 use Rattle.macsec_aes.specs.declared.Key.{Key}
-use Rattle.macsec_aes.specs.declared.Key.TheVariants.{K128}
-use Rattle.macsec_cli.specs.declared.tag.Sci.{Sci}
+use Rattle.macsec_aes.specs.declared.Key.TheVariants.{K128, K256}
+use Rattle.macsec_tag.specs.declared.Sci.{Sci}
 use Rattle.macsec_cli.specs.declared.channel.TagForm.{TagForm}
 use Rattle.macsec_cli.specs.declared.channel.TagForm.TheVariants as form
-use Rattle.macsec_cli.specs.declared.endpoint.Suite.{Suite}
-use Rattle.macsec_cli.specs.declared.endpoint.Suite.TheVariants.{Gcm128}
+use Rattle.macsec_suite.specs.declared.Suite.{Suite}
+use Rattle.macsec_suite.specs.declared.Suite.TheVariants.{Gcm128, Gcm256}
 use Rattle.macsec_cli.specs.declared.lines.End.{End}
 use Rattle.macsec_cli.specs.declared.lines.End.TheVariants.{A, B}
 use Rattle.macsec_cli.specs.declared.lines.LineFault.{LineFault}
@@ -48,14 +48,14 @@ abbrev pub ends : List (List ℕ × End)
 ends = (codes "A", A) ∷ (codes "B", B) ∷ []
 
 abbrev pub suites : List (List ℕ × Suite)
-suites = (codes "gcm128", Gcm128) ∷ []
+suites = (codes "gcm128", Gcm128) ∷ (codes "gcm256", Gcm256) ∷ []
 
 abbrev pub forms : List (List ℕ × TagForm)
 forms = (codes "auto", form.Auto) ∷ (codes "sci", form.Sci) ∷ (codes "es", form.Es) ∷ (codes "scb", form.Scb) ∷ []
 
--- is the client's data also encrypted?
+-- are the client's data encrypted too?
 abbrev pub protections : List (List ℕ × Bool)
-protections = (codes "int", false) ∷ []
+protections = (codes "int", false) ∷ (codes "conf", true) ∷ []
 
 -- a function of the value, where there is one
 abbrev pub map_ok : {A B E : Type 0} → (A → B) → Result A E → Result B E
@@ -65,10 +65,19 @@ map_ok f (Err fault) = Err fault
 abbrev pub as_sci : List ℕ → Sci
 as_sci octets = record { 0 = octets }
 
+-- a value, or where there is none the other reading
+abbrev pub or_else : {A E : Type 0} → Result A E → Result A E → Result A E
+or_else (Ok x) other = Ok x
+or_else (Err fault) other = other
+
+-- a key of 16 octets, or of 32
+abbrev pub key_of_word : List ℕ → Result Key LineFault
+key_of_word word = or_else (map_ok K128 (octets_of 16 word)) (map_ok K256 (octets_of 32 word))
+
 abbrev pub read_word : (f : Field) → List ℕ → Result (Value f) LineFault
 read_word (number low high) word = decimal_in low high word
 read_word sci word = map_ok as_sci (octets_of 8 word)
-read_word key word = map_ok K128 (octets_of 16 word)
+read_word key word = key_of_word word
 read_word frame word = some_octets word
 read_word pn word = packet_number word
 read_word at_end word = value_of_keyword ends word

@@ -31,7 +31,7 @@ abbrev pub key_number : Field
 key_number = number 0 255
 
 abbrev pub offset : Field
-offset = number 0 0
+offset = number 0 255
 
 abbrev pub max_frame : Field
 max_frame = number min_max_frame max_frame_len
@@ -40,8 +40,8 @@ max_frame = number min_max_frame max_frame_len
 abbrev pub kinds_at : End → List Kind
 kinds_at A =
     kind (codes "key") (key_number ∷ key ∷ offset ∷ [])
-    (λ n bytes offset. line.Command (by.Key (record { number = n; bytes = bytes }))) ∷
-    kind (codes "txsa") (an ∷ key_number ∷ pn ∷ protection ∷ []) (λ an n pn conf. line.Command (by.TxSa an n pn)) ∷
+    (λ n bytes offset. line.Command (by.Key (record { number = n; bytes = bytes; offset = offset }))) ∷
+    kind (codes "txsa") (an ∷ key_number ∷ pn ∷ protection ∷ []) (λ an n pn conf. line.Command (by.TxSa an n pn conf)) ∷
     kind (codes "txon") (an ∷ []) (λ an. line.Command (by.TxOn an)) ∷
     kind (codes "send") (frame ∷ []) (λ frame. line.Send frame) ∷ []
 kinds_at B = []

@@ -1,6 +1,4 @@
 pub mod Limits
-pub mod Tag
-pub mod Parts
 pub mod Transmit
 pub mod InPlace
 pub mod Endpoint

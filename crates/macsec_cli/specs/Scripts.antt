@@ -1,6 +1,6 @@
 -- A script: its lines that are not skipped, with their numbers, or its first fault.
 use Rattle.std.specs.Prelude.{ℕ, ◌+◌, ◌-◌, ◌==◌, ◌&&◌, ◌||◌, List, [], ◌∷◌, length, slice_index, Bool, true, false, nat_lt, nat_le, if◌then◌else◌, Option, Some, None, Result, Ok, Err}
-use Rattle.macsec_cli.specs.declared.tag.Sci.{Sci}
+use Rattle.macsec_tag.specs.declared.Sci.{Sci}
 use Rattle.macsec_cli.specs.declared.channel.TagForm.{TagForm}
 use Rattle.macsec_cli.specs.declared.channel.TagForm.TheVariants as form
 use Rattle.macsec_cli.specs.declared.endpoint.Command.TheVariants as by
@@ -13,7 +13,8 @@ use Rattle.macsec_cli.specs.declared.script.Place.{Place}
 use Rattle.macsec_cli.specs.declared.script.Place.TheVariants.{EndA, EndB, Key, TxSa, TxOn, Sends}
 use Rattle.macsec_cli.specs.declared.faults.ScriptFault.{ScriptFault}
 use Rattle.macsec_cli.specs.declared.faults.ScriptFault.TheVariants.{Word, Ends, LineLong, ScriptLong, Memory}
-use Rattle.macsec_cli.specs.Transmit.{last_number}
+use Rattle.macsec_suite.specs.Suites.{last_of}
+use Rattle.macsec_cli.specs.Endpoint.{fits}
 use Rattle.macsec_cli.specs.Words.{lines_of}
 use Rattle.macsec_cli.specs.Fields.{map_ok}
 use Rattle.macsec_cli.specs.Kinds.{line_of, and_then}
@@ -54,18 +55,18 @@ is_fit form.Scb sci = slice_index sci.0 6 == 0 && slice_index sci.0 7 == 0
 abbrev pub only_if : Bool → Place → Option Place
 only_if b place = if b then Some place else None
 
--- what a script wants after a line that it wants: both ends, a key, an association of that key,
--- that association on, and then frames to send
+-- what a script wants after a line that it wants: both ends, a key that fits A's suite, an association
+-- of that key, that association on, and then frames to send
 abbrev pub place_after : Place → Line → Option Place
-place_after EndA (line.End A config) = only_if (is_sci_form config.form) EndB
+place_after EndA (line.End A config) = only_if (is_sci_form config.form) (EndB config.suite)
 place_after EndA other = None
-place_after EndB (line.End B config) = only_if (is_fit config.form config.sci) Key
-place_after EndB other = None
-place_after Key (line.Command (by.Key k)) = Some (TxSa k.number)
-place_after Key other = None
-place_after (TxSa number) (line.Command (by.TxSa an key pn)) =
-    only_if (key == number && nat_le 1 pn && nat_le pn last_number) (TxOn an)
-place_after (TxSa number) other = None
+place_after (EndB suite) (line.End B config) = only_if (is_fit config.form config.sci) (Key suite)
+place_after (EndB suite) other = None
+place_after (Key suite) (line.Command (by.Key k)) = only_if (fits suite k) (TxSa suite k.number)
+place_after (Key suite) other = None
+place_after (TxSa suite number) (line.Command (by.TxSa an key pn conf)) =
+    only_if (key == number && nat_le 1 pn && nat_le pn (last_of suite)) (TxOn an)
+place_after (TxSa suite number) other = None
 place_after (TxOn number) (line.Command (by.TxOn an)) = only_if (an == number) Sends
 place_after (TxOn number) other = None
 place_after Sends (line.Send frame) = Some Sends
@@ -74,9 +75,9 @@ place_after Sends other = None
 -- a script may end where it has said nothing yet, or all but the frames to send; n is its last line
 abbrev pub at_script_end : Place → ℕ → Result (List NumberedLine) ScriptFault
 at_script_end EndA n = Ok []
-at_script_end EndB n = Err (Ends n)
-at_script_end Key n = Err (Ends n)
-at_script_end (TxSa number) n = Err (Ends n)
+at_script_end (EndB suite) n = Err (Ends n)
+at_script_end (Key suite) n = Err (Ends n)
+at_script_end (TxSa suite number) n = Err (Ends n)
 at_script_end (TxOn number) n = Err (Ends n)
 at_script_end Sends n = Ok []
 

@@ -1,19 +1,17 @@
 //! The transmit channel: its association and what becomes of a client's frame (IEEE 802.1AE, 10.5).
 
-ghost use Rattle.std.specs.Prelude.{◌≡◌, ◌≤◌, ◌+◌, ◌++◌, [], length, take, drop, option_map, Some, None};
-ghost use Rattle.macsec_gcm.specs.Gcm.{seal_of};
+ghost use Rattle.std.specs.Prelude.{◌≡◌, ◌≤◌, ◌+◌, ◌++◌, length, take, drop, option_map, Some, None};
+ghost use Rattle.macsec_suite.specs.Suites.{last_of};
+ghost use Rattle.macsec_tag.specs.Tag.{spelling};
+ghost use Rattle.macsec_tag.specs.Frame.{in_a_row};
 ghost use Rattle.macsec_cli.specs.Limits.{min_frame_len, max_frame_len};
-ghost use Rattle.macsec_cli.specs.Tag.{spelling};
-ghost use Rattle.macsec_cli.specs.Transmit.{bytes_of_key, last_number, what_leaves, what_leaves_under, octets_added, row_after, sl_of, tag_sent};
+ghost use Rattle.macsec_cli.specs.Transmit.{key_of_number, what_leaves, what_leaves_under, octets_added, row_after, sl_of, tag_sent, parts_under};
 ghost use Rattle.macsec_cli.specs.Endpoint.{new_association, switch_to};
 ghost use Rattle.macsec_cli.specs.InPlace.{ShowsLeaving};
 
-use crate::suite::{ICV_LENGTH, KeyRow, SuiteKey, iv_of, protect_in_place};
-use crate::tag::{An, Sci, SecTag, write_tag};
+use macsec_suite::{ICV_LENGTH, SuiteKey, iv_of, protect_in_place};
+use macsec_tag::{An, Sci, SecTag, write_tag};
 use std::marker::Model;
-
-/// The last packet number: packet numbers have 32 bits.
-pub const LAST_NUMBER: u64 = 0xffff_ffff;
 
 /// The octets of DA and SA.
 const ADDRESSES_LENGTH: usize = 12;
@@ -35,13 +33,21 @@ pub struct TxOptions {
     pub max_frame: u32,
 }
 
+/// An installed key: its number, and the key as it is prepared.
+#[derive(Drop)]
+pub struct KeyRow {
+    pub number: u8,
+    pub key: SuiteKey,
+}
+
 /// A transmit association: its number, the number of its key, the packet number that it uses next,
-/// and whether it is on.
+/// whether it encrypts, and whether it is on.
 #[derive(Clone, Copy)]
 pub struct TxRow {
     pub an: An,
     pub key: u8,
     pub next: u64,
+    pub conf: bool,
     pub on: bool,
 }
 
@@ -77,13 +83,14 @@ impl TxChannel {
     }
 
     /// Makes the association, off.
-    pub fn tx_sa(&mut self, an: An, key: u8, next: u64)
-        ensures { self.new ≡ Some (new_association an key next) }
+    pub fn tx_sa(&mut self, an: An, key: u8, next: u64, conf: bool)
+        ensures { self.new ≡ Some (new_association an key next conf) }
     {
         self.association = Some(TxRow {
             an,
             key,
             next,
+            conf,
             on: false,
         });
     }
@@ -116,12 +123,15 @@ impl TxChannel {
         let Some(row) = self.association else {
             return TxResult::NoSa;
         };
-        if !row.on || row.next > LAST_NUMBER {
+        if !row.on {
             return TxResult::NoSa;
         }
         let Some(key) = key_of(row.key, key) else {
             return TxResult::NoSa;
         };
+        if row.next > key.suite().last() {
+            return TxResult::NoSa;
+        }
         let result = frame_under(key, options, &row, frame, out);
         if let TxResult::Made { .. } = result {
             let next = row.next + 1;
@@ -133,7 +143,7 @@ impl TxChannel {
 
 /// The key of this number, where it is installed.
 fn key_of(number: u8, key: &Option<KeyRow>) -> Option<&SuiteKey>
-    ensures { option_map (λ k. k.now) result ≡ bytes_of_key number key.now }
+    ensures { option_map (λ k. k.now) result ≡ key_of_number number key.now }
 {
     match key {
         Some(row) if row.number == number => Some(&row.key),
@@ -150,18 +160,17 @@ fn sl_of(octets: usize) -> u8
 
 /// The SecTAG of a client's frame that the association sends.
 fn tag_of(sci: Sci, row: TxRow, frame: &[u8]) -> SecTag
-    requires number { row.next ≤ last_number }
     requires frame_long { min_frame_len ≤ length frame.now }
     ensures { result ≡ tag_sent sci row frame.now }
 {
     SecTag::new(
         false,
         false,
-        false,
-        false,
+        row.conf,
+        row.conf,
         row.an,
         sl_of(frame.len() - ADDRESSES_LENGTH),
-        row.next as u32,
+        (row.next % (1 << 32)) as u32,
         Some(sci),
     )
     .unwrap()
@@ -175,7 +184,7 @@ fn frame_under(
     frame: &[u8],
     out: &mut [u8],
 ) -> TxResult
-    requires number { row.now.next ≤ last_number }
+    requires number { row.now.next ≤ last_of key.now.suite }
     requires frame_long { min_frame_len ≤ length frame.now }
     requires frame_short { length frame.now ≤ max_frame_len }
     requires room { options.now.max_frame ≤ length out.old }
@@ -185,7 +194,7 @@ fn frame_under(
     if frame.len() + tag.length() + ICV_LENGTH > options.max_frame as usize {
         return TxResult::TooLong;
     }
-    let iv = iv_of(options.sci, row.next as u32);
+    let iv = iv_of(key.suite(), options.sci, 0, [0; 12], row.next);
     let len = write_frame(key, &iv, &tag, frame, out);
     TxResult::Made { len }
 }
@@ -197,15 +206,14 @@ fn write_frame(key: &SuiteKey, iv: &[u8; 12], tag: &SecTag, frame: &[u8], out: &
     requires frame_short { length frame.now ≤ max_frame_len }
     requires room { length frame.now + octets_added tag.now ≤ length out.old }
     ensures length { result ≡ length frame.now + octets_added tag.now }
-    ensures octets { let clear = take 12 frame.now ++ spelling tag.now ++ drop 12 frame.now in
-        let ct = seal_of key.now iv.now clear [] in take result out.new ≡ clear ++ ct.0 ++ ct.1 }
+    ensures octets { take result out.new ≡ in_a_row (parts_under key.now iv.now tag.now frame.now) }
 {
     let end = write_clear(tag, frame, out) + ICV_LENGTH;
-    protect_in_place(key, iv, &mut out[..end]);
+    protect_in_place(key, iv, tag.e(), tag.length(), &mut out[..end]);
     end
 }
 
-/// Puts DA, SA, SecTAG and Secure Data at the front of `out`, and answers how many octets they are.
+/// Puts DA, SA, SecTAG and client data at the front of `out`, and answers how many octets they are.
 fn write_clear(tag: &SecTag, frame: &[u8], out: &mut [u8]) -> usize
     requires frame_long { min_frame_len ≤ length frame.now }
     requires frame_short { length frame.now ≤ max_frame_len }

@@ -6,10 +6,10 @@ ghost use Rattle.macsec_cli.specs.Endpoint.{start, step, operator_command, clien
 ghost use Rattle.macsec_cli.specs.Rests.{RestsAs};
 ghost use Rattle.macsec_cli.specs.Outputs.{output_of_sent};
 
-use crate::channel::{TagForm, TxChannel, TxOptions, TxResult};
-use crate::suite::{KeyRow, SuiteKey};
-use crate::tag::{An, Sci};
+use crate::channel::{KeyRow, TagForm, TxChannel, TxOptions, TxResult};
 use macsec_aes::Key;
+use macsec_suite::{Suite, SuiteKey};
+use macsec_tag::{An, Sci};
 use std::alloc::{AllocError, Global};
 use std::marker::Model;
 
@@ -18,12 +18,6 @@ const MIN_FRAME_LEN: usize = 14;
 
 /// The most octets of a client's frame.
 pub const MAX_FRAME_LEN: usize = 9248;
-
-/// The cipher suite of an endpoint.
-#[derive(Clone, Copy)]
-pub enum Suite {
-    Gcm128,
-}
 
 /// What an endpoint is made of: its suite, its SCI, the octets of its largest frame and its tag form.
 #[derive(Clone, Copy)]
@@ -34,20 +28,26 @@ pub struct EndConfig {
     pub form: TagForm,
 }
 
-/// A key to be installed.
+/// A key to be installed: its number, its bytes and its confidentiality offset.
 #[derive(Clone, Copy)]
 pub struct NewKey {
     pub number: u8,
     pub bytes: Key,
+    pub offset: u8,
 }
 
 /// What an operator asks of an endpoint.
 #[derive(Clone, Copy)]
 pub enum Command {
-    /// Install a key.
+    /// Install a key that fits the suite.
     Key(NewKey),
-    /// Make a transmit association, off.
-    TxSa { an: An, key: u8, next: u64 },
+    /// Make a transmit association, off; it encrypts where `conf` is true.
+    TxSa {
+        an: An,
+        key: u8,
+        next: u64,
+        conf: bool,
+    },
     /// Switch the transmit association of this number on.
     TxOn(An),
 }
@@ -113,13 +113,19 @@ impl Secy {
         ensures { self.new ≡ (step self.old (operator_command command.now)).1 }
     {
         match *command {
-            Command::Key(key) => {
-                self.key = Some(KeyRow {
-                    number: key.number,
-                    key: SuiteKey::new(key.bytes),
-                });
+            Command::Key(new) => {
+                let prepared = SuiteKey::new(self.config.suite, new.bytes, [0; 12], new.offset);
+                if let Ok(key) = prepared {
+                    let number = new.number;
+                    self.key = Some(KeyRow { number, key });
+                }
             }
-            Command::TxSa { an, key, next } => self.tx.tx_sa(an, key, next),
+            Command::TxSa {
+                an,
+                key,
+                next,
+                conf,
+            } => self.tx.tx_sa(an, key, next, conf),
             Command::TxOn(an) => self.tx.tx_on(an),
         }
     }

@@ -7,9 +7,9 @@ ghost use Rattle.macsec_cli.specs.Kinds.{read_line, read_at, kinds_at, kinds, of
 ghost use Rattle.macsec_cli.specs.Runs.{Answers};
 
 use crate::endpoint::{Command, EndConfig, MAX_FRAME_LEN, NewKey};
-use crate::tag::An;
 use crate::words;
 use crate::words::decimal;
+use macsec_tag::An;
 use std::alloc::Global;
 use std::marker::Model;
 
@@ -125,8 +125,12 @@ fn new_key(words: &[&[u8]]) -> Result<Line, LineFault>
     };
     let number = key_number(number)?;
     let bytes = words::key(bytes)?;
-    decimal(0, 0, offset)?;
-    Ok(Line::Command(Command::Key(NewKey { number, bytes })))
+    let offset = decimal(0, 255, offset)? as u8;
+    Ok(Line::Command(Command::Key(NewKey {
+        number,
+        bytes,
+        offset,
+    })))
 }
 
 /// A transmit association, of the words after `txsa`.
@@ -139,8 +143,13 @@ fn tx_sa(words: &[&[u8]]) -> Result<Line, LineFault>
     let an = association(an)?;
     let key = key_number(key)?;
     let next = words::packet_number(next)?;
-    words::protection(protection)?;
-    Ok(Line::Command(Command::TxSa { an, key, next }))
+    let conf = words::protection(protection)?;
+    Ok(Line::Command(Command::TxSa {
+        an,
+        key,
+        next,
+        conf,
+    }))
 }
 
 /// The switching on of a transmit association, of the words after `txon`.

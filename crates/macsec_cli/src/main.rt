@@ -7,8 +7,6 @@ mod faults;
 mod lines;
 mod running;
 mod script;
-mod suite;
-mod tag;
 #[cfg(test)]
 mod tests;
 mod words;

@@ -3,15 +3,17 @@
 ghost use Rattle.std.specs.Prelude.{◌≡◌, ◌≤◌, length, map};
 ghost use Rattle.macsec_cli.specs.Limits.{max_line_count};
 ghost use Rattle.macsec_cli.specs.Fields.{map_ok};
+ghost use Rattle.macsec_cli.specs.Endpoint.{fits};
 ghost use Rattle.macsec_cli.specs.Scripts.{place_after, is_fit, at_line, lines_from, script_of};
 ghost use Rattle.macsec_cli.specs.Runs.{Parses};
 
-use crate::channel::{LAST_NUMBER, TagForm};
-use crate::endpoint::Command;
+use crate::channel::TagForm;
+use crate::endpoint::{Command, NewKey};
 use crate::faults::ScriptFault;
 use crate::lines::{End, Line, LineFault, parse_line};
-use crate::tag::{An, Sci};
 use crate::words::lines;
+use macsec_suite::{Suite, SuiteKey};
+use macsec_tag::{An, Sci};
 use std::alloc::Global;
 
 /// The octets of the longest script.
@@ -20,14 +22,14 @@ pub const MAX_SCRIPT_LEN: usize = 1_048_576;
 /// The lines of the longest script.
 const MAX_LINE_COUNT: usize = 65_536;
 
-/// The line that a script wants next; of an association its key's number, and of the line that
-/// switches it on its own number.
+/// The line that a script wants next; until there is an association with the suite of A, of an
+/// association with its key's number, and of the line that switches it on with its own number.
 #[derive(Clone, Copy)]
 pub enum Place {
     EndA,
-    EndB,
-    Key,
-    TxSa(u8),
+    EndB(Suite),
+    Key(Suite),
+    TxSa(Suite, u8),
     TxOn(An),
     Sends,
 }
@@ -39,9 +41,9 @@ impl Place {
     {
         match self {
             Place::EndA => after_end_a(line),
-            Place::EndB => after_end_b(line),
-            Place::Key => after_key(line),
-            Place::TxSa(key) => after_tx_sa(key, line),
+            Place::EndB(suite) => after_end_b(suite, line),
+            Place::Key(suite) => after_key(suite, line),
+            Place::TxSa(suite, key) => after_tx_sa(suite, key, line),
             Place::TxOn(an) => after_tx_on(an, line),
             Place::Sends => after_send(line),
         }
@@ -53,38 +55,42 @@ fn after_end_a(line: &Line) -> Option<Place>
     ensures { result ≡ place_after Place.EndA line.now }
 {
     match line {
-        Line::End(End::A, config) if matches!(config.form, TagForm::Sci) => Some(Place::EndB),
+        Line::End(End::A, config) if matches!(config.form, TagForm::Sci) => {
+            Some(Place::EndB(config.suite))
+        }
         _ => None,
     }
 }
 
 /// The place after the line of end B.
-fn after_end_b(line: &Line) -> Option<Place>
-    ensures { result ≡ place_after Place.EndB line.now }
+fn after_end_b(suite: Suite, line: &Line) -> Option<Place>
+    ensures { result ≡ place_after (Place.EndB suite) line.now }
 {
     match line {
-        Line::End(End::B, config) if is_fit(config.form, config.sci) => Some(Place::Key),
+        Line::End(End::B, config) if is_fit(config.form, config.sci) => Some(Place::Key(suite)),
         _ => None,
     }
 }
 
-/// The place after the line of the key.
-fn after_key(line: &Line) -> Option<Place>
-    ensures { result ≡ place_after Place.Key line.now }
+/// The place after the line of the key, which fits the suite.
+fn after_key(suite: Suite, line: &Line) -> Option<Place>
+    ensures { result ≡ place_after (Place.Key suite) line.now }
 {
     match line {
-        Line::Command(Command::Key(key)) => Some(Place::TxSa(key.number)),
+        Line::Command(Command::Key(key)) if fits(suite, key) => {
+            Some(Place::TxSa(suite, key.number))
+        }
         _ => None,
     }
 }
 
 /// The place after the line of an association of this key.
-fn after_tx_sa(number: u8, line: &Line) -> Option<Place>
-    ensures { result ≡ place_after (Place.TxSa number) line.now }
+fn after_tx_sa(suite: Suite, number: u8, line: &Line) -> Option<Place>
+    ensures { result ≡ place_after (Place.TxSa suite number) line.now }
 {
     match line {
-        Line::Command(Command::TxSa { an, key, next })
-            if *key == number && (1..=LAST_NUMBER).contains(next) => { Some(Place::TxOn(*an)) }
+        Line::Command(Command::TxSa { an, key, next, .. })
+            if *key == number && (1..=suite.last()).contains(next) => { Some(Place::TxOn(*an)) }
         _ => None,
     }
 }
@@ -107,6 +113,13 @@ fn after_send(line: &Line) -> Option<Place>
         Line::Send(_) => Some(Place::Sends),
         _ => None,
     }
+}
+
+/// Does the key fit the suite?
+fn fits(suite: Suite, key: &NewKey) -> bool
+    ensures { result ≡ fits suite key.now }
+{
+    SuiteKey::new(suite, key.bytes, [0; 12], key.offset).is_ok()
 }
 
 /// Does the SCI have the port that the tag form stands for?

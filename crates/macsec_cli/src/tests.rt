@@ -4,7 +4,7 @@
 use crate::faults::{Failure, ScriptFault};
 use crate::running::run_script;
 use crate::script_named;
-use std::alloc::AllocError;
+use std::alloc::{AllocError, Global};
 use std::io::{self, Read, Write};
 use std::process::Abort;
 use std::test::Fail;
@@ -17,13 +17,33 @@ const COMMANDS: &str =
 
 const DONE: &str = "3 done\n4 done\n5 done\n";
 
+const KEY_128: &str = "ad7a2bd03eac835a6f620fdcb506b345";
+
+const KEY_256: &str = "e3c08a8f06c6e3ad95a70557b23f75483ce33021a9c72b7025666204c69c0b72";
+
 /// The 54-octet test frame of IEEE 802.1AE, Annex C.
 const CLIENT: &str =
     "d609b1f056637a0d46df998d08000f101112131415161718191a1b1c1d1e1f202122232425262728292a2b2c2d2e2f30313233340001";
 
-/// That frame, protected for integrity.
+/// That frame, protected for integrity by GCM-AES-128.
 const PROTECTED: &str =
     "d609b1f056637a0d46df998d88e5222ab2c2846512153524c0895e8108000f101112131415161718191a1b1c1d1e1f202122232425262728292a2b2c2d2e2f30313233340001f09478a9b09007d06f46e9b6a1da25dd";
+
+/// The same by GCM-AES-256.
+const PROTECTED_256: &str =
+    "d609b1f056637a0d46df998d88e5222ab2c2846512153524c0895e8108000f101112131415161718191a1b1c1d1e1f202122232425262728292a2b2c2d2e2f303132333400012f0bc5af409e06d609ea8b7d0fa5ea50";
+
+/// The 60-octet test frame of that annex.
+const CLIENT_60: &str =
+    "d609b1f056637a0d46df998d08000f101112131415161718191a1b1c1d1e1f202122232425262728292a2b2c2d2e2f303132333435363738393a0002";
+
+/// That frame, encrypted by GCM-AES-128.
+const ENCRYPTED: &str =
+    "d609b1f056637a0d46df998d88e52e00b2c2846512153524c0895e81701afa1cc039c0d765128a665dab69243899bf7318ccdc81c9931da17fbe8edd7d17cb8b4c26fc81e3284f2b7fba713d4f8d55e7d3f06fd5a13c0c29b9d5b880";
+
+/// The same by GCM-AES-256.
+const ENCRYPTED_256: &str =
+    "d609b1f056637a0d46df998d88e52e00b2c2846512153524c0895e81e2006eb42f5277022d9b19925bc419d7a592666c925fe2ef718eb4e308efeaa7c5273b394118860a5be2a97f56ab78365ca597cdbb3edb8d1a1151ea0af7b436";
 
 /// A reader over a text that fails at its call `left`, from 0.
 #[derive(Drop)]
@@ -90,12 +110,140 @@ fn assert_fails(rt: &(impl Abort + AllocGlobal), script: &str, wanted: &str) {
     assert_eq!(rt; told.as_slice(), wanted.as_bytes());
 }
 
-#[test]
-fn first_frame(rt: HostRuntime) -> Result<(), Fail> {
+/// The lines of the two ends, of these suites.
+fn ends_of(alloc: Global, suite: &str, other: &str) -> Result<String, AllocError> {
+    format!(in alloc;
+        "end A {suite} 12153524c0895e81 1518 sci\nend B {other} 0000000000000002 1518 auto\n"
+    )
+}
+
+/// The lines of a key and of an association under it.
+fn commands_of(
+    alloc: Global,
+    key: &str,
+    offset: u8,
+    an: u8,
+    next: &str,
+    protection: &str,
+) -> Result<String, AllocError> {
+    format!(in alloc; "A key 0 {key} {offset}\nA txsa {an} 0 {next} {protection}\nA txon {an}\n")
+}
+
+/// So many octets of a client's data in hex: an EtherType, and octets that count on from 2.
+fn client_data(alloc: Global, octets: u8) -> Result<String, AllocError> {
+    let mut text = String::from_str(alloc, "0800")?;
+    for octet in 2..octets {
+        write!(text, "{octet:02x}")?;
+    }
+    Ok(text)
+}
+
+/// What is printed where the first frame of association 0 has so many octets of data: the link frame is
+/// 32 octets longer than the client's.
+fn sent_first(
+    rt: &(impl Abort + AllocGlobal),
+    offset: u8,
+    protection: &str,
+    octets: u8,
+) -> Result<Vec<u8>, AllocError> {
     let alloc = rt.alloc();
-    let script = format!(in alloc; "{ENDS}{COMMANDS}A send {CLIENT}\n")?;
-    let wanted = format!(in alloc; "{DONE}6 frame 0 {PROTECTED}\n")?;
-    assert_prints(&rt, script.as_str(), wanted.as_str());
+    let commands = commands_of(alloc, KEY_128, offset, 0, "1", protection)?;
+    let client = client_data(alloc, octets)?;
+    let script = format!(in alloc; "{ENDS}{commands}A send ffffffffffff020000000001{client}\n")?;
+    let (done, text) = printed(rt, script.as_str());
+    assert!(rt; done.is_ok(), "{done:?}");
+    let head = format!(in alloc; "{DONE}6 frame 0 \n")?;
+    assert_eq!(rt; text.len(), head.len() + 2 * (12 + octets as usize + 32));
+    Ok(text)
+}
+
+/// The beginning of that, with the octets of TCI and AN and of SL, up to the last clear octet of the data.
+fn beginning(alloc: Global, tag: &str, clear: u8) -> Result<String, AllocError> {
+    let client = client_data(alloc, clear)?;
+    format!(in alloc;
+        "{DONE}6 frame 0 ffffffffffff02000000000188e5{tag}0000000112153524c0895e81{client}"
+    )
+}
+
+/// The annex's frames under each suite, for integrity alone and encrypted.
+#[test]
+fn frames_of_the_annex(rt: HostRuntime) -> Result<(), Fail> {
+    let alloc = rt.alloc();
+    let rows = [
+        ("gcm128", KEY_128, "int", CLIENT, PROTECTED),
+        ("gcm256", KEY_256, "int", CLIENT, PROTECTED_256),
+        ("gcm128", KEY_128, "conf", CLIENT_60, ENCRYPTED),
+        ("gcm256", KEY_256, "conf", CLIENT_60, ENCRYPTED_256),
+    ];
+    for (suite, key, protection, client, link) in rows {
+        let ends = ends_of(alloc, suite, "gcm128")?;
+        let commands = commands_of(alloc, key, 0, 2, "b2c28465", protection)?;
+        let script = format!(in alloc; "{ends}{commands}A send {client}\n")?;
+        let wanted = format!(in alloc; "{DONE}6 frame 0 {link}\n")?;
+        assert_prints(&rt, script.as_str(), wanted.as_str());
+    }
+    Ok(())
+}
+
+/// SL is the number of octets of data, and 0 from 48 octets on.
+#[test]
+fn short_and_longer_data(rt: HostRuntime) -> Result<(), Fail> {
+    let alloc = rt.alloc();
+    for (octets, tag) in [(2, "2002"), (47, "202f"), (48, "2000")] {
+        let text = sent_first(&rt, 0, "int", octets)?;
+        let wanted = beginning(alloc, tag, octets)?;
+        assert!(&rt;
+            text.as_slice().starts_with(wanted.as_bytes()),
+            "at {octets}"
+        );
+    }
+    Ok(())
+}
+
+/// The data stay clear up to the confidentiality offset.
+#[test]
+fn data_before_and_behind_the_offset(rt: HostRuntime) -> Result<(), Fail> {
+    let alloc = rt.alloc();
+    let rows = [
+        (30, 29, "2c1d", 29),
+        (30, 30, "2c1e", 30),
+        (30, 31, "2c1f", 30),
+        (30, 80, "2c00", 30),
+        (50, 49, "2c00", 49),
+        (50, 50, "2c00", 50),
+        (50, 51, "2c00", 50),
+    ];
+    for (offset, octets, tag, clear) in rows {
+        let text = sent_first(&rt, offset, "conf", octets)?;
+        let wanted = beginning(alloc, tag, clear)?;
+        assert!(&rt;
+            text.as_slice().starts_with(wanted.as_bytes()),
+            "at {octets}"
+        );
+    }
+    let text = sent_first(&rt, 30, "conf", 80)?;
+    let all_clear = beginning(alloc, "2c00", 80)?;
+    assert!(&rt; !text.as_slice().starts_with(all_clear.as_bytes()));
+    Ok(())
+}
+
+/// A key has the length of A's suite, and one of three offsets; the suite of B is its own.
+#[test]
+fn keys_that_fit_and_others(rt: HostRuntime) -> Result<(), Fail> {
+    let alloc = rt.alloc();
+    let rows = [
+        ("gcm128", KEY_256, 0),
+        ("gcm256", KEY_128, 0),
+        ("gcm128", KEY_128, 31),
+    ];
+    for (suite, key, offset) in rows {
+        let ends = ends_of(alloc, suite, "gcm128")?;
+        let script = format!(in alloc; "{ends}A key 0 {key} {offset}\n")?;
+        assert_fails(&rt, script.as_str(), "macsec: line 3: Word\n");
+    }
+    let ends = ends_of(alloc, "gcm128", "gcm256")?;
+    let script = format!(in alloc; "{ends}{COMMANDS}")?;
+    assert_prints(&rt, script.as_str(), DONE);
     Ok(())
 }
 

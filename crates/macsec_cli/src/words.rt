@@ -3,18 +3,17 @@
 ghost use Rattle.std.specs.Prelude.{◌≡◌, ◌==◌, ◌<◌, map, IfSome, IfOk};
 ghost use Rattle.std.specs.List.{slice_split};
 ghost use Rattle.hex.specs.Hex.{hex_digit_value};
-ghost use Rattle.macsec_aes.specs.declared.Key.TheVariants.{K128};
 ghost use Rattle.macsec_cli.specs.Words.{lines_of, words_of, without_return};
 ghost use Rattle.macsec_cli.specs.Numerals.{decimal_in, packet_number, octets_of, some_octets};
-ghost use Rattle.macsec_cli.specs.Fields.{value_of_keyword, ends, suites, forms, protections, map_ok, as_sci};
+ghost use Rattle.macsec_cli.specs.Fields.{value_of_keyword, ends, suites, forms, protections, map_ok, as_sci, key_of_word};
 ghost use Rattle.macsec_cli.specs.Runs.{Answers};
 
 use crate::channel::TagForm;
-use crate::endpoint::Suite;
 use crate::lines::{End, Frame, LineFault};
-use crate::tag::Sci;
 use hex::FromHexError;
 use macsec_aes::Key;
+use macsec_suite::Suite;
+use macsec_tag::Sci;
 use std::alloc::{AllocError, Global};
 
 /// The pieces of a text between its line feeds.
@@ -130,11 +129,14 @@ pub fn sci(word: &[u8]) -> Result<Sci, LineFault>
     Ok(Sci(fixed_octets(word)?))
 }
 
-/// A key of 16 octets in hex.
+/// A key of 16 or 32 octets in hex.
 pub fn key(word: &[u8]) -> Result<Key, LineFault>
-    ensures { result ≡ map_ok K128 (octets_of 16 word.now) }
+    ensures { result ≡ key_of_word word.now }
 {
-    Ok(Key::K128(fixed_octets(word)?))
+    match fixed_octets(word) {
+        Ok(bytes) => Ok(Key::K128(bytes)),
+        Err(_) => Ok(Key::K256(fixed_octets(word)?)),
+    }
 }
 
 /// A frame of one octet or more in hex.
@@ -168,6 +170,7 @@ pub fn suite(word: &[u8]) -> Result<Suite, LineFault>
 {
     match word {
         b"gcm128" => Ok(Suite::Gcm128),
+        b"gcm256" => Ok(Suite::Gcm256),
         _ => Err(LineFault::Word),
     }
 }
@@ -185,12 +188,13 @@ pub fn tag_form(word: &[u8]) -> Result<TagForm, LineFault>
     }
 }
 
-/// Is the client's data also encrypted? The only keyword is `int`: it is not.
+/// Are the client's data encrypted too?
 pub fn protection(word: &[u8]) -> Result<bool, LineFault>
     ensures { result ≡ value_of_keyword protections word.now }
 {
     match word {
         b"int" => Ok(false),
+        b"conf" => Ok(true),
         _ => Err(LineFault::Word),
     }
 }

@@ -2,7 +2,7 @@ use Rattle.std.proofs.Common.{◌≡◌, ◌≤◌, ◌+◌, ◌++◌, ◌-◌, 
 use Rattle.std.proofs.lemmas.List.{take_at}
 use Rattle.std.proofs.lemmas.Slice.{between_to_end, take-put_mid}
 use borrow.Rule.Slice.PartMut.{put_mid}
-use Rattle.macsec_cli.specs.Tag.{spelling}
+use Rattle.macsec_tag.specs.Tag.{spelling}
 use Rattle.macsec_cli.proofs.Writes.{take-put_mid_front, length-put_mid_front}
 use Rattle.macsec_cli.proofs.channel.write_clear.Goals as goal
 

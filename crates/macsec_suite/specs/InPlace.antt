@@ -1,0 +1,28 @@
+-- Frames that are protected and validated in place: DA, SA, SecTAG, data and ICV in a row, of which
+-- the data begin behind `head` octets.
+use Rattle.std.specs.Prelude.{◌≡◌, ◌⊎◌, ℕ, ◌+◌, ◌-◌, List, ◌++◌, length, take, drop, Bool, Option, option_map}
+use Rattle.macsec_gcm.specs.Gcm.{seal_of, open_of}
+use Rattle.macsec_suite.specs.Keys.{PreparedKey}
+use Rattle.macsec_suite.specs.Parts.{clear_length}
+
+-- the octets of a SecTAG
+abbrev pub IsTagLength : ℕ → Type 0
+IsTagLength n = (n ≡ 8) ⊎ (n ≡ 16)
+
+-- the two parts of the frame without its ICV: what stays clear, and the rest of the data
+abbrev pub clear_and_rest : ℕ → Bool → ℕ → List ℕ → List ℕ × List ℕ
+clear_and_rest offset e head body =
+    let clear = head + clear_length offset e (drop head body) in (take clear body, drop clear body)
+
+-- the frame with the rest of its data encrypted, and with the ICV in its last 16 octets
+abbrev pub protected_octets : PreparedKey → List ℕ → Bool → ℕ → List ℕ → List ℕ
+protected_octets key iv conf head frame =
+    let ap = clear_and_rest key.offset conf head (take (length frame - 16) frame) in
+    let ct = seal_of key.bytes iv ap.0 ap.1 in ap.0 ++ ct.0 ++ ct.1
+
+-- the frame with the rest of its first `n` octets decrypted, where they have the ICV behind them
+abbrev pub validated_octets : PreparedKey → List ℕ → Bool → ℕ → ℕ → List ℕ → Option (List ℕ)
+validated_octets key iv e head n frame =
+    let ac = clear_and_rest key.offset e head (take n frame) in
+    option_map (λ plaintext. ac.0 ++ plaintext ++ drop n frame)
+    (open_of key.bytes iv ac.0 ac.1 (take 16 (drop n frame)))

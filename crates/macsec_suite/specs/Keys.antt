@@ -1,0 +1,41 @@
+-- Keys that are prepared for a suite, and why one is not.
+use Rattle.std.specs.Prelude.{ℕ, List, [], ◌∷◌, length, Bool, not, ◌==◌, ◌||◌, if◌then◌else◌, Option, Some, None, Result, Ok, Err}
+use Rattle.macsec_aes.specs.declared.Key.{Key}
+use Rattle.macsec_aes.specs.Keys.{key_bytes}
+use Rattle.macsec_suite.specs.declared.Suite.{Suite}
+use Rattle.macsec_suite.specs.declared.SuiteFault.{SuiteFault}
+use Rattle.macsec_suite.specs.declared.SuiteFault.TheVariants.{KeyLength, Offset}
+use Rattle.macsec_suite.specs.Suites.{key_length}
+
+-- a prepared key: its suite, its bytes, and how many octets of the data stay clear where the rest is
+-- encrypted
+pub record PreparedKey : Type 0 where
+  pub suite : Suite
+  pub bytes : List ℕ
+  pub offset : ℕ
+
+abbrev pub prepared_from : Suite → Key → ℕ → PreparedKey
+prepared_from suite key offset = record { suite = suite; bytes = key_bytes key; offset = offset }
+
+-- the first of the answers whose condition holds
+abbrev pub first_that_holds : {A : Type 0} → List (A × Bool) → Option A
+first_that_holds [] = None
+first_that_holds (line ∷ lines) = if line.1 then Some line.0 else first_that_holds lines
+
+-- the key has another length than the suite's keys
+abbrev pub has_wrong_length : Suite → Key → Bool
+has_wrong_length suite key = not (length (key_bytes key) == key_length suite)
+
+-- the confidentiality offset is none of 0, 30 and 50
+abbrev pub has_wrong_offset : ℕ → Bool
+has_wrong_offset offset = not (offset == 0 || offset == 30 || offset == 50)
+
+-- why a key is not prepared
+abbrev pub suite_key_fault : Suite → Key → ℕ → Option SuiteFault
+suite_key_fault suite key offset =
+    first_that_holds ((KeyLength, has_wrong_length suite key) ∷ (Offset, has_wrong_offset offset) ∷ [])
+
+-- the fault that was answered
+abbrev pub fault_of : {A : Type 0} → Result A SuiteFault → Option SuiteFault
+fault_of (Ok key) = None
+fault_of (Err fault) = Some fault

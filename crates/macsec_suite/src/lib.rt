@@ -1,0 +1,197 @@
+//! The cipher suites of MACsec over frames (IEEE 802.1AE, clause 14): keys prepared for a suite, IVs,
+//! and frames protected and validated in place.
+#![tactic(auto)]
+
+ghost use Rattle.std.specs.Prelude.{◌≡◌, ◌≤◌, ◌+◌, length, min, if◌then◌else◌, IfOk, Some, None};
+ghost use Rattle.macsec_aes.specs.Keys.{key_bytes};
+ghost use Rattle.std.specs.Bool.{OnTrue, OnFalse};
+ghost use Rattle.macsec_gcm.specs.Gcm.{max_plaintext_len};
+ghost use Rattle.macsec_suite.specs.Suites.{iv_of, key_length, last_of};
+ghost use Rattle.macsec_suite.specs.Keys.{fault_of, prepared_from, suite_key_fault};
+ghost use Rattle.macsec_suite.specs.InPlace.{IsTagLength, protected_octets, validated_octets};
+
+pub mod laws;
+#[cfg(test)]
+mod tests;
+
+use byteorder::{BigEndian, ByteOrder};
+use macsec_aes::Key;
+use macsec_gcm::GcmKey;
+use macsec_tag::Sci;
+use std::marker::Model;
+use thiserror::Error;
+
+/// The octets of an ICV (14.5).
+pub const ICV_LENGTH: usize = 16;
+
+/// The octets of destination and source address.
+const ADDRESSES_LENGTH: usize = 12;
+
+/// A cipher suite.
+#[derive(Clone, Copy, PartialEq, Eq, Debug)]
+pub enum Suite {
+    /// GCM-AES-128 (14.5).
+    Gcm128,
+    /// GCM-AES-256 (14.6).
+    Gcm256,
+}
+
+impl Suite {
+    /// The octets of a key.
+    pub fn key_length(self) -> usize
+        ensures { result ≡ key_length self }
+    {
+        match self {
+            Suite::Gcm128 => 16,
+            Suite::Gcm256 => 32,
+        }
+    }
+
+    /// The last packet number.
+    pub fn last(self) -> u64
+        ensures { result ≡ last_of self }
+    {
+        match self {
+            Suite::Gcm128 | Suite::Gcm256 => 0xffff_ffff,
+        }
+    }
+}
+
+/// Why a key is not prepared for a suite, in the order of the tests.
+#[derive(Clone, Copy, PartialEq, Eq, Debug, Error)]
+pub enum SuiteFault {
+    /// The key has another length than the suite's keys.
+    #[error("the key has not the suite's length")]
+    KeyLength = 1,
+    /// The confidentiality offset is none of 0, 30 and 50.
+    #[error("the offset is none of 0, 30 and 50")]
+    Offset = 2,
+}
+
+/// A key prepared for a suite. Contracts see it as the suite, the key's bytes and its confidentiality
+/// offset.
+#[derive(Drop)]
+pub struct SuiteKey {
+    suite: Suite,
+    key: GcmKey,
+    offset: u8,
+}
+
+impl Model for SuiteKey {
+    ghost use Rattle.macsec_suite.specs.Keys.{PreparedKey};
+
+    ghost Value = { PreparedKey };
+
+    ghost view = { λ k. record { suite = k.suite; bytes = k.key; offset = k.offset } };
+}
+
+impl SuiteKey {
+    /// Prepares a key for a suite. The suites whose packet numbers have 32 bits make no use of a salt.
+    pub fn new(suite: Suite, key: Key, _salt: [u8; 12], offset: u8) -> Result<SuiteKey, SuiteFault>
+        ensures fault { fault_of result ≡ suite_key_fault suite key offset }
+        ensures value { IfOk result (λ k. k ≡ prepared_from suite key offset) }
+    {
+        if length_of(key) != suite.key_length() {
+            return Err(SuiteFault::KeyLength);
+        }
+        if offset != 0 && offset != 30 && offset != 50 {
+            return Err(SuiteFault::Offset);
+        }
+        Ok(SuiteKey {
+            suite,
+            key: GcmKey::new(key),
+            offset,
+        })
+    }
+
+    /// The suite that the key is prepared for.
+    pub fn suite(&self) -> Suite
+        ensures { result ≡ self.now.suite }
+    {
+        self.suite
+    }
+
+    /// How many of `len` octets of data stay clear.
+    fn clear_length(&self, e: bool, len: usize) -> usize
+        ensures value { result ≡ (if e then min self.now.offset len else len) }
+    {
+        if e {
+            len.min(self.offset as usize)
+        } else {
+            len
+        }
+    }
+}
+
+/// The octets of a key.
+fn length_of(key: Key) -> usize
+    ensures { result ≡ length (key_bytes key) }
+{
+    match key {
+        Key::K128(bytes) => bytes.len(),
+        Key::K256(bytes) => bytes.len(),
+    }
+}
+
+/// The IV of a frame: the SCI, then the packet number, which is at most the suite's last. The suites
+/// whose packet numbers have 32 bits make no use of SSCI and salt (14.5, 14.6).
+pub fn iv_of(suite: Suite, sci: Sci, ssci: u32, salt: [u8; 12], pn: u64) -> [u8; 12]
+    requires { pn ≤ last_of suite }
+    ensures { result ≡ iv_of suite sci ssci salt pn }
+{
+    match suite {
+        Suite::Gcm128 | Suite::Gcm256 => {
+            let mut iv = [0; 12];
+            BigEndian::write_u32(&mut iv[8..], pn as u32);
+            iv[..8].copy_from_slice(&sci.0);
+            iv
+        }
+    }
+}
+
+/// Protects DA, SA, a SecTAG of `tag_len` octets and data in place, and puts the ICV into the 16 octets
+/// behind them, the last of `frame`. Where `conf` is true the data behind the key's confidentiality
+/// offset are encrypted; the rest is authenticated alone. The data have at most 2^36 - 32 octets.
+pub fn protect_in_place(key: &SuiteKey, iv: &[u8; 12], conf: bool, tag_len: usize, frame: &mut [u8])
+    requires tag { IsTagLength tag_len }
+    requires room { 28 + tag_len ≤ length frame.old }
+    requires data_length { length frame.old ≤ 28 + tag_len + max_plaintext_len }
+    ensures { frame.new ≡ protected_octets key.now iv.now conf (12 + tag_len) frame.old }
+{
+    let head = ADDRESSES_LENGTH + tag_len;
+    let end = frame.len() - ICV_LENGTH;
+    let clear = head + key.clear_length(conf, end - head);
+    let (body, icv) = frame.split_at_mut(end);
+    let (aad, text) = body.split_at_mut(clear);
+    let tag = key.key.seal(iv, aad, text);
+    icv.copy_from_slice(&tag);
+}
+
+/// Validates DA, SA, a SecTAG of `tag_len` octets, `data_len` octets of Secure Data, at most
+/// 2^36 - 32, and the 16 octets of ICV behind them, and says whether they are genuine. Where they are
+/// and `e` is true, the Secure Data behind the key's confidentiality offset are decrypted in place;
+/// else nothing is changed.
+pub fn validate_in_place(
+    key: &SuiteKey,
+    iv: &[u8; 12],
+    e: bool,
+    tag_len: usize,
+    data_len: usize,
+    frame: &mut [u8],
+) -> bool
+    requires tag { IsTagLength tag_len }
+    requires data_length { data_len ≤ max_plaintext_len }
+    requires room { 28 + tag_len + data_len ≤ length frame.old }
+    ensures genuine { OnTrue result (validated_octets key.now iv.now e (12 + tag_len) (12 + tag_len + data_len) frame.old ≡ Some frame.new) }
+    ensures false_frame { OnFalse result (validated_octets key.now iv.now e (12 + tag_len) (12 + tag_len + data_len) frame.old ≡ None) }
+    ensures unchanged { OnFalse result (frame.new ≡ frame.old) }
+{
+    let head = ADDRESSES_LENGTH + tag_len;
+    let end = head + data_len;
+    let clear = head + key.clear_length(e, data_len);
+    let (body, behind) = frame.split_at_mut(end);
+    let (aad, text) = body.split_at_mut(clear);
+    let mut icv = [0; ICV_LENGTH];
+    icv.copy_from_slice(&behind[..ICV_LENGTH]);
+    key.key.open(iv, aad, text, &icv)
+}

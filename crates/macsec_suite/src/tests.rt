@@ -1,0 +1,269 @@
+//! What no clause says: that the definitions give the test frames of IEEE 802.1AE, Annex C, and that
+//! the calls succeed.
+
+ghost use Rattle.std.specs.Prelude.{◌≤◌};
+
+use crate::{Suite, SuiteFault, SuiteKey, iv_of, protect_in_place, validate_in_place};
+use macsec_aes::Key;
+use macsec_tag::Sci;
+use std::test::Fail;
+
+/// The SCI of the test frames.
+const SCI: u64 = 0x1215_3524_c089_5e81;
+
+/// Their key of 128 bits.
+const KEY_128: u128 = 0xad7a_2bd0_3eac_835a_6f62_0fdc_b506_b345;
+
+/// Their key of 256 bits.
+const KEY_256: [u128; 2] = [
+    0xe3c0_8a8f_06c6_e3ad_95a7_0557_b23f_7548,
+    0x3ce3_3021_a9c7_2b70_2566_6204_c69c_0b72,
+];
+
+/// A client's frame of 54 octets with its SecTAG, for integrity alone; 16 octets a word, and zeros to
+/// the end. So are all the frames here.
+const FRAME_54: [u128; 6] = [
+    0xd609_b1f0_5663_7a0d_46df_998d_88e5_222a,
+    0xb2c2_8465_1215_3524_c089_5e81_0800_0f10,
+    0x1112_1314_1516_1718_191a_1b1c_1d1e_1f20,
+    0x2122_2324_2526_2728_292a_2b2c_2d2e_2f30,
+    0x3132_3334_0001_0000_0000_0000_0000_0000,
+    0,
+];
+
+/// That frame, protected under the key of 128 bits.
+const LINK_54_128: [u128; 6] = [
+    0xd609_b1f0_5663_7a0d_46df_998d_88e5_222a,
+    0xb2c2_8465_1215_3524_c089_5e81_0800_0f10,
+    0x1112_1314_1516_1718_191a_1b1c_1d1e_1f20,
+    0x2122_2324_2526_2728_292a_2b2c_2d2e_2f30,
+    0x3132_3334_0001_f094_78a9_b090_07d0_6f46,
+    0xe9b6_a1da_25dd_0000_0000_0000_0000_0000,
+];
+
+/// That frame, protected under the key of 256 bits.
+const LINK_54_256: [u128; 6] = [
+    0xd609_b1f0_5663_7a0d_46df_998d_88e5_222a,
+    0xb2c2_8465_1215_3524_c089_5e81_0800_0f10,
+    0x1112_1314_1516_1718_191a_1b1c_1d1e_1f20,
+    0x2122_2324_2526_2728_292a_2b2c_2d2e_2f30,
+    0x3132_3334_0001_2f0b_c5af_409e_06d6_09ea,
+    0x8b7d_0fa5_ea50_0000_0000_0000_0000_0000,
+];
+
+/// A client's frame of 60 octets with its SecTAG, for confidentiality.
+const FRAME_60: [u128; 6] = [
+    0xd609_b1f0_5663_7a0d_46df_998d_88e5_2e00,
+    0xb2c2_8465_1215_3524_c089_5e81_0800_0f10,
+    0x1112_1314_1516_1718_191a_1b1c_1d1e_1f20,
+    0x2122_2324_2526_2728_292a_2b2c_2d2e_2f30,
+    0x3132_3334_3536_3738_393a_0002_0000_0000,
+    0,
+];
+
+/// That frame, protected under the key of 128 bits.
+const LINK_60_128: [u128; 6] = [
+    0xd609_b1f0_5663_7a0d_46df_998d_88e5_2e00,
+    0xb2c2_8465_1215_3524_c089_5e81_701a_fa1c,
+    0xc039_c0d7_6512_8a66_5dab_6924_3899_bf73,
+    0x18cc_dc81_c993_1da1_7fbe_8edd_7d17_cb8b,
+    0x4c26_fc81_e328_4f2b_7fba_713d_4f8d_55e7,
+    0xd3f0_6fd5_a13c_0c29_b9d5_b880_0000_0000,
+];
+
+/// That frame, protected under the key of 256 bits.
+const LINK_60_256: [u128; 6] = [
+    0xd609_b1f0_5663_7a0d_46df_998d_88e5_2e00,
+    0xb2c2_8465_1215_3524_c089_5e81_e200_6eb4,
+    0x2f52_7702_2d9b_1992_5bc4_19d7_a592_666c,
+    0x925f_e2ef_718e_b4e3_08ef_eaa7_c527_3b39,
+    0x4118_860a_5be2_a97f_56ab_7836_5ca5_97cd,
+    0xbb3e_db8d_1a11_51ea_0af7_b436_0000_0000,
+];
+
+/// The octets of a frame.
+fn octets_of(words: [u128; 6]) -> [u8; 96] {
+    let mut octets = [0; 96];
+    for (i, octet) in octets.iter_mut().enumerate() {
+        *octet = words[i / 16].to_be_bytes()[i % 16];
+    }
+    octets
+}
+
+/// The key of the test frames for a suite, with a confidentiality offset.
+fn key_of(suite: Suite, offset: u8) -> Result<SuiteKey, SuiteFault> {
+    let key = match suite {
+        Suite::Gcm128 => Key::K128(KEY_128.to_be_bytes()),
+        Suite::Gcm256 => {
+            let mut bytes = [0; 32];
+            bytes[..16].copy_from_slice(&KEY_256[0].to_be_bytes());
+            bytes[16..].copy_from_slice(&KEY_256[1].to_be_bytes());
+            Key::K256(bytes)
+        }
+    };
+    SuiteKey::new(suite, key, [0; 12], offset)
+}
+
+/// The IV of the test frames.
+fn iv(suite: Suite) -> [u8; 12] {
+    iv_of(suite, Sci(SCI.to_be_bytes()), 0, [0; 12], 0xb2c2_8465)
+}
+
+#[test]
+fn suites_and_refused_keys(rt: HostRuntime) -> Result<(), Fail> {
+    for (suite, length) in [(Suite::Gcm128, 16), (Suite::Gcm256, 32)] {
+        assert_eq!(&rt; suite.key_length(), length);
+        assert_eq!(&rt; suite.last(), 0xffff_ffff);
+        for offset in [0, 30, 50] {
+            assert_eq!(&rt; key_of(suite, offset)?.suite(), suite);
+        }
+        assert_eq!(&rt; key_of(suite, 40).err(), Some(SuiteFault::Offset));
+    }
+    let short = SuiteKey::new(Suite::Gcm256, Key::K128(KEY_128.to_be_bytes()), [0; 12], 40);
+    assert_eq!(&rt; short.err(), Some(SuiteFault::KeyLength));
+    let long = SuiteKey::new(Suite::Gcm128, Key::K256([0; 32]), [0; 12], 0);
+    assert_eq!(&rt; long.err(), Some(SuiteFault::KeyLength));
+    Ok(())
+}
+
+#[test]
+fn ivs(rt: HostRuntime) {
+    let mut wanted = [0; 12];
+    wanted[..8].copy_from_slice(&SCI.to_be_bytes());
+    wanted[8..].copy_from_slice(&0xb2c2_8465u32.to_be_bytes());
+    assert_eq!(&rt; iv(Suite::Gcm128), wanted);
+    assert_eq!(&rt;
+        iv_of(
+            Suite::Gcm256,
+            Sci(SCI.to_be_bytes()),
+            1,
+            [0xff; 12],
+            0xb2c2_8465
+        ),
+        wanted
+    );
+}
+
+/// A frame with its first `length` octets protected in place.
+fn link_frame(
+    suite: Suite,
+    conf: bool,
+    frame: [u128; 6],
+    length: usize,
+) -> Result<[u8; 96], SuiteFault>
+    requires least { 44 ≤ length }
+    requires most { length ≤ 96 }
+{
+    let mut octets = octets_of(frame);
+    protect_in_place(
+        &key_of(suite, 0)?,
+        &iv(suite),
+        conf,
+        16,
+        &mut octets[..length],
+    );
+    Ok(octets)
+}
+
+/// Whether a frame with `length` octets of data is genuine, and the frame as it is left.
+fn validated_frame(
+    suite: Suite,
+    e: bool,
+    frame: [u8; 96],
+    length: usize,
+) -> Result<(bool, [u8; 96]), SuiteFault>
+    requires { length ≤ 52 }
+{
+    let mut octets = frame;
+    let is_genuine = validate_in_place(&key_of(suite, 0)?, &iv(suite), e, 16, length, &mut octets);
+    Ok((is_genuine, octets))
+}
+
+/// A frame with zeros from a place on.
+fn with_zeros_from(frame: [u8; 96], place: usize) -> [u8; 96] {
+    let mut octets = frame;
+    for octet in octets.iter_mut().skip(place) {
+        *octet = 0;
+    }
+    octets
+}
+
+#[test]
+fn integrity(rt: HostRuntime) -> Result<(), Fail> {
+    let link = link_frame(Suite::Gcm128, false, FRAME_54, 86)?;
+    assert_eq!(&rt; link, octets_of(LINK_54_128));
+    assert_eq!(&rt;
+        validated_frame(Suite::Gcm128, false, link, 42)?,
+        (true, link)
+    );
+    let link = link_frame(Suite::Gcm256, false, FRAME_54, 86)?;
+    assert_eq!(&rt; link, octets_of(LINK_54_256));
+    assert_eq!(&rt;
+        validated_frame(Suite::Gcm256, false, link, 42)?,
+        (true, link)
+    );
+    Ok(())
+}
+
+#[test]
+fn confidentiality(rt: HostRuntime) -> Result<(), Fail> {
+    let link = link_frame(Suite::Gcm128, true, FRAME_60, 92)?;
+    assert_eq!(&rt; link, octets_of(LINK_60_128));
+    let (is_genuine, opened) = validated_frame(Suite::Gcm128, true, link, 48)?;
+    assert_eq!(&rt;
+        (is_genuine, with_zeros_from(opened, 76)),
+        (true, octets_of(FRAME_60))
+    );
+    let link = link_frame(Suite::Gcm256, true, FRAME_60, 92)?;
+    assert_eq!(&rt; link, octets_of(LINK_60_256));
+    let (is_genuine, opened) = validated_frame(Suite::Gcm256, true, link, 48)?;
+    assert_eq!(&rt;
+        (is_genuine, with_zeros_from(opened, 76)),
+        (true, octets_of(FRAME_60))
+    );
+    Ok(())
+}
+
+#[test]
+fn altered_frame(rt: HostRuntime) -> Result<(), Fail> {
+    let mut altered = octets_of(LINK_60_128);
+    altered[28] = 0x71;
+    assert_eq!(&rt;
+        validated_frame(Suite::Gcm128, true, altered, 48)?,
+        (false, altered)
+    );
+    Ok(())
+}
+
+/// The first octets of the data stay clear: as many as the offset says, or all of fewer.
+#[test]
+fn clear_octets(rt: HostRuntime) -> Result<(), Fail> {
+    for (offset, length, clear) in [
+        (30, 29, 29),
+        (30, 30, 30),
+        (30, 31, 30),
+        (50, 49, 49),
+        (50, 50, 50),
+        (50, 51, 50),
+    ] {
+        assert!(&rt; clear <= length && length <= 52);
+        let key = key_of(Suite::Gcm128, offset)?;
+        let client = octets_of(FRAME_60);
+        let mut frame = client;
+        protect_in_place(
+            &key,
+            &iv(Suite::Gcm128),
+            true,
+            16,
+            &mut frame[..44 + length],
+        );
+        assert_eq!(&rt; frame[..28 + clear], client[..28 + clear]);
+        let is_encrypted = frame[28 + clear..28 + length] != client[28 + clear..28 + length];
+        assert_eq!(&rt;
+            is_encrypted,
+            clear < length,
+            "{length} octets under {offset}"
+        );
+    }
+    Ok(())
+}
