@@ -7,21 +7,21 @@ use Rattle.macsec_suite.specs.InPlace.{clear_and_rest}
 use Rattle.macsec_suite.specs.Laws.{PartsInPlace}
 
 -- the octets before the data and the clear octets of the data, and the rest
-pub cut_behind : (offset : ℕ) (e : Bool) (head client_data : List ℕ) →
-    clear_and_rest offset e (length head) (head ++ client_data) ≡
-    (head ++ take (clear_length offset e client_data) client_data, drop (clear_length offset e client_data) client_data)
-cut_behind offset e head client_data =
-    let n : ℕ = clear_length offset e client_data in
-    let n_is : clear_length offset e (drop (length head) (head ++ client_data)) ≡ n = ap (clear_length offset e) (drop-append_seam head client_data) in
+pub cut_behind : (offset : ℕ) (e : Bool) (head user_data : List ℕ) →
+    clear_and_rest offset e (length head) (head ++ user_data) ≡
+    (head ++ take (clear_length offset e user_data) user_data, drop (clear_length offset e user_data) user_data)
+cut_behind offset e head user_data =
+    let n : ℕ = clear_length offset e user_data in
+    let n_is : clear_length offset e (drop (length head) (head ++ user_data)) ≡ n = ap (clear_length offset e) (drop-append_seam head user_data) in
     pair
-    (ap (λ (m : ℕ). take (length head + m) (head ++ client_data)) n_is ∙ take-append-add head client_data n)
-    (ap (λ (m : ℕ). drop (length head + m) (head ++ client_data)) n_is ∙ drop-append-add head client_data n)
+    (ap (λ (m : ℕ). take (length head + m) (head ++ user_data)) n_is ∙ take-append-add head user_data n)
+    (ap (λ (m : ℕ). drop (length head + m) (head ++ user_data)) n_is ∙ drop-append-add head user_data n)
   where
     pair : {a b c d : List ℕ} → a ≡ b → c ≡ d → ◌≡◌ {A = List ℕ × List ℕ} (a, c) (b, d)
     pair x y = λ i. (x i, y i)
 
-pub parts_in_place : (offset : ℕ) (e : Bool) (da sa : List ℕ) (tag : Tag) (client_data : List ℕ) → PartsInPlace offset e da sa tag client_data
-parts_in_place offset e da sa tag client_data da_long sa_long =
+pub parts_in_place : (offset : ℕ) (e : Bool) (da sa : List ℕ) (tag : Tag) (user_data : List ℕ) → PartsInPlace offset e da sa tag user_data
+parts_in_place offset e da sa tag user_data da_long sa_long =
     let head : List ℕ = da ++ sa ++ spelling tag in
     let long : 12 + length (spelling tag) ≡ length head = omega (arith, length-append (da ++ sa) (spelling tag), length-append da sa, da_long, sa_long) in
-    ap (λ (n : ℕ). clear_and_rest offset e n (head ++ client_data)) long ∙ cut_behind offset e head client_data
+    ap (λ (n : ℕ). clear_and_rest offset e n (head ++ user_data)) long ∙ cut_behind offset e head user_data

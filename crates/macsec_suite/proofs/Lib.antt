@@ -1,1 +1,2 @@
 pub mod ClearParts
+pub mod KeyLemmas

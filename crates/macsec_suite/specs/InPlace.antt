@@ -5,7 +5,7 @@ use Rattle.macsec_gcm.specs.Gcm.{seal_of, open_of}
 use Rattle.macsec_suite.specs.Keys.{PreparedKey}
 use Rattle.macsec_suite.specs.Parts.{clear_length}
 
--- the octets of a SecTAG
+-- a SecTAG has 8 octets or 16
 abbrev pub IsTagLength : ℕ → Type 0
 IsTagLength n = (n ≡ 8) ⊎ (n ≡ 16)
 

@@ -1,11 +1,12 @@
 -- Keys that are prepared for a suite, and why one is not.
-use Rattle.std.specs.Prelude.{ℕ, List, [], ◌∷◌, length, Bool, not, ◌==◌, ◌||◌, if◌then◌else◌, Option, Some, None, Result, Ok, Err}
+use Rattle.std.specs.Prelude.{ℕ, List, [], ◌∷◌, length, Bool, not, ◌==◌, ◌||◌, Option, Some, None, Result, Ok, Err}
 use Rattle.macsec_aes.specs.declared.Key.{Key}
 use Rattle.macsec_aes.specs.Keys.{key_bytes}
 use Rattle.macsec_suite.specs.declared.Suite.{Suite}
 use Rattle.macsec_suite.specs.declared.SuiteFault.{SuiteFault}
 use Rattle.macsec_suite.specs.declared.SuiteFault.TheVariants.{KeyLength, Offset}
 use Rattle.macsec_suite.specs.Suites.{key_length}
+use Rattle.macsec_suite.specs.FirstThatHolds.{first_that_holds}
 
 -- a prepared key: its suite, its bytes, and how many octets of the data stay clear where the rest is
 -- encrypted
@@ -16,11 +17,6 @@ pub record PreparedKey : Type 0 where
 
 abbrev pub prepared_from : Suite → Key → ℕ → PreparedKey
 prepared_from suite key offset = record { suite = suite; bytes = key_bytes key; offset = offset }
-
--- the first of the answers whose condition holds
-abbrev pub first_that_holds : {A : Type 0} → List (A × Bool) → Option A
-first_that_holds [] = None
-first_that_holds (line ∷ lines) = if line.1 then Some line.0 else first_that_holds lines
 
 -- the key has another length than the suite's keys
 abbrev pub has_wrong_length : Suite → Key → Bool

@@ -4,9 +4,10 @@ use Rattle.macsec_tag.specs.Tag.{Tag, spelling}
 use Rattle.macsec_suite.specs.Parts.{aad_and_plaintext}
 use Rattle.macsec_suite.specs.InPlace.{clear_and_rest}
 
--- the parts of a frame in place are the additional authenticated data and the plaintext of its parts
+-- what stays clear of a frame in place, and the rest, are the additional authenticated data and the
+-- plaintext of its addresses, SecTAG and data
 abbrev pub PartsInPlace : ℕ → Bool → List ℕ → List ℕ → Tag → List ℕ → Type 0
-PartsInPlace offset e da sa tag client_data =
+PartsInPlace offset e da sa tag user_data =
     length da ≡ 6 → length sa ≡ 6 →
-    clear_and_rest offset e (12 + length (spelling tag)) (da ++ sa ++ spelling tag ++ client_data) ≡
-    aad_and_plaintext offset e da sa tag client_data
+    clear_and_rest offset e (12 + length (spelling tag)) (da ++ sa ++ spelling tag ++ user_data) ≡
+    aad_and_plaintext offset e da sa tag user_data

@@ -1,5 +1,9 @@
 pub mod Suites
+pub mod FirstThatHolds
 pub mod Keys
 pub mod Parts
 pub mod InPlace
 pub mod Laws
+pub mod KeyRows
+pub mod Refusals
+pub mod KeyTables

@@ -7,5 +7,5 @@ ghost use Rattle.macsec_suite.specs.Laws.{PartsInPlace};
 /// The octets of a frame in place that stay clear, and the rest, are the additional authenticated data
 /// and the plaintext of the frame's parts.
 pub fn parts_in_place()
-    ensures { (offset : ℕ) (e : Bool) (da sa : List ℕ) (tag : Tag) (client_data : List ℕ) → PartsInPlace offset e da sa tag client_data }
+    ensures { (offset : ℕ) (e : Bool) (da sa : List ℕ) (tag : Tag) (user_data : List ℕ) → PartsInPlace offset e da sa tag user_data }
 {}

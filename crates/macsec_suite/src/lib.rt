@@ -6,15 +6,17 @@ ghost use Rattle.std.specs.Prelude.{◌≡◌, ◌≤◌, ◌+◌, length, min, 
 ghost use Rattle.macsec_aes.specs.Keys.{key_bytes};
 ghost use Rattle.std.specs.Bool.{OnTrue, OnFalse};
 ghost use Rattle.macsec_gcm.specs.Gcm.{max_plaintext_len};
-ghost use Rattle.macsec_suite.specs.Suites.{iv_of, key_length, last_of};
+ghost use Rattle.macsec_suite.specs.Suites.{is_xpn, iv_of, key_length, last_of, widest_window};
 ghost use Rattle.macsec_suite.specs.Keys.{fault_of, prepared_from, suite_key_fault};
 ghost use Rattle.macsec_suite.specs.InPlace.{IsTagLength, protected_octets, validated_octets};
 
+mod key_table;
 pub mod laws;
 #[cfg(test)]
 mod tests;
 
 use byteorder::{BigEndian, ByteOrder};
+pub use key_table::KeyTable;
 use macsec_aes::Key;
 use macsec_gcm::GcmKey;
 use macsec_tag::Sci;
@@ -47,12 +49,30 @@ impl Suite {
         }
     }
 
+    /// Have packet numbers 64 bits, of which the SecTAG carries 32?
+    pub fn is_xpn(self) -> bool
+        ensures { result ≡ is_xpn self }
+    {
+        match self {
+            Suite::Gcm128 | Suite::Gcm256 => false,
+        }
+    }
+
     /// The last packet number.
     pub fn last(self) -> u64
         ensures { result ≡ last_of self }
     {
         match self {
             Suite::Gcm128 | Suite::Gcm256 => 0xffff_ffff,
+        }
+    }
+
+    /// The widest replay window.
+    pub fn widest_window(self) -> u64
+        ensures { result ≡ widest_window self }
+    {
+        match self {
+            Suite::Gcm128 | Suite::Gcm256 => u64::from(u32::MAX),
         }
     }
 }
@@ -85,8 +105,91 @@ impl Model for SuiteKey {
     ghost view = { λ k. record { suite = k.suite; bytes = k.key; offset = k.offset } };
 }
 
+/// Why a command is refused, in the order of the tests.
+#[derive(Clone, Copy, PartialEq, Eq, Debug, Error)]
+pub enum Refusal {
+    /// The key has another length than the suite's keys.
+    #[error("the key has not the suite's length")]
+    KeyLength = 1,
+    /// The confidentiality offset is none of 0, 30 and 50.
+    #[error("the offset is none of 0, 30 and 50")]
+    Offset = 2,
+    /// A key of this number was installed before, retired or not.
+    #[error("the number of the key was used before")]
+    KeyNumberUsed = 3,
+    /// A key of these bytes was installed before, retired or not.
+    #[error("the bytes of the key were used before")]
+    KeyRepeated = 4,
+    /// There is no such key.
+    #[error("there is no such key")]
+    NoKey = 5,
+    /// The key is retired.
+    #[error("the key is retired")]
+    KeyRetired = 6,
+    /// An association uses the key.
+    #[error("an association uses the key")]
+    KeyInUse = 7,
+    /// The SCI is the endpoint's own.
+    #[error("the SCI is the own one")]
+    OwnSci = 8,
+    /// There is such a channel.
+    #[error("there is such a channel")]
+    ScTaken = 9,
+    /// There are as many channels as there can be.
+    #[error("there are as many channels as there can be")]
+    ScFull = 10,
+    /// There is no such channel.
+    #[error("there is no such channel")]
+    NoSc = 11,
+    /// There is such an association.
+    #[error("there is such an association")]
+    AnTaken = 12,
+    /// There is no such association.
+    #[error("there is no such association")]
+    NoSa = 13,
+    /// The packet number is not from 1 to the last.
+    #[error("the packet number is not from 1 to the last")]
+    PnRange = 14,
+    /// The packet number is below the lowest acceptable one.
+    #[error("the packet number is below the lowest acceptable one")]
+    PnLower = 15,
+    /// The packet number is below the key's first unused one.
+    #[error("the packet number is below the key's first unused one")]
+    PnFloor = 16,
+    /// The SSCI is the own one of the key.
+    #[error("the SSCI is the own one")]
+    SsciOwn = 17,
+    /// The replay window is too wide.
+    #[error("the replay window is too wide")]
+    Window = 18,
+    /// The tag form does not fit the own SCI.
+    #[error("the tag form does not fit the own SCI")]
+    SciForm = 19,
+    /// The association has no packet number left.
+    #[error("the association has no packet number left")]
+    Exhausted = 20,
+}
+
+/// A key to be installed: its number, its bytes, its salt, the own SSCI and its confidentiality offset.
+#[derive(Clone, Copy)]
+pub struct NewKey {
+    pub number: u8,
+    pub bytes: Key,
+    pub salt: [u8; 12],
+    pub ssci: u32,
+    pub offset: u8,
+}
+
+/// An installed key: what was installed, the key prepared for its suite, and whether it is retired.
+#[derive(Drop)]
+pub struct KeyRow {
+    pub key: NewKey,
+    pub suite_key: SuiteKey,
+    pub retired: bool,
+}
+
 impl SuiteKey {
-    /// Prepares a key for a suite. The suites whose packet numbers have 32 bits make no use of a salt.
+    /// Prepares a key for a suite. The prepared key has no salt: it goes to `iv_of`.
     pub fn new(suite: Suite, key: Key, _salt: [u8; 12], offset: u8) -> Result<SuiteKey, SuiteFault>
         ensures fault { fault_of result ≡ suite_key_fault suite key offset }
         ensures value { IfOk result (λ k. k ≡ prepared_from suite key offset) }
@@ -113,7 +216,7 @@ impl SuiteKey {
 
     /// How many of `len` octets of data stay clear.
     fn clear_length(&self, e: bool, len: usize) -> usize
-        ensures value { result ≡ (if e then min self.now.offset len else len) }
+        ensures { result ≡ (if e then min self.now.offset len else len) }
     {
         if e {
             len.min(self.offset as usize)
@@ -149,7 +252,7 @@ pub fn iv_of(suite: Suite, sci: Sci, ssci: u32, salt: [u8; 12], pn: u64) -> [u8;
     }
 }
 
-/// Protects DA, SA, a SecTAG of `tag_len` octets and data in place, and puts the ICV into the 16 octets
+/// Protects DA, SA, a SecTAG of `tag_len` octets, 8 or 16, and data in place, and puts the ICV into the 16 octets
 /// behind them, the last of `frame`. Where `conf` is true the data behind the key's confidentiality
 /// offset are encrypted; the rest is authenticated alone. The data have at most 2^36 - 32 octets.
 pub fn protect_in_place(key: &SuiteKey, iv: &[u8; 12], conf: bool, tag_len: usize, frame: &mut [u8])
@@ -167,7 +270,7 @@ pub fn protect_in_place(key: &SuiteKey, iv: &[u8; 12], conf: bool, tag_len: usiz
     icv.copy_from_slice(&tag);
 }
 
-/// Validates DA, SA, a SecTAG of `tag_len` octets, `data_len` octets of Secure Data, at most
+/// Validates DA, SA, a SecTAG of `tag_len` octets, 8 or 16, `data_len` octets of Secure Data, at most
 /// 2^36 - 32, and the 16 octets of ICV behind them, and says whether they are genuine. Where they are
 /// and `e` is true, the Secure Data behind the key's confidentiality offset are decrypted in place;
 /// else nothing is changed.

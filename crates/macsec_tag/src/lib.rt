@@ -248,7 +248,10 @@ impl<'a> Model for Mpdu<'a> {
 impl<'a> Mpdu<'a> {
     /// The destination and the source address, of 6 octets each.
     pub fn addresses(&self) -> &'a [u8]
-        ensures { result.now ≡ self.now.da ++ self.now.sa }
+        ensures octets { result.now ≡ self.now.da ++ self.now.sa }
+        ensures da { length self.now.da ≡ 6 }
+        ensures sa { length self.now.sa ≡ 6 }
+        ensures length { length result.now ≡ 12 }
     {
         self.addresses
     }
@@ -269,7 +272,8 @@ impl<'a> Mpdu<'a> {
 
     /// The 16 octets of the ICV.
     pub fn icv(&self) -> &'a [u8]
-        ensures { result.now ≡ self.now.icv }
+        ensures octets { result.now ≡ self.now.icv }
+        ensures length { length result.now ≡ 16 }
     {
         self.icv
     }

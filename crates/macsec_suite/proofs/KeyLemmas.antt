@@ -1,0 +1,139 @@
+-- Laws on the rows of a table of keys.
+use Rattle.std.proofs.Common.{◌≡◌, ℕ, ◌<◌, ◌≤◌, ◌+◌, Bool, true, false, cond, List, [], ◌∷◌, ◌++◌, map, take, drop, length, get_or, refl, sym, ap, subst, ◌∙◌, arith, eqb, ◌||◌, inl, inr}
+use Rattle.std.specs.Prelude.{Option, Some, None, ◌==◌, if◌then◌else◌}
+use Rattle.std.specs.List.{All, IsDistinct, AllByRecursion, list_any, refill}
+use Rattle.std.proofs.Math.ListN.{set}
+use Rattle.std.proofs.Math.Seq.{take-length}
+use Rattle.std.proofs.lemmas.List.{map-set, map-append, get_or-map, length-map, take-append-le}
+use Rattle.std.proofs.lemmas.List.Edits.{map_over_more}
+use Rattle.std.proofs.lemmas.List.Elements.{All-get_or, All-set, All-push}
+use Rattle.std.proofs.lemmas.Map.Steps.{length-le_from_distinct_below}
+use Rattle.std.proofs.lemmas.Bool.{ne_eqb, eqb-false}
+use Rattle.std.proofs.lemmas.Bool.Decides.{eqb_tells}
+use Rattle.macsec_suite.specs.KeyRows.{AreKeyRows, InstalledKey, at_number, key_row, max_key_count, with_key}
+use Rattle.macsec_suite.specs.Refusals.{is_repeated}
+use Rattle.macsec_gcm.specs.Octets.{same_octets}
+use Rattle.macsec_suite.specs.KeyTables.{HasOwnKey, stored_row}
+use Rattle.macsec_suite.specs.declared.key_table.StoredKey.{StoredKey}
+
+-- a loop that makes of each element x one that is shown as `change` of what x is shown as
+pub shown_over_more : {X Y : Type 0} (shown : X → Y) (change : Y → Y) (xs ys : List X) (i : ℕ) (d y : X) → i < length xs → i < length ys →
+    map shown ys ≡ map change (take i (map shown xs)) ++ drop i (map shown xs) → shown y ≡ change (shown (get_or ys i d)) →
+    map shown (set ys i y) ≡ map change (take (i + 1) (map shown xs)) ++ drop (i + 1) (map shown xs)
+shown_over_more shown change xs ys i d y within inside so_far changed =
+    map-set shown ys i y ∙ ap (λ z. set (map shown ys) i z) changed ∙
+    map_over_more change (map shown xs) (map shown ys) i (shown (get_or ys i d)) (omega (arith, length-map xs shown)) so_far
+    (sym (get_or-map shown ys i d (shown (get_or ys i d)) inside))
+
+-- what holds of each element holds where an element that has it is replaced by one that keeps it
+pub all_over_set : {X : Type 0} (P : X → Type 0) (xs : List X) (i : ℕ) (d y : X) → i < length xs →
+    (P (get_or xs i d) → P y) → All P xs → All P (set xs i y)
+all_over_set P xs i d y within keeps all = All-set P xs i y (keeps (All-get_or P xs i d within all)) all
+
+abbrev numbers_of : List InstalledKey → List ℕ
+numbers_of rows = map (λ row. row.number) rows
+
+cond_none : {A : Type 0} (b : Bool) (x : A) (r : Option A) → cond b (Some x) r ≡ None → (b ≡ false) × (r ≡ None)
+cond_none true x r h = cc
+cond_none false x r h = (refl, h)
+
+-- a number that no row has is not among the rows' numbers
+numbers-differ : (rows : List InstalledKey) (n : ℕ) → key_row rows n ≡ None → AllByRecursion (λ m. eqb n m ≡ false) (numbers_of rows)
+numbers-differ [] n free = tt
+numbers-differ (row ∷ rows) n free =
+    let parts = cond_none (row.number == n) row (key_row rows n) free in
+    (ne_eqb n row.number (λ e. eqb-false row.number n parts.0 (sym e)), numbers-differ rows n parts.1)
+
+IsDistinct-numbers : (rows : List InstalledKey) → AreKeyRows rows → IsDistinct eqb (numbers_of rows)
+unfolding IsDistinct
+IsDistinct-numbers [] h = tt
+IsDistinct-numbers (row ∷ rows) h = (numbers-differ rows row.number h.1, IsDistinct-numbers rows h.2)
+
+lt_from_among : (q n m : ℕ) (rest : Bool) → n < m → (rest ≡ true → q < m) → (eqb q n || rest) ≡ true → q < m
+lt_from_among q n m rest small later any =
+    elim (eqb_tells q n) [ inl t ↦ omega arith | inr f ↦ later (rw f.0 at any) ]
+
+numbers-lt : (rows : List InstalledKey) → AreKeyRows rows → (q : ℕ) → list_any (eqb q) (numbers_of rows) ≡ true → q < max_key_count
+numbers-lt [] h q any = cc
+numbers-lt (row ∷ rows) h q any = lt_from_among q row.number max_key_count (list_any (eqb q) (numbers_of rows)) h.0 (λ e. numbers-lt rows h.2 q e) any
+
+-- there is room for a key of a new number
+pub has_room : (keys : List StoredKey) (n : ℕ) → AreKeyRows (map stored_row keys) → key_row (map stored_row keys) n ≡ None → n < max_key_count →
+    length keys < max_key_count
+unfolding IsDistinct
+has_room keys n h free small =
+    let rows : List InstalledKey = map stored_row keys in
+    let fits : length (n ∷ numbers_of rows) ≤ max_key_count =
+    length-le_from_distinct_below (n ∷ numbers_of rows) max_key_count (numbers-differ rows n free, IsDistinct-numbers rows h)
+    (λ q any. lt_from_among q n max_key_count (list_any (eqb q) (numbers_of rows)) small (λ e. numbers-lt rows h q e) any) in
+    omega (arith, length-map rows (λ row. row.number), length-map keys stored_row)
+
+-- a number stays free where a row of another joins
+free-push : (rows : List InstalledKey) (new : InstalledKey) (n : ℕ) → key_row rows n ≡ None → (new.number == n) ≡ false → key_row (rows ++ new ∷ []) n ≡ None
+free-push [] new n free other = rw other refl
+free-push (row ∷ rows) new n free other =
+    let parts = cond_none (row.number == n) row (key_row rows n) free in
+    rw parts.0 (free-push rows new n parts.1 other)
+
+-- a key of a new number may join
+pub AreKeyRows-push : (rows : List InstalledKey) (new : InstalledKey) → AreKeyRows rows → key_row rows new.number ≡ None → new.number < max_key_count → AreKeyRows (rows ++ new ∷ [])
+AreKeyRows-push [] new h free small = (small, refl, tt)
+AreKeyRows-push (row ∷ rows) new h free small =
+    let parts = cond_none (row.number == new.number) row (key_row rows new.number) free in
+    (h.0, free-push rows new row.number h.1 (ne_eqb new.number row.number (λ e. eqb-false row.number new.number parts.0 (sym e))), AreKeyRows-push rows new h.2 parts.1 small)
+
+free-map : (f : InstalledKey → InstalledKey) → ((row : InstalledKey) → (f row).number ≡ row.number) → (rows : List InstalledKey) (n : ℕ) → key_row rows n ≡ None → key_row (map f rows) n ≡ None
+free-map f same [] n free = refl
+free-map f same (row ∷ rows) n free =
+    let parts = cond_none (row.number == n) row (key_row rows n) free in
+    rw (same row, parts.0) (free-map f same rows n parts.1)
+
+-- a change that keeps the numbers keeps what holds of the rows
+pub AreKeyRows-map : (f : InstalledKey → InstalledKey) → ((row : InstalledKey) → (f row).number ≡ row.number) → (rows : List InstalledKey) → AreKeyRows rows → AreKeyRows (map f rows)
+AreKeyRows-map f same [] h = tt
+AreKeyRows-map f same (row ∷ rows) h =
+    rw (same row) ((h.0, free-map f same rows row.number h.1, AreKeyRows-map f same rows h.2))
+
+-- a change of one row keeps the numbers, where it keeps that row's
+number-at_number : (change : InstalledKey → InstalledKey) → ((row : InstalledKey) → (change row).number ≡ row.number) → (n : ℕ) (row : InstalledKey) → (at_number change n row).number ≡ row.number
+number-at_number change same n row = by_test (row.number == n) (change row) row (same row)
+  where
+    by_test : (b : Bool) (x y : InstalledKey) → x.number ≡ y.number → (if b then x else y).number ≡ y.number
+    by_test true x y e = e
+    by_test false x y e = refl
+
+-- what was lent as a slice comes back as it was left
+refill_same : {X : Type 0} (n : ℕ) (xs ws : List X) → n ≡ length ws → refill n xs ws ≡ ws
+refill_same n xs ws same =
+    let fits : n ≤ length ws = omega arith in
+    take-append-le n ws (drop (length ws) xs) fits ∙ rw same (take-length ws)
+
+-- what holds of the stored keys
+abbrev pub AreStoredKeys : List StoredKey → Type 0
+AreStoredKeys keys = AreKeyRows (map stored_row keys) × All (λ s. HasOwnKey s.row) keys
+
+-- it holds of keys that were lent as a slice, and whose rows were changed but for their numbers
+pub kept_by_change : (change : InstalledKey → InstalledKey) → ((row : InstalledKey) → (change row).number ≡ row.number) → (number : ℕ)
+    (n : ℕ) (old lent new : List StoredKey) → n ≡ length old → lent ≡ old → length new ≡ length lent →
+    map stored_row new ≡ with_key change number (map stored_row lent) →
+    (All (λ s. HasOwnKey s.row) lent → All (λ s. HasOwnKey s.row) new) → AreStoredKeys old → AreStoredKeys (refill n old new)
+kept_by_change change same number n old lent new whole is_old kept rows prepared h =
+    let back : new ≡ refill n old new = sym (refill_same n old new (whole ∙ ap length (sym is_old) ∙ sym kept)) in
+    let numbers : AreKeyRows (map stored_row new) =
+    subst AreKeyRows (sym rows) (AreKeyRows-map (at_number change number) (number-at_number change same number) (map stored_row lent)
+    (subst (λ keys. AreKeyRows (map stored_row keys)) (sym is_old) h.0)) in
+    let own : All (λ s. HasOwnKey s.row) new = prepared (subst (All (λ s. HasOwnKey s.row)) (sym is_old) h.1) in
+    subst AreStoredKeys back (numbers, own)
+
+-- it holds of them and a key of a new number that is prepared from its own bytes
+pub AreStoredKeys-push : (keys : List StoredKey) (new : StoredKey) → AreStoredKeys keys → key_row (map stored_row keys) new.row.key.number ≡ None →
+    new.row.key.number < max_key_count → HasOwnKey new.row → AreStoredKeys (keys ++ new ∷ [])
+AreStoredKeys-push keys new h free small own = (
+  subst AreKeyRows (sym (map-append stored_row keys (new ∷ []))) (AreKeyRows-push (map stored_row keys) (stored_row new) h.0 free small),
+  All-push (λ s. HasOwnKey s.row) keys new h.1 own,
+)
+
+-- whether a key's bytes were used, from the stored keys
+pub is_repeated-map : (keys : List StoredKey) (bytes : List ℕ) → is_repeated (map stored_row keys) bytes ≡ list_any (λ key. same_octets (stored_row key).bytes bytes) keys
+is_repeated-map [] bytes = refl
+is_repeated-map (key ∷ keys) bytes = ap (λ rest. same_octets (stored_row key).bytes bytes || rest) (is_repeated-map keys bytes)

@@ -1,0 +1,83 @@
+-- The keys of an endpoint, as a list of rows in the order of their installation.
+use Rattle.std.specs.Prelude.{◌≡◌, ℕ, ◌+◌, ◌<◌, List, [], ◌∷◌, ◌++◌, map, find, ◌==◌, Bool, false, true, if◌then◌else◌, Option, None, unwrap_or}
+use Rattle.macsec_aes.specs.Keys.{key_bytes}
+use Rattle.macsec_suite.specs.declared.NewKey.{NewKey}
+use Rattle.macsec_suite.specs.declared.Suite.{Suite}
+use Rattle.macsec_suite.specs.declared.Suite.TheVariants.{Gcm128}
+use Rattle.macsec_suite.specs.Keys.{PreparedKey}
+
+-- the most keys of an endpoint; their numbers are below this one
+abbrev pub max_key_count : ℕ
+max_key_count = 256
+
+-- a key that was installed: its number, its suite, its bytes, its salt, the own SSCI, its
+-- confidentiality offset, the first packet number that was never used under it, and whether it is
+-- retired
+pub record InstalledKey : Type 0 where
+  pub number : ℕ
+  pub suite : Suite
+  pub bytes : List ℕ
+  pub salt : List ℕ
+  pub ssci : ℕ
+  pub offset : ℕ
+  pub first_unused : ℕ
+  pub retired : Bool
+
+-- the key as it is prepared for its suite
+abbrev pub prepared_key : InstalledKey → PreparedKey
+prepared_key row = record { suite = row.suite; bytes = row.bytes; offset = row.offset }
+
+-- the row of this number, where there is one
+abbrev pub key_row : List InstalledKey → ℕ → Option InstalledKey
+key_row rows number = find (λ row. row.number == number) rows
+
+-- a row that stands for no key
+abbrev pub no_key : InstalledKey
+no_key = record { number = 0; suite = Gcm128; bytes = []; salt = []; ssci = 0; offset = 0; first_unused = 1; retired = false }
+
+-- the row of this number, which there is
+abbrev pub the_key : List InstalledKey → ℕ → InstalledKey
+the_key rows number = unwrap_or (key_row rows number) no_key
+
+-- a change of the row of this number
+abbrev pub at_number : (InstalledKey → InstalledKey) → ℕ → InstalledKey → InstalledKey
+at_number change number row = if row.number == number then change row else row
+
+-- the rows, with a change of the one of this number
+abbrev pub with_key : (InstalledKey → InstalledKey) → ℕ → List InstalledKey → List InstalledKey
+with_key change number rows = map (at_number change number) rows
+
+-- the row of a new key, of which no packet number is used
+abbrev pub new_row : Suite → NewKey → InstalledKey
+new_row suite k = record {
+  number = k.number;
+  suite = suite;
+  bytes = key_bytes k.bytes;
+  salt = k.salt;
+  ssci = k.ssci;
+  offset = k.offset;
+  first_unused = 1;
+  retired = false;
+}
+
+abbrev pub keys_with : Suite → List InstalledKey → NewKey → List InstalledKey
+keys_with suite rows k = rows ++ new_row suite k ∷ []
+
+abbrev pub retired_row : InstalledKey → InstalledKey
+retired_row row = record row { retired = true }
+
+-- the keys, of which the one of this number is retired
+abbrev pub keys_retiring : List InstalledKey → ℕ → List InstalledKey
+keys_retiring rows number = with_key retired_row number rows
+
+abbrev pub row_noting : ℕ → InstalledKey → InstalledKey
+row_noting pn row = record row { first_unused = pn + 1 }
+
+-- the keys, of which the one of this number has used the packet number pn
+abbrev pub keys_noting : List InstalledKey → ℕ → ℕ → List InstalledKey
+keys_noting rows number pn = with_key (row_noting pn) number rows
+
+-- the numbers are below 256, and no two are equal
+abbrev pub AreKeyRows : List InstalledKey → Type 0
+AreKeyRows [] = Unit {0}
+AreKeyRows (row ∷ rows) = (row.number < max_key_count) × (key_row rows row.number ≡ None) × AreKeyRows rows

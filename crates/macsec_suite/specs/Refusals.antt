@@ -1,0 +1,61 @@
+-- Why commands on keys are refused: each refusal with its condition, in the order of the tests.
+use Rattle.std.specs.Prelude.{ℕ, List, [], ◌∷◌, Bool, false, not, nat_lt, ◌==◌, ◌||◌, is_some, Option, Some, None, Result, Ok, Err}
+use Rattle.std.specs.List.{list_any}
+use Rattle.macsec_aes.specs.Keys.{key_bytes}
+use Rattle.macsec_gcm.specs.Octets.{same_octets}
+use Rattle.macsec_suite.specs.declared.Suite.{Suite}
+use Rattle.macsec_suite.specs.declared.NewKey.{NewKey}
+use Rattle.macsec_suite.specs.declared.Refusal.{Refusal}
+use Rattle.macsec_suite.specs.declared.Refusal.TheVariants.{KeyLength, Offset, KeyNumberUsed, KeyRepeated, NoKey, KeyRetired, KeyInUse}
+use Rattle.macsec_suite.specs.FirstThatHolds.{first_that_holds}
+use Rattle.macsec_suite.specs.Keys.{has_wrong_length, has_wrong_offset}
+use Rattle.macsec_suite.specs.KeyRows.{InstalledKey, key_row}
+
+-- a refusal, and whether its condition holds
+abbrev pub RefusalLine : Type 0
+RefusalLine = Refusal × Bool
+
+-- the first refusal whose condition holds
+abbrev pub first_refusal : List RefusalLine → Option Refusal
+first_refusal lines = first_that_holds lines
+
+-- a row is there, and the test holds of it
+abbrev pub holds_of : {A : Type 0} → (A → Bool) → Option A → Bool
+holds_of test None = false
+holds_of test (Some row) = test row
+
+-- a key of this number was installed, retired or not
+abbrev pub is_number_used : List InstalledKey → ℕ → Bool
+is_number_used rows number = is_some (key_row rows number)
+
+-- a key of these bytes was installed, retired or not
+abbrev pub is_repeated : List InstalledKey → List ℕ → Bool
+is_repeated rows bytes = list_any (λ row. same_octets row.bytes bytes) rows
+
+-- the key of this number is retired
+abbrev pub is_retired : List InstalledKey → ℕ → Bool
+is_retired rows number = holds_of (λ row. row.retired) (key_row rows number)
+
+-- of installing a key
+abbrev pub install_refusals : Suite → List InstalledKey → NewKey → List RefusalLine
+install_refusals suite rows k =
+    (KeyLength, has_wrong_length suite k.bytes) ∷
+    (Offset, has_wrong_offset k.offset) ∷
+    (KeyNumberUsed, is_number_used rows k.number) ∷
+    (KeyRepeated, is_repeated rows (key_bytes k.bytes)) ∷ []
+
+-- of retiring a key, which an association may use
+abbrev pub retire_refusals : List InstalledKey → ℕ → Bool → List RefusalLine
+retire_refusals rows number in_use =
+    (NoKey, not (is_number_used rows number)) ∷
+    (KeyRetired, is_retired rows number) ∷
+    (KeyInUse, in_use) ∷ []
+
+-- a packet number that is not from 1 to the last
+abbrev pub is_outside : ℕ → ℕ → Bool
+is_outside last pn = pn == 0 || nat_lt last pn
+
+-- the refusal that a command answered
+abbrev pub refusal_of : {A : Type 0} → Result A Refusal → Option Refusal
+refusal_of (Ok done) = None
+refusal_of (Err refusal) = Some refusal

@@ -1,0 +1,225 @@
+//! The table of an endpoint's keys (IEEE 802.1AE, 10.7).
+
+ghost use Rattle.std.specs.Prelude.{◌≡◌, [], ◌∷◌, ◌++◌, map, IfOk, OnOk, OnErr, IsSome, IfSome, MatchOption, option_map, Some, None};
+ghost use Rattle.std.specs.List.{All};
+ghost use Rattle.macsec_aes.specs.Keys.{key_bytes};
+ghost use Rattle.macsec_gcm.specs.Octets.{same_octets};
+ghost use Rattle.macsec_suite.specs.KeyRows.{at_number, key_row, keys_noting, keys_retiring, keys_with, retired_row, row_noting, the_key};
+ghost use Rattle.macsec_suite.specs.KeyTables.{HasOwnKey, first_unused_of, row_shown, stored_row};
+ghost use Rattle.macsec_suite.specs.Refusals.{first_refusal, install_refusals, is_repeated, refusal_of, retire_refusals};
+
+#[cfg(test)]
+mod tests;
+
+use crate::{KeyRow, NewKey, Refusal, Suite, SuiteFault, SuiteKey};
+use macsec_aes::Key;
+use std::alloc::{AllocError, Global};
+use std::marker::Model;
+
+/// The most keys of an endpoint.
+const MAX_KEY_COUNT: usize = 256;
+
+/// An installed key and the first packet number that was never used under it.
+#[derive(Drop)]
+pub struct StoredKey {
+    row: KeyRow,
+    first_unused: u128,
+}
+
+/// The keys of an endpoint, in the order of their installation. Contracts see the table as the list of
+/// its rows.
+#[derive(Drop)]
+pub struct KeyTable {
+    rows: Vec<StoredKey>,
+}
+
+impl Model for KeyTable {
+    ghost use Rattle.std.specs.Prelude.{◌≤◌, List, map, vec_capacity};
+    ghost use Rattle.std.specs.List.{All};
+    ghost use Rattle.macsec_suite.specs.KeyRows.{AreKeyRows, InstalledKey, max_key_count};
+    ghost use Rattle.macsec_suite.specs.KeyTables.{HasOwnKey, stored_row};
+
+    ghost Value = { List InstalledKey };
+
+    ghost view = { λ t. map stored_row t.rows.items };
+
+    // There is room for all the keys that an endpoint can have, their numbers are distinct, and each
+    // is prepared from its own bytes.
+    ghost invariant = { λ t. (max_key_count ≤ vec_capacity t.rows) × AreKeyRows (map stored_row t.rows.items)
+        × All (λ s. HasOwnKey s.row) t.rows.items };
+}
+
+impl KeyTable {
+    /// A table without a key, with room for 256.
+    pub fn new(alloc: Global) -> Result<KeyTable, AllocError>
+        ensures { IfOk result (λ t. t ≡ []) }
+    {
+        Ok(KeyTable {
+            rows: Vec::with_capacity(alloc, MAX_KEY_COUNT)?,
+        })
+    }
+
+    /// Installs a key under a suite: its first unused packet number is 1. It is refused by
+    /// `KeyLength`, `Offset`, `KeyNumberUsed` and `KeyRepeated`, in this order.
+    pub fn install(&mut self, suite: Suite, key: &NewKey) -> Result<(), Refusal>
+        ensures refusal { refusal_of result ≡ first_refusal (install_refusals suite self.old key.now) }
+        ensures done { OnOk result (self.new ≡ keys_with suite self.old key.now) }
+        ensures unchanged { OnErr result (self.new ≡ self.old) }
+    {
+        let suite_key = match SuiteKey::new(suite, key.bytes, key.salt, key.offset) {
+            Ok(suite_key) => suite_key,
+            Err(SuiteFault::KeyLength) => return Err(Refusal::KeyLength),
+            Err(SuiteFault::Offset) => return Err(Refusal::Offset),
+        };
+        if self.key(key.number).is_some() {
+            return Err(Refusal::KeyNumberUsed);
+        }
+        if self.has_bytes(key.bytes) {
+            return Err(Refusal::KeyRepeated);
+        }
+        self.append(KeyRow {
+            key: *key,
+            suite_key,
+            retired: false,
+        });
+        Ok(())
+    }
+
+    /// Retires a key, of which the caller says whether an association uses it: no new association may
+    /// use it from then on. It is refused by `NoKey`, `KeyRetired` and `KeyInUse`, in this order.
+    pub fn retire(&mut self, number: u8, in_use: bool) -> Result<(), Refusal>
+        ensures refusal { refusal_of result ≡ first_refusal (retire_refusals self.old number in_use) }
+        ensures done { OnOk result (self.new ≡ keys_retiring self.old number) }
+        ensures unchanged { OnErr result (self.new ≡ self.old) }
+    {
+        let Some(row) = self.key(number) else {
+            return Err(Refusal::NoKey);
+        };
+        if row.retired {
+            return Err(Refusal::KeyRetired);
+        }
+        if in_use {
+            return Err(Refusal::KeyInUse);
+        }
+        retire_row(self.rows.as_mut_slice(), number);
+        Ok(())
+    }
+
+    /// The row of the key of this number; its prepared key is that of its own bytes and offset.
+    pub fn key(&self, number: u8) -> Option<&KeyRow>
+        ensures row { MatchOption result (key_row self.now number ≡ None)
+            (λ r. key_row self.now number ≡ Some (row_shown r.now (the_key self.now number).first_unused)) }
+        ensures prepared { IfSome result (λ r. HasOwnKey r.now) }
+    {
+        for stored in &self.rows {
+            if stored.row.key.number == number {
+                return Some(&stored.row);
+            }
+        }
+        None
+    }
+
+    /// The first packet number that was never used under the key of this number.
+    pub fn first_unused(&self, number: u8) -> Option<u128>
+        ensures { result ≡ option_map first_unused_of (key_row self.now number) }
+    {
+        for stored in &self.rows {
+            if stored.row.key.number == number {
+                return Some(stored.first_unused);
+            }
+        }
+        None
+    }
+
+    /// Notes that the packet number `pn` was used under the key of this number, which is there: the
+    /// first unused one is the next.
+    pub fn note_used(&mut self, number: u8, pn: u64)
+        requires { IsSome (key_row self.old number) }
+        ensures { self.new ≡ keys_noting self.old number pn }
+    {
+        note_row_used(self.rows.as_mut_slice(), number, pn);
+    }
+
+    /// Was a key of these bytes installed?
+    fn has_bytes(&self, bytes: Key) -> bool
+        ensures { result ≡ is_repeated self.now (key_bytes bytes) }
+    {
+        self.rows
+            .as_slice()
+            .iter()
+            .any(|stored| stored.has_bytes(bytes))
+    }
+
+    /// Puts a row at the end, in the room that `new` made.
+    fn append(&mut self, added: KeyRow)
+        requires free { key_row self.old added.key.number ≡ None }
+        requires prepared { HasOwnKey added }
+        ensures { self.new ≡ self.old ++ row_shown added 1 ∷ [] }
+    {
+        self.rows
+            .push(StoredKey {
+                row: added,
+                first_unused: 1,
+            })
+            .unwrap();
+    }
+}
+
+impl StoredKey {
+    /// Has the key these bytes?
+    fn has_bytes(&self, bytes: Key) -> bool
+        ensures { result ≡ same_octets (stored_row self.now).bytes (key_bytes bytes) }
+    {
+        octets_of(&self.row.key.bytes) == octets_of(&bytes)
+    }
+
+    /// Retires the key, where it has this number.
+    fn retire(&mut self, number: u8)
+        ensures row { stored_row self.new ≡ at_number retired_row number (stored_row self.old) }
+        ensures prepared { HasOwnKey self.old.row → HasOwnKey self.new.row }
+    {
+        if self.row.key.number == number {
+            self.row.retired = true;
+        }
+    }
+
+    /// Notes that the packet number `pn` was used under the key, where it has this number.
+    fn note_used(&mut self, number: u8, pn: u64)
+        ensures row { stored_row self.new ≡ at_number (row_noting pn) number (stored_row self.old) }
+        ensures prepared { HasOwnKey self.old.row → HasOwnKey self.new.row }
+    {
+        if self.row.key.number == number {
+            self.first_unused = u128::from(pn) + 1;
+        }
+    }
+}
+
+/// The octets of a key.
+fn octets_of(key: &Key) -> &[u8]
+    ensures { result.now ≡ key_bytes key.now }
+{
+    match key {
+        Key::K128(octets) => octets,
+        Key::K256(octets) => octets,
+    }
+}
+
+/// Retires the key of this number.
+fn retire_row(rows: &mut [StoredKey], number: u8)
+    ensures rows { map stored_row rows.new ≡ keys_retiring (map stored_row rows.old) number }
+    ensures prepared { All (λ s. HasOwnKey s.row) rows.old → All (λ s. HasOwnKey s.row) rows.new }
+{
+    for stored in rows.iter_mut() {
+        stored.retire(number);
+    }
+}
+
+/// Notes that the packet number `pn` was used under the key of this number.
+fn note_row_used(rows: &mut [StoredKey], number: u8, pn: u64)
+    ensures rows { map stored_row rows.new ≡ keys_noting (map stored_row rows.old) number pn }
+    ensures prepared { All (λ s. HasOwnKey s.row) rows.old → All (λ s. HasOwnKey s.row) rows.new }
+{
+    for stored in rows.iter_mut() {
+        stored.note_used(number, pn);
+    }
+}
