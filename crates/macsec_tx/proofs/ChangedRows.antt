@@ -1,0 +1,102 @@
+-- What holds of the rows of a transmit channel holds of them after a change.
+use Rattle.std.proofs.Common.{◌≡◌, ℕ, ◌<◌, ◌+◌, ◌-◌, Bool, true, false, cond, List, [], ◌∷◌, ◌++◌, map, length, refl, arith, sym, ap, subst, take, drop, get_or, ◌∙◌}
+use Rattle.std.specs.Prelude.{Some, None, IfSome, ◌==◌, ◌^◌, if◌then◌else◌}
+use Rattle.std.specs.List.{refill, filter}
+use Rattle.std.proofs.lemmas.List.{take_at, length-take-le, length-map, get_or-append_right, get_or-drop}
+use Rattle.std.proofs.lemmas.Bool.{eqb-true}
+use Rattle.macsec_tx.specs.declared.TxRow.{TxRow}
+use Rattle.macsec_tx.specs.Transmit.{tx_row, next_used, used_at}
+use Rattle.macsec_tx.specs.Rows.{AreTxRows, IsTxRow}
+use Rattle.macsec_tx.specs.Commands.{off_at, switch_to}
+use Rattle.macsec_tx.proofs.TxRows.{none_found}
+
+-- a number stays free in a change that keeps the numbers
+tx_row-map_none : (f : TxRow → TxRow) → ((row : TxRow) → (f row).an ≡ row.an) → (rows : List TxRow) (an : ℕ) → tx_row rows an ≡ None → tx_row (map f rows) an ≡ None
+tx_row-map_none f same [] an free = refl
+tx_row-map_none f same (row ∷ rows) an free =
+    let parts = none_found (row.an == an) row (tx_row rows an) free in
+    rw (same row, parts.0) (tx_row-map_none f same rows an parts.1)
+
+-- a change that keeps the numbers keeps what holds of the rows
+pub AreTxRows-map : (f : TxRow → TxRow) → ((row : TxRow) → (f row).an ≡ row.an) → ((row : TxRow) → IsTxRow row → IsTxRow (f row)) → (rows : List TxRow) → AreTxRows rows → AreTxRows (map f rows)
+AreTxRows-map f same good [] h = tt
+AreTxRows-map f same good (row ∷ rows) h =
+    (good row h.0, ap (λ an. tx_row (map f rows) an) (same row) ∙ tx_row-map_none f same rows row.an h.1, AreTxRows-map f same good rows h.2)
+
+-- a number stays free where rows are removed
+tx_row-filter_none : (p : TxRow → Bool) (rows : List TxRow) (an : ℕ) → tx_row rows an ≡ None → tx_row (filter p rows) an ≡ None
+tx_row-filter_none p [] an free = refl
+tx_row-filter_none p (row ∷ rows) an free =
+    let parts = none_found (row.an == an) row (tx_row rows an) free in
+    by_test (p row) parts.0 (tx_row-filter_none p rows an parts.1)
+  where
+    by_test : (b : Bool) → (row.an == an) ≡ false → tx_row (filter p rows) an ≡ None → tx_row (cond b (row ∷ filter p rows) (filter p rows)) an ≡ None
+    by_test true other rest = rw other rest
+    by_test false other rest = rest
+
+-- removal keeps what holds of the rows
+pub AreTxRows-filter : (p : TxRow → Bool) (rows : List TxRow) → AreTxRows rows → AreTxRows (filter p rows)
+AreTxRows-filter p [] h = tt
+AreTxRows-filter p (row ∷ rows) h = by_test (p row) (AreTxRows-filter p rows h.2)
+  where
+    by_test : (b : Bool) → AreTxRows (filter p rows) → AreTxRows (cond b (row ∷ filter p rows) (filter p rows))
+    by_test true rest = (h.0, tx_row-filter_none p rows row.an h.1, rest)
+    by_test false rest = rest
+
+-- what was lent as a slice comes back as it was left
+pub AreTxRows-refill : (old new : List TxRow) → length new ≡ length old → AreTxRows new → AreTxRows (refill (length old) old new)
+AreTxRows-refill old new same h = rw (take_at new (drop (length new) old) (length old) same) h
+
+-- an association that is switched is still one
+pub IsTxRow-switch_to : (an : ℕ) (row : TxRow) → IsTxRow row → IsTxRow (switch_to an row)
+IsTxRow-switch_to an row h = record { an = h.an; next = h.next }
+
+-- and so is one that is switched off, where it has the number
+pub IsTxRow-off_at : (an : ℕ) (row : TxRow) → IsTxRow row → IsTxRow (off_at an row)
+IsTxRow-off_at an row h = by_test (row.an == an)
+  where
+    by_test : (b : Bool) → IsTxRow (if b then record row { on = false } else row)
+    by_test true = record { an = h.an; next = h.next }
+    by_test false = h
+
+-- an association keeps its number when it is switched off
+pub an-off_at : (an : ℕ) (row : TxRow) → (off_at an row).an ≡ row.an
+an-off_at an row = by_test (row.an == an)
+  where
+    by_test : (b : Bool) → (if b then record row { on = false } else row).an ≡ row.an
+    by_test true = refl
+    by_test false = refl
+
+-- and when it uses a packet number
+an-used_at : (an : ℕ) (row : TxRow) → (used_at an row).an ≡ row.an
+an-used_at an row = by_test (row.an == an)
+  where
+    by_test : (b : Bool) → (if b then next_used row else row).an ≡ row.an
+    by_test true = refl
+    by_test false = refl
+
+-- the one association of this number has a packet number left that it uses
+pub AreTxRows-used_at : (an : ℕ) (rows : List TxRow) → AreTxRows rows → IfSome (tx_row rows an) (λ row. row.next < 2 ^ 64) → AreTxRows (map (used_at an) rows)
+AreTxRows-used_at an [] h small = tt
+AreTxRows-used_at an (row ∷ rows) h small =
+    let free : tx_row (map (used_at an) rows) (used_at an row).an ≡ None =
+    ap (λ n. tx_row (map (used_at an) rows) n) (an-used_at an row) ∙ tx_row-map_none (used_at an) (an-used_at an) rows row.an h.1 in
+    let parts = by_test (row.an == an) refl small in
+    (parts.0, free, AreTxRows-used_at an rows h.2 parts.1)
+  where
+    by_test : (b : Bool) → (row.an == an) ≡ b → IfSome (if b then Some row else tx_row rows an) (λ row. row.next < 2 ^ 64) →
+        IsTxRow (if b then next_used row else row) × IfSome (tx_row rows an) (λ row. row.next < 2 ^ 64)
+    by_test true same h' =
+        let none : tx_row rows an ≡ None = ap (tx_row rows) (sym (eqb-true row.an an same)) ∙ h.1 in
+        (record { an = h.0.an; next = omega (arith, h') }, subst (λ o. IfSome o (λ row. row.next < 2 ^ 64)) (sym none) tt)
+    by_test false other h' = (h.0, h')
+
+-- an element that a loop has not come to yet is as it was
+pub get_or-not_reached : {X : Type 0} (f : X → X) (xs ys : List X) (i : ℕ) (d : X) → i < length xs → ys ≡ map f (take i xs) ++ drop i xs → get_or ys i d ≡ get_or xs i d
+get_or-not_reached f xs ys i d within is =
+    let long : length (map f (take i xs)) ≡ i = length-map (take i xs) f ∙ length-take-le i xs (omega (arith, within)) in
+    let place : i + (i - i) ≡ i = omega arith in
+    ap (λ zs. get_or zs i d) is
+    ∙ get_or-append_right (map f (take i xs)) (drop i xs) i i d long (omega arith)
+    ∙ get_or-drop i xs (i - i) d
+    ∙ ap (λ k. get_or xs k d) place

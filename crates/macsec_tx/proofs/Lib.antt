@@ -1,0 +1,5 @@
+pub mod ChangedRows
+pub mod Sealing
+pub mod SentTags
+pub mod TxRows
+pub mod Writes

@@ -1,0 +1,105 @@
+-- Laws on the rows of a transmit channel: their numbers, their room, and the rows that are found.
+use Rattle.std.proofs.Common.{◌≡◌, ℕ, suc, ◌<◌, ◌≤◌, ◌+◌, Bool, true, false, cond, List, [], ◌∷◌, ◌++◌, map, length, refl, arith, eqb, sym, ap, ◌||◌, inl, inr, drop, get_or, ◌∙◌}
+use Rattle.std.specs.Prelude.{Option, Some, None, is_some, ◌==◌, ◌^◌, if◌then◌else◌}
+use Rattle.std.specs.List.{All, IsDistinct, AllByRecursion, list_any}
+use Rattle.std.proofs.lemmas.List.{drop_more}
+use Rattle.std.proofs.lemmas.List.Elements.{All-cons, All-nil}
+use Rattle.std.proofs.lemmas.Map.Steps.{length-le_from_distinct_below}
+use Rattle.std.proofs.lemmas.Bool.{ne_eqb, eq-eqb, eqb-false, eqb-true}
+use Rattle.std.proofs.lemmas.Bool.Decides.{eqb_tells}
+use Rattle.macsec_tx.specs.declared.TxRow.{TxRow}
+use Rattle.macsec_tx.specs.Transmit.{tx_row, row_on}
+use Rattle.macsec_tx.specs.Rows.{AreTxRows, IsTxRow}
+
+-- a channel may have no association
+pub AreTxRows-nil : AreTxRows []
+AreTxRows-nil = tt
+
+-- the numbers of the associations
+abbrev pub numbers_of : List TxRow → List ℕ
+numbers_of rows = map (λ row. row.an) rows
+
+-- where nothing is found, the first was passed over, and nothing is found behind it
+pub none_found : {A : Type 0} (b : Bool) (x : A) (rest : Option A) → cond b (Some x) rest ≡ None → (b ≡ false) × (rest ≡ None)
+none_found true x rest none = cc
+none_found false x rest none = (refl, none)
+
+-- a number that no row has is not among the rows' numbers
+pub number_is_apart : (rows : List TxRow) (an : ℕ) → tx_row rows an ≡ None → AllByRecursion (λ y. eqb an y ≡ false) (numbers_of rows)
+number_is_apart [] an free = tt
+number_is_apart (row ∷ rows) an free =
+    let parts = none_found (row.an == an) row (tx_row rows an) free in
+    (ne_eqb an row.an (λ e. eqb-false row.an an parts.0 (sym e)), number_is_apart rows an parts.1)
+
+-- no two rows have one number
+pub numbers_are_distinct : (rows : List TxRow) → AreTxRows rows → IsDistinct eqb (numbers_of rows)
+unfolding IsDistinct
+numbers_are_distinct [] h = tt
+numbers_are_distinct (row ∷ rows) h = (number_is_apart rows row.an h.1, numbers_are_distinct rows h.2)
+
+-- a number that is the first one or among the rest is below 4
+number_below_step : (q an : ℕ) (rest : Bool) → an < 4 → (rest ≡ true → q < 4) → (eqb q an || rest) ≡ true → q < 4
+number_below_step q an rest small later any =
+    elim (eqb_tells q an) [ inl t ↦ omega arith | inr f ↦ later (rw f.0 at any) ]
+
+-- each of the rows' numbers is below 4
+pub number_is_below : (rows : List TxRow) → AreTxRows rows → (q : ℕ) → list_any (eqb q) (numbers_of rows) ≡ true → q < 4
+number_is_below [] h q any = cc
+number_is_below (row ∷ rows) h q any =
+    number_below_step q row.an (list_any (eqb q) (numbers_of rows)) h.0.an (λ e. number_is_below rows h.2 q e) any
+
+-- there are as many numbers as rows
+pub length-numbers_of : (rows : List TxRow) → length (numbers_of rows) ≡ length rows
+length-numbers_of [] = refl
+length-numbers_of (row ∷ rows) = ap suc (length-numbers_of rows)
+
+-- there is room for an association of a new number
+pub has_room : (rows : List TxRow) (an : ℕ) → AreTxRows rows → tx_row rows an ≡ None → an < 4 → length rows < 4
+unfolding IsDistinct
+has_room rows an h free small =
+    let fits : length (an ∷ numbers_of rows) ≤ 4 = length-le_from_distinct_below (an ∷ numbers_of rows) 4 (number_is_apart rows an free, numbers_are_distinct rows h)
+    (λ q any. number_below_step q an (list_any (eqb q) (numbers_of rows)) small (λ e. number_is_below rows h q e) any) in
+    omega (arith, length-numbers_of rows)
+
+-- a number stays free where another joins
+tx_row-append_none : (rows : List TxRow) (new : TxRow) (an : ℕ) → tx_row rows an ≡ None → (new.an == an) ≡ false → tx_row (rows ++ new ∷ []) an ≡ None
+tx_row-append_none [] new an free other = rw other refl
+tx_row-append_none (row ∷ rows) new an free other =
+    let parts = none_found (row.an == an) row (tx_row rows an) free in
+    rw parts.0 (tx_row-append_none rows new an parts.1 other)
+
+-- an association of a new number may join
+pub AreTxRows-append : (rows : List TxRow) (new : TxRow) → AreTxRows rows → tx_row rows new.an ≡ None → IsTxRow new → AreTxRows (rows ++ new ∷ [])
+AreTxRows-append [] new h free small = (small, refl, tt)
+AreTxRows-append (row ∷ rows) new h free small =
+    let parts = none_found (row.an == new.an) row (tx_row rows new.an) free in
+    (h.0, tx_row-append_none rows new row.an h.1 (ne_eqb new.an row.an (λ e. eqb-false row.an new.an parts.0 (sym e))), AreTxRows-append rows new h.2 parts.1 small)
+
+-- what is not there is `None`
+pub none_from_is_some : {A : Type 0} (o : Option A) → is_some o ≡ false → o ≡ None
+none_from_is_some None h = refl
+none_from_is_some (Some x) h = cc
+
+-- no association is past the last number of 64 bits
+pub all_within : (rows : List TxRow) → AreTxRows rows → All (λ row. row.next ≤ 2 ^ 64) rows
+all_within [] h = All-nil (λ row. row.next ≤ 2 ^ 64)
+all_within (row ∷ rows) h = All-cons (λ row. row.next ≤ 2 ^ 64) row rows h.0.next (all_within rows h.2)
+
+-- the association that is on is the one of its number
+pub row_on_is_there : (rows : List TxRow) → AreTxRows rows → (row : TxRow) → row_on rows ≡ Some row → tx_row rows row.an ≡ Some row
+row_on_is_there [] h row found = cc
+row_on_is_there (first ∷ rows) h row found = by_on first.on (row_on_is_there rows h.2 row) found
+  where
+    by_number : (b : Bool) → (first.an == row.an) ≡ b → tx_row rows row.an ≡ Some row → (if b then Some first else tx_row rows row.an) ≡ Some row
+    by_number true same later = absurd (let none : Some row ≡ None = sym later ∙ ap (tx_row rows) (sym (eqb-true first.an row.an same)) ∙ h.1 in cc)
+    by_number false differs later = later
+
+    by_on : (b : Bool) → (row_on rows ≡ Some row → tx_row rows row.an ≡ Some row) → (if b then Some first else row_on rows) ≡ Some row → tx_row (first ∷ rows) row.an ≡ Some row
+    by_on true later found' = let first_is : first ≡ row = cc in rw (← first_is, eq-eqb first.an first.an refl) refl
+    by_on false later found' = by_number (first.an == row.an) refl (later found')
+
+-- a row that is on is the first such one of the rows from it on
+pub row_on-drop : (rows : List TxRow) (i : ℕ) (row : TxRow) → row ≡ get_or rows i row → i < length rows → row.on ≡ true → row_on (drop i rows) ≡ Some row
+row_on-drop rows i row item within on =
+    let left : drop i rows ≡ row ∷ drop (i + 1) rows = drop_more rows i row within ∙ ap (λ r. r ∷ drop (i + 1) rows) (sym item) in
+    ap row_on left ∙ rw on refl

@@ -1,0 +1,30 @@
+-- The front of a list after writes.
+use Rattle.std.proofs.Common.{◌≡◌, ◌≤◌, ◌+◌, ◌++◌, ℕ, List, length, take, sym, ap, ◌∙◌, arith}
+use Rattle.std.proofs.lemmas.List.{append_assoc, length-append, length-take-le}
+use Rattle.std.proofs.Math.Seq.{take-append_seam, take-append-add}
+use borrow.Rule.Slice.PartMut.{put_mid, post_of}
+
+-- what a part begins with stands behind what the whole has before the part
+pub take-put_mid_front : (a k : ℕ) (xs front rest : List ℕ) → a ≤ length xs
+    → take (a + length front) (put_mid a k xs (front ++ rest)) ≡ take a xs ++ front
+take-put_mid_front a k xs front rest le =
+    let before : List ℕ = take a xs in
+    let after : List ℕ = post_of a k xs in
+    ap (λ (n : ℕ). take (n + length front) (before ++ ((front ++ rest) ++ after))) (sym (length-take-le a xs le))
+    ∙ take-append-add before ((front ++ rest) ++ after) (length front)
+    ∙ ap (λ (ys : List ℕ). before ++ take (length front) ys) (append_assoc front rest after)
+    ∙ ap (λ (ys : List ℕ). before ++ ys) (take-append_seam front (rest ++ after))
+
+-- and the whole is as long at least
+pub length-put_mid_front : (a k : ℕ) (xs front rest : List ℕ) → a ≤ length xs
+    → a + length front ≤ length (put_mid a k xs (front ++ rest))
+length-put_mid_front a k xs front rest le =
+    let before : List ℕ = take a xs in
+    let after : List ℕ = post_of a k xs in
+    omega (
+      arith,
+      length-take-le a xs le,
+      length-append before ((front ++ rest) ++ after),
+      length-append (front ++ rest) after,
+      length-append front rest,
+    )

@@ -1,0 +1,14 @@
+use Rattle.std.proofs.Common.{◌≡◌, ◌∙◌, ap, rules}
+use Rattle.arrayvec.proofs.ArrayVecLemmas.{filter-from_retain}
+use Rattle.macsec_tx.specs.Commands.{without_tx}
+use Rattle.macsec_tx.proofs.ChangedRows.{AreTxRows-filter}
+use Rattle.macsec_tx.proofs.channel.TxChannel.tx_del.Goals as goal
+
+rows_left : (c : goal.After-retain) → c.retain.new.self.items ≡ without_tx c.self.inside.rows.items c.args.an
+rows_left c = filter-from_retain _ _ _ (λ x b f' y called. search rules) _ _ c.retain.ensures.filtered
+
+pub invariant_of-self : goal.invariant_of-self
+invariant_of-self c = rw (rows_left c) (AreTxRows-filter _ _ c.self.invariant)
+
+pub returns-clause-done : goal.returns-clause-done
+returns-clause-done c = rows_left c ∙ ap (λ rows. without_tx rows c.args.an) c.self.view_is

@@ -1,0 +1,7 @@
+use Rattle.std.proofs.Common.{length, ap, ◌∙◌}
+use Rattle.macsec_tx.specs.Commands.{off_at}
+use Rattle.macsec_tx.proofs.ChangedRows.{AreTxRows-map, AreTxRows-refill, IsTxRow-off_at, an-off_at}
+use Rattle.macsec_tx.proofs.channel.TxChannel.tx_off.Goals as goal
+
+pub invariant_of-self : goal.invariant_of-self
+invariant_of-self c = AreTxRows-refill _ _ (c.switch_off.auto.rows ∙ ap length c.as_mut_slice.ensures.value) (rw (c.switch_off.ensures, c.as_mut_slice.ensures.value) (AreTxRows-map (off_at c.args.an) (an-off_at c.args.an) (IsTxRow-off_at c.args.an) _ c.self.invariant))

@@ -1,0 +1,7 @@
+use Rattle.std.proofs.Common.{refl, length, ap, ◌∙◌}
+use Rattle.macsec_tx.specs.Commands.{switch_to}
+use Rattle.macsec_tx.proofs.ChangedRows.{AreTxRows-map, AreTxRows-refill, IsTxRow-switch_to}
+use Rattle.macsec_tx.proofs.channel.TxChannel.tx_on.Goals as goal
+
+pub invariant_of-self : goal.invariant_of-self
+invariant_of-self c = AreTxRows-refill _ _ (c.switch_to.auto.rows ∙ ap length c.as_mut_slice.ensures.value) (rw (c.switch_to.ensures, c.as_mut_slice.ensures.value) (AreTxRows-map (switch_to c.args.an) (λ row. refl) (IsTxRow-switch_to c.args.an) _ c.self.invariant))

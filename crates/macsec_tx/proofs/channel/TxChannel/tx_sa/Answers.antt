@@ -1,0 +1,19 @@
+use Rattle.std.proofs.Common.{◌≡◌, ◌<◌, sym, ◌∙◌, ap, lit<, arith, rules}
+use Rattle.std.specs.Prelude.{None}
+use Rattle.macsec_tx.specs.Transmit.{tx_row}
+use Rattle.macsec_tx.proofs.TxRows.{AreTxRows-append, has_room, none_from_is_some}
+use Rattle.macsec_tx.proofs.channel.TxChannel.tx_sa.Goals as goal
+
+pub push-requires : goal.push-requires
+push-requires c =
+    let free : tx_row c.self.inside.rows.items c.args.an ≡ None =
+    ap (λ rows. tx_row rows c.args.an) c.self.view_is ∙ sym c.row.ensures ∙ none_from_is_some c.row.result (sym c.is_some.ensures ∙ c.if-is_some.false) in
+    let small : c.args.an < 4 = omega (arith, c.number-number.ensures.value, c.number-number.ensures.below) in
+    (lit< tt, has_room c.self.inside.rows.items c.args.an c.self.invariant free small)
+
+pub invariant_of-self : goal.invariant_of-self
+invariant_of-self c =
+    let free : tx_row c.self.inside.rows.items c.args.an ≡ None =
+    ap (λ rows. tx_row rows c.args.an) c.self.view_is ∙ sym c.row.ensures ∙ none_from_is_some c.row.result (sym c.is_some.ensures ∙ c.if-is_some.false) in
+    let small : c.args.an < 4 = omega (arith, c.number-number.ensures.value, c.number-number.ensures.below) in
+    rw c.push.ensures.items (AreTxRows-append c.self.inside.rows.items _ c.self.invariant free (record { an = small; next = search rules }))

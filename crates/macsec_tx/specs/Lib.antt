@@ -1,0 +1,6 @@
+pub mod Limits
+pub mod Tags
+pub mod Transmit
+pub mod Commands
+pub mod Rows
+pub mod Answers

@@ -1,0 +1,15 @@
+-- What holds of the associations of a transmit channel.
+use Rattle.std.specs.Prelude.{◌≡◌, ◌^◌, ◌<◌, ◌≤◌, List, [], ◌∷◌, None}
+use Rattle.macsec_tx.specs.declared.TxRow.{TxRow}
+use Rattle.macsec_tx.specs.Transmit.{tx_row}
+
+-- the association number is 0 to 3, and the next packet number is at most one past the last of 64
+-- bits
+pub record IsTxRow (row : TxRow) : Type 0 where
+  pub an : row.an < 4
+  pub next : row.next ≤ 2 ^ 64
+
+-- each association is such a one, and no two of them have the same number
+abbrev pub AreTxRows : List TxRow → Type 0
+AreTxRows [] = Unit {0}
+AreTxRows (row ∷ rows) = IsTxRow row × (tx_row rows row.an ≡ None) × AreTxRows rows

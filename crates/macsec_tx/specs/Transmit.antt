@@ -1,0 +1,120 @@
+-- What becomes of a client's frame (IEEE 802.1AE, 10.5).
+use Rattle.std.specs.Prelude.{ℕ, ◌+◌, ◌-◌, ◌%◌, ◌^◌, List, [], ◌++◌, length, take, drop, map, find, slice_range, ◌==◌, nat_lt, if◌then◌else◌, Option, Some, None}
+use Rattle.macsec_gcm.specs.Gcm.{seal_of}
+use Rattle.macsec_tag.specs.Tag.{Tag, spelling}
+use Rattle.macsec_tag.specs.Frame.{MpduParts, in_a_row}
+use Rattle.macsec_suite.specs.Suites.{iv_of, last_of}
+use Rattle.macsec_suite.specs.Keys.{PreparedKey}
+use Rattle.macsec_suite.specs.Parts.{aad_and_plaintext, clear_length}
+use Rattle.macsec_suite.specs.KeyRows.{InstalledKey, prepared_key, the_key, keys_noting}
+use Rattle.macsec_tx.specs.declared.TxRow.{TxRow}
+use Rattle.macsec_tx.specs.declared.TxOptions.{TxOptions}
+use Rattle.macsec_tx.specs.Tags.{sci_sent, es_sent, scb_sent, sl_of}
+
+-- the association of this number, where there is one
+abbrev pub tx_row : List TxRow → ℕ → Option TxRow
+tx_row rows an = find (λ row. row.an == an) rows
+
+-- the association that is on
+abbrev pub row_on : List TxRow → Option TxRow
+row_on rows = find (λ row. row.on) rows
+
+-- the SecTAG of a frame that the association sends: E and C are both set where it encrypts, and else
+-- both clear (9.5), and PN is the low 32 bits of the packet number (9.8)
+abbrev pub tag_sent : TxOptions → TxRow → List ℕ → Tag
+tag_sent options row frame =
+    let sa = slice_range frame 6 12 in record {
+      es = es_sent options.form options.sci sa;
+      scb = scb_sent options.form options.sci sa;
+      e = row.conf;
+      c = row.conf;
+      an = row.an;
+      sl = sl_of (length frame - 12);
+      pn = row.next % 2 ^ 32;
+      sci = sci_sent options.form options.many options.sci sa;
+    }
+
+-- the parts of a client's frame that is protected with a key, an IV and a SecTAG: the Secure Data are
+-- the octets of the client's data that stay clear, and behind them the ciphertext of the rest
+abbrev pub parts_under : PreparedKey → List ℕ → Tag → List ℕ → MpduParts
+parts_under key iv tag frame =
+    let da = take 6 frame in
+    let sa = slice_range frame 6 12 in
+    let client_data = drop 12 frame in
+    let ap = aad_and_plaintext key.offset tag.e da sa tag client_data in
+    let ct = seal_of key.bytes iv ap.0 ap.1 in
+    record {
+      da = da;
+      sa = sa;
+      tag = tag;
+      secure_data = take (clear_length key.offset tag.e client_data) client_data ++ ct.0;
+      icv = ct.1;
+      padding = [];
+    }
+
+-- the parts of the frame that the association makes of a client's frame, with the packet number that
+-- it uses next
+abbrev pub parts_sent : TxOptions → InstalledKey → TxRow → List ℕ → MpduParts
+parts_sent options key row frame =
+    parts_under (prepared_key key) (iv_of key.suite options.sci key.ssci key.salt row.next) (tag_sent options row frame) frame
+
+-- that frame
+abbrev pub protected_frame : TxOptions → InstalledKey → TxRow → List ℕ → List ℕ
+protected_frame options key row frame = in_a_row (parts_sent options key row frame)
+
+-- the octets that protection adds: SecTAG and ICV
+abbrev pub octets_added : Tag → ℕ
+octets_added tag = length (spelling tag) + 16
+
+-- what leaves: the client's frame as it is; a frame that is protected under the key of this number; or
+-- nothing, since no association can send, or since the frame would be too long
+pub data Leaving : Type 0 where
+  plain : Leaving
+  protected : (key : ℕ) → (frame : List ℕ) → Leaving
+  no_sa : Leaving
+  too_long : Leaving
+
+-- what leaves, and the association that protects it, where one does, as it was before the frame
+pub record Sending : Type 0 where
+  pub leaving : Leaving
+  pub by : Option TxRow
+
+-- no association protects what leaves
+abbrev pub not_protected : Leaving → Sending
+not_protected leaving = record { leaving = leaving; by = None }
+
+-- what leaves from the association that is on, where one is: nothing where none is or where it has no
+-- packet number left; nothing where the protected frame would be longer than `max_frame`; else the
+-- protected frame
+abbrev pub sending_by : TxOptions → List InstalledKey → List ℕ → Option TxRow → Sending
+sending_by options keys frame None = not_protected no_sa
+sending_by options keys frame (Some row) =
+    let key = the_key keys row.key in
+    if nat_lt (last_of key.suite) row.next then not_protected no_sa
+    else if nat_lt options.max_frame (length frame + octets_added (tag_sent options row frame)) then not_protected too_long
+    else record { leaving = protected row.key (protected_frame options key row frame); by = Some row }
+
+-- what leaves: from the association that is on where protection is on, and else the client's frame,
+-- unless it is longer than `max_frame`
+abbrev pub sending : TxOptions → List InstalledKey → List TxRow → List ℕ → Sending
+sending options keys rows frame =
+    if options.protect then sending_by options keys frame (row_on rows)
+    else not_protected (if nat_lt options.max_frame (length frame) then too_long else plain)
+
+-- the association, which has used its next packet number
+abbrev pub next_used : TxRow → TxRow
+next_used row = record row { next = row.next + 1 }
+
+-- the same of the association of this number, while another is as it was
+abbrev pub used_at : ℕ → TxRow → TxRow
+used_at an row = if row.an == an then next_used row else row
+
+-- the associations after a client's frame: the one that protects it has used its packet number
+abbrev pub rows_after : List TxRow → Option TxRow → List TxRow
+rows_after rows None = rows
+rows_after rows (Some by) = map (used_at by.an) rows
+
+-- the keys after a client's frame: under the key of that association the packet number is used
+abbrev pub keys_after : List InstalledKey → Option TxRow → List InstalledKey
+keys_after keys None = keys
+keys_after keys (Some by) = keys_noting keys by.key by.next

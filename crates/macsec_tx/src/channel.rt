@@ -1,0 +1,238 @@
+//! The associations of the transmit channel, and the commands on them.
+
+ghost use Rattle.std.specs.Prelude.{◌≡◌, ◌<◌, ◌≤◌, ◌^◌, [], map, IfSome, OnOk, OnErr, Some};
+ghost use Rattle.std.specs.List.{All};
+ghost use Rattle.macsec_suite.specs.Refusals.{first_refusal, refusal_of};
+ghost use Rattle.macsec_tx.specs.Transmit.{row_on, tx_row, used_at};
+ghost use Rattle.macsec_tx.specs.Commands.{HaveKeys, off_at, switch_to, tx_off_refusals, tx_on_refusals, tx_sa_refusals, tx_uses, with_tx_off, with_tx_on, with_tx_sa, without_tx};
+
+#[cfg(test)]
+mod tests;
+
+use crate::TxRow;
+use arrayvec::ArrayVec;
+use macsec_suite::{KeyTable, Refusal};
+use macsec_tag::An;
+use std::marker::Model;
+
+/// The transmit channel: up to four associations of different numbers. Contracts see it as the list of
+/// them, in the order of their making.
+#[derive(Drop)]
+pub struct TxChannel {
+    rows: ArrayVec<TxRow, 4>,
+}
+
+impl Model for TxChannel {
+    ghost use Rattle.std.specs.Prelude.{List};
+    ghost use Rattle.macsec_tx.specs.declared.TxRow.{TxRow};
+    ghost use Rattle.macsec_tx.specs.Rows.{AreTxRows};
+
+    ghost Value = { List TxRow };
+
+    ghost view = { λ c. c.rows.items };
+
+    ghost invariant = { λ c. AreTxRows c.rows.items };
+}
+
+impl TxChannel {
+    /// A channel without an association.
+    pub fn new() -> TxChannel
+        ensures { result ≡ [] }
+    {
+        TxChannel {
+            rows: ArrayVec::new(),
+        }
+    }
+
+    /// The association of this number, where there is one.
+    pub fn row(&self, an: An) -> Option<TxRow>
+        ensures { result ≡ tx_row self.now an }
+    {
+        for row in self.rows.as_slice() {
+            if row.an.number() == an.number() {
+                return Some(*row);
+            }
+        }
+        None
+    }
+
+    /// The association that is on, where one is.
+    pub fn row_on(&self) -> Option<TxRow>
+        ensures row { result ≡ row_on self.now }
+        ensures number { IfSome result (λ row. tx_row self.now row.an ≡ Some row) }
+    {
+        for row in self.rows.as_slice() {
+            if row.on {
+                return Some(*row);
+            }
+        }
+        None
+    }
+
+    /// Does an association use the key of this number?
+    pub fn uses(&self, key: u8) -> bool
+        ensures { result ≡ tx_uses self.now key }
+    {
+        self.rows.iter().any(|row| row.key == key)
+    }
+
+    /// Makes an association, off, whose first packet number is `next`; it encrypts where `conf` is true.
+    /// It is refused by `NoKey`, `KeyRetired`, `KeyInUse`, `AnTaken`, `PnRange` and `PnFloor`, in this
+    /// order.
+    pub fn tx_sa(
+        &mut self,
+        keys: &KeyTable,
+        an: An,
+        key: u8,
+        next: u64,
+        conf: bool,
+    ) -> Result<(), Refusal>
+        ensures refusal { refusal_of result ≡ first_refusal (tx_sa_refusals keys.now self.old an key next) }
+        ensures done { OnOk result (self.new ≡ with_tx_sa self.old an key next conf) }
+        ensures unchanged { OnErr result (self.new ≡ self.old) }
+    {
+        let _number = an.number();
+        let Some(row) = keys.key(key) else {
+            return Err(Refusal::NoKey);
+        };
+        if row.retired {
+            return Err(Refusal::KeyRetired);
+        }
+        if self.uses(key) {
+            return Err(Refusal::KeyInUse);
+        }
+        if self.row(an).is_some() {
+            return Err(Refusal::AnTaken);
+        }
+        if next == 0 || next > row.suite_key.suite().last() {
+            return Err(Refusal::PnRange);
+        }
+        if u128::from(next) < keys.first_unused(key).unwrap_or(1) {
+            return Err(Refusal::PnFloor);
+        }
+        self.rows.push(TxRow {
+            an,
+            key,
+            next: u128::from(next),
+            conf,
+            on: false,
+        });
+        Ok(())
+    }
+
+    /// Switches this association on, and every other one off. It is refused by `NoSa` and `Exhausted`,
+    /// in this order.
+    pub fn tx_on(&mut self, keys: &KeyTable, an: An) -> Result<(), Refusal>
+        requires { HaveKeys keys.now self.old }
+        ensures refusal { refusal_of result ≡ first_refusal (tx_on_refusals keys.now self.old an) }
+        ensures done { OnOk result (self.new ≡ with_tx_on self.old an) }
+        ensures unchanged { OnErr result (self.new ≡ self.old) }
+    {
+        let Some(row) = self.row(an) else {
+            return Err(Refusal::NoSa);
+        };
+        let last = keys.key(row.key).unwrap().suite_key.suite().last();
+        if row.next > u128::from(last) {
+            return Err(Refusal::Exhausted);
+        }
+        switch_to(self.rows.as_mut_slice(), an);
+        Ok(())
+    }
+
+    /// Switches this association off. It is refused by `NoSa`.
+    pub fn tx_off(&mut self, an: An) -> Result<(), Refusal>
+        ensures refusal { refusal_of result ≡ first_refusal (tx_off_refusals self.old an) }
+        ensures done { OnOk result (self.new ≡ with_tx_off self.old an) }
+        ensures unchanged { OnErr result (self.new ≡ self.old) }
+    {
+        if self.row(an).is_none() {
+            return Err(Refusal::NoSa);
+        }
+        switch_off(self.rows.as_mut_slice(), an);
+        Ok(())
+    }
+
+    /// Removes this association. It is refused by `NoSa`.
+    pub fn tx_del(&mut self, an: An) -> Result<(), Refusal>
+        ensures refusal { refusal_of result ≡ first_refusal (tx_off_refusals self.old an) }
+        ensures done { OnOk result (self.new ≡ without_tx self.old an) }
+        ensures unchanged { OnErr result (self.new ≡ self.old) }
+    {
+        if self.row(an).is_none() {
+            return Err(Refusal::NoSa);
+        }
+        self.rows.retain(|row| row.an.number() != an.number());
+        Ok(())
+    }
+
+    /// Notes that the association of this number, where there is one, has used its next packet number,
+    /// which has 64 bits.
+    pub(crate) fn use_number(&mut self, an: An)
+        requires { IfSome (tx_row self.old an) (λ row. row.next < 2 ^ 64) }
+        ensures { self.new ≡ map (used_at an) self.old }
+    {
+        use_number(self.rows.as_mut_slice(), an);
+    }
+}
+
+/// The association, on where it has this number, and else off.
+fn switched_row(row: TxRow, an: An) -> TxRow
+    ensures { result ≡ switch_to an row }
+{
+    TxRow {
+        on: row.an.number() == an.number(),
+        ..row
+    }
+}
+
+/// The association, off where it has this number.
+fn off_row(row: TxRow, an: An) -> TxRow
+    ensures { result ≡ off_at an row }
+{
+    if row.an.number() == an.number() {
+        TxRow { on: false, ..row }
+    } else {
+        row
+    }
+}
+
+/// Switches the association of this number on, and every other one off.
+fn switch_to(rows: &mut [TxRow], an: An)
+    ensures { rows.new ≡ with_tx_on rows.old an }
+{
+    for row in rows.iter_mut() {
+        *row = switched_row(*row, an);
+    }
+}
+
+/// Switches the association of this number off.
+fn switch_off(rows: &mut [TxRow], an: An)
+    ensures { rows.new ≡ with_tx_off rows.old an }
+{
+    for row in rows.iter_mut() {
+        *row = off_row(*row, an);
+    }
+}
+
+/// The association, which has used its next packet number where it has this association number.
+fn used_row(row: TxRow, an: An) -> TxRow
+    requires { row.next ≤ 2 ^ 64 }
+    ensures { result ≡ used_at an row }
+{
+    if row.an.number() == an.number() {
+        let next = row.next + 1;
+        TxRow { next, ..row }
+    } else {
+        row
+    }
+}
+
+/// Notes that the association of this number has used its next packet number.
+fn use_number(rows: &mut [TxRow], an: An)
+    requires { All (λ row. row.next ≤ 2 ^ 64) rows.old }
+    ensures { rows.new ≡ map (used_at an) rows.old }
+{
+    for row in rows.iter_mut() {
+        *row = used_row(*row, an);
+    }
+}

@@ -1,0 +1,201 @@
+//! What becomes of a client's frame.
+
+ghost use Rattle.std.specs.Prelude.{◌≡◌, ◌<◌, ◌≤◌, ◌+◌, ◌^◌, ◌++◌, length, take, drop, slice_range, nat_lt, if◌then◌else◌, IsSome, Some, ℕ, List};
+ghost use Rattle.std.specs.Option.{ForSome};
+ghost use Rattle.macsec_suite.specs.KeyRows.{key_row};
+ghost use Rattle.macsec_tag.specs.Tag.{spelling};
+ghost use Rattle.macsec_tag.specs.Frame.{in_a_row};
+ghost use Rattle.macsec_tx.specs.Limits.{max_frame_len, min_frame_len};
+ghost use Rattle.macsec_tx.specs.Tags.{es_sent, is_own, scb_sent, sci_sent, sl_of};
+ghost use Rattle.macsec_tx.specs.Transmit.{keys_after, octets_added, parts_under, rows_after, sending, sending_by, tag_sent};
+ghost use Rattle.macsec_tx.specs.Commands.{HaveKeys};
+ghost use Rattle.macsec_tx.specs.Answers.{IfMade, ShowsLeaving};
+
+use crate::{TagForm, TxChannel, TxOptions, TxResult, TxRow};
+use macsec_pn::TxNumbers;
+use macsec_suite::{ICV_LENGTH, KeyTable, SuiteKey, iv_of, protect_in_place};
+use macsec_tag::{Sci, SecTag, write_tag};
+
+/// The octets of DA and SA.
+const ADDRESSES_LENGTH: usize = 12;
+
+impl TxChannel {
+    /// What leaves for a client's frame of 14 to 9,248 octets. A protected frame is at the front of
+    /// `out`, which has 9,248 octets or more. The key of each association is in the table, and the
+    /// largest frame has at most 9,248 octets.
+    pub fn next_frame(
+        &mut self,
+        keys: &mut KeyTable,
+        options: &TxOptions,
+        frame: &[u8],
+        out: &mut [u8],
+    ) -> TxResult
+        requires keys_there { HaveKeys keys.old self.old }
+        requires frame_long { min_frame_len ≤ length frame.now }
+        requires frame_short { length frame.now ≤ max_frame_len }
+        requires limit { options.now.max_frame ≤ max_frame_len }
+        requires room { max_frame_len ≤ length out.old }
+        ensures leaving { ShowsLeaving result out.new (sending options.now keys.old self.old frame.now).leaving }
+        ensures associations { self.new ≡ rows_after self.old (sending options.now keys.old self.old frame.now).by }
+        ensures keys { keys.new ≡ keys_after keys.old (sending options.now keys.old self.old frame.now).by }
+    {
+        if !options.protect {
+            return plain(options, frame);
+        }
+        let Some(row) = self.row_on() else {
+            return TxResult::NoSa;
+        };
+        let result = frame_under(keys, options, &row, frame, out);
+        if let TxResult::Made { .. } = result {
+            keys.note_used(row.key, row.next as u64);
+            self.use_number(row.an);
+        }
+        result
+    }
+}
+
+/// What leaves without protection.
+fn plain(options: &TxOptions, frame: &[u8]) -> TxResult
+    ensures { result ≡ (if nat_lt options.now.max_frame (length frame.now) then TxResult.TooLong else TxResult.Plain) }
+{
+    if frame.len() > options.max_frame as usize {
+        TxResult::TooLong
+    } else {
+        TxResult::Plain
+    }
+}
+
+/// What leaves from the association that is on.
+fn frame_under(
+    keys: &KeyTable,
+    options: &TxOptions,
+    row: &TxRow,
+    frame: &[u8],
+    out: &mut [u8],
+) -> TxResult
+    requires key_there { IsSome (key_row keys.now row.now.key) }
+    requires frame_long { min_frame_len ≤ length frame.now }
+    requires frame_short { length frame.now ≤ max_frame_len }
+    requires limit { options.now.max_frame ≤ max_frame_len }
+    requires room { max_frame_len ≤ length out.old }
+    ensures leaving { ShowsLeaving result out.new (sending_by options.now keys.now frame.now (Some row.now)).leaving }
+    ensures number { IfMade result (row.now.next < 2 ^ 64) }
+{
+    let key = keys.key(row.key).unwrap();
+    let suite = key.suite_key.suite();
+    let mut numbers = TxNumbers { next: row.next };
+    let Some(pn) = numbers.take(suite.last()) else {
+        return TxResult::NoSa;
+    };
+    let tag = tag_of(options, row, frame);
+    if frame.len() + tag.length() + ICV_LENGTH > options.max_frame as usize {
+        return TxResult::TooLong;
+    }
+    let iv = iv_of(suite, options.sci, key.key.ssci, key.key.salt, pn);
+    let len = write_frame(&key.suite_key, &iv, &tag, frame, out);
+    TxResult::Made { len, key: row.key }
+}
+
+/// The SL of so many octets of Secure Data (9.7).
+fn sl_of(octets: usize) -> u8
+    ensures { result ≡ sl_of octets }
+{
+    if octets < 48 { octets as u8 } else { 0 }
+}
+
+/// Is the source address of a client's frame that of the SCI?
+fn is_own(options: &TxOptions, frame: &[u8]) -> bool
+    requires { min_frame_len ≤ length frame.now }
+    ensures { result ≡ is_own options.now.sci (slice_range frame.now 6 12) }
+{
+    frame[6..12] == options.sci.0[..6]
+}
+
+/// The SCI that the SecTAG carries; `own` says that the source address is that of the SCI.
+fn sci_sent(options: TxOptions, own: bool) -> Option<Sci>
+    ensures octets { ForSome result (λ s. length s.0 ≡ 8) }
+    ensures value { (sa : List ℕ) → own ≡ is_own options.sci sa → result ≡ sci_sent options.form options.many options.sci sa }
+{
+    let stands_for_sci = match options.form {
+        TagForm::Auto => !options.many,
+        TagForm::Sci => false,
+        TagForm::Es | TagForm::Scb => own,
+    };
+    if stands_for_sci {
+        None
+    } else {
+        Some(options.sci)
+    }
+}
+
+/// The ES bit; `own` says that the source address is that of the SCI.
+fn es_sent(options: &TxOptions, own: bool) -> bool
+    ensures { (sa : List ℕ) → own ≡ is_own options.now.sci sa → result ≡ es_sent options.now.form options.now.sci sa }
+{
+    match options.form {
+        TagForm::Es => own,
+        TagForm::Auto | TagForm::Sci | TagForm::Scb => false,
+    }
+}
+
+/// The SCB bit; `own` says that the source address is that of the SCI.
+fn scb_sent(options: &TxOptions, own: bool) -> bool
+    ensures { (sa : List ℕ) → own ≡ is_own options.now.sci sa → result ≡ scb_sent options.now.form options.now.sci sa }
+{
+    match options.form {
+        TagForm::Scb => own,
+        TagForm::Auto | TagForm::Sci | TagForm::Es => false,
+    }
+}
+
+/// The SecTAG of a client's frame that the association sends.
+fn tag_of(options: &TxOptions, row: &TxRow, frame: &[u8]) -> SecTag
+    requires frame_long { min_frame_len ≤ length frame.now }
+    ensures { result ≡ tag_sent options.now row.now frame.now }
+{
+    let own = is_own(options, frame);
+    let _number = row.an.number();
+    SecTag::new(
+        es_sent(options, own),
+        scb_sent(options, own),
+        row.conf,
+        row.conf,
+        row.an,
+        sl_of(frame.len() - ADDRESSES_LENGTH),
+        (row.next % (1 << 32)) as u32,
+        sci_sent(*options, own),
+    )
+    .unwrap()
+}
+
+/// Puts DA, SA, SecTAG, Secure Data and ICV at the front of `out`, and answers how many octets they
+/// are.
+fn write_frame(key: &SuiteKey, iv: &[u8; 12], tag: &SecTag, frame: &[u8], out: &mut [u8]) -> usize
+    requires frame_long { min_frame_len ≤ length frame.now }
+    requires frame_short { length frame.now ≤ max_frame_len }
+    requires room { length frame.now + octets_added tag.now ≤ length out.old }
+    ensures length { result ≡ length frame.now + octets_added tag.now }
+    ensures octets { take result out.new ≡ in_a_row (parts_under key.now iv.now tag.now frame.now) }
+{
+    let end = write_clear(tag, frame, out) + ICV_LENGTH;
+    protect_in_place(key, iv, tag.e(), tag.length(), &mut out[..end]);
+    end
+}
+
+/// Puts DA, SA, SecTAG and client data at the front of `out`, and answers how many octets they are.
+fn write_clear(tag: &SecTag, frame: &[u8], out: &mut [u8]) -> usize
+    requires frame_long { min_frame_len ≤ length frame.now }
+    requires frame_short { length frame.now ≤ max_frame_len }
+    requires room { length frame.now + octets_added tag.now ≤ length out.old }
+    ensures length { result ≡ length frame.now + length (spelling tag.now) }
+    ensures short { result ≤ length frame.now + 16 }
+    ensures octets { take result out.new ≡ take 12 frame.now ++ spelling tag.now ++ drop 12 frame.now }
+{
+    let tag_length = tag.length();
+    let data = ADDRESSES_LENGTH + tag_length;
+    let end = frame.len() + tag_length;
+    out[..ADDRESSES_LENGTH].copy_from_slice(&frame[..ADDRESSES_LENGTH]);
+    write_tag(tag, &mut out[ADDRESSES_LENGTH..]);
+    out[data..end].copy_from_slice(&frame[ADDRESSES_LENGTH..]);
+    end
+}
