@@ -1,0 +1,6 @@
+pub mod Opened
+pub mod Placed
+pub mod Room
+pub mod RxKeys
+pub mod RxRows
+pub mod Scis

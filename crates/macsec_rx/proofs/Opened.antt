@@ -1,0 +1,106 @@
+-- A frame that is validated in place, as its parts.
+use Rattle.std.proofs.Common.{◌≡◌, ℕ, ◌+◌, List, [], ◌++◌, length, take, drop, refl, ap, sym, ◌∙◌, arith, append_assoc, append-nil, length-append}
+use Rattle.std.specs.Prelude.{Option, Some, None, option_map}
+use Rattle.std.proofs.Math.Seq.{take-append_seam, drop-append_seam}
+use Rattle.std.proofs.lemmas.List.{take-append-drop}
+use Rattle.macsec_gcm.specs.Gcm.{open_of}
+use Rattle.macsec_gcm.proofs.Opening.{open_undoes_seal, length-ciphertext}
+use Rattle.macsec_tag.specs.Tag.{spelling}
+use Rattle.macsec_tag.specs.Frame.{MpduParts}
+use Rattle.macsec_suite.specs.Keys.{PreparedKey}
+use Rattle.macsec_suite.specs.Parts.{aad_and_plaintext, clear_length}
+use Rattle.macsec_suite.specs.InPlace.{clear_and_rest, validated_octets}
+use Rattle.macsec_suite.proofs.ClearParts.{cut_behind}
+use Rattle.macsec_rx.specs.Delivered.{frame_with, opened_under}
+
+-- DA, SA, SecTAG, Secure Data and ICV in a row
+abbrev pub laid_out : MpduParts → List ℕ
+laid_out p = p.da ++ p.sa ++ spelling p.tag ++ p.secure_data ++ p.icv
+
+-- what is authenticated alone, and the ciphertext
+abbrev parts_of : PreparedKey → MpduParts → List ℕ × List ℕ
+parts_of key p = aad_and_plaintext key.offset p.tag.e p.da p.sa p.tag p.secure_data
+
+-- how many octets stand before the Secure Data
+abbrev pub data_place : MpduParts → ℕ
+data_place p = 12 + length (spelling p.tag)
+
+head_long : (p : MpduParts) → length (p.da ++ p.sa) ≡ 12 → length (p.da ++ p.sa ++ spelling p.tag) ≡ data_place p
+head_long p addresses = omega (arith, length-append (p.da ++ p.sa) (spelling p.tag), addresses)
+
+-- what the definition over places opens is what the definition over parts opens
+validated_is : (key : PreparedKey) (iv : List ℕ) (p : MpduParts) → length (p.da ++ p.sa) ≡ 12 → length p.icv ≡ 16
+    → validated_octets key iv p.tag.e (data_place p) (data_place p + length p.secure_data) (laid_out p) ≡
+    option_map (λ plaintext. (parts_of key p).0 ++ plaintext ++ p.icv) (opened_under key iv p)
+validated_is key iv p addresses icv =
+    let head : List ℕ = p.da ++ p.sa ++ spelling p.tag in
+    let n : ℕ = data_place p in
+    let e : ℕ = n + length p.secure_data in
+    let long : length (head ++ p.secure_data) ≡ e = omega (arith, length-append head p.secure_data, head_long p addresses) in
+    let front : take e (laid_out p) ≡ head ++ p.secure_data = ap (λ (j : ℕ). take j (laid_out p)) (sym long) ∙ take-append_seam (head ++ p.secure_data) p.icv in
+    let back : drop e (laid_out p) ≡ p.icv = ap (λ (j : ℕ). drop j (laid_out p)) (sym long) ∙ drop-append_seam (head ++ p.secure_data) p.icv in
+    let whole_icv : take 16 p.icv ≡ p.icv = ap (λ (j : ℕ). take j p.icv) (sym icv) ∙ all p.icv in
+    let cut : clear_and_rest key.offset p.tag.e n (take e (laid_out p)) ≡ parts_of key p =
+    ap (clear_and_rest key.offset p.tag.e n) front
+    ∙ ap (λ (j : ℕ). clear_and_rest key.offset p.tag.e j (head ++ p.secure_data)) (sym (head_long p addresses))
+    ∙ cut_behind key.offset p.tag.e head p.secure_data in
+    ap (λ (ac : List ℕ × List ℕ). option_map (λ plaintext. ac.0 ++ plaintext ++ drop e (laid_out p)) (open_of key.bytes iv ac.0 ac.1 (take 16 (drop e (laid_out p))))) cut
+    ∙ ap (λ (tail : List ℕ). option_map (λ plaintext. (parts_of key p).0 ++ plaintext ++ tail) (open_of key.bytes iv (parts_of key p).0 (parts_of key p).1 (take 16 tail))) back
+    ∙ ap (λ (tag : List ℕ). option_map (λ plaintext. (parts_of key p).0 ++ plaintext ++ p.icv) (open_of key.bytes iv (parts_of key p).0 (parts_of key p).1 tag)) whole_icv
+  where
+    all : (xs : List ℕ) → take (length xs) xs ≡ xs
+    all xs = ap (λ (ys : List ℕ). take (length xs) ys) (sym (append-nil xs)) ∙ take-append_seam xs []
+
+pub refused : (key : PreparedKey) (iv : List ℕ) (p : MpduParts) → length (p.da ++ p.sa) ≡ 12 → length p.icv ≡ 16
+    → validated_octets key iv p.tag.e (data_place p) (data_place p + length p.secure_data) (laid_out p) ≡ None
+    → option_map (frame_with key p) (opened_under key iv p) ≡ None
+refused key iv p addresses icv e = by (opened_under key iv p) refl (sym (validated_is key iv p addresses icv) ∙ e)
+  where
+    by : (o : Option (List ℕ)) → opened_under key iv p ≡ o → option_map (λ plaintext. (parts_of key p).0 ++ plaintext ++ p.icv) (opened_under key iv p) ≡ None
+        → option_map (frame_with key p) (opened_under key iv p) ≡ None
+    by None is h = ap (option_map (frame_with key p)) is
+    by (Some plaintext) is h = absurd (let none : Some ((parts_of key p).0 ++ plaintext ++ p.icv) ≡ None = sym (ap (option_map (λ t. (parts_of key p).0 ++ t ++ p.icv)) is) ∙ h in cc)
+
+-- a plaintext is as long as its ciphertext
+plaintext_long : (key : PreparedKey) (iv : List ℕ) (p : MpduParts) (plaintext : List ℕ) → opened_under key iv p ≡ Some plaintext → length plaintext ≡ length (parts_of key p).1
+plaintext_long key iv p plaintext is =
+    let sealed = (open_undoes_seal key.bytes iv (parts_of key p).0 (parts_of key p).1 p.icv plaintext).0 is in
+    sym (length-ciphertext key.bytes iv (parts_of key p).0 plaintext) ∙ ap (λ (s : List ℕ × List ℕ). length s.0) sealed
+
+regrouped : (head clear plaintext icv rest : List ℕ) → (((head ++ clear) ++ plaintext) ++ icv) ++ rest ≡ head ++ ((clear ++ plaintext) ++ (icv ++ rest))
+regrouped head clear plaintext icv rest = simp append_assoc
+
+pub opened : (key : PreparedKey) (iv : List ℕ) (p : MpduParts) (new rest : List ℕ) → length (p.da ++ p.sa) ≡ 12 → length p.icv ≡ 16
+    → validated_octets key iv p.tag.e (data_place p) (data_place p + length p.secure_data) (laid_out p) ≡ Some new
+    → option_map (frame_with key p) (opened_under key iv p) ≡ Some ((p.da ++ p.sa) ++ take (length p.secure_data) (drop (data_place p) (new ++ rest)))
+opened key iv p new rest addresses icv e = by (opened_under key iv p) refl (sym (validated_is key iv p addresses icv) ∙ e)
+  where
+    head : List ℕ
+    head = p.da ++ p.sa ++ spelling p.tag
+
+    clear : List ℕ
+    clear = take (clear_length key.offset p.tag.e p.secure_data) p.secure_data
+
+    found : (plaintext : List ℕ) → opened_under key iv p ≡ Some plaintext → (head ++ clear) ++ plaintext ++ p.icv ≡ new
+        → take (length p.secure_data) (drop (data_place p) (new ++ rest)) ≡ clear ++ plaintext
+    found plaintext is new_is =
+        let c : ℕ = clear_length key.offset p.tag.e p.secure_data in
+        let tail : List ℕ = p.icv ++ rest in
+        let halves : length clear + length (drop c p.secure_data) ≡ length p.secure_data =
+        sym (length-append clear (drop c p.secure_data)) ∙ ap length (take-append-drop c p.secure_data) in
+        let long : length (clear ++ plaintext) ≡ length p.secure_data = omega (arith, length-append clear plaintext, halves, plaintext_long key iv p plaintext is) in
+        let grouped : new ++ rest ≡ head ++ ((clear ++ plaintext) ++ tail) = ap (λ (xs : List ℕ). xs ++ rest) (sym new_is) ∙ regrouped head clear plaintext p.icv rest in
+        ap (λ (xs : List ℕ). take (length p.secure_data) (drop (data_place p) xs)) grouped
+        ∙ ap (λ (j : ℕ). take (length p.secure_data) (drop j (head ++ ((clear ++ plaintext) ++ tail)))) (sym (head_long p addresses))
+        ∙ ap (λ (xs : List ℕ). take (length p.secure_data) xs) (drop-append_seam head ((clear ++ plaintext) ++ tail))
+        ∙ ap (λ (j : ℕ). take j ((clear ++ plaintext) ++ tail)) (sym long)
+        ∙ take-append_seam (clear ++ plaintext) tail
+
+    by : (o : Option (List ℕ)) → opened_under key iv p ≡ o → option_map (λ plaintext. (parts_of key p).0 ++ plaintext ++ p.icv) (opened_under key iv p) ≡ Some new
+        → option_map (frame_with key p) (opened_under key iv p) ≡ Some ((p.da ++ p.sa) ++ take (length p.secure_data) (drop (data_place p) (new ++ rest)))
+    by None is h = absurd (let none : None ≡ Some new = sym (ap (option_map (λ t. (parts_of key p).0 ++ t ++ p.icv)) is) ∙ h in cc)
+    by (Some plaintext) is h =
+        let same : Some ((parts_of key p).0 ++ plaintext ++ p.icv) ≡ Some new = sym (ap (option_map (λ t. (parts_of key p).0 ++ t ++ p.icv)) is) ∙ h in
+        let new_is : (parts_of key p).0 ++ plaintext ++ p.icv ≡ new = cc in
+        ap (option_map (frame_with key p)) is
+        ∙ ap Some (append_assoc (p.da ++ p.sa) clear plaintext ∙ ap (λ (xs : List ℕ). (p.da ++ p.sa) ++ xs) (sym (found plaintext is new_is)))

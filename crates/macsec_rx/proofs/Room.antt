@@ -1,0 +1,98 @@
+-- There is room for an association whose number is free: with its channel's place it makes a number below
+-- four times the count of the channels, and no two associations make the same.
+use Rattle.std.proofs.Common.{◌≡◌, ◌∙◌, ℕ, suc, ◌+◌, ◌*◌, ◌<◌, ◌≤◌, Bool, true, false, cond, ◌||◌, List, [], ◌∷◌, map, length, refl, arith, eqb, sym, ap, inl, inr}
+use Rattle.std.specs.Prelude.{Option, Some, None, if◌then◌else◌}
+use Rattle.std.specs.List.{IsDistinct, AllByRecursion, list_any}
+use Rattle.std.proofs.lemmas.Map.Steps.{length-le_from_distinct_below}
+use Rattle.std.proofs.lemmas.Bool.{ne_eqb, eq-eqb}
+use Rattle.std.proofs.lemmas.Bool.Decides.{eqb_tells}
+use Rattle.macsec_tag.specs.declared.Sci.{Sci}
+use Rattle.macsec_rx.specs.declared.RxRow.{RxRow}
+use Rattle.macsec_rx.specs.Channels.{rx_row, same_sci, is_at}
+use Rattle.macsec_rx.specs.Commands.{has_channel}
+use Rattle.macsec_rx.specs.Rows.{AreRxRows}
+use Rattle.macsec_rx.proofs.Scis.{one_sci, same_sci-refl}
+
+pub cond_none : {A : Type 0} (b : Bool) (x : A) (r : Option A) → cond b (Some x) r ≡ None → (b ≡ false) × (r ≡ None)
+cond_none true x r h = cc
+cond_none false x r h = (refl, h)
+
+-- the place of an SCI among the channels
+abbrev pub place : List Sci → Sci → ℕ
+place [] sci = 0
+place (s ∷ scis) sci = if same_sci s sci then 0 else suc (place scis sci)
+
+place_below : (scis : List Sci) (sci : Sci) → has_channel scis sci ≡ true → place scis sci < length scis
+place_below [] sci there = cc
+place_below (s ∷ scis) sci there = by_test (same_sci s sci) (λ e. place_below scis sci e) there
+  where
+    by_test : (b : Bool) → (has_channel scis sci ≡ true → place scis sci < length scis) → (b || has_channel scis sci) ≡ true →
+        (if b then 0 else suc (place scis sci)) < suc (length scis)
+    by_test true later h = omega arith
+    by_test false later h = let rest = later h in omega (arith, rest)
+
+-- channels of one place are one
+one_place : (scis : List Sci) (s t : Sci) → has_channel scis s ≡ true → has_channel scis t ≡ true → place scis s ≡ place scis t → s ≡ t
+one_place [] s t hs ht e = cc
+one_place (c ∷ scis) s t hs ht e = by_tests (same_sci c s) (same_sci c t) refl refl hs ht e (λ hs ht e. one_place scis s t hs ht e)
+  where
+    by_tests : (x y : Bool) → same_sci c s ≡ x → same_sci c t ≡ y → (x || has_channel scis s) ≡ true → (y || has_channel scis t) ≡ true →
+        (if x then 0 else suc (place scis s)) ≡ (if y then 0 else suc (place scis t)) →
+        (has_channel scis s ≡ true → has_channel scis t ≡ true → place scis s ≡ place scis t → s ≡ t) → s ≡ t
+    by_tests true true hx hy hs ht e later = sym (one_sci c s hx) ∙ one_sci c t hy
+    by_tests true false hx hy hs ht e later = absurd (omega (arith, e))
+    by_tests false true hx hy hs ht e later = absurd (omega (arith, e))
+    by_tests false false hx hy hs ht e later = later hs ht (omega (arith, e))
+
+-- the number that an association makes
+abbrev pub slot : List Sci → Sci → ℕ → ℕ
+slot scis sci an = 4 * place scis sci + an
+
+abbrev pub slots : List Sci → List RxRow → List ℕ
+slots scis rows = map (λ row. slot scis row.sci row.an) rows
+
+same_slot : (p q a b : ℕ) → a < 4 → b < 4 → 4 * p + a ≡ 4 * q + b → (p ≡ q) × (a ≡ b)
+same_slot p q a b ha hb e = (omega arith, omega arith)
+
+apart : (scis : List Sci) (rows : List RxRow) (sci : Sci) (an : ℕ) → AreRxRows scis rows → has_channel scis sci ≡ true → an < 4 →
+    rx_row rows sci an ≡ None → AllByRecursion (λ y. eqb (slot scis sci an) y ≡ false) (slots scis rows)
+apart scis [] sci an h there small free = tt
+apart scis (row ∷ rows) sci an h there small free =
+    let parts = cond_none (is_at sci an row) row (rx_row rows sci an) free in
+    (ne_eqb (slot scis sci an) (slot scis row.sci row.an) (λ e. differ parts.0 (same_slot _ _ _ _ small h.0.an e)), apart scis rows sci an h.2 there small parts.1)
+  where
+    differ : is_at sci an row ≡ false → (place scis sci ≡ place scis row.sci) × (an ≡ row.an) → ⊥
+    differ other e =
+        let same : row.sci ≡ sci = one_place scis row.sci sci h.0.channel there (sym e.0) in
+        let both : is_at sci an row ≡ true = rw (same, same_sci-refl sci, eq-eqb row.an an (sym e.1)) refl in
+        let no = sym both ∙ other in cc
+
+distinct : (scis : List Sci) (rows : List RxRow) → AreRxRows scis rows → IsDistinct eqb (slots scis rows)
+unfolding IsDistinct
+distinct scis [] h = tt
+distinct scis (row ∷ rows) h = (apart scis rows row.sci row.an h.2 h.0.channel h.0.an h.1, distinct scis rows h.2)
+
+below_step : (q c n : ℕ) (rest : Bool) → c < n → (rest ≡ true → q < n) → (eqb q c || rest) ≡ true → q < n
+below_step q c n rest small later any =
+    elim (eqb_tells q c) [ inl t ↦ omega arith | inr f ↦ later (rw f.0 at any) ]
+
+slot_below : (scis : List Sci) (sci : Sci) (an : ℕ) → has_channel scis sci ≡ true → an < 4 → slot scis sci an < 4 * length scis
+slot_below scis sci an there small = let within = place_below scis sci there in omega (arith, within)
+
+below : (scis : List Sci) (rows : List RxRow) → AreRxRows scis rows → (q : ℕ) → list_any (eqb q) (slots scis rows) ≡ true → q < 4 * length scis
+below scis [] h q any = cc
+below scis (row ∷ rows) h q any =
+    below_step q (slot scis row.sci row.an) (4 * length scis) (list_any (eqb q) (slots scis rows)) (slot_below scis row.sci row.an h.0.channel h.0.an) (λ e. below scis rows h.2 q e) any
+
+length-slots : (scis : List Sci) (rows : List RxRow) → length (slots scis rows) ≡ length rows
+length-slots scis [] = refl
+length-slots scis (row ∷ rows) = ap suc (length-slots scis rows)
+
+pub has_room : (scis : List Sci) (rows : List RxRow) (sci : Sci) (an : ℕ) → AreRxRows scis rows → has_channel scis sci ≡ true → an < 4 →
+    rx_row rows sci an ≡ None → length rows < 4 * length scis
+unfolding IsDistinct
+has_room scis rows sci an h there small free =
+    let fits : length (slot scis sci an ∷ slots scis rows) ≤ 4 * length scis =
+    length-le_from_distinct_below (slot scis sci an ∷ slots scis rows) (4 * length scis) (apart scis rows sci an h there small free, distinct scis rows h)
+    (λ q any. below_step q (slot scis sci an) (4 * length scis) (list_any (eqb q) (slots scis rows)) (slot_below scis sci an there small) (λ e. below scis rows h q e) any) in
+    omega (arith, fits, length-slots scis rows)

@@ -1,0 +1,11 @@
+use Rattle.std.proofs.Common.{length, ap, ◌∙◌}
+use Rattle.macsec_rx.proofs.RxRows.{narrowed_rows, refilled}
+use Rattle.macsec_rx.proofs.channels.RxChannels.narrow.Goals as goal
+
+pub invariant_of-self : goal.invariant_of-self
+invariant_of-self c = record {
+  count = c.self.invariant.count;
+  scis = c.self.invariant.scis;
+  rows = refilled _ _ _ (c.narrow.auto.rows ∙ ap length c.as_mut_slice.ensures.value)
+      (rw (c.narrow.ensures, c.as_mut_slice.ensures.value) (narrowed_rows _ c.args.window _ c.self.invariant.rows));
+}

@@ -1,0 +1,16 @@
+use Rattle.std.proofs.Common.{◌≡◌, ◌∙◌, ap, sym, false, rules}
+use Rattle.macsec_rx.specs.Commands.{has_channel}
+use Rattle.macsec_rx.proofs.RxRows.{of_more}
+use Rattle.macsec_rx.proofs.Scis.{joined_scis, still_channel}
+use Rattle.macsec_rx.proofs.channels.RxChannels.rx_sc.Goals as goal
+
+pub invariant_of-self : goal.invariant_of-self
+invariant_of-self c =
+    let scis = c.self.inside.scis.items in
+    let free : has_channel scis c.args.sci ≡ false =
+    ap (λ v. has_channel v.scis c.args.sci) c.self.view_is ∙ sym c.if-has_channel.ensures in
+    rw c.push.ensures.items (record {
+      count = search rules;
+      scis = joined_scis scis c.args.sci c.self.invariant.scis free;
+      rows = of_more scis _ (still_channel scis c.args.sci) _ c.self.invariant.rows;
+    })

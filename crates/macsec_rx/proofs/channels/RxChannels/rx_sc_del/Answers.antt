@@ -1,0 +1,30 @@
+use Rattle.std.proofs.Common.{◌≡◌, ◌≤◌, ap, rules, arith, length}
+use Rattle.std.specs.Prelude.{filter, not}
+use Rattle.arrayvec.proofs.ArrayVecLemmas.{filter-from_retain}
+use Rattle.std.proofs.lemmas.List.Sums.{count_by-le-length, length-filter}
+use Rattle.macsec_rx.specs.Channels.{same_sci}
+use Rattle.macsec_rx.specs.Commands.{without_channel}
+use Rattle.macsec_rx.proofs.RxRows.{kept}
+use Rattle.macsec_rx.proofs.Scis.{kept_scis, other_channel}
+use Rattle.macsec_rx.proofs.channels.RxChannels.rx_sc_del.Goals as goal
+
+kept_channels : (c : goal.After-retain-2) → c.retain.new.self.items ≡ filter (λ s. not (same_sci s c.args.sci)) c.self.inside.scis.items
+kept_channels c = filter-from_retain _ _ _ (λ x b f' y called. search rules) _ _ c.retain.ensures.filtered
+
+kept_rows : (c : goal.After-retain-2) → c.retain-2.new.self.items ≡ filter (λ row. not (same_sci row.sci c.args.sci)) c.self.inside.rows.items
+kept_rows c = filter-from_retain _ _ _ (λ x b f' y called. search rules) _ _ c.retain-2.ensures.filtered
+
+pub invariant_of-self : goal.invariant_of-self
+invariant_of-self c =
+    let scis = c.self.inside.scis.items in
+    let sci = c.args.sci in
+    let fewer : length (filter (λ s. not (same_sci s sci)) scis) ≤ length scis =
+    rw (length-filter (λ s. not (same_sci s sci)) scis) (count_by-le-length (λ s. not (same_sci s sci)) scis) in
+    rw (kept_channels c, kept_rows c) (record {
+      count = omega (arith, fewer, c.self.invariant.count);
+      scis = kept_scis _ scis c.self.invariant.scis;
+      rows = kept scis _ _ (λ row other there. other_channel scis sci row.sci there other) _ c.self.invariant.rows;
+    })
+
+pub returns-clause-done : goal.returns-clause-done
+returns-clause-done c = rw (kept_channels c, kept_rows c) (ap (λ v. without_channel v c.args.sci) c.self.view_is)

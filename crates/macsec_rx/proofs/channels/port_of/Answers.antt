@@ -1,0 +1,13 @@
+use Rattle.std.proofs.Common.{◌++◌, ◌∷◌, [], List, ℕ, set, ap, ◌∙◌, arith}
+use Rattle.std.proofs.lemmas.List.{set-append_right}
+use Rattle.macsec_tag.specs.declared.Sci.{Sci}
+use Rattle.macsec_rx.proofs.channels.port_of.Goals as goal
+
+as_sci : List ℕ → Sci
+as_sci octets = record { 0 = octets }
+
+pub returns : goal.returns
+unfolding as_sci
+returns c =
+    let address : List ℕ = c.args.address.now in
+    ap as_sci (ap (λ (xs : List ℕ). set (xs ++ 0 ∷ 0 ∷ []) 7 c.args.port) c.copy_from_slice.ensures.after ∙ set-append_right address (0 ∷ 0 ∷ []) 6 7 c.args.port c.requires (omega arith))

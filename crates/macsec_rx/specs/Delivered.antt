@@ -1,0 +1,17 @@
+-- What is delivered, as it stands in a slice.
+use Rattle.std.specs.Prelude.{ℕ, List, ◌++◌, take, Option}
+use Rattle.macsec_gcm.specs.Gcm.{open_of}
+use Rattle.macsec_tag.specs.Frame.{MpduParts}
+use Rattle.macsec_suite.specs.Keys.{PreparedKey}
+use Rattle.macsec_suite.specs.Parts.{aad_and_plaintext, clear_length}
+
+-- the plaintext of a frame under a key and an IV, where the ICV is genuine
+abbrev pub opened_under : PreparedKey → List ℕ → MpduParts → Option (List ℕ)
+opened_under key iv p =
+    let ac = aad_and_plaintext key.offset p.tag.e p.da p.sa p.tag p.secure_data in
+    open_of key.bytes iv ac.0 ac.1 p.icv
+
+-- DA, SA, the octets of the data that stayed clear, and a plaintext
+abbrev pub frame_with : PreparedKey → MpduParts → List ℕ → List ℕ
+frame_with key p plaintext =
+    p.da ++ p.sa ++ take (clear_length key.offset p.tag.e p.secure_data) p.secure_data ++ plaintext

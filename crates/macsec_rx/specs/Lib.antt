@@ -1,0 +1,7 @@
+pub mod Limits
+pub mod Channels
+pub mod Commands
+pub mod Rows
+pub mod Judge
+pub mod Judged
+pub mod Delivered

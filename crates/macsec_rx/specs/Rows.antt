@@ -1,0 +1,30 @@
+-- What holds of receive channels and their associations.
+use Rattle.std.specs.Prelude.{◌≡◌, ◌^◌, ◌<◌, ◌≤◌, List, [], ◌∷◌, length, None, true, false}
+use Rattle.macsec_tag.specs.declared.Sci.{Sci}
+use Rattle.macsec_rx.specs.declared.RxRow.{RxRow}
+use Rattle.macsec_rx.specs.Limits.{max_channel_count, max_association_count}
+use Rattle.macsec_rx.specs.Channels.{Channels, rx_row}
+use Rattle.macsec_rx.specs.Commands.{has_channel}
+
+-- an association is of a channel, its number is 0 to 3, and its packet numbers are at most one past the
+-- last of 64 bits
+pub record IsRxRow (scis : List Sci) (row : RxRow) : Type 0 where
+  pub channel : has_channel scis row.sci ≡ true
+  pub an : row.an < max_association_count
+  pub next : row.next ≤ 2 ^ 64
+  pub lowest : row.lowest ≤ 2 ^ 64
+
+-- no two associations of a channel have one number
+abbrev pub AreRxRows : List Sci → List RxRow → Type 0
+AreRxRows scis [] = Unit {0}
+AreRxRows scis (row ∷ rows) = IsRxRow scis row × (rx_row rows row.sci row.an ≡ None) × AreRxRows scis rows
+
+-- no two channels have one SCI
+abbrev pub AreScis : List Sci → Type 0
+AreScis [] = Unit {0}
+AreScis (sci ∷ scis) = (has_channel scis sci ≡ false) × AreScis scis
+
+pub record AreChannels (channels : Channels) : Type 0 where
+  pub count : length channels.scis ≤ max_channel_count
+  pub scis : AreScis channels.scis
+  pub rows : AreRxRows channels.scis channels.rows

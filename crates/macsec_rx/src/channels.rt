@@ -1,0 +1,392 @@
+//! The receive channels, and the commands on them and on their associations.
+
+ghost use Rattle.std.specs.Prelude.{◌≡◌, length, ◌≤◌, true, map, slice_get, false, IfOk, OnErr, OnOk, Some};
+ghost use Rattle.macsec_suite.specs.Refusals.{first_refusal, refusal_of};
+ghost use Rattle.macsec_rx.specs.Channels.{at_place, is_at, no_channels, rx_row, same_sci, with_rx};
+ghost use Rattle.macsec_rx.specs.Judge.{in_use, only_channel, port_of, row_accepting, sci_of};
+ghost use Rattle.macsec_rx.specs.Commands.{HaveRxKeys, channels_narrowed, has_channel, row_narrowed, row_raised, row_switched, rx_low_refusals, rx_row_refusals, rx_sa_refusals, rx_sc_del_refusals, rx_sc_refusals, rx_uses, with_channel, with_rx_low, with_rx_on, with_rx_sa, without_channel, without_rx};
+
+use crate::RxRow;
+use arrayvec::ArrayVec;
+use macsec_pn::RxNumbers;
+use macsec_suite::{KeyTable, Refusal};
+use macsec_tag::{An, Mpdu, Sci};
+use std::marker::Model;
+
+/// The receive channels: up to eight, of four associations each. Contracts see them as the SCIs in the
+/// order of their making, and the associations in the order of theirs.
+#[derive(Drop)]
+pub struct RxChannels {
+    scis: ArrayVec<Sci, 8>,
+    rows: ArrayVec<RxRow, 32>,
+}
+
+impl Model for RxChannels {
+    ghost use Rattle.macsec_rx.specs.Channels.{Channels};
+    ghost use Rattle.macsec_rx.specs.Rows.{AreChannels};
+
+    ghost Value = { Channels };
+
+    ghost view = { λ c. record { scis = c.scis.items; rows = c.rows.items } };
+
+    ghost invariant = { λ c. AreChannels (record { scis = c.scis.items; rows = c.rows.items }) };
+}
+
+impl RxChannels {
+    /// No channels.
+    pub fn new() -> RxChannels
+        ensures { result ≡ no_channels }
+    {
+        RxChannels {
+            scis: ArrayVec::new(),
+            rows: ArrayVec::new(),
+        }
+    }
+
+    /// The SCI of the channel at this place in the order of making, from 0, where there is one.
+    pub fn channel(&self, place: usize) -> Option<Sci>
+        ensures { result ≡ slice_get self.now.scis place }
+    {
+        self.scis.as_slice().get(place).copied()
+    }
+
+    /// The association of this channel and of this number, where there is one.
+    pub fn row(&self, sci: Sci, an: An) -> Option<RxRow>
+        ensures { result ≡ rx_row self.now.rows sci an }
+    {
+        for row in self.rows.as_slice() {
+            if is_at(row, sci, an) {
+                return Some(*row);
+            }
+        }
+        None
+    }
+
+    /// Does an association use the key of this number?
+    pub fn uses(&self, key: u8) -> bool
+        ensures { result ≡ rx_uses self.now.rows key }
+    {
+        self.rows.iter().any(|row| row.key == key)
+    }
+
+    /// Is there a channel of this SCI?
+    fn has_channel(&self, sci: Sci) -> bool
+        ensures { result ≡ has_channel self.now.scis sci }
+    {
+        self.scis.iter().any(|s| *s == sci)
+    }
+
+    /// Makes a channel, the last. It is refused by `OwnSci`, `ScTaken` and `ScFull`, in this order.
+    pub fn rx_sc(&mut self, own: Sci, sci: Sci) -> Result<(), Refusal>
+        ensures refusal { refusal_of result ≡ first_refusal (rx_sc_refusals self.old own sci) }
+        ensures done { OnOk result (self.new ≡ with_channel self.old sci) }
+        ensures unchanged { OnErr result (self.new ≡ self.old) }
+    {
+        if sci == own {
+            return Err(Refusal::OwnSci);
+        }
+        if self.has_channel(sci) {
+            return Err(Refusal::ScTaken);
+        }
+        if self.scis.is_full() {
+            return Err(Refusal::ScFull);
+        }
+        self.scis.push(sci);
+        Ok(())
+    }
+
+    /// Removes a channel and its associations; the later channels move up. It is refused by `NoSc`.
+    pub fn rx_sc_del(&mut self, sci: Sci) -> Result<(), Refusal>
+        ensures refusal { refusal_of result ≡ first_refusal (rx_sc_del_refusals self.old sci) }
+        ensures done { OnOk result (self.new ≡ without_channel self.old sci) }
+        ensures unchanged { OnErr result (self.new ≡ self.old) }
+    {
+        if !self.has_channel(sci) {
+            return Err(Refusal::NoSc);
+        }
+        self.scis.retain(|s| *s != sci);
+        self.rows.retain(|row| row.sci != sci);
+        Ok(())
+    }
+
+    /// Makes an association, off, whose lowest acceptable packet number is `lowest`. It is refused by
+    /// `NoKey`, `KeyRetired`, `NoSc`, `AnTaken` and `PnRange`, in this order.
+    pub fn rx_sa(
+        &mut self,
+        keys: &KeyTable,
+        sci: Sci,
+        an: An,
+        key: u8,
+        ssci: u32,
+        lowest: u64,
+    ) -> Result<(), Refusal>
+        ensures refusal { refusal_of result ≡ first_refusal (rx_sa_refusals keys.now self.old sci an key lowest) }
+        ensures done { OnOk result (self.new ≡ with_rx_sa self.old sci an key ssci lowest) }
+        ensures unchanged { OnErr result (self.new ≡ self.old) }
+    {
+        let _number = an.number();
+        let Some(row) = keys.key(key) else {
+            return Err(Refusal::NoKey);
+        };
+        if row.retired {
+            return Err(Refusal::KeyRetired);
+        }
+        if !self.has_channel(sci) {
+            return Err(Refusal::NoSc);
+        }
+        if self.row(sci, an).is_some() {
+            return Err(Refusal::AnTaken);
+        }
+        if lowest == 0 || lowest > row.suite_key.suite().last() {
+            return Err(Refusal::PnRange);
+        }
+        let numbers = RxNumbers::at(lowest);
+        self.rows.push(RxRow {
+            sci,
+            an,
+            key,
+            ssci,
+            next: numbers.next,
+            lowest: numbers.lowest,
+            on: false,
+        });
+        Ok(())
+    }
+
+    /// Switches an association on. It is refused by `NoSc` and `NoSa`, in this order.
+    pub fn rx_on(&mut self, sci: Sci, an: An) -> Result<(), Refusal>
+        ensures refusal { refusal_of result ≡ first_refusal (rx_row_refusals self.old sci an) }
+        ensures done { OnOk result (self.new ≡ with_rx_on self.old sci an true) }
+        ensures unchanged { OnErr result (self.new ≡ self.old) }
+    {
+        self.find(sci, an)?;
+        switch(self.rows.as_mut_slice(), sci, an, true);
+        Ok(())
+    }
+
+    /// Switches an association off. It is refused by `NoSc` and `NoSa`, in this order.
+    pub fn rx_off(&mut self, sci: Sci, an: An) -> Result<(), Refusal>
+        ensures refusal { refusal_of result ≡ first_refusal (rx_row_refusals self.old sci an) }
+        ensures done { OnOk result (self.new ≡ with_rx_on self.old sci an false) }
+        ensures unchanged { OnErr result (self.new ≡ self.old) }
+    {
+        self.find(sci, an)?;
+        switch(self.rows.as_mut_slice(), sci, an, false);
+        Ok(())
+    }
+
+    /// Raises the lowest acceptable packet number of an association to `pn`. The key of each association
+    /// is in the table. It is refused by `NoSc`, `NoSa`, `PnRange` and `PnLower`, in this order.
+    pub fn rx_low(&mut self, keys: &KeyTable, sci: Sci, an: An, pn: u64) -> Result<(), Refusal>
+        requires { HaveRxKeys keys.now self.old.rows }
+        ensures refusal { refusal_of result ≡ first_refusal (rx_low_refusals keys.now self.old sci an pn) }
+        ensures done { OnOk result (self.new ≡ with_rx_low self.old sci an pn) }
+        ensures unchanged { OnErr result (self.new ≡ self.old) }
+    {
+        let row = self.find(sci, an)?;
+        let last = keys.key(row.key).unwrap().suite_key.suite().last();
+        if pn == 0 || pn > last {
+            return Err(Refusal::PnRange);
+        }
+        if u128::from(pn) < row.lowest {
+            return Err(Refusal::PnLower);
+        }
+        raise(self.rows.as_mut_slice(), sci, an, pn);
+        Ok(())
+    }
+
+    /// Removes an association. It is refused by `NoSc` and `NoSa`, in this order.
+    pub fn rx_del(&mut self, sci: Sci, an: An) -> Result<(), Refusal>
+        ensures refusal { refusal_of result ≡ first_refusal (rx_row_refusals self.old sci an) }
+        ensures done { OnOk result (self.new ≡ without_rx self.old sci an) }
+        ensures unchanged { OnErr result (self.new ≡ self.old) }
+    {
+        self.find(sci, an)?;
+        self.rows.retain(|row| !is_at(row, sci, an));
+        Ok(())
+    }
+
+    /// Narrows every association to the replay window at once.
+    pub fn narrow(&mut self, window: u64)
+        ensures { self.new ≡ channels_narrowed self.old window }
+    {
+        narrow(self.rows.as_mut_slice(), window);
+    }
+
+    /// The SCI of a received frame, where it is known.
+    fn sci_of(&self, mpdu: &Mpdu<'_>) -> Option<Sci>
+        ensures { result ≡ sci_of self.now.scis mpdu.now }
+    {
+        let tag = mpdu.tag();
+        if tag.sci().is_some() {
+            tag.sci()
+        } else if tag.scb() {
+            Some(port_of(&mpdu.addresses()[6..], 0))
+        } else if tag.es() {
+            Some(port_of(&mpdu.addresses()[6..], 1))
+        } else {
+            self.only_channel()
+        }
+    }
+
+    /// The only channel, where there is one and no more.
+    fn only_channel(&self) -> Option<Sci>
+        ensures { result ≡ only_channel self.now.scis }
+    {
+        match self.scis.as_slice() {
+            [sci] => Some(*sci),
+            _ => None,
+        }
+    }
+
+    /// The association that a received frame is for: of its SCI and of its association number, and on.
+    pub(crate) fn in_use(&self, mpdu: &Mpdu<'_>) -> Option<RxRow>
+        ensures { result ≡ in_use self.now.rows mpdu.now.tag.an (sci_of self.now.scis mpdu.now) }
+    {
+        let sci = self.sci_of(mpdu)?;
+        let an = mpdu.tag().an();
+        for row in self.rows.as_slice() {
+            if row.sci == sci && row.an.number() == an.number() && row.on {
+                return Some(*row);
+            }
+        }
+        None
+    }
+
+    /// Takes note that a frame of this association and of the packet number `number` was accepted.
+    pub(crate) fn accept(&mut self, row: RxRow, number: u64, window: u64)
+        ensures { self.new ≡ record self.old { rows = with_rx (row_accepting window number) row.sci row.an self.old.rows } }
+    {
+        accept(self.rows.as_mut_slice(), row.sci, row.an, number, window);
+    }
+
+    /// The association of this channel and of this number. It is refused by `NoSc` and `NoSa`, in this
+    /// order.
+    fn find(&self, sci: Sci, an: An) -> Result<RxRow, Refusal>
+        ensures refusal { refusal_of result ≡ first_refusal (rx_row_refusals self.now sci an) }
+        ensures row { IfOk result (λ row. rx_row self.now.rows sci an ≡ Some row) }
+    {
+        if !self.has_channel(sci) {
+            return Err(Refusal::NoSc);
+        }
+        match self.row(sci, an) {
+            Some(row) => Ok(row),
+            None => Err(Refusal::NoSa),
+        }
+    }
+}
+
+/// Is the association of this channel and of this number?
+fn is_at(row: &RxRow, sci: Sci, an: An) -> bool
+    ensures { result ≡ is_at sci an row.now }
+{
+    row.sci == sci && row.an.number() == an.number()
+}
+
+/// The association, switched on or off where it is of this channel and of this number.
+fn switched(row: RxRow, sci: Sci, an: An, on: bool) -> RxRow
+    ensures { result ≡ at_place (row_switched on) sci an row }
+{
+    if is_at(&row, sci, an) {
+        RxRow { on, ..row }
+    } else {
+        row
+    }
+}
+
+/// The association, with its lowest acceptable number raised where it is of this channel and of this number.
+fn raised(row: RxRow, sci: Sci, an: An, pn: u64) -> RxRow
+    ensures { result ≡ at_place (row_raised pn) sci an row }
+{
+    if is_at(&row, sci, an) {
+        let next = row.next.max(u128::from(pn));
+        let lowest = u128::from(pn);
+        RxRow {
+            next,
+            lowest,
+            ..row
+        }
+    } else {
+        row
+    }
+}
+
+/// The association, narrowed to the replay window.
+fn narrowed(row: RxRow, window: u64) -> RxRow
+    ensures { result ≡ row_narrowed window row }
+{
+    let mut numbers = RxNumbers {
+        next: row.next,
+        lowest: row.lowest,
+    };
+    numbers.narrow(window);
+    let lowest = numbers.lowest;
+    RxRow { lowest, ..row }
+}
+
+/// Switches the association of this channel and of this number on or off.
+fn switch(rows: &mut [RxRow], sci: Sci, an: An, on: bool)
+    ensures { rows.new ≡ with_rx (row_switched on) sci an rows.old }
+{
+    for row in rows.iter_mut() {
+        *row = switched(*row, sci, an, on);
+    }
+}
+
+/// Raises the lowest acceptable number of the association of this channel and of this number.
+fn raise(rows: &mut [RxRow], sci: Sci, an: An, pn: u64)
+    ensures { rows.new ≡ with_rx (row_raised pn) sci an rows.old }
+{
+    for row in rows.iter_mut() {
+        *row = raised(*row, sci, an, pn);
+    }
+}
+
+/// Narrows every association to the replay window.
+fn narrow(rows: &mut [RxRow], window: u64)
+    ensures { rows.new ≡ map (row_narrowed window) rows.old }
+{
+    for row in rows.iter_mut() {
+        *row = narrowed(*row, window);
+    }
+}
+
+/// The SCI of a port at an address of six octets.
+fn port_of(address: &[u8], port: u8) -> Sci
+    requires { length address.now ≡ 6 }
+    ensures { result ≡ port_of address.now port }
+{
+    let mut octets = [0; 8];
+    octets[..6].copy_from_slice(address);
+    octets[7] = port;
+    Sci(octets)
+}
+
+/// The association, with a packet number accepted where it is of this channel and of this number.
+fn accepting(row: RxRow, sci: Sci, an: An, number: u64, window: u64) -> RxRow
+    ensures { result ≡ at_place (row_accepting window number) sci an row }
+{
+    if is_at(&row, sci, an) {
+        let mut numbers = RxNumbers {
+            next: row.next,
+            lowest: row.lowest,
+        };
+        numbers.accept(number, window);
+        RxRow {
+            next: numbers.next,
+            lowest: numbers.lowest,
+            ..row
+        }
+    } else {
+        row
+    }
+}
+
+/// Accepts a packet number at the association of this channel and of this number.
+fn accept(rows: &mut [RxRow], sci: Sci, an: An, number: u64, window: u64)
+    ensures { rows.new ≡ with_rx (row_accepting window number) sci an rows.old }
+{
+    for row in rows.iter_mut() {
+        *row = accepting(*row, sci, an, number, window);
+    }
+}

@@ -1,0 +1,88 @@
+//! What is delivered of a frame: DA, SA and data, which stand behind one another in a slice.
+
+ghost use Rattle.std.specs.Prelude.{◌≡◌, ◌≤◌, ◌+◌, ◌++◌, drop, length, option_map, take, IfSome};
+ghost use Rattle.macsec_gcm.specs.Gcm.{max_plaintext_len};
+ghost use Rattle.macsec_tag.specs.Tag.{spelling};
+ghost use Rattle.macsec_rx.specs.Judge.{bare_frame, octets_at};
+ghost use Rattle.macsec_rx.specs.Delivered.{frame_with, opened_under};
+
+use macsec_suite::{SuiteKey, validate_in_place};
+use macsec_tag::Mpdu;
+
+/// The octets of DA and SA.
+const ADDRESSES_LENGTH: usize = 12;
+
+/// Puts a part behind the first `at` octets of `out`, and answers where it ends.
+fn put(part: &[u8], at: usize, out: &mut [u8]) -> usize
+    requires { at + length part.now ≤ length out.old }
+    ensures end { result ≡ at + length part.now }
+    ensures octets { take result out.new ≡ take at out.old ++ part.now }
+    ensures rest { drop result out.new ≡ drop result out.old }
+{
+    let end = at + part.len();
+    out[at..end].copy_from_slice(part);
+    end
+}
+
+/// Puts DA, SA, SecTAG, Secure Data and ICV of a frame at the front of `out`, and answers how many octets
+/// they are.
+fn lay_out(mpdu: &Mpdu<'_>, out: &mut [u8]) -> usize
+    requires { 28 + length (spelling mpdu.now.tag) + length mpdu.now.secure_data ≤ length out.old }
+    ensures length { result ≡ 28 + length (spelling mpdu.now.tag) + length mpdu.now.secure_data }
+    ensures octets { take result out.new ≡
+        mpdu.now.da ++ mpdu.now.sa ++ spelling mpdu.now.tag ++ mpdu.now.secure_data ++ mpdu.now.icv }
+    ensures addresses { length (mpdu.now.da ++ mpdu.now.sa) ≡ 12 }
+    ensures icv { length mpdu.now.icv ≡ 16 }
+{
+    let addresses = put(mpdu.addresses(), 0, out);
+    let tag = put(mpdu.tag_bytes(), addresses, out);
+    let data = put(mpdu.secure_data(), tag, out);
+    put(mpdu.icv(), data, out)
+}
+
+/// Puts DA and SA before the data, which stand in `out` where the SecTAG left them, and answers where
+/// the delivered frame stands, and how many octets it has.
+fn deliver(mpdu: &Mpdu<'_>, out: &mut [u8]) -> (usize, usize)
+    requires { 12 + length (spelling mpdu.now.tag) + length mpdu.now.secure_data ≤ length out.old }
+    ensures octets { octets_at out.new result ≡ mpdu.now.da ++ mpdu.now.sa ++
+        take (length mpdu.now.secure_data) (drop (12 + length (spelling mpdu.now.tag)) out.old) }
+    ensures within { result.0 + result.1 ≤ length out.new }
+{
+    let tag_length = mpdu.tag_bytes().len();
+    put(mpdu.addresses(), tag_length, out);
+    (tag_length, ADDRESSES_LENGTH + mpdu.secure_data().len())
+}
+
+/// Delivers the frame without SecTAG, ICV and padding, its data as they were received.
+pub fn deliver_bare(mpdu: &Mpdu<'_>, out: &mut [u8]) -> (usize, usize)
+    requires { 12 + length (spelling mpdu.now.tag) + length mpdu.now.secure_data ≤ length out.old }
+    ensures octets { octets_at out.new result ≡ bare_frame mpdu.now }
+    ensures within { result.0 + result.1 ≤ length out.new }
+{
+    let data = ADDRESSES_LENGTH + mpdu.tag_bytes().len();
+    put(mpdu.secure_data(), data, out);
+    deliver(mpdu, out)
+}
+
+/// Delivers the frame with its plaintext, where the ICV is genuine under the key and the IV.
+pub fn deliver_opened(
+    key: &SuiteKey,
+    iv: &[u8; 12],
+    mpdu: &Mpdu<'_>,
+    out: &mut [u8],
+) -> Option<(usize, usize)>
+    requires data_length { length mpdu.now.secure_data ≤ max_plaintext_len }
+    requires room { 28 + length (spelling mpdu.now.tag) + length mpdu.now.secure_data ≤ length out.old }
+    ensures octets { option_map (octets_at out.new) result ≡
+        option_map (frame_with key.now mpdu.now) (opened_under key.now iv.now mpdu.now) }
+    ensures within { IfSome result (λ at. at.0 + at.1 ≤ length out.new) }
+{
+    let end = lay_out(mpdu, out);
+    let tag = mpdu.tag();
+    let data_length = mpdu.secure_data().len();
+    if validate_in_place(key, iv, tag.e(), tag.length(), data_length, &mut out[..end]) {
+        Some(deliver(mpdu, out))
+    } else {
+        None
+    }
+}

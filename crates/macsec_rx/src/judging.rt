@@ -1,0 +1,245 @@
+//! The verdict on a tagged frame (IEEE 802.1AE, 10.6).
+
+ghost use Rattle.std.specs.Prelude.{◌≡◌, ◌≤◌, ◌+◌, ◌++◌, ℕ, List, IfSome, IsSome, None, Some, length, map, option_map, true};
+ghost use Rattle.macsec_gcm.specs.Gcm.{max_plaintext_len};
+ghost use Rattle.macsec_tag.specs.Tag.{spelling};
+ghost use Rattle.macsec_suite.specs.KeyRows.{InstalledKey, key_row};
+ghost use Rattle.macsec_suite.specs.Suites.{last_of};
+ghost use Rattle.macsec_suite.specs.KeyTables.{HasOwnKey, row_shown};
+ghost use Rattle.macsec_rx.specs.Limits.{max_frame_len};
+ghost use Rattle.macsec_rx.specs.Channels.{with_rx};
+ghost use Rattle.macsec_rx.specs.Commands.{HaveRxKeys};
+ghost use Rattle.macsec_rx.specs.Judge.{accepted_number, bare_frame, in_use, is_bad_number, is_disabled, is_strict, judge_number, judge_opened, judge_row, judge_tagged, judge_tagged_row, plaintext_of, row_accepting, rows_after, sci_of};
+ghost use Rattle.macsec_rx.specs.Judged.{ShowsJudgement, ShowsOutcome};
+
+use crate::delivering::{deliver_bare, deliver_opened};
+use crate::{Judged, Mode, RxChannels, RxOptions, RxRow, Verdict};
+use macsec_pn::RxNumbers;
+use macsec_suite::{KeyRow, KeyTable, iv_of};
+use macsec_tag::Mpdu;
+
+/// A verdict, and the packet number that is accepted with it, where one is.
+#[derive(Clone, Copy)]
+pub struct Outcome {
+    judged: Judged,
+    accepted: Option<u64>,
+}
+
+impl Outcome {
+    /// A verdict without an association.
+    fn without_row(verdict: Verdict, delivered: Option<(usize, usize)>) -> Outcome
+        ensures { result ≡ record { judged = record { verdict = verdict; row = None; delivered = delivered }; accepted = None } }
+    {
+        Outcome {
+            judged: Judged {
+                verdict,
+                row: None,
+                delivered,
+            },
+            accepted: None,
+        }
+    }
+
+    /// A verdict of an association.
+    fn at_row(
+        row: &RxRow,
+        verdict: Verdict,
+        delivered: Option<(usize, usize)>,
+        accepted: Option<u64>,
+    ) -> Outcome
+        ensures { result ≡ record { judged = record { verdict = verdict; row = Some (row.now.sci, row.now.an); delivered = delivered }; accepted = accepted } }
+    {
+        Outcome {
+            judged: Judged {
+                verdict,
+                row: Some((row.sci, row.an)),
+                delivered,
+            },
+            accepted,
+        }
+    }
+}
+
+impl RxChannels {
+    /// The verdict on a tagged frame of at most 9,248 octets, its padding aside, and the change of its
+    /// association's packet numbers. What is delivered stands in `out`, which has 9,248 octets or more. The key of each
+    /// association is in the table.
+    pub fn judge(
+        &mut self,
+        keys: &KeyTable,
+        options: &RxOptions,
+        mpdu: &Mpdu<'_>,
+        out: &mut [u8],
+    ) -> Judged
+        requires keys_there { HaveRxKeys keys.now self.old.rows }
+        requires frame { 28 + length (spelling mpdu.now.tag) + length mpdu.now.secure_data ≤ max_frame_len }
+        requires room { max_frame_len ≤ length out.old }
+        ensures judged { ShowsJudgement result out.new (judge_tagged options.now keys.now self.old mpdu.now) }
+        ensures numbers { self.new ≡ record self.old { rows = rows_after options.now.window (judge_tagged options.now keys.now self.old mpdu.now) self.old.rows } }
+    {
+        let row = self.in_use(mpdu);
+        let outcome = judge_tagged(keys, options, &row, mpdu, out);
+        if let Some(row) = row {
+            if let Some(number) = outcome.accepted {
+                self.accept(row, number, options.window);
+            }
+        }
+        outcome.judged
+    }
+}
+
+/// Is the mode Strict?
+fn is_strict(mode: Mode) -> bool
+    ensures { result ≡ is_strict mode }
+{
+    match mode {
+        Mode::Strict => true,
+        Mode::Check | Mode::Disabled => false,
+    }
+}
+
+/// Is the mode Disabled?
+fn is_disabled(mode: Mode) -> bool
+    ensures { result ≡ is_disabled mode }
+{
+    match mode {
+        Mode::Disabled => true,
+        Mode::Check | Mode::Strict => false,
+    }
+}
+
+/// The verdict, where the association of the frame is `row`, or there is none.
+fn judge_tagged(
+    keys: &KeyTable,
+    options: &RxOptions,
+    row: &Option<RxRow>,
+    mpdu: &Mpdu<'_>,
+    out: &mut [u8],
+) -> Outcome
+    requires key_there { IfSome row.now (λ r. IsSome (key_row keys.now r.key)) }
+    requires frame { 28 + length (spelling mpdu.now.tag) + length mpdu.now.secure_data ≤ max_frame_len }
+    requires room { max_frame_len ≤ length out.old }
+    ensures outcome { ShowsOutcome result out.new (judge_tagged_row options.now keys.now mpdu.now row.now) }
+    ensures row { IfSome result.accepted (λ n. (judge_tagged_row options.now keys.now mpdu.now row.now).row ≡ row.now) }
+{
+    let tag = mpdu.tag();
+    if tag.pn() == 0 && !options.suite.is_xpn() {
+        return Outcome::without_row(Verdict::BadTag, None);
+    }
+    if tag.e() && !tag.c() {
+        return Outcome::without_row(Verdict::Reserved, None);
+    }
+    judge_association(keys, options, row, mpdu, out)
+}
+
+/// The verdict of the association, or where there is none.
+fn judge_association(
+    keys: &KeyTable,
+    options: &RxOptions,
+    row: &Option<RxRow>,
+    mpdu: &Mpdu<'_>,
+    out: &mut [u8],
+) -> Outcome
+    requires key_there { IfSome row.now (λ r. IsSome (key_row keys.now r.key)) }
+    requires frame { 28 + length (spelling mpdu.now.tag) + length mpdu.now.secure_data ≤ max_frame_len }
+    requires room { max_frame_len ≤ length out.old }
+    ensures outcome { ShowsOutcome result out.new (judge_row options.now keys.now mpdu.now row.now) }
+    ensures row { IfSome result.accepted (λ n. (judge_row options.now keys.now mpdu.now row.now).row ≡ row.now) }
+{
+    match row {
+        Some(row) => judge_row(keys, options, row, mpdu, out),
+        None => judge_unknown(options, mpdu, out),
+    }
+}
+
+/// The verdict on a frame of no association.
+fn judge_unknown(options: &RxOptions, mpdu: &Mpdu<'_>, out: &mut [u8]) -> Outcome
+    requires room { 28 + length (spelling mpdu.now.tag) + length mpdu.now.secure_data ≤ length out.old }
+    ensures outcome { (keys : List InstalledKey) → ShowsOutcome result out.new (judge_row options.now keys mpdu.now None) }
+    ensures row { result.accepted ≡ None }
+{
+    if is_strict(options.mode) || mpdu.tag().c() {
+        return Outcome::without_row(Verdict::NoSaError, None);
+    }
+    Outcome::without_row(Verdict::NoSa, Some(deliver_bare(mpdu, out)))
+}
+
+/// The verdict on a frame of an association.
+fn judge_row(
+    keys: &KeyTable,
+    options: &RxOptions,
+    row: &RxRow,
+    mpdu: &Mpdu<'_>,
+    out: &mut [u8],
+) -> Outcome
+    requires key_there { IsSome (key_row keys.now row.now.key) }
+    requires frame { 28 + length (spelling mpdu.now.tag) + length mpdu.now.secure_data ≤ max_frame_len }
+    requires room { max_frame_len ≤ length out.old }
+    ensures outcome { ShowsOutcome result out.new (judge_row options.now keys.now mpdu.now (Some row.now)) }
+    ensures row { IfSome result.accepted (λ n. (judge_row options.now keys.now mpdu.now (Some row.now)).row ≡ Some row.now) }
+{
+    let key = keys.key(row.key).unwrap();
+    let numbers = RxNumbers {
+        next: row.next,
+        lowest: row.lowest,
+    };
+    let Some(number) = numbers.recover(key.suite_key.suite().is_xpn(), mpdu.tag().pn()) else {
+        return Outcome::at_row(row, Verdict::BadTag, None, None);
+    };
+    judge_number(key, options, row, number, mpdu, out)
+}
+
+/// The verdict on a frame of an association and of a packet number.
+fn judge_number(
+    key: &KeyRow,
+    options: &RxOptions,
+    row: &RxRow,
+    number: u64,
+    mpdu: &Mpdu<'_>,
+    out: &mut [u8],
+) -> Outcome
+    requires own_key { HasOwnKey key.now }
+    requires number { number ≤ last_of key.now.suite_key.suite }
+    requires frame { 28 + length (spelling mpdu.now.tag) + length mpdu.now.secure_data ≤ max_frame_len }
+    requires room { max_frame_len ≤ length out.old }
+    ensures outcome { (first_unused : ℕ) → ShowsOutcome result out.new (judge_number options.now (row_shown key.now first_unused) row.now mpdu.now (Some number)) }
+    ensures row { (first_unused : ℕ) → IfSome result.accepted (λ n. (judge_number options.now (row_shown key.now first_unused) row.now mpdu.now (Some number)).row ≡ Some row.now) }
+{
+    let tag = mpdu.tag();
+    let is_late = u128::from(number) < row.lowest;
+    if options.replay && is_late {
+        return Outcome::at_row(row, Verdict::Late, None, None);
+    }
+    if is_disabled(options.mode) {
+        if tag.c() {
+            return Outcome::at_row(row, Verdict::NotValid, None, None);
+        }
+        let verdict = if is_late {
+            Verdict::Delayed
+        } else {
+            Verdict::Unchecked
+        };
+        return Outcome::at_row(row, verdict, Some(deliver_bare(mpdu, out)), None);
+    }
+    let iv = iv_of(
+        key.suite_key.suite(),
+        row.sci,
+        row.ssci,
+        key.key.salt,
+        number,
+    );
+    match deliver_opened(&key.suite_key, &iv, mpdu, out) {
+        Some(delivered) => {
+            let verdict = if is_late {
+                Verdict::Delayed
+            } else {
+                Verdict::Passed
+            };
+            Outcome::at_row(row, verdict, Some(delivered), Some(number))
+        }
+        None if tag.c() || is_strict(options.mode) => {
+            Outcome::at_row(row, Verdict::NotValid, None, None)
+        }
+        None => Outcome::at_row(row, Verdict::Invalid, Some(deliver_bare(mpdu, out)), None),
+    }
+}

@@ -1,0 +1,76 @@
+//! Receive channels and their associations, and the verdict on a tagged frame (IEEE 802.1AE, 10.6 and 10.7).
+#![tactic(auto)]
+
+mod channels;
+mod delivering;
+#[cfg(test)]
+mod judge_tests;
+mod judging;
+#[cfg(test)]
+mod tests;
+
+pub use channels::RxChannels;
+use macsec_suite::Suite;
+use macsec_tag::{An, Sci};
+
+/// How received frames are validated (10.6).
+#[derive(Clone, Copy, PartialEq, Eq, Debug)]
+pub enum Mode {
+    /// No frame is validated.
+    Disabled,
+    /// Frames are validated; those that are not valid are delivered too, unless their C bit is set.
+    Check,
+    /// Frames are validated; the valid ones alone are delivered.
+    Strict,
+}
+
+/// What becomes of a received frame, named as its counter is.
+#[derive(Clone, Copy, PartialEq, Eq, Debug)]
+pub enum Verdict {
+    Untagged,
+    NoTag,
+    BadTag,
+    Reserved,
+    NoSaError,
+    NoSa,
+    Late,
+    NotValid,
+    Unchecked,
+    Delayed,
+    Invalid,
+    /// It is valid and in time; it prints as `OK`.
+    Passed,
+}
+
+/// What reception goes by: the endpoint's suite, how frames are validated, whether late frames are dropped,
+/// and the replay window.
+#[derive(Clone, Copy, PartialEq, Eq, Debug)]
+pub struct RxOptions {
+    pub suite: Suite,
+    pub mode: Mode,
+    pub replay: bool,
+    pub window: u64,
+}
+
+/// A receive association: the SCI of its channel, its number, the number of its key, the SSCI of the
+/// sender, the packet number past the highest that was accepted, the lowest acceptable one, and whether it
+/// is on.
+#[derive(Clone, Copy, PartialEq, Eq, Debug, Default)]
+pub struct RxRow {
+    pub sci: Sci,
+    pub an: An,
+    pub key: u8,
+    pub ssci: u32,
+    pub next: u128,
+    pub lowest: u128,
+    pub on: bool,
+}
+
+/// The verdict on a frame, the association that it comes from, and the place and the length of what is
+/// delivered.
+#[derive(Clone, Copy, PartialEq, Eq, Debug)]
+pub struct Judged {
+    pub verdict: Verdict,
+    pub row: Option<(Sci, An)>,
+    pub delivered: Option<(usize, usize)>,
+}
