@@ -1,0 +1,62 @@
+-- The first packet number that was never used under a key, while the table of keys changes.
+use Rattle.std.proofs.Common.{◌≡◌, ℕ, ◌+◌, Bool, true, false, List, [], ◌∷◌, ◌++◌, refl, sym, subst, ◌∙◌, eqb-true}
+use Rattle.std.specs.Prelude.{◌==◌, if◌then◌else◌, Some, None, IsSome, unwrap_or}
+use Rattle.macsec_suite.specs.KeyRows.{InstalledKey, at_number, key_row, keys_noting, keys_retiring, no_key, retired_row, row_noting, the_key}
+use Rattle.macsec_secy.proofs.KeysKept.{same_number}
+
+-- of a key that is not there it is 1, as of a new one
+abbrev pub first_unused : List InstalledKey → ℕ → ℕ
+first_unused keys n = (the_key keys n).first_unused
+
+pub first-another_key : (keys : List InstalledKey) (new : InstalledKey) (n : ℕ) → new.first_unused ≡ 1 → first_unused (keys ++ new ∷ []) n ≡ first_unused keys n
+first-another_key [] new n fresh = by_test (new.number == n)
+  where
+    by_test : (b : Bool) → (unwrap_or (if b then Some new else None) no_key).first_unused ≡ 1
+    by_test true = fresh
+    by_test false = refl
+first-another_key (key ∷ keys) new n fresh = by_test (key.number == n) (first-another_key keys new n fresh)
+  where
+    by_test : (b : Bool) → first_unused (keys ++ new ∷ []) n ≡ first_unused keys n →
+        (unwrap_or (if b then Some key else key_row (keys ++ new ∷ []) n) no_key).first_unused ≡ (unwrap_or (if b then Some key else key_row keys n) no_key).first_unused
+    by_test true later = refl
+    by_test false later = later
+
+pub first-retiring : (keys : List InstalledKey) (number n : ℕ) → first_unused (keys_retiring keys number) n ≡ first_unused keys n
+first-retiring [] number n = refl
+first-retiring (key ∷ keys) number n =
+    subst (λ m. (unwrap_or (if m == n then Some (at_number retired_row number key) else key_row (keys_retiring keys number) n) no_key).first_unused ≡ first_unused (key ∷ keys) n)
+    (sym (same_number retired_row (λ k. refl) number key))
+    (by_test (key.number == n) (key.number == number) (first-retiring keys number n))
+  where
+    by_test : (b c : Bool) → first_unused (keys_retiring keys number) n ≡ first_unused keys n →
+        (unwrap_or (if b then Some (if c then retired_row key else key) else key_row (keys_retiring keys number) n) no_key).first_unused ≡ (unwrap_or (if b then Some key else key_row keys n) no_key).first_unused
+    by_test true true later = refl
+    by_test true false later = refl
+    by_test false c later = later
+
+-- where a key uses a packet number, the first unused one of every other key stays
+pub first-noting_other : (keys : List InstalledKey) (number pn n : ℕ) → (number ≡ n → ⊥) → first_unused (keys_noting keys number pn) n ≡ first_unused keys n
+first-noting_other [] number pn n other = refl
+first-noting_other (key ∷ keys) number pn n other =
+    subst (λ m. (unwrap_or (if m == n then Some (at_number (row_noting pn) number key) else key_row (keys_noting keys number pn) n) no_key).first_unused ≡ first_unused (key ∷ keys) n)
+    (sym (same_number (row_noting pn) (λ k. refl) number key))
+    (by_test (key.number == n) (key.number == number) refl refl (first-noting_other keys number pn n other))
+  where
+    by_test : (b c : Bool) → (key.number == n) ≡ b → (key.number == number) ≡ c → first_unused (keys_noting keys number pn) n ≡ first_unused keys n →
+        (unwrap_or (if b then Some (if c then row_noting pn key else key) else key_row (keys_noting keys number pn) n) no_key).first_unused ≡ (unwrap_or (if b then Some key else key_row keys n) no_key).first_unused
+    by_test true true at_n at_number later = absurd (other (sym (eqb-true key.number number at_number) ∙ eqb-true key.number n at_n))
+    by_test true false at_n elsewhere later = refl
+    by_test false c elsewhere at later = later
+
+-- and its own is the next one
+pub first-noting : (keys : List InstalledKey) (number pn : ℕ) → IsSome (key_row keys number) → first_unused (keys_noting keys number pn) number ≡ pn + 1
+first-noting [] number pn there = cc
+first-noting (key ∷ keys) number pn there =
+    subst (λ m. (unwrap_or (if m == number then Some (at_number (row_noting pn) number key) else key_row (keys_noting keys number pn) number) no_key).first_unused ≡ pn + 1)
+    (sym (same_number (row_noting pn) (λ k. refl) number key))
+    (by_test (key.number == number) (first-noting keys number pn) there)
+  where
+    by_test : (b : Bool) → (IsSome (key_row keys number) → first_unused (keys_noting keys number pn) number ≡ pn + 1) → IsSome (if b then Some key else key_row keys number) →
+        (unwrap_or (if b then Some (if b then row_noting pn key else key) else key_row (keys_noting keys number pn) number) no_key).first_unused ≡ pn + 1
+    by_test true later there' = refl
+    by_test false later there' = later there'

@@ -1,0 +1,136 @@
+-- No packet number is used twice under a key: each is at least the first that was never used under it,
+-- and from then on that is a later one.
+use Rattle.std.proofs.Common.{◌≡◌, ◌≢◌, ◌⊎◌, inl, inr, ℕ, ◌+◌, ◌≤◌, Bool, true, false, List, [], ◌∷◌, ◌++◌, length, refl, sym, subst, arith, All, AllPairs}
+use Rattle.std.specs.Prelude.{nat_lt, if◌then◌else◌, Option, Some, None}
+use Rattle.std.proofs.lemmas.Bool.{cases_eq}
+use Rattle.std.proofs.lemmas.List.Elements.{All-cons, All-nil, All-weaker}
+use Rattle.std.proofs.lemmas.List.Kept.{AllPairs-cons}
+use Rattle.macsec_suite.specs.declared.Refusal.{Refusal}
+use Rattle.macsec_suite.specs.Suites.{last_of}
+use Rattle.macsec_suite.specs.KeyRows.{InstalledKey, keys_noting, the_key}
+use Rattle.macsec_tx.specs.declared.TxRow.{TxRow}
+use Rattle.macsec_tx.specs.declared.TxOptions.{TxOptions}
+use Rattle.macsec_tx.specs.Transmit.{Leaving, no_sa, too_long, Sending, keys_after, not_protected, octets_added, row_on, rows_after, sending, sending_by, tag_sent}
+use Rattle.macsec_secy.specs.declared.EndConfig.{EndConfig}
+use Rattle.macsec_secy.specs.declared.FrameFault.{FrameFault}
+use Rattle.macsec_secy.specs.declared.Command.{Command}
+use Rattle.macsec_secy.specs.State.{State, start, tx_options}
+use Rattle.macsec_secy.specs.Commands.{effect, refusal, unless_refused}
+use Rattle.macsec_secy.specs.Step.{Input, Output, operator_command, client_frame, uncontrolled_frame, frame_fault, leaves, sending_of, sent_output, state_after_sending, step, unless_fault}
+use Rattle.macsec_secy.specs.Laws.{UsedNumber, UsesNoNumberTwice, number_of_row, number_unless_fault, number_used, numbers_used}
+use Rattle.macsec_secy.proofs.FirstUnused.{first_unused, first-noting, first-noting_other}
+use Rattle.macsec_secy.proofs.UnusedNext.{HasUnusedNext, HaveUnusedNext, after_sending, on_unused}
+use Rattle.macsec_secy.proofs.AfterCommands.{effect_keeps, effect_stays}
+
+-- each number is at least the first that the keys have not used, and no two are the same
+record AreNew (keys : List InstalledKey) (used : List UsedNumber) : Type 0 where
+  late : All (λ u. first_unused keys u.0 ≤ u.1) used
+  apart : AllPairs (λ a b. a ≢ b) used
+
+-- from keys to keys and associations: what is used on the way is new, with what is used later
+record Goes (keys : List InstalledKey) (keys_then : List InstalledKey) (rows_then : List TxRow) (used : List UsedNumber) : Type 0 where
+  keeps : HaveUnusedNext keys_then rows_then
+  adds : (later : List UsedNumber) → AreNew keys_then later → AreNew keys (used ++ later)
+
+before : (keys keys_then : List InstalledKey) → ((n : ℕ) → first_unused keys n ≤ first_unused keys_then n) → (used : List UsedNumber) → AreNew keys_then used → AreNew keys used
+before keys keys_then grows used new = record {
+  late = All-weaker (λ u. first_unused keys_then u.0 ≤ u.1) (λ u. first_unused keys u.0 ≤ u.1) (λ u h. omega (arith, grows u.0, h)) used new.late;
+  apart = new.apart;
+}
+
+-- ---- commands
+
+command_goes : (s : State) (c : Command) → HaveUnusedNext s.keys s.tx → (r : Option Refusal) → refusal s c ≡ r → Goes s.keys (unless_refused r s c).keys (unless_refused r s c).tx []
+command_goes s c have None e = record {
+  keeps = effect_keeps s c e have;
+  adds = before s.keys (effect s c).keys (λ n. omega (arith, effect_stays s c n));
+}
+command_goes s c have (Some r) e = record { keeps = have; adds = λ later new. new }
+
+-- ---- frames
+
+-- where a number is used the first unused one of its key grows, and every other one stays
+noting_grows : (keys : List InstalledKey) (row : TxRow) → HasUnusedNext keys row → (n : ℕ) → first_unused keys n ≤ first_unused (keys_noting keys row.key row.next) n
+noting_grows keys row unused n = by_key (cases_eq row.key n)
+  where
+    by_key : (row.key ≡ n) ⊎ (row.key ≡ n → ⊥) → first_unused keys n ≤ first_unused (keys_noting keys row.key row.next) n
+    by_key (inl same) = subst (λ m. first_unused keys m ≤ first_unused (keys_noting keys row.key row.next) m) same
+        (omega (arith, unused.next, first-noting keys row.key row.next unused.there))
+    by_key (inr other) = omega (arith, first-noting_other keys row.key row.next n other)
+
+row_adds : (keys : List InstalledKey) (row : TxRow) → HasUnusedNext keys row → (later : List UsedNumber) → AreNew (keys_noting keys row.key row.next) later → AreNew keys ((row.key, row.next) ∷ later)
+row_adds keys row unused later new = record {
+  late = All-cons (λ u. first_unused keys u.0 ≤ u.1) (row.key, row.next) later unused.next
+      (before keys (keys_noting keys row.key row.next) (noting_grows keys row unused) later new).late;
+  apart = AllPairs-cons (λ a b. a ≢ b) (row.key, row.next) later
+      (All-weaker (λ u. first_unused (keys_noting keys row.key row.next) u.0 ≤ u.1) (λ u. (row.key, row.next) ≢ u) differs later new.late) new.apart;
+}
+  where
+    differs : (u : UsedNumber) → first_unused (keys_noting keys row.key row.next) u.0 ≤ u.1 → (row.key, row.next) ≡ u → ⊥
+    differs u h same =
+        let again : first_unused (keys_noting keys row.key row.next) row.key ≤ row.next =
+        subst (λ (v : UsedNumber). first_unused (keys_noting keys row.key row.next) v.0 ≤ v.1) (sym same) h in
+        omega (arith, again, first-noting keys row.key row.next unused.there)
+
+sending_goes : (keys : List InstalledKey) (rows : List TxRow) (by : Option TxRow) → (by ≡ None) ⊎ (by ≡ row_on rows) → HaveUnusedNext keys rows →
+    Goes keys (keys_after keys by) (rows_after rows by) (number_of_row by)
+sending_goes keys rows None which have = record { keeps = have; adds = λ later new. new }
+sending_goes keys rows (Some row) (inl none) have = cc
+sending_goes keys rows (Some row) (inr on) have = record {
+  keeps = after_sending keys rows row (sym on) have;
+  adds = row_adds keys row (on_unused keys rows row (sym on) have);
+}
+
+-- a frame is protected by the association that is on, if by any: it may be exhausted, or the protected
+-- frame too long
+abbrev unless_dropped : Bool → Bool → Sending → Sending
+unless_dropped exhausted long sent = if exhausted then not_protected no_sa else if long then not_protected too_long else sent
+
+by_none_or : (exhausted long : Bool) (sent : Sending) → ((unless_dropped exhausted long sent).by ≡ None) ⊎ ((unless_dropped exhausted long sent).by ≡ sent.by)
+by_none_or true long sent = inl refl
+by_none_or false true sent = inl refl
+by_none_or false false sent = inr refl
+
+by_the_one_on : (options : TxOptions) (keys : List InstalledKey) (frame : List ℕ) (on : Option TxRow) →
+    ((sending_by options keys frame on).by ≡ None) ⊎ ((sending_by options keys frame on).by ≡ on)
+by_the_one_on options keys frame None = inl refl
+by_the_one_on options keys frame (Some row) =
+    by_none_or (nat_lt (last_of (the_key keys row.key).suite) row.next) (nat_lt options.max_frame (length frame + octets_added (tag_sent options row frame))) _
+
+where_not_protected : (protect : Bool) (sent : Sending) (leaving : Leaving) (on : Option TxRow) → (sent.by ≡ None) ⊎ (sent.by ≡ on) →
+    ((if protect then sent else not_protected leaving).by ≡ None) ⊎ ((if protect then sent else not_protected leaving).by ≡ on)
+where_not_protected true sent leaving on by = by
+where_not_protected false sent leaving on by = inl refl
+
+sent_by : (options : TxOptions) (keys : List InstalledKey) (rows : List TxRow) (frame : List ℕ) →
+    ((sending options keys rows frame).by ≡ None) ⊎ ((sending options keys rows frame).by ≡ row_on rows)
+sent_by options keys rows frame =
+    where_not_protected options.protect (sending_by options keys frame (row_on rows)) _ (row_on rows) (by_the_one_on options keys frame (row_on rows))
+
+frame_goes : (s : State) (frame : List ℕ) (output : Output) → HaveUnusedNext s.keys s.tx → (fault : Option FrameFault) →
+    Goes s.keys (unless_fault fault s (output, state_after_sending s frame (sending_of s frame))).1.keys
+    (unless_fault fault s (output, state_after_sending s frame (sending_of s frame))).1.tx (number_unless_fault fault (sending_of s frame).by)
+frame_goes s frame output have None = sending_goes s.keys s.tx (sending_of s frame).by (sent_by (tx_options s) s.keys s.tx frame) have
+frame_goes s frame output have (Some fault) = record { keeps = have; adds = λ later new. new }
+
+-- a frame at the uncontrolled port
+nothing_goes : (s : State) (output : Output) → HaveUnusedNext s.keys s.tx → (fault : Option FrameFault) →
+    Goes s.keys (unless_fault fault s (output, s)).1.keys (unless_fault fault s (output, s)).1.tx []
+nothing_goes s output have None = record { keeps = have; adds = λ later new. new }
+nothing_goes s output have (Some fault) = record { keeps = have; adds = λ later new. new }
+
+-- ---- runs
+
+step_goes : (s : State) (input : Input) → HaveUnusedNext s.keys s.tx → Goes s.keys (step s input).1.keys (step s input).1.tx (number_used s input)
+step_goes s (operator_command c) have = command_goes s c have (refusal s c) refl
+step_goes s (client_frame frame) have = frame_goes s frame (sent_output frame (sending_of s frame).leaving) have (frame_fault frame)
+step_goes s (uncontrolled_frame frame) have = nothing_goes s (leaves frame None) have (frame_fault frame)
+
+numbers_new : (inputs : List Input) (s : State) → HaveUnusedNext s.keys s.tx → AreNew s.keys (numbers_used s inputs)
+numbers_new [] s have = record { late = All-nil (λ u. first_unused s.keys u.0 ≤ u.1); apart = λ i j d less within. absurd (omega arith) }
+numbers_new (input ∷ inputs) s have =
+    let goes = step_goes s input have in
+    goes.adds (numbers_used (step s input).1 inputs) (numbers_new inputs (step s input).1 goes.keeps)
+
+pub uses_no_number_twice : (config : EndConfig) (inputs : List Input) → UsesNoNumberTwice config inputs
+uses_no_number_twice config inputs = (numbers_new inputs (start config) tt).apart

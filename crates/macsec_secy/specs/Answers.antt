@@ -1,0 +1,44 @@
+-- What the calls of an endpoint answer, as outputs of the machine.
+use Rattle.std.specs.Prelude.{◌≡◌, ℕ, List, Some, None, Result, Ok, Err}
+use Rattle.std.specs.Borrow.{Bor}
+use Rattle.macsec_suite.specs.declared.Refusal.{Refusal}
+use Rattle.macsec_secy.specs.declared.EndConfig.{EndConfig}
+use Rattle.macsec_secy.specs.declared.FrameFault.{FrameFault}
+use Rattle.macsec_secy.specs.declared.NewFault.{NewFault}
+use Rattle.macsec_secy.specs.declared.NewFault.TheVariants.{Memory, MaxFrame, SciForm}
+use Rattle.macsec_secy.specs.declared.Sent.{Sent}
+use Rattle.macsec_secy.specs.declared.Sent.TheVariants.{Link, Dropped}
+use Rattle.macsec_secy.specs.declared.DropReason.{DropReason}
+use Rattle.macsec_secy.specs.declared.DropReason.TheVariants.{NoSa, TooLong}
+use Rattle.macsec_secy.specs.State.{State, start}
+use Rattle.macsec_secy.specs.Configs.{config_fault}
+use Rattle.macsec_secy.specs.Step.{Output, done, refused, leaves, dropped_no_sa, dropped_too_long, fault}
+
+-- of `command`
+abbrev pub output_of_command : {A : Type 0} → Result A Refusal → Output
+output_of_command (Ok nothing) = done
+output_of_command (Err r) = refused r
+
+-- nothing leaves, for this reason
+abbrev pub drop_output : DropReason → Output
+drop_output NoSa = dropped_no_sa
+drop_output TooLong = dropped_too_long
+
+-- of `send`
+abbrev pub output_of_sent : Result Sent FrameFault → Output
+output_of_sent (Ok (Link frame under)) = leaves frame.now under
+output_of_sent (Ok (Dropped reason)) = drop_output reason
+output_of_sent (Err f) = fault f
+
+-- of `send_uncontrolled`
+abbrev pub output_of_frame : Result (Bor (List ℕ)) FrameFault → Output
+output_of_frame (Ok frame) = leaves frame.now None
+output_of_frame (Err f) = fault f
+
+-- of `new`: the state after making, or the fault of the configuration, or, where it has none, want of
+-- memory
+abbrev pub MakesEndpoint : EndConfig → Result State NewFault → Type 0
+MakesEndpoint config (Ok s) = (config_fault config ≡ None) × (s ≡ start config)
+MakesEndpoint config (Err Memory) = config_fault config ≡ None
+MakesEndpoint config (Err MaxFrame) = config_fault config ≡ Some MaxFrame
+MakesEndpoint config (Err SciForm) = config_fault config ≡ Some SciForm

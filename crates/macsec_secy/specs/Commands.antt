@@ -1,0 +1,51 @@
+-- Management commands: why each is refused, in the order of the tests, and what it does
+-- (IEEE 802.1AE, 10.7).
+use Rattle.std.specs.Prelude.{List, [], ◌∷◌, nat_lt, Option, Some, None}
+use Rattle.macsec_suite.specs.Suites.{widest_window}
+use Rattle.macsec_suite.specs.KeyRows.{keys_with, keys_retiring}
+use Rattle.macsec_suite.specs.declared.Refusal.{Refusal}
+use Rattle.macsec_suite.specs.declared.Refusal.TheVariants.{Window, SciForm}
+use Rattle.macsec_suite.specs.Refusals.{RefusalLine, first_refusal, install_refusals, retire_refusals}
+use Rattle.macsec_tx.specs.Commands.{tx_uses, tx_sa_refusals, with_tx_sa, tx_on_refusals, with_tx_on, tx_off_refusals, with_tx_off, without_tx}
+use Rattle.macsec_secy.specs.declared.Command.{Command}
+use Rattle.macsec_secy.specs.declared.Command.TheVariants.{Protect, Validate, Replay, Tag, Key, Retire, TxSa, TxOn, TxOff, TxDel}
+use Rattle.macsec_secy.specs.Configs.{is_unfit}
+use Rattle.macsec_secy.specs.State.{State}
+
+-- the refusals of a command, each with its condition
+abbrev pub refusals : State → Command → List RefusalLine
+refusals s (Protect on) = []
+refusals s (Validate mode) = []
+refusals s (Replay protect window) = (Window, nat_lt (widest_window s.config.suite) window) ∷ []
+refusals s (Tag form) = (SciForm, is_unfit form s.config.sci) ∷ []
+refusals s (Key key) = install_refusals s.config.suite s.keys key
+refusals s (Retire key) = retire_refusals s.keys key (tx_uses s.tx key)
+refusals s (TxSa an key next conf) = tx_sa_refusals s.keys s.tx an key next
+refusals s (TxOn an) = tx_on_refusals s.keys s.tx an
+refusals s (TxOff an) = tx_off_refusals s.tx an
+refusals s (TxDel an) = tx_off_refusals s.tx an
+
+-- what a command does that is not refused
+abbrev pub effect : State → Command → State
+effect s (Protect on) = record s { options = record s.options { protect = on } }
+effect s (Validate mode) = record s { options = record s.options { mode = mode } }
+effect s (Replay protect window) = record s { options = record s.options { replay = protect; window = window } }
+effect s (Tag form) = record s { options = record s.options { form = form } }
+effect s (Key key) = record s { keys = keys_with s.config.suite s.keys key }
+effect s (Retire key) = record s { keys = keys_retiring s.keys key }
+effect s (TxSa an key next conf) = record s { tx = with_tx_sa s.tx an key next conf }
+effect s (TxOn an) = record s { tx = with_tx_on s.tx an }
+effect s (TxOff an) = record s { tx = with_tx_off s.tx an }
+effect s (TxDel an) = record s { tx = without_tx s.tx an }
+
+-- why a command is refused, where it is
+abbrev pub refusal : State → Command → Option Refusal
+refusal s c = first_refusal (refusals s c)
+
+-- the state after a command: that of its effect, and after a refusal the same
+abbrev pub unless_refused : Option Refusal → State → Command → State
+unless_refused None s c = effect s c
+unless_refused (Some r) s c = s
+
+abbrev pub state_after_command : State → Command → State
+state_after_command s c = unless_refused (refusal s c) s c

@@ -1,0 +1,35 @@
+-- A law of the machine: under a key no packet number is used twice.
+use Rattle.std.specs.Prelude.{◌≢◌, ℕ, List, [], ◌∷◌, ◌++◌, Option, Some, None}
+use Rattle.std.specs.List.{AllPairs}
+use Rattle.macsec_tx.specs.declared.TxRow.{TxRow}
+use Rattle.macsec_secy.specs.declared.EndConfig.{EndConfig}
+use Rattle.macsec_secy.specs.declared.FrameFault.{FrameFault}
+use Rattle.macsec_secy.specs.State.{State, start}
+use Rattle.macsec_secy.specs.Step.{Input, operator_command, client_frame, uncontrolled_frame, frame_fault, sending_of, step}
+
+-- the number of a key, and the packet number that is used under it
+abbrev pub UsedNumber : Type 0
+UsedNumber = ℕ × ℕ
+
+abbrev pub number_of_row : Option TxRow → List UsedNumber
+number_of_row None = []
+number_of_row (Some row) = (row.key, row.next) ∷ []
+
+abbrev pub number_unless_fault : Option FrameFault → Option TxRow → List UsedNumber
+number_unless_fault None by = number_of_row by
+number_unless_fault (Some fault) by = []
+
+-- what an input uses
+abbrev pub number_used : State → Input → List UsedNumber
+number_used s (operator_command c) = []
+number_used s (client_frame frame) = number_unless_fault (frame_fault frame) (sending_of s frame).by
+number_used s (uncontrolled_frame frame) = []
+
+-- what a list of inputs uses, in their order
+abbrev pub numbers_used : State → List Input → List UsedNumber
+numbers_used s [] = []
+numbers_used s (input ∷ inputs) = number_used s input ++ numbers_used (step s input).1 inputs
+
+-- no two are the same, whatever comes in from the making of the endpoint on
+abbrev pub UsesNoNumberTwice : EndConfig → List Input → Type 0
+UsesNoNumberTwice config inputs = AllPairs (λ a b. a ≢ b) (numbers_used (start config) inputs)

@@ -1,0 +1,9 @@
+pub mod Limits
+pub mod Configs
+pub mod State
+pub mod Counting
+pub mod Commands
+pub mod Step
+pub mod Laws
+pub mod Answers
+pub mod Rests

@@ -1,0 +1,73 @@
+-- The machine: one input, its output, and the state after it.
+use Rattle.std.specs.Prelude.{ℕ, List, length, nat_lt, if◌then◌else◌, Option, Some, None}
+use Rattle.macsec_suite.specs.declared.Refusal.{Refusal}
+use Rattle.macsec_tx.specs.Limits.{min_frame_len, max_frame_len}
+use Rattle.macsec_tx.specs.Transmit.{Leaving, plain, protected, no_sa, too_long, Sending, sending, rows_after, keys_after}
+use Rattle.macsec_secy.specs.declared.FrameFault.{FrameFault}
+use Rattle.macsec_secy.specs.declared.FrameFault.TheVariants.{Short, Long}
+use Rattle.macsec_secy.specs.declared.Command.{Command}
+use Rattle.macsec_secy.specs.State.{State, tx_options}
+use Rattle.macsec_secy.specs.Counting.{count_leaving, count_protected}
+use Rattle.macsec_secy.specs.Commands.{refusal, state_after_command}
+
+-- what leaves for a client's frame, and the association that protects it
+abbrev pub sending_of : State → List ℕ → Sending
+sending_of s frame = sending (tx_options s) s.keys s.tx frame
+
+-- the state after it
+abbrev pub state_after_sending : State → List ℕ → Sending → State
+state_after_sending s frame sent = record s {
+  tx = rows_after s.tx sent.by;
+  keys = keys_after s.keys sent.by;
+  counters = count_leaving sent.leaving s.counters;
+  tx_counters = count_protected sent.by frame s.tx_counters;
+}
+
+-- what comes in: a management command, a frame of the controlled port's client, or one of the
+-- uncontrolled port's client
+pub data Input : Type 0 where
+  operator_command : Command → Input
+  client_frame : List ℕ → Input
+  uncontrolled_frame : List ℕ → Input
+
+-- what goes out; a frame that leaves is told with the number of the key that it is protected under,
+-- where it is
+pub data Output : Type 0 where
+  done : Output
+  refused : Refusal → Output
+  leaves : (frame : List ℕ) → (under : Option ℕ) → Output
+  dropped_no_sa : Output
+  dropped_too_long : Output
+  fault : FrameFault → Output
+
+-- the fault of a frame that has fewer than 14 octets, or more than 9,248; such a frame changes nothing
+abbrev pub frame_fault : List ℕ → Option FrameFault
+frame_fault frame =
+    if nat_lt (length frame) min_frame_len then Some Short
+    else if nat_lt max_frame_len (length frame) then Some Long
+    else None
+
+-- a command is done where nothing refuses it
+abbrev pub command_output : Option Refusal → Output
+command_output None = done
+command_output (Some r) = refused r
+
+-- what goes out for a client's frame
+abbrev pub sent_output : List ℕ → Leaving → Output
+sent_output frame plain = leaves frame None
+sent_output frame (protected key protected_frame) = leaves protected_frame (Some key)
+sent_output frame no_sa = dropped_no_sa
+sent_output frame too_long = dropped_too_long
+
+-- the answer, or the fault of a frame with the same state
+abbrev pub unless_fault : Option FrameFault → State → Output × State → Output × State
+unless_fault None s answer = answer
+unless_fault (Some f) s answer = (fault f, s)
+
+-- the output, and the state after
+abbrev pub step : State → Input → Output × State
+step s (operator_command c) = (command_output (refusal s c), state_after_command s c)
+step s (client_frame frame) =
+    unless_fault (frame_fault frame) s
+    (sent_output frame (sending_of s frame).leaving, state_after_sending s frame (sending_of s frame))
+step s (uncontrolled_frame frame) = unless_fault (frame_fault frame) s (leaves frame None, s)

@@ -1,0 +1,77 @@
+//! Counters, and what transmission counts (IEEE 802.1AE, 10.7).
+
+ghost use Rattle.std.specs.Prelude.{◌≡◌};
+ghost use Rattle.macsec_tx.specs.Transmit.{no_sa, plain, too_long};
+ghost use Rattle.macsec_secy.specs.State.{no_counters, no_tx_counters};
+ghost use Rattle.macsec_secy.specs.Counting.{count_leaving, count_octets};
+
+use crate::{Counters, TxCounters};
+
+impl Counters {
+    /// Counters of 0.
+    pub(crate) fn zero() -> Counters
+        ensures { result ≡ no_counters }
+    {
+        Counters {
+            in_pkts_untagged: 0,
+            in_pkts_no_tag: 0,
+            in_pkts_bad_tag: 0,
+            in_pkts_reserved: 0,
+            in_pkts_no_sa: 0,
+            in_pkts_no_sa_error: 0,
+            in_octets_validated: 0,
+            in_octets_decrypted: 0,
+            out_pkts_untagged: 0,
+            out_pkts_too_long: 0,
+            out_pkts_no_sa: 0,
+        }
+    }
+
+    /// Counts a client's frame that leaves as it is.
+    pub(crate) fn count_plain(&mut self)
+        ensures { self.new ≡ count_leaving plain self.old }
+    {
+        self.out_pkts_untagged = self.out_pkts_untagged.wrapping_add(1);
+    }
+
+    /// Counts a client's frame for which no association is on, or only an exhausted one.
+    pub(crate) fn count_no_sa(&mut self)
+        ensures { self.new ≡ count_leaving no_sa self.old }
+    {
+        self.out_pkts_no_sa = self.out_pkts_no_sa.wrapping_add(1);
+    }
+
+    /// Counts a client's frame that is too long.
+    pub(crate) fn count_too_long(&mut self)
+        ensures { self.new ≡ count_leaving too_long self.old }
+    {
+        self.out_pkts_too_long = self.out_pkts_too_long.wrapping_add(1);
+    }
+}
+
+impl TxCounters {
+    /// Counters of 0.
+    pub(crate) fn zero() -> TxCounters
+        ensures { result ≡ no_tx_counters }
+    {
+        TxCounters {
+            out_pkts_protected: 0,
+            out_pkts_encrypted: 0,
+            out_octets_protected: 0,
+            out_octets_encrypted: 0,
+        }
+    }
+
+    /// Counts a protected frame of so many octets of data, which is encrypted where `conf` is true.
+    pub(crate) fn count(&mut self, conf: bool, octets: u64)
+        ensures { self.new ≡ count_octets conf octets self.old }
+    {
+        if conf {
+            self.out_pkts_encrypted = self.out_pkts_encrypted.wrapping_add(1);
+            self.out_octets_encrypted = self.out_octets_encrypted.wrapping_add(octets);
+        } else {
+            self.out_pkts_protected = self.out_pkts_protected.wrapping_add(1);
+            self.out_octets_protected = self.out_octets_protected.wrapping_add(octets);
+        }
+    }
+}

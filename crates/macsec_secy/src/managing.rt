@@ -1,0 +1,73 @@
+//! Commands that the endpoint carries out itself, and what it hands to transmission.
+
+ghost use Rattle.std.specs.Prelude.{◌≡◌};
+ghost use Rattle.macsec_suite.specs.Refusals.{holds_of, refusal_of};
+ghost use Rattle.macsec_tx.specs.Transmit.{row_on};
+ghost use Rattle.macsec_secy.specs.declared.Command.TheVariants as by;
+ghost use Rattle.macsec_secy.specs.State.{tx_options};
+ghost use Rattle.macsec_secy.specs.Configs.{is_unfit};
+ghost use Rattle.macsec_secy.specs.Commands.{refusal, state_after_command};
+
+use crate::{Refusal, Sci, Secy, TagForm};
+use macsec_tx::TxOptions;
+
+impl Secy {
+    /// Sets whether late frames are dropped, and the replay window.
+    pub(crate) fn replay(&mut self, protect: bool, window: u64) -> Result<(), Refusal>
+        ensures refusal { refusal_of result ≡ refusal self.old (by.Replay protect window) }
+        ensures after { self.new ≡ state_after_command self.old (by.Replay protect window) }
+    {
+        if window > self.config.suite.widest_window() {
+            return Err(Refusal::Window);
+        }
+        self.options.replay = protect;
+        self.options.window = window;
+        Ok(())
+    }
+
+    /// Sets the tag form.
+    pub(crate) fn tag(&mut self, form: TagForm) -> Result<(), Refusal>
+        ensures refusal { refusal_of result ≡ refusal self.old (by.Tag form) }
+        ensures after { self.new ≡ state_after_command self.old (by.Tag form) }
+    {
+        if is_unfit(form, self.config.sci) {
+            return Err(Refusal::SciForm);
+        }
+        self.options.form = form;
+        Ok(())
+    }
+
+    /// Does the association that is on encrypt?
+    pub(crate) fn encrypts(&self) -> bool
+        ensures { result ≡ holds_of (λ row. row.conf) (row_on self.now.tx) }
+    {
+        match self.tx.row_on() {
+            Some(row) => row.conf,
+            None => false,
+        }
+    }
+
+    /// What transmission goes by.
+    pub(crate) fn tx_options(&self) -> TxOptions
+        ensures { result ≡ tx_options self.now }
+    {
+        TxOptions {
+            protect: self.options.protect,
+            form: self.options.form,
+            sci: self.config.sci,
+            max_frame: self.config.max_frame,
+            many: false,
+        }
+    }
+}
+
+/// Does the tag form ask for another port than the SCI's?
+pub(crate) fn is_unfit(form: TagForm, sci: Sci) -> bool
+    ensures { result ≡ is_unfit form sci }
+{
+    match form {
+        TagForm::Auto | TagForm::Sci => false,
+        TagForm::Es => sci.0[6] != 0 || sci.0[7] != 1,
+        TagForm::Scb => sci.0[6] != 0 || sci.0[7] != 0,
+    }
+}
