@@ -1,10 +1,11 @@
 -- Lines of the script language and what they say.
-use Rattle.std.specs.Prelude.{◌≡◌, ◌++◌, [], ◌∷◌, replicate, codes, Some, None, Ok, Err, true, false, refl}
+use Rattle.std.specs.Prelude.{◌≡◌, ℕ, ◌++◌, List, [], ◌∷◌, replicate, codes, Some, None, Ok, Err, true, false, refl}
 use Rattle.std.specs.Fmt.{digits}
 use Rattle.hex.proofs.OnLiterals.{hex_on_literals}
 use Rattle.macsec_aes.specs.declared.Key.TheVariants.{K128, K256}
-use Rattle.macsec_cli.specs.declared.channel.TagForm.TheVariants as form
-use Rattle.macsec_cli.specs.declared.endpoint.Command.TheVariants as by
+use Rattle.macsec_tx.specs.declared.TagForm.TheVariants as form
+use Rattle.macsec_secy.specs.declared.Command.TheVariants as by
+use Rattle.macsec_rx.specs.declared.Mode.TheVariants.{Check}
 use Rattle.macsec_suite.specs.declared.Suite.TheVariants.{Gcm128, Gcm256}
 use Rattle.macsec_cli.specs.declared.lines.End.TheVariants.{A, B}
 use Rattle.macsec_cli.specs.declared.lines.Line.TheVariants as line
@@ -42,6 +43,12 @@ tag_form = refl
 protection : line_of (codes "A txsa 2 0 b2c28465 none") ≡ Err Word
 protection = refl
 
+switch : line_of (codes "A protect On") ≡ Err Word
+switch = refl
+
+mode : line_of (codes "A validate loose") ≡ Err Word
+mode = refl
+
 -- ---- too few words or too many
 
 alone : line_of (codes "A") ≡ Err Count
@@ -52,6 +59,9 @@ too_few = refl
 
 too_many : line_of (codes "A txon 2 3") ≡ Err Count
 too_many = refl
+
+no_window : line_of (codes "A replay off") ≡ Err Count
+no_window = refl
 
 -- ---- words that are not hex
 
@@ -93,6 +103,9 @@ small_frames = refl
 twenty_one_digits : line_of (codes "A txon 000000000000000000002") ≡ Err Number
 twenty_one_digits = refl
 
+wide_window : line_of (codes "A replay off 18446744073709551616") ≡ Err Number
+wide_window = refl
+
 -- ---- long lines
 
 longest : line_of (codes "A send " ++ replicate 19993 103) ≡ Err Hex
@@ -128,6 +141,8 @@ key : line_of (codes "A key 7 000102030405060708090A0B0C0D0E0F 0") ≡
     Ok (Some (line.Command (by.Key (record {
       number = 7;
       bytes = K128 (0 ∷ 1 ∷ 2 ∷ 3 ∷ 4 ∷ 5 ∷ 6 ∷ 7 ∷ 8 ∷ 9 ∷ 10 ∷ 11 ∷ 12 ∷ 13 ∷ 14 ∷ 15 ∷ []);
+      salt = replicate 12 0;
+      ssci = 0;
       offset = 0;
     }))))
 unfolding hex_on_literals
@@ -137,6 +152,8 @@ key_of_32_octets : line_of (codes "A key 7 000102030405060708090a0b0c0d0e0f10111
     Ok (Some (line.Command (by.Key (record {
       number = 7;
       bytes = K256 (0 ∷ 1 ∷ 2 ∷ 3 ∷ 4 ∷ 5 ∷ 6 ∷ 7 ∷ 8 ∷ 9 ∷ 10 ∷ 11 ∷ 12 ∷ 13 ∷ 14 ∷ 15 ∷ 16 ∷ 17 ∷ 18 ∷ 19 ∷ 20 ∷ 21 ∷ 22 ∷ 23 ∷ 24 ∷ 25 ∷ 26 ∷ 27 ∷ 28 ∷ 29 ∷ 30 ∷ 31 ∷ []);
+      salt = replicate 12 0;
+      ssci = 0;
       offset = 0;
     }))))
 unfolding hex_on_literals
@@ -146,6 +163,8 @@ offset_30 : line_of (codes "A key 7 000102030405060708090a0b0c0d0e0f 30") ≡
     Ok (Some (line.Command (by.Key (record {
       number = 7;
       bytes = K128 (0 ∷ 1 ∷ 2 ∷ 3 ∷ 4 ∷ 5 ∷ 6 ∷ 7 ∷ 8 ∷ 9 ∷ 10 ∷ 11 ∷ 12 ∷ 13 ∷ 14 ∷ 15 ∷ []);
+      salt = replicate 12 0;
+      ssci = 0;
       offset = 30;
     }))))
 unfolding hex_on_literals
@@ -164,7 +183,35 @@ send : line_of (codes "A send 0aFf") ≡ Ok (Some (line.Send (10 ∷ 255 ∷ [])
 unfolding hex_on_literals
 send = refl
 
+protect : line_of (codes "A protect off") ≡ Ok (Some (line.Command (by.Protect false)))
+protect = refl
+
+validate : line_of (codes "A validate check") ≡ Ok (Some (line.Command (by.Validate Check)))
+validate = refl
+
+replay : line_of (codes "A replay on 4294967296") ≡ Ok (Some (line.Command (by.Replay true 4294967296)))
+replay = refl
+
+tag : line_of (codes "A tag es") ≡ Ok (Some (line.Command (by.Tag form.Es)))
+tag = refl
+
+retire : line_of (codes "A retire 7") ≡ Ok (Some (line.Command (by.Retire 7)))
+retire = refl
+
+tx_off : line_of (codes "A txoff 0") ≡ Ok (Some (line.Command (by.TxOff 0)))
+tx_off = refl
+
+tx_del : line_of (codes "A txdel 3") ≡ Ok (Some (line.Command (by.TxDel 3)))
+tx_del = refl
+
+uncontrolled : line_of (codes "A sendu 0aFf") ≡ Ok (Some (line.SendUncontrolled (10 ∷ 255 ∷ [])))
+unfolding hex_on_literals
+uncontrolled = refl
+
 -- ---- scripts
+
+abbrev both_ends : List ℕ
+both_ends = codes "end A gcm128 12153524c0895e81 1518 sci\nend B gcm128 0000000000000002 1518 auto\n"
 
 nothing : printed_text (codes "# nothing\n\n") ≡ Ok []
 nothing = refl
@@ -182,24 +229,43 @@ other_port : printed_text (codes "end A gcm128 12153524c0895e81 1518 sci\nend B 
 unfolding hex_on_literals
 other_port = refl
 
--- a key of 32 octets under gcm128, one of 16 under gcm256, and an offset that is none of the three
-long_key : printed_text (codes "end A gcm128 12153524c0895e81 1518 sci\nend B gcm256 0000000000000002 1518 auto\nA key 0 000102030405060708090a0b0c0d0e0f101112131415161718191a1b1c1d1e1f 0\n") ≡ Err (script.Word 3)
+ends_alone : printed_text both_ends ≡ Ok []
 unfolding hex_on_literals
+ends_alone = refl
+
+third_end : printed_text (both_ends ++ codes "end A gcm128 12153524c0895e81 1518 sci\n") ≡ Err (script.Word 3)
+unfolding hex_on_literals
+third_end = refl
+
+-- a key of 32 octets under gcm128, and an offset that is none of the three
+long_key : printed_text (both_ends ++ codes "A key 0 000102030405060708090a0b0c0d0e0f101112131415161718191a1b1c1d1e1f 0\n") ≡ Ok (codes "3 refused 1 KeyLength\n")
+unfolding hex_on_literals digits
 long_key = refl
 
-short_key_of_a : printed_text (codes "end A gcm256 12153524c0895e81 1518 sci\nend B gcm128 0000000000000002 1518 auto\nA key 0 ad7a2bd03eac835a6f620fdcb506b345 0\n") ≡ Err (script.Word 3)
-unfolding hex_on_literals
-short_key_of_a = refl
-
-offset_31 : printed_text (codes "end A gcm128 12153524c0895e81 1518 sci\nend B gcm128 0000000000000002 1518 auto\nA key 0 ad7a2bd03eac835a6f620fdcb506b345 31\n") ≡ Err (script.Word 3)
-unfolding hex_on_literals
+offset_31 : printed_text (both_ends ++ codes "A key 0 ad7a2bd03eac835a6f620fdcb506b345 31\n") ≡ Ok (codes "3 refused 2 Offset\n")
+unfolding hex_on_literals digits
 offset_31 = refl
 
-five_lines : printed_text (codes "end A gcm128 12153524c0895e81 1518 sci\nend B gcm128 0000000000000002 1518 auto\nA key 0 ad7a2bd03eac835a6f620fdcb506b345 0\nA txsa 2 0 b2c28465 int\nA txon 2\n") ≡ Ok (codes "3 done\n4 done\n5 done\n")
+-- packet numbers begin with 1
+first_number : printed_text (both_ends ++ codes "A key 0 ad7a2bd03eac835a6f620fdcb506b345 0\nA txsa 0 0 0 int\nA txsa 0 0 1 int\n") ≡ Ok (codes "3 done\n4 refused 14 PnRange\n5 done\n")
+unfolding hex_on_literals digits
+first_number = refl
+
+-- the widest window
+windows : printed_text (both_ends ++ codes "A replay on 4294967295\nA replay off 4294967296\n") ≡ Ok (codes "3 done\n4 refused 18 Window\n")
+unfolding hex_on_literals digits
+windows = refl
+
+-- a frame of each port; without protection they leave as they are
+both_ports : printed_text (both_ends ++ codes "A send 00112233445566778899aabb0800\nA protect off\nA send 00112233445566778899AABB0800\nA sendu 00112233445566778899aabb0801\n") ≡ Ok (codes "3 dropped NoSA\n4 done\n5 frame 0 00112233445566778899aabb0800\n6 frame 1 00112233445566778899aabb0801\n")
+unfolding hex_on_literals digits
+both_ports = refl
+
+five_lines : printed_text (both_ends ++ codes "A key 0 ad7a2bd03eac835a6f620fdcb506b345 0\nA txsa 2 0 b2c28465 int\nA txon 2\n") ≡ Ok (codes "3 done\n4 done\n5 done\n")
 unfolding hex_on_literals digits
 five_lines = refl
 
 -- a last line without a line feed counts, and a skipped line has its number
-four_lines : printed_text (codes "#\nend A gcm128 12153524c0895e81 1518 sci\nend B gcm128 0000000000000001 1518 es\nA key 0 ad7a2bd03eac835a6f620fdcb506b345 0") ≡ Err (script.Ends 4)
-unfolding hex_on_literals
-four_lines = refl
+three_lines : printed_text (codes "#\nend A gcm128 12153524c0895e81 1518 sci\nend B gcm128 0000000000000001 1518 es\nA send 00") ≡ Ok (codes "4 fault 5 Short\n")
+unfolding hex_on_literals digits
+three_lines = refl

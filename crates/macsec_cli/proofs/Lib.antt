@@ -4,6 +4,4 @@ pub mod HexDigits
 pub mod LastLine
 pub mod LinesLeft
 pub mod Runs
-pub mod Sealing
 pub mod Unwritten
-pub mod Writes

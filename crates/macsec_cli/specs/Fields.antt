@@ -3,8 +3,10 @@ use Rattle.std.specs.Prelude.{ℕ, List, [], ◌∷◌, Bool, true, false, bytes
 use Rattle.macsec_aes.specs.declared.Key.{Key}
 use Rattle.macsec_aes.specs.declared.Key.TheVariants.{K128, K256}
 use Rattle.macsec_tag.specs.declared.Sci.{Sci}
-use Rattle.macsec_cli.specs.declared.channel.TagForm.{TagForm}
-use Rattle.macsec_cli.specs.declared.channel.TagForm.TheVariants as form
+use Rattle.macsec_tx.specs.declared.TagForm.{TagForm}
+use Rattle.macsec_tx.specs.declared.TagForm.TheVariants as form
+use Rattle.macsec_rx.specs.declared.Mode.{Mode}
+use Rattle.macsec_rx.specs.declared.Mode.TheVariants as mode
 use Rattle.macsec_suite.specs.declared.Suite.{Suite}
 use Rattle.macsec_suite.specs.declared.Suite.TheVariants.{Gcm128, Gcm256}
 use Rattle.macsec_cli.specs.declared.lines.End.{End}
@@ -23,6 +25,8 @@ pub data Field : Type 0 where
   suite : Field
   tag_form : Field
   protection : Field
+  switch : Field
+  validation : Field
 
 abbrev pub Value : Field → Type 0
 Value (number low high) = ℕ
@@ -34,6 +38,8 @@ Value at_end = End
 Value suite = Suite
 Value tag_form = TagForm
 Value protection = Bool
+Value switch = Bool
+Value validation = Mode
 
 -- what a table has for a keyword
 abbrev pub value_of_keyword : {A : Type 0} → List (List ℕ × A) → List ℕ → Result A LineFault
@@ -56,6 +62,13 @@ forms = (codes "auto", form.Auto) ∷ (codes "sci", form.Sci) ∷ (codes "es", f
 -- are the client's data encrypted too?
 abbrev pub protections : List (List ℕ × Bool)
 protections = (codes "int", false) ∷ (codes "conf", true) ∷ []
+
+-- is it on?
+abbrev pub switches : List (List ℕ × Bool)
+switches = (codes "on", true) ∷ (codes "off", false) ∷ []
+
+abbrev pub modes : List (List ℕ × Mode)
+modes = (codes "disabled", mode.Disabled) ∷ (codes "check", mode.Check) ∷ (codes "strict", mode.Strict) ∷ []
 
 -- a function of the value, where there is one
 abbrev pub map_ok : {A B E : Type 0} → (A → B) → Result A E → Result B E
@@ -84,3 +97,5 @@ read_word at_end word = value_of_keyword ends word
 read_word suite word = value_of_keyword suites word
 read_word tag_form word = value_of_keyword forms word
 read_word protection word = value_of_keyword protections word
+read_word switch word = value_of_keyword switches word
+read_word validation word = value_of_keyword modes word

@@ -1,6 +1,10 @@
 -- The kinds of lines, each by its keyword, the words after it, and what it says.
-use Rattle.std.specs.Prelude.{ℕ, ◌==◌, List, [], ◌∷◌, length, filter, find, nat_lt, bytes_eq, codes, if◌then◌else◌, Option, Some, None, Result, Ok, Err}
-use Rattle.macsec_cli.specs.declared.endpoint.Command.TheVariants as by
+use Rattle.std.specs.Prelude.{ℕ, ◌-◌, ◌^◌, ◌==◌, replicate, List, [], ◌∷◌, ◌++◌, length, filter, find, nat_lt, bytes_eq, codes, if◌then◌else◌, Option, Some, None, Result, Ok, Err}
+use Rattle.macsec_aes.specs.declared.Key.{Key}
+use Rattle.macsec_tx.specs.Limits.{max_frame_len}
+use Rattle.macsec_suite.specs.declared.NewKey.{NewKey}
+use Rattle.macsec_secy.specs.declared.Command.TheVariants as by
+use Rattle.macsec_secy.specs.Limits.{min_max_frame}
 use Rattle.macsec_cli.specs.declared.lines.End.{End}
 use Rattle.macsec_cli.specs.declared.lines.End.TheVariants.{A, B}
 use Rattle.macsec_cli.specs.declared.lines.Line.{Line}
@@ -8,8 +12,8 @@ use Rattle.macsec_cli.specs.declared.lines.Line.TheVariants as line
 use Rattle.macsec_cli.specs.declared.lines.LineFault.{LineFault}
 use Rattle.macsec_cli.specs.declared.lines.LineFault.TheVariants.{Word, Count, LineLong}
 use Rattle.macsec_cli.specs.Words.{words_of}
-use Rattle.macsec_cli.specs.Fields.{Field, Value, read_word, value_of_keyword, ends, number, sci, key, frame, pn, at_end, suite, tag_form, protection}
-use Rattle.macsec_cli.specs.Limits.{max_line_len, max_frame_len, min_max_frame}
+use Rattle.macsec_cli.specs.Fields.{Field, Value, read_word, value_of_keyword, ends, number, sci, key, frame, pn, at_end, suite, tag_form, protection, switch, validation}
+use Rattle.macsec_cli.specs.Limits.{max_line_len}
 
 -- what makes a line of the values of its words
 abbrev pub Makes : List Field → Type 0
@@ -33,17 +37,51 @@ key_number = number 0 255
 abbrev pub offset : Field
 offset = number 0 255
 
+abbrev pub window : Field
+window = number 0 (2 ^ 64 - 1)
+
 abbrev pub max_frame : Field
 max_frame = number min_max_frame max_frame_len
 
--- the lines that begin with an end's letter; they are A's alone
-abbrev pub kinds_at : End → List Kind
-kinds_at A =
-    kind (codes "key") (key_number ∷ key ∷ offset ∷ [])
-    (λ n bytes offset. line.Command (by.Key (record { number = n; bytes = bytes; offset = offset }))) ∷
+-- a key as its line says it: salt and SSCI are zero
+abbrev pub key_from : ℕ → Key → ℕ → NewKey
+key_from n bytes offset = record { number = n; bytes = bytes; salt = replicate 12 0; ssci = 0; offset = offset }
+
+-- the lines that set whether frames are protected, and how they are validated
+abbrev pub protection_kinds : List Kind
+protection_kinds =
+    kind (codes "protect") (switch ∷ []) (λ on. line.Command (by.Protect on)) ∷
+    kind (codes "validate") (validation ∷ []) (λ mode. line.Command (by.Validate mode)) ∷ []
+
+-- the lines of the other options
+abbrev pub option_kinds : List Kind
+option_kinds =
+    kind (codes "replay") (switch ∷ window ∷ []) (λ on window. line.Command (by.Replay on window)) ∷
+    kind (codes "tag") (tag_form ∷ []) (λ form. line.Command (by.Tag form)) ∷ []
+
+-- the lines of keys
+abbrev pub key_kinds : List Kind
+key_kinds =
+    kind (codes "key") (key_number ∷ key ∷ offset ∷ []) (λ n bytes offset. line.Command (by.Key (key_from n bytes offset))) ∷
+    kind (codes "retire") (key_number ∷ []) (λ n. line.Command (by.Retire n)) ∷ []
+
+-- the lines of transmit associations
+abbrev pub transmit_kinds : List Kind
+transmit_kinds =
     kind (codes "txsa") (an ∷ key_number ∷ pn ∷ protection ∷ []) (λ an n pn conf. line.Command (by.TxSa an n pn conf)) ∷
     kind (codes "txon") (an ∷ []) (λ an. line.Command (by.TxOn an)) ∷
-    kind (codes "send") (frame ∷ []) (λ frame. line.Send frame) ∷ []
+    kind (codes "txoff") (an ∷ []) (λ an. line.Command (by.TxOff an)) ∷
+    kind (codes "txdel") (an ∷ []) (λ an. line.Command (by.TxDel an)) ∷ []
+
+-- the lines of frames
+abbrev pub frame_kinds : List Kind
+frame_kinds =
+    kind (codes "send") (frame ∷ []) (λ frame. line.Send frame) ∷
+    kind (codes "sendu") (frame ∷ []) (λ frame. line.SendUncontrolled frame) ∷ []
+
+-- the lines that begin with an end's letter; they are A's alone
+abbrev pub kinds_at : End → List Kind
+kinds_at A = protection_kinds ++ (option_kinds ++ (key_kinds ++ (transmit_kinds ++ frame_kinds)))
 kinds_at B = []
 
 -- the other lines
@@ -73,9 +111,13 @@ abbrev pub read_as : List Kind → List (List ℕ) → Result Line LineFault
 read_as [] words = Err Word
 read_as (kind ∷ more) words = read_kind (find (λ kind. length kind.fields == length words) (kind ∷ more)) words
 
+-- the kinds of a keyword
+abbrev pub kinds_of : List Kind → List ℕ → List Kind
+kinds_of kinds keyword = filter (λ kind. bytes_eq kind.keyword keyword) kinds
+
 -- a line by its keyword and the words after it
 abbrev pub read_line : List Kind → List ℕ → List (List ℕ) → Result Line LineFault
-read_line kinds keyword words = read_as (filter (λ kind. bytes_eq kind.keyword keyword) kinds) words
+read_line kinds keyword words = read_as (kinds_of kinds keyword) words
 
 -- a line that begins with an end's letter has its keyword after it
 abbrev pub read_at : Result End LineFault → List ℕ → List (List ℕ) → Result Line LineFault

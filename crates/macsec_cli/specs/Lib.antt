@@ -1,14 +1,10 @@
 pub mod Limits
-pub mod Transmit
-pub mod InPlace
-pub mod Endpoint
-pub mod Outputs
-pub mod Rests
 pub mod Words
 pub mod Numerals
 pub mod Fields
 pub mod Kinds
 pub mod Scripts
+pub mod Refusals
 pub mod Printed
 pub mod Runs
 pub mod Failures

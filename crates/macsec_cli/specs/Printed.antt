@@ -1,21 +1,24 @@
 -- What a script prints.
-use Rattle.std.specs.Prelude.{ℕ, ◌+◌, List, [], ◌∷◌, ◌++◌, decimal, codes, Option, Some, None, Result}
+use Rattle.std.specs.Prelude.{ℕ, ◌+◌, List, [], ◌∷◌, ◌++◌, if◌then◌else◌, decimal, codes, Option, Some, None, Result}
 use Rattle.hex.specs.Hex.{encode_lower}
-use Rattle.macsec_cli.specs.declared.endpoint.EndConfig.{EndConfig}
-use Rattle.macsec_cli.specs.declared.endpoint.FrameFault.TheVariants.{Short, Long}
+use Rattle.macsec_secy.specs.declared.EndConfig.{EndConfig}
+use Rattle.macsec_secy.specs.declared.FrameFault.TheVariants.{Short, Long}
+use Rattle.macsec_secy.specs.State.{State, start}
+use Rattle.macsec_secy.specs.Step.{operator_command, client_frame, uncontrolled_frame, Output, done, refused, leaves, dropped_no_sa, dropped_too_long, fault, step}
 use Rattle.macsec_cli.specs.declared.lines.End.TheVariants.{A, B}
 use Rattle.macsec_cli.specs.declared.lines.Line.{Line}
 use Rattle.macsec_cli.specs.declared.lines.Line.TheVariants as line
 use Rattle.macsec_cli.specs.declared.running.Run.{Run}
 use Rattle.macsec_cli.specs.declared.faults.ScriptFault.{ScriptFault}
-use Rattle.macsec_cli.specs.Endpoint.{State, start, operator_command, client_frame, Output, done, leaves, dropped_no_sa, dropped_too_long, fault, step}
 use Rattle.macsec_cli.specs.Fields.{map_ok}
-use Rattle.macsec_cli.specs.Scripts.{NumberedLine, script_of}
+use Rattle.macsec_cli.specs.Refusals.{refusal_text}
+use Rattle.macsec_cli.specs.Scripts.{NumberedLine, is_good, script_of}
 
 -- the line that tells an output of line n; a link frame is the next one after k
 abbrev pub output_text : ℕ → ℕ → Output → List ℕ
 output_text n k done = decimal n ++ codes " done\n"
-output_text n k (leaves frame) = decimal n ++ codes " frame " ++ decimal k ++ codes " " ++ encode_lower frame ++ codes "\n"
+output_text n k (refused r) = decimal n ++ codes " refused " ++ refusal_text r ++ codes "\n"
+output_text n k (leaves frame under) = decimal n ++ codes " frame " ++ decimal k ++ codes " " ++ encode_lower frame ++ codes "\n"
 output_text n k dropped_no_sa = decimal n ++ codes " dropped NoSA\n"
 output_text n k dropped_too_long = decimal n ++ codes " dropped TooLong\n"
 output_text n k (fault Short) = decimal n ++ codes " fault 5 Short\n"
@@ -23,7 +26,8 @@ output_text n k (fault Long) = decimal n ++ codes " fault 6 Long\n"
 
 abbrev pub frames_after : ℕ → Output → ℕ
 frames_after k done = k
-frames_after k (leaves frame) = k + 1
+frames_after k (refused r) = k
+frames_after k (leaves frame under) = k + 1
 frames_after k dropped_no_sa = k
 frames_after k dropped_too_long = k
 frames_after k (fault f) = k
@@ -40,6 +44,7 @@ abbrev pub line_step : Run → ℕ → Line → List ℕ × Run
 line_step r n (line.End e config) = ([], r)
 line_step r n (line.Command c) = text_and_run r n (step r.endpoint (operator_command c))
 line_step r n (line.Send frame) = send_step r n frame
+line_step r n (line.SendUncontrolled frame) = text_and_run r n (step r.endpoint (uncontrolled_frame frame))
 
 abbrev pub text_from : Run → List NumberedLine → List ℕ
 text_from r [] = []
@@ -54,10 +59,12 @@ a_config (line.End A config) = Some config
 a_config (line.End B config) = None
 a_config (line.Command c) = None
 a_config (line.Send frame) = None
+a_config (line.SendUncontrolled frame) = None
 
+-- of a configuration of which no endpoint can be made nothing is printed; no script has one
 abbrev pub text_with : Option EndConfig → List NumberedLine → List ℕ
 text_with None said = []
-text_with (Some config) said = text_from (new_run config) said
+text_with (Some config) said = if is_good config then text_from (new_run config) said else []
 
 -- what the lines of a script print: the first one makes endpoint A
 abbrev pub text_of : List NumberedLine → List ℕ

@@ -1,20 +1,16 @@
 -- A script: its lines that are not skipped, with their numbers, or its first fault.
-use Rattle.std.specs.Prelude.{ℕ, ◌+◌, ◌-◌, ◌==◌, ◌&&◌, ◌||◌, List, [], ◌∷◌, length, slice_index, Bool, true, false, nat_lt, nat_le, if◌then◌else◌, Option, Some, None, Result, Ok, Err}
-use Rattle.macsec_tag.specs.declared.Sci.{Sci}
-use Rattle.macsec_cli.specs.declared.channel.TagForm.{TagForm}
-use Rattle.macsec_cli.specs.declared.channel.TagForm.TheVariants as form
-use Rattle.macsec_cli.specs.declared.endpoint.Command.TheVariants as by
+use Rattle.std.specs.Prelude.{ℕ, ◌+◌, ◌-◌, ◌||◌, List, [], ◌∷◌, length, Bool, not, is_some, nat_lt, if◌then◌else◌, Option, Some, None, Result, Ok, Err}
+use Rattle.macsec_secy.specs.declared.EndConfig.{EndConfig}
+use Rattle.macsec_secy.specs.Configs.{config_fault}
 use Rattle.macsec_cli.specs.declared.lines.End.TheVariants.{A, B}
 use Rattle.macsec_cli.specs.declared.lines.Line.{Line}
 use Rattle.macsec_cli.specs.declared.lines.Line.TheVariants as line
 use Rattle.macsec_cli.specs.declared.lines.LineFault.{LineFault}
 use Rattle.macsec_cli.specs.declared.lines.LineFault.TheVariants as fault
 use Rattle.macsec_cli.specs.declared.script.Place.{Place}
-use Rattle.macsec_cli.specs.declared.script.Place.TheVariants.{EndA, EndB, Key, TxSa, TxOn, Sends}
+use Rattle.macsec_cli.specs.declared.script.Place.TheVariants.{EndA, EndB, Rest}
 use Rattle.macsec_cli.specs.declared.faults.ScriptFault.{ScriptFault}
 use Rattle.macsec_cli.specs.declared.faults.ScriptFault.TheVariants.{Word, Ends, LineLong, ScriptLong, Memory}
-use Rattle.macsec_suite.specs.Suites.{last_of}
-use Rattle.macsec_cli.specs.Endpoint.{fits}
 use Rattle.macsec_cli.specs.Words.{lines_of}
 use Rattle.macsec_cli.specs.Fields.{map_ok}
 use Rattle.macsec_cli.specs.Kinds.{line_of, and_then}
@@ -38,48 +34,27 @@ abbrev pub result_at_line : {X : Type 0} → ℕ → Result X LineFault → Resu
 result_at_line n (Ok x) = Ok x
 result_at_line n (Err fault) = Err (at_line n fault)
 
--- the form puts the SCI into each tag
-abbrev pub is_sci_form : TagForm → Bool
-is_sci_form form.Auto = false
-is_sci_form form.Sci = true
-is_sci_form form.Es = false
-is_sci_form form.Scb = false
-
--- ES stands for port 0001 and SCB for port 0000, so the SCI has to have that port (9.5)
-abbrev pub is_fit : TagForm → Sci → Bool
-is_fit form.Auto sci = true
-is_fit form.Sci sci = true
-is_fit form.Es sci = slice_index sci.0 6 == 0 && slice_index sci.0 7 == 1
-is_fit form.Scb sci = slice_index sci.0 6 == 0 && slice_index sci.0 7 == 0
+-- an endpoint can be made of the configuration
+abbrev pub is_good : EndConfig → Bool
+is_good config = not (is_some (config_fault config))
 
 abbrev pub only_if : Bool → Place → Option Place
 only_if b place = if b then Some place else None
 
--- what a script wants after a line that it wants: both ends, a key that fits A's suite, an association
--- of that key, that association on, and then frames to send
+-- what a script wants after a line that it wants: both ends, and then lines of A
 abbrev pub place_after : Place → Line → Option Place
-place_after EndA (line.End A config) = only_if (is_sci_form config.form) (EndB config.suite)
+place_after EndA (line.End A config) = only_if (is_good config) EndB
 place_after EndA other = None
-place_after (EndB suite) (line.End B config) = only_if (is_fit config.form config.sci) (Key suite)
-place_after (EndB suite) other = None
-place_after (Key suite) (line.Command (by.Key k)) = only_if (fits suite k) (TxSa suite k.number)
-place_after (Key suite) other = None
-place_after (TxSa suite number) (line.Command (by.TxSa an key pn conf)) =
-    only_if (key == number && nat_le 1 pn && nat_le pn (last_of suite)) (TxOn an)
-place_after (TxSa suite number) other = None
-place_after (TxOn number) (line.Command (by.TxOn an)) = only_if (an == number) Sends
-place_after (TxOn number) other = None
-place_after Sends (line.Send frame) = Some Sends
-place_after Sends other = None
+place_after EndB (line.End B config) = only_if (is_good config) Rest
+place_after EndB other = None
+place_after Rest (line.End e config) = None
+place_after Rest other = Some Rest
 
--- a script may end where it has said nothing yet, or all but the frames to send; n is its last line
+-- a script may end where it has said nothing yet, or has both ends; n is its last line
 abbrev pub at_script_end : Place → ℕ → Result (List NumberedLine) ScriptFault
 at_script_end EndA n = Ok []
-at_script_end (EndB suite) n = Err (Ends n)
-at_script_end (Key suite) n = Err (Ends n)
-at_script_end (TxSa suite number) n = Err (Ends n)
-at_script_end (TxOn number) n = Err (Ends n)
-at_script_end Sends n = Ok []
+at_script_end EndB n = Err (Ends n)
+at_script_end Rest n = Ok []
 
 -- the place after line n, or the fault of a line that is not wanted there
 abbrev pub next_place : ℕ → Option Place → Result Place ScriptFault

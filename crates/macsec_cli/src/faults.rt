@@ -22,7 +22,7 @@ pub enum ScriptFault {
     /// A word is not a decimal number in its range. Such a line is `Word` yet.
     #[error("line {0} has a word that is no number in its range")]
     Number(u32),
-    /// The script ends after its first line and before its fifth, skipped ones aside; the number is its
+    /// The script ends after its first line and before its second, skipped ones aside; the number is its
     /// last line's, skipped or not.
     #[error("the script ends too early, at line {0}")]
     Ends(u32),

@@ -1,15 +1,14 @@
 //! The lines of a script, each as what it says.
 
-ghost use Rattle.std.specs.Prelude.{◌≡◌, map, codes};
+ghost use Rattle.std.specs.Prelude.{◌≡◌, [], map, codes, IfSome, IfNone};
 ghost use Rattle.macsec_cli.specs.Numerals.{decimal_in};
 ghost use Rattle.macsec_cli.specs.Fields.{value_of_keyword, ends};
-ghost use Rattle.macsec_cli.specs.Kinds.{read_line, read_at, kinds_at, kinds, of_words, line_of};
+ghost use Rattle.macsec_cli.specs.Kinds.{read_line, read_at, kinds_at, kinds_of, kinds, protection_kinds, option_kinds, key_kinds, transmit_kinds, frame_kinds, of_words, line_of};
 ghost use Rattle.macsec_cli.specs.Runs.{Answers};
 
-use crate::endpoint::{Command, EndConfig, MAX_FRAME_LEN, NewKey};
 use crate::words;
 use crate::words::decimal;
-use macsec_tag::An;
+use macsec_secy::{An, Command, EndConfig, MAX_FRAME_LEN, MIN_MAX_FRAME, NewKey};
 use std::alloc::Global;
 use std::marker::Model;
 
@@ -56,6 +55,7 @@ pub enum Line {
     End(End, EndConfig),
     Command(Command),
     Send(Frame),
+    SendUncontrolled(Frame),
 }
 
 /// What is wrong with a line.
@@ -72,9 +72,6 @@ pub enum LineFault {
 
 /// The octets of the longest line.
 const MAX_LINE_LEN: usize = 20_000;
-
-/// The least that an endpoint's largest frame may have.
-const MIN_MAX_FRAME: u64 = 64;
 
 /// An association number.
 fn association(word: &[u8]) -> Result<An, LineFault>
@@ -103,7 +100,7 @@ fn configured_end(words: &[&[u8]]) -> Result<Line, LineFault>
     let at = words::end(at)?;
     let suite = words::suite(suite)?;
     let sci = words::sci(sci)?;
-    let max_frame = decimal(MIN_MAX_FRAME, MAX_FRAME_LEN as u64, max_frame)? as u32;
+    let max_frame = decimal(MIN_MAX_FRAME as u64, MAX_FRAME_LEN as u64, max_frame)? as u32;
     let form = words::tag_form(form)?;
     Ok(Line::End(
         at,
@@ -129,6 +126,8 @@ fn new_key(words: &[&[u8]]) -> Result<Line, LineFault>
     Ok(Line::Command(Command::Key(NewKey {
         number,
         bytes,
+        salt: [0; 12],
+        ssci: 0,
         offset,
     })))
 }
@@ -162,6 +161,78 @@ fn tx_on(words: &[&[u8]]) -> Result<Line, LineFault>
     Ok(Line::Command(Command::TxOn(association(an)?)))
 }
 
+/// The switching off of a transmit association, of the words after `txoff`.
+fn tx_off(words: &[&[u8]]) -> Result<Line, LineFault>
+    ensures { result ≡ read_line (kinds_at End.A) (codes "txoff") (map (λ w. w.now) words.now) }
+{
+    let [an] = words else {
+        return Err(LineFault::Count);
+    };
+    Ok(Line::Command(Command::TxOff(association(an)?)))
+}
+
+/// The removal of a transmit association, of the words after `txdel`.
+fn tx_del(words: &[&[u8]]) -> Result<Line, LineFault>
+    ensures { result ≡ read_line (kinds_at End.A) (codes "txdel") (map (λ w. w.now) words.now) }
+{
+    let [an] = words else {
+        return Err(LineFault::Count);
+    };
+    Ok(Line::Command(Command::TxDel(association(an)?)))
+}
+
+/// Whether frames are protected, of the words after `protect`.
+fn protect(words: &[&[u8]]) -> Result<Line, LineFault>
+    ensures { result ≡ read_line (kinds_at End.A) (codes "protect") (map (λ w. w.now) words.now) }
+{
+    let [on] = words else {
+        return Err(LineFault::Count);
+    };
+    Ok(Line::Command(Command::Protect(words::switch(on)?)))
+}
+
+/// How received frames are validated, of the words after `validate`.
+fn validate(words: &[&[u8]]) -> Result<Line, LineFault>
+    ensures { result ≡ read_line (kinds_at End.A) (codes "validate") (map (λ w. w.now) words.now) }
+{
+    let [mode] = words else {
+        return Err(LineFault::Count);
+    };
+    Ok(Line::Command(Command::Validate(words::validation(mode)?)))
+}
+
+/// Whether late frames are dropped, and the window, of the words after `replay`.
+fn replay(words: &[&[u8]]) -> Result<Line, LineFault>
+    ensures { result ≡ read_line (kinds_at End.A) (codes "replay") (map (λ w. w.now) words.now) }
+{
+    let [on, window] = words else {
+        return Err(LineFault::Count);
+    };
+    let protect = words::switch(on)?;
+    let window = decimal(0, u64::MAX, window)?;
+    Ok(Line::Command(Command::Replay { protect, window }))
+}
+
+/// The tag form, of the words after `tag`.
+fn tag(words: &[&[u8]]) -> Result<Line, LineFault>
+    ensures { result ≡ read_line (kinds_at End.A) (codes "tag") (map (λ w. w.now) words.now) }
+{
+    let [form] = words else {
+        return Err(LineFault::Count);
+    };
+    Ok(Line::Command(Command::Tag(words::tag_form(form)?)))
+}
+
+/// The retirement of a key, of the words after `retire`.
+fn retire(words: &[&[u8]]) -> Result<Line, LineFault>
+    ensures { result ≡ read_line (kinds_at End.A) (codes "retire") (map (λ w. w.now) words.now) }
+{
+    let [number] = words else {
+        return Err(LineFault::Count);
+    };
+    Ok(Line::Command(Command::Retire(key_number(number)?)))
+}
+
 /// A client's frame, of the words after `send`.
 fn send(alloc: Global, words: &[&[u8]]) -> Result<Line, LineFault>
     ensures { Answers (read_line (kinds_at End.A) (codes "send") (map (λ w. w.now) words.now)) result }
@@ -170,6 +241,16 @@ fn send(alloc: Global, words: &[&[u8]]) -> Result<Line, LineFault>
         return Err(LineFault::Count);
     };
     Ok(Line::Send(words::frame(alloc, octets)?))
+}
+
+/// A frame of the uncontrolled port's client, of the words after `sendu`.
+fn send_uncontrolled(alloc: Global, words: &[&[u8]]) -> Result<Line, LineFault>
+    ensures { Answers (read_line (kinds_at End.A) (codes "sendu") (map (λ w. w.now) words.now)) result }
+{
+    let [octets] = words else {
+        return Err(LineFault::Count);
+    };
+    Ok(Line::SendUncontrolled(words::frame(alloc, octets)?))
 }
 
 /// A line of an end, of its keyword and the words after it.
@@ -182,16 +263,92 @@ fn line_at(alloc: Global, at: End, keyword: &[u8], words: &[&[u8]]) -> Result<Li
     }
 }
 
+/// A line of A that sets whether frames are protected, or how they are validated, of its keyword and the
+/// words after it; `None` where the keyword is none of those.
+fn protection_line(keyword: &[u8], words: &[&[u8]]) -> Option<Result<Line, LineFault>>
+    ensures some { IfSome result (λ line. line ≡ read_line (kinds_at End.A) keyword.now (map (λ w. w.now) words.now)) }
+    ensures none { IfNone result (kinds_of protection_kinds keyword.now ≡ []) }
+{
+    match keyword {
+        b"protect" => Some(protect(words)),
+        b"validate" => Some(validate(words)),
+        _ => None,
+    }
+}
+
+/// A line of A that sets another option, of its keyword and the words after it; `None` where the keyword
+/// is none of those.
+fn option_line(keyword: &[u8], words: &[&[u8]]) -> Option<Result<Line, LineFault>>
+    ensures some { IfSome result (λ line. line ≡ read_line (kinds_at End.A) keyword.now (map (λ w. w.now) words.now)) }
+    ensures none { IfNone result (kinds_of option_kinds keyword.now ≡ []) }
+{
+    match keyword {
+        b"replay" => Some(replay(words)),
+        b"tag" => Some(tag(words)),
+        _ => None,
+    }
+}
+
+/// A line of A of a key, of its keyword and the words after it; `None` where the keyword is none of
+/// those.
+fn key_line(keyword: &[u8], words: &[&[u8]]) -> Option<Result<Line, LineFault>>
+    ensures some { IfSome result (λ line. line ≡ read_line (kinds_at End.A) keyword.now (map (λ w. w.now) words.now)) }
+    ensures none { IfNone result (kinds_of key_kinds keyword.now ≡ []) }
+{
+    match keyword {
+        b"key" => Some(new_key(words)),
+        b"retire" => Some(retire(words)),
+        _ => None,
+    }
+}
+
+/// A line of A of a transmit association, of its keyword and the words after it; `None` where the
+/// keyword is none of those.
+fn transmit_line(keyword: &[u8], words: &[&[u8]]) -> Option<Result<Line, LineFault>>
+    ensures some { IfSome result (λ line. line ≡ read_line (kinds_at End.A) keyword.now (map (λ w. w.now) words.now)) }
+    ensures none { IfNone result (kinds_of transmit_kinds keyword.now ≡ []) }
+{
+    match keyword {
+        b"txsa" => Some(tx_sa(words)),
+        b"txon" => Some(tx_on(words)),
+        b"txoff" => Some(tx_off(words)),
+        b"txdel" => Some(tx_del(words)),
+        _ => None,
+    }
+}
+
+/// A line of A of a frame, of its keyword and the words after it; `None` where the keyword is none of
+/// those.
+fn frame_line(alloc: Global, keyword: &[u8], words: &[&[u8]]) -> Option<Result<Line, LineFault>>
+    ensures some { IfSome result (λ line. Answers (read_line (kinds_at End.A) keyword.now (map (λ w. w.now) words.now)) line) }
+    ensures none { IfNone result (kinds_of frame_kinds keyword.now ≡ []) }
+{
+    match keyword {
+        b"send" => Some(send(alloc, words)),
+        b"sendu" => Some(send_uncontrolled(alloc, words)),
+        _ => None,
+    }
+}
+
 /// A line of A, of its keyword and the words after it.
 fn line_of_a(alloc: Global, keyword: &[u8], words: &[&[u8]]) -> Result<Line, LineFault>
     ensures { Answers (read_line (kinds_at End.A) keyword.now (map (λ w. w.now) words.now)) result }
 {
-    match keyword {
-        b"key" => new_key(words),
-        b"txsa" => tx_sa(words),
-        b"txon" => tx_on(words),
-        b"send" => send(alloc, words),
-        _ => Err(LineFault::Word),
+    if let Some(line) = protection_line(keyword, words) {
+        return line;
+    }
+    if let Some(line) = option_line(keyword, words) {
+        return line;
+    }
+    if let Some(line) = key_line(keyword, words) {
+        return line;
+    }
+    if let Some(line) = transmit_line(keyword, words) {
+        return line;
+    }
+    match frame_line(alloc, keyword, words) {
+        Some(line) => line,
+        None => Err(LineFault::Word),
     }
 }
 

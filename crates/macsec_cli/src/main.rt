@@ -1,8 +1,6 @@
 //! The program `macsec`: runs a script for a MACsec endpoint.
 #![tactic(auto)]
 
-mod channel;
-mod endpoint;
 mod faults;
 mod lines;
 mod running;

@@ -1,18 +1,20 @@
 //! A script from a reader, and what it prints to a writer.
 
-ghost use Rattle.std.specs.Prelude.{◌≡◌, ◌≤◌, ◌<◌, ◌^◌, ◌+◌, ℕ, length, IfSome, IfErr, OnOk, MatchResult, Ok, Err};
+ghost use Rattle.std.specs.Prelude.{◌≡◌, ◌≤◌, ◌<◌, ◌^◌, ◌+◌, ℕ, length, IfSome, IfErr, OnOk, MatchResult, None, Ok, Err};
 ghost use Rattle.macsec_cli.specs.declared.faults.ScriptFault.TheVariants.{Write};
+ghost use Rattle.macsec_cli.specs.declared.lines.Line.TheVariants as line;
 ghost use Rattle.macsec_cli.specs.Limits.{max_script_len};
 ghost use Rattle.macsec_cli.specs.Printed.{output_text, frames_after, line_step, send_step, text_from, text_with, text_of, a_config};
-ghost use Rattle.macsec_cli.specs.Endpoint.{leaves};
-ghost use Rattle.macsec_cli.specs.Endpoint as output;
-ghost use Rattle.macsec_cli.specs.Outputs.{drop_output, output_of_sent};
+ghost use Rattle.macsec_secy.specs.Step.{leaves};
+ghost use Rattle.macsec_secy.specs.Step as output;
+ghost use Rattle.macsec_secy.specs.Answers.{drop_output, output_of_command, output_of_frame, output_of_sent};
+ghost use Rattle.macsec_cli.specs.Refusals.{refusal_text};
 ghost use Rattle.macsec_cli.specs.Runs.{RunGives, LeavesText, IsInputFault, Prints};
 
-use crate::endpoint::{DropReason, EndConfig, FrameFault, Secy, Sent};
 use crate::faults::ScriptFault;
 use crate::lines::{End, Frame, Line};
 use crate::script::{MAX_SCRIPT_LEN, parse_script};
+use macsec_secy::{Command, DropReason, EndConfig, FrameFault, NewFault, Refusal, Secy, Sent};
 use std::alloc::Global;
 use std::io::{self, Read, Write};
 
@@ -77,8 +79,10 @@ fn print_script<W: Write>(
     let Some(config) = config_of_a(&first.1) else {
         return Ok(());
     };
-    let Ok(endpoint) = Secy::new(alloc, config) else {
-        return Err(ScriptFault::Memory);
+    let endpoint = match Secy::new(alloc, config) {
+        Ok(endpoint) => endpoint,
+        Err(NewFault::Memory) => return Err(ScriptFault::Memory),
+        Err(_) => return Ok(()),
     };
     let mut run = Run {
         endpoint,
@@ -128,11 +132,86 @@ fn print_line<W: Write>(
 {
     match line {
         Line::End(_, _) => Ok(()),
-        Line::Command(command) => {
-            run.endpoint.command(command);
-            write_fault(writeln!(writer, "{n} done"))
-        }
+        Line::Command(command) => print_command(run, writer, n, command),
         Line::Send(frame) => print_sent(alloc, run, writer, n, frame),
+        Line::SendUncontrolled(frame) => print_uncontrolled(alloc, run, writer, n, frame),
+    }
+}
+
+/// Carries out a command, and prints whether it was done.
+fn print_command<W: Write>(
+    run: &mut Run,
+    writer: &mut W,
+    n: u32,
+    command: &Command,
+) -> Result<(), ScriptFault>
+    requires { run.old.frames < 2 ^ 63 }
+    ensures text { Prints (line_step run.old n (line.Command command.now)).0 (W.contents writer.old) (W.contents writer.new) result }
+    ensures run { OnOk result (run.new ≡ (line_step run.old n (line.Command command.now)).1) }
+    ensures frames { OnOk result (run.new.frames ≤ run.old.frames + 1) }
+{
+    match run.endpoint.command(command) {
+        Ok(()) => write_fault(writeln!(writer, "{n} done")),
+        Err(refusal) => print_refusal(writer, n, refusal),
+    }
+}
+
+/// Prints a refusal by its number and its name.
+fn print_refusal<W: Write>(writer: &mut W, n: u32, refusal: Refusal) -> Result<(), ScriptFault>
+    ensures { Prints (output_text n 0 (output.refused refusal)) (W.contents writer.old) (W.contents writer.new) result }
+{
+    let text = refusal_text(refusal);
+    write_fault(writeln!(writer, "{n} refused {text}"))
+}
+
+/// A refusal as it is told: its number and its name.
+fn refusal_text(refusal: Refusal) -> &'static str
+    ensures { result.now ≡ refusal_text refusal }
+{
+    match refusal {
+        Refusal::KeyLength => "1 KeyLength",
+        Refusal::Offset => "2 Offset",
+        Refusal::KeyNumberUsed => "3 KeyNumberUsed",
+        Refusal::KeyRepeated => "4 KeyRepeated",
+        Refusal::NoKey => "5 NoKey",
+        Refusal::KeyRetired => "6 KeyRetired",
+        Refusal::KeyInUse => "7 KeyInUse",
+        Refusal::OwnSci => "8 OwnSci",
+        Refusal::ScTaken => "9 ScTaken",
+        Refusal::ScFull => "10 ScFull",
+        Refusal::NoSc => "11 NoSc",
+        Refusal::AnTaken => "12 AnTaken",
+        Refusal::NoSa => "13 NoSa",
+        Refusal::PnRange => "14 PnRange",
+        Refusal::PnLower => "15 PnLower",
+        Refusal::PnFloor => "16 PnFloor",
+        Refusal::SsciOwn => "17 SsciOwn",
+        Refusal::Window => "18 Window",
+        Refusal::SciForm => "19 SciForm",
+        Refusal::Exhausted => "20 Exhausted",
+    }
+}
+
+/// Sends a frame from the uncontrolled port, and prints what becomes of it.
+fn print_uncontrolled<W: Write>(
+    alloc: Global,
+    run: &mut Run,
+    writer: &mut W,
+    n: u32,
+    frame: &Frame,
+) -> Result<(), ScriptFault>
+    requires { run.old.frames < 2 ^ 63 }
+    ensures text { Prints (line_step run.old n (line.SendUncontrolled frame.now)).0 (W.contents writer.old) (W.contents writer.new) result }
+    ensures run { OnOk result (run.new ≡ (line_step run.old n (line.SendUncontrolled frame.now)).1) }
+    ensures frames { OnOk result (run.new.frames ≤ run.old.frames + 1) }
+{
+    match run.endpoint.send_uncontrolled(frame.octets()) {
+        Ok(octets) => {
+            let frames = run.frames;
+            run.frames += 1;
+            print_link(alloc, writer, n, frames, octets)
+        }
+        Err(fault) => print_fault(writer, n, fault),
     }
 }
 
@@ -162,7 +241,7 @@ fn frames_after(frames: u64, sent: &Result<Sent<'_>, FrameFault>) -> u64
     ensures bound { result ≤ frames + 1 }
 {
     match sent {
-        Ok(Sent::Link(_)) => frames + 1,
+        Ok(Sent::Link { .. }) => frames + 1,
         Ok(Sent::Dropped(_)) | Err(_) => frames,
     }
 }
@@ -178,7 +257,7 @@ fn print_output<W: Write>(
     ensures { Prints (output_text n frames (output_of_sent sent.entry)) (W.contents writer.old) (W.contents writer.new) result }
 {
     match sent {
-        Ok(Sent::Link(octets)) => print_link(alloc, writer, n, frames, octets),
+        Ok(Sent::Link { frame, .. }) => print_link(alloc, writer, n, frames, frame),
         Ok(Sent::Dropped(reason)) => print_dropped(writer, n, reason),
         Err(fault) => print_fault(writer, n, fault),
     }
@@ -191,7 +270,7 @@ fn print_link<W: Write>(
     frames: u64,
     octets: &[u8],
 ) -> Result<(), ScriptFault>
-    ensures { Prints (output_text n frames (leaves octets.now)) (W.contents writer.old) (W.contents writer.new) result }
+    ensures { Prints (output_text n frames (leaves octets.now None)) (W.contents writer.old) (W.contents writer.new) result }
 {
     let Ok(text) = hex::encode(alloc, octets) else {
         return Err(ScriptFault::Memory);

@@ -1,19 +1,15 @@
-//! A script as its lines, in the one order that they come in.
+//! A script as its lines: those of the two ends, and then those of A.
 
 ghost use Rattle.std.specs.Prelude.{◌≡◌, ◌≤◌, length, map};
 ghost use Rattle.macsec_cli.specs.Limits.{max_line_count};
 ghost use Rattle.macsec_cli.specs.Fields.{map_ok};
-ghost use Rattle.macsec_cli.specs.Endpoint.{fits};
-ghost use Rattle.macsec_cli.specs.Scripts.{place_after, is_fit, at_line, lines_from, script_of};
+ghost use Rattle.macsec_cli.specs.Scripts.{place_after, is_good, at_line, lines_from, script_of};
 ghost use Rattle.macsec_cli.specs.Runs.{Parses};
 
-use crate::channel::TagForm;
-use crate::endpoint::{Command, NewKey};
 use crate::faults::ScriptFault;
 use crate::lines::{End, Line, LineFault, parse_line};
 use crate::words::lines;
-use macsec_suite::{Suite, SuiteKey};
-use macsec_tag::{An, Sci};
+use macsec_secy::EndConfig;
 use std::alloc::Global;
 
 /// The octets of the longest script.
@@ -22,16 +18,12 @@ pub const MAX_SCRIPT_LEN: usize = 1_048_576;
 /// The lines of the longest script.
 const MAX_LINE_COUNT: usize = 65_536;
 
-/// The line that a script wants next; until there is an association with the suite of A, of an
-/// association with its key's number, and of the line that switches it on with its own number.
+/// What a script wants next: the line of end A, that of end B, or lines of A.
 #[derive(Clone, Copy)]
 pub enum Place {
     EndA,
-    EndB(Suite),
-    Key(Suite),
-    TxSa(Suite, u8),
-    TxOn(An),
-    Sends,
+    EndB,
+    Rest,
 }
 
 impl Place {
@@ -41,96 +33,47 @@ impl Place {
     {
         match self {
             Place::EndA => after_end_a(line),
-            Place::EndB(suite) => after_end_b(suite, line),
-            Place::Key(suite) => after_key(suite, line),
-            Place::TxSa(suite, key) => after_tx_sa(suite, key, line),
-            Place::TxOn(an) => after_tx_on(an, line),
-            Place::Sends => after_send(line),
+            Place::EndB => after_end_b(line),
+            Place::Rest => after_rest(line),
         }
     }
 }
 
-/// The place after the line of end A, whose tags carry the SCI.
+/// The place after the line of end A.
 fn after_end_a(line: &Line) -> Option<Place>
     ensures { result ≡ place_after Place.EndA line.now }
 {
     match line {
-        Line::End(End::A, config) if matches!(config.form, TagForm::Sci) => {
-            Some(Place::EndB(config.suite))
-        }
+        Line::End(End::A, config) if is_good(config) => Some(Place::EndB),
         _ => None,
     }
 }
 
 /// The place after the line of end B.
-fn after_end_b(suite: Suite, line: &Line) -> Option<Place>
-    ensures { result ≡ place_after (Place.EndB suite) line.now }
+fn after_end_b(line: &Line) -> Option<Place>
+    ensures { result ≡ place_after Place.EndB line.now }
 {
     match line {
-        Line::End(End::B, config) if is_fit(config.form, config.sci) => Some(Place::Key(suite)),
+        Line::End(End::B, config) if is_good(config) => Some(Place::Rest),
         _ => None,
     }
 }
 
-/// The place after the line of the key, which fits the suite.
-fn after_key(suite: Suite, line: &Line) -> Option<Place>
-    ensures { result ≡ place_after (Place.Key suite) line.now }
+/// The place after a line of A.
+fn after_rest(line: &Line) -> Option<Place>
+    ensures { result ≡ place_after Place.Rest line.now }
 {
     match line {
-        Line::Command(Command::Key(key)) if fits(suite, key) => {
-            Some(Place::TxSa(suite, key.number))
-        }
-        _ => None,
+        Line::End(_, _) => None,
+        _ => Some(Place::Rest),
     }
 }
 
-/// The place after the line of an association of this key.
-fn after_tx_sa(suite: Suite, number: u8, line: &Line) -> Option<Place>
-    ensures { result ≡ place_after (Place.TxSa suite number) line.now }
+/// Can an endpoint be made of the configuration?
+fn is_good(config: &EndConfig) -> bool
+    ensures { result ≡ is_good config.now }
 {
-    match line {
-        Line::Command(Command::TxSa { an, key, next, .. })
-            if *key == number && (1..=suite.last()).contains(next) => { Some(Place::TxOn(*an)) }
-        _ => None,
-    }
-}
-
-/// The place after the line that switches this association on.
-fn after_tx_on(number: An, line: &Line) -> Option<Place>
-    ensures { result ≡ place_after (Place.TxOn number) line.now }
-{
-    match line {
-        Line::Command(Command::TxOn(an)) if an.number() == number.number() => Some(Place::Sends),
-        _ => None,
-    }
-}
-
-/// The place after the line of a client's frame.
-fn after_send(line: &Line) -> Option<Place>
-    ensures { result ≡ place_after Place.Sends line.now }
-{
-    match line {
-        Line::Send(_) => Some(Place::Sends),
-        _ => None,
-    }
-}
-
-/// Does the key fit the suite?
-fn fits(suite: Suite, key: &NewKey) -> bool
-    ensures { result ≡ fits suite key.now }
-{
-    SuiteKey::new(suite, key.bytes, [0; 12], key.offset).is_ok()
-}
-
-/// Does the SCI have the port that the tag form stands for?
-fn is_fit(form: TagForm, sci: Sci) -> bool
-    ensures { result ≡ is_fit form sci }
-{
-    match form {
-        TagForm::Auto | TagForm::Sci => true,
-        TagForm::Es => sci.0[6] == 0 && sci.0[7] == 1,
-        TagForm::Scb => sci.0[6] == 0 && sci.0[7] == 0,
-    }
+    config.fault().is_none()
 }
 
 /// The fault of a script at the fault of its line `n`.
@@ -167,8 +110,8 @@ fn parse_lines(alloc: Global, lines: &[&[u8]]) -> Result<Vec<(u32, Line)>, Scrip
         }
     }
     match place {
-        Place::EndA | Place::Sends => Ok(said),
-        _ => Err(ScriptFault::Ends(lines.len() as u32)),
+        Place::EndA | Place::Rest => Ok(said),
+        Place::EndB => Err(ScriptFault::Ends(lines.len() as u32)),
     }
 }
 

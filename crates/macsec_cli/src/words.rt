@@ -5,15 +5,13 @@ ghost use Rattle.std.specs.List.{slice_split};
 ghost use Rattle.hex.specs.Hex.{hex_digit_value};
 ghost use Rattle.macsec_cli.specs.Words.{lines_of, words_of, without_return};
 ghost use Rattle.macsec_cli.specs.Numerals.{decimal_in, packet_number, octets_of, some_octets};
-ghost use Rattle.macsec_cli.specs.Fields.{value_of_keyword, ends, suites, forms, protections, map_ok, as_sci, key_of_word};
+ghost use Rattle.macsec_cli.specs.Fields.{value_of_keyword, ends, suites, forms, protections, switches, modes, map_ok, as_sci, key_of_word};
 ghost use Rattle.macsec_cli.specs.Runs.{Answers};
 
-use crate::channel::TagForm;
 use crate::lines::{End, Frame, LineFault};
 use hex::FromHexError;
 use macsec_aes::Key;
-use macsec_suite::Suite;
-use macsec_tag::Sci;
+use macsec_secy::{Mode, Sci, Suite, TagForm};
 use std::alloc::{AllocError, Global};
 
 /// The pieces of a text between its line feeds.
@@ -195,6 +193,29 @@ pub fn protection(word: &[u8]) -> Result<bool, LineFault>
     match word {
         b"int" => Ok(false),
         b"conf" => Ok(true),
+        _ => Err(LineFault::Word),
+    }
+}
+
+/// Is it on?
+pub fn switch(word: &[u8]) -> Result<bool, LineFault>
+    ensures { result ≡ value_of_keyword switches word.now }
+{
+    match word {
+        b"on" => Ok(true),
+        b"off" => Ok(false),
+        _ => Err(LineFault::Word),
+    }
+}
+
+/// The keyword of a way of validation.
+pub fn validation(word: &[u8]) -> Result<Mode, LineFault>
+    ensures { result ≡ value_of_keyword modes word.now }
+{
+    match word {
+        b"disabled" => Ok(Mode::Disabled),
+        b"check" => Ok(Mode::Check),
+        b"strict" => Ok(Mode::Strict),
         _ => Err(LineFault::Word),
     }
 }
