@@ -24,7 +24,7 @@ has_rx rows sci an = is_some (rx_row rows sci an)
 abbrev pub rx_uses : List RxRow → ℕ → Bool
 rx_uses rows key = list_any (λ row. row.key == key) rows
 
--- of making a channel
+-- why making a channel is refused
 abbrev pub rx_sc_refusals : Channels → Sci → Sci → List RefusalLine
 rx_sc_refusals channels own sci =
     (OwnSci, same_sci sci own) ∷
@@ -35,7 +35,7 @@ rx_sc_refusals channels own sci =
 abbrev pub with_channel : Channels → Sci → Channels
 with_channel channels sci = record channels { scis = channels.scis ++ sci ∷ [] }
 
--- of removing a channel
+-- why removing a channel is refused
 abbrev pub rx_sc_del_refusals : Channels → Sci → List RefusalLine
 rx_sc_del_refusals channels sci = (NoSc, not (has_channel channels.scis sci)) ∷ []
 
@@ -46,7 +46,7 @@ without_channel channels sci = record {
   rows = filter (λ row. not (same_sci row.sci sci)) channels.rows;
 }
 
--- of making an association
+-- why making an association is refused
 abbrev pub rx_sa_refusals : List InstalledKey → Channels → Sci → ℕ → ℕ → ℕ → List RefusalLine
 rx_sa_refusals keys channels sci an key lowest =
     (NoKey, not (is_number_used keys key)) ∷
@@ -62,7 +62,7 @@ with_rx_sa channels sci an key ssci lowest =
       rows = channels.rows ++ record { sci = sci; an = an; key = key; ssci = ssci; next = lowest; lowest = lowest; on = false } ∷ [];
     }
 
--- of switching an association on or off, and of removing it
+-- why switching an association on or off is refused, and why removing it is
 abbrev pub rx_row_refusals : Channels → Sci → ℕ → List RefusalLine
 rx_row_refusals channels sci an =
     (NoSc, not (has_channel channels.scis sci)) ∷ (NoSa, not (has_rx channels.rows sci an)) ∷ []
@@ -83,7 +83,7 @@ is_outside_row keys rows sci an pn =
 abbrev pub is_below_lowest : List RxRow → Sci → ℕ → ℕ → Bool
 is_below_lowest rows sci an pn = holds_of (λ row. nat_lt pn row.lowest) (rx_row rows sci an)
 
--- of raising the lowest acceptable packet number
+-- why raising the lowest acceptable packet number is refused
 abbrev pub rx_low_refusals : List InstalledKey → Channels → Sci → ℕ → ℕ → List RefusalLine
 rx_low_refusals keys channels sci an pn =
     (NoSc, not (has_channel channels.scis sci)) ∷

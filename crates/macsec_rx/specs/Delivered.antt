@@ -1,4 +1,4 @@
--- What is delivered, as it stands in a slice.
+-- What is delivered of a frame that is opened, by its prepared key and its IV.
 use Rattle.std.specs.Prelude.{ℕ, List, ◌++◌, take, Option}
 use Rattle.macsec_gcm.specs.Gcm.{open_of}
 use Rattle.macsec_tag.specs.Frame.{MpduParts}

@@ -1,4 +1,18 @@
--- The verdict on a tagged frame: the first step whose condition holds (IEEE 802.1AE, 10.6).
+-- The verdict on a tagged frame: the first step of reception whose condition holds (IEEE 802.1AE, 10.6).
+--    1  an untagged frame, in Strict: NoTag
+--    2  an untagged frame, in another mode: Untagged; the frame is delivered
+--    3  no SecTAG can be read, or it has PN 0 where packet numbers have 32 bits: BadTag
+--    4  E is set and C clear: Reserved
+--    5  no association is in use for the frame; Strict, or C set: NoSaError
+--    6  no association is in use for it, otherwise: NoSa; DA, SA and data are delivered
+--    7  no packet number is recovered: BadTag
+--    8  replay protection, and the packet number is late: Late
+--    9  Disabled, and C is set: NotValid
+--   10  Disabled, otherwise: Delayed where it is late, else Unchecked; DA, SA and data are delivered
+--   11  the ICV is not genuine; Strict, or C set: NotValid
+--   12  the ICV is not genuine, otherwise: Invalid; DA, SA and data are delivered as they were received
+--   13  the ICV is genuine: Delayed where it is late, else Passed; DA, SA and opened data are delivered
+-- A tagged frame is judged from step 3 on. Step 13 alone accepts the packet number.
 use Rattle.std.specs.Prelude.{ℕ, List, [], ◌∷◌, ◌++◌, take, find, slice_range, ◌+◌, ◌==◌, Bool, true, false, not, ◌&&◌, ◌||◌, is_some, if◌then◌else◌, Option, Some, None}
 use Rattle.macsec_gcm.specs.Gcm.{open_of}
 use Rattle.macsec_tag.specs.declared.Sci.{Sci}
@@ -46,13 +60,13 @@ sci_of scis p =
     else if p.tag.es then Some (port_of p.sa 1)
     else only_channel scis
 
--- the association of a received frame: of its SCI and of its association number, and on
+-- the association in use for a received frame: that of its SCI and its association number, where it is on
 abbrev pub in_use : List RxRow → ℕ → Option Sci → Option RxRow
 in_use rows an None = None
 in_use rows an (Some sci) = find (λ row. is_at sci an row && row.on) rows
 
--- the number of the step that decides, the verdict, the association where there is one, its packet number
--- where a later step than the seventh decides, and what is delivered
+-- the number of the step that decides, the verdict, the association from step 7 on, the packet number from
+-- step 8 on (before it 0), and what is delivered
 pub record Judgement : Type 0 where
   pub step : ℕ
   pub verdict : Verdict
@@ -110,11 +124,11 @@ judge_row options keys p (Some row) =
     let key = the_key keys row.key in
     judge_number options key row p (recovered_number (is_xpn key.suite) row.lowest p.tag.pn)
 
--- no frame has the packet number 0 where packet numbers have 32 bits
+-- the packet number 0, which no sender uses, where packet numbers have 32 bits
 abbrev pub is_bad_number : Suite → Tag → Bool
 is_bad_number suite tag = tag.pn == 0 && not (is_xpn suite)
 
--- steps 3 to 13 of a tagged frame, whose association is this one, where there is one in use
+-- steps 3 to 13, with the association in use for the frame, where there is one
 abbrev pub judge_tagged_row : RxOptions → List InstalledKey → MpduParts → Option RxRow → Judgement
 judge_tagged_row options keys p row =
     if is_bad_number options.suite p.tag then without_row 3 BadTag None

@@ -4,14 +4,14 @@ use Rattle.macsec_rx.specs.declared.Judged.{Judged}
 use Rattle.macsec_rx.specs.declared.judging.Outcome.{Outcome}
 use Rattle.macsec_rx.specs.Judge.{Judgement, accepted_number, octets_at, place_of}
 
--- the answer is the judgement, and what is delivered stands in the slice
+-- the answer is the judgement, and what is delivered stands in the slice, at its place and within it
 pub record ShowsJudgement (judged : Judged) (out : List ℕ) (j : Judgement) : Type 0 where
   pub verdict : judged.verdict ≡ j.verdict
   pub row : judged.row ≡ option_map place_of j.row
   pub delivered : option_map (octets_at out) judged.delivered ≡ j.delivered
   pub within : IfSome judged.delivered (λ at. at.0 + at.1 ≤ length out)
 
--- and the number that is accepted with it
+-- and so is the number that is accepted with it
 pub record ShowsOutcome (outcome : Outcome) (out : List ℕ) (j : Judgement) : Type 0 where
   pub judged : ShowsJudgement outcome.judged out j
   pub accepted : outcome.accepted ≡ accepted_number j

@@ -213,7 +213,8 @@ impl RxChannels {
         narrow(self.rows.as_mut_slice(), window);
     }
 
-    /// The SCI of a received frame, where it is known.
+    /// The SCI of a received frame, where it is known: that of its SecTAG, or by its source address where
+    /// SCB or ES is set, or that of the only channel.
     fn sci_of(&self, mpdu: &Mpdu<'_>) -> Option<Sci>
         ensures { result ≡ sci_of self.now.scis mpdu.now }
     {
@@ -253,7 +254,8 @@ impl RxChannels {
         None
     }
 
-    /// Takes note that a frame of this association and of the packet number `number` was accepted.
+    /// Takes note that a frame of this association and of the packet number `number` was accepted, under a
+    /// replay window.
     pub(crate) fn accept(&mut self, row: RxRow, number: u64, window: u64)
         ensures { self.new ≡ record self.old { rows = with_rx (row_accepting window number) row.sci row.an self.old.rows } }
     {

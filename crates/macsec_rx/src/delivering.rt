@@ -64,7 +64,8 @@ pub fn deliver_bare(mpdu: &Mpdu<'_>, out: &mut [u8]) -> (usize, usize)
     deliver(mpdu, out)
 }
 
-/// Delivers the frame with its plaintext, where the ICV is genuine under the key and the IV.
+/// Delivers the frame with its plaintext, where the ICV is genuine under the key and the IV, and else
+/// nothing.
 pub fn deliver_opened(
     key: &SuiteKey,
     iv: &[u8; 12],

@@ -141,7 +141,12 @@ fn check_case(
         Verdict::BadTag | Verdict::Reserved | Verdict::NoSa | Verdict::NoSaError
     );
     assert_eq!(rt; judged.row.map(|row| row.0), is_of_row.then_some(SENDER));
-    assert_eq!(rt; delivered_octets(judged, &out), case.delivered);
+    assert_eq!(rt;
+        delivered_octets(judged, &out),
+        case.delivered,
+        "where it is {:?}",
+        judged.verdict
+    );
 }
 
 /// What the channels answer to a tagged frame.
@@ -235,7 +240,12 @@ fn first_frame_of_an_association(rt: HostRuntime) -> Result<(), Fail> {
         let mut channels = sender_channel(&keys)?;
         check_case(&rt, &keys, &mut channels, options(mode), case);
         let number = u128::from(NUMBER) + u128::from(case.verdict == Verdict::Passed);
-        assert_eq!(&rt; numbers(&channels), Some((number, number)));
+        assert_eq!(&rt;
+            numbers(&channels),
+            Some((number, number)),
+            "where it is {:?}",
+            case.verdict
+        );
     }
     Ok(())
 }
@@ -277,8 +287,8 @@ fn frame_heard_twice(rt: HostRuntime) -> Result<(), Fail> {
     Ok(())
 }
 
-/// Of the octets of TCI and AN that read as a SecTAG's, one is that of the frame; without an SCI some are
-/// those of the only channel, and the others of none.
+/// Where the octet of TCI and AN is altered and still reads as one, the frame is of the association by its
+/// SCI or as one of the only channel, and then not valid, or it is of none.
 #[test]
 fn each_octet_of_tci_and_an(rt: HostRuntime) -> Result<(), Fail> {
     let keys = key_table(rt.alloc())?;

@@ -62,8 +62,8 @@ impl Outcome {
 
 impl RxChannels {
     /// The verdict on a tagged frame of at most 9,248 octets, its padding aside, and the change of its
-    /// association's packet numbers. What is delivered stands in `out`, which has 9,248 octets or more. The key of each
-    /// association is in the table.
+    /// association's packet numbers, where they are accepted. What is delivered stands in `out`, which has
+    /// 9,248 octets or more. The key of each association is in the table.
     pub fn judge(
         &mut self,
         keys: &KeyTable,
@@ -108,7 +108,7 @@ fn is_disabled(mode: Mode) -> bool
     }
 }
 
-/// The verdict, where the association of the frame is `row`, or there is none.
+/// The verdict, where the association in use for the frame is `row`, or there is none.
 fn judge_tagged(
     keys: &KeyTable,
     options: &RxOptions,
@@ -132,7 +132,7 @@ fn judge_tagged(
     judge_association(keys, options, row, mpdu, out)
 }
 
-/// The verdict of the association, or where there is none.
+/// The verdict on a frame whose tag is not at fault, of an association or of none.
 fn judge_association(
     keys: &KeyTable,
     options: &RxOptions,

@@ -27,16 +27,27 @@ pub enum Mode {
 /// What becomes of a received frame, named as its counter is.
 #[derive(Clone, Copy, PartialEq, Eq, Debug)]
 pub enum Verdict {
+    /// It has no SecTAG, and is delivered.
     Untagged,
+    /// It has no SecTAG, and is dropped.
     NoTag,
+    /// Its SecTAG or its packet number is at fault.
     BadTag,
+    /// E is set and C clear.
     Reserved,
+    /// No association is in use for it, and it is dropped.
     NoSaError,
+    /// No association is in use for it, and it is delivered.
     NoSa,
+    /// Its packet number is too low, and it is dropped.
     Late,
+    /// It is not valid, or can't be used unopened, and is dropped.
     NotValid,
+    /// It was not validated, and is delivered.
     Unchecked,
+    /// Its packet number is too low, and it is delivered.
     Delayed,
+    /// It is not valid, and is delivered.
     Invalid,
     /// It is valid and in time; it prints as `OK`.
     Passed,
@@ -53,8 +64,8 @@ pub struct RxOptions {
 }
 
 /// A receive association: the SCI of its channel, its number, the number of its key, the SSCI of the
-/// sender, the packet number past the highest that was accepted, the lowest acceptable one, and whether it
-/// is on.
+/// sender, the next packet number, which is past each that was accepted, the lowest acceptable one, and
+/// whether it is on.
 #[derive(Clone, Copy, PartialEq, Eq, Debug, Default)]
 pub struct RxRow {
     pub sci: Sci,
@@ -66,8 +77,8 @@ pub struct RxRow {
     pub on: bool,
 }
 
-/// The verdict on a frame, the association that it comes from, and the place and the length of what is
-/// delivered.
+/// The verdict on a frame, the association that it comes from, where the verdict goes by one, and the place
+/// and the length of what is delivered.
 #[derive(Clone, Copy, PartialEq, Eq, Debug)]
 pub struct Judged {
     pub verdict: Verdict,

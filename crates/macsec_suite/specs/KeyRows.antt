@@ -11,8 +11,8 @@ abbrev pub max_key_count : ℕ
 max_key_count = 256
 
 -- a key that was installed: its number, its suite, its bytes, its salt, the own SSCI, its
--- confidentiality offset, the first packet number that was never used under it, and whether it is
--- retired
+-- confidentiality offset, its first unused packet number, which is 1 and then one past the last that was
+-- used under it, and whether it is retired
 pub record InstalledKey : Type 0 where
   pub number : ℕ
   pub suite : Suite
