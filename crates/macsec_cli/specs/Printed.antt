@@ -4,7 +4,7 @@ use Rattle.hex.specs.Hex.{encode_lower}
 use Rattle.macsec_secy.specs.declared.EndConfig.{EndConfig}
 use Rattle.macsec_secy.specs.declared.FrameFault.TheVariants.{Short, Long}
 use Rattle.macsec_secy.specs.State.{State, start}
-use Rattle.macsec_secy.specs.Step.{operator_command, client_frame, uncontrolled_frame, Output, done, refused, leaves, dropped_no_sa, dropped_too_long, fault, step}
+use Rattle.macsec_secy.specs.Step.{operator_command, client_frame, uncontrolled_frame, Output, done, refused, leaves, dropped_no_sa, dropped_too_long, received, fault, step}
 use Rattle.macsec_cli.specs.declared.lines.End.TheVariants.{A, B}
 use Rattle.macsec_cli.specs.declared.lines.Line.{Line}
 use Rattle.macsec_cli.specs.declared.lines.Line.TheVariants as line
@@ -14,13 +14,15 @@ use Rattle.macsec_cli.specs.Fields.{map_ok}
 use Rattle.macsec_cli.specs.Refusals.{refusal_text}
 use Rattle.macsec_cli.specs.Scripts.{NumberedLine, is_good, script_of}
 
--- the line that tells an output of line n; a link frame is the next one after k
+-- the line that tells an output of line n; a link frame is the next one after k. No line of a script
+-- receives a link frame, so none tells that
 abbrev pub output_text : ℕ → ℕ → Output → List ℕ
 output_text n k done = decimal n ++ codes " done\n"
 output_text n k (refused r) = decimal n ++ codes " refused " ++ refusal_text r ++ codes "\n"
 output_text n k (leaves frame under) = decimal n ++ codes " frame " ++ decimal k ++ codes " " ++ encode_lower frame ++ codes "\n"
 output_text n k dropped_no_sa = decimal n ++ codes " dropped NoSA\n"
 output_text n k dropped_too_long = decimal n ++ codes " dropped TooLong\n"
+output_text n k (received verdict row shown controlled) = []
 output_text n k (fault Short) = decimal n ++ codes " fault 5 Short\n"
 output_text n k (fault Long) = decimal n ++ codes " fault 6 Long\n"
 
@@ -30,6 +32,7 @@ frames_after k (refused r) = k
 frames_after k (leaves frame under) = k + 1
 frames_after k dropped_no_sa = k
 frames_after k dropped_too_long = k
+frames_after k (received verdict row shown controlled) = k
 frames_after k (fault f) = k
 
 -- what line n prints, and the run after it

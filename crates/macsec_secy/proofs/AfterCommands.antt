@@ -8,7 +8,7 @@ use Rattle.macsec_suite.specs.Refusals.{RefusalLine, first_refusal, is_number_us
 use Rattle.macsec_tx.specs.declared.TxRow.{TxRow}
 use Rattle.macsec_tx.specs.Commands.{tx_sa_refusals, tx_uses}
 use Rattle.macsec_secy.specs.declared.Command.{Command}
-use Rattle.macsec_secy.specs.declared.Command.TheVariants.{Protect, Validate, Replay, Tag, Key, Retire, TxSa, TxOn, TxOff, TxDel}
+use Rattle.macsec_secy.specs.declared.Command.TheVariants.{Protect, Validate, Replay, Tag, Key, Retire, TxSa, TxOn, TxOff, TxDel, RxSc, RxScDel, RxSa, RxOn, RxOff, RxLow, RxDel}
 use Rattle.macsec_secy.specs.State.{State}
 use Rattle.macsec_secy.specs.Commands.{effect, refusal}
 use Rattle.macsec_secy.proofs.KeysKept.{there_retiring, there_with_more}
@@ -26,6 +26,13 @@ effect_stays s (TxSa an key next conf) n = refl
 effect_stays s (TxOn an) n = refl
 effect_stays s (TxOff an) n = refl
 effect_stays s (TxDel an) n = refl
+effect_stays s (RxSc sci) n = refl
+effect_stays s (RxScDel sci) n = refl
+effect_stays s (RxSa sci an key ssci lowest) n = refl
+effect_stays s (RxOn sci an) n = refl
+effect_stays s (RxOff sci an) n = refl
+effect_stays s (RxLow sci an pn) n = refl
+effect_stays s (RxDel sci an) n = refl
 
 another_stays : (keys : List InstalledKey) (new : InstalledKey) → new.first_unused ≡ 1 → KeysStay keys (keys ++ new ∷ [])
 another_stays keys new fresh = record { there = λ n. there_with_more keys (new ∷ []) n; first = λ n. first-another_key keys new n fresh }
@@ -69,3 +76,10 @@ effect_keeps s (TxSa an key next conf) e have =
 effect_keeps s (TxOn an) e have = with_one_on s.keys s.tx an have
 effect_keeps s (TxOff an) e have = with_one_off s.keys s.tx an have
 effect_keeps s (TxDel an) e have = without_one s.keys s.tx an have
+effect_keeps s (RxSc sci) e have = have
+effect_keeps s (RxScDel sci) e have = have
+effect_keeps s (RxSa sci an key ssci lowest) e have = have
+effect_keeps s (RxOn sci an) e have = have
+effect_keeps s (RxOff sci an) e have = have
+effect_keeps s (RxLow sci an pn) e have = have
+effect_keeps s (RxDel sci an) e have = have

@@ -11,7 +11,7 @@ use Rattle.macsec_tx.specs.Transmit.{keys_after, next_used, rows_after, tx_row, 
 use Rattle.macsec_tx.specs.Commands.{HaveKeys, off_at, switch_to, tx_sa_refusals, with_tx_off, with_tx_on, with_tx_sa, without_tx}
 
 -- the key of this number is in the table
-abbrev IsThere : List InstalledKey → ℕ → Type 0
+abbrev pub IsThere : List InstalledKey → ℕ → Type 0
 IsThere keys number = IsSome (key_row keys number)
 
 -- the key of this association, where there is one, is in the table
@@ -25,7 +25,7 @@ kept_by P old new after (Ok done) ok err here later = subst P (sym ok) (later re
 kept_by P old new after (Err refusal) ok err here later = subst P (sym err) here
 
 -- a change that is made where a test holds keeps each field that the change keeps
-field_kept : {A B : Type 0} (field : A → B) (change : A → A) → ((x : A) → field (change x) ≡ field x) → (test : Bool) (x : A) →
+pub field_kept : {A B : Type 0} (field : A → B) (change : A → A) → ((x : A) → field (change x) ≡ field x) → (test : Bool) (x : A) →
     field (if test then change x else x) ≡ field x
 field_kept field change same true x = same x
 field_kept field change same false x = refl
@@ -183,7 +183,7 @@ with_row keys (row ∷ rows) new number there here = by_test (row.an == number) 
     by_test false later here = later here
 
 -- nothing is refused, so the first line of the refusals does not refuse
-not_refused : (holds : Bool) (refusal : Refusal) (later : Option Refusal) → (if not holds then Some refusal else later) ≡ None → holds ≡ true
+pub not_refused : (holds : Bool) (refusal : Refusal) (later : Option Refusal) → (if not holds then Some refusal else later) ≡ None → holds ≡ true
 not_refused true refusal later none = refl
 not_refused false refusal later none = cc
 

@@ -1,4 +1,10 @@
 pub mod KeysKept
+pub mod RxKeysKept
+pub mod Lent
+pub mod ChannelsCounted
+pub mod Steps
+pub mod Lengths
+pub mod TaggedFrames
 pub mod Limits
 pub mod FirstUnused
 pub mod UnusedNext

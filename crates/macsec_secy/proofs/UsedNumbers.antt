@@ -16,7 +16,8 @@ use Rattle.macsec_secy.specs.declared.FrameFault.{FrameFault}
 use Rattle.macsec_secy.specs.declared.Command.{Command}
 use Rattle.macsec_secy.specs.State.{State, start, tx_options}
 use Rattle.macsec_secy.specs.Commands.{effect, refusal, unless_refused}
-use Rattle.macsec_secy.specs.Step.{Input, Output, operator_command, client_frame, uncontrolled_frame, frame_fault, leaves, sending_of, sent_output, state_after_sending, step, unless_fault}
+use Rattle.macsec_secy.specs.Step.{Input, Output, operator_command, client_frame, uncontrolled_frame, link_frame, frame_fault, leaves, received_output, sending_of, sent_output, state_after_sending, step, unless_fault}
+use Rattle.macsec_secy.specs.Reception.{judgement_of, state_after_receiving}
 use Rattle.macsec_secy.specs.Laws.{UsedNumber, UsesNoNumberTwice, number_of_row, number_unless_fault, number_used, numbers_used}
 use Rattle.macsec_secy.proofs.FirstUnused.{first_unused, first-noting, first-noting_other}
 use Rattle.macsec_secy.proofs.UnusedNext.{HasUnusedNext, HaveUnusedNext, after_sending, on_unused}
@@ -119,12 +120,20 @@ nothing_goes : (s : State) (output : Output) → HaveUnusedNext s.keys s.tx → 
 nothing_goes s output have None = record { keeps = have; adds = λ later new. new }
 nothing_goes s output have (Some fault) = record { keeps = have; adds = λ later new. new }
 
+-- a frame from the link
+receiving_goes : (s : State) (frame : List ℕ) (output : Output) → HaveUnusedNext s.keys s.tx → (fault : Option FrameFault) →
+    Goes s.keys (unless_fault fault s (output, state_after_receiving s frame (judgement_of s frame))).1.keys
+    (unless_fault fault s (output, state_after_receiving s frame (judgement_of s frame))).1.tx []
+receiving_goes s frame output have None = record { keeps = have; adds = λ later new. new }
+receiving_goes s frame output have (Some fault) = record { keeps = have; adds = λ later new. new }
+
 -- ---- runs
 
 step_goes : (s : State) (input : Input) → HaveUnusedNext s.keys s.tx → Goes s.keys (step s input).1.keys (step s input).1.tx (number_used s input)
 step_goes s (operator_command c) have = command_goes s c have (refusal s c) refl
 step_goes s (client_frame frame) have = frame_goes s frame (sent_output frame (sending_of s frame).leaving) have (frame_fault frame)
 step_goes s (uncontrolled_frame frame) have = nothing_goes s (leaves frame None) have (frame_fault frame)
+step_goes s (link_frame frame) have = receiving_goes s frame (received_output frame (judgement_of s frame)) have (frame_fault frame)
 
 numbers_new : (inputs : List Input) (s : State) → HaveUnusedNext s.keys s.tx → AreNew s.keys (numbers_used s inputs)
 numbers_new [] s have = record { late = All-nil (λ u. first_unused s.keys u.0 ≤ u.1); apart = λ i j d less within. absurd (omega arith) }

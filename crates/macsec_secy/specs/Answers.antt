@@ -1,18 +1,23 @@
 -- What the calls of an endpoint answer, as outputs of the machine.
-use Rattle.std.specs.Prelude.{◌≡◌, ℕ, List, Some, None, Result, Ok, Err}
+use Rattle.std.specs.Prelude.{◌≡◌, ℕ, List, Option, Some, None, Result, Ok, Err, option_map, find}
 use Rattle.std.specs.Borrow.{Bor}
 use Rattle.macsec_suite.specs.declared.Refusal.{Refusal}
 use Rattle.macsec_secy.specs.declared.EndConfig.{EndConfig}
 use Rattle.macsec_secy.specs.declared.FrameFault.{FrameFault}
 use Rattle.macsec_secy.specs.declared.NewFault.{NewFault}
 use Rattle.macsec_secy.specs.declared.NewFault.TheVariants.{Memory, MaxFrame, SciForm}
+use Rattle.macsec_secy.specs.declared.Received.{Received}
 use Rattle.macsec_secy.specs.declared.Sent.{Sent}
 use Rattle.macsec_secy.specs.declared.Sent.TheVariants.{Link, Dropped}
 use Rattle.macsec_secy.specs.declared.DropReason.{DropReason}
 use Rattle.macsec_secy.specs.declared.DropReason.TheVariants.{NoSa, TooLong}
+use Rattle.macsec_tag.specs.declared.Sci.{Sci}
+use Rattle.macsec_rx.specs.Channels.{same_sci}
+use Rattle.macsec_secy.specs.declared.RxCounters.{RxCounters}
+use Rattle.macsec_secy.specs.declared.ChannelCounters.{ChannelCounters}
 use Rattle.macsec_secy.specs.State.{State, start}
 use Rattle.macsec_secy.specs.Configs.{config_fault}
-use Rattle.macsec_secy.specs.Step.{Output, done, refused, leaves, dropped_no_sa, dropped_too_long, fault}
+use Rattle.macsec_secy.specs.Step.{Output, done, refused, leaves, dropped_no_sa, dropped_too_long, received, fault}
 
 -- of `command`
 abbrev pub output_of_command : {A : Type 0} → Result A Refusal → Output
@@ -30,6 +35,11 @@ output_of_sent (Ok (Link frame under)) = leaves frame.now under
 output_of_sent (Ok (Dropped reason)) = drop_output reason
 output_of_sent (Err f) = fault f
 
+-- of `receive`
+abbrev pub output_of_received : Result Received FrameFault → Output
+output_of_received (Ok r) = received r.verdict r.row r.uncontrolled.now (option_map (λ (f : Bor (List ℕ)). f.now) r.controlled)
+output_of_received (Err f) = fault f
+
 -- of `send_uncontrolled`
 abbrev pub output_of_frame : Result (Bor (List ℕ)) FrameFault → Output
 output_of_frame (Ok frame) = leaves frame.now None
@@ -42,3 +52,7 @@ MakesEndpoint config (Ok s) = (config_fault config ≡ None) × (s ≡ start con
 MakesEndpoint config (Err Memory) = config_fault config ≡ None
 MakesEndpoint config (Err MaxFrame) = config_fault config ≡ Some MaxFrame
 MakesEndpoint config (Err SciForm) = config_fault config ≡ Some SciForm
+
+-- the counters of a channel, where there is one
+abbrev pub rx_counters_of : List ChannelCounters → Sci → Option RxCounters
+rx_counters_of rows sci = option_map (λ (row : ChannelCounters). row.counters) (find (λ row. same_sci row.sci sci) rows)

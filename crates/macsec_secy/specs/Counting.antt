@@ -1,9 +1,15 @@
--- Counters, of 64 bits: which of them a client's frame raises (IEEE 802.1AE, 10.7).
+-- Counters, of 64 bits: which of them a client's frame raises, and which a link frame (IEEE 802.1AE, 10.7).
 use Rattle.std.specs.Prelude.{ℕ, ◌+◌, ◌-◌, ◌%◌, ◌^◌, List, length, Bool, if◌then◌else◌, Option, Some, None}
 use Rattle.macsec_tx.specs.declared.TxRow.{TxRow}
 use Rattle.macsec_tx.specs.Transmit.{Leaving, plain, protected, no_sa, too_long}
 use Rattle.macsec_secy.specs.declared.Counters.{Counters}
+use Rattle.macsec_tag.specs.declared.Sci.{Sci}
+use Rattle.macsec_rx.specs.declared.Verdict.{Verdict}
+use Rattle.macsec_rx.specs.declared.Verdict.TheVariants.{Untagged, NoTag, BadTag, Reserved, NoSa, NoSaError, Late, NotValid, Unchecked, Delayed, Invalid, Passed}
+use Rattle.macsec_rx.specs.Channels.{same_sci}
 use Rattle.macsec_secy.specs.declared.TxCounters.{TxCounters}
+use Rattle.macsec_secy.specs.declared.RxCounters.{RxCounters}
+use Rattle.macsec_secy.specs.declared.ChannelCounters.{ChannelCounters}
 
 -- a counter raised by n
 abbrev pub plus : ℕ → ℕ → ℕ
@@ -30,3 +36,45 @@ count_octets conf octets c =
 abbrev pub count_protected : Option TxRow → List ℕ → TxCounters → TxCounters
 count_protected None frame c = c
 count_protected (Some row) frame c = count_octets row.conf (length frame - 12) c
+
+-- ---- received frames
+
+-- the endpoint's counter of a verdict that no channel counts
+abbrev pub count_packet : Verdict → Counters → Counters
+count_packet Untagged c = record c { in_pkts_untagged = plus c.in_pkts_untagged 1 }
+count_packet NoTag c = record c { in_pkts_no_tag = plus c.in_pkts_no_tag 1 }
+count_packet BadTag c = record c { in_pkts_bad_tag = plus c.in_pkts_bad_tag 1 }
+count_packet Reserved c = record c { in_pkts_reserved = plus c.in_pkts_reserved 1 }
+count_packet NoSa c = record c { in_pkts_no_sa = plus c.in_pkts_no_sa 1 }
+count_packet NoSaError c = record c { in_pkts_no_sa_error = plus c.in_pkts_no_sa_error 1 }
+count_packet Late c = c
+count_packet NotValid c = c
+count_packet Unchecked c = c
+count_packet Delayed c = c
+count_packet Invalid c = c
+count_packet Passed c = c
+
+-- a channel's counter of a verdict
+abbrev pub count_in_channel : Verdict → RxCounters → RxCounters
+count_in_channel Passed c = record c { in_pkts_ok = plus c.in_pkts_ok 1 }
+count_in_channel Unchecked c = record c { in_pkts_unchecked = plus c.in_pkts_unchecked 1 }
+count_in_channel Delayed c = record c { in_pkts_delayed = plus c.in_pkts_delayed 1 }
+count_in_channel Late c = record c { in_pkts_late = plus c.in_pkts_late 1 }
+count_in_channel Invalid c = record c { in_pkts_invalid = plus c.in_pkts_invalid 1 }
+count_in_channel NotValid c = record c { in_pkts_not_valid = plus c.in_pkts_not_valid 1 }
+count_in_channel Untagged c = c
+count_in_channel NoTag c = c
+count_in_channel BadTag c = c
+count_in_channel Reserved c = c
+count_in_channel NoSa c = c
+count_in_channel NoSaError c = c
+
+abbrev pub count_at : Verdict → Sci → ChannelCounters → ChannelCounters
+count_at verdict sci row =
+    if same_sci row.sci sci then record row { counters = count_in_channel verdict row.counters } else row
+
+-- the endpoint's counters of the octets that the cipher was applied to
+abbrev pub count_octets_received : Bool → ℕ → Counters → Counters
+count_octets_received e octets c =
+    if e then record c { in_octets_decrypted = plus c.in_octets_decrypted octets }
+    else record c { in_octets_validated = plus c.in_octets_validated octets }

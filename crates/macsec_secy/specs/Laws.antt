@@ -5,7 +5,7 @@ use Rattle.macsec_tx.specs.declared.TxRow.{TxRow}
 use Rattle.macsec_secy.specs.declared.EndConfig.{EndConfig}
 use Rattle.macsec_secy.specs.declared.FrameFault.{FrameFault}
 use Rattle.macsec_secy.specs.State.{State, start}
-use Rattle.macsec_secy.specs.Step.{Input, operator_command, client_frame, uncontrolled_frame, frame_fault, sending_of, step}
+use Rattle.macsec_secy.specs.Step.{Input, operator_command, client_frame, uncontrolled_frame, link_frame, frame_fault, sending_of, step}
 
 -- the number of a key, and the packet number that is used under it
 abbrev pub UsedNumber : Type 0
@@ -24,6 +24,7 @@ abbrev pub number_used : State → Input → List UsedNumber
 number_used s (operator_command c) = []
 number_used s (client_frame frame) = number_unless_fault (frame_fault frame) (sending_of s frame).by
 number_used s (uncontrolled_frame frame) = []
+number_used s (link_frame frame) = []
 
 -- what a list of inputs uses, in their order
 abbrev pub numbers_used : State → List Input → List UsedNumber

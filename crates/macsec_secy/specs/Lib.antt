@@ -1,8 +1,11 @@
 pub mod Limits
 pub mod Configs
 pub mod State
+pub mod Sound
 pub mod Counting
 pub mod Commands
+pub mod Reception
+pub mod Verdicts
 pub mod Step
 pub mod Laws
 pub mod Answers

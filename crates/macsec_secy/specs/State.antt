@@ -1,23 +1,31 @@
 -- The state of an endpoint (IEEE 802.1AE, 10.7).
-use Rattle.std.specs.Prelude.{List, [], true, false}
+use Rattle.std.specs.Prelude.{List, [], length, nat_lt, Bool, true}
 use Rattle.macsec_suite.specs.KeyRows.{InstalledKey}
 use Rattle.macsec_tx.specs.declared.TxRow.{TxRow}
 use Rattle.macsec_tx.specs.declared.TxOptions.{TxOptions}
 use Rattle.macsec_secy.specs.declared.EndConfig.{EndConfig}
 use Rattle.macsec_rx.specs.declared.Mode.TheVariants.{Strict}
+use Rattle.macsec_rx.specs.declared.RxOptions.{RxOptions}
+use Rattle.macsec_rx.specs.Channels.{Channels, no_channels}
+use Rattle.macsec_tag.specs.declared.Sci.{Sci}
 use Rattle.macsec_secy.specs.declared.Options.{Options}
 use Rattle.macsec_secy.specs.declared.Counters.{Counters}
 use Rattle.macsec_secy.specs.declared.TxCounters.{TxCounters}
+use Rattle.macsec_secy.specs.declared.RxCounters.{RxCounters}
+use Rattle.macsec_secy.specs.declared.ChannelCounters.{ChannelCounters}
 
 -- the configuration; the options; the keys, in the order of their installation; the transmit
--- associations, in the order of their making; the counters of the endpoint and of its transmit channel
+-- associations, in the order of their making; the receive channels with their associations; the counters
+-- of the endpoint, of its transmit channel, and of each receive channel
 pub record State : Type 0 where
   pub config : EndConfig
   pub options : Options
   pub keys : List InstalledKey
   pub tx : List TxRow
+  pub rx : Channels
   pub counters : Counters
   pub tx_counters : TxCounters
+  pub rx_counters : List ChannelCounters
 
 -- counters that have counted nothing
 abbrev pub no_counters : Counters
@@ -38,6 +46,16 @@ no_counters = record {
 abbrev pub no_tx_counters : TxCounters
 no_tx_counters = record { out_pkts_protected = 0; out_pkts_encrypted = 0; out_octets_protected = 0; out_octets_encrypted = 0 }
 
+abbrev pub no_rx_counters : RxCounters
+no_rx_counters = record {
+  in_pkts_ok = 0;
+  in_pkts_unchecked = 0;
+  in_pkts_delayed = 0;
+  in_pkts_late = 0;
+  in_pkts_invalid = 0;
+  in_pkts_not_valid = 0;
+}
+
 -- the options after making
 abbrev pub first_options : EndConfig → Options
 first_options config = record { protect = true; mode = Strict; replay = true; window = 0; form = config.form }
@@ -49,16 +67,31 @@ start config = record {
   options = first_options config;
   keys = [];
   tx = [];
+  rx = no_channels;
   counters = no_counters;
   tx_counters = no_tx_counters;
+  rx_counters = [];
 }
 
--- what transmission goes by; there are no receive channels
+-- there is more than one receive channel
+abbrev pub has_many : List Sci → Bool
+has_many scis = nat_lt 1 (length scis)
+
+-- what transmission goes by
 abbrev pub tx_options : State → TxOptions
 tx_options s = record {
   protect = s.options.protect;
   form = s.options.form;
   sci = s.config.sci;
   max_frame = s.config.max_frame;
-  many = false;
+  many = has_many s.rx.scis;
+}
+
+-- what reception goes by
+abbrev pub rx_options : State → RxOptions
+rx_options s = record {
+  suite = s.config.suite;
+  mode = s.options.mode;
+  replay = s.options.replay;
+  window = s.options.window;
 }

@@ -1,14 +1,18 @@
 -- The machine: one input, its output, and the state after it.
-use Rattle.std.specs.Prelude.{ℕ, List, length, nat_lt, if◌then◌else◌, Option, Some, None}
+use Rattle.std.specs.Prelude.{ℕ, List, length, nat_lt, option_map, if◌then◌else◌, Option, Some, None}
+use Rattle.macsec_tag.specs.declared.Sci.{Sci}
 use Rattle.macsec_suite.specs.declared.Refusal.{Refusal}
 use Rattle.macsec_tx.specs.Limits.{min_frame_len, max_frame_len}
 use Rattle.macsec_tx.specs.Transmit.{Leaving, plain, protected, no_sa, too_long, Sending, sending, rows_after, keys_after}
+use Rattle.macsec_rx.specs.declared.Verdict.{Verdict}
+use Rattle.macsec_rx.specs.Judge.{Judgement, place_of}
 use Rattle.macsec_secy.specs.declared.FrameFault.{FrameFault}
 use Rattle.macsec_secy.specs.declared.FrameFault.TheVariants.{Short, Long}
 use Rattle.macsec_secy.specs.declared.Command.{Command}
 use Rattle.macsec_secy.specs.State.{State, tx_options}
 use Rattle.macsec_secy.specs.Counting.{count_leaving, count_protected}
 use Rattle.macsec_secy.specs.Commands.{refusal, state_after_command}
+use Rattle.macsec_secy.specs.Reception.{judgement_of, state_after_receiving}
 
 -- what leaves for a client's frame, and the association that protects it
 abbrev pub sending_of : State → List ℕ → Sending
@@ -23,12 +27,13 @@ state_after_sending s frame sent = record s {
   tx_counters = count_protected sent.by frame s.tx_counters;
 }
 
--- what comes in: a management command, a frame of the controlled port's client, or one of the
--- uncontrolled port's client
+-- what comes in: a management command, a frame of the controlled port's client, one of the uncontrolled
+-- port's client, or one from the link
 pub data Input : Type 0 where
   operator_command : Command → Input
   client_frame : List ℕ → Input
   uncontrolled_frame : List ℕ → Input
+  link_frame : List ℕ → Input
 
 -- what goes out; a frame that leaves is told with the number of the key that it is protected under,
 -- where it is
@@ -38,6 +43,8 @@ pub data Output : Type 0 where
   leaves : (frame : List ℕ) → (under : Option ℕ) → Output
   dropped_no_sa : Output
   dropped_too_long : Output
+  -- the frame itself is shown at the uncontrolled port
+  received : (verdict : Verdict) → (row : Option (Sci × ℕ)) → (shown : List ℕ) → (controlled : Option (List ℕ)) → Output
   fault : FrameFault → Output
 
 -- the fault of a frame that has fewer than 14 octets, or more than 9,248; such a frame changes nothing
@@ -59,6 +66,10 @@ sent_output frame (protected key protected_frame) = leaves protected_frame (Some
 sent_output frame no_sa = dropped_no_sa
 sent_output frame too_long = dropped_too_long
 
+-- what goes out for a link frame
+abbrev pub received_output : List ℕ → Judgement → Output
+received_output frame j = received j.verdict (option_map place_of j.row) frame j.delivered
+
 -- the answer, or the fault of a frame with the same state
 abbrev pub unless_fault : Option FrameFault → State → Output × State → Output × State
 unless_fault None s answer = answer
@@ -71,3 +82,6 @@ step s (client_frame frame) =
     unless_fault (frame_fault frame) s
     (sent_output frame (sending_of s frame).leaving, state_after_sending s frame (sending_of s frame))
 step s (uncontrolled_frame frame) = unless_fault (frame_fault frame) s (leaves frame None, s)
+step s (link_frame frame) =
+    unless_fault (frame_fault frame) s
+    (received_output frame (judgement_of s frame), state_after_receiving s frame (judgement_of s frame))

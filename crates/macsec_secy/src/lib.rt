@@ -1,28 +1,39 @@
-//! The endpoint: the MAC security entity (IEEE 802.1AE, clause 10), its sending side.
+//! The endpoint: the MAC security entity (IEEE 802.1AE, clause 10).
 #![tactic(auto)]
 
-ghost use Rattle.std.specs.Prelude.{◌≡◌};
+ghost use Rattle.std.specs.Prelude.{◌≡◌, slice_get};
 ghost use Rattle.std.specs.Borrow.{sem};
 ghost use Rattle.macsec_tx.specs.Transmit.{tx_row};
 ghost use Rattle.macsec_secy.specs.Configs.{config_fault};
-ghost use Rattle.macsec_secy.specs.Step.{client_frame, operator_command, step, uncontrolled_frame};
-ghost use Rattle.macsec_secy.specs.Answers.{MakesEndpoint, output_of_command, output_of_frame, output_of_sent};
+ghost use Rattle.macsec_rx.specs.Channels.{rx_row};
+ghost use Rattle.macsec_secy.specs.Step.{client_frame, frame_fault, link_frame, operator_command, step, uncontrolled_frame};
+ghost use Rattle.macsec_secy.specs.Answers.{MakesEndpoint, output_of_command, output_of_frame, output_of_received, output_of_sent, rx_counters_of};
 ghost use Rattle.macsec_secy.specs.Rests.{RestsAs};
 
 mod counting;
 pub mod laws;
 mod managing;
 #[cfg(test)]
+mod receive_tests;
+mod receiving;
+#[cfg(test)]
 mod tests;
 
+use arrayvec::ArrayVec;
 pub use macsec_aes::Key;
-pub use macsec_rx::Mode;
+use macsec_rx::RxChannels;
+pub use macsec_rx::{Mode, RxRow, Verdict};
 use macsec_suite::KeyTable;
 pub use macsec_suite::{NewKey, Refusal, Suite};
+use macsec_tag::Read;
+use macsec_tag::reading::read;
 pub use macsec_tag::{An, Sci};
 pub use macsec_tx::{TagForm, TxRow};
 use macsec_tx::{TxChannel, TxResult};
 use managing::is_unfit;
+use receiving::{
+    count_at_row, delivered_octets, delivered_untagged, sci_and_number, verdict_on_untagged,
+};
 use std::alloc::Global;
 use std::marker::Model;
 use thiserror::Error;
@@ -39,8 +50,8 @@ const ADDRESSES_LENGTH: usize = 12;
 /// The least that an endpoint's largest frame may have.
 pub const MIN_MAX_FRAME: usize = 64;
 
-/// What an endpoint is made of: its cipher suite, its SCI, the most octets of a frame that leaves its
-/// controlled port, and its first tag form.
+/// What an endpoint is made of: its cipher suite, its SCI, the most octets of a frame that goes to the link
+/// for its controlled port's client, and its first tag form.
 #[derive(Clone, Copy, PartialEq, Eq, Debug)]
 pub struct EndConfig {
     pub suite: Suite,
@@ -102,6 +113,24 @@ pub struct TxCounters {
     pub out_octets_encrypted: u64,
 }
 
+/// The counters of a receive channel, modulo 2^64 (10.7).
+#[derive(Clone, Copy, PartialEq, Eq, Debug, Default)]
+pub struct RxCounters {
+    pub in_pkts_ok: u64,
+    pub in_pkts_unchecked: u64,
+    pub in_pkts_delayed: u64,
+    pub in_pkts_late: u64,
+    pub in_pkts_invalid: u64,
+    pub in_pkts_not_valid: u64,
+}
+
+/// The counters of the receive channel of this SCI.
+#[derive(Clone, Copy, PartialEq, Eq, Debug, Default)]
+pub struct ChannelCounters {
+    pub sci: Sci,
+    pub counters: RxCounters,
+}
+
 /// A management command.
 #[derive(Clone, Copy)]
 pub enum Command {
@@ -134,6 +163,30 @@ pub enum Command {
     TxOff(An),
     /// Remove this transmit association.
     TxDel(An),
+    /// Make a receive channel, the last.
+    RxSc(Sci),
+    /// Remove this receive channel, its associations and its counters.
+    RxScDel(Sci),
+    /// Make a receive association, off, whose lowest acceptable packet number is `lowest`.
+    RxSa {
+        sci: Sci,
+        an: An,
+        key: u8,
+        ssci: u32,
+        lowest: u64,
+    },
+    /// Switch this receive association on.
+    RxOn(Sci, An),
+    /// Switch this receive association off.
+    RxOff(Sci, An),
+    /// Raise the lowest acceptable packet number of this receive association.
+    RxLow {
+        sci: Sci,
+        an: An,
+        pn: u64,
+    },
+    /// Remove this receive association.
+    RxDel(Sci, An),
 }
 
 /// Why no endpoint is made.
@@ -180,6 +233,17 @@ pub enum Sent<'a> {
     Dropped(DropReason),
 }
 
+/// What becomes of a link frame: the verdict; from step 7 on the association that it is for, by the SCI of
+/// its channel and its number, 0 to 3; the frame at the uncontrolled port; and the frame at the controlled
+/// port, where one is delivered.
+#[derive(Drop)]
+pub struct Received<'a> {
+    pub verdict: Verdict,
+    pub row: Option<(Sci, u8)>,
+    pub uncontrolled: &'a [u8],
+    pub controlled: Option<&'a [u8]>,
+}
+
 /// An endpoint. Contracts see it as the state of the machine.
 #[derive(Drop)]
 pub struct Secy {
@@ -187,15 +251,16 @@ pub struct Secy {
     options: Options,
     keys: KeyTable,
     tx: TxChannel,
+    rx: RxChannels,
     counters: Counters,
     tx_counters: TxCounters,
+    rx_counters: ArrayVec<ChannelCounters, 8>,
     room: Vec<u8>,
 }
 
 impl Model for Secy {
-    ghost use Rattle.std.specs.Prelude.{◌≡◌, ◌≤◌, vec_len};
-    ghost use Rattle.macsec_tx.specs.Limits.{max_frame_len};
-    ghost use Rattle.macsec_tx.specs.Commands.{HaveKeys};
+    ghost use Rattle.std.specs.Prelude.{vec_len};
+    ghost use Rattle.macsec_secy.specs.Sound.{IsSound};
     ghost use Rattle.macsec_secy.specs.State.{State};
 
     ghost Value = { State };
@@ -205,14 +270,15 @@ impl Model for Secy {
       options = s.options;
       keys = s.keys;
       tx = s.tx;
+      rx = s.rx;
       counters = s.counters;
       tx_counters = s.tx_counters;
+      rx_counters = s.rx_counters.items;
     } };
 
-    // There is room for the largest frame, which is no longer than a frame can be, and the key of each
-    // association is there.
-    ghost invariant = { λ s. (vec_len s.room ≡ max_frame_len) × (s.config.max_frame ≤ max_frame_len)
-        × HaveKeys s.keys s.tx };
+    // There is room for the largest frame, which is no longer than a frame can be; the key of each
+    // association is there; and each channel has its counters.
+    ghost invariant = { λ s. IsSound s.keys s.tx s.rx s.rx_counters.items s.config.max_frame (vec_len s.room) };
 }
 
 impl Secy {
@@ -243,8 +309,10 @@ impl Secy {
             },
             keys,
             tx: TxChannel::new(),
+            rx: RxChannels::new(),
             counters: Counters::zero(),
             tx_counters: TxCounters::zero(),
+            rx_counters: ArrayVec::new(),
             room,
         })
     }
@@ -266,7 +334,10 @@ impl Secy {
             Command::Replay { protect, window } => self.replay(protect, window),
             Command::Tag(form) => self.tag(form),
             Command::Key(key) => self.keys.install(self.config.suite, &key),
-            Command::Retire(key) => self.keys.retire(key, self.tx.uses(key)),
+            Command::Retire(key) => {
+                let in_use = self.tx.uses(key) || self.rx.uses(key);
+                self.keys.retire(key, in_use)
+            }
             Command::TxSa {
                 an,
                 key,
@@ -276,6 +347,19 @@ impl Secy {
             Command::TxOn(an) => self.tx.tx_on(&self.keys, an),
             Command::TxOff(an) => self.tx.tx_off(an),
             Command::TxDel(an) => self.tx.tx_del(an),
+            Command::RxSc(sci) => self.rx_sc(sci),
+            Command::RxScDel(sci) => self.rx_sc_del(sci),
+            Command::RxSa {
+                sci,
+                an,
+                key,
+                ssci,
+                lowest,
+            } => self.rx.rx_sa(&self.keys, sci, an, key, ssci, lowest),
+            Command::RxOn(sci, an) => self.rx.rx_on(sci, an),
+            Command::RxOff(sci, an) => self.rx.rx_off(sci, an),
+            Command::RxLow { sci, an, pn } => self.rx.rx_low(&self.keys, sci, an, pn),
+            Command::RxDel(sci, an) => self.rx.rx_del(sci, an),
         }
     }
 
@@ -286,11 +370,8 @@ impl Secy {
         ensures* after { sem 𝓛 (RestsAs self.entry (step self.old (client_frame frame.now)).1) }
         ensures output { output_of_sent result ≡ (step self.old (client_frame frame.now)).0 }
     {
-        if frame.len() < MIN_FRAME_LEN {
-            return Err(FrameFault::Short);
-        }
-        if frame.len() > MAX_FRAME_LEN {
-            return Err(FrameFault::Long);
+        if let Some(fault) = frame_fault(frame) {
+            return Err(fault);
         }
         let encrypts = self.encrypts();
         let options = self.tx_options();
@@ -326,13 +407,58 @@ impl Secy {
         ensures output { output_of_frame result ≡ (step self.now (uncontrolled_frame frame.now)).0 }
         ensures after { (step self.now (uncontrolled_frame frame.now)).1 ≡ self.now }
     {
-        if frame.len() < MIN_FRAME_LEN {
-            return Err(FrameFault::Short);
-        }
-        if frame.len() > MAX_FRAME_LEN {
-            return Err(FrameFault::Long);
+        if let Some(fault) = frame_fault(frame) {
+            return Err(fault);
         }
         Ok(frame)
+    }
+
+    /// Receives a link frame of 14 to 9,248 octets, whoever made it: gives the verdict on it, shows it at
+    /// the uncontrolled port as it is, and delivers at the controlled port what the verdict allows.
+    pub fn receive<'a>(&'a mut self, frame: &'a [u8]) -> Result<Received<'a>, FrameFault>
+        ensures* after { sem 𝓛 (RestsAs self.entry (step self.old (link_frame frame.now)).1) }
+        ensures output { output_of_received result ≡ (step self.old (link_frame frame.now)).0 }
+    {
+        if let Some(fault) = frame_fault(frame) {
+            return Err(fault);
+        }
+        let options = self.rx_options();
+        match read(frame) {
+            Read::Untagged => {
+                let verdict = verdict_on_untagged(options.mode);
+                self.counters.count_packet(verdict);
+                Ok(Received {
+                    verdict,
+                    row: None,
+                    uncontrolled: frame,
+                    controlled: delivered_untagged(options.mode, frame),
+                })
+            }
+            Read::Bad(_) => {
+                self.counters.count_packet(Verdict::BadTag);
+                Ok(Received {
+                    verdict: Verdict::BadTag,
+                    row: None,
+                    uncontrolled: frame,
+                    controlled: None,
+                })
+            }
+            Read::Tagged(mpdu) => {
+                let judged = self
+                    .rx
+                    .judge(&self.keys, &options, &mpdu, self.room.as_mut_slice());
+                let octets = mpdu.secure_data().len() as u64;
+                self.counters
+                    .count_tagged(options.mode, judged.verdict, mpdu.tag().e(), octets);
+                count_at_row(self.rx_counters.as_mut_slice(), judged.verdict, judged.row);
+                Ok(Received {
+                    verdict: judged.verdict,
+                    row: sci_and_number(judged.row),
+                    uncontrolled: frame,
+                    controlled: delivered_octets(&judged, self.room.as_slice()),
+                })
+            }
+        }
     }
 
     /// The options.
@@ -362,4 +488,39 @@ impl Secy {
     {
         self.tx.row(an)
     }
+
+    /// The counters of the receive channel of this SCI, where there is one.
+    pub fn rx_counters(&self, sci: Sci) -> Option<RxCounters>
+        ensures { result ≡ rx_counters_of self.now.rx_counters sci }
+    {
+        let row = self.rx_counters.iter().find(|row| row.sci == sci)?;
+        Some(row.counters)
+    }
+
+    /// The SCI of the receive channel at this place in the order of making, from 0, where there is one.
+    pub fn rx_channel(&self, place: usize) -> Option<Sci>
+        ensures { result ≡ slice_get self.now.rx.scis place }
+    {
+        self.rx.channel(place)
+    }
+
+    /// The receive association of this channel and of this number, where there is one.
+    pub fn rx_row(&self, sci: Sci, an: An) -> Option<RxRow>
+        ensures { result ≡ rx_row self.now.rx.rows sci an }
+    {
+        self.rx.row(sci, an)
+    }
+}
+
+/// Why a frame is not taken, where that is so.
+fn frame_fault(frame: &[u8]) -> Option<FrameFault>
+    ensures { result ≡ frame_fault frame.now }
+{
+    if frame.len() < MIN_FRAME_LEN {
+        return Some(FrameFault::Short);
+    }
+    if frame.len() > MAX_FRAME_LEN {
+        return Some(FrameFault::Long);
+    }
+    None
 }

@@ -22,6 +22,7 @@ impl Secy {
         }
         self.options.replay = protect;
         self.options.window = window;
+        self.rx.narrow(window);
         Ok(())
     }
 
@@ -56,7 +57,7 @@ impl Secy {
             form: self.options.form,
             sci: self.config.sci,
             max_frame: self.config.max_frame,
-            many: false,
+            many: self.rx.channel(1).is_some(),
         }
     }
 }

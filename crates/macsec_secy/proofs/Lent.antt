@@ -1,0 +1,13 @@
+-- What was lent as a slice comes back as it was left.
+use Rattle.std.proofs.Common.{◌≡◌, ℕ, ◌≤◌, List, [], ◌∷◌, length, take, drop, refl, ap, ◌∙◌, arith}
+use Rattle.std.specs.List.{refill}
+use Rattle.std.proofs.lemmas.List.{take-append-le}
+
+take_all : {X : Type 0} (new : List X) → take (length new) new ≡ new
+take_all [] = refl
+take_all (first ∷ new) = ap (λ rest. first ∷ rest) (take_all new)
+
+pub left_in_place : {X : Type 0} (n : ℕ) (old new : List X) → length new ≡ n → refill n old new ≡ new
+left_in_place n old new same =
+    let fits : n ≤ length new = omega arith in
+    rw (← same) (take-append-le (length new) new (drop (length new) old) (omega arith) ∙ take_all new)

@@ -1,0 +1,42 @@
+-- What the verdict and the way of validation tell of the step that decided.
+use Rattle.std.specs.Prelude.{ℕ, List, map, Bool, true, false, not, if◌then◌else◌, Option, Some, None}
+use Rattle.macsec_tag.specs.declared.Sci.{Sci}
+use Rattle.macsec_rx.specs.declared.Mode.{Mode}
+use Rattle.macsec_rx.specs.declared.Verdict.{Verdict}
+use Rattle.macsec_rx.specs.declared.Verdict.TheVariants.{Untagged, NoTag, BadTag, Reserved, NoSa, NoSaError, Late, NotValid, Unchecked, Delayed, Invalid, Passed}
+use Rattle.macsec_rx.specs.Judge.{is_disabled, is_strict}
+use Rattle.macsec_secy.specs.declared.Counters.{Counters}
+use Rattle.macsec_secy.specs.declared.ChannelCounters.{ChannelCounters}
+use Rattle.macsec_secy.specs.Counting.{count_at, count_octets_received, count_packet}
+
+-- the cipher was applied
+abbrev pub is_opened : Mode → Verdict → Bool
+is_opened mode Untagged = false
+is_opened mode NoTag = false
+is_opened mode BadTag = false
+is_opened mode Reserved = false
+is_opened mode NoSa = false
+is_opened mode NoSaError = false
+is_opened mode Late = false
+is_opened mode NotValid = not (is_disabled mode)
+is_opened mode Unchecked = false
+is_opened mode Delayed = not (is_disabled mode)
+is_opened mode Invalid = true
+is_opened mode Passed = true
+
+-- the endpoint's counters after a tagged frame of so many octets of data
+abbrev pub counted_by : Mode → Verdict → Bool → ℕ → Counters → Counters
+counted_by mode verdict e octets c =
+    if is_opened mode verdict then count_octets_received e octets (count_packet verdict c) else count_packet verdict c
+
+-- the channels' counters after a tagged frame of this association, where it has one
+abbrev pub counted_at_place : Verdict → Option (Sci × ℕ) → List ChannelCounters → List ChannelCounters
+counted_at_place verdict None rows = rows
+counted_at_place verdict (Some place) rows = map (count_at verdict place.0) rows
+
+-- the verdict on a frame that is not tagged
+abbrev pub verdict_on_untagged : Mode → Verdict
+verdict_on_untagged mode = if is_strict mode then NoTag else Untagged
+
+abbrev pub delivered_untagged : Mode → List ℕ → Option (List ℕ)
+delivered_untagged mode frame = if is_strict mode then None else Some frame
