@@ -1,2 +1,3 @@
+pub mod Iterations
 pub mod KeyStreams
 pub mod Opening

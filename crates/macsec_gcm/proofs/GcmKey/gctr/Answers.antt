@@ -2,14 +2,14 @@ use Rattle.std.proofs.Common.{◌≡◌, ◌+◌, ◌*◌, ℕ, get_or, bit_xor,
 use Rattle.std.proofs.lemmas.List.FromFn.{fill_by_all}
 use Rattle.std.specs.Fn.{iterate}
 use Rattle.macsec_aes.specs.Aes.{aes}
-use Rattle.macsec_field128.proofs.Iterations.{iterate_none, iterate_more}
 use Rattle.macsec_gcm.specs.Gcm.{gctr, inc32}
+use Rattle.macsec_gcm.proofs.Iterations.{iterate_more}
 use Rattle.macsec_gcm.proofs.KeyStreams.{key_stream, key_stream_at, sum_below_more}
 use Rattle.macsec_gcm.proofs.GcmKey.gctr.Goals as goal
 
 pub loop-i-init : goal.loop-i-init
 loop-i-init c = record {
-  counter = sym (iterate_none inc32 c.args.icb);
+  counter = refl;
   sum = record { done = λ k h inside. absurd (omega arith); left = λ k h. refl };
 }
 

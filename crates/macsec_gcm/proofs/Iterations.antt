@@ -1,0 +1,11 @@
+-- A function applied several times.
+use Rattle.std.proofs.Common.{◌≡◌, ℕ, zero, suc, ◌+◌, refl, add-one}
+use Rattle.std.specs.Fn.{iterate}
+
+iterate-suc : {A : Type 0} (h : A → A) (n : ℕ) (x : A) → iterate h (suc n) x ≡ h (iterate h n x)
+iterate-suc h zero x = refl
+iterate-suc h (suc n) x = iterate-suc h n (h x)
+
+-- the last of n + 1 times
+pub iterate_more : {A : Type 0} (h : A → A) (n : ℕ) (x : A) → iterate h (n + 1) x ≡ h (iterate h n x)
+iterate_more h n x = rw add-one (iterate-suc h n x)
