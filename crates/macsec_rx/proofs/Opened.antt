@@ -1,17 +1,23 @@
 -- A frame that is validated in place, as its parts.
-use Rattle.std.proofs.Common.{◌≡◌, ℕ, ◌+◌, List, [], ◌++◌, length, take, drop, refl, ap, sym, ◌∙◌, arith, append_assoc, append-nil, length-append}
+use Rattle.std.proofs.Common.{◌≡◌, ℕ, ◌+◌, Bool, List, [], ◌++◌, length, take, drop, refl, ap, sym, ◌∙◌, arith, append_assoc, append-nil, length-append}
 use Rattle.std.specs.Prelude.{Option, Some, None, option_map}
 use Rattle.std.proofs.Math.Seq.{take-append_seam, drop-append_seam}
 use Rattle.std.proofs.lemmas.List.{take-append-drop}
 use Rattle.macsec_gcm.specs.Gcm.{open_of}
-use Rattle.macsec_gcm.proofs.Opening.{open_undoes_seal, length-ciphertext}
-use Rattle.macsec_tag.specs.Tag.{spelling}
+use Rattle.macsec_gcm.specs.Laws.{OpenUndoesSeal, SealedLengths}
+use Rattle.macsec_tag.specs.Tag.{Tag, spelling}
 use Rattle.macsec_tag.specs.Frame.{MpduParts}
 use Rattle.macsec_suite.specs.Keys.{PreparedKey}
 use Rattle.macsec_suite.specs.Parts.{aad_and_plaintext, clear_length}
 use Rattle.macsec_suite.specs.InPlace.{clear_and_rest, validated_octets}
-use Rattle.macsec_suite.proofs.ClearParts.{cut_behind}
-use Rattle.macsec_rx.specs.Delivered.{frame_with, opened_under}
+use Rattle.macsec_suite.specs.Laws.{PartsInPlace}
+use Rattle.macsec_rx.specs.Delivered.{HasFixedLengths, frame_with, opened_under}
+
+-- the laws of the lower layers, as their calls give them
+pub record LowerLaws : Type 0 where
+  pub parts : (offset : ℕ) (e : Bool) (da sa : List ℕ) (tag : Tag) (user_data : List ℕ) → PartsInPlace offset e da sa tag user_data
+  pub undoes : OpenUndoesSeal
+  pub lengths : SealedLengths
 
 -- DA, SA, SecTAG, Secure Data and ICV in a row
 abbrev pub laid_out : MpduParts → List ℕ
@@ -25,25 +31,24 @@ parts_of key p = aad_and_plaintext key.offset p.tag.e p.da p.sa p.tag p.secure_d
 abbrev pub data_place : MpduParts → ℕ
 data_place p = 12 + length (spelling p.tag)
 
-head_long : (p : MpduParts) → length (p.da ++ p.sa) ≡ 12 → length (p.da ++ p.sa ++ spelling p.tag) ≡ data_place p
-head_long p addresses = omega (arith, length-append (p.da ++ p.sa) (spelling p.tag), addresses)
+head_long : (p : MpduParts) → HasFixedLengths p → length (p.da ++ p.sa ++ spelling p.tag) ≡ data_place p
+head_long p fixed = omega (arith, length-append (p.da ++ p.sa) (spelling p.tag), length-append p.da p.sa, fixed.da, fixed.sa)
 
 -- what the definition over places opens is what the definition over parts opens
-validated_is : (key : PreparedKey) (iv : List ℕ) (p : MpduParts) → length (p.da ++ p.sa) ≡ 12 → length p.icv ≡ 16
+validated_is : LowerLaws → (key : PreparedKey) (iv : List ℕ) (p : MpduParts) → HasFixedLengths p
     → validated_octets key iv p.tag.e (data_place p) (data_place p + length p.secure_data) (laid_out p) ≡
     option_map (λ plaintext. (parts_of key p).0 ++ plaintext ++ p.icv) (opened_under key iv p)
-validated_is key iv p addresses icv =
+validated_is laws key iv p fixed =
     let head : List ℕ = p.da ++ p.sa ++ spelling p.tag in
     let n : ℕ = data_place p in
     let e : ℕ = n + length p.secure_data in
-    let long : length (head ++ p.secure_data) ≡ e = omega (arith, length-append head p.secure_data, head_long p addresses) in
+    let long : length (head ++ p.secure_data) ≡ e = omega (arith, length-append head p.secure_data, head_long p fixed) in
     let front : take e (laid_out p) ≡ head ++ p.secure_data = ap (λ (j : ℕ). take j (laid_out p)) (sym long) ∙ take-append_seam (head ++ p.secure_data) p.icv in
     let back : drop e (laid_out p) ≡ p.icv = ap (λ (j : ℕ). drop j (laid_out p)) (sym long) ∙ drop-append_seam (head ++ p.secure_data) p.icv in
-    let whole_icv : take 16 p.icv ≡ p.icv = ap (λ (j : ℕ). take j p.icv) (sym icv) ∙ all p.icv in
+    let whole_icv : take 16 p.icv ≡ p.icv = ap (λ (j : ℕ). take j p.icv) (sym fixed.icv) ∙ all p.icv in
     let cut : clear_and_rest key.offset p.tag.e n (take e (laid_out p)) ≡ parts_of key p =
     ap (clear_and_rest key.offset p.tag.e n) front
-    ∙ ap (λ (j : ℕ). clear_and_rest key.offset p.tag.e j (head ++ p.secure_data)) (sym (head_long p addresses))
-    ∙ cut_behind key.offset p.tag.e head p.secure_data in
+    ∙ laws.parts key.offset p.tag.e p.da p.sa p.tag p.secure_data fixed.da fixed.sa in
     ap (λ (ac : List ℕ × List ℕ). option_map (λ plaintext. ac.0 ++ plaintext ++ drop e (laid_out p)) (open_of key.bytes iv ac.0 ac.1 (take 16 (drop e (laid_out p))))) cut
     ∙ ap (λ (tail : List ℕ). option_map (λ plaintext. (parts_of key p).0 ++ plaintext ++ tail) (open_of key.bytes iv (parts_of key p).0 (parts_of key p).1 (take 16 tail))) back
     ∙ ap (λ (tag : List ℕ). option_map (λ plaintext. (parts_of key p).0 ++ plaintext ++ p.icv) (open_of key.bytes iv (parts_of key p).0 (parts_of key p).1 tag)) whole_icv
@@ -51,10 +56,10 @@ validated_is key iv p addresses icv =
     all : (xs : List ℕ) → take (length xs) xs ≡ xs
     all xs = ap (λ (ys : List ℕ). take (length xs) ys) (sym (append-nil xs)) ∙ take-append_seam xs []
 
-pub refused : (key : PreparedKey) (iv : List ℕ) (p : MpduParts) → length (p.da ++ p.sa) ≡ 12 → length p.icv ≡ 16
+pub refused : LowerLaws → (key : PreparedKey) (iv : List ℕ) (p : MpduParts) → HasFixedLengths p
     → validated_octets key iv p.tag.e (data_place p) (data_place p + length p.secure_data) (laid_out p) ≡ None
     → option_map (frame_with key p) (opened_under key iv p) ≡ None
-refused key iv p addresses icv e = by (opened_under key iv p) refl (sym (validated_is key iv p addresses icv) ∙ e)
+refused laws key iv p fixed e = by (opened_under key iv p) refl (sym (validated_is laws key iv p fixed) ∙ e)
   where
     by : (o : Option (List ℕ)) → opened_under key iv p ≡ o → option_map (λ plaintext. (parts_of key p).0 ++ plaintext ++ p.icv) (opened_under key iv p) ≡ None
         → option_map (frame_with key p) (opened_under key iv p) ≡ None
@@ -62,18 +67,18 @@ refused key iv p addresses icv e = by (opened_under key iv p) refl (sym (validat
     by (Some plaintext) is h = absurd (let none : Some ((parts_of key p).0 ++ plaintext ++ p.icv) ≡ None = sym (ap (option_map (λ t. (parts_of key p).0 ++ t ++ p.icv)) is) ∙ h in cc)
 
 -- a plaintext is as long as its ciphertext
-plaintext_long : (key : PreparedKey) (iv : List ℕ) (p : MpduParts) (plaintext : List ℕ) → opened_under key iv p ≡ Some plaintext → length plaintext ≡ length (parts_of key p).1
-plaintext_long key iv p plaintext is =
-    let sealed = (open_undoes_seal key.bytes iv (parts_of key p).0 (parts_of key p).1 p.icv plaintext).0 is in
-    sym (length-ciphertext key.bytes iv (parts_of key p).0 plaintext) ∙ ap (λ (s : List ℕ × List ℕ). length s.0) sealed
+plaintext_long : LowerLaws → (key : PreparedKey) (iv : List ℕ) (p : MpduParts) (plaintext : List ℕ) → opened_under key iv p ≡ Some plaintext → length plaintext ≡ length (parts_of key p).1
+plaintext_long laws key iv p plaintext is =
+    let sealed = (laws.undoes key.bytes iv (parts_of key p).0 (parts_of key p).1 p.icv plaintext).0 is in
+    sym (laws.lengths.ciphertext key.bytes iv (parts_of key p).0 plaintext) ∙ ap (λ (s : List ℕ × List ℕ). length s.0) sealed
 
 regrouped : (head clear plaintext icv rest : List ℕ) → (((head ++ clear) ++ plaintext) ++ icv) ++ rest ≡ head ++ ((clear ++ plaintext) ++ (icv ++ rest))
 regrouped head clear plaintext icv rest = simp append_assoc
 
-pub opened : (key : PreparedKey) (iv : List ℕ) (p : MpduParts) (new rest : List ℕ) → length (p.da ++ p.sa) ≡ 12 → length p.icv ≡ 16
+pub opened : LowerLaws → (key : PreparedKey) (iv : List ℕ) (p : MpduParts) (new rest : List ℕ) → HasFixedLengths p
     → validated_octets key iv p.tag.e (data_place p) (data_place p + length p.secure_data) (laid_out p) ≡ Some new
     → option_map (frame_with key p) (opened_under key iv p) ≡ Some ((p.da ++ p.sa) ++ take (length p.secure_data) (drop (data_place p) (new ++ rest)))
-opened key iv p new rest addresses icv e = by (opened_under key iv p) refl (sym (validated_is key iv p addresses icv) ∙ e)
+opened laws key iv p new rest fixed e = by (opened_under key iv p) refl (sym (validated_is laws key iv p fixed) ∙ e)
   where
     head : List ℕ
     head = p.da ++ p.sa ++ spelling p.tag
@@ -88,10 +93,10 @@ opened key iv p new rest addresses icv e = by (opened_under key iv p) refl (sym 
         let tail : List ℕ = p.icv ++ rest in
         let halves : length clear + length (drop c p.secure_data) ≡ length p.secure_data =
         sym (length-append clear (drop c p.secure_data)) ∙ ap length (take-append-drop c p.secure_data) in
-        let long : length (clear ++ plaintext) ≡ length p.secure_data = omega (arith, length-append clear plaintext, halves, plaintext_long key iv p plaintext is) in
+        let long : length (clear ++ plaintext) ≡ length p.secure_data = omega (arith, length-append clear plaintext, halves, plaintext_long laws key iv p plaintext is) in
         let grouped : new ++ rest ≡ head ++ ((clear ++ plaintext) ++ tail) = ap (λ (xs : List ℕ). xs ++ rest) (sym new_is) ∙ regrouped head clear plaintext p.icv rest in
         ap (λ (xs : List ℕ). take (length p.secure_data) (drop (data_place p) xs)) grouped
-        ∙ ap (λ (j : ℕ). take (length p.secure_data) (drop j (head ++ ((clear ++ plaintext) ++ tail)))) (sym (head_long p addresses))
+        ∙ ap (λ (j : ℕ). take (length p.secure_data) (drop j (head ++ ((clear ++ plaintext) ++ tail)))) (sym (head_long p fixed))
         ∙ ap (λ (xs : List ℕ). take (length p.secure_data) xs) (drop-append_seam head ((clear ++ plaintext) ++ tail))
         ∙ ap (λ (j : ℕ). take j ((clear ++ plaintext) ++ tail)) (sym long)
         ∙ take-append_seam (clear ++ plaintext) tail

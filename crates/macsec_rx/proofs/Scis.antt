@@ -1,5 +1,5 @@
 -- Laws on SCIs and on the list of the channels.
-use Rattle.std.proofs.Common.{◌≡◌, ◌∙◌, ℕ, Bool, true, false, cond, ◌||◌, List, [], ◌∷◌, ◌++◌, refl, sym, ap}
+use Rattle.std.proofs.Common.{◌≡◌, ◌∙◌, ℕ, Bool, true, false, cond, ◌||◌, List, [], ◌∷◌, ◌++◌, refl, sym, ap, subst}
 use Rattle.std.specs.Prelude.{filter, not}
 use Rattle.std.specs.Cmp.Lexicographic.{same_text}
 use Rattle.std.proofs.lemmas.Bool.{eq-eqb}
@@ -9,7 +9,7 @@ use Rattle.macsec_gcm.specs.Octets.{same_octets}
 use Rattle.macsec_tag.specs.declared.Sci.{Sci}
 use Rattle.macsec_rx.specs.Channels.{same_sci}
 use Rattle.macsec_rx.specs.Commands.{has_channel}
-use Rattle.macsec_rx.specs.Rows.{AreScis}
+use Rattle.macsec_rx.specs.Rows.{AreScis, IsSci}
 
 same_octets-refl : (xs : List ℕ) → same_octets xs xs ≡ true
 same_octets-refl [] = refl
@@ -33,11 +33,11 @@ either_false true b h = cc
 either_false false b h = (refl, h)
 
 -- a channel of another SCI may join
-pub joined_scis : (scis : List Sci) (sci : Sci) → AreScis scis → has_channel scis sci ≡ false → AreScis (scis ++ sci ∷ [])
-joined_scis [] sci h free = (refl, tt)
-joined_scis (s ∷ scis) sci h free =
+pub joined_scis : (scis : List Sci) (sci : Sci) → AreScis scis → IsSci sci → has_channel scis sci ≡ false → AreScis (scis ++ sci ∷ [])
+joined_scis [] sci h good free = (good, refl, tt)
+joined_scis (s ∷ scis) sci h good free =
     let parts = either_false (same_sci s sci) (has_channel scis sci) free in
-    (list_any-append (λ t. same_sci t s) scis (sci ∷ []) ∙ rw (h.0, other_sci s sci parts.0) refl, joined_scis scis sci h.1 parts.1)
+    (h.0, list_any-append (λ t. same_sci t s) scis (sci ∷ []) ∙ rw (h.1, other_sci s sci parts.0) refl, joined_scis scis sci h.2 good parts.1)
 
 -- the channels are still there after one joins
 pub still_channel : (scis : List Sci) (sci s : Sci) → has_channel scis s ≡ true → has_channel (scis ++ sci ∷ []) s ≡ true
@@ -61,8 +61,17 @@ not_among_filter p (t ∷ scis) s free =
 -- removal keeps the SCIs distinct
 pub kept_scis : (p : Sci → Bool) (scis : List Sci) → AreScis scis → AreScis (filter p scis)
 kept_scis p [] h = tt
-kept_scis p (s ∷ scis) h = by_test (p s) (filter p scis) (not_among_filter p scis s h.0) (kept_scis p scis h.1)
+kept_scis p (s ∷ scis) h = by_test (p s) (filter p scis) (not_among_filter p scis s h.1) (kept_scis p scis h.2)
   where
     by_test : (b : Bool) (kept : List Sci) → has_channel kept s ≡ false → AreScis kept → AreScis (cond b (s ∷ kept) kept)
-    by_test true kept free h' = (free, h')
+    by_test true kept free h' = (h.0, free, h')
     by_test false kept free h' = h'
+
+-- the SCI of a channel, and so of each association, is 8 octets
+pub channel_sci : (scis : List Sci) (sci : Sci) → AreScis scis → has_channel scis sci ≡ true → IsSci sci
+channel_sci [] sci h there = cc
+channel_sci (s ∷ scis) sci h there = by_test (same_sci s sci) refl (channel_sci scis sci h.2) there
+  where
+    by_test : (b : Bool) → same_sci s sci ≡ b → (has_channel scis sci ≡ true → IsSci sci) → (b || has_channel scis sci) ≡ true → IsSci sci
+    by_test true same later there' = subst IsSci (one_sci s sci same) h.0
+    by_test false same later there' = later there'

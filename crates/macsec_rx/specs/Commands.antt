@@ -1,11 +1,11 @@
 -- Commands on receive channels and their associations: why each is refused, in the order of the tests,
 -- and what it does (IEEE 802.1AE, 10.7).
-use Rattle.std.specs.Prelude.{ℕ, List, [], ◌∷◌, ◌++◌, length, map, filter, ◌==◌, Bool, false, not, nat_lt, nat_le, is_some, IsSome}
+use Rattle.std.specs.Prelude.{ℕ, List, [], ◌∷◌, ◌++◌, length, map, filter, ◌==◌, Bool, false, not, ◌&&◌, nat_lt, nat_le, is_some, IsSome}
 use Rattle.std.specs.List.{All, list_any}
 use Rattle.macsec_tag.specs.declared.Sci.{Sci}
 use Rattle.macsec_pn.specs.Numbers.{narrow, raise}
-use Rattle.macsec_suite.specs.declared.Refusal.TheVariants.{NoKey, KeyRetired, OwnSci, ScTaken, ScFull, NoSc, AnTaken, NoSa, PnRange, PnLower}
-use Rattle.macsec_suite.specs.Suites.{last_of}
+use Rattle.macsec_suite.specs.declared.Refusal.TheVariants.{NoKey, KeyRetired, OwnSci, ScTaken, ScFull, NoSc, AnTaken, NoSa, PnRange, PnLower, SsciOwn}
+use Rattle.macsec_suite.specs.Suites.{is_xpn, last_of}
 use Rattle.macsec_suite.specs.KeyRows.{InstalledKey, key_row, the_key}
 use Rattle.macsec_suite.specs.Refusals.{RefusalLine, holds_of, is_number_used, is_retired, is_outside}
 use Rattle.macsec_rx.specs.declared.RxRow.{RxRow}
@@ -46,14 +46,19 @@ without_channel channels sci = record {
   rows = filter (λ row. not (same_sci row.sci sci)) channels.rows;
 }
 
+-- the SSCI is the key's own one, where packet numbers are extended
+abbrev pub is_own_ssci : InstalledKey → ℕ → Bool
+is_own_ssci key ssci = is_xpn key.suite && ssci == key.ssci
+
 -- why making an association is refused
-abbrev pub rx_sa_refusals : List InstalledKey → Channels → Sci → ℕ → ℕ → ℕ → List RefusalLine
-rx_sa_refusals keys channels sci an key lowest =
+abbrev pub rx_sa_refusals : List InstalledKey → Channels → Sci → ℕ → ℕ → ℕ → ℕ → List RefusalLine
+rx_sa_refusals keys channels sci an key ssci lowest =
     (NoKey, not (is_number_used keys key)) ∷
     (KeyRetired, is_retired keys key) ∷
     (NoSc, not (has_channel channels.scis sci)) ∷
     (AnTaken, has_rx channels.rows sci an) ∷
-    (PnRange, is_outside (last_of (the_key keys key).suite) lowest) ∷ []
+    (PnRange, is_outside (last_of (the_key keys key).suite) lowest) ∷
+    (SsciOwn, is_own_ssci (the_key keys key) ssci) ∷ []
 
 -- the associations with a new one, which is off
 abbrev pub with_rx_sa : Channels → Sci → ℕ → ℕ → ℕ → ℕ → Channels

@@ -1,9 +1,15 @@
 -- What is delivered of a frame that is opened, by its prepared key and its IV.
-use Rattle.std.specs.Prelude.{ℕ, List, ◌++◌, take, Option}
+use Rattle.std.specs.Prelude.{◌≡◌, ℕ, List, ◌++◌, length, take, Option}
 use Rattle.macsec_gcm.specs.Gcm.{open_of}
 use Rattle.macsec_tag.specs.Frame.{MpduParts}
 use Rattle.macsec_suite.specs.Keys.{PreparedKey}
 use Rattle.macsec_suite.specs.Parts.{aad_and_plaintext, clear_length}
+
+-- the parts of every frame have these lengths
+pub record HasFixedLengths (p : MpduParts) : Type 0 where
+  pub da : length p.da ≡ 6
+  pub sa : length p.sa ≡ 6
+  pub icv : length p.icv ≡ 16
 
 -- the plaintext of a frame under a key and an IV, where the ICV is genuine
 abbrev pub opened_under : PreparedKey → List ℕ → MpduParts → Option (List ℕ)

@@ -5,3 +5,4 @@ pub mod Rows
 pub mod Judge
 pub mod Judged
 pub mod Delivered
+pub mod Verdicts

@@ -1,16 +1,24 @@
 -- What holds of receive channels and their associations.
 use Rattle.std.specs.Prelude.{◌≡◌, ◌^◌, ◌<◌, ◌≤◌, List, [], ◌∷◌, length, None, true, false}
 use Rattle.macsec_tag.specs.declared.Sci.{Sci}
+use Rattle.macsec_tag.specs.Laws.{AreOctets}
 use Rattle.macsec_rx.specs.declared.RxRow.{RxRow}
 use Rattle.macsec_rx.specs.Limits.{max_channel_count, max_association_count}
 use Rattle.macsec_rx.specs.Channels.{Channels, rx_row}
 use Rattle.macsec_rx.specs.Commands.{has_channel}
 
--- an association is of a channel, its number is 0 to 3, and its packet numbers are at most one past the
--- last of 64 bits
+-- an SCI is 8 octets
+pub record IsSci (sci : Sci) : Type 0 where
+  pub count : length sci.0 ≡ 8
+  pub octets : AreOctets sci.0
+
+-- an association is of a channel, its number is 0 to 3, its key's number is an octet, its SSCI has 32
+-- bits, and its packet numbers are at most one past the last of 64 bits
 pub record IsRxRow (scis : List Sci) (row : RxRow) : Type 0 where
   pub channel : has_channel scis row.sci ≡ true
   pub an : row.an < max_association_count
+  pub key : row.key < 256
+  pub ssci : row.ssci < 2 ^ 32
   pub next : row.next ≤ 2 ^ 64
   pub lowest : row.lowest ≤ 2 ^ 64
 
@@ -19,10 +27,10 @@ abbrev pub AreRxRows : List Sci → List RxRow → Type 0
 AreRxRows scis [] = Unit {0}
 AreRxRows scis (row ∷ rows) = IsRxRow scis row × (rx_row rows row.sci row.an ≡ None) × AreRxRows scis rows
 
--- no two channels have one SCI
+-- each channel has an SCI, and no two have the same
 abbrev pub AreScis : List Sci → Type 0
 AreScis [] = Unit {0}
-AreScis (sci ∷ scis) = (has_channel scis sci ≡ false) × AreScis scis
+AreScis (sci ∷ scis) = IsSci sci × (has_channel scis sci ≡ false) × AreScis scis
 
 pub record AreChannels (channels : Channels) : Type 0 where
   pub count : length channels.scis ≤ max_channel_count

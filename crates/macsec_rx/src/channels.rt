@@ -3,6 +3,7 @@
 ghost use Rattle.std.specs.Prelude.{◌≡◌, length, ◌≤◌, true, map, slice_get, false, IfOk, OnErr, OnOk, Some};
 ghost use Rattle.macsec_suite.specs.Refusals.{first_refusal, refusal_of};
 ghost use Rattle.macsec_rx.specs.Channels.{at_place, is_at, no_channels, rx_row, same_sci, with_rx};
+ghost use Rattle.macsec_rx.specs.Rows.{AreChannels, IsSci};
 ghost use Rattle.macsec_rx.specs.Judge.{in_use, only_channel, port_of, row_accepting, sci_of};
 ghost use Rattle.macsec_rx.specs.Commands.{HaveRxKeys, channels_narrowed, has_channel, row_narrowed, row_raised, row_switched, rx_low_refusals, rx_row_refusals, rx_sa_refusals, rx_sc_del_refusals, rx_sc_refusals, rx_uses, with_channel, with_rx_low, with_rx_on, with_rx_sa, without_channel, without_rx};
 
@@ -35,7 +36,8 @@ impl Model for RxChannels {
 impl RxChannels {
     /// No channels.
     pub fn new() -> RxChannels
-        ensures { result ≡ no_channels }
+        ensures none { result ≡ no_channels }
+        ensures channels { AreChannels result }
     {
         RxChannels {
             scis: ArrayVec::new(),
@@ -71,7 +73,8 @@ impl RxChannels {
 
     /// Is there a channel of this SCI?
     fn has_channel(&self, sci: Sci) -> bool
-        ensures { result ≡ has_channel self.now.scis sci }
+        ensures there { result ≡ has_channel self.now.scis sci }
+        ensures sci { IsSci sci }
     {
         self.scis.iter().any(|s| *s == sci)
     }
@@ -81,7 +84,9 @@ impl RxChannels {
         ensures refusal { refusal_of result ≡ first_refusal (rx_sc_refusals self.old own sci) }
         ensures done { OnOk result (self.new ≡ with_channel self.old sci) }
         ensures unchanged { OnErr result (self.new ≡ self.old) }
+        ensures channels { AreChannels self.new }
     {
+        let _ = &self.scis;
         if sci == own {
             return Err(Refusal::OwnSci);
         }
@@ -100,6 +105,7 @@ impl RxChannels {
         ensures refusal { refusal_of result ≡ first_refusal (rx_sc_del_refusals self.old sci) }
         ensures done { OnOk result (self.new ≡ without_channel self.old sci) }
         ensures unchanged { OnErr result (self.new ≡ self.old) }
+        ensures channels { AreChannels self.new }
     {
         if !self.has_channel(sci) {
             return Err(Refusal::NoSc);
@@ -110,7 +116,8 @@ impl RxChannels {
     }
 
     /// Makes an association, off, whose lowest acceptable packet number is `lowest`. It is refused by
-    /// `NoKey`, `KeyRetired`, `NoSc`, `AnTaken` and `PnRange`, in this order.
+    /// `NoKey`, `KeyRetired`, `NoSc`, `AnTaken`, `PnRange` and, where packet numbers are extended,
+    /// `SsciOwn`, in this order.
     pub fn rx_sa(
         &mut self,
         keys: &KeyTable,
@@ -120,10 +127,12 @@ impl RxChannels {
         ssci: u32,
         lowest: u64,
     ) -> Result<(), Refusal>
-        ensures refusal { refusal_of result ≡ first_refusal (rx_sa_refusals keys.now self.old sci an key lowest) }
+        ensures refusal { refusal_of result ≡ first_refusal (rx_sa_refusals keys.now self.old sci an key ssci lowest) }
         ensures done { OnOk result (self.new ≡ with_rx_sa self.old sci an key ssci lowest) }
         ensures unchanged { OnErr result (self.new ≡ self.old) }
+        ensures channels { AreChannels self.new }
     {
+        let _ = &self.scis;
         let _number = an.number();
         let Some(row) = keys.key(key) else {
             return Err(Refusal::NoKey);
@@ -137,8 +146,12 @@ impl RxChannels {
         if self.row(sci, an).is_some() {
             return Err(Refusal::AnTaken);
         }
-        if lowest == 0 || lowest > row.suite_key.suite().last() {
+        let suite = row.suite_key.suite();
+        if lowest == 0 || lowest > suite.last() {
             return Err(Refusal::PnRange);
+        }
+        if suite.is_xpn() && ssci == row.key.ssci {
+            return Err(Refusal::SsciOwn);
         }
         let numbers = RxNumbers::at(lowest);
         self.rows.push(RxRow {
@@ -158,6 +171,7 @@ impl RxChannels {
         ensures refusal { refusal_of result ≡ first_refusal (rx_row_refusals self.old sci an) }
         ensures done { OnOk result (self.new ≡ with_rx_on self.old sci an true) }
         ensures unchanged { OnErr result (self.new ≡ self.old) }
+        ensures channels { AreChannels self.new }
     {
         self.find(sci, an)?;
         switch(self.rows.as_mut_slice(), sci, an, true);
@@ -169,6 +183,7 @@ impl RxChannels {
         ensures refusal { refusal_of result ≡ first_refusal (rx_row_refusals self.old sci an) }
         ensures done { OnOk result (self.new ≡ with_rx_on self.old sci an false) }
         ensures unchanged { OnErr result (self.new ≡ self.old) }
+        ensures channels { AreChannels self.new }
     {
         self.find(sci, an)?;
         switch(self.rows.as_mut_slice(), sci, an, false);
@@ -182,6 +197,7 @@ impl RxChannels {
         ensures refusal { refusal_of result ≡ first_refusal (rx_low_refusals keys.now self.old sci an pn) }
         ensures done { OnOk result (self.new ≡ with_rx_low self.old sci an pn) }
         ensures unchanged { OnErr result (self.new ≡ self.old) }
+        ensures channels { AreChannels self.new }
     {
         let row = self.find(sci, an)?;
         let last = keys.key(row.key).unwrap().suite_key.suite().last();
@@ -200,6 +216,7 @@ impl RxChannels {
         ensures refusal { refusal_of result ≡ first_refusal (rx_row_refusals self.old sci an) }
         ensures done { OnOk result (self.new ≡ without_rx self.old sci an) }
         ensures unchanged { OnErr result (self.new ≡ self.old) }
+        ensures channels { AreChannels self.new }
     {
         self.find(sci, an)?;
         self.rows.retain(|row| !is_at(row, sci, an));
@@ -208,7 +225,8 @@ impl RxChannels {
 
     /// Narrows every association to the replay window at once.
     pub fn narrow(&mut self, window: u64)
-        ensures { self.new ≡ channels_narrowed self.old window }
+        ensures narrowed { self.new ≡ channels_narrowed self.old window }
+        ensures channels { AreChannels self.new }
     {
         narrow(self.rows.as_mut_slice(), window);
     }
@@ -242,11 +260,13 @@ impl RxChannels {
 
     /// The association that a received frame is for: of its SCI and of its association number, and on.
     pub(crate) fn in_use(&self, mpdu: &Mpdu<'_>) -> Option<RxRow>
-        ensures { result ≡ in_use self.now.rows mpdu.now.tag.an (sci_of self.now.scis mpdu.now) }
+        ensures row { result ≡ in_use self.now.rows mpdu.now.tag.an (sci_of self.now.scis mpdu.now) }
+        ensures channels { AreChannels self.now }
     {
+        let rows = self.rows.as_slice();
         let sci = self.sci_of(mpdu)?;
         let an = mpdu.tag().an();
-        for row in self.rows.as_slice() {
+        for row in rows {
             if row.sci == sci && row.an.number() == an.number() && row.on {
                 return Some(*row);
             }
@@ -257,7 +277,8 @@ impl RxChannels {
     /// Takes note that a frame of this association and of the packet number `number` was accepted, under a
     /// replay window.
     pub(crate) fn accept(&mut self, row: RxRow, number: u64, window: u64)
-        ensures { self.new ≡ record self.old { rows = with_rx (row_accepting window number) row.sci row.an self.old.rows } }
+        ensures accepted { self.new ≡ record self.old { rows = with_rx (row_accepting window number) row.sci row.an self.old.rows } }
+        ensures channels { AreChannels self.new }
     {
         accept(self.rows.as_mut_slice(), row.sci, row.an, number, window);
     }

@@ -4,8 +4,10 @@ ghost use Rattle.std.specs.Prelude.{◌≡◌, ◌≤◌, ◌+◌, ◌++◌, dro
 ghost use Rattle.macsec_gcm.specs.Gcm.{max_plaintext_len};
 ghost use Rattle.macsec_tag.specs.Tag.{spelling};
 ghost use Rattle.macsec_rx.specs.Judge.{bare_frame, octets_at};
-ghost use Rattle.macsec_rx.specs.Delivered.{frame_with, opened_under};
+ghost use Rattle.macsec_rx.specs.Delivered.{HasFixedLengths, frame_with, opened_under};
 
+use macsec_gcm::laws::{open_undoes_seal, sealed_lengths};
+use macsec_suite::laws::parts_in_place;
 use macsec_suite::{SuiteKey, validate_in_place};
 use macsec_tag::Mpdu;
 
@@ -31,8 +33,7 @@ fn lay_out(mpdu: &Mpdu<'_>, out: &mut [u8]) -> usize
     ensures length { result ≡ 28 + length (spelling mpdu.now.tag) + length mpdu.now.secure_data }
     ensures octets { take result out.new ≡
         mpdu.now.da ++ mpdu.now.sa ++ spelling mpdu.now.tag ++ mpdu.now.secure_data ++ mpdu.now.icv }
-    ensures addresses { length (mpdu.now.da ++ mpdu.now.sa) ≡ 12 }
-    ensures icv { length mpdu.now.icv ≡ 16 }
+    ensures lengths { HasFixedLengths mpdu.now }
 {
     let addresses = put(mpdu.addresses(), 0, out);
     let tag = put(mpdu.tag_bytes(), addresses, out);
@@ -78,6 +79,9 @@ pub fn deliver_opened(
         option_map (frame_with key.now mpdu.now) (opened_under key.now iv.now mpdu.now) }
     ensures within { IfSome result (λ at. at.0 + at.1 ≤ length out.new) }
 {
+    parts_in_place();
+    open_undoes_seal();
+    sealed_lengths();
     let end = lay_out(mpdu, out);
     let tag = mpdu.tag();
     let data_length = mpdu.secure_data().len();

@@ -10,6 +10,7 @@ ghost use Rattle.macsec_rx.specs.Limits.{max_frame_len};
 ghost use Rattle.macsec_rx.specs.Channels.{with_rx};
 ghost use Rattle.macsec_rx.specs.Commands.{HaveRxKeys};
 ghost use Rattle.macsec_rx.specs.Judge.{accepted_number, bare_frame, in_use, is_bad_number, is_disabled, is_strict, judge_number, judge_opened, judge_row, judge_tagged, judge_tagged_row, plaintext_of, row_accepting, rows_after, sci_of};
+ghost use Rattle.macsec_rx.specs.Rows.{AreChannels};
 ghost use Rattle.macsec_rx.specs.Judged.{ShowsJudgement, ShowsOutcome};
 
 use crate::delivering::{deliver_bare, deliver_opened};
@@ -76,6 +77,7 @@ impl RxChannels {
         requires room { max_frame_len ≤ length out.old }
         ensures judged { ShowsJudgement result out.new (judge_tagged options.now keys.now self.old mpdu.now) }
         ensures numbers { self.new ≡ record self.old { rows = rows_after options.now.window (judge_tagged options.now keys.now self.old mpdu.now) self.old.rows } }
+        ensures channels { AreChannels self.new }
     {
         let row = self.in_use(mpdu);
         let outcome = judge_tagged(keys, options, &row, mpdu, out);

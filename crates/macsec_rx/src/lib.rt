@@ -1,6 +1,9 @@
 //! Receive channels and their associations, and the verdict on a tagged frame (IEEE 802.1AE, 10.6 and 10.7).
 #![tactic(auto)]
 
+ghost use Rattle.std.specs.Prelude.{◌≡◌, Some};
+ghost use Rattle.macsec_rx.specs.Verdicts.{verdict_name};
+
 mod channels;
 mod delivering;
 #[cfg(test)]
@@ -12,6 +15,7 @@ mod tests;
 pub use channels::RxChannels;
 use macsec_suite::Suite;
 use macsec_tag::{An, Sci};
+use std::fmt;
 
 /// How received frames are validated (10.6).
 #[derive(Clone, Copy, PartialEq, Eq, Debug)]
@@ -24,7 +28,7 @@ pub enum Mode {
     Strict,
 }
 
-/// What becomes of a received frame, named as its counter is.
+/// What becomes of a received frame, named as its counter is, without InPkts.
 #[derive(Clone, Copy, PartialEq, Eq, Debug)]
 pub enum Verdict {
     /// It has no SecTAG, and is delivered.
@@ -49,8 +53,38 @@ pub enum Verdict {
     Delayed,
     /// It is not valid, and is delivered.
     Invalid,
-    /// It is valid and in time; it prints as `OK`.
+    /// It is valid and in time; its name is `OK`.
     Passed,
+}
+
+impl Verdict {
+    /// Its name.
+    pub fn name(self) -> &'static str
+        ensures { result.now ≡ verdict_name self }
+    {
+        match self {
+            Verdict::Untagged => "Untagged",
+            Verdict::NoTag => "NoTag",
+            Verdict::BadTag => "BadTag",
+            Verdict::Reserved => "Reserved",
+            Verdict::NoSaError => "NoSAError",
+            Verdict::NoSa => "NoSA",
+            Verdict::Late => "Late",
+            Verdict::NotValid => "NotValid",
+            Verdict::Unchecked => "Unchecked",
+            Verdict::Delayed => "Delayed",
+            Verdict::Invalid => "Invalid",
+            Verdict::Passed => "OK",
+        }
+    }
+}
+
+impl fmt::Display for Verdict {
+    ghost output = { λ verdict. Some (verdict_name verdict) };
+
+    fn fmt<W: fmt::Write>(&self, f: &mut fmt::Formatter<W>) -> fmt::Result {
+        f.write_str(self.name())
+    }
 }
 
 /// What reception goes by: the endpoint's suite, how frames are validated, whether late frames are dropped,

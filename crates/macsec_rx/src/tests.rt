@@ -1,6 +1,6 @@
 //! What no clause says: what the receive channels answer to commands one after another.
 
-use crate::{RxChannels, RxRow};
+use crate::{RxChannels, RxRow, Verdict};
 use macsec_aes::Key;
 use macsec_suite::{KeyTable, NewKey, Refusal, Suite};
 use macsec_tag::{An, Sci};
@@ -46,6 +46,13 @@ fn first_row(an: An) -> RxRow {
         lowest: u128::from(FIRST),
         on: false,
     }
+}
+
+#[test]
+fn printed_verdicts(rt: HostRuntime) -> Result<(), Fail> {
+    let told = format!(in rt.alloc(); "{} {}", Verdict::Passed, Verdict::NoSaError)?;
+    assert_eq!(&rt; told.as_str(), "OK NoSAError");
+    Ok(())
 }
 
 #[test]

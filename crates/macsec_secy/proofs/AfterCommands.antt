@@ -40,11 +40,11 @@ another_stays keys new fresh = record { there = λ n. there_with_more keys (new 
 retiring_stays : (keys : List InstalledKey) (number : ℕ) → KeysStay keys (keys_retiring keys number)
 retiring_stays keys number = record { there = λ n. there_retiring keys number n; first = λ n. first-retiring keys number n }
 
-abbrev NoneHold : List RefusalLine → Type 0
+abbrev pub NoneHold : List RefusalLine → Type 0
 NoneHold [] = Unit {0}
 NoneHold (line ∷ lines) = (line.1 ≡ false) × NoneHold lines
 
-none_hold : (lines : List RefusalLine) → first_refusal lines ≡ None → NoneHold lines
+pub none_hold : (lines : List RefusalLine) → first_refusal lines ≡ None → NoneHold lines
 none_hold [] e = tt
 none_hold (line ∷ lines) e = by_test line.1 (none_hold lines) e
   where

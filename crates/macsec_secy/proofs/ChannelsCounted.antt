@@ -5,9 +5,12 @@ use Rattle.std.specs.List.{refill}
 use Rattle.std.proofs.lemmas.List.{length-map}
 use Rattle.macsec_tag.specs.declared.Sci.{Sci}
 use Rattle.macsec_rx.specs.declared.Verdict.{Verdict}
+use Rattle.macsec_rx.specs.declared.RxRow.{RxRow}
 use Rattle.macsec_rx.specs.Channels.{same_sci}
+use Rattle.macsec_rx.specs.Judge.{Judgement}
 use Rattle.macsec_secy.specs.declared.ChannelCounters.{ChannelCounters}
 use Rattle.macsec_secy.specs.Counting.{count_at, count_in_channel}
+use Rattle.macsec_secy.specs.Reception.{counted_at_row, is_counted_by_channel, rx_packet_counted}
 use Rattle.macsec_secy.specs.Verdicts.{counted_at_place}
 use Rattle.macsec_secy.specs.Sound.{sci_of_counters}
 use Rattle.macsec_secy.proofs.Lent.{left_in_place}
@@ -30,6 +33,14 @@ pub after_counting : (verdict : Verdict) (place : Option (Sci × ℕ)) (rows : L
     map sci_of_counters (counted_at_place verdict place rows) ≡ map sci_of_counters rows
 after_counting verdict None rows = refl
 after_counting verdict (Some place) rows = scis_kept verdict place.0 rows
+
+pub after_judging : (j : Judgement) (rows : List ChannelCounters) → map sci_of_counters (rx_packet_counted j rows) ≡ map sci_of_counters rows
+after_judging j rows = by_parts (is_counted_by_channel j) j.row
+  where
+    by_parts : (b : Bool) (row : Option RxRow) → map sci_of_counters (if b then counted_at_row j.verdict row rows else rows) ≡ map sci_of_counters rows
+    by_parts false row = refl
+    by_parts true None = refl
+    by_parts true (Some row) = scis_kept j.verdict row.sci rows
 
 -- a channel is removed
 pub without_counters : (sci : Sci) (rows : List ChannelCounters) →

@@ -4,8 +4,13 @@ pub mod Lent
 pub mod ChannelsCounted
 pub mod Steps
 pub mod Lengths
+pub mod SentFrames
 pub mod TaggedFrames
 pub mod Limits
+pub mod Sums
+pub mod CountersKept
+pub mod StaysSound
+pub mod FramesCounted
 pub mod FirstUnused
 pub mod UnusedNext
 pub mod AfterCommands

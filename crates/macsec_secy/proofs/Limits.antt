@@ -6,14 +6,15 @@ use Rattle.std.proofs.Common.{arith}
 use Rattle.macsec_tx.specs.Limits.{max_frame_len}
 use Rattle.macsec_secy.specs.declared.EndConfig.{EndConfig}
 use Rattle.macsec_secy.specs.declared.NewFault.{NewFault}
+use Rattle.macsec_secy.specs.Limits.{min_max_frame}
 use Rattle.macsec_secy.specs.Configs.{config_fault, is_bad_limit}
 
-within : (n : ℕ) → is_bad_limit n ≡ false → n ≤ max_frame_len
-within n h = grind (arith, nat_tests, h)
+within : (n : ℕ) → is_bad_limit n ≡ false → (min_max_frame ≤ n) × (n ≤ max_frame_len)
+within n h = (grind (arith, nat_tests, h), grind (arith, nat_tests, h))
 
 not_the_first : (b : Bool) (f : NewFault) (later : Option NewFault) → (if b then Some f else later) ≡ None → b ≡ false
 not_the_first true f later e = cc
 not_the_first false f later e = refl
 
-pub good_limit : (config : EndConfig) → config_fault config ≡ None → config.max_frame ≤ max_frame_len
+pub good_limit : (config : EndConfig) → config_fault config ≡ None → (min_max_frame ≤ config.max_frame) × (config.max_frame ≤ max_frame_len)
 good_limit config e = within config.max_frame (not_the_first (is_bad_limit config.max_frame) _ _ e)

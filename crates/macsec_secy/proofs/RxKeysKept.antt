@@ -71,7 +71,7 @@ without_channel_of keys channels sci have = All-filter (λ row. not (same_sci ro
 
 -- an association is made
 pub with_one_more : (keys : List InstalledKey) (channels : Channels) (sci : Sci) (an key ssci lowest : ℕ) →
-    first_refusal (rx_sa_refusals keys channels sci an key lowest) ≡ None → HaveRxKeys keys channels.rows →
+    first_refusal (rx_sa_refusals keys channels sci an key ssci lowest) ≡ None → HaveRxKeys keys channels.rows →
     HaveRxKeys keys (with_rx_sa channels sci an key ssci lowest).rows
 with_one_more keys channels sci an key ssci lowest none have =
     let new : RxRow = record { sci = sci; an = an; key = key; ssci = ssci; next = lowest; lowest = lowest; on = false } in

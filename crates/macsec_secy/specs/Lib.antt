@@ -7,6 +7,7 @@ pub mod Commands
 pub mod Reception
 pub mod Verdicts
 pub mod Step
+pub mod Sums
 pub mod Laws
 pub mod Answers
 pub mod Rests

@@ -1,22 +1,75 @@
--- What holds of the parts of an endpoint.
-use Rattle.std.specs.Prelude.{◌≡◌, ◌≤◌, ℕ, List, map}
+-- What holds of an endpoint at all times.
+use Rattle.std.specs.Prelude.{◌≡◌, ◌<◌, ◌≤◌, ◌^◌, ℕ, map}
+use Rattle.std.specs.List.{All}
 use Rattle.macsec_tag.specs.declared.Sci.{Sci}
-use Rattle.macsec_suite.specs.KeyRows.{InstalledKey}
+use Rattle.macsec_suite.specs.KeyRows.{AreKeyRows}
+use Rattle.macsec_suite.specs.Suites.{widest_window}
 use Rattle.macsec_tx.specs.Limits.{max_frame_len}
-use Rattle.macsec_tx.specs.declared.TxRow.{TxRow}
 use Rattle.macsec_tx.specs.Commands.{HaveKeys}
-use Rattle.macsec_rx.specs.Channels.{Channels}
+use Rattle.macsec_tx.specs.Rows.{AreTxRows}
 use Rattle.macsec_rx.specs.Commands.{HaveRxKeys}
+use Rattle.macsec_rx.specs.Rows.{AreChannels, IsSci}
+use Rattle.macsec_secy.specs.declared.Counters.{Counters}
+use Rattle.macsec_secy.specs.declared.TxCounters.{TxCounters}
+use Rattle.macsec_secy.specs.declared.RxCounters.{RxCounters}
 use Rattle.macsec_secy.specs.declared.ChannelCounters.{ChannelCounters}
+use Rattle.macsec_secy.specs.Limits.{min_max_frame}
+use Rattle.macsec_secy.specs.State.{State}
 
 abbrev pub sci_of_counters : ChannelCounters → Sci
 sci_of_counters row = row.sci
 
--- there is room for the largest frame, which is no longer than a frame can be; the key of each
--- association is there; and each channel has its counters, in the order of the channels
-pub record IsSound (keys : List InstalledKey) (tx : List TxRow) (rx : Channels) (rx_counters : List ChannelCounters) (max_frame room_length : ℕ) : Type 0 where
+-- the counters have 64 bits: those of an endpoint
+pub record AreCounters (c : Counters) : Type 0 where
+  pub in_pkts_untagged : c.in_pkts_untagged < 2 ^ 64
+  pub in_pkts_no_tag : c.in_pkts_no_tag < 2 ^ 64
+  pub in_pkts_bad_tag : c.in_pkts_bad_tag < 2 ^ 64
+  pub in_pkts_reserved : c.in_pkts_reserved < 2 ^ 64
+  pub in_pkts_no_sa : c.in_pkts_no_sa < 2 ^ 64
+  pub in_pkts_no_sa_error : c.in_pkts_no_sa_error < 2 ^ 64
+  pub in_octets_validated : c.in_octets_validated < 2 ^ 64
+  pub in_octets_decrypted : c.in_octets_decrypted < 2 ^ 64
+  pub out_pkts_untagged : c.out_pkts_untagged < 2 ^ 64
+  pub out_pkts_too_long : c.out_pkts_too_long < 2 ^ 64
+  pub out_pkts_no_sa : c.out_pkts_no_sa < 2 ^ 64
+
+-- those of its transmit channel
+pub record AreTxCounters (c : TxCounters) : Type 0 where
+  pub out_pkts_protected : c.out_pkts_protected < 2 ^ 64
+  pub out_pkts_encrypted : c.out_pkts_encrypted < 2 ^ 64
+  pub out_octets_protected : c.out_octets_protected < 2 ^ 64
+  pub out_octets_encrypted : c.out_octets_encrypted < 2 ^ 64
+
+-- and those of a receive channel
+pub record AreRxCounters (c : RxCounters) : Type 0 where
+  pub in_pkts_ok : c.in_pkts_ok < 2 ^ 64
+  pub in_pkts_unchecked : c.in_pkts_unchecked < 2 ^ 64
+  pub in_pkts_delayed : c.in_pkts_delayed < 2 ^ 64
+  pub in_pkts_late : c.in_pkts_late < 2 ^ 64
+  pub in_pkts_invalid : c.in_pkts_invalid < 2 ^ 64
+  pub in_pkts_not_valid : c.in_pkts_not_valid < 2 ^ 64
+
+-- the largest frame of the configuration has 64 to 9,248 octets, and the own SCI is 8 octets; keys, transmit
+-- associations and receive channels are such as there can be; the replay window is none too wide for the
+-- suite, and all keys are of that suite; the key of each association is there; each channel has its counters,
+-- in the order of the channels; and the counters have 64 bits
+pub record IsSound (s : State) : Type 0 where
+  pub max_frame_least : min_max_frame ≤ s.config.max_frame
+  pub max_frame_most : s.config.max_frame ≤ max_frame_len
+  pub own_sci : IsSci s.config.sci
+  pub keys : AreKeyRows s.keys
+  pub tx : AreTxRows s.tx
+  pub rx : AreChannels s.rx
+  pub window : s.options.window ≤ widest_window s.config.suite
+  pub suite : All (λ key. key.suite ≡ s.config.suite) s.keys
+  pub tx_keys : HaveKeys s.keys s.tx
+  pub rx_keys : HaveRxKeys s.keys s.rx.rows
+  pub channels : map sci_of_counters s.rx_counters ≡ s.rx.scis
+  pub counters : AreCounters s.counters
+  pub tx_counters : AreTxCounters s.tx_counters
+  pub rx_counters : All (λ row. AreRxCounters row.counters) s.rx_counters
+
+-- it is sound, and there is room for the longest frame
+pub record IsReady (s : State) (room_length : ℕ) : Type 0 where
+  pub sound : IsSound s
   pub room : room_length ≡ max_frame_len
-  pub limit : max_frame ≤ max_frame_len
-  pub tx_keys : HaveKeys keys tx
-  pub rx_keys : HaveRxKeys keys rx.rows
-  pub counters : map sci_of_counters rx_counters ≡ rx.scis

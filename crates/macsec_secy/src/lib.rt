@@ -1,21 +1,30 @@
 //! The endpoint: the MAC security entity (IEEE 802.1AE, clause 10).
 #![tactic(auto)]
 
-ghost use Rattle.std.specs.Prelude.{◌≡◌, slice_get};
+ghost use Rattle.std.specs.Prelude.{◌≡◌, slice_get, IfOk};
 ghost use Rattle.std.specs.Borrow.{sem};
 ghost use Rattle.macsec_tx.specs.Transmit.{tx_row};
 ghost use Rattle.macsec_secy.specs.Configs.{config_fault};
 ghost use Rattle.macsec_rx.specs.Channels.{rx_row};
+ghost use Rattle.macsec_rx.specs.Rows.{IsSci};
 ghost use Rattle.macsec_secy.specs.Step.{client_frame, frame_fault, link_frame, operator_command, step, uncontrolled_frame};
 ghost use Rattle.macsec_secy.specs.Answers.{MakesEndpoint, output_of_command, output_of_frame, output_of_received, output_of_sent, rx_counters_of};
 ghost use Rattle.macsec_secy.specs.Rests.{RestsAs};
+ghost use Rattle.macsec_secy.specs.Sound.{IsSound};
+ghost use Rattle.macsec_secy.specs.Sums.{AddsFrames};
 
+#[cfg(test)]
+mod channel_tests;
 mod counting;
+#[cfg(test)]
+mod extended_tests;
 pub mod laws;
 mod managing;
 #[cfg(test)]
 mod receive_tests;
 mod receiving;
+#[cfg(test)]
+mod test_ends;
 #[cfg(test)]
 mod tests;
 
@@ -64,13 +73,16 @@ impl EndConfig {
     /// Why no endpoint can be made of it, where that is so: `MaxFrame` where the largest frame has not
     /// 64 to 9,248 octets, else `SciForm` where the tag form does not fit the SCI.
     pub fn fault(self) -> Option<NewFault>
-        ensures { result ≡ config_fault self }
+        ensures fault { result ≡ config_fault self }
+        // An SCI has eight octets, whoever made it.
+        ensures sci { IsSci self.sci }
     {
+        let is_unfit = is_unfit(self.form, self.sci);
         let max_frame = self.max_frame as usize;
         if max_frame < MIN_MAX_FRAME || max_frame > MAX_FRAME_LEN {
             return Some(NewFault::MaxFrame);
         }
-        if is_unfit(self.form, self.sci) {
+        if is_unfit {
             return Some(NewFault::SciForm);
         }
         None
@@ -260,7 +272,7 @@ pub struct Secy {
 
 impl Model for Secy {
     ghost use Rattle.std.specs.Prelude.{vec_len};
-    ghost use Rattle.macsec_secy.specs.Sound.{IsSound};
+    ghost use Rattle.macsec_secy.specs.Sound.{IsReady};
     ghost use Rattle.macsec_secy.specs.State.{State};
 
     ghost Value = { State };
@@ -276,9 +288,17 @@ impl Model for Secy {
       rx_counters = s.rx_counters.items;
     } };
 
-    // There is room for the largest frame, which is no longer than a frame can be; the key of each
-    // association is there; and each channel has its counters.
-    ghost invariant = { λ s. IsSound s.keys s.tx s.rx s.rx_counters.items s.config.max_frame (vec_len s.room) };
+    // It is sound, and there is room for the longest frame.
+    ghost invariant = { λ s. IsReady (record {
+      config = s.config;
+      options = s.options;
+      keys = s.keys;
+      tx = s.tx;
+      rx = s.rx;
+      counters = s.counters;
+      tx_counters = s.tx_counters;
+      rx_counters = s.rx_counters.items;
+    }) (vec_len s.room) };
 }
 
 impl Secy {
@@ -287,7 +307,8 @@ impl Secy {
     /// `MaxFrame` and `SciForm`, in this order, and then for want of memory for its keys and its room
     /// for frames. No other call takes memory.
     pub fn new(alloc: Global, config: EndConfig) -> Result<Secy, NewFault>
-        ensures { MakesEndpoint config result }
+        ensures result { MakesEndpoint config result }
+        ensures sound { IfOk result IsSound }
     {
         if let Some(fault) = config.fault() {
             return Err(fault);
@@ -321,6 +342,8 @@ impl Secy {
     pub fn command(&mut self, command: &Command) -> Result<(), Refusal>
         ensures output { output_of_command result ≡ (step self.old (operator_command command.now)).0 }
         ensures after { self.new ≡ (step self.old (operator_command command.now)).1 }
+        ensures sum { AddsFrames self.old (operator_command command.now) }
+        ensures sound { IsSound self.new }
     {
         match *command {
             Command::Protect(on) => {
@@ -369,8 +392,10 @@ impl Secy {
     pub fn send<'a>(&'a mut self, frame: &'a [u8]) -> Result<Sent<'a>, FrameFault>
         ensures* after { sem 𝓛 (RestsAs self.entry (step self.old (client_frame frame.now)).1) }
         ensures output { output_of_sent result ≡ (step self.old (client_frame frame.now)).0 }
+        ensures sum { AddsFrames self.old (client_frame frame.now) }
+        ensures sound { IsSound (step self.old (client_frame frame.now)).1 }
     {
-        if let Some(fault) = frame_fault(frame) {
+        if let Some(fault) = self.frame_fault(frame) {
             return Err(fault);
         }
         let encrypts = self.encrypts();
@@ -406,8 +431,10 @@ impl Secy {
     pub fn send_uncontrolled<'a>(&self, frame: &'a [u8]) -> Result<&'a [u8], FrameFault>
         ensures output { output_of_frame result ≡ (step self.now (uncontrolled_frame frame.now)).0 }
         ensures after { (step self.now (uncontrolled_frame frame.now)).1 ≡ self.now }
+        ensures sum { AddsFrames self.now (uncontrolled_frame frame.now) }
+        ensures sound { IsSound self.now }
     {
-        if let Some(fault) = frame_fault(frame) {
+        if let Some(fault) = self.frame_fault(frame) {
             return Err(fault);
         }
         Ok(frame)
@@ -418,8 +445,10 @@ impl Secy {
     pub fn receive<'a>(&'a mut self, frame: &'a [u8]) -> Result<Received<'a>, FrameFault>
         ensures* after { sem 𝓛 (RestsAs self.entry (step self.old (link_frame frame.now)).1) }
         ensures output { output_of_received result ≡ (step self.old (link_frame frame.now)).0 }
+        ensures sum { AddsFrames self.old (link_frame frame.now) }
+        ensures sound { IsSound (step self.old (link_frame frame.now)).1 }
     {
-        if let Some(fault) = frame_fault(frame) {
+        if let Some(fault) = self.frame_fault(frame) {
             return Err(fault);
         }
         let options = self.rx_options();
@@ -459,6 +488,22 @@ impl Secy {
                 })
             }
         }
+    }
+
+    /// Why a frame is not taken, where that is so: it has fewer than 14 octets, or more than there is room
+    /// for.
+    fn frame_fault(&self, frame: &[u8]) -> Option<FrameFault>
+        ensures fault { result ≡ frame_fault frame.now }
+        ensures sound { IsSound self.now }
+    {
+        let most = self.room.len();
+        if frame.len() < MIN_FRAME_LEN {
+            return Some(FrameFault::Short);
+        }
+        if frame.len() > most {
+            return Some(FrameFault::Long);
+        }
+        None
     }
 
     /// The options.
@@ -510,17 +555,4 @@ impl Secy {
     {
         self.rx.row(sci, an)
     }
-}
-
-/// Why a frame is not taken, where that is so.
-fn frame_fault(frame: &[u8]) -> Option<FrameFault>
-    ensures { result ≡ frame_fault frame.now }
-{
-    if frame.len() < MIN_FRAME_LEN {
-        return Some(FrameFault::Short);
-    }
-    if frame.len() > MAX_FRAME_LEN {
-        return Some(FrameFault::Long);
-    }
-    None
 }

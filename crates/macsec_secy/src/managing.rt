@@ -3,9 +3,11 @@
 ghost use Rattle.std.specs.Prelude.{◌≡◌};
 ghost use Rattle.macsec_suite.specs.Refusals.{holds_of, refusal_of};
 ghost use Rattle.macsec_tx.specs.Transmit.{row_on};
+ghost use Rattle.macsec_rx.specs.Rows.{IsSci};
 ghost use Rattle.macsec_secy.specs.declared.Command.TheVariants as by;
 ghost use Rattle.macsec_secy.specs.State.{tx_options};
 ghost use Rattle.macsec_secy.specs.Configs.{is_unfit};
+ghost use Rattle.macsec_secy.specs.Sound.{IsSound};
 ghost use Rattle.macsec_secy.specs.Commands.{refusal, state_after_command};
 
 use crate::{Refusal, Sci, Secy, TagForm};
@@ -16,6 +18,7 @@ impl Secy {
     pub(crate) fn replay(&mut self, protect: bool, window: u64) -> Result<(), Refusal>
         ensures refusal { refusal_of result ≡ refusal self.old (by.Replay protect window) }
         ensures after { self.new ≡ state_after_command self.old (by.Replay protect window) }
+        ensures sound { IsSound self.new }
     {
         if window > self.config.suite.widest_window() {
             return Err(Refusal::Window);
@@ -30,6 +33,7 @@ impl Secy {
     pub(crate) fn tag(&mut self, form: TagForm) -> Result<(), Refusal>
         ensures refusal { refusal_of result ≡ refusal self.old (by.Tag form) }
         ensures after { self.new ≡ state_after_command self.old (by.Tag form) }
+        ensures sound { IsSound self.new }
     {
         if is_unfit(form, self.config.sci) {
             return Err(Refusal::SciForm);
@@ -64,7 +68,8 @@ impl Secy {
 
 /// Does the tag form ask for another port than the SCI's?
 pub(crate) fn is_unfit(form: TagForm, sci: Sci) -> bool
-    ensures { result ≡ is_unfit form sci }
+    ensures unfit { result ≡ is_unfit form sci }
+    ensures sci { IsSci sci }
 {
     match form {
         TagForm::Auto | TagForm::Sci => false,

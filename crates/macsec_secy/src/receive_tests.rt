@@ -1,213 +1,476 @@
 //! What no clause says: that an endpoint gives the frames of another one the verdicts and the counters that
 //! it should.
 
-use crate::{
-    An, Command, Counters, EndConfig, FrameFault, Key, Mode, NewKey, Refusal, RxCounters, Sci,
-    Secy, Sent, Suite, TagForm, Verdict,
+use crate::test_ends::{
+    CLIENT_14, CLIENT_54, CLIENT_60, NOTHING_COUNTED, NOTHING_HEARD, NUMBER, PROTECTED_54,
+    PROTECTED_60, RECEIVER, SENDER, altered, an, channel_counters, heard, link_frame, numbers,
+    receiver, rx_sa, sender, verdict_on_dropped,
 };
-use std::alloc::Global;
-use std::process::Abort;
+use crate::{
+    Command, Counters, EndConfig, FrameFault, Key, Mode, NewKey, Refusal, RxCounters, Secy, Suite,
+    Verdict,
+};
 use std::test::Fail;
 
-/// The sender: its SCI is that of the test frames.
-const SENDER: EndConfig = EndConfig {
-    suite: Suite::Gcm128,
-    sci: Sci([0x12, 0x15, 0x35, 0x24, 0xc0, 0x89, 0x5e, 0x81]),
-    max_frame: 1518,
-    form: TagForm::Sci,
-};
+/// The packet numbers of an association made for the test frames, before it has accepted one and after.
+const BEFORE: (u128, u128) = (0xb2c2_8465, 0xb2c2_8465);
 
-/// The receiver.
-const RECEIVER: EndConfig = EndConfig {
-    sci: Sci([0, 0, 0, 0, 0, 0, 0, 2]),
-    form: TagForm::Auto,
-    ..SENDER
-};
+const AFTER: (u128, u128) = (0xb2c2_8466, 0xb2c2_8466);
 
-/// The key of 128 bits of the test frames, without a confidentiality offset.
-fn key() -> Command {
-    Command::Key(NewKey {
+/// The key of 256 bits of the test frames.
+const KEY_256: [u8; 32] = [
+    0xe3, 0xc0, 0x8a, 0x8f, 0x06, 0xc6, 0xe3, 0xad, 0x95, 0xa7, 0x05, 0x57, 0xb2, 0x3f, 0x75, 0x48,
+    0x3c, 0xe3, 0x30, 0x21, 0xa9, 0xc7, 0x2b, 0x70, 0x25, 0x66, 0x62, 0x04, 0xc6, 0x9c, 0x0b, 0x72,
+];
+
+/// Secure Data and ICV of the 60-octet test frame, protected for confidentiality under that key.
+const SECURED_256: [u8; 64] = [
+    0xe2, 0x00, 0x6e, 0xb4, 0x2f, 0x52, 0x77, 0x02, 0x2d, 0x9b, 0x19, 0x92, 0x5b, 0xc4, 0x19, 0xd7,
+    0xa5, 0x92, 0x66, 0x6c, 0x92, 0x5f, 0xe2, 0xef, 0x71, 0x8e, 0xb4, 0xe3, 0x08, 0xef, 0xea, 0xa7,
+    0xc5, 0x27, 0x3b, 0x39, 0x41, 0x18, 0x86, 0x0a, 0x5b, 0xe2, 0xa9, 0x7f, 0x56, 0xab, 0x78, 0x36,
+    0x5c, 0xa5, 0x97, 0xcd, 0xbb, 0x3e, 0xdb, 0x8d, 0x1a, 0x11, 0x51, 0xea, 0x0a, 0xf7, 0xb4, 0x36,
+];
+
+#[test]
+fn test_frames_are_delivered_and_counted(rt: HostRuntime) -> Result<(), Fail> {
+    let an = an(&rt, 2);
+    for (link, client, validated, decrypted) in [
+        (&PROTECTED_54[..], &CLIENT_54[..], 42, 0),
+        (&PROTECTED_60[..], &CLIENT_60[..], 0, 48),
+    ] {
+        let mut to = receiver(rt.alloc(), an, NUMBER)?;
+        assert_eq!(rt; heard(&rt, &mut to, link), (Verdict::Passed, Some(client)));
+        assert_eq!(rt; numbers(&to, an), Some(AFTER));
+        let octets = Counters {
+            in_octets_validated: validated,
+            in_octets_decrypted: decrypted,
+            ..NOTHING_COUNTED
+        };
+        assert_eq!(rt; to.counters(), octets);
+        let one = RxCounters {
+            in_pkts_ok: 1,
+            ..NOTHING_HEARD
+        };
+        assert_eq!(rt; channel_counters(&rt, &to), one);
+    }
+    Ok(())
+}
+
+#[test]
+fn test_frame_under_the_key_of_256_bits(rt: HostRuntime) -> Result<(), Fail> {
+    let an = an(&rt, 2);
+    let config = EndConfig {
+        suite: Suite::Gcm256,
+        ..RECEIVER
+    };
+    let mut to = Secy::new(rt.alloc(), config)?;
+    to.command(&Command::Key(NewKey {
         number: 0,
-        bytes: Key::K128(KEY.to_be_bytes()),
+        bytes: Key::K256(KEY_256),
         salt: [0; 12],
         ssci: 0,
         offset: 0,
-    })
-}
-
-/// The bits of that key.
-const KEY: u128 = 0xad7a_2bd0_3eac_835a_6f62_0fdc_b506_b345;
-
-/// A client's frame of 60 octets.
-const CLIENT: [u8; 60] = [0x5a; 60];
-
-fn an(rt: &impl Abort, number: u8) -> An {
-    An::new(number).expect(rt, "an association number")
-}
-
-/// An endpoint that sends under association 2, from packet number 1 on, encrypted where `conf` is true.
-fn sender(alloc: Global, an: An, conf: bool) -> Result<Secy, Fail> {
-    let mut secy = Secy::new(alloc, SENDER)?;
-    secy.command(&key())?;
-    secy.command(&Command::TxSa {
-        an,
-        key: 0,
-        next: 1,
-        conf,
-    })?;
-    secy.command(&Command::TxOn(an))?;
-    Ok(secy)
-}
-
-/// One that receives of that association, from packet number 1 on.
-fn receiver(alloc: Global, an: An) -> Result<Secy, Fail> {
-    let mut secy = Secy::new(alloc, RECEIVER)?;
-    secy.command(&key())?;
-    secy.command(&Command::RxSc(SENDER.sci))?;
-    secy.command(&Command::RxSa {
-        sci: SENDER.sci,
-        an,
-        key: 0,
-        ssci: 0,
-        lowest: 1,
-    })?;
-    secy.command(&Command::RxOn(SENDER.sci, an))?;
-    Ok(secy)
-}
-
-/// The link frame of the sender's next client's frame.
-fn next_frame(rt: &impl Abort, secy: &mut Secy) -> [u8; 92] {
-    let mut link = [0; 92];
-    match secy.send(&CLIENT) {
-        Ok(Sent::Link { frame, .. }) if frame.len() == 92 => link.copy_from_slice(frame),
-        _ => panic!(rt; "no frame of 92 octets leaves"),
-    }
-    link
-}
-
-/// The verdict on a link frame; where a frame is delivered, it is the client's.
-fn verdict_on(rt: &impl Abort, secy: &mut Secy, link: &[u8]) -> Verdict {
-    match secy.receive(link) {
-        Ok(received) => {
-            assert_eq!(rt; received.uncontrolled, link);
-            if let Some(frame) = received.controlled {
-                assert_eq!(rt; frame, CLIENT.as_slice());
-            }
-            received.verdict
-        }
-        Err(_) => panic!(rt; "the frame is at fault"),
-    }
-}
-
-/// The counters of the sender's channel.
-fn channel_counters(rt: &impl Abort, secy: &Secy) -> RxCounters {
-    secy.rx_counters(SENDER.sci)
-        .expect(rt, "the channel is there")
-}
-
-#[test]
-fn frames_in_order_lost_and_again(rt: HostRuntime) -> Result<(), Fail> {
-    for conf in [false, true] {
-        let mut from = sender(rt.alloc(), an(&rt, 2), conf)?;
-        let mut to = receiver(rt.alloc(), an(&rt, 2))?;
-        let first = next_frame(&rt, &mut from);
-        let second = next_frame(&rt, &mut from);
-        let third = next_frame(&rt, &mut from);
-        for (link, wanted) in [
-            (first, Verdict::Passed),
-            (first, Verdict::Late),
-            (third, Verdict::Passed),
-            (second, Verdict::Late),
-        ] {
-            assert_eq!(&rt; verdict_on(&rt, &mut to, &link), wanted);
-        }
-        let counters = channel_counters(&rt, &to);
-        assert_eq!(&rt; counters.in_pkts_ok, 2);
-        assert_eq!(&rt; counters.in_pkts_late, 2);
-        let octets = (
-            to.counters().in_octets_validated,
-            to.counters().in_octets_decrypted,
-        );
-        assert_eq!(&rt; octets, if conf { (0, 96) } else { (96, 0) });
-        let row = to.rx_row(SENDER.sci, an(&rt, 2));
-        assert_eq!(&rt; row.map(|row| (row.next, row.lowest)), Some((4, 4)));
-    }
+    }))?;
+    to.command(&Command::RxSc(SENDER.sci))?;
+    to.command(&rx_sa(SENDER.sci, an, 0, NUMBER))?;
+    to.command(&Command::RxOn(SENDER.sci, an))?;
+    assert_eq!(rt;
+        verdict_on_dropped(&rt, &mut to, &PROTECTED_60),
+        Verdict::NotValid
+    );
+    let mut link = PROTECTED_60;
+    link[28..].copy_from_slice(&SECURED_256);
+    assert_eq!(rt;
+        heard(&rt, &mut to, &link),
+        (Verdict::Passed, Some(&CLIENT_60[..]))
+    );
     Ok(())
 }
 
 #[test]
-fn altered_frames(rt: HostRuntime) -> Result<(), Fail> {
-    for (mode, conf, wanted) in [
-        (Mode::Strict, false, Verdict::NotValid),
-        (Mode::Strict, true, Verdict::NotValid),
-        (Mode::Check, true, Verdict::NotValid),
-        (Mode::Check, false, Verdict::Invalid),
-        (Mode::Disabled, false, Verdict::Unchecked),
-        (Mode::Disabled, true, Verdict::NotValid),
-    ] {
-        let mut from = sender(rt.alloc(), an(&rt, 2), conf)?;
-        let mut to = receiver(rt.alloc(), an(&rt, 2))?;
-        to.command(&Command::Validate(mode))?;
-        let mut link = next_frame(&rt, &mut from);
-        link[91] ^= 1;
-        assert_eq!(&rt; verdict_on(&rt, &mut to, &link), wanted, "{mode:?}");
-        let row = to.rx_row(SENDER.sci, an(&rt, 2));
-        assert_eq!(&rt; row.map(|row| (row.next, row.lowest)), Some((1, 1)));
+fn padding_is_not_delivered(rt: HostRuntime) -> Result<(), Fail> {
+    let an = an(&rt, 0);
+    let mut from = sender(rt.alloc(), an, 1, false)?;
+    let mut to = receiver(rt.alloc(), an, 1)?;
+    let link: [u8; 46] = link_frame(&rt, &mut from, &CLIENT_14);
+    assert_eq!(rt; &link[..12], &CLIENT_14[..12]);
+    assert_eq!(rt; &link[12..20], [0x88, 0xe5, 0x20, 2, 0, 0, 0, 1].as_slice());
+    let mut padded = [0; 60];
+    padded[..46].copy_from_slice(&link);
+    assert_eq!(rt;
+        heard(&rt, &mut to, &padded),
+        (Verdict::Passed, Some(&CLIENT_14[..]))
+    );
+    Ok(())
+}
+
+/// Data of 47 octets have a short length, and data of 48 have not.
+#[test]
+fn short_length_at_its_edge(rt: HostRuntime) -> Result<(), Fail> {
+    let an = an(&rt, 0);
+    let mut from = sender(rt.alloc(), an, 1, false)?;
+    let mut to = receiver(rt.alloc(), an, 1)?;
+    let short: [u8; 91] = link_frame(&rt, &mut from, &CLIENT_60[..59]);
+    let long: [u8; 92] = link_frame(&rt, &mut from, &CLIENT_60);
+    assert_eq!(rt; (short[15], long[15]), (0x2f, 0));
+    for length in [0, 0x30, 0x40] {
+        let link = altered(short, 15, length);
+        let verdict = verdict_on_dropped(&rt, &mut to, &link);
+        assert_eq!(rt; verdict, Verdict::BadTag, "SL {length}");
     }
+    let last_as_padding = altered(long, 15, 0x2f);
+    let verdict = verdict_on_dropped(&rt, &mut to, &last_as_padding);
+    assert_eq!(rt; verdict, Verdict::NotValid);
+    assert_eq!(rt; numbers(&to, an), Some((1, 1)));
+    let counted = Counters {
+        in_pkts_bad_tag: 3,
+        in_octets_validated: 47,
+        ..NOTHING_COUNTED
+    };
+    assert_eq!(rt; to.counters(), counted);
+    assert_eq!(rt;
+        heard(&rt, &mut to, &short),
+        (Verdict::Passed, Some(&CLIENT_60[..59]))
+    );
+    assert_eq!(rt;
+        heard(&rt, &mut to, &long),
+        (Verdict::Passed, Some(&CLIENT_60[..]))
+    );
     Ok(())
 }
 
+/// Altered in an octet of its data, and in the last one of its ICV.
 #[test]
-fn frames_without_a_channel(rt: HostRuntime) -> Result<(), Fail> {
-    let mut from = sender(rt.alloc(), an(&rt, 2), false)?;
-    let mut to = receiver(rt.alloc(), an(&rt, 2))?;
-    let link = next_frame(&rt, &mut from);
-    let (cut, short) = (&link[..19], &link[..13]);
-    assert_eq!(&rt; verdict_on(&rt, &mut to, &CLIENT), Verdict::NoTag);
-    to.command(&Command::RxScDel(SENDER.sci))?;
-    assert_eq!(&rt; to.rx_counters(SENDER.sci), None);
-    assert_eq!(&rt; to.rx_channel(0), None);
-    assert_eq!(&rt; verdict_on(&rt, &mut to, &link), Verdict::NoSaError);
-    to.command(&Command::Validate(Mode::Check))?;
-    assert_eq!(&rt; verdict_on(&rt, &mut to, &CLIENT), Verdict::Untagged);
-    assert_eq!(&rt; verdict_on(&rt, &mut to, &link), Verdict::NoSa);
-    assert_eq!(&rt; verdict_on(&rt, &mut to, cut), Verdict::BadTag);
-    assert_eq!(&rt; to.receive(short).err(), Some(FrameFault::Short));
-    assert_eq!(&rt; to.receive(&[0; 9_249]).err(), Some(FrameFault::Long));
-    let Counters {
-        in_pkts_untagged,
-        in_pkts_no_tag,
-        in_pkts_bad_tag,
-        in_pkts_no_sa,
-        in_pkts_no_sa_error,
-        ..
-    } = to.counters();
-    let counted = [
-        in_pkts_untagged,
-        in_pkts_no_tag,
-        in_pkts_bad_tag,
-        in_pkts_no_sa,
-        in_pkts_no_sa_error,
-    ];
-    assert_eq!(&rt; counted, [1; 5]);
-    Ok(())
-}
-
-#[test]
-fn keys_of_receive_associations_stay(rt: HostRuntime) -> Result<(), Fail> {
-    let mut to = receiver(rt.alloc(), an(&rt, 2))?;
+fn altered_frame_is_delivered_in_check(rt: HostRuntime) -> Result<(), Fail> {
     let an = an(&rt, 2);
-    assert_eq!(&rt; to.command(&Command::Retire(0)), Err(Refusal::KeyInUse));
-    to.command(&Command::RxDel(SENDER.sci, an))?;
-    assert_eq!(&rt; to.command(&Command::Retire(0)), Ok(()));
-    assert_eq!(&rt;
-        to.command(&Command::RxSc(RECEIVER.sci)),
+    let data = altered(PROTECTED_54, 28, 0x09);
+    let icv = altered(PROTECTED_54, 85, 0xde);
+    let client = altered(CLIENT_54, 12, 0x09);
+    let mut to = receiver(rt.alloc(), an, NUMBER)?;
+    to.command(&Command::Validate(Mode::Check))?;
+    for (link, client) in [(&data[..], &client[..]), (&icv[..], &CLIENT_54[..])] {
+        assert_eq!(rt; heard(&rt, &mut to, link), (Verdict::Invalid, Some(client)));
+        assert_eq!(rt; numbers(&to, an), Some(BEFORE));
+    }
+    let counted = RxCounters {
+        in_pkts_invalid: 2,
+        ..NOTHING_HEARD
+    };
+    assert_eq!(rt; channel_counters(&rt, &to), counted);
+    let octets = Counters {
+        in_octets_validated: 84,
+        ..NOTHING_COUNTED
+    };
+    assert_eq!(rt; to.counters(), octets);
+    Ok(())
+}
+
+#[test]
+fn altered_frames_are_dropped(rt: HostRuntime) -> Result<(), Fail> {
+    let an = an(&rt, 2);
+    let data_54 = altered(PROTECTED_54, 28, 0x09);
+    let icv_54 = altered(PROTECTED_54, 85, 0xde);
+    let data_60 = altered(PROTECTED_60, 28, 0x71);
+    for (mode, link, validated, decrypted) in [
+        (Mode::Strict, &data_54[..], 42, 0),
+        (Mode::Strict, &icv_54[..], 42, 0),
+        (Mode::Strict, &data_60[..], 0, 48),
+        (Mode::Check, &data_60[..], 0, 48),
+    ] {
+        let mut to = receiver(rt.alloc(), an, NUMBER)?;
+        to.command(&Command::Validate(mode))?;
+        let verdict = verdict_on_dropped(&rt, &mut to, link);
+        assert_eq!(rt; verdict, Verdict::NotValid, "{mode:?}");
+        assert_eq!(rt; numbers(&to, an), Some(BEFORE));
+        let counted = RxCounters {
+            in_pkts_not_valid: 1,
+            ..NOTHING_HEARD
+        };
+        assert_eq!(rt; channel_counters(&rt, &to), counted);
+        let octets = Counters {
+            in_octets_validated: validated,
+            in_octets_decrypted: decrypted,
+            ..NOTHING_COUNTED
+        };
+        assert_eq!(rt; to.counters(), octets);
+    }
+    Ok(())
+}
+
+/// The packet numbers 1, 3, 2, 3 at a window of 0.
+#[test]
+fn late_frames(rt: HostRuntime) -> Result<(), Fail> {
+    let an = an(&rt, 2);
+    for (conf, replay) in [(false, true), (false, false), (true, true), (true, false)] {
+        let mut from = sender(rt.alloc(), an, 1, conf)?;
+        let mut to = receiver(rt.alloc(), an, 1)?;
+        to.command(&Command::Replay {
+            protect: replay,
+            window: 0,
+        })?;
+        let first: [u8; 92] = link_frame(&rt, &mut from, &CLIENT_60);
+        let second: [u8; 92] = link_frame(&rt, &mut from, &CLIENT_60);
+        let third: [u8; 92] = link_frame(&rt, &mut from, &CLIENT_60);
+        let in_time = (Verdict::Passed, Some(&CLIENT_60[..]));
+        let late = if replay {
+            (Verdict::Late, None)
+        } else {
+            (Verdict::Delayed, Some(&CLIENT_60[..]))
+        };
+        for (link, wanted) in [
+            (&first, in_time),
+            (&third, in_time),
+            (&second, late),
+            (&third, late),
+        ] {
+            assert_eq!(rt; heard(&rt, &mut to, link), wanted);
+        }
+        let (late, delayed, octets) = if replay { (2, 0, 96) } else { (0, 2, 192) };
+        let counted = RxCounters {
+            in_pkts_ok: 2,
+            in_pkts_late: late,
+            in_pkts_delayed: delayed,
+            ..NOTHING_HEARD
+        };
+        assert_eq!(rt; channel_counters(&rt, &to), counted);
+        let counters = to.counters();
+        let counted = (counters.in_octets_validated, counters.in_octets_decrypted);
+        assert_eq!(rt; counted, if conf { (0, octets) } else { (octets, 0) });
+        assert_eq!(rt; numbers(&to, an), Some((4, 4)));
+    }
+    Ok(())
+}
+
+/// The packet numbers 1, 2, 2, 1 at a window of 1.
+#[test]
+fn repeat_inside_the_window_is_accepted(rt: HostRuntime) -> Result<(), Fail> {
+    let an = an(&rt, 2);
+    let mut from = sender(rt.alloc(), an, 1, false)?;
+    let mut to = receiver(rt.alloc(), an, 1)?;
+    let replay = |window| Command::Replay {
+        protect: true,
+        window,
+    };
+    to.command(&replay(1))?;
+    let first: [u8; 86] = link_frame(&rt, &mut from, &CLIENT_54);
+    let second: [u8; 86] = link_frame(&rt, &mut from, &CLIENT_54);
+    for (link, wanted) in [
+        (&first, Verdict::Passed),
+        (&second, Verdict::Passed),
+        (&second, Verdict::Passed),
+        (&first, Verdict::Late),
+    ] {
+        assert_eq!(rt; heard(&rt, &mut to, link).0, wanted);
+    }
+    assert_eq!(rt; numbers(&to, an), Some((3, 2)));
+    to.command(&replay(0))?;
+    assert_eq!(rt; numbers(&to, an), Some((3, 3)));
+    assert_eq!(rt; heard(&rt, &mut to, &second).0, Verdict::Late);
+    Ok(())
+}
+
+#[test]
+fn last_packet_number_is_accepted_once(rt: HostRuntime) -> Result<(), Fail> {
+    let an = an(&rt, 0);
+    let mut from = sender(rt.alloc(), an, 0xffff_ffff, false)?;
+    let mut to = receiver(rt.alloc(), an, 0xffff_ffff)?;
+    let last: [u8; 86] = link_frame(&rt, &mut from, &CLIENT_54);
+    assert_eq!(rt;
+        heard(&rt, &mut to, &last),
+        (Verdict::Passed, Some(&CLIENT_54[..]))
+    );
+    assert_eq!(rt; heard(&rt, &mut to, &last), (Verdict::Late, None));
+    assert_eq!(rt; numbers(&to, an), Some((1 << 32, 1 << 32)));
+    Ok(())
+}
+
+#[test]
+fn tags_at_fault_are_counted_and_change_nothing_else(rt: HostRuntime) -> Result<(), Fail> {
+    let an = an(&rt, 2);
+    let version = altered(PROTECTED_54, 14, 0xa2);
+    let sci_bits = altered(PROTECTED_54, 14, 0x62);
+    let reserved = altered(PROTECTED_54, 14, 0x2a);
+    let mut number_0 = PROTECTED_54;
+    number_0[16..20].copy_from_slice(&[0; 4]);
+    for mode in [Mode::Disabled, Mode::Check, Mode::Strict] {
+        let mut to = receiver(rt.alloc(), an, NUMBER)?;
+        to.command(&Command::Validate(mode))?;
+        for (link, wanted) in [
+            (&version[..], Verdict::BadTag),
+            (&sci_bits[..], Verdict::BadTag),
+            (&reserved[..], Verdict::Reserved),
+            (&number_0[..], Verdict::BadTag),
+            (&PROTECTED_54[..15], Verdict::BadTag),
+        ] {
+            let verdict = verdict_on_dropped(&rt, &mut to, link);
+            assert_eq!(rt; verdict, wanted, "{mode:?}");
+        }
+        let counted = Counters {
+            in_pkts_bad_tag: 4,
+            in_pkts_reserved: 1,
+            ..NOTHING_COUNTED
+        };
+        assert_eq!(rt; to.counters(), counted);
+        assert_eq!(rt; channel_counters(&rt, &to), NOTHING_HEARD);
+        assert_eq!(rt; numbers(&to, an), Some(BEFORE));
+    }
+    Ok(())
+}
+
+#[test]
+fn untagged_frames(rt: HostRuntime) -> Result<(), Fail> {
+    let mut to = Secy::new(rt.alloc(), RECEIVER)?;
+    assert_eq!(rt; heard(&rt, &mut to, &CLIENT_54), (Verdict::NoTag, None));
+    for mode in [Mode::Check, Mode::Disabled] {
+        to.command(&Command::Validate(mode))?;
+        assert_eq!(rt;
+            heard(&rt, &mut to, &CLIENT_54),
+            (Verdict::Untagged, Some(&CLIENT_54[..])),
+            "{mode:?}"
+        );
+    }
+    assert_eq!(rt; to.receive(&CLIENT_54[..13]).err(), Some(FrameFault::Short));
+    assert_eq!(rt; to.receive(&[0; 9_249]).err(), Some(FrameFault::Long));
+    let counted = Counters {
+        in_pkts_no_tag: 1,
+        in_pkts_untagged: 2,
+        ..NOTHING_COUNTED
+    };
+    assert_eq!(rt; to.counters(), counted);
+    Ok(())
+}
+
+#[test]
+fn frames_of_no_channel(rt: HostRuntime) -> Result<(), Fail> {
+    let mut to = Secy::new(rt.alloc(), RECEIVER)?;
+    let dropped = (Verdict::NoSaError, None);
+    assert_eq!(rt; heard(&rt, &mut to, &PROTECTED_54), dropped);
+    to.command(&Command::Validate(Mode::Check))?;
+    assert_eq!(rt;
+        heard(&rt, &mut to, &PROTECTED_54),
+        (Verdict::NoSa, Some(&CLIENT_54[..]))
+    );
+    assert_eq!(rt; heard(&rt, &mut to, &PROTECTED_60), dropped);
+    let counted = Counters {
+        in_pkts_no_sa: 1,
+        in_pkts_no_sa_error: 2,
+        ..NOTHING_COUNTED
+    };
+    assert_eq!(rt; to.counters(), counted);
+    Ok(())
+}
+
+#[test]
+fn own_frame_comes_back(rt: HostRuntime) -> Result<(), Fail> {
+    let an = an(&rt, 2);
+    let mut from = sender(rt.alloc(), an, NUMBER, false)?;
+    from.command(&Command::RxSc(RECEIVER.sci))?;
+    from.command(&rx_sa(RECEIVER.sci, an, 0, NUMBER))?;
+    from.command(&Command::RxOn(RECEIVER.sci, an))?;
+    let own: [u8; 86] = link_frame(&rt, &mut from, &CLIENT_54);
+    assert_eq!(rt; heard(&rt, &mut from, &own), (Verdict::NoSaError, None));
+    assert_eq!(rt;
+        from.command(&Command::RxSc(SENDER.sci)),
         Err(Refusal::OwnSci)
     );
-    assert_eq!(&rt;
-        to.command(&Command::RxSc(SENDER.sci)),
-        Err(Refusal::ScTaken)
+    assert_eq!(rt; from.counters().in_pkts_no_sa_error, 1);
+    Ok(())
+}
+
+#[test]
+fn frames_are_not_validated_in_disabled(rt: HostRuntime) -> Result<(), Fail> {
+    let an = an(&rt, 2);
+    let mut to = receiver(rt.alloc(), an, NUMBER)?;
+    to.command(&Command::Validate(Mode::Disabled))?;
+    let icv_54 = altered(PROTECTED_54, 85, 0xde);
+    for (link, wanted) in [
+        (&CLIENT_54[..], (Verdict::Untagged, Some(&CLIENT_54[..]))),
+        (&icv_54[..], (Verdict::Unchecked, Some(&CLIENT_54[..]))),
+        (&PROTECTED_60[..], (Verdict::NotValid, None)),
+    ] {
+        assert_eq!(rt; heard(&rt, &mut to, link), wanted);
+    }
+    assert_eq!(rt; numbers(&to, an), Some(BEFORE));
+    let untagged = Counters {
+        in_pkts_untagged: 1,
+        ..NOTHING_COUNTED
+    };
+    assert_eq!(rt; to.counters(), untagged);
+    let tagged = RxCounters {
+        in_pkts_unchecked: 1,
+        in_pkts_not_valid: 1,
+        ..NOTHING_HEARD
+    };
+    assert_eq!(rt; channel_counters(&rt, &to), tagged);
+    Ok(())
+}
+
+/// The association begins behind the packet number of the test frames.
+#[test]
+fn late_frames_in_disabled(rt: HostRuntime) -> Result<(), Fail> {
+    let an = an(&rt, 2);
+    let mut to = receiver(rt.alloc(), an, NUMBER + 1)?;
+    to.command(&Command::Validate(Mode::Disabled))?;
+    for link in [&PROTECTED_54[..], &PROTECTED_60[..]] {
+        assert_eq!(rt; heard(&rt, &mut to, link), (Verdict::Late, None));
+    }
+    to.command(&Command::Replay {
+        protect: false,
+        window: 0,
+    })?;
+    assert_eq!(rt;
+        heard(&rt, &mut to, &PROTECTED_54),
+        (Verdict::Delayed, Some(&CLIENT_54[..]))
     );
-    assert_eq!(&rt; to.rx_channel(0), Some(SENDER.sci));
+    assert_eq!(rt;
+        heard(&rt, &mut to, &PROTECTED_60),
+        (Verdict::NotValid, None)
+    );
+    assert_eq!(rt; numbers(&to, an), Some(AFTER));
+    assert_eq!(rt; to.counters(), NOTHING_COUNTED);
+    let counted = RxCounters {
+        in_pkts_late: 2,
+        in_pkts_delayed: 1,
+        in_pkts_not_valid: 1,
+        ..NOTHING_HEARD
+    };
+    assert_eq!(rt; channel_counters(&rt, &to), counted);
+    Ok(())
+}
+
+/// The 54-octet test frame with each octet of TCI and AN, at an association that has accepted nothing.
+#[test]
+fn each_octet_of_tci_and_an(rt: HostRuntime) -> Result<(), Fail> {
+    let an = an(&rt, 2);
+    let mut to = receiver(rt.alloc(), an, NUMBER)?;
+    for octet in 0..=u8::MAX {
+        let wanted = match octet {
+            0x80..=0xff | 0x30..=0x3f | 0x60..=0x7f => (Verdict::BadTag, None),
+            0x22 => (Verdict::Passed, Some(&CLIENT_54[..])),
+            0x02 | 0x06 | 0x0e | 0x26 | 0x2e => (Verdict::NotValid, None),
+            _ if octet & 0x0c == 0x08 => (Verdict::Reserved, None),
+            _ => (Verdict::NoSaError, None),
+        };
+        to.command(&Command::RxDel(SENDER.sci, an))?;
+        to.command(&rx_sa(SENDER.sci, an, 0, NUMBER))?;
+        to.command(&Command::RxOn(SENDER.sci, an))?;
+        let link = altered(PROTECTED_54, 14, octet);
+        assert_eq!(rt; heard(&rt, &mut to, &link), wanted, "at {octet}");
+    }
+    let counted = Counters {
+        in_pkts_bad_tag: 176,
+        in_pkts_reserved: 20,
+        in_pkts_no_sa_error: 54,
+        in_octets_validated: 4 * 42,
+        in_octets_decrypted: 2 * 42,
+        ..NOTHING_COUNTED
+    };
+    assert_eq!(rt; to.counters(), counted);
+    let of_channel = RxCounters {
+        in_pkts_ok: 1,
+        in_pkts_not_valid: 5,
+        ..NOTHING_HEARD
+    };
+    assert_eq!(rt; channel_counters(&rt, &to), of_channel);
     Ok(())
 }

@@ -7,6 +7,7 @@ ghost use Rattle.macsec_secy.specs.State.{no_rx_counters, rx_options};
 ghost use Rattle.macsec_rx.specs.Judge.{octets_at};
 ghost use Rattle.macsec_secy.specs.Counting.{count_at, count_in_channel, count_packet};
 ghost use Rattle.macsec_secy.specs.Verdicts.{counted_at_place, counted_by, delivered_untagged, is_opened, verdict_on_untagged};
+ghost use Rattle.macsec_secy.specs.Sound.{IsSound};
 ghost use Rattle.macsec_secy.specs.Commands.{refusal, state_after_command};
 
 use crate::{An, ChannelCounters, Counters, Mode, Refusal, RxCounters, Sci, Secy, Verdict};
@@ -17,6 +18,7 @@ impl Secy {
     pub(crate) fn rx_sc(&mut self, sci: Sci) -> Result<(), Refusal>
         ensures refusal { refusal_of result ≡ refusal self.old (by.RxSc sci) }
         ensures after { self.new ≡ state_after_command self.old (by.RxSc sci) }
+        ensures sound { IsSound self.new }
     {
         self.rx.rx_sc(self.config.sci, sci)?;
         self.rx_counters.push(ChannelCounters {
@@ -30,6 +32,7 @@ impl Secy {
     pub(crate) fn rx_sc_del(&mut self, sci: Sci) -> Result<(), Refusal>
         ensures refusal { refusal_of result ≡ refusal self.old (by.RxScDel sci) }
         ensures after { self.new ≡ state_after_command self.old (by.RxScDel sci) }
+        ensures sound { IsSound self.new }
     {
         self.rx.rx_sc_del(sci)?;
         self.rx_counters.retain(|row| row.sci != sci);

@@ -1,64 +1,17 @@
 //! What no clause says: that the definitions give the test frames and the counters that they should, what
 //! an endpoint answers to commands one after another, and where its limits are.
 
-use crate::{
-    An, Command, DropReason, EndConfig, FrameFault, Key, Mode, NewFault, NewKey, Options, Refusal,
-    Sci, Secy, Sent, Suite, TagForm, TxCounters,
+use crate::test_ends::{
+    CLIENT_14, CLIENT_54, CLIENT_60, KEY, NUMBER, PROTECTED_54, PROTECTED_60, SENDER, an, key_of,
+    protected, start,
 };
-use std::process::Abort;
+use crate::{
+    Command, DropReason, EndConfig, FrameFault, Mode, NewFault, Options, Refusal, Sci, Secy, Sent,
+    Suite, TagForm, TxCounters,
+};
 use std::test::Fail;
 
-/// The 54-octet test frame of IEEE 802.1AE, Annex C, as its client sends it.
-const CLIENT_54: [u8; 54] = [
-    0xd6, 0x09, 0xb1, 0xf0, 0x56, 0x63, 0x7a, 0x0d, 0x46, 0xdf, 0x99, 0x8d, 0x08, 0x00, 0x0f, 0x10,
-    0x11, 0x12, 0x13, 0x14, 0x15, 0x16, 0x17, 0x18, 0x19, 0x1a, 0x1b, 0x1c, 0x1d, 0x1e, 0x1f, 0x20,
-    0x21, 0x22, 0x23, 0x24, 0x25, 0x26, 0x27, 0x28, 0x29, 0x2a, 0x2b, 0x2c, 0x2d, 0x2e, 0x2f, 0x30,
-    0x31, 0x32, 0x33, 0x34, 0x00, 0x01,
-];
-
-/// That frame, protected for integrity.
-const PROTECTED_54: [u8; 86] = [
-    0xd6, 0x09, 0xb1, 0xf0, 0x56, 0x63, 0x7a, 0x0d, 0x46, 0xdf, 0x99, 0x8d, 0x88, 0xe5, 0x22, 0x2a,
-    0xb2, 0xc2, 0x84, 0x65, 0x12, 0x15, 0x35, 0x24, 0xc0, 0x89, 0x5e, 0x81, 0x08, 0x00, 0x0f, 0x10,
-    0x11, 0x12, 0x13, 0x14, 0x15, 0x16, 0x17, 0x18, 0x19, 0x1a, 0x1b, 0x1c, 0x1d, 0x1e, 0x1f, 0x20,
-    0x21, 0x22, 0x23, 0x24, 0x25, 0x26, 0x27, 0x28, 0x29, 0x2a, 0x2b, 0x2c, 0x2d, 0x2e, 0x2f, 0x30,
-    0x31, 0x32, 0x33, 0x34, 0x00, 0x01, 0xf0, 0x94, 0x78, 0xa9, 0xb0, 0x90, 0x07, 0xd0, 0x6f, 0x46,
-    0xe9, 0xb6, 0xa1, 0xda, 0x25, 0xdd,
-];
-
-/// The 60-octet test frame, as its client sends it.
-const CLIENT_60: [u8; 60] = [
-    0xd6, 0x09, 0xb1, 0xf0, 0x56, 0x63, 0x7a, 0x0d, 0x46, 0xdf, 0x99, 0x8d, 0x08, 0x00, 0x0f, 0x10,
-    0x11, 0x12, 0x13, 0x14, 0x15, 0x16, 0x17, 0x18, 0x19, 0x1a, 0x1b, 0x1c, 0x1d, 0x1e, 0x1f, 0x20,
-    0x21, 0x22, 0x23, 0x24, 0x25, 0x26, 0x27, 0x28, 0x29, 0x2a, 0x2b, 0x2c, 0x2d, 0x2e, 0x2f, 0x30,
-    0x31, 0x32, 0x33, 0x34, 0x35, 0x36, 0x37, 0x38, 0x39, 0x3a, 0x00, 0x02,
-];
-
-/// That frame, protected for confidentiality.
-const PROTECTED_60: [u8; 92] = [
-    0xd6, 0x09, 0xb1, 0xf0, 0x56, 0x63, 0x7a, 0x0d, 0x46, 0xdf, 0x99, 0x8d, 0x88, 0xe5, 0x2e, 0x00,
-    0xb2, 0xc2, 0x84, 0x65, 0x12, 0x15, 0x35, 0x24, 0xc0, 0x89, 0x5e, 0x81, 0x70, 0x1a, 0xfa, 0x1c,
-    0xc0, 0x39, 0xc0, 0xd7, 0x65, 0x12, 0x8a, 0x66, 0x5d, 0xab, 0x69, 0x24, 0x38, 0x99, 0xbf, 0x73,
-    0x18, 0xcc, 0xdc, 0x81, 0xc9, 0x93, 0x1d, 0xa1, 0x7f, 0xbe, 0x8e, 0xdd, 0x7d, 0x17, 0xcb, 0x8b,
-    0x4c, 0x26, 0xfc, 0x81, 0xe3, 0x28, 0x4f, 0x2b, 0x7f, 0xba, 0x71, 0x3d, 0x4f, 0x8d, 0x55, 0xe7,
-    0xd3, 0xf0, 0x6f, 0xd5, 0xa1, 0x3c, 0x0c, 0x29, 0xb9, 0xd5, 0xb8, 0x80,
-];
-
-/// The key of 128 bits of both.
-const KEY: u128 = 0xad7a_2bd0_3eac_835a_6f62_0fdc_b506_b345;
-
-/// The packet number of both.
-const NUMBER: u64 = 0xb2c2_8465;
-
-/// An endpoint whose SCI is that of both.
-const CONFIG: EndConfig = EndConfig {
-    suite: Suite::Gcm128,
-    sci: Sci([0x12, 0x15, 0x35, 0x24, 0xc0, 0x89, 0x5e, 0x81]),
-    max_frame: 1518,
-    form: TagForm::Sci,
-};
-
-/// One whose SCI has the port 0001, and whose largest frame has 64 octets.
+/// An endpoint whose SCI has the port 0001, and whose largest frame has 64 octets.
 const SMALL: EndConfig = EndConfig {
     suite: Suite::Gcm128,
     sci: Sci([2, 0, 0, 0, 0, 1, 0, 1]),
@@ -97,46 +50,6 @@ fn answer_to(secy: &mut Secy, frame: &[u8]) -> Answer {
     }
 }
 
-/// The frame that leaves for a client's frame, protected under key 0.
-fn protected<'a>(rt: &impl Abort, secy: &'a mut Secy, frame: &'a [u8]) -> &'a [u8] {
-    match secy.send(frame) {
-        Ok(
-            Sent::Link {
-                frame,
-                under: Some(0),
-            },
-        ) => frame,
-        _ => panic!(rt; "no frame leaves under key 0"),
-    }
-}
-
-fn an(rt: &impl Abort, number: u8) -> An {
-    An::new(number).expect(rt, "an association number")
-}
-
-/// A key of these 128 bits.
-fn key_of(number: u8, bits: u128, offset: u8) -> Command {
-    Command::Key(NewKey {
-        number,
-        bytes: Key::K128(bits.to_be_bytes()),
-        salt: [0; 12],
-        ssci: 0,
-        offset,
-    })
-}
-
-/// Installs key 0 and switches the association `an` under it on.
-fn start(secy: &mut Secy, an: An, next: u64, conf: bool, offset: u8) -> Result<(), Refusal> {
-    secy.command(&key_of(0, KEY, offset))?;
-    secy.command(&Command::TxSa {
-        an,
-        key: 0,
-        next,
-        conf,
-    })?;
-    secy.command(&Command::TxOn(an))
-}
-
 #[test]
 fn configurations(rt: HostRuntime) {
     let es = TagForm::Es;
@@ -158,7 +71,7 @@ fn configurations(rt: HostRuntime) {
             sci: Sci([2, 0, 0, 0, 0, 1, high, low]),
             max_frame,
             form,
-            ..CONFIG
+            ..SENDER
         };
         assert_eq!(rt; config.fault(), wanted, "{config:?}");
         assert_eq!(rt; Secy::new(rt.alloc(), config).err(), wanted, "{config:?}");
@@ -167,7 +80,7 @@ fn configurations(rt: HostRuntime) {
 
 #[test]
 fn options(rt: HostRuntime) -> Result<(), Fail> {
-    let mut secy = Secy::new(rt.alloc(), CONFIG)?;
+    let mut secy = Secy::new(rt.alloc(), SENDER)?;
     let first = Options {
         protect: true,
         mode: Mode::Strict,
@@ -208,7 +121,7 @@ fn options(rt: HostRuntime) -> Result<(), Fail> {
 
 #[test]
 fn protected_for_integrity(rt: HostRuntime) -> Result<(), Fail> {
-    let mut secy = Secy::new(rt.alloc(), CONFIG)?;
+    let mut secy = Secy::new(rt.alloc(), SENDER)?;
     let an = an(&rt, 2);
     start(&mut secy, an, NUMBER, false, 0)?;
     assert_eq!(rt;
@@ -239,7 +152,7 @@ fn protected_for_integrity(rt: HostRuntime) -> Result<(), Fail> {
 
 #[test]
 fn protected_for_confidentiality(rt: HostRuntime) -> Result<(), Fail> {
-    let mut secy = Secy::new(rt.alloc(), CONFIG)?;
+    let mut secy = Secy::new(rt.alloc(), SENDER)?;
     start(&mut secy, an(&rt, 2), NUMBER, true, 0)?;
     let frame = protected(&rt, &mut secy, &CLIENT_60);
     assert_eq!(rt; frame, &PROTECTED_60[..]);
@@ -249,7 +162,7 @@ fn protected_for_confidentiality(rt: HostRuntime) -> Result<(), Fail> {
 
 #[test]
 fn confidentiality_offset(rt: HostRuntime) -> Result<(), Fail> {
-    let mut secy = Secy::new(rt.alloc(), CONFIG)?;
+    let mut secy = Secy::new(rt.alloc(), SENDER)?;
     start(&mut secy, an(&rt, 2), NUMBER, true, 30)?;
     let frame = protected(&rt, &mut secy, &CLIENT_60);
     let mut clear = PROTECTED_60;
@@ -288,7 +201,7 @@ fn drops(rt: HostRuntime) -> Result<(), Fail> {
 fn lengths_of_frames(rt: HostRuntime) -> Result<(), Fail> {
     let config = EndConfig {
         max_frame: 9248,
-        ..CONFIG
+        ..SENDER
     };
     let mut secy = Secy::new(rt.alloc(), config)?;
     start(&mut secy, an(&rt, 0), 1, true, 0)?;
@@ -331,7 +244,7 @@ fn lengths_of_frames(rt: HostRuntime) -> Result<(), Fail> {
 
 #[test]
 fn the_last_packet_number(rt: HostRuntime) -> Result<(), Fail> {
-    let mut secy = Secy::new(rt.alloc(), CONFIG)?;
+    let mut secy = Secy::new(rt.alloc(), SENDER)?;
     let an = an(&rt, 0);
     start(&mut secy, an, 0xffff_ffff, false, 0)?;
     let frame = protected(&rt, &mut secy, &CLIENT_54);
@@ -353,7 +266,7 @@ fn the_last_packet_number(rt: HostRuntime) -> Result<(), Fail> {
 
 #[test]
 fn keys_and_associations(rt: HostRuntime) -> Result<(), Fail> {
-    let mut secy = Secy::new(rt.alloc(), CONFIG)?;
+    let mut secy = Secy::new(rt.alloc(), SENDER)?;
     let first = an(&rt, 0);
     let second = an(&rt, 1);
     let made = |an, next| Command::TxSa {
@@ -392,7 +305,7 @@ fn tag_forms(rt: HostRuntime) -> Result<(), Fail> {
     let mut secy = Secy::new(rt.alloc(), SMALL)?;
     start(&mut secy, an(&rt, 0), 1, false, 0)?;
     secy.command(&Command::Tag(TagForm::Es))?;
-    let mut client = [0xff, 0xff, 0xff, 0xff, 0xff, 0xff, 2, 0, 0, 0, 0, 1, 8, 0];
+    let mut client = CLIENT_14;
     let own = protected(&rt, &mut secy, &client);
     assert_eq!(rt; own.len(), 38);
     assert_eq!(rt; own[14], 0x40);

@@ -10,7 +10,7 @@ use Rattle.std.proofs.lemmas.List.Elements.{All-get_or, All-set, All-push}
 use Rattle.std.proofs.lemmas.Map.Steps.{length-le_from_distinct_below}
 use Rattle.std.proofs.lemmas.Bool.{ne_eqb, eqb-false}
 use Rattle.std.proofs.lemmas.Bool.Decides.{eqb_tells}
-use Rattle.macsec_suite.specs.KeyRows.{AreKeyRows, InstalledKey, at_number, key_row, max_key_count, with_key}
+use Rattle.macsec_suite.specs.KeyRows.{AreKeyRows, InstalledKey, IsKeyRow, at_number, key_row, max_key_count, with_key}
 use Rattle.macsec_suite.specs.Refusals.{is_repeated}
 use Rattle.macsec_gcm.specs.Octets.{same_octets}
 use Rattle.macsec_suite.specs.KeyTables.{HasOwnKey, stored_row}
@@ -55,7 +55,7 @@ lt_from_among q n m rest small later any =
 
 numbers-lt : (rows : List InstalledKey) → AreKeyRows rows → (q : ℕ) → list_any (eqb q) (numbers_of rows) ≡ true → q < max_key_count
 numbers-lt [] h q any = cc
-numbers-lt (row ∷ rows) h q any = lt_from_among q row.number max_key_count (list_any (eqb q) (numbers_of rows)) h.0 (λ e. numbers-lt rows h.2 q e) any
+numbers-lt (row ∷ rows) h q any = lt_from_among q row.number max_key_count (list_any (eqb q) (numbers_of rows)) h.0.number (λ e. numbers-lt rows h.2 q e) any
 
 -- there is room for a key of a new number
 pub has_room : (keys : List StoredKey) (n : ℕ) → AreKeyRows (map stored_row keys) → key_row (map stored_row keys) n ≡ None → n < max_key_count →
@@ -76,11 +76,11 @@ free-push (row ∷ rows) new n free other =
     rw parts.0 (free-push rows new n parts.1 other)
 
 -- a key of a new number may join
-pub AreKeyRows-push : (rows : List InstalledKey) (new : InstalledKey) → AreKeyRows rows → key_row rows new.number ≡ None → new.number < max_key_count → AreKeyRows (rows ++ new ∷ [])
-AreKeyRows-push [] new h free small = (small, refl, tt)
-AreKeyRows-push (row ∷ rows) new h free small =
+pub AreKeyRows-push : (rows : List InstalledKey) (new : InstalledKey) → AreKeyRows rows → key_row rows new.number ≡ None → IsKeyRow new → AreKeyRows (rows ++ new ∷ [])
+AreKeyRows-push [] new h free new_is = (new_is, refl, tt)
+AreKeyRows-push (row ∷ rows) new h free new_is =
     let parts = cond_none (row.number == new.number) row (key_row rows new.number) free in
-    (h.0, free-push rows new row.number h.1 (ne_eqb new.number row.number (λ e. eqb-false row.number new.number parts.0 (sym e))), AreKeyRows-push rows new h.2 parts.1 small)
+    (h.0, free-push rows new row.number h.1 (ne_eqb new.number row.number (λ e. eqb-false row.number new.number parts.0 (sym e))), AreKeyRows-push rows new h.2 parts.1 new_is)
 
 free-map : (f : InstalledKey → InstalledKey) → ((row : InstalledKey) → (f row).number ≡ row.number) → (rows : List InstalledKey) (n : ℕ) → key_row rows n ≡ None → key_row (map f rows) n ≡ None
 free-map f same [] n free = refl
@@ -88,11 +88,12 @@ free-map f same (row ∷ rows) n free =
     let parts = cond_none (row.number == n) row (key_row rows n) free in
     rw (same row, parts.0) (free-map f same rows n parts.1)
 
--- a change that keeps the numbers keeps what holds of the rows
-pub AreKeyRows-map : (f : InstalledKey → InstalledKey) → ((row : InstalledKey) → (f row).number ≡ row.number) → (rows : List InstalledKey) → AreKeyRows rows → AreKeyRows (map f rows)
-AreKeyRows-map f same [] h = tt
-AreKeyRows-map f same (row ∷ rows) h =
-    rw (same row) ((h.0, free-map f same rows row.number h.1, AreKeyRows-map f same rows h.2))
+-- a change that keeps the numbers, and what holds of each row, keeps what holds of the rows
+pub AreKeyRows-map : (f : InstalledKey → InstalledKey) → ((row : InstalledKey) → (f row).number ≡ row.number) → ((row : InstalledKey) → IsKeyRow row → IsKeyRow (f row)) →
+    (rows : List InstalledKey) → AreKeyRows rows → AreKeyRows (map f rows)
+AreKeyRows-map f same keeps [] h = tt
+AreKeyRows-map f same keeps (row ∷ rows) h =
+    (keeps row h.0, subst (λ n. key_row (map f rows) n ≡ None) (sym (same row)) (free-map f same rows row.number h.1), AreKeyRows-map f same keeps rows h.2)
 
 -- a change of one row keeps the numbers, where it keeps that row's
 number-at_number : (change : InstalledKey → InstalledKey) → ((row : InstalledKey) → (change row).number ≡ row.number) → (n : ℕ) (row : InstalledKey) → (at_number change n row).number ≡ row.number
@@ -101,6 +102,14 @@ number-at_number change same n row = by_test (row.number == n) (change row) row 
     by_test : (b : Bool) (x y : InstalledKey) → x.number ≡ y.number → (if b then x else y).number ≡ y.number
     by_test true x y e = e
     by_test false x y e = refl
+
+-- and what holds of each row, where it keeps that
+kept-at_number : (change : InstalledKey → InstalledKey) → ((row : InstalledKey) → IsKeyRow row → IsKeyRow (change row)) → (n : ℕ) (row : InstalledKey) → IsKeyRow row → IsKeyRow (at_number change n row)
+kept-at_number change keeps n row is = by_test (row.number == n) (change row) row (keeps row is) is
+  where
+    by_test : (b : Bool) (x y : InstalledKey) → IsKeyRow x → IsKeyRow y → IsKeyRow (if b then x else y)
+    by_test true x y is_x is_y = is_x
+    by_test false x y is_x is_y = is_y
 
 -- what was lent as a slice comes back as it was left
 refill_same : {X : Type 0} (n : ℕ) (xs ws : List X) → n ≡ length ws → refill n xs ws ≡ ws
@@ -113,23 +122,23 @@ abbrev pub AreStoredKeys : List StoredKey → Type 0
 AreStoredKeys keys = AreKeyRows (map stored_row keys) × All (λ s. HasOwnKey s.row) keys
 
 -- it holds of keys that were lent as a slice, and whose rows were changed but for their numbers
-pub kept_by_change : (change : InstalledKey → InstalledKey) → ((row : InstalledKey) → (change row).number ≡ row.number) → (number : ℕ)
+pub kept_by_change : (change : InstalledKey → InstalledKey) → ((row : InstalledKey) → (change row).number ≡ row.number) → ((row : InstalledKey) → IsKeyRow row → IsKeyRow (change row)) → (number : ℕ)
     (n : ℕ) (old lent new : List StoredKey) → n ≡ length old → lent ≡ old → length new ≡ length lent →
     map stored_row new ≡ with_key change number (map stored_row lent) →
     (All (λ s. HasOwnKey s.row) lent → All (λ s. HasOwnKey s.row) new) → AreStoredKeys old → AreStoredKeys (refill n old new)
-kept_by_change change same number n old lent new whole is_old kept rows prepared h =
+kept_by_change change same keeps number n old lent new whole is_old kept rows prepared h =
     let back : new ≡ refill n old new = sym (refill_same n old new (whole ∙ ap length (sym is_old) ∙ sym kept)) in
     let numbers : AreKeyRows (map stored_row new) =
-    subst AreKeyRows (sym rows) (AreKeyRows-map (at_number change number) (number-at_number change same number) (map stored_row lent)
+    subst AreKeyRows (sym rows) (AreKeyRows-map (at_number change number) (number-at_number change same number) (kept-at_number change keeps number) (map stored_row lent)
     (subst (λ keys. AreKeyRows (map stored_row keys)) (sym is_old) h.0)) in
     let own : All (λ s. HasOwnKey s.row) new = prepared (subst (All (λ s. HasOwnKey s.row)) (sym is_old) h.1) in
     subst AreStoredKeys back (numbers, own)
 
 -- it holds of them and a key of a new number that is prepared from its own bytes
 pub AreStoredKeys-push : (keys : List StoredKey) (new : StoredKey) → AreStoredKeys keys → key_row (map stored_row keys) new.row.key.number ≡ None →
-    new.row.key.number < max_key_count → HasOwnKey new.row → AreStoredKeys (keys ++ new ∷ [])
-AreStoredKeys-push keys new h free small own = (
-  subst AreKeyRows (sym (map-append stored_row keys (new ∷ []))) (AreKeyRows-push (map stored_row keys) (stored_row new) h.0 free small),
+    IsKeyRow (stored_row new) → HasOwnKey new.row → AreStoredKeys (keys ++ new ∷ [])
+AreStoredKeys-push keys new h free new_is own = (
+  subst AreKeyRows (sym (map-append stored_row keys (new ∷ []))) (AreKeyRows-push (map stored_row keys) (stored_row new) h.0 free new_is),
   All-push (λ s. HasOwnKey s.row) keys new h.1 own,
 )
 

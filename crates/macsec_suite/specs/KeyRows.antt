@@ -1,10 +1,11 @@
 -- The keys of an endpoint, as a list of rows in the order of their installation.
-use Rattle.std.specs.Prelude.{◌≡◌, ℕ, ◌+◌, ◌<◌, List, [], ◌∷◌, ◌++◌, map, find, ◌==◌, Bool, false, true, if◌then◌else◌, Option, None, unwrap_or}
+use Rattle.std.specs.Prelude.{◌≡◌, ℕ, ◌+◌, ◌^◌, ◌<◌, ◌≤◌, List, [], ◌∷◌, ◌++◌, length, map, find, ◌==◌, Bool, false, true, if◌then◌else◌, Option, None, unwrap_or}
 use Rattle.macsec_aes.specs.Keys.{key_bytes}
 use Rattle.macsec_suite.specs.declared.NewKey.{NewKey}
 use Rattle.macsec_suite.specs.declared.Suite.{Suite}
 use Rattle.macsec_suite.specs.declared.Suite.TheVariants.{Gcm128}
 use Rattle.macsec_suite.specs.Keys.{PreparedKey}
+use Rattle.macsec_suite.specs.Suites.{key_length}
 
 -- the most keys of an endpoint; their numbers are below this one
 abbrev pub max_key_count : ℕ
@@ -77,7 +78,17 @@ row_noting pn row = record row { first_unused = pn + 1 }
 abbrev pub keys_noting : List InstalledKey → ℕ → ℕ → List InstalledKey
 keys_noting rows number pn = with_key (row_noting pn) number rows
 
--- the numbers are below 256, and no two are equal
+-- what holds of a key's row, whoever installed it: its number is below 256, it has as many bytes as its
+-- suite asks for, its salt has twelve octets, its SSCI 32 bits, and its first unused packet number is at
+-- most one past the last of 64 bits
+pub record IsKeyRow (row : InstalledKey) : Type 0 where
+  pub number : row.number < max_key_count
+  pub bytes : length row.bytes ≡ key_length row.suite
+  pub salt : length row.salt ≡ 12
+  pub ssci : row.ssci < 2 ^ 32
+  pub first_unused : row.first_unused ≤ 2 ^ 64
+
+-- each row is such a one, and no two have the same number
 abbrev pub AreKeyRows : List InstalledKey → Type 0
 AreKeyRows [] = Unit {0}
-AreKeyRows (row ∷ rows) = (row.number < max_key_count) × (key_row rows row.number ≡ None) × AreKeyRows rows
+AreKeyRows (row ∷ rows) = IsKeyRow row × (key_row rows row.number ≡ None) × AreKeyRows rows

@@ -1,11 +1,11 @@
 -- Keys that are prepared for a suite, and why one is not.
-use Rattle.std.specs.Prelude.{ℕ, List, [], ◌∷◌, length, Bool, not, ◌==◌, ◌||◌, Option, Some, None, Result, Ok, Err}
+use Rattle.std.specs.Prelude.{ℕ, List, [], ◌∷◌, length, Bool, not, ◌==◌, ◌||◌, if◌then◌else◌, Option, Some, None, Result, Ok, Err}
 use Rattle.macsec_aes.specs.declared.Key.{Key}
 use Rattle.macsec_aes.specs.Keys.{key_bytes}
 use Rattle.macsec_suite.specs.declared.Suite.{Suite}
 use Rattle.macsec_suite.specs.declared.SuiteFault.{SuiteFault}
 use Rattle.macsec_suite.specs.declared.SuiteFault.TheVariants.{KeyLength, Offset}
-use Rattle.macsec_suite.specs.Suites.{key_length}
+use Rattle.macsec_suite.specs.Suites.{is_xpn, key_length}
 use Rattle.macsec_suite.specs.FirstThatHolds.{first_that_holds}
 
 -- a prepared key: its suite, its bytes, and how many octets of the data stay clear where the rest is
@@ -22,14 +22,15 @@ prepared_from suite key offset = record { suite = suite; bytes = key_bytes key; 
 abbrev pub has_wrong_length : Suite → Key → Bool
 has_wrong_length suite key = not (length (key_bytes key) == key_length suite)
 
--- the confidentiality offset is none of 0, 30 and 50
-abbrev pub has_wrong_offset : ℕ → Bool
-has_wrong_offset offset = not (offset == 0 || offset == 30 || offset == 50)
+-- the confidentiality offset is none of 0, 30 and 50, or, with extended packet numbers, not 0
+abbrev pub has_wrong_offset : Suite → ℕ → Bool
+has_wrong_offset suite offset =
+    if is_xpn suite then not (offset == 0) else not (offset == 0 || offset == 30 || offset == 50)
 
 -- why a key is not prepared
 abbrev pub suite_key_fault : Suite → Key → ℕ → Option SuiteFault
 suite_key_fault suite key offset =
-    first_that_holds ((KeyLength, has_wrong_length suite key) ∷ (Offset, has_wrong_offset offset) ∷ [])
+    first_that_holds ((KeyLength, has_wrong_length suite key) ∷ (Offset, has_wrong_offset suite offset) ∷ [])
 
 -- the fault that was answered
 abbrev pub fault_of : {A : Type 0} → Result A SuiteFault → Option SuiteFault

@@ -1,4 +1,4 @@
--- What of a frame is authenticated alone, and what is encrypted too (IEEE 802.1AE, 14.5 and 14.6).
+-- What of a frame is authenticated alone, and what is encrypted too (IEEE 802.1AE, 14.5 to 14.8).
 use Rattle.std.specs.Prelude.{ℕ, List, ◌++◌, length, take, drop, min, Bool, if◌then◌else◌}
 use Rattle.macsec_tag.specs.Tag.{Tag, spelling}
 

@@ -40,7 +40,7 @@ is_retired rows number = holds_of (λ row. row.retired) (key_row rows number)
 abbrev pub install_refusals : Suite → List InstalledKey → NewKey → List RefusalLine
 install_refusals suite rows k =
     (KeyLength, has_wrong_length suite k.bytes) ∷
-    (Offset, has_wrong_offset k.offset) ∷
+    (Offset, has_wrong_offset suite k.offset) ∷
     (KeyNumberUsed, is_number_used rows k.number) ∷
     (KeyRepeated, is_repeated rows (key_bytes k.bytes)) ∷ []
 

@@ -1,32 +1,39 @@
 -- Cipher suites: their keys, their packet numbers and their IVs (IEEE 802.1AE, clause 14).
-use Rattle.std.specs.Prelude.{ℕ, ◌-◌, ◌^◌, List, ◌++◌, Bool, false}
-use Rattle.std.specs.Int.{w32, to_be_bytes}
+use Rattle.std.specs.Prelude.{ℕ, ◌-◌, ◌^◌, List, ◌++◌, Bool, true, false, if◌then◌else◌}
+use Rattle.std.specs.Int.{w32, w64, to_be_bytes}
+use Rattle.macsec_gcm.specs.Octets.{sum_with_stream}
 use Rattle.macsec_tag.specs.declared.Sci.{Sci}
 use Rattle.macsec_suite.specs.declared.Suite.{Suite}
-use Rattle.macsec_suite.specs.declared.Suite.TheVariants.{Gcm128, Gcm256}
+use Rattle.macsec_suite.specs.declared.Suite.TheVariants.{Gcm128, Gcm256, Xpn128, Xpn256}
 
--- how many octets a key has (14.5, 14.6)
+-- how many octets a key has (14.5 to 14.8)
 abbrev pub key_length : Suite → ℕ
 key_length Gcm128 = 16
 key_length Gcm256 = 32
+key_length Xpn128 = 16
+key_length Xpn256 = 32
 
--- packet numbers have 64 bits, of which the SecTAG carries 32
+-- packet numbers are extended: they have 64 bits, of which the SecTAG carries the lower 32
 abbrev pub is_xpn : Suite → Bool
 is_xpn Gcm128 = false
 is_xpn Gcm256 = false
+is_xpn Xpn128 = true
+is_xpn Xpn256 = true
 
--- the last packet number: packet numbers have 32 bits
+-- the last packet number
 abbrev pub last_of : Suite → ℕ
-last_of Gcm128 = 2 ^ 32 - 1
-last_of Gcm256 = 2 ^ 32 - 1
+last_of suite = if is_xpn suite then 2 ^ 64 - 1 else 2 ^ 32 - 1
 
--- the IV of a frame: the SCI, then the packet number in four octets; SSCI and salt are not used
--- (14.5, 14.6)
+-- the salt, exclusive or the SSCI in four octets and then the packet number in eight (14.7, 14.8)
+abbrev pub extended_iv : ℕ → List ℕ → ℕ → List ℕ
+extended_iv ssci salt pn = sum_with_stream salt (to_be_bytes w32 ssci ++ to_be_bytes w64 pn)
+
+-- the IV of a frame: the SCI and then the packet number in four octets, of which SSCI and salt are no
+-- part (14.5, 14.6); with extended packet numbers it is of SSCI, salt and packet number, and the SCI is
+-- no part of it
 abbrev pub iv_of : Suite → Sci → ℕ → List ℕ → ℕ → List ℕ
-iv_of Gcm128 sci ssci salt pn = sci.0 ++ to_be_bytes w32 pn
-iv_of Gcm256 sci ssci salt pn = sci.0 ++ to_be_bytes w32 pn
+iv_of suite sci ssci salt pn = if is_xpn suite then extended_iv ssci salt pn else sci.0 ++ to_be_bytes w32 pn
 
 -- the widest replay window
 abbrev pub widest_window : Suite → ℕ
-widest_window Gcm128 = 2 ^ 32 - 1
-widest_window Gcm256 = 2 ^ 32 - 1
+widest_window suite = if is_xpn suite then 2 ^ 30 - 1 else 2 ^ 32 - 1

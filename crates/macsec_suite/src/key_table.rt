@@ -1,11 +1,12 @@
 //! The table of an endpoint's keys (IEEE 802.1AE, 10.7).
 
-ghost use Rattle.std.specs.Prelude.{◌≡◌, [], ◌∷◌, ◌++◌, map, IfOk, OnOk, OnErr, IsSome, IfSome, MatchOption, option_map, Some, None};
+ghost use Rattle.std.specs.Prelude.{◌≡◌, [], ◌∷◌, ◌++◌, length, map, IfOk, OnOk, OnErr, IsSome, IfSome, MatchOption, option_map, Some, None};
 ghost use Rattle.std.specs.List.{All};
 ghost use Rattle.macsec_aes.specs.Keys.{key_bytes};
 ghost use Rattle.macsec_gcm.specs.Octets.{same_octets};
-ghost use Rattle.macsec_suite.specs.KeyRows.{at_number, key_row, keys_noting, keys_retiring, keys_with, retired_row, row_noting, the_key};
+ghost use Rattle.macsec_suite.specs.KeyRows.{AreKeyRows, at_number, key_row, keys_noting, keys_retiring, keys_with, retired_row, row_noting, the_key};
 ghost use Rattle.macsec_suite.specs.KeyTables.{HasOwnKey, first_unused_of, row_shown, stored_row};
+ghost use Rattle.macsec_suite.specs.Suites.{key_length};
 ghost use Rattle.macsec_suite.specs.Refusals.{first_refusal, install_refusals, is_repeated, refusal_of, retire_refusals};
 
 #[cfg(test)]
@@ -65,6 +66,7 @@ impl KeyTable {
         ensures refusal { refusal_of result ≡ first_refusal (install_refusals suite self.old key.now) }
         ensures done { OnOk result (self.new ≡ keys_with suite self.old key.now) }
         ensures unchanged { OnErr result (self.new ≡ self.old) }
+        ensures rows { OnOk result (AreKeyRows self.new) }
     {
         let suite_key = match SuiteKey::new(suite, key.bytes, key.salt, key.offset) {
             Ok(suite_key) => suite_key,
@@ -91,6 +93,7 @@ impl KeyTable {
         ensures refusal { refusal_of result ≡ first_refusal (retire_refusals self.old number in_use) }
         ensures done { OnOk result (self.new ≡ keys_retiring self.old number) }
         ensures unchanged { OnErr result (self.new ≡ self.old) }
+        ensures rows { OnOk result (AreKeyRows self.new) }
     {
         let Some(row) = self.key(number) else {
             return Err(Refusal::NoKey);
@@ -105,7 +108,7 @@ impl KeyTable {
         Ok(())
     }
 
-    /// The row of the key of this number; its prepared key is that of its own bytes and offset.
+    /// The row of the key of this number; its prepared key is that of its own suite, bytes and offset.
     pub fn key(&self, number: u8) -> Option<&KeyRow>
         ensures row { MatchOption result (key_row self.now number ≡ None)
             (λ r. key_row self.now number ≡ Some (row_shown r.now (the_key self.now number).first_unused)) }
@@ -135,7 +138,8 @@ impl KeyTable {
     /// first unused one is the next.
     pub fn note_used(&mut self, number: u8, pn: u64)
         requires { IsSome (key_row self.old number) }
-        ensures { self.new ≡ keys_noting self.old number pn }
+        ensures noted { self.new ≡ keys_noting self.old number pn }
+        ensures rows { AreKeyRows self.new }
     {
         note_row_used(self.rows.as_mut_slice(), number, pn);
     }
@@ -153,8 +157,10 @@ impl KeyTable {
     /// Puts a row at the end, in the room that `new` made.
     fn append(&mut self, added: KeyRow)
         requires free { key_row self.old added.key.number ≡ None }
+        requires length { length (key_bytes added.key.bytes) ≡ key_length added.suite_key.suite }
         requires prepared { HasOwnKey added }
-        ensures { self.new ≡ self.old ++ row_shown added 1 ∷ [] }
+        ensures added { self.new ≡ self.old ++ row_shown added 1 ∷ [] }
+        ensures rows { AreKeyRows self.new }
     {
         self.rows
             .push(StoredKey {

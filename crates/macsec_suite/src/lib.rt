@@ -2,12 +2,13 @@
 //! and frames protected and validated in place.
 #![tactic(auto)]
 
-ghost use Rattle.std.specs.Prelude.{◌≡◌, ◌≤◌, ◌+◌, length, min, if◌then◌else◌, IfOk, Some, None};
+ghost use Rattle.std.specs.Prelude.{◌≡◌, ◌<◌, ◌≤◌, ◌+◌, bit_xor, length, min, slice_index, if◌then◌else◌, IfOk, Some, None};
 ghost use Rattle.macsec_aes.specs.Keys.{key_bytes};
 ghost use Rattle.std.specs.Bool.{OnTrue, OnFalse};
 ghost use Rattle.macsec_gcm.specs.Gcm.{max_plaintext_len};
-ghost use Rattle.macsec_suite.specs.Suites.{is_xpn, iv_of, key_length, last_of, widest_window};
-ghost use Rattle.macsec_suite.specs.Keys.{fault_of, prepared_from, suite_key_fault};
+ghost use Rattle.macsec_gcm.specs.Octets.{sum_with_stream};
+ghost use Rattle.macsec_suite.specs.Suites.{extended_iv, is_xpn, iv_of, key_length, last_of, widest_window};
+ghost use Rattle.macsec_suite.specs.Keys.{fault_of, has_wrong_offset, prepared_from, suite_key_fault};
 ghost use Rattle.macsec_suite.specs.InPlace.{IsTagLength, protected_octets, validated_octets};
 
 mod key_table;
@@ -20,6 +21,7 @@ pub use key_table::KeyTable;
 use macsec_aes::Key;
 use macsec_gcm::GcmKey;
 use macsec_tag::Sci;
+use std::array;
 use std::marker::Model;
 use thiserror::Error;
 
@@ -36,6 +38,10 @@ pub enum Suite {
     Gcm128,
     /// GCM-AES-256 (14.6).
     Gcm256,
+    /// GCM-AES-XPN-128: extended packet numbers (14.7).
+    Xpn128,
+    /// GCM-AES-XPN-256: extended packet numbers (14.8).
+    Xpn256,
 }
 
 impl Suite {
@@ -44,8 +50,8 @@ impl Suite {
         ensures { result ≡ key_length self }
     {
         match self {
-            Suite::Gcm128 => 16,
-            Suite::Gcm256 => 32,
+            Suite::Gcm128 | Suite::Xpn128 => 16,
+            Suite::Gcm256 | Suite::Xpn256 => 32,
         }
     }
 
@@ -55,6 +61,7 @@ impl Suite {
     {
         match self {
             Suite::Gcm128 | Suite::Gcm256 => false,
+            Suite::Xpn128 | Suite::Xpn256 => true,
         }
     }
 
@@ -62,17 +69,28 @@ impl Suite {
     pub fn last(self) -> u64
         ensures { result ≡ last_of self }
     {
-        match self {
-            Suite::Gcm128 | Suite::Gcm256 => 0xffff_ffff,
-        }
+        if self.is_xpn() { u64::MAX } else { 0xffff_ffff }
     }
 
     /// The widest replay window.
     pub fn widest_window(self) -> u64
         ensures { result ≡ widest_window self }
     {
-        match self {
-            Suite::Gcm128 | Suite::Gcm256 => u64::from(u32::MAX),
+        if self.is_xpn() {
+            (1 << 30) - 1
+        } else {
+            u64::from(u32::MAX)
+        }
+    }
+
+    /// Can no key of the suite have this confidentiality offset?
+    fn has_wrong_offset(self, offset: u8) -> bool
+        ensures { result ≡ has_wrong_offset self offset }
+    {
+        if self.is_xpn() {
+            offset != 0
+        } else {
+            !(offset == 0 || offset == 30 || offset == 50)
         }
     }
 }
@@ -83,8 +101,8 @@ pub enum SuiteFault {
     /// The key has another length than the suite's keys.
     #[error("the key has not the suite's length")]
     KeyLength = 1,
-    /// The confidentiality offset is none of 0, 30 and 50.
-    #[error("the offset is none of 0, 30 and 50")]
+    /// The confidentiality offset is none of 0, 30 and 50, or, with extended packet numbers, not 0.
+    #[error("the suite's keys have no such offset")]
     Offset = 2,
 }
 
@@ -111,8 +129,8 @@ pub enum Refusal {
     /// The key has another length than the suite's keys.
     #[error("the key has not the suite's length")]
     KeyLength = 1,
-    /// The confidentiality offset is none of 0, 30 and 50.
-    #[error("the offset is none of 0, 30 and 50")]
+    /// The confidentiality offset is none of 0, 30 and 50, or, with extended packet numbers, not 0.
+    #[error("the suite's keys have no such offset")]
     Offset = 2,
     /// A key of this number was installed before, retired or not.
     #[error("the number of the key was used before")]
@@ -156,7 +174,7 @@ pub enum Refusal {
     /// The packet number is below the key's first unused one.
     #[error("the packet number is below the key's first unused one")]
     PnFloor = 16,
-    /// The SSCI is the own one of the key.
+    /// Packet numbers are extended, and the SSCI is the own one of the key.
     #[error("the SSCI is the own one")]
     SsciOwn = 17,
     /// The replay window is too wide.
@@ -197,7 +215,7 @@ impl SuiteKey {
         if length_of(key) != suite.key_length() {
             return Err(SuiteFault::KeyLength);
         }
-        if offset != 0 && offset != 30 && offset != 50 {
+        if suite.has_wrong_offset(offset) {
             return Err(SuiteFault::Offset);
         }
         Ok(SuiteKey {
@@ -236,24 +254,46 @@ fn length_of(key: Key) -> usize
     }
 }
 
-/// The IV of a frame: the SCI, then the packet number, which is at most the suite's last. The suites
-/// whose packet numbers have 32 bits make no use of SSCI and salt (14.5, 14.6).
+/// The IV of a frame of a packet number that is at most the suite's last: the SCI and the packet number,
+/// without SSCI and salt (14.5, 14.6), or, with extended packet numbers, the exclusive or of the salt and of
+/// SSCI and packet number, without the SCI (14.7, 14.8).
 pub fn iv_of(suite: Suite, sci: Sci, ssci: u32, salt: [u8; 12], pn: u64) -> [u8; 12]
     requires { pn ≤ last_of suite }
     ensures { result ≡ iv_of suite sci ssci salt pn }
 {
-    match suite {
-        Suite::Gcm128 | Suite::Gcm256 => {
-            let mut iv = [0; 12];
-            BigEndian::write_u32(&mut iv[8..], pn as u32);
-            iv[..8].copy_from_slice(&sci.0);
-            iv
-        }
+    if suite.is_xpn() {
+        return extended_iv(ssci, salt, pn);
     }
+    let mut iv = [0; 12];
+    BigEndian::write_u32(&mut iv[8..], pn as u32);
+    iv[..8].copy_from_slice(&sci.0);
+    iv
 }
 
-/// Protects DA, SA, a SecTAG of `tag_len` octets, 8 or 16, and data in place, and puts the ICV into the 16 octets
-/// behind them, the last of `frame`. Where `conf` is true the data behind the key's confidentiality
+/// The exclusive or of the salt and of SSCI and packet number.
+fn extended_iv(ssci: u32, salt: [u8; 12], pn: u64) -> [u8; 12]
+    ensures { result ≡ extended_iv ssci salt pn }
+{
+    let mut numbers = [0; 12];
+    BigEndian::write_u64(&mut numbers[4..], pn);
+    BigEndian::write_u32(&mut numbers[..4], ssci);
+    exclusive_or(salt, numbers)
+}
+
+/// The exclusive or of two texts of twelve octets.
+fn exclusive_or(text: [u8; 12], other: [u8; 12]) -> [u8; 12]
+    ensures { result ≡ sum_with_stream text other }
+{
+    array::from_fn(
+        |k: usize| -> u8
+            requires { k < 12 }
+            ensures { result ≡ bit_xor (slice_index text k) (slice_index other k) }
+        { text[k] ^ other[k] },
+    )
+}
+
+/// Protects DA, SA, a SecTAG of `tag_len` octets, 8 or 16, and data in place, and puts the ICV into the 16
+/// octets behind them, the last of `frame`. Where `conf` is true the data behind the key's confidentiality
 /// offset are encrypted; the rest is authenticated alone. The data have at most 2^36 - 32 octets.
 pub fn protect_in_place(key: &SuiteKey, iv: &[u8; 12], conf: bool, tag_len: usize, frame: &mut [u8])
     requires tag { IsTagLength tag_len }

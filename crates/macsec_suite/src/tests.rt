@@ -93,20 +93,32 @@ fn octets_of(words: [u128; 6]) -> [u8; 96] {
 /// The key of the test frames for a suite, with a confidentiality offset.
 fn key_of(suite: Suite, offset: u8) -> Result<SuiteKey, SuiteFault> {
     let key = match suite {
-        Suite::Gcm128 => Key::K128(KEY_128.to_be_bytes()),
-        Suite::Gcm256 => {
+        Suite::Gcm128 | Suite::Xpn128 => Key::K128(KEY_128.to_be_bytes()),
+        Suite::Gcm256 | Suite::Xpn256 => {
             let mut bytes = [0; 32];
             bytes[..16].copy_from_slice(&KEY_256[0].to_be_bytes());
             bytes[16..].copy_from_slice(&KEY_256[1].to_be_bytes());
             Key::K256(bytes)
         }
     };
-    SuiteKey::new(suite, key, [0; 12], offset)
+    SuiteKey::new(suite, key, salt(), offset)
+}
+
+/// With this salt, SSCI 1 and packet number 1b2c28465 an extended IV is that of the test frames.
+fn salt() -> [u8; 12] {
+    let mut salt = [0; 12];
+    salt[..8].copy_from_slice(&0x1215_3525_c089_5e80u64.to_be_bytes());
+    salt
 }
 
 /// The IV of the test frames.
 fn iv(suite: Suite) -> [u8; 12] {
-    iv_of(suite, Sci(SCI.to_be_bytes()), 0, [0; 12], 0xb2c2_8465)
+    let pn = if suite.is_xpn() {
+        0x1_b2c2_8465
+    } else {
+        0xb2c2_8465
+    };
+    iv_of(suite, Sci(SCI.to_be_bytes()), 1, salt(), pn)
 }
 
 #[test]
@@ -118,6 +130,13 @@ fn suites_and_refused_keys(rt: HostRuntime) -> Result<(), Fail> {
             assert_eq!(&rt; key_of(suite, offset)?.suite(), suite);
         }
         assert_eq!(&rt; key_of(suite, 40).err(), Some(SuiteFault::Offset));
+    }
+    for (suite, length) in [(Suite::Xpn128, 16), (Suite::Xpn256, 32)] {
+        assert_eq!(&rt; suite.key_length(), length);
+        assert_eq!(&rt; suite.last(), u64::MAX);
+        assert_eq!(&rt; suite.widest_window(), 0x3fff_ffff);
+        assert_eq!(&rt; key_of(suite, 0)?.suite(), suite);
+        assert_eq!(&rt; key_of(suite, 30).err(), Some(SuiteFault::Offset));
     }
     let short = SuiteKey::new(Suite::Gcm256, Key::K128(KEY_128.to_be_bytes()), [0; 12], 40);
     assert_eq!(&rt; short.err(), Some(SuiteFault::KeyLength));
@@ -131,17 +150,16 @@ fn ivs(rt: HostRuntime) {
     let mut wanted = [0; 12];
     wanted[..8].copy_from_slice(&SCI.to_be_bytes());
     wanted[8..].copy_from_slice(&0xb2c2_8465u32.to_be_bytes());
-    assert_eq!(&rt; iv(Suite::Gcm128), wanted);
-    assert_eq!(&rt;
-        iv_of(
-            Suite::Gcm256,
-            Sci(SCI.to_be_bytes()),
-            1,
-            [0xff; 12],
-            0xb2c2_8465
-        ),
-        wanted
-    );
+    for suite in [Suite::Gcm128, Suite::Gcm256, Suite::Xpn128, Suite::Xpn256] {
+        assert_eq!(&rt; iv(suite), wanted);
+    }
+    let sci = Sci(SCI.to_be_bytes());
+    let plain = iv_of(Suite::Gcm256, sci, 2, [0xff; 12], 0xb2c2_8465);
+    assert_eq!(&rt; plain, wanted);
+    let other_ssci = iv_of(Suite::Xpn128, sci, 2, salt(), 0x1_b2c2_8465);
+    assert_eq!(&rt; other_ssci[3], wanted[3] ^ 3);
+    let lower_half = iv_of(Suite::Xpn256, sci, 1, salt(), 0xb2c2_8465);
+    assert_eq!(&rt; lower_half[7], wanted[7] ^ 1);
 }
 
 /// A frame with its first `length` octets protected in place.
@@ -207,20 +225,20 @@ fn integrity(rt: HostRuntime) -> Result<(), Fail> {
 
 #[test]
 fn confidentiality(rt: HostRuntime) -> Result<(), Fail> {
-    let link = link_frame(Suite::Gcm128, true, FRAME_60, 92)?;
-    assert_eq!(&rt; link, octets_of(LINK_60_128));
-    let (is_genuine, opened) = validated_frame(Suite::Gcm128, true, link, 48)?;
-    assert_eq!(&rt;
-        (is_genuine, with_zeros_from(opened, 76)),
-        (true, octets_of(FRAME_60))
-    );
-    let link = link_frame(Suite::Gcm256, true, FRAME_60, 92)?;
-    assert_eq!(&rt; link, octets_of(LINK_60_256));
-    let (is_genuine, opened) = validated_frame(Suite::Gcm256, true, link, 48)?;
-    assert_eq!(&rt;
-        (is_genuine, with_zeros_from(opened, 76)),
-        (true, octets_of(FRAME_60))
-    );
+    for (suite, wanted) in [
+        (Suite::Gcm128, LINK_60_128),
+        (Suite::Xpn128, LINK_60_128),
+        (Suite::Gcm256, LINK_60_256),
+        (Suite::Xpn256, LINK_60_256),
+    ] {
+        let link = link_frame(suite, true, FRAME_60, 92)?;
+        assert_eq!(&rt; link, octets_of(wanted));
+        let (is_genuine, opened) = validated_frame(suite, true, link, 48)?;
+        assert_eq!(&rt;
+            (is_genuine, with_zeros_from(opened, 76)),
+            (true, octets_of(FRAME_60))
+        );
+    }
     Ok(())
 }
 

@@ -1,5 +1,5 @@
 -- A frame that is protected in place is its parts in a row.
-use Rattle.std.proofs.Common.{◌≡◌, ℕ, ◌+◌, ◌-◌, ◌≤◌, List, [], ◌++◌, length, take, drop, ap, sym, ◌∙◌, arith, append_assoc, append-nil, length-take, length-drop}
+use Rattle.std.proofs.Common.{◌≡◌, ℕ, ◌+◌, ◌-◌, ◌≤◌, Bool, List, [], ◌++◌, length, take, drop, ap, sym, ◌∙◌, arith, append_assoc, append-nil, length-take, length-drop}
 use Rattle.std.specs.Prelude.{slice_range}
 use Rattle.std.proofs.Math.Seq.{take-add}
 use Rattle.macsec_gcm.specs.Gcm.{seal_of}
@@ -8,7 +8,7 @@ use Rattle.macsec_tag.specs.Frame.{in_a_row}
 use Rattle.macsec_suite.specs.Keys.{PreparedKey}
 use Rattle.macsec_suite.specs.Parts.{aad_and_plaintext, clear_length}
 use Rattle.macsec_suite.specs.InPlace.{clear_and_rest, protected_octets}
-use Rattle.macsec_suite.proofs.ClearParts.{parts_in_place}
+use Rattle.macsec_suite.specs.Laws.{PartsInPlace}
 use Rattle.macsec_tx.specs.Transmit.{parts_under}
 
 -- what is sealed, and the tag, behind what is authenticated alone
@@ -19,12 +19,16 @@ sealed_row key iv ap = let ct = seal_of key.bytes iv ap.0 ap.1 in ap.0 ++ ct.0 +
 grouped : (head clear c t : List ℕ) → head ++ clear ++ c ++ t ≡ head ++ (clear ++ c) ++ t ++ []
 grouped head clear c t = sym (append-nil (head ++ (clear ++ c) ++ t) ∙ ap (λ (xs : List ℕ). xs ++ t) (sym (append_assoc head clear c)))
 
+-- the law of frames in place, as its call gives it
+abbrev pub LawOfParts : Type 0
+LawOfParts = (offset : ℕ) (e : Bool) (da sa : List ℕ) (tag : Tag) (user_data : List ℕ) → PartsInPlace offset e da sa tag user_data
+
 -- a frame that begins with addresses, SecTAG and client data, with room for the ICV, is protected in
 -- place to its parts in a row
-pub protected_row : (key : PreparedKey) (iv : List ℕ) (tag : Tag) (frame whole : List ℕ) (n : ℕ) → 14 ≤ length frame → length whole ≡ n + 16
+pub protected_row : LawOfParts → (key : PreparedKey) (iv : List ℕ) (tag : Tag) (frame whole : List ℕ) (n : ℕ) → 14 ≤ length frame → length whole ≡ n + 16
     → take n whole ≡ take 12 frame ++ spelling tag ++ drop 12 frame
     → protected_octets key iv tag.e (12 + length (spelling tag)) whole ≡ in_a_row (parts_under key iv tag frame)
-protected_row key iv tag frame whole n long whole_long front =
+protected_row parts_in_place key iv tag frame whole n long whole_long front =
     let da : List ℕ = take 6 frame in
     let sa : List ℕ = slice_range frame 6 12 in
     let client_data : List ℕ = drop 12 frame in

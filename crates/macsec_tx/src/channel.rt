@@ -4,6 +4,7 @@ ghost use Rattle.std.specs.Prelude.{◌≡◌, ◌<◌, ◌≤◌, ◌^◌, [], 
 ghost use Rattle.std.specs.List.{All};
 ghost use Rattle.macsec_suite.specs.Refusals.{first_refusal, refusal_of};
 ghost use Rattle.macsec_tx.specs.Transmit.{row_on, tx_row, used_at};
+ghost use Rattle.macsec_tx.specs.Rows.{AreTxRows};
 ghost use Rattle.macsec_tx.specs.Commands.{HaveKeys, off_at, switch_to, tx_off_refusals, tx_on_refusals, tx_sa_refusals, tx_uses, with_tx_off, with_tx_on, with_tx_sa, without_tx};
 
 #[cfg(test)]
@@ -90,6 +91,7 @@ impl TxChannel {
         ensures refusal { refusal_of result ≡ first_refusal (tx_sa_refusals keys.now self.old an key next) }
         ensures done { OnOk result (self.new ≡ with_tx_sa self.old an key next conf) }
         ensures unchanged { OnErr result (self.new ≡ self.old) }
+        ensures rows { OnOk result (AreTxRows self.new) }
     {
         let _number = an.number();
         let Some(row) = keys.key(key) else {
@@ -127,6 +129,7 @@ impl TxChannel {
         ensures refusal { refusal_of result ≡ first_refusal (tx_on_refusals keys.now self.old an) }
         ensures done { OnOk result (self.new ≡ with_tx_on self.old an) }
         ensures unchanged { OnErr result (self.new ≡ self.old) }
+        ensures rows { OnOk result (AreTxRows self.new) }
     {
         let Some(row) = self.row(an) else {
             return Err(Refusal::NoSa);
@@ -144,6 +147,7 @@ impl TxChannel {
         ensures refusal { refusal_of result ≡ first_refusal (tx_off_refusals self.old an) }
         ensures done { OnOk result (self.new ≡ with_tx_off self.old an) }
         ensures unchanged { OnErr result (self.new ≡ self.old) }
+        ensures rows { OnOk result (AreTxRows self.new) }
     {
         if self.row(an).is_none() {
             return Err(Refusal::NoSa);
@@ -157,6 +161,7 @@ impl TxChannel {
         ensures refusal { refusal_of result ≡ first_refusal (tx_off_refusals self.old an) }
         ensures done { OnOk result (self.new ≡ without_tx self.old an) }
         ensures unchanged { OnErr result (self.new ≡ self.old) }
+        ensures rows { OnOk result (AreTxRows self.new) }
     {
         if self.row(an).is_none() {
             return Err(Refusal::NoSa);
@@ -169,7 +174,8 @@ impl TxChannel {
     /// which has 64 bits.
     pub(crate) fn use_number(&mut self, an: An)
         requires { IfSome (tx_row self.old an) (λ row. row.next < 2 ^ 64) }
-        ensures { self.new ≡ map (used_at an) self.old }
+        ensures used { self.new ≡ map (used_at an) self.old }
+        ensures rows { AreTxRows self.new }
     {
         use_number(self.rows.as_mut_slice(), an);
     }

@@ -2,17 +2,19 @@
 
 ghost use Rattle.std.specs.Prelude.{◌≡◌, ◌<◌, ◌≤◌, ◌+◌, ◌^◌, ◌++◌, length, take, drop, slice_range, nat_lt, if◌then◌else◌, IsSome, Some, ℕ, List};
 ghost use Rattle.std.specs.Option.{ForSome};
-ghost use Rattle.macsec_suite.specs.KeyRows.{key_row};
+ghost use Rattle.macsec_suite.specs.KeyRows.{AreKeyRows, key_row};
 ghost use Rattle.macsec_tag.specs.Tag.{spelling};
 ghost use Rattle.macsec_tag.specs.Frame.{in_a_row};
 ghost use Rattle.macsec_tx.specs.Limits.{max_frame_len, min_frame_len};
 ghost use Rattle.macsec_tx.specs.Tags.{es_sent, is_own, scb_sent, sci_sent, sl_of};
 ghost use Rattle.macsec_tx.specs.Transmit.{keys_after, octets_added, parts_under, rows_after, sending, sending_by, tag_sent};
 ghost use Rattle.macsec_tx.specs.Commands.{HaveKeys};
+ghost use Rattle.macsec_tx.specs.Rows.{AreTxRows};
 ghost use Rattle.macsec_tx.specs.Answers.{IfMade, ShowsLeaving};
 
 use crate::{TagForm, TxChannel, TxOptions, TxResult, TxRow};
 use macsec_pn::TxNumbers;
+use macsec_suite::laws::parts_in_place;
 use macsec_suite::{ICV_LENGTH, KeyTable, SuiteKey, iv_of, protect_in_place};
 use macsec_tag::{Sci, SecTag, write_tag};
 
@@ -38,6 +40,8 @@ impl TxChannel {
         ensures leaving { ShowsLeaving result out.new (sending options.now keys.old self.old frame.now).leaving }
         ensures associations { self.new ≡ rows_after self.old (sending options.now keys.old self.old frame.now).by }
         ensures keys { keys.new ≡ keys_after keys.old (sending options.now keys.old self.old frame.now).by }
+        ensures rows { IfMade result (AreTxRows self.new) }
+        ensures key_rows { IfMade result (AreKeyRows keys.new) }
     {
         if !options.protect {
             return plain(options, frame);
@@ -177,6 +181,7 @@ fn write_frame(key: &SuiteKey, iv: &[u8; 12], tag: &SecTag, frame: &[u8], out: &
     ensures length { result ≡ length frame.now + octets_added tag.now }
     ensures octets { take result out.new ≡ in_a_row (parts_under key.now iv.now tag.now frame.now) }
 {
+    parts_in_place();
     let end = write_clear(tag, frame, out) + ICV_LENGTH;
     protect_in_place(key, iv, tag.e(), tag.length(), &mut out[..end]);
     end

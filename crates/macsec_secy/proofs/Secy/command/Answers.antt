@@ -1,149 +1,147 @@
-use Rattle.std.proofs.Common.{sym, ◌∙◌}
-use Rattle.std.specs.Prelude.{vec_len}
-use Rattle.macsec_secy.specs.Sound.{IsSound}
-use Rattle.macsec_secy.proofs.KeysKept.{kept_by, with_another_key, with_a_key_retired, with_one_more, with_one_on, with_one_off, without_one}
-use Rattle.macsec_secy.proofs.RxKeysKept as rx
+use Rattle.std.proofs.Common.{◌≡◌, refl, rules}
+use Rattle.macsec_suite.specs.Refusals.{refusal_of}
+use Rattle.macsec_secy.specs.declared.Command.TheVariants as by
+use Rattle.macsec_secy.specs.contracts.Secy.{the_view}
+use Rattle.macsec_secy.specs.Commands.{refusal}
+use Rattle.macsec_secy.proofs.FramesCounted.{command_adds}
+use Rattle.macsec_secy.proofs.StaysSound.{by_keys, by_rx, by_tx}
 use Rattle.macsec_secy.proofs.Secy.command.Goals as goal
 
 pub invariant_of-self-in-Key : goal.invariant_of-self-in-Key
 invariant_of-self-in-Key c =
     let s = c.self-in-Key in
-    kept_by (λ keys. IsSound keys s.inside.tx s.inside.rx s.inside.rx_counters.items s.inside.config.max_frame (vec_len s.inside.room)) s.inside.keys c.install.new.self _ c.install.result
-    c.install.ensures.done c.install.ensures.unchanged s.invariant
-    (λ e. record {
+    record {
+      sound = by_keys (the_view s.inside) (by.Key c.in-Key.key) c.install.new.self _ c.install.result c.install.ensures.refusal c.install.ensures.done c.install.ensures.unchanged refl
+          c.install.ensures.rows s.invariant.sound;
       room = s.invariant.room;
-      limit = s.invariant.limit;
-      tx_keys = with_another_key s.inside.keys s.inside.tx _ s.invariant.tx_keys;
-      rx_keys = rx.with_another_key s.inside.keys s.inside.rx.rows _ s.invariant.rx_keys;
-      counters = s.invariant.counters;
-    })
+    }
+
+pub returns-in-Key-clause-sound : goal.returns-in-Key-clause-sound
+returns-in-Key-clause-sound c = (invariant_of-self-in-Key c).sound
 
 pub invariant_of-self-in-Retire : goal.invariant_of-self-in-Retire
 invariant_of-self-in-Retire c =
     let s = c.self-in-Retire in
-    kept_by (λ keys. IsSound keys s.inside.tx s.inside.rx s.inside.rx_counters.items s.inside.config.max_frame (vec_len s.inside.room)) s.inside.keys c.retire.new.self _ c.retire.result
-    c.retire.ensures.done c.retire.ensures.unchanged s.invariant
-    (λ e. record {
+    let refuses : refusal_of c.retire.result ≡ refusal (the_view s.inside) (by.Retire c.in-Retire.key) = search rules in
+    record {
+      sound = by_keys (the_view s.inside) (by.Retire c.in-Retire.key) c.retire.new.self _ c.retire.result refuses c.retire.ensures.done c.retire.ensures.unchanged refl
+          c.retire.ensures.rows s.invariant.sound;
       room = s.invariant.room;
-      limit = s.invariant.limit;
-      tx_keys = with_a_key_retired s.inside.keys s.inside.tx _ s.invariant.tx_keys;
-      rx_keys = rx.with_a_key_retired s.inside.keys s.inside.rx.rows _ s.invariant.rx_keys;
-      counters = s.invariant.counters;
-    })
+    }
+
+pub returns-after-uses-clause-sound : goal.returns-after-uses-clause-sound
+returns-after-uses-clause-sound c = (invariant_of-self-in-Retire c).sound
 
 pub invariant_of-self-in-TxSa : goal.invariant_of-self-in-TxSa
 invariant_of-self-in-TxSa c =
     let s = c.self-in-TxSa in
-    kept_by (λ rows. IsSound s.inside.keys rows s.inside.rx s.inside.rx_counters.items s.inside.config.max_frame (vec_len s.inside.room)) s.inside.tx c.tx_sa.new.self _ c.tx_sa.result
-    c.tx_sa.ensures.done c.tx_sa.ensures.unchanged s.invariant
-    (λ e. record {
+    record {
+      sound = by_tx (the_view s.inside) (by.TxSa c.in-TxSa.an c.in-TxSa.key c.in-TxSa.next c.in-TxSa.conf) c.tx_sa.new.self _ c.tx_sa.result c.tx_sa.ensures.refusal c.tx_sa.ensures.done c.tx_sa.ensures.unchanged refl
+          c.tx_sa.ensures.rows s.invariant.sound;
       room = s.invariant.room;
-      limit = s.invariant.limit;
-      tx_keys = with_one_more s.inside.keys s.inside.tx _ _ _ _ (sym c.tx_sa.ensures.refusal ∙ e) s.invariant.tx_keys;
-      rx_keys = s.invariant.rx_keys;
-      counters = s.invariant.counters;
-    })
+    }
+
+pub returns-in-TxSa-clause-sound : goal.returns-in-TxSa-clause-sound
+returns-in-TxSa-clause-sound c = (invariant_of-self-in-TxSa c).sound
 
 pub invariant_of-self-in-TxOn : goal.invariant_of-self-in-TxOn
 invariant_of-self-in-TxOn c =
     let s = c.self-in-TxOn in
-    kept_by (λ rows. IsSound s.inside.keys rows s.inside.rx s.inside.rx_counters.items s.inside.config.max_frame (vec_len s.inside.room)) s.inside.tx c.tx_on.new.self _ c.tx_on.result
-    c.tx_on.ensures.done c.tx_on.ensures.unchanged s.invariant
-    (λ e. record {
+    record {
+      sound = by_tx (the_view s.inside) (by.TxOn c.in-TxOn.an) c.tx_on.new.self _ c.tx_on.result c.tx_on.ensures.refusal c.tx_on.ensures.done c.tx_on.ensures.unchanged refl
+          c.tx_on.ensures.rows s.invariant.sound;
       room = s.invariant.room;
-      limit = s.invariant.limit;
-      tx_keys = with_one_on s.inside.keys s.inside.tx _ s.invariant.tx_keys;
-      rx_keys = s.invariant.rx_keys;
-      counters = s.invariant.counters;
-    })
+    }
+
+pub returns-in-TxOn-clause-sound : goal.returns-in-TxOn-clause-sound
+returns-in-TxOn-clause-sound c = (invariant_of-self-in-TxOn c).sound
 
 pub invariant_of-self-in-TxOff : goal.invariant_of-self-in-TxOff
 invariant_of-self-in-TxOff c =
     let s = c.self-in-TxOff in
-    kept_by (λ rows. IsSound s.inside.keys rows s.inside.rx s.inside.rx_counters.items s.inside.config.max_frame (vec_len s.inside.room)) s.inside.tx c.tx_off.new.self _ c.tx_off.result
-    c.tx_off.ensures.done c.tx_off.ensures.unchanged s.invariant
-    (λ e. record {
+    record {
+      sound = by_tx (the_view s.inside) (by.TxOff c.in-TxOff.an) c.tx_off.new.self _ c.tx_off.result c.tx_off.ensures.refusal c.tx_off.ensures.done c.tx_off.ensures.unchanged refl
+          c.tx_off.ensures.rows s.invariant.sound;
       room = s.invariant.room;
-      limit = s.invariant.limit;
-      tx_keys = with_one_off s.inside.keys s.inside.tx _ s.invariant.tx_keys;
-      rx_keys = s.invariant.rx_keys;
-      counters = s.invariant.counters;
-    })
+    }
+
+pub returns-in-TxOff-clause-sound : goal.returns-in-TxOff-clause-sound
+returns-in-TxOff-clause-sound c = (invariant_of-self-in-TxOff c).sound
 
 pub invariant_of-self-in-TxDel : goal.invariant_of-self-in-TxDel
 invariant_of-self-in-TxDel c =
     let s = c.self-in-TxDel in
-    kept_by (λ rows. IsSound s.inside.keys rows s.inside.rx s.inside.rx_counters.items s.inside.config.max_frame (vec_len s.inside.room)) s.inside.tx c.tx_del.new.self _ c.tx_del.result
-    c.tx_del.ensures.done c.tx_del.ensures.unchanged s.invariant
-    (λ e. record {
+    record {
+      sound = by_tx (the_view s.inside) (by.TxDel c.in-TxDel.an) c.tx_del.new.self _ c.tx_del.result c.tx_del.ensures.refusal c.tx_del.ensures.done c.tx_del.ensures.unchanged refl
+          c.tx_del.ensures.rows s.invariant.sound;
       room = s.invariant.room;
-      limit = s.invariant.limit;
-      tx_keys = without_one s.inside.keys s.inside.tx _ s.invariant.tx_keys;
-      rx_keys = s.invariant.rx_keys;
-      counters = s.invariant.counters;
-    })
+    }
+
+pub returns-in-TxDel-clause-sound : goal.returns-in-TxDel-clause-sound
+returns-in-TxDel-clause-sound c = (invariant_of-self-in-TxDel c).sound
 
 pub invariant_of-self-in-RxSa : goal.invariant_of-self-in-RxSa
 invariant_of-self-in-RxSa c =
     let s = c.self-in-RxSa in
-    kept_by (λ channels. IsSound s.inside.keys s.inside.tx channels s.inside.rx_counters.items s.inside.config.max_frame (vec_len s.inside.room)) s.inside.rx c.rx_sa.new.self _ c.rx_sa.result
-    c.rx_sa.ensures.done c.rx_sa.ensures.unchanged s.invariant
-    (λ e. record {
+    record {
+      sound = by_rx (the_view s.inside) (by.RxSa c.in-RxSa.sci c.in-RxSa.an c.in-RxSa.key c.in-RxSa.ssci c.in-RxSa.lowest) c.rx_sa.new.self _ c.rx_sa.result c.rx_sa.ensures.refusal c.rx_sa.ensures.done c.rx_sa.ensures.unchanged refl
+          c.rx_sa.ensures.channels s.invariant.sound;
       room = s.invariant.room;
-      limit = s.invariant.limit;
-      tx_keys = s.invariant.tx_keys;
-      rx_keys = rx.with_one_more s.inside.keys s.inside.rx _ _ _ _ _ (sym c.rx_sa.ensures.refusal ∙ e) s.invariant.rx_keys;
-      counters = s.invariant.counters;
-    })
+    }
+
+pub returns-in-RxSa-clause-sound : goal.returns-in-RxSa-clause-sound
+returns-in-RxSa-clause-sound c = (invariant_of-self-in-RxSa c).sound
 
 pub invariant_of-self-in-RxOn : goal.invariant_of-self-in-RxOn
 invariant_of-self-in-RxOn c =
     let s = c.self-in-RxOn in
-    kept_by (λ channels. IsSound s.inside.keys s.inside.tx channels s.inside.rx_counters.items s.inside.config.max_frame (vec_len s.inside.room)) s.inside.rx c.rx_on.new.self _ c.rx_on.result
-    c.rx_on.ensures.done c.rx_on.ensures.unchanged s.invariant
-    (λ e. record {
+    record {
+      sound = by_rx (the_view s.inside) (by.RxOn c.in-RxOn.sci c.in-RxOn.an) c.rx_on.new.self _ c.rx_on.result c.rx_on.ensures.refusal c.rx_on.ensures.done c.rx_on.ensures.unchanged refl
+          c.rx_on.ensures.channels s.invariant.sound;
       room = s.invariant.room;
-      limit = s.invariant.limit;
-      tx_keys = s.invariant.tx_keys;
-      rx_keys = rx.with_one_switched s.inside.keys s.inside.rx _ _ _ s.invariant.rx_keys;
-      counters = s.invariant.counters;
-    })
+    }
+
+pub returns-in-RxOn-clause-sound : goal.returns-in-RxOn-clause-sound
+returns-in-RxOn-clause-sound c = (invariant_of-self-in-RxOn c).sound
 
 pub invariant_of-self-in-RxOff : goal.invariant_of-self-in-RxOff
 invariant_of-self-in-RxOff c =
     let s = c.self-in-RxOff in
-    kept_by (λ channels. IsSound s.inside.keys s.inside.tx channels s.inside.rx_counters.items s.inside.config.max_frame (vec_len s.inside.room)) s.inside.rx c.rx_off.new.self _ c.rx_off.result
-    c.rx_off.ensures.done c.rx_off.ensures.unchanged s.invariant
-    (λ e. record {
+    record {
+      sound = by_rx (the_view s.inside) (by.RxOff c.in-RxOff.sci c.in-RxOff.an) c.rx_off.new.self _ c.rx_off.result c.rx_off.ensures.refusal c.rx_off.ensures.done c.rx_off.ensures.unchanged refl
+          c.rx_off.ensures.channels s.invariant.sound;
       room = s.invariant.room;
-      limit = s.invariant.limit;
-      tx_keys = s.invariant.tx_keys;
-      rx_keys = rx.with_one_switched s.inside.keys s.inside.rx _ _ _ s.invariant.rx_keys;
-      counters = s.invariant.counters;
-    })
+    }
+
+pub returns-in-RxOff-clause-sound : goal.returns-in-RxOff-clause-sound
+returns-in-RxOff-clause-sound c = (invariant_of-self-in-RxOff c).sound
 
 pub invariant_of-self-in-RxLow : goal.invariant_of-self-in-RxLow
 invariant_of-self-in-RxLow c =
     let s = c.self-in-RxLow in
-    kept_by (λ channels. IsSound s.inside.keys s.inside.tx channels s.inside.rx_counters.items s.inside.config.max_frame (vec_len s.inside.room)) s.inside.rx c.rx_low.new.self _ c.rx_low.result
-    c.rx_low.ensures.done c.rx_low.ensures.unchanged s.invariant
-    (λ e. record {
+    record {
+      sound = by_rx (the_view s.inside) (by.RxLow c.in-RxLow.sci c.in-RxLow.an c.in-RxLow.pn) c.rx_low.new.self _ c.rx_low.result c.rx_low.ensures.refusal c.rx_low.ensures.done c.rx_low.ensures.unchanged refl
+          c.rx_low.ensures.channels s.invariant.sound;
       room = s.invariant.room;
-      limit = s.invariant.limit;
-      tx_keys = s.invariant.tx_keys;
-      rx_keys = rx.with_one_raised s.inside.keys s.inside.rx _ _ _ s.invariant.rx_keys;
-      counters = s.invariant.counters;
-    })
+    }
+
+pub returns-in-RxLow-clause-sound : goal.returns-in-RxLow-clause-sound
+returns-in-RxLow-clause-sound c = (invariant_of-self-in-RxLow c).sound
 
 pub invariant_of-self-in-RxDel : goal.invariant_of-self-in-RxDel
 invariant_of-self-in-RxDel c =
     let s = c.self-in-RxDel in
-    kept_by (λ channels. IsSound s.inside.keys s.inside.tx channels s.inside.rx_counters.items s.inside.config.max_frame (vec_len s.inside.room)) s.inside.rx c.rx_del.new.self _ c.rx_del.result
-    c.rx_del.ensures.done c.rx_del.ensures.unchanged s.invariant
-    (λ e. record {
+    record {
+      sound = by_rx (the_view s.inside) (by.RxDel c.in-RxDel.sci c.in-RxDel.an) c.rx_del.new.self _ c.rx_del.result c.rx_del.ensures.refusal c.rx_del.ensures.done c.rx_del.ensures.unchanged refl
+          c.rx_del.ensures.channels s.invariant.sound;
       room = s.invariant.room;
-      limit = s.invariant.limit;
-      tx_keys = s.invariant.tx_keys;
-      rx_keys = rx.without_one s.inside.keys s.inside.rx _ _ s.invariant.rx_keys;
-      counters = s.invariant.counters;
-    })
+    }
+
+pub returns-in-RxDel-clause-sound : goal.returns-in-RxDel-clause-sound
+returns-in-RxDel-clause-sound c = (invariant_of-self-in-RxDel c).sound
+
+pub returns-in-TxOn-clause-sum : goal.returns-in-TxOn-clause-sum
+returns-in-TxOn-clause-sum c = command_adds c.args.self.now c.args.command.now
+
+pub returns-in-RxLow-clause-sum : goal.returns-in-RxLow-clause-sum
+returns-in-RxLow-clause-sum c = command_adds c.args.self.now c.args.command.now

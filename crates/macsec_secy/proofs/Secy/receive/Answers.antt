@@ -1,57 +1,83 @@
-use Rattle.std.proofs.Common.{◌≡◌, ◌∙◌, ap, length, refl, rules}
+use Rattle.std.proofs.Common.{◌≡◌, ◌∙◌, ℕ, List, ap, length, refl, rules, subst, sym}
 use Rattle.std.specs.Prelude.{None, option_map}
 use Rattle.macsec_tag.specs.Table.{reading, tagged}
 use Rattle.macsec_rx.specs.Judge.{judge_tagged, octets_at, place_of}
 use Rattle.macsec_secy.specs.contracts.Secy.{the_view}
+use Rattle.macsec_secy.specs.State.{State}
+use Rattle.macsec_secy.specs.Sound.{IsSound}
 use Rattle.macsec_secy.specs.Step.{frame_fault, link_frame, step}
+use Rattle.macsec_secy.specs.Sums.{AddsFrames}
 use Rattle.macsec_secy.specs.Verdicts.{counted_by}
+use Rattle.macsec_secy.proofs.FramesCounted.{link_frame_adds}
 use Rattle.macsec_secy.proofs.Lent.{left_in_place}
-use Rattle.macsec_secy.proofs.RxKeysKept.{after_receiving}
-use Rattle.macsec_secy.proofs.ChannelsCounted.{after_counting, counted_again}
+use Rattle.macsec_secy.proofs.ChannelsCounted.{counted_again}
+use Rattle.macsec_secy.proofs.StaysSound.{TablesHold, after_link_frame}
 use Rattle.macsec_secy.proofs.TaggedFrames.{answered, left_by_parts}
 use Rattle.macsec_secy.proofs.Secy.receive.Goals as goal
+
+-- what holds of the machine's state after the frame
+sound_after : (before now : State) (frame : List ℕ) → before ≡ now → IsSound before → TablesHold (step before (link_frame frame)).1 → IsSound (step now (link_frame frame)).1
+sound_after before now frame same sound tables = subst (λ s. IsSound (step s (link_frame frame)).1) same (after_link_frame before frame tables sound)
+
+-- and the sum of its counters
+sum_after : (before now : State) (frame : List ℕ) → before ≡ now → IsSound before → AddsFrames now (link_frame frame)
+sum_after before now frame same sound = subst (λ s. AddsFrames s (link_frame frame)) same (link_frame_adds before frame sound)
 
 pub invariant_of-self-in-Tagged : goal.invariant_of-self-in-Tagged
 invariant_of-self-in-Tagged c =
     let s = c.self in
+    let reads : reading c.args.frame.now ≡ tagged c.in-Tagged.mpdu = search rules in
+    let fits : frame_fault c.args.frame.now ≡ None = search rules in
+    let shows = c.judge-judged.ensures.judged in
+    let after = counted_by c.rx_options-options.result.mode c.judge-judged.result.verdict c.in-Tagged.mpdu.tag.e (length c.in-Tagged.mpdu.secure_data) s.inside.counters in
+    let counters : c.count_tagged.new.self ≡ after = rw (c.count_tagged.ensures, c.e.ensures, c.tag.ensures, c.secure_data.ensures) (refl {a = after}) in
     let counted = counted_again s.inside.rx_counters.items c.as_mut_slice-in-Tagged.result.now c.count_at_row.new.rows c.judge-judged.result.verdict c.judge-judged.result.row
     c.as_mut_slice-in-Tagged.ensures.value c.count_at_row.ensures in
-    rw (c.judge-judged.ensures.numbers, counted) (record {
-      room = s.invariant.room;
-      limit = s.invariant.limit;
-      tx_keys = s.invariant.tx_keys;
-      rx_keys = after_receiving s.inside.keys c.rx_options-options.result.window
-          (judge_tagged c.rx_options-options.result s.inside.keys s.inside.rx c.in-Tagged.mpdu) s.inside.rx.rows s.invariant.rx_keys;
-      counters = after_counting c.judge-judged.result.verdict c.judge-judged.result.row s.inside.rx_counters.items ∙ s.invariant.counters;
-    })
+    let left = left_by_parts (the_view s.inside) c.args.frame.now c.in-Tagged.mpdu reads fits c.rx_options-options.result c.judge-judged.result.verdict c.judge-judged.result.row
+    c.judge-judged.new.self c.count_tagged.new.self _ c.rx_options-options.ensures shows.verdict shows.row c.judge-judged.ensures.numbers counters counted in
+    let tables = subst TablesHold left (record { keys = s.invariant.sound.keys; tx = s.invariant.sound.tx; rx = c.judge-judged.ensures.channels }) in
+    record { sound = subst IsSound (sym left) (after_link_frame (the_view s.inside) c.args.frame.now tables s.invariant.sound); room = s.invariant.room }
+
+pub returns-in-Untagged : goal.returns-in-Untagged
+returns-in-Untagged c =
+    let s = c.self in
+    let left : record (the_view s.inside) { counters = c.count_packet.new.self } ≡ (step (the_view s.inside) (link_frame c.args.frame.now)).1 = search rules in
+    let tables = subst TablesHold left (record { keys = s.invariant.sound.keys; tx = s.invariant.sound.tx; rx = s.invariant.sound.rx }) in (
+      (refl, λ x. tt, left ∙ ap (λ t. (step t (link_frame c.args.frame.now)).1) s.view_is),
+      record {
+        after = tt;
+        output = search rules;
+        sum = sum_after (the_view s.inside) c.args.self.now c.args.frame.now s.view_is s.invariant.sound;
+        sound = sound_after (the_view s.inside) c.args.self.now c.args.frame.now s.view_is s.invariant.sound tables;
+      },
+    )
 
 pub returns-in-Tagged : goal.returns-in-Tagged
 returns-in-Tagged c =
+    let s = c.self in
     let reads : reading c.args.frame.now ≡ tagged c.in-Tagged.mpdu = search rules in
     let fits : frame_fault c.args.frame.now ≡ None = search rules in
     let options = c.rx_options-options.ensures in
-    let same = ap (λ o. judge_tagged o c.self.inside.keys c.self.inside.rx c.in-Tagged.mpdu) options in
+    let same = ap (λ o. judge_tagged o s.inside.keys s.inside.rx c.in-Tagged.mpdu) options in
     let shows = c.judge-judged.ensures.judged in
     let lent : c.as_slice.result.now ≡ c.judge-judged.new.out = c.as_slice.ensures.value ∙
-    left_in_place c.self.inside.room.len c.self.inside.room.items c.judge-judged.new.out (c.judge-judged.auto.out ∙ c.as_mut_slice.ensures.len) in
-    let counters : c.count_tagged.new.self ≡
-    counted_by c.rx_options-options.result.mode c.judge-judged.result.verdict c.in-Tagged.mpdu.tag.e (length c.in-Tagged.mpdu.secure_data) c.self.inside.counters =
-    rw (c.count_tagged.ensures, c.e.ensures, c.tag.ensures, c.secure_data.ensures) refl in
-    let counted = counted_again c.self.inside.rx_counters.items c.as_mut_slice-in-Tagged.result.now c.count_at_row.new.rows c.judge-judged.result.verdict c.judge-judged.result.row
-    c.as_mut_slice-in-Tagged.ensures.value c.count_at_row.ensures in (
-      (
-        refl,
-        λ s. tt,
-        left_by_parts (the_view c.self.inside) c.args.frame.now c.in-Tagged.mpdu reads fits c.rx_options-options.result c.judge-judged.result.verdict c.judge-judged.result.row
-            c.judge-judged.new.self c.count_tagged.new.self _ options shows.verdict shows.row c.judge-judged.ensures.numbers counters counted ∙
-            ap (λ s. (step s (link_frame c.args.frame.now)).1) c.self.view_is,
-      ),
+    left_in_place s.inside.room.len s.inside.room.items c.judge-judged.new.out (c.judge-judged.auto.out ∙ c.as_mut_slice.ensures.len) in
+    let after = counted_by c.rx_options-options.result.mode c.judge-judged.result.verdict c.in-Tagged.mpdu.tag.e (length c.in-Tagged.mpdu.secure_data) s.inside.counters in
+    let counters : c.count_tagged.new.self ≡ after = rw (c.count_tagged.ensures, c.e.ensures, c.tag.ensures, c.secure_data.ensures) (refl {a = after}) in
+    let counted = counted_again s.inside.rx_counters.items c.as_mut_slice-in-Tagged.result.now c.count_at_row.new.rows c.judge-judged.result.verdict c.judge-judged.result.row
+    c.as_mut_slice-in-Tagged.ensures.value c.count_at_row.ensures in
+    let left = left_by_parts (the_view s.inside) c.args.frame.now c.in-Tagged.mpdu reads fits c.rx_options-options.result c.judge-judged.result.verdict c.judge-judged.result.row
+    c.judge-judged.new.self c.count_tagged.new.self _ options shows.verdict shows.row c.judge-judged.ensures.numbers counters counted in
+    let tables = subst TablesHold left (record { keys = s.invariant.sound.keys; tx = s.invariant.sound.tx; rx = c.judge-judged.ensures.channels }) in (
+      (refl, λ x. tt, left ∙ ap (λ t. (step t (link_frame c.args.frame.now)).1) s.view_is),
       record {
         after = tt;
-        output = answered (the_view c.self.inside) c.args.frame.now c.in-Tagged.mpdu reads fits c.judge-judged.result.verdict c.sci_and_number.result _
+        output = answered (the_view s.inside) c.args.frame.now c.in-Tagged.mpdu reads fits c.judge-judged.result.verdict c.sci_and_number.result _
             (shows.verdict ∙ ap (λ j. j.verdict) same) (c.sci_and_number.ensures ∙ shows.row ∙ ap (λ j. option_map place_of j.row) same)
             (c.delivered_octets.ensures ∙ ap (λ room. option_map (octets_at room) c.judge-judged.result.delivered) lent ∙ shows.delivered ∙
             ap (λ j. j.delivered) same) ∙
-            ap (λ s. (step s (link_frame c.args.frame.now)).0) c.self.view_is;
+            ap (λ t. (step t (link_frame c.args.frame.now)).0) s.view_is;
+        sum = sum_after (the_view s.inside) c.args.self.now c.args.frame.now s.view_is s.invariant.sound;
+        sound = sound_after (the_view s.inside) c.args.self.now c.args.frame.now s.view_is s.invariant.sound tables;
       },
     )

@@ -1,13 +1,22 @@
-use Rattle.macsec_secy.proofs.RxKeysKept.{with_all_narrowed}
+use Rattle.std.proofs.Common.{◌≡◌, rules, subst}
+use Rattle.std.specs.Prelude.{None}
+use Rattle.macsec_rx.specs.Rows.{AreChannels}
+use Rattle.macsec_secy.specs.declared.Command.TheVariants.{Replay}
+use Rattle.macsec_secy.specs.contracts.Secy.{the_view}
+use Rattle.macsec_secy.specs.Commands.{refusal}
+use Rattle.macsec_secy.proofs.StaysSound.{after_effect}
 use Rattle.macsec_secy.proofs.Secy.replay.Goals as goal
 
 pub invariant_of-self : goal.invariant_of-self
 invariant_of-self c =
     let s = c.self in
-    rw c.narrow.ensures (record {
+    let sound = s.invariant.sound in
+    let allowed : refusal (the_view s.inside) (Replay c.args.protect c.args.window) ≡ None = search rules in
+    record {
+      sound = rw c.narrow.ensures.narrowed (after_effect (the_view s.inside) (Replay c.args.protect c.args.window) allowed
+          (record { keys = sound.keys; tx = sound.tx; rx = subst AreChannels c.narrow.ensures.narrowed c.narrow.ensures.channels }) sound);
       room = s.invariant.room;
-      limit = s.invariant.limit;
-      tx_keys = s.invariant.tx_keys;
-      rx_keys = with_all_narrowed s.inside.keys s.inside.rx c.args.window s.invariant.rx_keys;
-      counters = s.invariant.counters;
-    })
+    }
+
+pub returns-clause-sound : goal.returns-clause-sound
+returns-clause-sound c = (invariant_of-self c).sound

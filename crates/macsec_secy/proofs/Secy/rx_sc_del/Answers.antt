@@ -1,12 +1,12 @@
-use Rattle.std.proofs.Common.{◌≡◌, ◌∙◌, ap, rules}
+use Rattle.std.proofs.Common.{◌≡◌, ◌∙◌, ap, rules, subst, sym}
 use Rattle.std.specs.Prelude.{filter, not}
 use Rattle.arrayvec.proofs.ArrayVecLemmas.{filter-from_retain}
 use Rattle.macsec_rx.specs.Channels.{same_sci}
+use Rattle.macsec_rx.specs.Rows.{AreChannels}
 use Rattle.macsec_secy.specs.declared.Command.TheVariants as by
 use Rattle.macsec_secy.specs.Commands.{state_after_command, unless_refused}
 use Rattle.macsec_secy.specs.contracts.Secy.{the_view}
-use Rattle.macsec_secy.proofs.RxKeysKept.{without_channel_of}
-use Rattle.macsec_secy.proofs.ChannelsCounted.{without_counters}
+use Rattle.macsec_secy.proofs.StaysSound.{after_effect}
 use Rattle.macsec_secy.proofs.Secy.rx_sc_del.Goals as goal
 
 kept_counters : (c : goal.After-retain) → c.retain.new.self.items ≡ filter (λ row. not (same_sci row.sci c.args.sci)) c.self.inside.rx_counters.items
@@ -15,16 +15,19 @@ kept_counters c = filter-from_retain _ _ _ (λ x b f' y called. search rules) _ 
 pub invariant_of-self-2 : goal.invariant_of-self-2
 invariant_of-self-2 c =
     let s = c.self in
-    rw (c.in_ok-rx_sc_del.ensures.done, kept_counters c) (record {
+    let sound = s.invariant.sound in
+    let removed = c.in_ok-rx_sc_del.ensures in
+    record {
+      sound = rw (removed.done, kept_counters c) (after_effect (the_view s.inside) (by.RxScDel c.args.sci) (sym removed.refusal)
+          (record { keys = sound.keys; tx = sound.tx; rx = subst AreChannels removed.done removed.channels }) sound);
       room = s.invariant.room;
-      limit = s.invariant.limit;
-      tx_keys = s.invariant.tx_keys;
-      rx_keys = without_channel_of s.inside.keys s.inside.rx c.args.sci s.invariant.rx_keys;
-      counters = without_counters c.args.sci s.inside.rx_counters.items ∙ ap (filter (λ sci. not (same_sci sci c.args.sci))) s.invariant.counters;
-    })
+    }
 
 pub returns-clause-after : goal.returns-clause-after
 returns-clause-after c =
     rw (c.in_ok-rx_sc_del.ensures.done, kept_counters c)
     (ap (λ r. unless_refused r (the_view c.self.inside) (by.RxScDel c.args.sci)) c.in_ok-rx_sc_del.ensures.refusal ∙
     ap (λ s. state_after_command s (by.RxScDel c.args.sci)) c.self.view_is)
+
+pub returns-clause-sound : goal.returns-clause-sound
+returns-clause-sound c = (invariant_of-self-2 c).sound

@@ -9,3 +9,6 @@ invariant_of-self c = record {
   rows = refilled _ _ _ (c.accept.auto.rows ∙ ap length c.as_mut_slice.ensures.value)
       (rw (c.accept.ensures, c.as_mut_slice.ensures.value) (accepting_rows _ c.args.window c.args.number c.args.row.sci c.args.row.an (omega (arith, c.ranges.number.fits)) _ c.self.invariant.rows));
 }
+
+pub returns-clause-channels : goal.returns-clause-channels
+returns-clause-channels c = invariant_of-self c

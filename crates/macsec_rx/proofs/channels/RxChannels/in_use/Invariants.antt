@@ -5,4 +5,4 @@ use Rattle.macsec_rx.proofs.channels.RxChannels.in_use.Given as goal
 
 -- no association before the index is the one
 abbrev pub invariant-loop-row : goal.invariant-loop-row
-invariant-loop-row l = in_use l.row-items l.an (Some l.sci) ≡ in_use (drop l.row-index l.row-items) l.an (Some l.sci)
+invariant-loop-row l = in_use l.rows l.an (Some l.sci) ≡ in_use (drop l.row-index l.rows) l.an (Some l.sci)

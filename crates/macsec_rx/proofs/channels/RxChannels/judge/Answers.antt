@@ -7,5 +7,5 @@ use Rattle.macsec_rx.proofs.channels.RxChannels.judge.Goals as goal
 pub judge_tagged-outcome-requires-clause-key_there :
     goal.judge_tagged-outcome-requires-clause-key_there
 judge_tagged-outcome-requires-clause-key_there c =
-    subst (λ row. IfSome row (λ r. IsSome (key_row c.args.keys.now r.key))) (sym c.in_use-row.ensures)
+    subst (λ row. IfSome row (λ r. IsSome (key_row c.args.keys.now r.key))) (sym c.in_use-row.ensures.row)
     (of_in_use (λ r. IsSome (key_row c.args.keys.now r.key)) _ _ _ c.requires.keys_there)

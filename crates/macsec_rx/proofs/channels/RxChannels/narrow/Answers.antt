@@ -9,3 +9,6 @@ invariant_of-self c = record {
   rows = refilled _ _ _ (c.narrow.auto.rows ∙ ap length c.as_mut_slice.ensures.value)
       (rw (c.narrow.ensures, c.as_mut_slice.ensures.value) (narrowed_rows _ c.args.window _ c.self.invariant.rows));
 }
+
+pub returns-clause-channels : goal.returns-clause-channels
+returns-clause-channels c = invariant_of-self c

@@ -18,3 +18,6 @@ invariant_of-self c = rw (kept_rows c) (record {
 
 pub returns-clause-done : goal.returns-clause-done
 returns-clause-done c = rw (kept_rows c) (ap (λ v. without_rx v c.args.sci c.args.an) c.self.view_is)
+
+pub returns-clause-channels : goal.returns-clause-channels
+returns-clause-channels c = invariant_of-self c

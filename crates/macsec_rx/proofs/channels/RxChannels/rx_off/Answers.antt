@@ -9,3 +9,6 @@ invariant_of-self c = record {
   rows = refilled _ _ _ (c.switch.auto.rows ∙ ap length c.as_mut_slice.ensures.value)
       (rw (c.switch.ensures, c.as_mut_slice.ensures.value) (switched_rows _ false c.args.sci c.args.an _ c.self.invariant.rows));
 }
+
+pub returns-clause-channels : goal.returns-clause-channels
+returns-clause-channels c = invariant_of-self c

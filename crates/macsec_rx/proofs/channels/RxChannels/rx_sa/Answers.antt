@@ -11,7 +11,7 @@ push-requires c =
     let free : rx_row c.self.inside.rows.items c.args.sci c.args.an ≡ None =
     ap (λ v. rx_row v.rows c.args.sci c.args.an) c.self.view_is ∙ sym c.row.ensures ∙ none_of c.row.result (sym c.is_some.ensures ∙ c.if-is_some.false) in
     let there : has_channel c.self.inside.scis.items c.args.sci ≡ true =
-    ap (λ v. has_channel v.scis c.args.sci) c.self.view_is ∙ sym c.if-not-has_channel.ensures in
+    ap (λ v. has_channel v.scis c.args.sci) c.self.view_is ∙ sym c.if-not-has_channel.ensures.there in
     let small : c.args.an < 4 = omega (arith, c.number-number.ensures.value, c.number-number.ensures.below) in
     let room = has_room c.self.inside.scis.items c.self.inside.rows.items c.args.sci c.args.an c.self.invariant.rows there small free in
     (lit< tt, omega (arith, room, c.self.invariant.count))
@@ -21,11 +21,14 @@ invariant_of-self c =
     let free : rx_row c.self.inside.rows.items c.args.sci c.args.an ≡ None =
     ap (λ v. rx_row v.rows c.args.sci c.args.an) c.self.view_is ∙ sym c.row.ensures ∙ none_of c.row.result (sym c.is_some.ensures ∙ c.if-is_some.false) in
     let there : has_channel c.self.inside.scis.items c.args.sci ≡ true =
-    ap (λ v. has_channel v.scis c.args.sci) c.self.view_is ∙ sym c.if-not-has_channel.ensures in
+    ap (λ v. has_channel v.scis c.args.sci) c.self.view_is ∙ sym c.if-not-has_channel.ensures.there in
     let small : c.args.an < 4 = omega (arith, c.number-number.ensures.value, c.number-number.ensures.below) in
     record {
       count = c.self.invariant.count;
       scis = c.self.invariant.scis;
       rows = rw c.push.ensures.items
-          (joined c.self.inside.scis.items c.self.inside.rows.items _ c.self.invariant.rows free (record { channel = there; an = small; next = search rules; lowest = search rules }));
+          (joined c.self.inside.scis.items c.self.inside.rows.items _ c.self.invariant.rows free (record { channel = there; an = small; key = omega (arith, c.ranges.key.fits); ssci = omega (arith, c.ranges.ssci.fits); next = search rules; lowest = search rules }));
     }
+
+pub returns-clause-channels : goal.returns-clause-channels
+returns-clause-channels c = invariant_of-self c

@@ -8,9 +8,12 @@ pub invariant_of-self : goal.invariant_of-self
 invariant_of-self c =
     let scis = c.self.inside.scis.items in
     let free : has_channel scis c.args.sci ≡ false =
-    ap (λ v. has_channel v.scis c.args.sci) c.self.view_is ∙ sym c.if-has_channel.ensures in
+    ap (λ v. has_channel v.scis c.args.sci) c.self.view_is ∙ sym c.if-has_channel.ensures.there in
     rw c.push.ensures.items (record {
       count = search rules;
-      scis = joined_scis scis c.args.sci c.self.invariant.scis free;
+      scis = joined_scis scis c.args.sci c.self.invariant.scis c.has_channel.ensures.sci free;
       rows = of_more scis _ (still_channel scis c.args.sci) _ c.self.invariant.rows;
     })
+
+pub returns-clause-channels : goal.returns-clause-channels
+returns-clause-channels c = invariant_of-self c

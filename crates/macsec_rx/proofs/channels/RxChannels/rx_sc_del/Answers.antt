@@ -28,3 +28,6 @@ invariant_of-self c =
 
 pub returns-clause-done : goal.returns-clause-done
 returns-clause-done c = rw (kept_channels c, kept_rows c) (ap (λ v. without_channel v c.args.sci) c.self.view_is)
+
+pub returns-clause-channels : goal.returns-clause-channels
+returns-clause-channels c = invariant_of-self c

@@ -12,3 +12,6 @@ invariant_of-self c = rw (rows_left c) (AreTxRows-filter _ _ c.self.invariant)
 
 pub returns-clause-done : goal.returns-clause-done
 returns-clause-done c = rows_left c ∙ ap (λ rows. without_tx rows c.args.an) c.self.view_is
+
+pub returns-clause-rows : goal.returns-clause-rows
+returns-clause-rows c = invariant_of-self c

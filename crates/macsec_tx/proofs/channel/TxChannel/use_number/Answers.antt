@@ -14,3 +14,6 @@ invariant_of-self c =
     let left = subst (λ rows. IfSome (tx_row rows c.args.an) (λ row. row.next < 2 ^ 64)) (sym c.self.view_is) c.requires in
     AreTxRows-refill rows c.use_number.new.rows (c.use_number.auto.rows ∙ ap length c.as_mut_slice.ensures.value)
     (rw (c.use_number.ensures, c.as_mut_slice.ensures.value) (AreTxRows-used_at c.args.an rows c.self.invariant left))
+
+pub returns-clause-rows : goal.returns-clause-rows
+returns-clause-rows c = invariant_of-self c

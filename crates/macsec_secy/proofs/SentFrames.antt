@@ -1,0 +1,89 @@
+-- What an endpoint answers to a client's frame, and what holds of the tables that it leaves.
+use Rattle.std.proofs.Common.{◌≡◌, ℕ, ◌+◌, Bool, true, false, List, length, refl, sym, ap, subst, ◌∙◌}
+use Rattle.std.specs.Prelude.{nat_lt, if◌then◌else◌, Option, Some, None}
+use Rattle.macsec_suite.specs.Suites.{last_of}
+use Rattle.macsec_suite.specs.KeyRows.{AreKeyRows, InstalledKey, the_key}
+use Rattle.macsec_tx.specs.declared.TxOptions.{TxOptions}
+use Rattle.macsec_tx.specs.declared.TxResult.{TxResult}
+use Rattle.macsec_tx.specs.declared.TxResult.TheVariants.{Plain, Made, NoSa, TooLong}
+use Rattle.macsec_tx.specs.declared.TxRow.{TxRow}
+use Rattle.macsec_tx.specs.Answers.{IfMade, ShowsLeaving}
+use Rattle.macsec_tx.specs.Rows.{AreTxRows}
+use Rattle.macsec_tx.specs.Transmit.{Leaving, plain, protected, no_sa, too_long, Sending, keys_after, not_protected, octets_added, row_on, rows_after, sending, sending_by, tag_sent}
+use Rattle.macsec_secy.specs.declared.FrameFault.{FrameFault}
+use Rattle.macsec_secy.specs.State.{State, tx_options}
+use Rattle.macsec_secy.specs.Step.{client_frame, frame_fault, leaves, sending_of, sent_output, state_after_sending, step, unless_fault}
+use Rattle.macsec_secy.specs.Sound.{IsSound}
+use Rattle.macsec_secy.proofs.StaysSound.{TablesHold, after_client_frame}
+
+-- the answer to a frame that leaves protected
+pub left_protected : (s : State) (frame : List ℕ) → frame_fault frame ≡ None → (options : TxOptions) → options ≡ tx_options s → (key : ℕ) (out : List ℕ) →
+    (sending options s.keys s.tx frame).leaving ≡ protected key out → leaves out (Some key) ≡ (step s (client_frame frame)).0
+left_protected s frame fits options same key out protects =
+    let leaving : (sending (tx_options s) s.keys s.tx frame).leaving ≡ protected key out = ap (λ o. (sending o s.keys s.tx frame).leaving) (sym same) ∙ protects in
+    rw (fits, leaving) refl
+
+-- ---- no association protects what leaves as it is, or does not leave
+
+abbrev IsProtected : Leaving → Type 0
+IsProtected plain = ⊥
+IsProtected (protected key frame) = Unit {0}
+IsProtected no_sa = ⊥
+IsProtected too_long = ⊥
+
+abbrev NeedsNone : Sending → Type 0
+NeedsNone sent = (IsProtected sent.leaving → ⊥) → sent.by ≡ None
+
+unless : (b : Bool) (leaving : Leaving) (sent : Sending) → NeedsNone sent → NeedsNone (if b then not_protected leaving else sent)
+unless true leaving sent needs = λ h. refl
+unless false leaving sent needs = needs
+
+by_one : (options : TxOptions) (keys : List InstalledKey) (frame : List ℕ) (on : Option TxRow) → NeedsNone (sending_by options keys frame on)
+by_one options keys frame None = λ h. refl
+by_one options keys frame (Some row) =
+    unless (nat_lt (last_of (the_key keys row.key).suite) row.next) no_sa _
+    (unless (nat_lt options.max_frame (length frame + octets_added (tag_sent options row frame))) too_long _ (λ h. absurd (h tt)))
+
+by_none : (options : TxOptions) (keys : List InstalledKey) (rows : List TxRow) (frame : List ℕ) → NeedsNone (sending options keys rows frame)
+by_none options keys rows frame = by_test options.protect
+  where
+    by_test : (b : Bool) → NeedsNone (if b then sending_by options keys frame (row_on rows) else not_protected (if nat_lt options.max_frame (length frame) then too_long else plain))
+    by_test true = by_one options keys frame (row_on rows)
+    by_test false = λ h. refl
+
+-- ---- the tables
+
+-- what holds of the tables after a frame, protected or not
+record TablesAfter (s : State) (by : Option TxRow) : Type 0 where
+  keys : AreKeyRows (keys_after s.keys by)
+  tx : AreTxRows (rows_after s.tx by)
+
+as_before : (s : State) (sent : Sending) → NeedsNone sent → IsSound s → (leaving : Leaving) → sent.leaving ≡ leaving → (IsProtected leaving → ⊥) → TablesAfter s sent.by
+as_before s sent needs sound leaving same unprotected =
+    let none : sent.by ≡ None = needs (subst (λ l. IsProtected l → ⊥) (sym same) unprotected) in
+    subst (TablesAfter s) (sym none) (record { keys = sound.keys; tx = sound.tx })
+
+by_result : (s : State) (sent : Sending) → NeedsNone sent → IsSound s → (result : TxResult) (out : List ℕ) → ShowsLeaving result out sent.leaving →
+    IfMade result (AreTxRows (rows_after s.tx sent.by)) → IfMade result (AreKeyRows (keys_after s.keys sent.by)) → TablesAfter s sent.by
+by_result s sent needs sound Plain out shows tx keys = as_before s sent needs sound plain shows (λ h. h)
+by_result s sent needs sound (Made len key) out shows tx keys = record { keys = keys; tx = tx }
+by_result s sent needs sound NoSa out shows tx keys = as_before s sent needs sound no_sa shows (λ h. h)
+by_result s sent needs sound TooLong out shows tx keys = as_before s sent needs sound too_long shows (λ h. h)
+
+tables_after : (s : State) (frame : List ℕ) → IsSound s → TablesAfter s (sending_of s frame).by → TablesHold (step s (client_frame frame)).1
+tables_after s frame sound hold = by_fault (frame_fault frame)
+  where
+    by_fault : (fault : Option FrameFault) → TablesHold (unless_fault fault s (sent_output frame (sending_of s frame).leaving, state_after_sending s frame (sending_of s frame))).1
+    by_fault None = record { keys = hold.keys; tx = hold.tx; rx = sound.rx }
+    by_fault (Some f) = record { keys = sound.keys; tx = sound.tx; rx = sound.rx }
+
+-- the machine's state after a frame of which the transmit channel makes this
+pub sound_after : (before now : State) (frame : List ℕ) → before ≡ now → IsSound before → (options : TxOptions) → options ≡ tx_options before →
+    (result : TxResult) (out : List ℕ) (rows : List TxRow) (keys : List InstalledKey) → ShowsLeaving result out (sending options before.keys before.tx frame).leaving →
+    rows ≡ rows_after before.tx (sending options before.keys before.tx frame).by → keys ≡ keys_after before.keys (sending options before.keys before.tx frame).by →
+    IfMade result (AreTxRows rows) → IfMade result (AreKeyRows keys) → IsSound (step now (client_frame frame)).1
+sound_after before now frame same sound options o result out rows keys shows r k are_rows are_keys =
+    let hold = by_result before (sending options before.keys before.tx frame) (by_none options before.keys before.tx frame) sound result out shows
+    (subst (λ x. IfMade result (AreTxRows x)) r are_rows) (subst (λ x. IfMade result (AreKeyRows x)) k are_keys) in
+    subst (λ s. IsSound (step s (client_frame frame)).1) same
+    (after_client_frame before frame (tables_after before frame sound (subst (λ p. TablesAfter before (sending p before.keys before.tx frame).by) o hold)) sound)

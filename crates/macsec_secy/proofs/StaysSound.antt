@@ -1,0 +1,190 @@
+-- An endpoint stays sound, whatever comes in, where its tables keep what holds of their rows.
+use Rattle.std.proofs.Common.{◌≡◌, ℕ, ◌≤◌, true, false, List, [], ◌∷◌, ◌++◌, map, filter, refl, ap, sym, subst, ◌∙◌, arith}
+use Rattle.std.specs.Prelude.{◌==◌, not, Option, Some, None, IsSome, Result, Ok, Err, OnOk, OnErr}
+use Rattle.std.specs.List.{All}
+use Rattle.std.proofs.lemmas.Bool.{ltb-false}
+use Rattle.std.proofs.lemmas.List.{map-append}
+use Rattle.std.proofs.lemmas.List.Elements.{All-append, All-cons, All-filter, All-map, All-nil, All-weaker}
+use Rattle.macsec_tag.specs.Table.{reading}
+use Rattle.macsec_suite.specs.declared.Refusal.{Refusal}
+use Rattle.macsec_suite.specs.declared.Suite.{Suite}
+use Rattle.macsec_suite.specs.Suites.{widest_window}
+use Rattle.macsec_suite.specs.KeyRows.{AreKeyRows, InstalledKey, at_number, key_row, new_row, retired_row, row_noting}
+use Rattle.macsec_suite.specs.Refusals.{refusal_of}
+use Rattle.macsec_tx.specs.Transmit.{Sending, keys_after}
+use Rattle.macsec_tx.specs.declared.TxRow.{TxRow}
+use Rattle.macsec_tx.specs.Rows.{AreTxRows}
+use Rattle.macsec_rx.specs.declared.RxRow.{RxRow}
+use Rattle.macsec_rx.specs.Channels.{Channels, same_sci}
+use Rattle.macsec_rx.specs.Judge.{Judgement}
+use Rattle.macsec_rx.specs.Rows.{AreChannels, IsSci}
+use Rattle.macsec_secy.specs.declared.ChannelCounters.{ChannelCounters}
+use Rattle.macsec_secy.specs.declared.EndConfig.{EndConfig}
+use Rattle.macsec_secy.specs.declared.Command.{Command}
+use Rattle.macsec_secy.specs.declared.Command.TheVariants.{Protect, Validate, Replay, Tag, Key, Retire, TxSa, TxOn, TxOff, TxDel, RxSc, RxScDel, RxSa, RxOn, RxOff, RxLow, RxDel}
+use Rattle.macsec_secy.specs.State.{State, no_rx_counters, start}
+use Rattle.macsec_secy.specs.Configs.{config_fault}
+use Rattle.macsec_secy.specs.Commands.{effect, refusal, refusals}
+use Rattle.macsec_secy.specs.declared.FrameFault.{FrameFault}
+use Rattle.macsec_secy.specs.Reception.{judgement_of, state_after_receiving}
+use Rattle.macsec_secy.specs.Step.{Output, client_frame, link_frame, frame_fault, received_output, sending_of, sent_output, state_after_sending, step, unless_fault}
+use Rattle.macsec_secy.specs.Sound.{AreRxCounters, IsSound, sci_of_counters}
+use Rattle.macsec_secy.proofs.Limits.{good_limit}
+use Rattle.macsec_secy.proofs.AfterCommands.{none_hold}
+use Rattle.macsec_secy.proofs.KeysKept as tx
+use Rattle.macsec_secy.proofs.RxKeysKept as rx
+use Rattle.macsec_secy.proofs.ChannelsCounted.{after_judging, without_counters}
+use Rattle.macsec_secy.proofs.CountersKept.{after_judgement, after_leaving, after_protected, after_reading, no_rx_counted, no_tx_counted, none_counted}
+
+-- what holds of the rows of an endpoint's tables
+pub record TablesHold (s : State) : Type 0 where
+  pub keys : AreKeyRows s.keys
+  pub tx : AreTxRows s.tx
+  pub rx : AreChannels s.rx
+
+-- ---- at the start
+
+pub at_start : (config : EndConfig) → config_fault config ≡ None → IsSci config.sci → TablesHold (start config) → IsSound (start config)
+at_start config good own tables =
+    let limit = good_limit config good in
+    let within : 0 ≤ widest_window config.suite = omega arith in
+    assumption (
+      limit.0,
+      limit.1,
+      own,
+      within,
+      All-nil (λ (key : InstalledKey). key.suite ≡ config.suite),
+      All-nil (λ (row : RxRow). IsSome (key_row [] row.key)),
+      none_counted,
+      no_tx_counted,
+      All-nil (λ (row : ChannelCounters). AreRxCounters row.counters),
+    )
+
+-- ---- the keys have one suite
+
+abbrev OfSuite : Suite → List InstalledKey → Type 0
+OfSuite suite keys = All (λ key. key.suite ≡ suite) keys
+
+-- a change of the key of one number that keeps its suite
+one_changed : (suite : Suite) (change : InstalledKey → InstalledKey) → ((key : InstalledKey) → (change key).suite ≡ key.suite) → (number : ℕ) (keys : List InstalledKey) →
+    OfSuite suite keys → OfSuite suite (map (at_number change number) keys)
+one_changed suite change same number keys of =
+    All-map (λ (key : InstalledKey). key.suite ≡ suite) (at_number change number) keys
+    (All-weaker (λ key. key.suite ≡ suite) (λ key. (at_number change number key).suite ≡ suite)
+    (λ key e. tx.field_kept (λ (k : InstalledKey). k.suite) change same (key.number == number) key ∙ e) keys of)
+
+-- ---- commands
+
+pub after_effect : (s : State) (c : Command) → refusal s c ≡ None → TablesHold (effect s c) → IsSound s → IsSound (effect s c)
+after_effect s (Protect on) e tables sound = assumption
+after_effect s (Validate mode) e tables sound = assumption
+after_effect s (Replay protect window) e tables sound =
+    let none = none_hold (refusals s (Replay protect window)) e in
+    let within : window ≤ widest_window s.config.suite = ltb-false (widest_window s.config.suite) window none.0 in
+    assumption (within, rx.with_all_narrowed s.keys s.rx window sound.rx_keys)
+after_effect s (Tag form) e tables sound = assumption
+after_effect s (Key key) e tables sound =
+    let new = new_row s.config.suite key in
+    assumption (
+      All-append (λ k. k.suite ≡ s.config.suite) s.keys (new ∷ []) sound.suite (All-cons (λ k. k.suite ≡ s.config.suite) new [] refl (All-nil (λ k. k.suite ≡ s.config.suite))),
+      tx.with_another_key s.keys s.tx new sound.tx_keys,
+      rx.with_another_key s.keys s.rx.rows new sound.rx_keys,
+    )
+after_effect s (Retire key) e tables sound =
+    assumption (
+      one_changed s.config.suite retired_row (λ k. refl) key s.keys sound.suite,
+      tx.with_a_key_retired s.keys s.tx key sound.tx_keys,
+      rx.with_a_key_retired s.keys s.rx.rows key sound.rx_keys,
+    )
+after_effect s (TxSa an key next conf) e tables sound = assumption (tx.with_one_more s.keys s.tx an key next conf e sound.tx_keys)
+after_effect s (TxOn an) e tables sound = assumption (tx.with_one_on s.keys s.tx an sound.tx_keys)
+after_effect s (TxOff an) e tables sound = assumption (tx.with_one_off s.keys s.tx an sound.tx_keys)
+after_effect s (TxDel an) e tables sound = assumption (tx.without_one s.keys s.tx an sound.tx_keys)
+after_effect s (RxSc sci) e tables sound =
+    let new : ChannelCounters = record { sci = sci; counters = no_rx_counters } in
+    assumption (
+      map-append sci_of_counters s.rx_counters (new ∷ []) ∙ ap (λ scis. scis ++ sci ∷ []) sound.channels,
+      All-append (λ row. AreRxCounters row.counters) s.rx_counters (new ∷ []) sound.rx_counters
+          (All-cons (λ row. AreRxCounters row.counters) new [] no_rx_counted (All-nil (λ row. AreRxCounters row.counters))),
+    )
+after_effect s (RxScDel sci) e tables sound =
+    assumption (
+      rx.without_channel_of s.keys s.rx sci sound.rx_keys,
+      without_counters sci s.rx_counters ∙ ap (filter (λ t. not (same_sci t sci))) sound.channels,
+      All-filter (λ row. not (same_sci row.sci sci)) (λ row. AreRxCounters row.counters) s.rx_counters sound.rx_counters,
+    )
+after_effect s (RxSa sci an key ssci lowest) e tables sound = assumption (rx.with_one_more s.keys s.rx sci an key ssci lowest e sound.rx_keys)
+after_effect s (RxOn sci an) e tables sound = assumption (rx.with_one_switched s.keys s.rx sci an true sound.rx_keys)
+after_effect s (RxOff sci an) e tables sound = assumption (rx.with_one_switched s.keys s.rx sci an false sound.rx_keys)
+after_effect s (RxLow sci an pn) e tables sound = assumption (rx.with_one_raised s.keys s.rx sci an pn sound.rx_keys)
+after_effect s (RxDel sci an) e tables sound = assumption (rx.without_one s.keys s.rx sci an sound.rx_keys)
+
+-- a command that a table carries out, or refuses and is as it was
+by_table : {S : Type 0} (s : State) (c : Command) (put : S → State) (old new after : S) (answer : Result (Unit {0}) Refusal) → refusal_of answer ≡ refusal s c →
+    OnOk answer (new ≡ after) → OnErr answer (new ≡ old) → put old ≡ s → put after ≡ effect s c → (refusal_of answer ≡ None → TablesHold (put new)) → IsSound s → IsSound (put new)
+by_table s c put old new after (Ok done) refuses ok err before behind tables sound =
+    let same : put new ≡ effect s c = ap put ok ∙ behind in
+    subst IsSound (sym same) (after_effect s c (sym refuses) (subst TablesHold same (tables refl)) sound)
+by_table s c put old new after (Err refusal) refuses ok err before behind tables sound = subst IsSound (sym (ap put err ∙ before)) sound
+
+where_done : {A : Type 0} (answer : Result (Unit {0}) Refusal) → OnOk answer A → refusal_of answer ≡ None → A
+where_done (Ok done) holds e = holds
+where_done (Err refusal) holds e = cc
+
+pub by_keys : (s : State) (c : Command) (keys after : List InstalledKey) (answer : Result (Unit {0}) Refusal) → refusal_of answer ≡ refusal s c →
+    OnOk answer (keys ≡ after) → OnErr answer (keys ≡ s.keys) → record s { keys = after } ≡ effect s c → OnOk answer (AreKeyRows keys) → IsSound s → IsSound (record s { keys = keys })
+by_keys s c keys after answer refuses ok err behind are sound =
+    by_table s c (λ k. record s { keys = k }) s.keys keys after answer refuses ok err refl behind
+    (λ e. record { keys = where_done answer are e; tx = sound.tx; rx = sound.rx }) sound
+
+pub by_tx : (s : State) (c : Command) (rows after : List TxRow) (answer : Result (Unit {0}) Refusal) → refusal_of answer ≡ refusal s c →
+    OnOk answer (rows ≡ after) → OnErr answer (rows ≡ s.tx) → record s { tx = after } ≡ effect s c → OnOk answer (AreTxRows rows) → IsSound s → IsSound (record s { tx = rows })
+by_tx s c rows after answer refuses ok err behind are sound =
+    by_table s c (λ r. record s { tx = r }) s.tx rows after answer refuses ok err refl behind
+    (λ e. record { keys = sound.keys; tx = where_done answer are e; rx = sound.rx }) sound
+
+pub by_rx : (s : State) (c : Command) (channels after : Channels) (answer : Result (Unit {0}) Refusal) → refusal_of answer ≡ refusal s c →
+    OnOk answer (channels ≡ after) → OnErr answer (channels ≡ s.rx) → record s { rx = after } ≡ effect s c → AreChannels channels → IsSound s → IsSound (record s { rx = channels })
+by_rx s c channels after answer refuses ok err behind are sound =
+    by_table s c (λ r. record s { rx = r }) s.rx channels after answer refuses ok err refl behind (λ e. record { keys = sound.keys; tx = sound.tx; rx = are }) sound
+
+-- ---- frames
+
+suite_after : (suite : Suite) (keys : List InstalledKey) (by : Option TxRow) → OfSuite suite keys → OfSuite suite (keys_after keys by)
+suite_after suite keys None of = of
+suite_after suite keys (Some row) of = one_changed suite (row_noting row.next) (λ k. refl) row.key keys of
+
+after_sending : (s : State) (frame : List ℕ) (sent : Sending) → TablesHold (state_after_sending s frame sent) → IsSound s → IsSound (state_after_sending s frame sent)
+after_sending s frame sent tables sound =
+    assumption (
+      suite_after s.config.suite s.keys sent.by sound.suite,
+      tx.after_sending s.keys s.tx sent.by sound.tx_keys,
+      rx.after_sending s.keys s.rx.rows sent.by sound.rx_keys,
+      after_leaving sent.leaving s.counters sound.counters,
+      after_protected sent.by frame s.tx_counters sound.tx_counters,
+    )
+
+after_receiving : (s : State) (frame : List ℕ) (j : Judgement) → TablesHold (state_after_receiving s frame j) → IsSound s → IsSound (state_after_receiving s frame j)
+after_receiving s frame j tables sound =
+    assumption (
+      rx.after_receiving s.keys s.options.window j s.rx.rows sound.rx_keys,
+      after_judging j s.rx_counters ∙ sound.channels,
+      after_reading j (reading frame) s.counters sound.counters,
+      after_judgement j s.rx_counters sound.rx_counters,
+    )
+
+-- a frame that is taken or not
+frame_keeps : (s after : State) (output : Output) → (TablesHold after → IsSound after) → (fault : Option FrameFault) →
+    TablesHold (unless_fault fault s (output, after)).1 → IsSound s → IsSound (unless_fault fault s (output, after)).1
+frame_keeps s after output keeps None tables sound = keeps tables
+frame_keeps s after output keeps (Some fault) tables sound = sound
+
+pub after_client_frame : (s : State) (frame : List ℕ) → TablesHold (step s (client_frame frame)).1 → IsSound s → IsSound (step s (client_frame frame)).1
+after_client_frame s frame tables sound =
+    frame_keeps s (state_after_sending s frame (sending_of s frame)) (sent_output frame (sending_of s frame).leaving)
+    (λ hold. after_sending s frame (sending_of s frame) hold sound) (frame_fault frame) tables sound
+
+pub after_link_frame : (s : State) (frame : List ℕ) → TablesHold (step s (link_frame frame)).1 → IsSound s → IsSound (step s (link_frame frame)).1
+after_link_frame s frame tables sound =
+    frame_keeps s (state_after_receiving s frame (judgement_of s frame)) (received_output frame (judgement_of s frame))
+    (λ hold. after_receiving s frame (judgement_of s frame) hold sound) (frame_fault frame) tables sound

@@ -1,0 +1,112 @@
+-- A counter that is raised raises the sum of the counters of received packets, and each other change keeps
+-- it.
+use Rattle.std.proofs.Common.{◌≡◌, ℕ, ◌+◌, ◌*◌, ◌/◌, ◌%◌, ◌^◌, Bool, true, false, List, [], ◌∷◌, map, refl, sym, ap, ◌∙◌, arith}
+use Rattle.std.specs.Prelude.{if◌then◌else◌, ◌||◌}
+use Rattle.std.specs.List.{sum_by}
+use Rattle.std.specs.Cmp.Lexicographic.{same_text}
+use Rattle.std.proofs.Math.Nat.{add-mul-mod_self_left, add-mod-mod, mod-add-div, mod-add-mod}
+use Rattle.std.proofs.lemmas.List.Sums.{sum_by-cons}
+use Rattle.macsec_tag.specs.declared.Sci.{Sci}
+use Rattle.macsec_rx.specs.declared.Verdict.{Verdict}
+use Rattle.macsec_rx.specs.declared.Verdict.TheVariants.{Late, NotValid, Unchecked, Delayed, Invalid, Passed}
+use Rattle.macsec_rx.specs.Channels.{same_sci}
+use Rattle.macsec_rx.specs.Commands.{has_channel}
+use Rattle.macsec_rx.specs.Rows.{AreScis}
+use Rattle.macsec_secy.specs.declared.RxCounters.{RxCounters}
+use Rattle.macsec_secy.specs.declared.ChannelCounters.{ChannelCounters}
+use Rattle.macsec_secy.specs.Counting.{plus, count_at, count_in_channel}
+use Rattle.macsec_secy.specs.Sums.{channel_packets_of}
+use Rattle.macsec_secy.specs.Sound.{sci_of_counters}
+
+either_false : (a b : Bool) → (a || b) ≡ false → (a ≡ false) × (b ≡ false)
+either_false true b h = cc
+either_false false b h = (refl, h)
+
+-- SCIs that are told as the same are the same
+one_sci : (s t : Sci) → same_sci s t ≡ true → s ≡ t
+one_sci s t same = ap {B = Sci} (λ octets. record { 0 = octets }) (same_text s.0 t.0 (sym same))
+
+-- one more, modulo 2^64
+abbrev pub IsOneMore : ℕ → ℕ → Type 0
+IsOneMore new old = new % 2 ^ 64 ≡ plus (old % 2 ^ 64) 1
+
+-- a sum is one more where one part of it is raised by one
+pub raised : (old new part : ℕ) → new + part ≡ old + plus part 1 → IsOneMore new old
+raised old new part e =
+    let q = (part + 1) / 2 ^ 64 in
+    let all = mod-add-div (part + 1) (2 ^ 64) in
+    let more : new + 2 ^ 64 * q ≡ old + 1 = omega (arith, e, all) in
+    sym (add-mul-mod_self_left new (2 ^ 64) q) ∙ ap (λ n. n % 2 ^ 64) more ∙ sym (mod-add-mod old (2 ^ 64) 1)
+
+-- and where one part of it is one more
+pub with_part : (other new old : ℕ) → IsOneMore new old → IsOneMore (other + new) (other + old)
+with_part other new old one =
+    let more : other + (old + 1) ≡ other + old + 1 = omega arith in
+    sym (add-mod-mod other new (2 ^ 64)) ∙ ap (λ n. (other + n) % 2 ^ 64) (one ∙ mod-add-mod old (2 ^ 64) 1) ∙ add-mod-mod other (old + 1) (2 ^ 64)
+    ∙ ap (λ n. n % 2 ^ 64) more ∙ sym (mod-add-mod (other + old) (2 ^ 64) 1)
+
+pub with_rest : (new old rest : ℕ) → IsOneMore new old → IsOneMore (new + rest) (old + rest)
+with_rest new old rest one =
+    let left : new + rest ≡ rest + new = omega arith in
+    let right : old + rest ≡ rest + old = omega arith in
+    rw (left, right) (with_part rest new old one)
+
+-- the same
+pub not_raised : (n : ℕ) → n % 2 ^ 64 ≡ plus (n % 2 ^ 64) 0
+not_raised n = omega arith
+
+-- ---- channels
+
+-- a verdict raises the sum of its channel
+abbrev pub RaisesOne : Verdict → Type 0
+RaisesOne verdict = (c : RxCounters) → IsOneMore (channel_packets_of (count_in_channel verdict c)) (channel_packets_of c)
+
+pub late_raises : RaisesOne Late
+late_raises c = raised _ _ c.in_pkts_late (omega arith)
+
+pub not_valid_raises : RaisesOne NotValid
+not_valid_raises c = raised _ _ c.in_pkts_not_valid (omega arith)
+
+pub unchecked_raises : RaisesOne Unchecked
+unchecked_raises c = raised _ _ c.in_pkts_unchecked (omega arith)
+
+pub delayed_raises : RaisesOne Delayed
+delayed_raises c = raised _ _ c.in_pkts_delayed (omega arith)
+
+pub invalid_raises : RaisesOne Invalid
+invalid_raises c = raised _ _ c.in_pkts_invalid (omega arith)
+
+pub passed_raises : RaisesOne Passed
+passed_raises c = raised _ _ c.in_pkts_ok (omega arith)
+
+-- the sum over the channels
+abbrev pub channels_packets : List ChannelCounters → ℕ
+channels_packets rows = sum_by (λ row. channel_packets_of row.counters) rows
+
+-- where no channel has the SCI nothing is counted
+none_counted : (verdict : Verdict) (sci : Sci) (rows : List ChannelCounters) → has_channel (map sci_of_counters rows) sci ≡ false → map (count_at verdict sci) rows ≡ rows
+none_counted verdict sci [] none = refl
+none_counted verdict sci (row ∷ rows) none =
+    let parts = either_false (same_sci row.sci sci) (has_channel (map sci_of_counters rows) sci) none in
+    ap (λ b. (if b then record row { counters = count_in_channel verdict row.counters } else row) ∷ map (count_at verdict sci) rows) parts.0
+    ∙ ap (λ rs. row ∷ rs) (none_counted verdict sci rows parts.1)
+
+-- where one channel has it, it alone counts the frame
+pub counted_once : (verdict : Verdict) → RaisesOne verdict → (sci : Sci) (rows : List ChannelCounters) → AreScis (map sci_of_counters rows) →
+    has_channel (map sci_of_counters rows) sci ≡ true → IsOneMore (channels_packets (map (count_at verdict sci) rows)) (channels_packets rows)
+counted_once verdict raises sci [] distinct there = cc
+counted_once verdict raises sci (row ∷ rows) distinct there =
+    rw (sum_by-cons counted (count_at verdict sci row) (map (count_at verdict sci) rows), sum_by-cons counted row rows)
+    (by_test (same_sci row.sci sci) refl (counted_once verdict raises sci rows distinct.2) there)
+  where
+    counted : ChannelCounters → ℕ
+    counted r = channel_packets_of r.counters
+
+    by_test : (b : Bool) → same_sci row.sci sci ≡ b → (has_channel (map sci_of_counters rows) sci ≡ true → IsOneMore (channels_packets (map (count_at verdict sci) rows)) (channels_packets rows)) →
+        (b || has_channel (map sci_of_counters rows) sci) ≡ true →
+        IsOneMore (channel_packets_of (if b then record row { counters = count_in_channel verdict row.counters } else row).counters + channels_packets (map (count_at verdict sci) rows))
+        (channel_packets_of row.counters + channels_packets rows)
+    by_test true same later there' =
+        let none : has_channel (map sci_of_counters rows) sci ≡ false = ap (has_channel (map sci_of_counters rows)) (sym (one_sci row.sci sci same)) ∙ distinct.1 in
+        rw (none_counted verdict sci rows none) (with_rest _ (channel_packets_of row.counters) (channels_packets rows) (raises row.counters))
+    by_test false other later there' = with_part (channel_packets_of row.counters) _ _ (later there')

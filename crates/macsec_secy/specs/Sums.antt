@@ -1,0 +1,42 @@
+-- The sum law of a received frame's counters (IEEE 802.1AE, 10.7): each received frame raises the sum of
+-- the counters of received packets, of the endpoint and of all channels, modulo 2^64, by one. Nothing
+-- else changes it but the removal of a channel.
+use Rattle.std.specs.Prelude.{◌≡◌, ◌+◌, ◌%◌, ◌^◌, ℕ, Bool, false, if◌then◌else◌, is_some, not}
+use Rattle.std.specs.List.{sum_by}
+use Rattle.macsec_secy.specs.declared.Counters.{Counters}
+use Rattle.macsec_secy.specs.declared.RxCounters.{RxCounters}
+use Rattle.macsec_secy.specs.declared.Command.TheVariants.{RxScDel}
+use Rattle.macsec_secy.specs.State.{State}
+use Rattle.macsec_secy.specs.Counting.{plus}
+use Rattle.macsec_secy.specs.Commands.{refusal}
+use Rattle.macsec_secy.specs.Step.{Input, operator_command, client_frame, uncontrolled_frame, link_frame, frame_fault, step}
+
+-- the received packets that the endpoint counts
+abbrev pub packets_of : Counters → ℕ
+packets_of c =
+    c.in_pkts_untagged + c.in_pkts_no_tag + c.in_pkts_bad_tag + c.in_pkts_reserved + c.in_pkts_no_sa + c.in_pkts_no_sa_error
+
+-- and those that a channel counts
+abbrev pub channel_packets_of : RxCounters → ℕ
+channel_packets_of c =
+    c.in_pkts_ok + c.in_pkts_unchecked + c.in_pkts_delayed + c.in_pkts_late + c.in_pkts_invalid + c.in_pkts_not_valid
+
+-- the sum
+abbrev pub frames_counted : State → ℕ
+frames_counted s = (packets_of s.counters + sum_by (λ row. channel_packets_of row.counters) s.rx_counters) % 2 ^ 64
+
+-- by how much an input raises it: a received frame of 14 to 9,248 octets by one
+abbrev pub frames_added : Input → ℕ
+frames_added (operator_command c) = 0
+frames_added (client_frame frame) = 0
+frames_added (uncontrolled_frame frame) = 0
+frames_added (link_frame frame) = if is_some (frame_fault frame) then 0 else 1
+
+-- the input is a command that removes a channel, and it is not refused
+abbrev pub removes_channel : State → Input → Bool
+removes_channel s (operator_command (RxScDel sci)) = not (is_some (refusal s (RxScDel sci)))
+removes_channel s input = false
+
+-- an input raises the sum by that much, unless it removes a channel
+abbrev pub AddsFrames : State → Input → Type 0
+AddsFrames s input = removes_channel s input ≡ false → frames_counted (step s input).1 ≡ plus (frames_counted s) (frames_added input)
