@@ -6,7 +6,7 @@ use Rattle.macsec_aes.specs.declared.Key.TheVariants.{K128, K256}
 use Rattle.macsec_tx.specs.declared.TagForm.TheVariants as form
 use Rattle.macsec_secy.specs.declared.Command.TheVariants as by
 use Rattle.macsec_rx.specs.declared.Mode.TheVariants.{Check}
-use Rattle.macsec_suite.specs.declared.Suite.TheVariants.{Gcm128, Gcm256}
+use Rattle.macsec_suite.specs.declared.Suite.TheVariants.{Gcm128, Gcm256, Xpn128, Xpn256}
 use Rattle.macsec_cli.specs.declared.lines.End.TheVariants.{A, B}
 use Rattle.macsec_cli.specs.declared.lines.Line.TheVariants as line
 use Rattle.macsec_cli.specs.declared.lines.LineFault.TheVariants.{Word, Count, Hex, Number, LineLong}
@@ -40,6 +40,9 @@ tag_form : line_of (codes "end A gcm128 12153524c0895e81 1518 none") ≡ Err Wor
 unfolding hex_on_literals
 tag_form = refl
 
+other_suite : line_of (codes "end A xpn192 12153524c0895e81 1518 sci") ≡ Err Word
+other_suite = refl
+
 protection : line_of (codes "A txsa 2 0 b2c28465 none") ≡ Err Word
 protection = refl
 
@@ -63,6 +66,13 @@ too_many = refl
 no_window : line_of (codes "A replay off") ≡ Err Count
 no_window = refl
 
+-- an SSCI without a salt; the words are counted before any of them is read
+no_salt : line_of (codes "A key 256 ad7a2bd03eac835a6f620fdcb506b345 0 00000001") ≡ Err Count
+no_salt = refl
+
+six_words : line_of (codes "A key 0 ad7a2bd03eac835a6f620fdcb506b345 0 00000001 12153525c0895e8000000000 0") ≡ Err Count
+six_words = refl
+
 -- ---- words that are not hex
 
 odd : line_of (codes "A send 0") ≡ Err Hex
@@ -81,6 +91,18 @@ short_key : line_of (codes "A key 0 ad7a 0") ≡ Err Hex
 unfolding hex_on_literals
 short_key = refl
 
+short_ssci : line_of (codes "A key 0 ad7a2bd03eac835a6f620fdcb506b345 0 000001 12153525c0895e8000000000") ≡ Err Hex
+unfolding hex_on_literals
+short_ssci = refl
+
+long_salt : line_of (codes "A key 0 ad7a2bd03eac835a6f620fdcb506b345 0 00000001 12153525c0895e800000000000") ≡ Err Hex
+unfolding hex_on_literals
+long_salt = refl
+
+salt_without_digits : line_of (codes "A key 0 ad7a2bd03eac835a6f620fdcb506b345 0 00000001 12153525c0895e800000000g") ≡ Err Hex
+unfolding hex_on_literals
+salt_without_digits = refl
+
 seventeen_digits : line_of (codes "A txsa 0 0 00000000000000001 int") ≡ Err Hex
 seventeen_digits = refl
 
@@ -95,6 +117,11 @@ an_4 = refl
 offset_256 : line_of (codes "A key 0 ad7a2bd03eac835a6f620fdcb506b345 256") ≡ Err Number
 unfolding hex_on_literals
 offset_256 = refl
+
+-- the words from left to right
+offset_before_ssci : line_of (codes "A key 0 ad7a2bd03eac835a6f620fdcb506b345 256 000001 00") ≡ Err Number
+unfolding hex_on_literals
+offset_before_ssci = refl
 
 small_frames : line_of (codes "end A gcm128 12153524c0895e81 63 sci") ≡ Err Number
 unfolding hex_on_literals
@@ -137,6 +164,26 @@ end_b : line_of (codes "end B gcm256 0000000000000001 64 es") ≡
 unfolding hex_on_literals
 end_b = refl
 
+end_of_xpn128 : line_of (codes "end A xpn128 12153524c0895e81 1518 sci") ≡
+    Ok (Some (line.End A (record {
+      suite = Xpn128;
+      sci = record { 0 = 18 ∷ 21 ∷ 53 ∷ 36 ∷ 192 ∷ 137 ∷ 94 ∷ 129 ∷ [] };
+      max_frame = 1518;
+      form = form.Sci;
+    })))
+unfolding hex_on_literals
+end_of_xpn128 = refl
+
+end_of_xpn256 : line_of (codes "end B xpn256 0000000000000002 64 auto") ≡
+    Ok (Some (line.End B (record {
+      suite = Xpn256;
+      sci = record { 0 = 0 ∷ 0 ∷ 0 ∷ 0 ∷ 0 ∷ 0 ∷ 0 ∷ 2 ∷ [] };
+      max_frame = 64;
+      form = form.Auto;
+    })))
+unfolding hex_on_literals
+end_of_xpn256 = refl
+
 key : line_of (codes "A key 7 000102030405060708090A0B0C0D0E0F 0") ≡
     Ok (Some (line.Command (by.Key (record {
       number = 7;
@@ -170,11 +217,26 @@ offset_30 : line_of (codes "A key 7 000102030405060708090a0b0c0d0e0f 30") ≡
 unfolding hex_on_literals
 offset_30 = refl
 
+-- an SSCI has its most significant octet first
+ssci_and_salt : line_of (codes "A key 7 000102030405060708090a0b0c0d0e0f 0 0a0B0c0D 12153525c0895e8000000000") ≡
+    Ok (Some (line.Command (by.Key (record {
+      number = 7;
+      bytes = K128 (0 ∷ 1 ∷ 2 ∷ 3 ∷ 4 ∷ 5 ∷ 6 ∷ 7 ∷ 8 ∷ 9 ∷ 10 ∷ 11 ∷ 12 ∷ 13 ∷ 14 ∷ 15 ∷ []);
+      salt = 18 ∷ 21 ∷ 53 ∷ 37 ∷ 192 ∷ 137 ∷ 94 ∷ 128 ∷ 0 ∷ 0 ∷ 0 ∷ 0 ∷ [];
+      ssci = 168496141;
+      offset = 0;
+    }))))
+unfolding hex_on_literals
+ssci_and_salt = refl
+
 tx_sa : line_of (codes "A  txsa\t2 00 b2C28465 int\r") ≡ Ok (Some (line.Command (by.TxSa 2 0 2999092325 false)))
 tx_sa = refl
 
 encrypts : line_of (codes "A txsa 2 0 b2c28465 conf") ≡ Ok (Some (line.Command (by.TxSa 2 0 2999092325 true)))
 encrypts = refl
+
+extended_number : line_of (codes "A txsa 2 0 1b2c28465 conf") ≡ Ok (Some (line.Command (by.TxSa 2 0 7294059621 true)))
+extended_number = refl
 
 tx_on : line_of (codes "A txon 02") ≡ Ok (Some (line.Command (by.TxOn 2)))
 tx_on = refl
@@ -225,6 +287,10 @@ few_words_for_a_key : printed_text (codes "end A gcm128 12153524c0895e81 1518 sc
 unfolding hex_on_literals
 few_words_for_a_key = refl
 
+ssci_without_salt : printed_text (both_ends ++ codes "A key 0 ad7a2bd03eac835a6f620fdcb506b345 0 00000001\n") ≡ Err (script.Word 3)
+unfolding hex_on_literals
+ssci_without_salt = refl
+
 other_port : printed_text (codes "end A gcm128 12153524c0895e81 1518 sci\nend B gcm128 0000000000000002 1518 es\n") ≡ Err (script.Word 2)
 unfolding hex_on_literals
 other_port = refl
@@ -251,10 +317,31 @@ first_number : printed_text (both_ends ++ codes "A key 0 ad7a2bd03eac835a6f620fd
 unfolding hex_on_literals digits
 first_number = refl
 
+-- and end with ffffffff
+past_32_bits : printed_text (both_ends ++ codes "A key 0 ad7a2bd03eac835a6f620fdcb506b345 0\nA txsa 0 0 100000000 int\n") ≡ Ok (codes "3 done\n4 refused 14 PnRange\n")
+unfolding hex_on_literals digits
+past_32_bits = refl
+
 -- the widest window
 windows : printed_text (both_ends ++ codes "A replay on 4294967295\nA replay off 4294967296\n") ≡ Ok (codes "3 done\n4 refused 18 Window\n")
 unfolding hex_on_literals digits
 windows = refl
+
+-- extended packet numbers: a key has no offset, the window is narrower, and packet numbers have 64 bits
+abbrev pub extended_ends : List ℕ
+extended_ends = codes "end A xpn128 12153524c0895e81 1518 sci\nend B xpn128 0000000000000002 1518 auto\n"
+
+extended_offset : printed_text (extended_ends ++ codes "A key 0 ad7a2bd03eac835a6f620fdcb506b345 30 00000001 12153525c0895e8000000000\nA key 0 ad7a2bd03eac835a6f620fdcb506b345 0 00000001 12153525c0895e8000000000\n") ≡ Ok (codes "3 refused 2 Offset\n4 done\n")
+unfolding hex_on_literals digits
+extended_offset = refl
+
+extended_windows : printed_text (extended_ends ++ codes "A replay on 1073741823\nA replay on 1073741824\n") ≡ Ok (codes "3 done\n4 refused 18 Window\n")
+unfolding hex_on_literals digits
+extended_windows = refl
+
+extended_numbers : printed_text (extended_ends ++ codes "A key 0 ad7a2bd03eac835a6f620fdcb506b345 0\nA txsa 0 0 0 int\nA txsa 0 0 100000000 int\nA txdel 0\nA txsa 0 0 ffffffffffffffff int\n") ≡ Ok (codes "3 done\n4 refused 14 PnRange\n5 done\n6 done\n7 done\n")
+unfolding hex_on_literals digits
+extended_numbers = refl
 
 -- a frame of each port; without protection they leave as they are
 both_ports : printed_text (both_ends ++ codes "A send 00112233445566778899aabb0800\nA protect off\nA send 00112233445566778899AABB0800\nA sendu 00112233445566778899aabb0801\n") ≡ Ok (codes "3 dropped NoSA\n4 done\n5 frame 0 00112233445566778899aabb0800\n6 frame 1 00112233445566778899aabb0801\n")

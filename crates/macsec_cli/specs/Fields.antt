@@ -1,5 +1,6 @@
 -- What a word of a line can be, the value that it then has, and how it is read.
 use Rattle.std.specs.Prelude.{ℕ, List, [], ◌∷◌, Bool, true, false, bytes_eq, codes, Result, Ok, Err}
+use Rattle.std.specs.Int.{w32, from_be_bytes}
 use Rattle.macsec_aes.specs.declared.Key.{Key}
 use Rattle.macsec_aes.specs.declared.Key.TheVariants.{K128, K256}
 use Rattle.macsec_tag.specs.declared.Sci.{Sci}
@@ -8,7 +9,7 @@ use Rattle.macsec_tx.specs.declared.TagForm.TheVariants as form
 use Rattle.macsec_rx.specs.declared.Mode.{Mode}
 use Rattle.macsec_rx.specs.declared.Mode.TheVariants as mode
 use Rattle.macsec_suite.specs.declared.Suite.{Suite}
-use Rattle.macsec_suite.specs.declared.Suite.TheVariants.{Gcm128, Gcm256}
+use Rattle.macsec_suite.specs.declared.Suite.TheVariants.{Gcm128, Gcm256, Xpn128, Xpn256}
 use Rattle.macsec_cli.specs.declared.lines.End.{End}
 use Rattle.macsec_cli.specs.declared.lines.End.TheVariants.{A, B}
 use Rattle.macsec_cli.specs.declared.lines.LineFault.{LineFault}
@@ -19,6 +20,8 @@ pub data Field : Type 0 where
   number : (low : ℕ) → (high : ℕ) → Field
   sci : Field
   key : Field
+  ssci : Field
+  salt : Field
   frame : Field
   pn : Field
   at_end : Field
@@ -32,6 +35,8 @@ abbrev pub Value : Field → Type 0
 Value (number low high) = ℕ
 Value sci = Sci
 Value key = Key
+Value ssci = ℕ
+Value salt = List ℕ
 Value frame = List ℕ
 Value pn = ℕ
 Value at_end = End
@@ -54,7 +59,8 @@ abbrev pub ends : List (List ℕ × End)
 ends = (codes "A", A) ∷ (codes "B", B) ∷ []
 
 abbrev pub suites : List (List ℕ × Suite)
-suites = (codes "gcm128", Gcm128) ∷ (codes "gcm256", Gcm256) ∷ []
+suites =
+    (codes "gcm128", Gcm128) ∷ (codes "gcm256", Gcm256) ∷ (codes "xpn128", Xpn128) ∷ (codes "xpn256", Xpn256) ∷ []
 
 abbrev pub forms : List (List ℕ × TagForm)
 forms = (codes "auto", form.Auto) ∷ (codes "sci", form.Sci) ∷ (codes "es", form.Es) ∷ (codes "scb", form.Scb) ∷ []
@@ -78,6 +84,10 @@ map_ok f (Err fault) = Err fault
 abbrev pub as_sci : List ℕ → Sci
 as_sci octets = record { 0 = octets }
 
+-- the number of an SSCI's four octets, of which the first is the most significant
+abbrev pub as_ssci : List ℕ → ℕ
+as_ssci octets = from_be_bytes w32 octets
+
 -- a value, or where there is none the other reading
 abbrev pub or_else : {A E : Type 0} → Result A E → Result A E → Result A E
 or_else (Ok x) other = Ok x
@@ -91,6 +101,8 @@ abbrev pub read_word : (f : Field) → List ℕ → Result (Value f) LineFault
 read_word (number low high) word = decimal_in low high word
 read_word sci word = map_ok as_sci (octets_of 8 word)
 read_word key word = key_of_word word
+read_word ssci word = map_ok as_ssci (octets_of 4 word)
+read_word salt word = octets_of 12 word
 read_word frame word = some_octets word
 read_word pn word = packet_number word
 read_word at_end word = value_of_keyword ends word

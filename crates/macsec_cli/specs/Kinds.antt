@@ -12,7 +12,7 @@ use Rattle.macsec_cli.specs.declared.lines.Line.TheVariants as line
 use Rattle.macsec_cli.specs.declared.lines.LineFault.{LineFault}
 use Rattle.macsec_cli.specs.declared.lines.LineFault.TheVariants.{Word, Count, LineLong}
 use Rattle.macsec_cli.specs.Words.{words_of}
-use Rattle.macsec_cli.specs.Fields.{Field, Value, read_word, value_of_keyword, ends, number, sci, key, frame, pn, at_end, suite, tag_form, protection, switch, validation}
+use Rattle.macsec_cli.specs.Fields.{Field, Value, read_word, value_of_keyword, ends, number, sci, key, ssci, salt, frame, pn, at_end, suite, tag_form, protection, switch, validation}
 use Rattle.macsec_cli.specs.Limits.{max_line_len}
 
 -- what makes a line of the values of its words
@@ -43,9 +43,9 @@ window = number 0 (2 ^ 64 - 1)
 abbrev pub max_frame : Field
 max_frame = number min_max_frame max_frame_len
 
--- a key as its line says it: salt and SSCI are zero
-abbrev pub key_from : ℕ → Key → ℕ → NewKey
-key_from n bytes offset = record { number = n; bytes = bytes; salt = replicate 12 0; ssci = 0; offset = offset }
+-- a key as its line says it
+abbrev pub key_from : ℕ → Key → ℕ → ℕ → List ℕ → NewKey
+key_from = λ n bytes offset ssci salt. record { number = n; bytes = bytes; salt = salt; ssci = ssci; offset = offset }
 
 -- the lines that set whether frames are protected, and how they are validated
 abbrev pub protection_kinds : List Kind
@@ -59,10 +59,13 @@ option_kinds =
     kind (codes "replay") (switch ∷ window ∷ []) (λ on window. line.Command (by.Replay on window)) ∷
     kind (codes "tag") (tag_form ∷ []) (λ form. line.Command (by.Tag form)) ∷ []
 
--- the lines of keys
+-- the lines of keys; an SSCI and a salt that are left out are zeros
 abbrev pub key_kinds : List Kind
 key_kinds =
-    kind (codes "key") (key_number ∷ key ∷ offset ∷ []) (λ n bytes offset. line.Command (by.Key (key_from n bytes offset))) ∷
+    kind (codes "key") (key_number ∷ key ∷ offset ∷ [])
+    (λ n bytes offset. line.Command (by.Key (key_from n bytes offset 0 (replicate 12 0)))) ∷
+    kind (codes "key") (key_number ∷ key ∷ offset ∷ ssci ∷ salt ∷ [])
+    (λ n bytes offset ssci salt. line.Command (by.Key (key_from n bytes offset ssci salt))) ∷
     kind (codes "retire") (key_number ∷ []) (λ n. line.Command (by.Retire n)) ∷ []
 
 -- the lines of transmit associations

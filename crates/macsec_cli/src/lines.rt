@@ -113,21 +113,28 @@ fn configured_end(words: &[&[u8]]) -> Result<Line, LineFault>
     ))
 }
 
-/// The installation of a key, of the words after `key`.
+/// The installation of a key, of the words after `key`. The last two, SSCI and salt, can be left out and
+/// are zeros then.
 fn new_key(words: &[&[u8]]) -> Result<Line, LineFault>
     ensures { result ≡ read_line (kinds_at End.A) (codes "key") (map (λ w. w.now) words.now) }
 {
-    let [number, bytes, offset] = words else {
-        return Err(LineFault::Count);
+    let (number, bytes, offset, more) = match words {
+        [number, bytes, offset] => (number, bytes, offset, None),
+        [number, bytes, offset, ssci, salt] => (number, bytes, offset, Some((ssci, salt))),
+        _ => return Err(LineFault::Count),
     };
     let number = key_number(number)?;
     let bytes = words::key(bytes)?;
     let offset = decimal(0, 255, offset)? as u8;
+    let (ssci, salt) = match more {
+        Some((ssci, salt)) => (words::ssci(ssci)?, words::salt(salt)?),
+        None => (0, [0; 12]),
+    };
     Ok(Line::Command(Command::Key(NewKey {
         number,
         bytes,
-        salt: [0; 12],
-        ssci: 0,
+        salt,
+        ssci,
         offset,
     })))
 }

@@ -3,6 +3,7 @@
 
 mod commands;
 mod devices;
+mod extended;
 mod frames;
 mod program;
 mod scripts;
@@ -32,6 +33,18 @@ const CLIENT: &str =
 /// That frame, protected for integrity by GCM-AES-128.
 const PROTECTED: &str =
     "d609b1f056637a0d46df998d88e5222ab2c2846512153524c0895e8108000f101112131415161718191a1b1c1d1e1f202122232425262728292a2b2c2d2e2f30313233340001f09478a9b09007d06f46e9b6a1da25dd";
+
+/// The 60-octet test frame of IEEE 802.1AE, Annex C.
+const CLIENT_60: &str =
+    "d609b1f056637a0d46df998d08000f101112131415161718191a1b1c1d1e1f202122232425262728292a2b2c2d2e2f303132333435363738393a0002";
+
+/// That frame, encrypted by GCM-AES-128.
+const ENCRYPTED: &str =
+    "d609b1f056637a0d46df998d88e52e00b2c2846512153524c0895e81701afa1cc039c0d765128a665dab69243899bf7318ccdc81c9931da17fbe8edd7d17cb8b4c26fc81e3284f2b7fba713d4f8d55e7d3f06fd5a13c0c29b9d5b880";
+
+/// The same by GCM-AES-256.
+const ENCRYPTED_256: &str =
+    "d609b1f056637a0d46df998d88e52e00b2c2846512153524c0895e81e2006eb42f5277022d9b19925bc419d7a592666c925fe2ef718eb4e308efeaa7c5273b394118860a5be2a97f56ab78365ca597cdbb3edb8d1a1151ea0af7b436";
 
 /// What a script prints, and how its run ends.
 fn printed(rt: &impl AllocGlobal, script: &str) -> (Result<(), ScriptFault>, Vec<u8>) {

@@ -5,7 +5,7 @@ ghost use Rattle.std.specs.List.{slice_split};
 ghost use Rattle.hex.specs.Hex.{hex_digit_value};
 ghost use Rattle.macsec_cli.specs.Words.{lines_of, words_of, without_return};
 ghost use Rattle.macsec_cli.specs.Numerals.{decimal_in, packet_number, octets_of, some_octets};
-ghost use Rattle.macsec_cli.specs.Fields.{value_of_keyword, ends, suites, forms, protections, switches, modes, map_ok, as_sci, key_of_word};
+ghost use Rattle.macsec_cli.specs.Fields.{value_of_keyword, ends, suites, forms, protections, switches, modes, map_ok, as_sci, as_ssci, key_of_word};
 ghost use Rattle.macsec_cli.specs.Runs.{Answers};
 
 use crate::lines::{End, Frame, LineFault};
@@ -137,6 +137,20 @@ pub fn key(word: &[u8]) -> Result<Key, LineFault>
     }
 }
 
+/// An SSCI in hex, its first octet the most significant.
+pub fn ssci(word: &[u8]) -> Result<u32, LineFault>
+    ensures { result ≡ map_ok as_ssci (octets_of 4 word.now) }
+{
+    Ok(u32::from_be_bytes(fixed_octets(word)?))
+}
+
+/// A salt in hex.
+pub fn salt(word: &[u8]) -> Result<[u8; 12], LineFault>
+    ensures { result ≡ octets_of 12 word.now }
+{
+    fixed_octets(word)
+}
+
 /// A frame of one octet or more in hex.
 pub fn frame(alloc: Global, word: &[u8]) -> Result<Frame, LineFault>
     ensures { Answers (some_octets word.now) result }
@@ -169,6 +183,8 @@ pub fn suite(word: &[u8]) -> Result<Suite, LineFault>
     match word {
         b"gcm128" => Ok(Suite::Gcm128),
         b"gcm256" => Ok(Suite::Gcm256),
+        b"xpn128" => Ok(Suite::Xpn128),
+        b"xpn256" => Ok(Suite::Xpn256),
         _ => Err(LineFault::Word),
     }
 }

@@ -1,8 +1,8 @@
 //! What becomes of frames.
 
 use super::{
-    CLIENT, COMMANDS, DONE, ENDS, KEY_128, KEY_256, PROTECTED, assert_lines, assert_prints,
-    client_data, commands_of, ends_of, printed,
+    CLIENT, CLIENT_60, COMMANDS, DONE, ENCRYPTED, ENCRYPTED_256, ENDS, KEY_128, KEY_256, PROTECTED,
+    assert_lines, assert_prints, client_data, commands_of, ends_of, printed,
 };
 use std::alloc::{AllocError, Global};
 use std::process::Abort;
@@ -11,18 +11,6 @@ use std::test::Fail;
 /// The 54-octet test frame, protected for integrity by GCM-AES-256.
 const PROTECTED_256: &str =
     "d609b1f056637a0d46df998d88e5222ab2c2846512153524c0895e8108000f101112131415161718191a1b1c1d1e1f202122232425262728292a2b2c2d2e2f303132333400012f0bc5af409e06d609ea8b7d0fa5ea50";
-
-/// The 60-octet test frame of IEEE 802.1AE, Annex C.
-const CLIENT_60: &str =
-    "d609b1f056637a0d46df998d08000f101112131415161718191a1b1c1d1e1f202122232425262728292a2b2c2d2e2f303132333435363738393a0002";
-
-/// That frame, encrypted by GCM-AES-128.
-const ENCRYPTED: &str =
-    "d609b1f056637a0d46df998d88e52e00b2c2846512153524c0895e81701afa1cc039c0d765128a665dab69243899bf7318ccdc81c9931da17fbe8edd7d17cb8b4c26fc81e3284f2b7fba713d4f8d55e7d3f06fd5a13c0c29b9d5b880";
-
-/// The same by GCM-AES-256.
-const ENCRYPTED_256: &str =
-    "d609b1f056637a0d46df998d88e52e00b2c2846512153524c0895e81e2006eb42f5277022d9b19925bc419d7a592666c925fe2ef718eb4e308efeaa7c5273b394118860a5be2a97f56ab78365ca597cdbb3edb8d1a1151ea0af7b436";
 
 /// What is printed where the first frame of association 0 has so many octets of data: the link frame is
 /// 32 octets longer than the client's.

@@ -49,6 +49,7 @@ fn faults_of_lines(rt: HostRuntime) -> Result<(), Fail> {
         "A replay on",
         "A replay off 18446744073709551616",
         "A tag none",
+        "A key 0 ad7a2bd03eac835a6f620fdcb506b345 0 00000001",
         "A retire 256",
         "A txdel 4",
         "B send 00",
