@@ -56,7 +56,7 @@ joined scis (row ∷ rows) new h free good =
 pub of_more : (scis more : List Sci) → ((s : Sci) → has_channel scis s ≡ true → has_channel more s ≡ true) → (rows : List RxRow) → AreRxRows scis rows → AreRxRows more rows
 of_more scis more still [] h = tt
 of_more scis more still (row ∷ rows) h =
-    (record { channel = still row.sci h.0.channel; an = h.0.an; key = h.0.key; ssci = h.0.ssci; next = h.0.next; lowest = h.0.lowest }, h.1, of_more scis more still rows h.2)
+    (record { channel = still row.sci h.0.channel; an = h.0.an; key = h.0.key; ssci = h.0.ssci; next = h.0.next; lowest_least = h.0.lowest_least; lowest = h.0.lowest }, h.1, of_more scis more still rows h.2)
 
 -- a change of numbers or of the switch, which leaves the association at its place
 pub record KeepsPlace (f : RxRow → RxRow) : Type 0 where
@@ -93,7 +93,7 @@ kept scis left p still (row ∷ rows) h =
   where
     by_test : (b : Bool) → p row ≡ b → (others : List RxRow) → rx_row others row.sci row.an ≡ None → AreRxRows left others → AreRxRows left (cond b (row ∷ others) others)
     by_test true is others free h' =
-        (record { channel = still row is h.0.channel; an = h.0.an; key = h.0.key; ssci = h.0.ssci; next = h.0.next; lowest = h.0.lowest }, free, h')
+        (record { channel = still row is h.0.channel; an = h.0.an; key = h.0.key; ssci = h.0.ssci; next = h.0.next; lowest_least = h.0.lowest_least; lowest = h.0.lowest }, free, h')
     by_test false is others free h' = h'
 
 -- what a change keeps everywhere, it keeps at one place
@@ -119,22 +119,22 @@ at_place-keeps scis f good sci an row h = by_test (is_at sci an row)
 pub switched_rows : (scis : List Sci) (on : Bool) (sci : Sci) (an : ℕ) (rows : List RxRow) → AreRxRows scis rows → AreRxRows scis (map (at_place (row_switched on) sci an) rows)
 switched_rows scis on sci an =
     mapped scis _ (at_place-place (row_switched on) (record { sci = λ row. refl; an = λ row. refl }) sci an)
-    (at_place-keeps scis (row_switched on) (λ row h. record { channel = h.channel; an = h.an; key = h.key; ssci = h.ssci; next = h.next; lowest = h.lowest }) sci an)
+    (at_place-keeps scis (row_switched on) (λ row h. record { channel = h.channel; an = h.an; key = h.key; ssci = h.ssci; next = h.next; lowest_least = h.lowest_least; lowest = h.lowest }) sci an)
 
-pub raised_rows : (scis : List Sci) (pn : ℕ) (sci : Sci) (an : ℕ) → pn ≤ 2 ^ 64 → (rows : List RxRow) → AreRxRows scis rows → AreRxRows scis (map (at_place (row_raised pn) sci an) rows)
-raised_rows scis pn sci an small =
+pub raised_rows : (scis : List Sci) (pn : ℕ) (sci : Sci) (an : ℕ) → 1 ≤ pn → pn ≤ 2 ^ 64 → (rows : List RxRow) → AreRxRows scis rows → AreRxRows scis (map (at_place (row_raised pn) sci an) rows)
+raised_rows scis pn sci an some small =
     mapped scis _ (at_place-place (row_raised pn) (record { sci = λ row. refl; an = λ row. refl }) sci an)
-    (at_place-keeps scis (row_raised pn) (λ row h. record { channel = h.channel; an = h.an; key = h.key; ssci = h.ssci; next = omega (arith, h.next, small); lowest = small }) sci an)
+    (at_place-keeps scis (row_raised pn) (λ row h. record { channel = h.channel; an = h.an; key = h.key; ssci = h.ssci; next = omega (arith, h.next, small); lowest_least = some; lowest = omega arith }) sci an)
 
 pub narrowed_rows : (scis : List Sci) (window : ℕ) (rows : List RxRow) → AreRxRows scis rows → AreRxRows scis (map (row_narrowed window) rows)
 narrowed_rows scis window =
     mapped scis _ (record { sci = λ row. refl; an = λ row. refl })
-    (λ row h. record { channel = h.channel; an = h.an; key = h.key; ssci = h.ssci; next = h.next; lowest = omega (arith, h.next, h.lowest) })
+    (λ row h. record { channel = h.channel; an = h.an; key = h.key; ssci = h.ssci; next = h.next; lowest_least = omega (arith, h.lowest_least); lowest = omega (arith, h.lowest) })
 
 pub accepting_rows : (scis : List Sci) (window number : ℕ) (sci : Sci) (an : ℕ) → number < 2 ^ 64 → (rows : List RxRow) → AreRxRows scis rows → AreRxRows scis (map (at_place (row_accepting window number) sci an) rows)
 accepting_rows scis window number sci an small =
     mapped scis _ (at_place-place (row_accepting window number) (record { sci = λ row. refl; an = λ row. refl }) sci an)
-    (at_place-keeps scis (row_accepting window number) (λ row h. record { channel = h.channel; an = h.an; key = h.key; ssci = h.ssci; next = omega (arith, h.next, small); lowest = omega (arith, h.next, h.lowest, small) }) sci an)
+    (at_place-keeps scis (row_accepting window number) (λ row h. record { channel = h.channel; an = h.an; key = h.key; ssci = h.ssci; next = omega (arith, h.next, small); lowest_least = omega (arith, h.lowest_least); lowest = omega (arith, h.lowest) }) sci an)
 
 take_all : {X : Type 0} (ws : List X) → take (length ws) ws ≡ ws
 take_all [] = refl

@@ -13,16 +13,18 @@ pub record IsSci (sci : Sci) : Type 0 where
   pub octets : AreOctets sci.0
 
 -- an association is of a channel, its number is 0 to 3, its key's number is an octet, its SSCI has 32
--- bits, and its packet numbers are at most one past the last of 64 bits
+-- bits, its next packet number is at most one past the last of 64 bits, and its lowest acceptable one is
+-- from 1 to the next
 pub record IsRxRow (scis : List Sci) (row : RxRow) : Type 0 where
   pub channel : has_channel scis row.sci ≡ true
   pub an : row.an < max_association_count
   pub key : row.key < 256
   pub ssci : row.ssci < 2 ^ 32
   pub next : row.next ≤ 2 ^ 64
-  pub lowest : row.lowest ≤ 2 ^ 64
+  pub lowest_least : 1 ≤ row.lowest
+  pub lowest : row.lowest ≤ row.next
 
--- no two associations of a channel have one number
+-- each association is such a one, and no two associations of a channel have one number
 abbrev pub AreRxRows : List Sci → List RxRow → Type 0
 AreRxRows scis [] = Unit {0}
 AreRxRows scis (row ∷ rows) = IsRxRow scis row × (rx_row rows row.sci row.an ≡ None) × AreRxRows scis rows

@@ -80,12 +80,13 @@ keys_noting rows number pn = with_key (row_noting pn) number rows
 
 -- what holds of a key's row, whoever installed it: its number is below 256, it has as many bytes as its
 -- suite asks for, its salt has twelve octets, its SSCI 32 bits, and its first unused packet number is at
--- most one past the last of 64 bits
+-- least 1 and at most one past the last of 64 bits
 pub record IsKeyRow (row : InstalledKey) : Type 0 where
   pub number : row.number < max_key_count
   pub bytes : length row.bytes ≡ key_length row.suite
   pub salt : length row.salt ≡ 12
   pub ssci : row.ssci < 2 ^ 32
+  pub first_unused_least : 1 ≤ row.first_unused
   pub first_unused : row.first_unused ≤ 2 ^ 64
 
 -- each row is such a one, and no two have the same number

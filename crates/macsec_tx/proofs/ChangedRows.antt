@@ -49,14 +49,14 @@ AreTxRows-refill old new same h = rw (take_at new (drop (length new) old) (lengt
 
 -- an association that is switched is still one
 pub IsTxRow-switch_to : (an : ℕ) (row : TxRow) → IsTxRow row → IsTxRow (switch_to an row)
-IsTxRow-switch_to an row h = record { an = h.an; key = h.key; next = h.next }
+IsTxRow-switch_to an row h = record { an = h.an; key = h.key; next_least = h.next_least; next = h.next }
 
 -- and so is one that is switched off, where it has the number
 pub IsTxRow-off_at : (an : ℕ) (row : TxRow) → IsTxRow row → IsTxRow (off_at an row)
 IsTxRow-off_at an row h = by_test (row.an == an)
   where
     by_test : (b : Bool) → IsTxRow (if b then record row { on = false } else row)
-    by_test true = record { an = h.an; key = h.key; next = h.next }
+    by_test true = record { an = h.an; key = h.key; next_least = h.next_least; next = h.next }
     by_test false = h
 
 -- an association keeps its number when it is switched off
@@ -88,7 +88,7 @@ AreTxRows-used_at an (row ∷ rows) h small =
         IsTxRow (if b then next_used row else row) × IfSome (tx_row rows an) (λ row. row.next < 2 ^ 64)
     by_test true same h' =
         let none : tx_row rows an ≡ None = ap (tx_row rows) (sym (eqb-true row.an an same)) ∙ h.1 in
-        (record { an = h.0.an; key = h.0.key; next = omega (arith, h') }, subst (λ o. IfSome o (λ row. row.next < 2 ^ 64)) (sym none) tt)
+        (record { an = h.0.an; key = h.0.key; next_least = omega arith; next = omega (arith, h') }, subst (λ o. IfSome o (λ row. row.next < 2 ^ 64)) (sym none) tt)
     by_test false other h' = (h.0, h')
 
 -- an element that a loop has not come to yet is as it was

@@ -4,3 +4,4 @@ pub mod Transmit
 pub mod Commands
 pub mod Rows
 pub mod Answers
+pub mod Laws

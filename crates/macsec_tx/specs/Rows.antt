@@ -4,10 +4,11 @@ use Rattle.macsec_tx.specs.declared.TxRow.{TxRow}
 use Rattle.macsec_tx.specs.Transmit.{tx_row}
 
 -- the association number is 0 to 3, the number of its key has 8 bits, and the next packet number is at
--- most one past the last of 64 bits
+-- least 1 and at most one past the last of 64 bits
 pub record IsTxRow (row : TxRow) : Type 0 where
   pub an : row.an < 4
   pub key : row.key < 256
+  pub next_least : 1 ≤ row.next
   pub next : row.next ≤ 2 ^ 64
 
 -- each association is such a one, and no two of them have the same number

@@ -2,6 +2,7 @@
 #![tactic(auto)]
 
 mod channel;
+pub mod laws;
 mod sending;
 
 pub use channel::TxChannel;

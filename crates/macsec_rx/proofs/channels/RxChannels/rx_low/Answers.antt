@@ -15,7 +15,7 @@ invariant_of-self c = record {
   count = c.self.invariant.count;
   scis = c.self.invariant.scis;
   rows = refilled _ _ _ (c.raise.auto.rows ∙ ap length c.as_mut_slice.ensures.value)
-      (rw (c.raise.ensures, c.as_mut_slice.ensures.value) (raised_rows _ c.args.pn c.args.sci c.args.an (omega (arith, c.ranges.pn.fits)) _ c.self.invariant.rows));
+      (rw (c.raise.ensures, c.as_mut_slice.ensures.value) (raised_rows _ c.args.pn c.args.sci c.args.an (omega arith) (omega (arith, c.ranges.pn.fits)) _ c.self.invariant.rows));
 }
 
 pub returns-clause-channels : goal.returns-clause-channels

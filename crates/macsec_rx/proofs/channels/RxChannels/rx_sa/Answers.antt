@@ -27,7 +27,7 @@ invariant_of-self c =
       count = c.self.invariant.count;
       scis = c.self.invariant.scis;
       rows = rw c.push.ensures.items
-          (joined c.self.inside.scis.items c.self.inside.rows.items _ c.self.invariant.rows free (record { channel = there; an = small; key = omega (arith, c.ranges.key.fits); ssci = omega (arith, c.ranges.ssci.fits); next = search rules; lowest = search rules }));
+          (joined c.self.inside.scis.items c.self.inside.rows.items _ c.self.invariant.rows free (record { channel = there; an = small; key = omega (arith, c.ranges.key.fits); ssci = omega (arith, c.ranges.ssci.fits); next = search rules; lowest_least = search (rules, arith); lowest = search (rules, arith) }));
     }
 
 pub returns-clause-channels : goal.returns-clause-channels

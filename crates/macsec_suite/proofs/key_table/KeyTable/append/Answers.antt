@@ -15,7 +15,7 @@ invariant_of-self c =
     let keys = c.self.inside.rows.items in
     let new : StoredKey = record { row = c.args.added; first_unused = 1 } in
     let items : keys ++ new ∷ [] ≡ c.push.new.self.items = sym (pushed (new ∷ []) refl c.unwrap.ensures c.push.ensures.items) in
-    let new_is : IsKeyRow (stored_row new) = record { number = omega arith; bytes = c.requires.length; salt = search rules; ssci = omega arith; first_unused = omega arith } in
+    let new_is : IsKeyRow (stored_row new) = record { number = omega arith; bytes = c.requires.length; salt = search rules; ssci = omega arith; first_unused_least = omega arith; first_unused = omega arith } in
     let all = AreStoredKeys-push keys new (c.self.invariant.1, c.self.invariant.2) (rw c.self.view_is c.requires.free) new_is c.requires.prepared in
     let kept = subst AreStoredKeys items all in
     (omega arith, kept.0, kept.1)
