@@ -11,9 +11,10 @@ use Rattle.macsec_secy.specs.declared.Command.{Command}
 use Rattle.macsec_secy.specs.declared.Command.TheVariants.{Protect, Validate, Replay, Tag, Key, Retire, TxSa, TxOn, TxOff, TxDel, RxSc, RxScDel, RxSa, RxOn, RxOff, RxLow, RxDel}
 use Rattle.macsec_secy.specs.State.{State}
 use Rattle.macsec_secy.specs.Commands.{effect, refusal}
+use Rattle.macsec_secy.specs.Agrees.{HaveUnusedNext, first_unused}
 use Rattle.macsec_secy.proofs.KeysKept.{there_retiring, there_with_more}
-use Rattle.macsec_secy.proofs.FirstUnused.{first_unused, first-another_key, first-retiring}
-use Rattle.macsec_secy.proofs.UnusedNext.{HaveUnusedNext, KeysStay, with_keys, with_one_more, with_one_off, with_one_on, without_one}
+use Rattle.macsec_secy.proofs.FirstUnused.{first-another_key, first-retiring}
+use Rattle.macsec_secy.proofs.UnusedNext.{KeysStay, with_keys, with_one_more, with_one_off, with_one_on, without_one}
 
 pub effect_stays : (s : State) (c : Command) (n : ℕ) → first_unused (effect s c).keys n ≡ first_unused s.keys n
 effect_stays s (Protect on) n = refl

@@ -1,12 +1,10 @@
 -- The first packet number that was never used under a key, while the table of keys changes.
 use Rattle.std.proofs.Common.{◌≡◌, ℕ, ◌+◌, Bool, true, false, List, [], ◌∷◌, ◌++◌, refl, sym, subst, ◌∙◌, eqb-true}
 use Rattle.std.specs.Prelude.{◌==◌, if◌then◌else◌, Some, None, IsSome, unwrap_or}
-use Rattle.macsec_suite.specs.KeyRows.{InstalledKey, at_number, key_row, keys_noting, keys_retiring, no_key, retired_row, row_noting, the_key}
-use Rattle.macsec_secy.proofs.KeysKept.{same_number}
-
--- of a key that is not there it is 1, as of a new one
-abbrev pub first_unused : List InstalledKey → ℕ → ℕ
-first_unused keys n = (the_key keys n).first_unused
+use Rattle.macsec_suite.specs.KeyRows.{InstalledKey, at_number, key_row, keys_noting, keys_retiring, no_key, retired_row, row_noting}
+use Rattle.macsec_secy.specs.Agrees.{first_unused}
+use Rattle.macsec_secy.proofs.KeysKept.{field_kept, same_number}
+use Rattle.macsec_secy.proofs.SameKey.{field_of_the_key}
 
 pub first-another_key : (keys : List InstalledKey) (new : InstalledKey) (n : ℕ) → new.first_unused ≡ 1 → first_unused (keys ++ new ∷ []) n ≡ first_unused keys n
 first-another_key [] new n fresh = by_test (new.number == n)
@@ -22,17 +20,9 @@ first-another_key (key ∷ keys) new n fresh = by_test (key.number == n) (first-
     by_test false later = later
 
 pub first-retiring : (keys : List InstalledKey) (number n : ℕ) → first_unused (keys_retiring keys number) n ≡ first_unused keys n
-first-retiring [] number n = refl
-first-retiring (key ∷ keys) number n =
-    subst (λ m. (unwrap_or (if m == n then Some (at_number retired_row number key) else key_row (keys_retiring keys number) n) no_key).first_unused ≡ first_unused (key ∷ keys) n)
-    (sym (same_number retired_row (λ k. refl) number key))
-    (by_test (key.number == n) (key.number == number) (first-retiring keys number n))
-  where
-    by_test : (b c : Bool) → first_unused (keys_retiring keys number) n ≡ first_unused keys n →
-        (unwrap_or (if b then Some (if c then retired_row key else key) else key_row (keys_retiring keys number) n) no_key).first_unused ≡ (unwrap_or (if b then Some key else key_row keys n) no_key).first_unused
-    by_test true true later = refl
-    by_test true false later = refl
-    by_test false c later = later
+first-retiring keys number n =
+    field_of_the_key (λ (k : InstalledKey). k.first_unused) (at_number retired_row number) (same_number retired_row (λ k. refl) number)
+    (λ key. field_kept (λ (k : InstalledKey). k.first_unused) retired_row (λ k. refl) (key.number == number) key) keys n
 
 -- where a key uses a packet number, the first unused one of every other key stays
 pub first-noting_other : (keys : List InstalledKey) (number pn n : ℕ) → (number ≡ n → ⊥) → first_unused (keys_noting keys number pn) n ≡ first_unused keys n

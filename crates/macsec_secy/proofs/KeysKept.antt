@@ -43,7 +43,7 @@ there_with_more (key ∷ keys) more number there = by_test (key.number == number
     by_test false later here = later here
 
 -- a key stays in the table where keys are changed and not their numbers
-there_after_change : (change : InstalledKey → InstalledKey) → ((key : InstalledKey) → (change key).number ≡ key.number) →
+pub there_after_change : (change : InstalledKey → InstalledKey) → ((key : InstalledKey) → (change key).number ≡ key.number) →
     (keys : List InstalledKey) (number : ℕ) → IsThere keys number → IsThere (map change keys) number
 there_after_change change same [] number there = there
 there_after_change change same (key ∷ keys) number there =

@@ -11,7 +11,15 @@ pub mod Sums
 pub mod CountersKept
 pub mod StaysSound
 pub mod FramesCounted
+pub mod SameKey
 pub mod FirstUnused
 pub mod UnusedNext
 pub mod AfterCommands
 pub mod UsedNumbers
+pub mod FrameLengths
+pub mod NoTwo
+pub mod KeyBytes
+pub mod TxRowsAgree
+pub mod RxRowsAgree
+pub mod OtherSscis
+pub mod StaysAgreed

@@ -28,11 +28,13 @@ use Rattle.macsec_secy.specs.Commands.{effect, refusal, refusals}
 use Rattle.macsec_secy.specs.declared.FrameFault.{FrameFault}
 use Rattle.macsec_secy.specs.Reception.{judgement_of, state_after_receiving}
 use Rattle.macsec_secy.specs.Step.{Output, client_frame, link_frame, frame_fault, received_output, sending_of, sent_output, state_after_sending, step, unless_fault}
+use Rattle.macsec_secy.specs.Agrees.{Agrees}
 use Rattle.macsec_secy.specs.Sound.{AreRxCounters, IsSound, sci_of_counters}
 use Rattle.macsec_secy.proofs.Limits.{good_limit}
 use Rattle.macsec_secy.proofs.AfterCommands.{none_hold}
 use Rattle.macsec_secy.proofs.KeysKept as tx
 use Rattle.macsec_secy.proofs.RxKeysKept as rx
+use Rattle.macsec_secy.proofs.StaysAgreed as rows
 use Rattle.macsec_secy.proofs.ChannelsCounted.{after_judging, without_counters}
 use Rattle.macsec_secy.proofs.CountersKept.{after_judgement, after_leaving, after_protected, after_reading, no_rx_counted, no_tx_counted, none_counted}
 
@@ -58,6 +60,7 @@ at_start config good own tables =
       none_counted,
       no_tx_counted,
       All-nil (λ (row : ChannelCounters). AreRxCounters row.counters),
+      rows.at_start config,
     )
 
 -- ---- the keys have one suite
@@ -75,49 +78,52 @@ one_changed suite change same number keys of =
 
 -- ---- commands
 
-pub after_effect : (s : State) (c : Command) → refusal s c ≡ None → TablesHold (effect s c) → IsSound s → IsSound (effect s c)
-after_effect s (Protect on) e tables sound = assumption
-after_effect s (Validate mode) e tables sound = assumption
-after_effect s (Replay protect window) e tables sound =
+effect_is_sound : (s : State) (c : Command) → refusal s c ≡ None → TablesHold (effect s c) → Agrees (effect s c) → IsSound s → IsSound (effect s c)
+effect_is_sound s (Protect on) e tables agrees sound = assumption
+effect_is_sound s (Validate mode) e tables agrees sound = assumption
+effect_is_sound s (Replay protect window) e tables agrees sound =
     let none = none_hold (refusals s (Replay protect window)) e in
     let within : window ≤ widest_window s.config.suite = ltb-false (widest_window s.config.suite) window none.0 in
     assumption (within, rx.with_all_narrowed s.keys s.rx window sound.rx_keys)
-after_effect s (Tag form) e tables sound = assumption
-after_effect s (Key key) e tables sound =
+effect_is_sound s (Tag form) e tables agrees sound = assumption
+effect_is_sound s (Key key) e tables agrees sound =
     let new = new_row s.config.suite key in
     assumption (
       All-append (λ k. k.suite ≡ s.config.suite) s.keys (new ∷ []) sound.suite (All-cons (λ k. k.suite ≡ s.config.suite) new [] refl (All-nil (λ k. k.suite ≡ s.config.suite))),
       tx.with_another_key s.keys s.tx new sound.tx_keys,
       rx.with_another_key s.keys s.rx.rows new sound.rx_keys,
     )
-after_effect s (Retire key) e tables sound =
+effect_is_sound s (Retire key) e tables agrees sound =
     assumption (
       one_changed s.config.suite retired_row (λ k. refl) key s.keys sound.suite,
       tx.with_a_key_retired s.keys s.tx key sound.tx_keys,
       rx.with_a_key_retired s.keys s.rx.rows key sound.rx_keys,
     )
-after_effect s (TxSa an key next conf) e tables sound = assumption (tx.with_one_more s.keys s.tx an key next conf e sound.tx_keys)
-after_effect s (TxOn an) e tables sound = assumption (tx.with_one_on s.keys s.tx an sound.tx_keys)
-after_effect s (TxOff an) e tables sound = assumption (tx.with_one_off s.keys s.tx an sound.tx_keys)
-after_effect s (TxDel an) e tables sound = assumption (tx.without_one s.keys s.tx an sound.tx_keys)
-after_effect s (RxSc sci) e tables sound =
+effect_is_sound s (TxSa an key next conf) e tables agrees sound = assumption (tx.with_one_more s.keys s.tx an key next conf e sound.tx_keys)
+effect_is_sound s (TxOn an) e tables agrees sound = assumption (tx.with_one_on s.keys s.tx an sound.tx_keys)
+effect_is_sound s (TxOff an) e tables agrees sound = assumption (tx.with_one_off s.keys s.tx an sound.tx_keys)
+effect_is_sound s (TxDel an) e tables agrees sound = assumption (tx.without_one s.keys s.tx an sound.tx_keys)
+effect_is_sound s (RxSc sci) e tables agrees sound =
     let new : ChannelCounters = record { sci = sci; counters = no_rx_counters } in
     assumption (
       map-append sci_of_counters s.rx_counters (new ∷ []) ∙ ap (λ scis. scis ++ sci ∷ []) sound.channels,
       All-append (λ row. AreRxCounters row.counters) s.rx_counters (new ∷ []) sound.rx_counters
           (All-cons (λ row. AreRxCounters row.counters) new [] no_rx_counted (All-nil (λ row. AreRxCounters row.counters))),
     )
-after_effect s (RxScDel sci) e tables sound =
+effect_is_sound s (RxScDel sci) e tables agrees sound =
     assumption (
       rx.without_channel_of s.keys s.rx sci sound.rx_keys,
       without_counters sci s.rx_counters ∙ ap (filter (λ t. not (same_sci t sci))) sound.channels,
       All-filter (λ row. not (same_sci row.sci sci)) (λ row. AreRxCounters row.counters) s.rx_counters sound.rx_counters,
     )
-after_effect s (RxSa sci an key ssci lowest) e tables sound = assumption (rx.with_one_more s.keys s.rx sci an key ssci lowest e sound.rx_keys)
-after_effect s (RxOn sci an) e tables sound = assumption (rx.with_one_switched s.keys s.rx sci an true sound.rx_keys)
-after_effect s (RxOff sci an) e tables sound = assumption (rx.with_one_switched s.keys s.rx sci an false sound.rx_keys)
-after_effect s (RxLow sci an pn) e tables sound = assumption (rx.with_one_raised s.keys s.rx sci an pn sound.rx_keys)
-after_effect s (RxDel sci an) e tables sound = assumption (rx.without_one s.keys s.rx sci an sound.rx_keys)
+effect_is_sound s (RxSa sci an key ssci lowest) e tables agrees sound = assumption (rx.with_one_more s.keys s.rx sci an key ssci lowest e sound.rx_keys)
+effect_is_sound s (RxOn sci an) e tables agrees sound = assumption (rx.with_one_switched s.keys s.rx sci an true sound.rx_keys)
+effect_is_sound s (RxOff sci an) e tables agrees sound = assumption (rx.with_one_switched s.keys s.rx sci an false sound.rx_keys)
+effect_is_sound s (RxLow sci an pn) e tables agrees sound = assumption (rx.with_one_raised s.keys s.rx sci an pn sound.rx_keys)
+effect_is_sound s (RxDel sci an) e tables agrees sound = assumption (rx.without_one s.keys s.rx sci an sound.rx_keys)
+
+pub after_effect : (s : State) (c : Command) → refusal s c ≡ None → TablesHold (effect s c) → IsSound s → IsSound (effect s c)
+after_effect s c e tables sound = effect_is_sound s c e tables (rows.after_effect s c e sound.agrees) sound
 
 -- a command that a table carries out, or refuses and is as it was
 by_table : {S : Type 0} (s : State) (c : Command) (put : S → State) (old new after : S) (answer : Result (Unit {0}) Refusal) → refusal_of answer ≡ refusal s c →
@@ -154,8 +160,8 @@ suite_after : (suite : Suite) (keys : List InstalledKey) (by : Option TxRow) →
 suite_after suite keys None of = of
 suite_after suite keys (Some row) of = one_changed suite (row_noting row.next) (λ k. refl) row.key keys of
 
-after_sending : (s : State) (frame : List ℕ) (sent : Sending) → TablesHold (state_after_sending s frame sent) → IsSound s → IsSound (state_after_sending s frame sent)
-after_sending s frame sent tables sound =
+after_sending : (s : State) (frame : List ℕ) (sent : Sending) → TablesHold (state_after_sending s frame sent) → Agrees (state_after_sending s frame sent) → IsSound s → IsSound (state_after_sending s frame sent)
+after_sending s frame sent tables agrees sound =
     assumption (
       suite_after s.config.suite s.keys sent.by sound.suite,
       tx.after_sending s.keys s.tx sent.by sound.tx_keys,
@@ -164,8 +170,8 @@ after_sending s frame sent tables sound =
       after_protected sent.by frame s.tx_counters sound.tx_counters,
     )
 
-after_receiving : (s : State) (frame : List ℕ) (j : Judgement) → TablesHold (state_after_receiving s frame j) → IsSound s → IsSound (state_after_receiving s frame j)
-after_receiving s frame j tables sound =
+after_receiving : (s : State) (frame : List ℕ) (j : Judgement) → TablesHold (state_after_receiving s frame j) → Agrees (state_after_receiving s frame j) → IsSound s → IsSound (state_after_receiving s frame j)
+after_receiving s frame j tables agrees sound =
     assumption (
       rx.after_receiving s.keys s.options.window j s.rx.rows sound.rx_keys,
       after_judging j s.rx_counters ∙ sound.channels,
@@ -174,17 +180,17 @@ after_receiving s frame j tables sound =
     )
 
 -- a frame that is taken or not
-frame_keeps : (s after : State) (output : Output) → (TablesHold after → IsSound after) → (fault : Option FrameFault) →
-    TablesHold (unless_fault fault s (output, after)).1 → IsSound s → IsSound (unless_fault fault s (output, after)).1
-frame_keeps s after output keeps None tables sound = keeps tables
-frame_keeps s after output keeps (Some fault) tables sound = sound
+frame_keeps : (s after : State) (output : Output) → (TablesHold after → Agrees after → IsSound after) → (fault : Option FrameFault) →
+    TablesHold (unless_fault fault s (output, after)).1 → Agrees (unless_fault fault s (output, after)).1 → IsSound s → IsSound (unless_fault fault s (output, after)).1
+frame_keeps s after output keeps None tables agrees sound = keeps tables agrees
+frame_keeps s after output keeps (Some fault) tables agrees sound = sound
 
 pub after_client_frame : (s : State) (frame : List ℕ) → TablesHold (step s (client_frame frame)).1 → IsSound s → IsSound (step s (client_frame frame)).1
 after_client_frame s frame tables sound =
     frame_keeps s (state_after_sending s frame (sending_of s frame)) (sent_output frame (sending_of s frame).leaving)
-    (λ hold. after_sending s frame (sending_of s frame) hold sound) (frame_fault frame) tables sound
+    (λ hold agrees. after_sending s frame (sending_of s frame) hold agrees sound) (frame_fault frame) tables (rows.after_step s (client_frame frame) sound.agrees) sound
 
 pub after_link_frame : (s : State) (frame : List ℕ) → TablesHold (step s (link_frame frame)).1 → IsSound s → IsSound (step s (link_frame frame)).1
 after_link_frame s frame tables sound =
     frame_keeps s (state_after_receiving s frame (judgement_of s frame)) (received_output frame (judgement_of s frame))
-    (λ hold. after_receiving s frame (judgement_of s frame) hold sound) (frame_fault frame) tables sound
+    (λ hold agrees. after_receiving s frame (judgement_of s frame) hold agrees sound) (frame_fault frame) tables (rows.after_step s (link_frame frame) sound.agrees) sound

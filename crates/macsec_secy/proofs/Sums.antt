@@ -23,7 +23,7 @@ either_false true b h = cc
 either_false false b h = (refl, h)
 
 -- SCIs that are told as the same are the same
-one_sci : (s t : Sci) → same_sci s t ≡ true → s ≡ t
+pub one_sci : (s t : Sci) → same_sci s t ≡ true → s ≡ t
 one_sci s t same = ap {B = Sci} (λ octets. record { 0 = octets }) (same_text s.0 t.0 (sym same))
 
 -- one more, modulo 2^64

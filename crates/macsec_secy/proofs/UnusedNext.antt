@@ -1,23 +1,16 @@
 -- The next packet number of each association was never used under its key, and no two associations
 -- have one key: what commands and sending keep.
-use Rattle.std.proofs.Common.{◌≡◌, ℕ, ◌≤◌, Bool, true, false, List, [], ◌∷◌, ◌++◌, map, filter, refl, ap, sym, subst, ◌∙◌, arith}
-use Rattle.std.specs.Prelude.{◌==◌, ◌||◌, not, if◌then◌else◌, Some, IsSome}
-use Rattle.std.proofs.lemmas.Bool.{eqb-false, eq-eqb, ne_eqb, or_from, or_parts}
+use Rattle.std.proofs.Common.{◌≡◌, ◌⊎◌, inl, inr, ℕ, ◌≤◌, Bool, true, false, List, [], ◌∷◌, ◌++◌, map, filter, refl, ap, sym, subst, ◌∙◌, arith}
+use Rattle.std.specs.Prelude.{◌==◌, ◌||◌, not, if◌then◌else◌, Option, Some, None, IsSome}
+use Rattle.std.proofs.lemmas.Bool.{eqb-false, eq-eqb, ne_eqb, or_parts}
 use Rattle.macsec_suite.specs.KeyRows.{InstalledKey, key_row, keys_noting}
 use Rattle.macsec_tx.specs.declared.TxRow.{TxRow}
-use Rattle.macsec_tx.specs.Transmit.{next_used, row_on, used_at}
+use Rattle.macsec_tx.specs.Transmit.{keys_after, next_used, row_on, rows_after, used_at}
 use Rattle.macsec_tx.specs.Commands.{off_at, switch_to, tx_uses, with_tx_off, with_tx_on, without_tx}
+use Rattle.macsec_secy.specs.Agrees.{HasUnusedNext, HaveUnusedNext, first_unused}
 use Rattle.macsec_secy.proofs.KeysKept.{there_noting}
-use Rattle.macsec_secy.proofs.FirstUnused.{first_unused, first-noting, first-noting_other}
-
--- the key of the association is there, and no number from its next one on was used under it
-pub record HasUnusedNext (keys : List InstalledKey) (row : TxRow) : Type 0 where
-  pub there : IsSome (key_row keys row.key)
-  pub next : first_unused keys row.key ≤ row.next
-
-abbrev pub HaveUnusedNext : List InstalledKey → List TxRow → Type 0
-HaveUnusedNext keys [] = Unit {0}
-HaveUnusedNext keys (row ∷ rows) = HasUnusedNext keys row × (tx_uses rows row.key ≡ false) × HaveUnusedNext keys rows
+use Rattle.macsec_secy.proofs.NoTwo.{none-filter, none-with}
+use Rattle.macsec_secy.proofs.FirstUnused.{first-noting, first-noting_other}
 
 -- ---- other keys
 
@@ -77,19 +70,9 @@ off_keeps_next an = record { key = λ row. key_of (row.an == an) row; next = λ 
 pub with_one_off : (keys : List InstalledKey) (rows : List TxRow) (an : ℕ) → HaveUnusedNext keys rows → HaveUnusedNext keys (with_tx_off rows an)
 with_one_off keys rows an have = with_rows keys (off_at an) (off_keeps_next an) rows have
 
-uses-filter : (p : TxRow → Bool) (rows : List TxRow) (key : ℕ) → tx_uses rows key ≡ false → tx_uses (filter p rows) key ≡ false
-uses-filter p [] key none = refl
-uses-filter p (row ∷ rows) key none =
-    let parts = or_parts (row.key == key) (tx_uses rows key) none in
-    by_test (p row) parts.0 (uses-filter p rows key parts.1)
-  where
-    by_test : (b : Bool) → (row.key == key) ≡ false → tx_uses (filter p rows) key ≡ false → tx_uses (if b then row ∷ filter p rows else filter p rows) key ≡ false
-    by_test true other later = or_from (row.key == key) (tx_uses (filter p rows) key) other later
-    by_test false other later = later
-
 some_left : (keys : List InstalledKey) (p : TxRow → Bool) (rows : List TxRow) → HaveUnusedNext keys rows → HaveUnusedNext keys (filter p rows)
 some_left keys p [] have = tt
-some_left keys p (row ∷ rows) have = by_test (p row) (uses-filter p rows row.key have.1) (some_left keys p rows have.2)
+some_left keys p (row ∷ rows) have = by_test (p row) (none-filter (λ r. r.key == row.key) p rows have.1) (some_left keys p rows have.2)
   where
     by_test : (b : Bool) → tx_uses (filter p rows) row.key ≡ false → HaveUnusedNext keys (filter p rows) → HaveUnusedNext keys (if b then row ∷ filter p rows else filter p rows)
     by_test true apart later = (have.0, apart, later)
@@ -98,12 +81,6 @@ some_left keys p (row ∷ rows) have = by_test (p row) (uses-filter p rows row.k
 pub without_one : (keys : List InstalledKey) (rows : List TxRow) (an : ℕ) → HaveUnusedNext keys rows → HaveUnusedNext keys (without_tx rows an)
 without_one keys rows an have = some_left keys (λ row. not (row.an == an)) rows have
 
-uses-append : (rows : List TxRow) (new : TxRow) (key : ℕ) → tx_uses rows key ≡ false → (new.key == key) ≡ false → tx_uses (rows ++ new ∷ []) key ≡ false
-uses-append [] new key none other = or_from (new.key == key) false other refl
-uses-append (row ∷ rows) new key none other =
-    let parts = or_parts (row.key == key) (tx_uses rows key) none in
-    or_from (row.key == key) (tx_uses (rows ++ new ∷ []) key) parts.0 (uses-append rows new key parts.1 other)
-
 -- an association of another key joins
 pub with_one_more : (keys : List InstalledKey) (rows : List TxRow) (new : TxRow) → HasUnusedNext keys new → tx_uses rows new.key ≡ false →
     HaveUnusedNext keys rows → HaveUnusedNext keys (rows ++ new ∷ [])
@@ -111,7 +88,7 @@ with_one_more keys [] new unused none have = (unused, refl, tt)
 with_one_more keys (row ∷ rows) new unused none have =
     let parts = or_parts (row.key == new.key) (tx_uses rows new.key) none in (
       have.0,
-      uses-append rows new row.key have.1 (ne_eqb new.key row.key (λ e. eqb-false row.key new.key parts.0 (sym e))),
+      none-with (λ r. r.key == row.key) rows new have.1 (ne_eqb new.key row.key (λ e. eqb-false row.key new.key parts.0 (sym e))),
       with_one_more keys rows new unused parts.1 have.2,
     )
 
@@ -194,3 +171,10 @@ after_sending keys (row ∷ rows) by on have = by_on row.on (λ on'. after_sendi
       no_more_uses (used_at by.an) (used_keeps_key by.an) row rows have.1,
       later on',
     )
+
+-- a client's frame is sent, by the association that is on, if by any
+pub after_frame : (keys : List InstalledKey) (rows : List TxRow) (by : Option TxRow) → (by ≡ None) ⊎ (by ≡ row_on rows) → HaveUnusedNext keys rows →
+    HaveUnusedNext (keys_after keys by) (rows_after rows by)
+after_frame keys rows None which have = have
+after_frame keys rows (Some row) (inl none) have = cc
+after_frame keys rows (Some row) (inr on) have = after_sending keys rows row (sym on) have

@@ -19,8 +19,9 @@ use Rattle.macsec_secy.specs.Commands.{effect, refusal, unless_refused}
 use Rattle.macsec_secy.specs.Step.{Input, Output, operator_command, client_frame, uncontrolled_frame, link_frame, frame_fault, leaves, received_output, sending_of, sent_output, state_after_sending, step, unless_fault}
 use Rattle.macsec_secy.specs.Reception.{judgement_of, state_after_receiving}
 use Rattle.macsec_secy.specs.Laws.{UsedNumber, UsesNoNumberTwice, number_of_row, number_unless_fault, number_used, numbers_used}
-use Rattle.macsec_secy.proofs.FirstUnused.{first_unused, first-noting, first-noting_other}
-use Rattle.macsec_secy.proofs.UnusedNext.{HasUnusedNext, HaveUnusedNext, after_sending, on_unused}
+use Rattle.macsec_secy.specs.Agrees.{HasUnusedNext, HaveUnusedNext, first_unused}
+use Rattle.macsec_secy.proofs.FirstUnused.{first-noting, first-noting_other}
+use Rattle.macsec_secy.proofs.UnusedNext.{after_frame, on_unused}
 use Rattle.macsec_secy.proofs.AfterCommands.{effect_keeps, effect_stays}
 
 -- each number is at least the first that the keys have not used, and no two are the same
@@ -78,7 +79,7 @@ sending_goes : (keys : List InstalledKey) (rows : List TxRow) (by : Option TxRow
 sending_goes keys rows None which have = record { keeps = have; adds = λ later new. new }
 sending_goes keys rows (Some row) (inl none) have = cc
 sending_goes keys rows (Some row) (inr on) have = record {
-  keeps = after_sending keys rows row (sym on) have;
+  keeps = after_frame keys rows (Some row) (inr on) have;
   adds = row_adds keys row (on_unused keys rows row (sym on) have);
 }
 
@@ -103,7 +104,7 @@ where_not_protected : (protect : Bool) (sent : Sending) (leaving : Leaving) (on 
 where_not_protected true sent leaving on by = by
 where_not_protected false sent leaving on by = inl refl
 
-sent_by : (options : TxOptions) (keys : List InstalledKey) (rows : List TxRow) (frame : List ℕ) →
+pub sent_by : (options : TxOptions) (keys : List InstalledKey) (rows : List TxRow) (frame : List ℕ) →
     ((sending options keys rows frame).by ≡ None) ⊎ ((sending options keys rows frame).by ≡ row_on rows)
 sent_by options keys rows frame =
     where_not_protected options.protect (sending_by options keys frame (row_on rows)) _ (row_on rows) (by_the_one_on options keys frame (row_on rows))

@@ -1,12 +1,14 @@
 pub mod Limits
 pub mod Configs
 pub mod State
+pub mod Agrees
 pub mod Sound
 pub mod Counting
 pub mod Commands
 pub mod Reception
 pub mod Verdicts
 pub mod Step
+pub mod Frames
 pub mod Sums
 pub mod Laws
 pub mod Answers

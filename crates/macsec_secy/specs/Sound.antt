@@ -13,6 +13,7 @@ use Rattle.macsec_secy.specs.declared.Counters.{Counters}
 use Rattle.macsec_secy.specs.declared.TxCounters.{TxCounters}
 use Rattle.macsec_secy.specs.declared.RxCounters.{RxCounters}
 use Rattle.macsec_secy.specs.declared.ChannelCounters.{ChannelCounters}
+use Rattle.macsec_secy.specs.Agrees.{Agrees}
 use Rattle.macsec_secy.specs.Limits.{min_max_frame}
 use Rattle.macsec_secy.specs.State.{State}
 
@@ -52,7 +53,7 @@ pub record AreRxCounters (c : RxCounters) : Type 0 where
 -- the largest frame of the configuration has 64 to 9,248 octets, and the own SCI is 8 octets; keys, transmit
 -- associations and receive channels are such as there can be; the replay window is none too wide for the
 -- suite, and all keys are of that suite; the key of each association is there; each channel has its counters,
--- in the order of the channels; and the counters have 64 bits
+-- in the order of the channels; the counters have 64 bits; and the rows of the tables agree with one another
 pub record IsSound (s : State) : Type 0 where
   pub max_frame_least : min_max_frame ≤ s.config.max_frame
   pub max_frame_most : s.config.max_frame ≤ max_frame_len
@@ -68,6 +69,7 @@ pub record IsSound (s : State) : Type 0 where
   pub counters : AreCounters s.counters
   pub tx_counters : AreTxCounters s.tx_counters
   pub rx_counters : All (λ row. AreRxCounters row.counters) s.rx_counters
+  pub agrees : Agrees s
 
 -- it is sound, and there is room for the longest frame
 pub record IsReady (s : State) (room_length : ℕ) : Type 0 where

@@ -1,11 +1,36 @@
-//! A law of the machine, over the definitions alone: the contract of a function that does nothing.
+//! Laws of the machine, over the definitions alone: each is the contract of a function that does
+//! nothing.
 
 ghost use Rattle.std.specs.Prelude.{List};
 ghost use Rattle.macsec_secy.specs.declared.EndConfig.{EndConfig};
-ghost use Rattle.macsec_secy.specs.Step.{Input};
+ghost use Rattle.macsec_secy.specs.State.{State, start};
+ghost use Rattle.macsec_secy.specs.Agrees.{Agrees};
+ghost use Rattle.macsec_secy.specs.Sound.{IsSound};
+ghost use Rattle.macsec_secy.specs.Step.{Input, step};
+ghost use Rattle.macsec_secy.specs.Frames.{HasFrameLengths};
 ghost use Rattle.macsec_secy.specs.Laws.{UsesNoNumberTwice};
 
-/// Whatever comes in from the making of an endpoint on, no packet number is used twice under a key.
+use macsec_gcm::laws::{open_undoes_seal, sealed_lengths};
+use macsec_tx::laws::read_as_sent;
+
+/// Whatever comes in from the making of an endpoint on, no packet number is used twice under a key's
+/// number.
 pub fn uses_no_number_twice()
     ensures { (config : EndConfig) (inputs : List Input) → UsesNoNumberTwice config inputs }
 {}
+
+/// The rows of the tables agree after the making, and whatever comes in leaves them so.
+pub fn rows_agree()
+    ensures start { (config : EndConfig) → Agrees (start config) }
+    ensures step { (s : State) (input : Input) → Agrees s → Agrees (step s input).1 }
+{}
+
+/// In every state of which `IsSound` holds and whatever comes in, a frame that leaves or is shown has 14 to
+/// 9,248 octets, and one that is delivered is no longer than the received one.
+pub fn lengths_of_frames()
+    ensures { (s : State) (input : Input) → IsSound s → HasFrameLengths (step s input).0 }
+{
+    open_undoes_seal();
+    sealed_lengths();
+    read_as_sent();
+}

@@ -1,11 +1,12 @@
 //! The endpoint: the MAC security entity (IEEE 802.1AE, clause 10).
 #![tactic(auto)]
 
-ghost use Rattle.std.specs.Prelude.{◌≡◌, slice_get, IfOk};
+ghost use Rattle.std.specs.Prelude.{◌≡◌, ◌≤◌, length, slice_get, IfOk};
 ghost use Rattle.std.specs.Borrow.{sem};
 ghost use Rattle.macsec_tx.specs.Transmit.{tx_row};
 ghost use Rattle.macsec_secy.specs.Configs.{config_fault};
 ghost use Rattle.macsec_rx.specs.Channels.{rx_row};
+ghost use Rattle.macsec_rx.specs.Limits.{max_channel_count};
 ghost use Rattle.macsec_rx.specs.Rows.{IsSci};
 ghost use Rattle.macsec_secy.specs.Step.{client_frame, frame_fault, link_frame, operator_command, step, uncontrolled_frame};
 ghost use Rattle.macsec_secy.specs.Answers.{MakesEndpoint, output_of_command, output_of_frame, output_of_received, output_of_sent, rx_counters_of};
@@ -543,8 +544,10 @@ impl Secy {
     }
 
     /// The SCI of the receive channel at this place in the order of making, from 0, where there is one.
+    /// There are at most eight.
     pub fn rx_channel(&self, place: usize) -> Option<Sci>
-        ensures { result ≡ slice_get self.now.rx.scis place }
+        ensures sci { result ≡ slice_get self.now.rx.scis place }
+        ensures count { length self.now.rx.scis ≤ max_channel_count }
     {
         self.rx.channel(place)
     }

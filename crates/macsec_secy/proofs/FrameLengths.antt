@@ -1,0 +1,248 @@
+-- How long the frames are that an endpoint gives out.
+use Rattle.std.proofs.Common.{◌≡◌, ℕ, ◌+◌, ◌≤◌, ◌<◌, Bool, true, false, List, [], ◌∷◌, ◌++◌, length, take, drop, refl, ap, sym, ◌∙◌, arith, length-take, length-drop, length-append}
+use Rattle.std.specs.Prelude.{if◌then◌else◌, nat_lt, not, ◌&&◌, ◌||◌, Option, Some, None, IfSome}
+use Rattle.std.proofs.lemmas.Bool.{ltb-false}
+use Rattle.std.proofs.lemmas.List.{take-append-drop}
+use Rattle.macsec_gcm.specs.Gcm.{seal_of}
+use Rattle.macsec_gcm.specs.Laws.{OpenUndoesSeal, SealedLengths}
+use Rattle.macsec_tag.specs.declared.TagFault.{TagFault}
+use Rattle.macsec_tag.specs.declared.TagFault.TheVariants.{Cut}
+use Rattle.macsec_tag.specs.Frame.{MpduParts, has_macsec_ethertype}
+use Rattle.macsec_tag.specs.Table.{Reading, untagged, bad, tagged, after_tag, data_length_at, parts_at, reading, reading_with, tag_fault, tag_length_at}
+use Rattle.macsec_pn.specs.Numbers.{is_late, recovered_number}
+use Rattle.macsec_suite.specs.declared.Refusal.{Refusal}
+use Rattle.macsec_suite.specs.KeyRows.{InstalledKey, the_key}
+use Rattle.macsec_suite.specs.Parts.{aad_and_plaintext, clear_length}
+use Rattle.macsec_suite.specs.Suites.{is_xpn, iv_of, last_of}
+use Rattle.macsec_tx.specs.declared.TxOptions.{TxOptions}
+use Rattle.macsec_tx.specs.declared.TxRow.{TxRow}
+use Rattle.macsec_tx.specs.Laws.{CanBeSent, IsReadAsSent}
+use Rattle.macsec_tx.specs.Limits.{max_frame_len}
+use Rattle.macsec_tx.specs.Rows.{AreTxRows}
+use Rattle.macsec_tx.specs.Transmit.{Leaving, plain, protected, no_sa, too_long, Sending, not_protected, octets_added, protected_frame, row_on, sending_by, tag_sent}
+use Rattle.macsec_rx.specs.declared.RxOptions.{RxOptions}
+use Rattle.macsec_rx.specs.declared.RxRow.{RxRow}
+use Rattle.macsec_rx.specs.declared.Verdict.TheVariants.{Untagged, NoTag, BadTag, Reserved, NoSa, NoSaError, Late, NotValid, Unchecked, Delayed, Invalid}
+use Rattle.macsec_rx.specs.Judge.{Judgement, at_row, bare_frame, in_use, is_bad_number, is_disabled, is_strict, judge_number, judge_opened, judge_row, judge_tagged_row, opened_frame, plaintext_of, sci_of, without_row}
+use Rattle.macsec_secy.specs.declared.FrameFault.{FrameFault}
+use Rattle.macsec_secy.specs.declared.FrameFault.TheVariants.{Short, Long}
+use Rattle.macsec_secy.specs.State.{State, rx_options, tx_options}
+use Rattle.macsec_secy.specs.Reception.{judge_reading, judgement_of}
+use Rattle.macsec_secy.specs.Commands.{refusal}
+use Rattle.macsec_secy.specs.Step.{Input, Output, operator_command, client_frame, uncontrolled_frame, link_frame, command_output, frame_fault, leaves, received_output, sending_of, sent_output, step, unless_fault}
+use Rattle.macsec_secy.specs.Frames.{HasFrameLength, HasFrameLengths}
+use Rattle.macsec_secy.specs.Sound.{IsSound}
+
+-- the laws of the lower layers, as their calls give them
+pub record LowerLaws : Type 0 where
+  pub undoes : OpenUndoesSeal
+  pub lengths : SealedLengths
+  pub sent : (options : TxOptions) (key : InstalledKey) (row : TxRow) (frame : List ℕ) → CanBeSent options row frame → IsReadAsSent options key row frame
+
+-- ---- a frame that comes in and has no fault
+
+has_no_fault : (frame : List ℕ) → frame_fault frame ≡ None → HasFrameLength frame
+has_no_fault frame none = by_tests (nat_lt (length frame) 14) refl (nat_lt max_frame_len (length frame)) refl none
+  where
+    by_tests : (short : Bool) → nat_lt (length frame) 14 ≡ short → (long : Bool) → nat_lt max_frame_len (length frame) ≡ long →
+        (if short then Some Short else if long then Some Long else None) ≡ None → HasFrameLength frame
+    by_tests true s long l none = absurd cc
+    by_tests false s true l none = absurd cc
+    by_tests false s false l none = record { least = ltb-false (length frame) 14 s; most = ltb-false max_frame_len (length frame) l }
+
+-- an output that has frames of good length where the frame that came in has one
+unless_faulty : (s after : State) (frame : List ℕ) (output : Output) → (HasFrameLength frame → HasFrameLengths output) →
+    HasFrameLengths (unless_fault (frame_fault frame) s (output, after)).0
+unless_faulty s after frame output good = by_fault (frame_fault frame) refl
+  where
+    by_fault : (fault : Option FrameFault) → frame_fault frame ≡ fault → HasFrameLengths (unless_fault fault s (output, after)).0
+    by_fault None none = good (has_no_fault frame none)
+    by_fault (Some f) some = tt
+
+-- ---- what leaves
+
+-- a frame that leaves protected has a good length
+abbrev IsWithin : Leaving → Type 0
+IsWithin plain = Unit {0}
+IsWithin (protected key frame) = HasFrameLength frame
+IsWithin no_sa = Unit {0}
+IsWithin too_long = Unit {0}
+
+-- the association that is on has an association number that there is
+on_has_number : (rows : List TxRow) → AreTxRows rows → IfSome (row_on rows) (λ row. row.an < 4)
+on_has_number [] are = tt
+on_has_number (row ∷ rows) are = by_test row.on (on_has_number rows are.2)
+  where
+    by_test : (on : Bool) → IfSome (row_on rows) (λ r. r.an < 4) → IfSome (if on then Some row else row_on rows) (λ r. r.an < 4)
+    by_test true later = are.0.an
+    by_test false later = later
+
+protected_within : LowerLaws → (options : TxOptions) (key : InstalledKey) (row : TxRow) (frame : List ℕ) → options.max_frame ≤ max_frame_len →
+    CanBeSent options row frame → nat_lt options.max_frame (length frame + octets_added (tag_sent options row frame)) ≡ false →
+    HasFrameLength (protected_frame options key row frame)
+protected_within laws options key row frame limit can fits =
+    let octets = (laws.sent options key row frame can).octets in
+    let short = ltb-false options.max_frame (length frame + octets_added (tag_sent options row frame)) fits in
+    record { least = omega (arith, octets, can.long); most = omega (arith, octets, short, limit) }
+
+sent_by : LowerLaws → (options : TxOptions) (keys : List InstalledKey) (frame : List ℕ) (on : Option TxRow) → options.max_frame ≤ max_frame_len →
+    IfSome on (λ row. CanBeSent options row frame) → IsWithin (sending_by options keys frame on).leaving
+sent_by laws options keys frame None limit can = tt
+sent_by laws options keys frame (Some row) limit can =
+    by_tests (nat_lt (last_of (the_key keys row.key).suite) row.next) (nat_lt options.max_frame (length frame + octets_added (tag_sent options row frame))) refl
+  where
+    made : Sending
+    made = record { leaving = protected row.key (protected_frame options (the_key keys row.key) row frame); by = Some row }
+
+    by_tests : (used long : Bool) → nat_lt options.max_frame (length frame + octets_added (tag_sent options row frame)) ≡ long →
+        IsWithin (if used then not_protected no_sa else if long then not_protected too_long else made).leaving
+    by_tests true long e = tt
+    by_tests false true e = tt
+    by_tests false false e = protected_within laws options (the_key keys row.key) row frame limit can e
+
+sent_within : LowerLaws → (s : State) → IsSound s → (frame : List ℕ) → HasFrameLength frame → IsWithin (sending_of s frame).leaving
+sent_within laws s sound frame good = by_test s.options.protect (nat_lt s.config.max_frame (length frame))
+  where
+    can_send : (on : Option TxRow) → IfSome on (λ row. row.an < 4) → IfSome on (λ row. CanBeSent (tx_options s) row frame)
+    can_send None an = tt
+    can_send (Some row) an = record { long = good.least; an = an; sci = sound.own_sci.count }
+
+    by_test : (protects long : Bool) → IsWithin (if protects then sending_by (tx_options s) s.keys frame (row_on s.tx) else not_protected (if long then too_long else plain)).leaving
+    by_test true long = sent_by laws (tx_options s) s.keys frame (row_on s.tx) sound.max_frame_most (can_send (row_on s.tx) (on_has_number s.tx sound.tx))
+    by_test false true = tt
+    by_test false false = tt
+
+output_within : (frame : List ℕ) (leaving : Leaving) → HasFrameLength frame → IsWithin leaving → HasFrameLengths (sent_output frame leaving)
+output_within frame plain good within = good
+output_within frame (protected key protected_frame) good within = within
+output_within frame no_sa good within = tt
+output_within frame too_long good within = tt
+
+-- ---- what is received
+
+-- what is read of a frame has no more octets without SecTAG, ICV and padding
+abbrev FitsIn : ℕ → Reading → Type 0
+FitsIn n untagged = Unit {0}
+FitsIn n (bad fault) = Unit {0}
+FitsIn n (tagged p) = length (bare_frame p) ≤ n
+
+-- what is delivered has at most so many octets
+abbrev DeliversUpTo : ℕ → Judgement → Type 0
+DeliversUpTo n j = IfSome j.delivered (λ frame. length frame ≤ n)
+
+bare_long : (p : MpduParts) → length (bare_frame p) ≡ length p.da + length p.sa + length p.secure_data
+bare_long p = omega (arith, length-append (p.da ++ p.sa) p.secure_data, length-append p.da p.sa)
+
+parts_fit : (frame : List ℕ) → 14 ≤ length frame → length (bare_frame (parts_at frame)) ≤ length frame
+parts_fit frame long =
+    omega (
+      arith,
+      long,
+      bare_long (parts_at frame),
+      length-take 6 frame,
+      length-take 6 (drop 6 frame),
+      length-drop 6 frame,
+      length-take (data_length_at frame) (after_tag frame),
+      length-drop (tag_length_at frame) (drop 12 frame),
+      length-drop 12 frame,
+    )
+
+reading_fits : (frame : List ℕ) → 14 ≤ length frame → FitsIn (length frame) (reading frame)
+reading_fits frame long = by_tests (nat_lt (length frame) 14) (not (has_macsec_ethertype frame)) (tag_fault frame)
+  where
+    by_tests : (short other : Bool) (fault : Option TagFault) → FitsIn (length frame) (if short then bad Cut else if other then untagged else reading_with frame fault)
+    by_tests true other fault = tt
+    by_tests false true fault = tt
+    by_tests false false (Some fault) = tt
+    by_tests false false None = parts_fit frame long
+
+-- a plaintext has as many octets as its ciphertext
+opened_long : LowerLaws → (key : InstalledKey) (row : RxRow) (number : ℕ) (p : MpduParts) (plaintext : List ℕ) → plaintext_of key row number p ≡ Some plaintext →
+    length (opened_frame key p plaintext) ≡ length (bare_frame p)
+opened_long laws key row number p plaintext opens =
+    let n : ℕ = clear_length key.offset p.tag.e p.secure_data in
+    let iv : List ℕ = iv_of key.suite row.sci row.ssci key.salt number in
+    let ac : List ℕ × List ℕ = aad_and_plaintext key.offset p.tag.e p.da p.sa p.tag p.secure_data in
+    let sealed : seal_of key.bytes iv ac.0 plaintext ≡ (ac.1, p.icv) = (laws.undoes key.bytes iv ac.0 ac.1 p.icv plaintext).0 opens in
+    let same : length plaintext ≡ length (drop n p.secure_data) = sym (laws.lengths.ciphertext key.bytes iv ac.0 plaintext) ∙ ap (λ (s : List ℕ × List ℕ). length s.0) sealed in
+    let halves : length (take n p.secure_data) + length (drop n p.secure_data) ≡ length p.secure_data =
+    sym (length-append (take n p.secure_data) (drop n p.secure_data)) ∙ ap length (take-append-drop n p.secure_data) in
+    omega (
+      arith,
+      bare_long p,
+      length-append (p.da ++ p.sa ++ take n p.secure_data) plaintext,
+      length-append (p.da ++ p.sa) (take n p.secure_data),
+      length-append p.da p.sa,
+      same,
+      halves,
+    )
+
+opened_up_to : LowerLaws → (n : ℕ) (options : RxOptions) (key : InstalledKey) (row : RxRow) (number : ℕ) (p : MpduParts) (o : Option (List ℕ)) →
+    plaintext_of key row number p ≡ o → length (bare_frame p) ≤ n → DeliversUpTo n (judge_opened options key row number p o)
+opened_up_to laws n options key row number p None opens fits = by_test (p.tag.c || is_strict options.mode)
+  where
+    by_test : (b : Bool) → DeliversUpTo n (if b then at_row row number 11 NotValid None else at_row row number 12 Invalid (Some (bare_frame p)))
+    by_test true = tt
+    by_test false = fits
+opened_up_to laws n options key row number p (Some plaintext) opens fits = omega (arith, opened_long laws key row number p plaintext opens, fits)
+
+number_up_to : LowerLaws → (n : ℕ) (options : RxOptions) (key : InstalledKey) (row : RxRow) (p : MpduParts) (number : Option ℕ) →
+    length (bare_frame p) ≤ n → DeliversUpTo n (judge_number options key row p number)
+number_up_to laws n options key row p None fits = tt
+number_up_to laws n options key row p (Some number) fits =
+    by_tests (options.replay && is_late row.lowest number) (is_disabled options.mode && p.tag.c) (is_disabled options.mode)
+  where
+    by_tests : (dropped unusable disabled : Bool) → DeliversUpTo n (
+        if dropped then at_row row number 8 Late None
+        else if unusable then at_row row number 9 NotValid None
+        else if disabled then at_row row number 10 (if is_late row.lowest number then Delayed else Unchecked) (Some (bare_frame p))
+        else judge_opened options key row number p (plaintext_of key row number p))
+    by_tests true unusable disabled = tt
+    by_tests false true disabled = tt
+    by_tests false false true = fits
+    by_tests false false false = opened_up_to laws n options key row number p (plaintext_of key row number p) refl fits
+
+row_up_to : LowerLaws → (n : ℕ) (options : RxOptions) (keys : List InstalledKey) (p : MpduParts) (row : Option RxRow) →
+    length (bare_frame p) ≤ n → DeliversUpTo n (judge_row options keys p row)
+row_up_to laws n options keys p None fits = by_test (is_strict options.mode || p.tag.c)
+  where
+    by_test : (b : Bool) → DeliversUpTo n (if b then without_row 5 NoSaError None else without_row 6 NoSa (Some (bare_frame p)))
+    by_test true = tt
+    by_test false = fits
+row_up_to laws n options keys p (Some row) fits =
+    number_up_to laws n options (the_key keys row.key) row p (recovered_number (is_xpn (the_key keys row.key).suite) row.lowest p.tag.pn) fits
+
+tagged_up_to : LowerLaws → (n : ℕ) (options : RxOptions) (keys : List InstalledKey) (p : MpduParts) (row : Option RxRow) →
+    length (bare_frame p) ≤ n → DeliversUpTo n (judge_tagged_row options keys p row)
+tagged_up_to laws n options keys p row fits = by_tests (is_bad_number options.suite p.tag) (p.tag.e && not p.tag.c)
+  where
+    by_tests : (bad_number reserved : Bool) → DeliversUpTo n (
+        if bad_number then without_row 3 BadTag None else if reserved then without_row 4 Reserved None else judge_row options keys p row)
+    by_tests true reserved = tt
+    by_tests false true = tt
+    by_tests false false = row_up_to laws n options keys p row fits
+
+judged_up_to : LowerLaws → (s : State) (frame : List ℕ) (r : Reading) → FitsIn (length frame) r → DeliversUpTo (length frame) (judge_reading s frame r)
+judged_up_to laws s frame untagged fits = by_test (is_strict s.options.mode)
+  where
+    by_test : (b : Bool) → DeliversUpTo (length frame) (if b then without_row 1 NoTag None else without_row 2 Untagged (Some frame))
+    by_test true = tt
+    by_test false = omega arith
+judged_up_to laws s frame (bad fault) fits = tt
+judged_up_to laws s frame (tagged p) fits = tagged_up_to laws (length frame) (rx_options s) s.keys p (in_use s.rx.rows p.tag.an (sci_of s.rx.scis p)) fits
+
+-- ---- the law
+
+command_has_none : (r : Option Refusal) → HasFrameLengths (command_output r)
+command_has_none None = tt
+command_has_none (Some r) = tt
+
+pub lengths_of_frames : LowerLaws → (s : State) (input : Input) → IsSound s → HasFrameLengths (step s input).0
+lengths_of_frames laws s (operator_command c) sound = command_has_none (refusal s c)
+lengths_of_frames laws s (client_frame frame) sound =
+    unless_faulty s _ frame (sent_output frame (sending_of s frame).leaving)
+    (λ good. output_within frame (sending_of s frame).leaving good (sent_within laws s sound frame good))
+lengths_of_frames laws s (uncontrolled_frame frame) sound = unless_faulty s s frame (leaves frame None) (λ good. good)
+lengths_of_frames laws s (link_frame frame) sound =
+    unless_faulty s _ frame (received_output frame (judgement_of s frame))
+    (λ good. record { shown = good; controlled = judged_up_to laws s frame (reading frame) (reading_fits frame good.least) })

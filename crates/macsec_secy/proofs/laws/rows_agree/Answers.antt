@@ -1,0 +1,8 @@
+use Rattle.macsec_secy.proofs.StaysAgreed.{after_step, at_start}
+use Rattle.macsec_secy.proofs.laws.rows_agree.Goals as goal
+
+pub returns-clause-start : goal.returns-clause-start
+returns-clause-start c = at_start
+
+pub returns-clause-step : goal.returns-clause-step
+returns-clause-step c = after_step
