@@ -12,6 +12,7 @@ use Rattle.macsec_cli.specs.declared.lines.Line.TheVariants as line
 use Rattle.macsec_cli.specs.declared.lines.LineFault.TheVariants.{Word, Count, Hex, Number, LineLong}
 use Rattle.macsec_cli.specs.declared.faults.ScriptFault.TheVariants as script
 use Rattle.macsec_cli.specs.Kinds.{line_of}
+use Rattle.macsec_cli.specs.Numbers.{packet_number_text, rx_text}
 use Rattle.macsec_cli.specs.Printed.{printed_text}
 
 -- ---- lines that are skipped
@@ -72,6 +73,9 @@ no_salt = refl
 
 six_words : line_of (codes "A key 0 ad7a2bd03eac835a6f620fdcb506b345 0 00000001 12153525c0895e8000000000 0") ≡ Err Count
 six_words = refl
+
+numbers_of : line_of (codes "A numbers 1") ≡ Err Count
+numbers_of = refl
 
 -- ---- words that are not hex
 
@@ -270,6 +274,37 @@ uncontrolled : line_of (codes "A sendu 0aFf") ≡ Ok (Some (line.SendUncontrolle
 unfolding hex_on_literals
 uncontrolled = refl
 
+numbers : line_of (codes "A numbers\r") ≡ Ok (Some line.Numbers)
+numbers = refl
+
+-- ---- packet numbers that are shown
+
+first_shown : packet_number_text 1 ≡ codes "0000000000000001"
+unfolding digits
+first_shown = refl
+
+-- as many digits as there are, in lower case
+all_digits_shown : packet_number_text 81985529216486895 ≡ codes "0123456789abcdef"
+unfolding digits
+all_digits_shown = refl
+
+-- one past the last of 64 bits
+past_64_bits_shown : packet_number_text 18446744073709551616 ≡ codes "10000000000000000"
+unfolding digits
+past_64_bits_shown = refl
+
+received_shown : rx_text 12 (Some (record {
+  sci = record { 0 = 18 ∷ 21 ∷ 53 ∷ 36 ∷ 192 ∷ 137 ∷ 94 ∷ 129 ∷ [] };
+  an = 3;
+  key = 255;
+  ssci = 1;
+  next = 4294967297;
+  lowest = 4294967296;
+  on = true;
+})) ≡ codes "12 rx 12153524c0895e81 3 255 0000000100000001 0000000100000000 on\n"
+unfolding hex_on_literals digits
+received_shown = refl
+
 -- ---- scripts
 
 abbrev both_ends : List ℕ
@@ -351,6 +386,12 @@ both_ports = refl
 five_lines : printed_text (both_ends ++ codes "A key 0 ad7a2bd03eac835a6f620fdcb506b345 0\nA txsa 2 0 b2c28465 int\nA txon 2\n") ≡ Ok (codes "3 done\n4 done\n5 done\n")
 unfolding hex_on_literals digits
 five_lines = refl
+
+-- associations by their numbers, whatever the order of their making
+shown : printed_text (both_ends ++ codes "A numbers\nA key 0 ad7a2bd03eac835a6f620fdcb506b345 0\nA key 1 000102030405060708090a0b0c0d0e0f 0\nA txsa 3 0 abcdef conf\nA txsa 1 1 1 int\nA txon 1\nA numbers\n") ≡
+    Ok (codes "4 done\n5 done\n6 done\n7 done\n8 done\n9 tx 1 1 0000000000000001 on int\n9 tx 3 0 0000000000abcdef off conf\n")
+unfolding hex_on_literals digits
+shown = refl
 
 -- a last line without a line feed counts, and a skipped line has its number
 three_lines : printed_text (codes "#\nend A gcm128 12153524c0895e81 1518 sci\nend B gcm128 0000000000000001 1518 es\nA send 00") ≡ Ok (codes "4 fault 5 Short\n")

@@ -1,7 +1,9 @@
 pub mod Decimals
 pub mod Examples
 pub mod HexDigits
+pub mod HexNumbers
 pub mod LastLine
 pub mod LinesLeft
+pub mod Pieces
 pub mod Runs
 pub mod Unwritten

@@ -82,9 +82,13 @@ frame_kinds =
     kind (codes "send") (frame ∷ []) (λ frame. line.Send frame) ∷
     kind (codes "sendu") (frame ∷ []) (λ frame. line.SendUncontrolled frame) ∷ []
 
+-- the line that shows packet numbers
+abbrev pub show_kinds : List Kind
+show_kinds = kind (codes "numbers") [] line.Numbers ∷ []
+
 -- the lines that begin with an end's letter; they are A's alone
 abbrev pub kinds_at : End → List Kind
-kinds_at A = protection_kinds ++ (option_kinds ++ (key_kinds ++ (transmit_kinds ++ frame_kinds)))
+kinds_at A = protection_kinds ++ (option_kinds ++ (key_kinds ++ (transmit_kinds ++ (frame_kinds ++ show_kinds))))
 kinds_at B = []
 
 -- the other lines

@@ -5,6 +5,7 @@ pub mod Fields
 pub mod Kinds
 pub mod Scripts
 pub mod Refusals
+pub mod Numbers
 pub mod Printed
 pub mod Runs
 pub mod Failures

@@ -12,6 +12,7 @@ use Rattle.macsec_cli.specs.declared.running.Run.{Run}
 use Rattle.macsec_cli.specs.declared.faults.ScriptFault.{ScriptFault}
 use Rattle.macsec_cli.specs.Fields.{map_ok}
 use Rattle.macsec_cli.specs.Refusals.{refusal_text}
+use Rattle.macsec_cli.specs.Numbers.{numbers_text}
 use Rattle.macsec_cli.specs.Scripts.{NumberedLine, is_good, script_of}
 
 -- the line that tells an output of line n; a link frame is the next one after k. No line of a script
@@ -48,6 +49,7 @@ line_step r n (line.End e config) = ([], r)
 line_step r n (line.Command c) = text_and_run r n (step r.endpoint (operator_command c))
 line_step r n (line.Send frame) = send_step r n frame
 line_step r n (line.SendUncontrolled frame) = text_and_run r n (step r.endpoint (uncontrolled_frame frame))
+line_step r n line.Numbers = (numbers_text n r.endpoint, r)
 
 abbrev pub text_from : Run → List NumberedLine → List ℕ
 text_from r [] = []
@@ -63,6 +65,7 @@ a_config (line.End B config) = None
 a_config (line.Command c) = None
 a_config (line.Send frame) = None
 a_config (line.SendUncontrolled frame) = None
+a_config line.Numbers = None
 
 -- of a configuration of which no endpoint can be made nothing is printed; no script has one
 abbrev pub text_with : Option EndConfig → List NumberedLine → List ℕ

@@ -1,7 +1,8 @@
 //! What goes wrong in the program, as a line on standard error and as its status.
 
-ghost use Rattle.std.specs.Prelude.{◌≡◌, OnOk};
+ghost use Rattle.std.specs.Prelude.{◌≡◌, OnOk, MatchResult, Ok, Err};
 ghost use Rattle.std.specs.Io.KnownBytes.{Appends};
+ghost use Rattle.macsec_cli.specs.declared.faults.ScriptFault.TheVariants.{Write};
 ghost use Rattle.macsec_cli.specs.Failures.{failure_text, fault_line, fault_name, fault_status, failure_status, fault_text, text_at};
 
 use std::io::{self, Write};
@@ -141,5 +142,15 @@ fn tell_name<W: Write>(writer: &mut W, line: Option<u32>, name: &str) -> io::Res
     match line {
         Some(n) => writeln!(writer, "macsec: line {n}: {name}"),
         None => writeln!(writer, "macsec: {name}"),
+    }
+}
+
+/// A write that failed, as the fault of a script.
+pub fn write_fault(written: io::Result<()>) -> Result<(), ScriptFault>
+    ensures { MatchResult written (λ _. result ≡ Ok tt) (λ _. result ≡ Err Write) }
+{
+    match written {
+        Ok(()) => Ok(()),
+        Err(_) => Err(ScriptFault::Write),
     }
 }

@@ -3,7 +3,7 @@
 ghost use Rattle.std.specs.Prelude.{◌≡◌, [], map, codes, IfSome, IfNone};
 ghost use Rattle.macsec_cli.specs.Numerals.{decimal_in};
 ghost use Rattle.macsec_cli.specs.Fields.{value_of_keyword, ends};
-ghost use Rattle.macsec_cli.specs.Kinds.{read_line, read_at, kinds_at, kinds_of, kinds, protection_kinds, option_kinds, key_kinds, transmit_kinds, frame_kinds, of_words, line_of};
+ghost use Rattle.macsec_cli.specs.Kinds.{read_line, read_at, kinds_at, kinds_of, kinds, protection_kinds, option_kinds, key_kinds, transmit_kinds, frame_kinds, show_kinds, of_words, line_of};
 ghost use Rattle.macsec_cli.specs.Runs.{Answers};
 
 use crate::words;
@@ -49,13 +49,14 @@ impl Frame {
     }
 }
 
-/// What a line of a script says; commands and sends are A's.
+/// What a line of a script says; all but the lines of the ends are A's.
 #[derive(Drop)]
 pub enum Line {
     End(End, EndConfig),
     Command(Command),
     Send(Frame),
     SendUncontrolled(Frame),
+    Numbers,
 }
 
 /// What is wrong with a line.
@@ -260,6 +261,16 @@ fn send_uncontrolled(alloc: Global, words: &[&[u8]]) -> Result<Line, LineFault>
     Ok(Line::SendUncontrolled(words::frame(alloc, octets)?))
 }
 
+/// The showing of packet numbers, of the words after `numbers`.
+fn numbers(words: &[&[u8]]) -> Result<Line, LineFault>
+    ensures { result ≡ read_line (kinds_at End.A) (codes "numbers") (map (λ w. w.now) words.now) }
+{
+    if !words.is_empty() {
+        return Err(LineFault::Count);
+    }
+    Ok(Line::Numbers)
+}
+
 /// A line of an end, of its keyword and the words after it.
 fn line_at(alloc: Global, at: End, keyword: &[u8], words: &[&[u8]]) -> Result<Line, LineFault>
     ensures { Answers (read_line (kinds_at at) keyword.now (map (λ w. w.now) words.now)) result }
@@ -337,6 +348,18 @@ fn frame_line(alloc: Global, keyword: &[u8], words: &[&[u8]]) -> Option<Result<L
     }
 }
 
+/// A line of A that shows something, of its keyword and the words after it; `None` where the keyword is
+/// none of those.
+fn show_line(keyword: &[u8], words: &[&[u8]]) -> Option<Result<Line, LineFault>>
+    ensures some { IfSome result (λ line. line ≡ read_line (kinds_at End.A) keyword.now (map (λ w. w.now) words.now)) }
+    ensures none { IfNone result (kinds_of show_kinds keyword.now ≡ []) }
+{
+    match keyword {
+        b"numbers" => Some(numbers(words)),
+        _ => None,
+    }
+}
+
 /// A line of A, of its keyword and the words after it.
 fn line_of_a(alloc: Global, keyword: &[u8], words: &[&[u8]]) -> Result<Line, LineFault>
     ensures { Answers (read_line (kinds_at End.A) keyword.now (map (λ w. w.now) words.now)) result }
@@ -353,7 +376,10 @@ fn line_of_a(alloc: Global, keyword: &[u8], words: &[&[u8]]) -> Result<Line, Lin
     if let Some(line) = transmit_line(keyword, words) {
         return line;
     }
-    match frame_line(alloc, keyword, words) {
+    if let Some(line) = frame_line(alloc, keyword, words) {
+        return line;
+    }
+    match show_line(keyword, words) {
         Some(line) => line,
         None => Err(LineFault::Word),
     }

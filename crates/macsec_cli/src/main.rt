@@ -3,6 +3,7 @@
 
 mod faults;
 mod lines;
+mod numbers;
 mod running;
 mod script;
 #[cfg(test)]

@@ -1,7 +1,6 @@
 //! A script from a reader, and what it prints to a writer.
 
-ghost use Rattle.std.specs.Prelude.{◌≡◌, ◌≤◌, ◌<◌, ◌^◌, ◌+◌, ℕ, length, IfSome, IfErr, OnOk, MatchResult, None, Ok, Err};
-ghost use Rattle.macsec_cli.specs.declared.faults.ScriptFault.TheVariants.{Write};
+ghost use Rattle.std.specs.Prelude.{◌≡◌, ◌≤◌, ◌<◌, ◌^◌, ◌+◌, ℕ, length, IfSome, IfErr, OnOk, MatchResult, None};
 ghost use Rattle.macsec_cli.specs.declared.lines.Line.TheVariants as line;
 ghost use Rattle.macsec_cli.specs.Limits.{max_script_len};
 ghost use Rattle.macsec_cli.specs.Printed.{output_text, frames_after, line_step, send_step, text_from, text_with, text_of, a_config};
@@ -11,12 +10,13 @@ ghost use Rattle.macsec_secy.specs.Answers.{drop_output, output_of_command, outp
 ghost use Rattle.macsec_cli.specs.Refusals.{refusal_text};
 ghost use Rattle.macsec_cli.specs.Runs.{RunGives, LeavesText, IsInputFault, Prints};
 
-use crate::faults::ScriptFault;
+use crate::faults::{ScriptFault, write_fault};
 use crate::lines::{End, Frame, Line};
+use crate::numbers::print_numbers;
 use crate::script::{MAX_SCRIPT_LEN, parse_script};
 use macsec_secy::{Command, DropReason, EndConfig, FrameFault, NewFault, Refusal, Secy, Sent};
 use std::alloc::Global;
-use std::io::{self, Read, Write};
+use std::io::{Read, Write};
 
 /// A run of a script: the endpoint, and how many link frames were made.
 #[derive(Drop)]
@@ -135,6 +135,7 @@ fn print_line<W: Write>(
         Line::Command(command) => print_command(run, writer, n, command),
         Line::Send(frame) => print_sent(alloc, run, writer, n, frame),
         Line::SendUncontrolled(frame) => print_uncontrolled(alloc, run, writer, n, frame),
+        Line::Numbers => print_numbers(writer, n, &run.endpoint),
     }
 }
 
@@ -293,15 +294,5 @@ fn print_fault<W: Write>(writer: &mut W, n: u32, fault: FrameFault) -> Result<()
     match fault {
         FrameFault::Short => write_fault(writeln!(writer, "{n} fault 5 Short")),
         FrameFault::Long => write_fault(writeln!(writer, "{n} fault 6 Long")),
-    }
-}
-
-/// A write that failed, as the fault of a script.
-fn write_fault(written: io::Result<()>) -> Result<(), ScriptFault>
-    ensures { MatchResult written (λ _. result ≡ Ok tt) (λ _. result ≡ Err Write) }
-{
-    match written {
-        Ok(()) => Ok(()),
-        Err(_) => Err(ScriptFault::Write),
     }
 }

@@ -5,6 +5,7 @@ mod commands;
 mod devices;
 mod extended;
 mod frames;
+mod numbers;
 mod program;
 mod scripts;
 

@@ -68,7 +68,7 @@ fn reads_that_fail(rt: HostRuntime) -> Result<(), Fail> {
 #[test]
 fn writes_that_fail(rt: HostRuntime) -> Result<(), Fail> {
     let alloc = rt.alloc();
-    let script = format!(in alloc; "{ENDS}{COMMANDS}A send {CLIENT}\n")?;
+    let script = format!(in alloc; "{ENDS}{COMMANDS}A send {CLIENT}\nA numbers\n")?;
     for left in 0..100 {
         let mut writer = FailingWriter { left };
         let done = run_script(alloc, &mut script.as_bytes(), &mut writer);
