@@ -35,14 +35,14 @@ impl fmt::Display for PacketNumber {
     }
 }
 
-/// Is it on?
+/// The word of whether an association is on.
 fn state_text(on: bool) -> &'static str
     ensures { result.now ≡ state_text on }
 {
     if on { "on" } else { "off" }
 }
 
-/// Does it encrypt?
+/// The word of whether it encrypts.
 fn mode_text(conf: bool) -> &'static str
     ensures { result.now ≡ mode_text conf }
 {
