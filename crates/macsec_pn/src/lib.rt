@@ -59,8 +59,9 @@ impl RxNumbers {
 
     /// The packet number of a frame, of the 32 bits in its SecTAG: these themselves, or, where `xpn` says
     /// that packet numbers are extended to 64 bits, these under the upper half of the lowest acceptable
-    /// number, or under one more where their top bit is clear and that of its lower half is set. `None`
-    /// where that is not from 1 to 2^64 - 1.
+    /// number, or under one more where their top bit is clear and that of its lower half is set. `None` is
+    /// for extended packet numbers alone, where that is not from 1 to 2^64 - 1: without them 0 is answered
+    /// as 0.
     pub fn recover(&self, xpn: bool, low: u32) -> Option<u64>
         ensures value { result ≡ recovered_number xpn self.now.lowest low }
         // A number from the lowest acceptable one on that is less than 2^31 past it is recovered.

@@ -1,9 +1,11 @@
 pub mod Suites
 pub mod FirstThatHolds
 pub mod Keys
+pub mod FaultNumbers
 pub mod Parts
 pub mod InPlace
 pub mod Laws
 pub mod KeyRows
 pub mod Refusals
+pub mod RefusalNumbers
 pub mod KeyTables

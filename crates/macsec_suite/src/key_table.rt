@@ -135,7 +135,8 @@ impl KeyTable {
     }
 
     /// Notes that the packet number `pn` was used under the key of this number, which is there: the
-    /// first unused one is the next.
+    /// first unused one becomes one past the number that was noted last, also where a greater one was
+    /// noted before. So numbers are noted in rising order.
     pub fn note_used(&mut self, number: u8, pn: u64)
         requires { IsSome (key_row self.old number) }
         ensures noted { self.new ≡ keys_noting self.old number pn }

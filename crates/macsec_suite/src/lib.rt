@@ -9,6 +9,8 @@ ghost use Rattle.macsec_gcm.specs.Gcm.{max_plaintext_len};
 ghost use Rattle.macsec_gcm.specs.Octets.{sum_with_stream};
 ghost use Rattle.macsec_suite.specs.Suites.{extended_iv, is_xpn, iv_of, key_length, last_of, widest_window};
 ghost use Rattle.macsec_suite.specs.Keys.{fault_of, has_wrong_offset, prepared_from, suite_key_fault};
+ghost use Rattle.macsec_suite.specs.FaultNumbers.{number_of_suite_fault};
+ghost use Rattle.macsec_suite.specs.RefusalNumbers.{number_of_refusal};
 ghost use Rattle.macsec_suite.specs.InPlace.{IsTagLength, protected_octets, validated_octets};
 
 mod key_table;
@@ -106,6 +108,15 @@ pub enum SuiteFault {
     Offset = 2,
 }
 
+impl SuiteFault {
+    /// The number of the fault, 1 or 2, in the order of the tests.
+    pub fn number(self) -> u8
+        ensures { result ≡ number_of_suite_fault self }
+    {
+        self as u8
+    }
+}
+
 /// A key prepared for a suite. Contracts see it as the suite, the key's bytes and its confidentiality
 /// offset.
 #[derive(Drop)]
@@ -186,6 +197,15 @@ pub enum Refusal {
     /// The association has no packet number left.
     #[error("the association has no packet number left")]
     Exhausted = 20,
+}
+
+impl Refusal {
+    /// The number of the refusal, 1 to 20: of more than one that applies, the lowest is answered.
+    pub fn number(self) -> u8
+        ensures { result ≡ number_of_refusal self }
+    {
+        self as u8
+    }
 }
 
 /// A key to be installed: its number, its bytes, its salt, the own SSCI and its confidentiality offset.
@@ -295,6 +315,10 @@ fn exclusive_or(text: [u8; 12], other: [u8; 12]) -> [u8; 12]
 /// Protects DA, SA, a SecTAG of `tag_len` octets, 8 or 16, and data in place, and puts the ICV into the 16
 /// octets behind them, the last of `frame`. Where `conf` is true the data behind the key's confidentiality
 /// offset are encrypted; the rest is authenticated alone. The data have at most 2^36 - 32 octets.
+///
+/// No contract keeps a caller from using an IV twice under a key. Two frames under one IV give away the
+/// exclusive or of their encrypted data, and help to make ICVs of other frames. Of one sender `iv_of` gives
+/// another IV for each packet number: so each packet number has to be used once under a key.
 pub fn protect_in_place(key: &SuiteKey, iv: &[u8; 12], conf: bool, tag_len: usize, frame: &mut [u8])
     requires tag { IsTagLength tag_len }
     requires room { 28 + tag_len ≤ length frame.old }

@@ -3,6 +3,7 @@
 #![tactic(auto)]
 
 ghost use Rattle.std.specs.Prelude.{◌≡◌, ◌++◌, ◌<◌, ◌↔◌, ◌⊎◌, ℕ, length, IsSome, IfSome};
+ghost use Rattle.macsec_tag.specs.FaultNumbers.{number_of_fault};
 ghost use Rattle.macsec_tag.specs.Tag.{IsTag, spelling, tag_from};
 
 pub mod laws;
@@ -85,6 +86,15 @@ pub enum TagFault {
     /// SL is 48 or more, or there are fewer octets behind the SecTAG than it asks for.
     #[error("the frame has not the length that SL says")]
     Length = 5,
+}
+
+impl TagFault {
+    /// The number of the fault, 1 to 5, in the order of the tests.
+    pub fn number(self) -> u8
+        ensures { result ≡ number_of_fault self }
+    {
+        self as u8
+    }
 }
 
 /// A SecTAG (9.3). Contracts see it as what it says.
