@@ -1,39 +1,23 @@
 -- Laws on the rows of a table of keys.
-use Rattle.std.proofs.Common.{◌≡◌, ℕ, ◌<◌, ◌≤◌, ◌+◌, Bool, true, false, cond, List, [], ◌∷◌, ◌++◌, map, take, drop, length, get_or, refl, sym, ap, subst, ◌∙◌, arith, eqb, ◌||◌, inl, inr}
+use Rattle.std.proofs.Common.{◌≡◌, ℕ, ◌<◌, ◌≤◌, Bool, true, false, cond, List, [], ◌∷◌, ◌++◌, map, length, refl, sym, ap, subst, arith, eqb, ◌||◌, inl, inr}
 use Rattle.std.specs.Prelude.{Option, Some, None, ◌==◌, if◌then◌else◌}
-use Rattle.std.specs.List.{All, IsDistinct, AllByRecursion, list_any, refill}
-use Rattle.std.proofs.Math.ListN.{set}
-use Rattle.std.proofs.Math.Seq.{take-length}
-use Rattle.std.proofs.lemmas.List.{map-set, map-append, get_or-map, length-map, take-append-le}
-use Rattle.std.proofs.lemmas.List.Edits.{map_over_more}
-use Rattle.std.proofs.lemmas.List.Elements.{All-get_or, All-set, All-push}
+use Rattle.std.specs.List.{All, IsDistinct, AllByRecursion, list_any}
+use Rattle.std.proofs.lemmas.List.{map-append, length-map}
+use Rattle.std.proofs.lemmas.List.Elements.{All-push}
 use Rattle.std.proofs.lemmas.Map.Steps.{length-le_from_distinct_below}
 use Rattle.std.proofs.lemmas.Bool.{ne_eqb, eqb-false}
 use Rattle.std.proofs.lemmas.Bool.Decides.{eqb_tells}
-use Rattle.macsec_suite.specs.KeyRows.{AreKeyRows, InstalledKey, IsKeyRow, at_number, key_row, max_key_count, with_key}
+use Rattle.macsec_suite.specs.KeyRows.{AreKeyRows, InstalledKey, IsKeyRow, at_number, key_row, max_key_count}
 use Rattle.macsec_suite.specs.Refusals.{is_repeated}
 use Rattle.macsec_gcm.specs.Octets.{same_octets}
 use Rattle.macsec_suite.specs.KeyTables.{HasOwnKey, stored_row}
 use Rattle.macsec_suite.specs.declared.key_table.StoredKey.{StoredKey}
 
--- a loop that makes of each element x one that is shown as `change` of what x is shown as
-pub shown_over_more : {X Y : Type 0} (shown : X → Y) (change : Y → Y) (xs ys : List X) (i : ℕ) (d y : X) → i < length xs → i < length ys →
-    map shown ys ≡ map change (take i (map shown xs)) ++ drop i (map shown xs) → shown y ≡ change (shown (get_or ys i d)) →
-    map shown (set ys i y) ≡ map change (take (i + 1) (map shown xs)) ++ drop (i + 1) (map shown xs)
-shown_over_more shown change xs ys i d y within inside so_far changed =
-    map-set shown ys i y ∙ ap (λ z. set (map shown ys) i z) changed ∙
-    map_over_more change (map shown xs) (map shown ys) i (shown (get_or ys i d)) (omega (arith, length-map xs shown)) so_far
-    (sym (get_or-map shown ys i d (shown (get_or ys i d)) inside))
-
--- what holds of each element holds where an element that has it is replaced by one that keeps it
-pub all_over_set : {X : Type 0} (P : X → Type 0) (xs : List X) (i : ℕ) (d y : X) → i < length xs →
-    (P (get_or xs i d) → P y) → All P xs → All P (set xs i y)
-all_over_set P xs i d y within keeps all = All-set P xs i y (keeps (All-get_or P xs i d within all)) all
-
 abbrev numbers_of : List InstalledKey → List ℕ
 numbers_of rows = map (λ row. row.number) rows
 
-cond_none : {A : Type 0} (b : Bool) (x : A) (r : Option A) → cond b (Some x) r ≡ None → (b ≡ false) × (r ≡ None)
+-- a choice that gives none
+pub cond_none : {A : Type 0} (b : Bool) (x : A) (r : Option A) → cond b (Some x) r ≡ None → (b ≡ false) × (r ≡ None)
 cond_none true x r h = cc
 cond_none false x r h = (refl, h)
 
@@ -96,7 +80,7 @@ AreKeyRows-map f same keeps (row ∷ rows) h =
     (keeps row h.0, subst (λ n. key_row (map f rows) n ≡ None) (sym (same row)) (free-map f same rows row.number h.1), AreKeyRows-map f same keeps rows h.2)
 
 -- a change of one row keeps the numbers, where it keeps that row's
-number-at_number : (change : InstalledKey → InstalledKey) → ((row : InstalledKey) → (change row).number ≡ row.number) → (n : ℕ) (row : InstalledKey) → (at_number change n row).number ≡ row.number
+pub number-at_number : (change : InstalledKey → InstalledKey) → ((row : InstalledKey) → (change row).number ≡ row.number) → (n : ℕ) (row : InstalledKey) → (at_number change n row).number ≡ row.number
 number-at_number change same n row = by_test (row.number == n) (change row) row (same row)
   where
     by_test : (b : Bool) (x y : InstalledKey) → x.number ≡ y.number → (if b then x else y).number ≡ y.number
@@ -104,35 +88,16 @@ number-at_number change same n row = by_test (row.number == n) (change row) row 
     by_test false x y e = refl
 
 -- and what holds of each row, where it keeps that
-kept-at_number : (change : InstalledKey → InstalledKey) → ((row : InstalledKey) → IsKeyRow row → IsKeyRow (change row)) → (n : ℕ) (row : InstalledKey) → IsKeyRow row → IsKeyRow (at_number change n row)
+pub kept-at_number : (change : InstalledKey → InstalledKey) → ((row : InstalledKey) → IsKeyRow row → IsKeyRow (change row)) → (n : ℕ) (row : InstalledKey) → IsKeyRow row → IsKeyRow (at_number change n row)
 kept-at_number change keeps n row is = by_test (row.number == n) (change row) row (keeps row is) is
   where
     by_test : (b : Bool) (x y : InstalledKey) → IsKeyRow x → IsKeyRow y → IsKeyRow (if b then x else y)
     by_test true x y is_x is_y = is_x
     by_test false x y is_x is_y = is_y
 
--- what was lent as a slice comes back as it was left
-refill_same : {X : Type 0} (n : ℕ) (xs ws : List X) → n ≡ length ws → refill n xs ws ≡ ws
-refill_same n xs ws same =
-    let fits : n ≤ length ws = omega arith in
-    take-append-le n ws (drop (length ws) xs) fits ∙ rw same (take-length ws)
-
 -- what holds of the stored keys
 abbrev pub AreStoredKeys : List StoredKey → Type 0
 AreStoredKeys keys = AreKeyRows (map stored_row keys) × All (λ s. HasOwnKey s.row) keys
-
--- it holds of keys that were lent as a slice, and whose rows were changed but for their numbers
-pub kept_by_change : (change : InstalledKey → InstalledKey) → ((row : InstalledKey) → (change row).number ≡ row.number) → ((row : InstalledKey) → IsKeyRow row → IsKeyRow (change row)) → (number : ℕ)
-    (n : ℕ) (old lent new : List StoredKey) → n ≡ length old → lent ≡ old → length new ≡ length lent →
-    map stored_row new ≡ with_key change number (map stored_row lent) →
-    (All (λ s. HasOwnKey s.row) lent → All (λ s. HasOwnKey s.row) new) → AreStoredKeys old → AreStoredKeys (refill n old new)
-kept_by_change change same keeps number n old lent new whole is_old kept rows prepared h =
-    let back : new ≡ refill n old new = sym (refill_same n old new (whole ∙ ap length (sym is_old) ∙ sym kept)) in
-    let numbers : AreKeyRows (map stored_row new) =
-    subst AreKeyRows (sym rows) (AreKeyRows-map (at_number change number) (number-at_number change same number) (kept-at_number change keeps number) (map stored_row lent)
-    (subst (λ keys. AreKeyRows (map stored_row keys)) (sym is_old) h.0)) in
-    let own : All (λ s. HasOwnKey s.row) new = prepared (subst (All (λ s. HasOwnKey s.row)) (sym is_old) h.1) in
-    subst AreStoredKeys back (numbers, own)
 
 -- it holds of them and a key of a new number that is prepared from its own bytes
 pub AreStoredKeys-push : (keys : List StoredKey) (new : StoredKey) → AreStoredKeys keys → key_row (map stored_row keys) new.row.key.number ≡ None →

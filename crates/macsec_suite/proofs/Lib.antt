@@ -1,2 +1,3 @@
 pub mod ClearParts
 pub mod KeyLemmas
+pub mod KeyIndex

@@ -1,10 +1,10 @@
--- A stored key as a row of the table.
-use Rattle.std.specs.Prelude.{◌≡◌, ℕ}
+-- A stored key as a row of the table, and the index of the rows.
+use Rattle.std.specs.Prelude.{◌≡◌, ℕ, ◌<◌, List, length, slice_get, slice_index}
 use Rattle.macsec_aes.specs.Keys.{key_bytes}
 use Rattle.macsec_suite.specs.declared.KeyRow.{KeyRow}
 use Rattle.macsec_suite.specs.declared.key_table.StoredKey.{StoredKey}
 use Rattle.macsec_suite.specs.Keys.{prepared_from}
-use Rattle.macsec_suite.specs.KeyRows.{InstalledKey}
+use Rattle.macsec_suite.specs.KeyRows.{InstalledKey, key_row, max_key_count}
 
 abbrev pub row_shown : KeyRow → ℕ → InstalledKey
 row_shown row first_unused = record {
@@ -27,3 +27,9 @@ first_unused_of row = row.first_unused
 -- the prepared key of a row is that of its suite, its bytes and its offset
 abbrev pub HasOwnKey : KeyRow → Type 0
 HasOwnKey row = row.suite_key ≡ prepared_from row.suite_key.suite row.key.bytes row.key.offset
+
+-- the index of the rows: at each number the place of the row of this number, and where there is none a
+-- place behind all that there can be
+pub record IsIndex (places : List ℕ) (rows : List InstalledKey) : Type 0 where
+  pub finds : (n : ℕ) → n < max_key_count → key_row rows n ≡ slice_get rows (slice_index places n)
+  pub within : (n : ℕ) → n < max_key_count → slice_index places n < max_key_count → slice_index places n < length rows

@@ -1,10 +1,9 @@
 //! The table of an endpoint's keys (IEEE 802.1AE, 10.7).
 
-ghost use Rattle.std.specs.Prelude.{◌≡◌, [], ◌∷◌, ◌++◌, length, map, IfOk, OnOk, OnErr, IsSome, IfSome, MatchOption, option_map, Some, None};
-ghost use Rattle.std.specs.List.{All};
+ghost use Rattle.std.specs.Prelude.{◌≡◌, [], ◌∷◌, ◌++◌, length, slice_get, IfOk, OnOk, OnErr, IsSome, IfSome, MatchOption, option_map, Some, None};
 ghost use Rattle.macsec_aes.specs.Keys.{key_bytes};
 ghost use Rattle.macsec_gcm.specs.Octets.{same_octets};
-ghost use Rattle.macsec_suite.specs.KeyRows.{AreKeyRows, at_number, key_row, keys_noting, keys_retiring, keys_with, retired_row, row_noting, the_key};
+ghost use Rattle.macsec_suite.specs.KeyRows.{AreKeyRows, key_row, keys_noting, keys_retiring, keys_with, the_key};
 ghost use Rattle.macsec_suite.specs.KeyTables.{HasOwnKey, first_unused_of, row_shown, stored_row};
 ghost use Rattle.macsec_suite.specs.Suites.{key_length};
 ghost use Rattle.macsec_suite.specs.Refusals.{first_refusal, install_refusals, is_repeated, refusal_of, retire_refusals};
@@ -20,6 +19,9 @@ use std::marker::Model;
 /// The most keys of an endpoint.
 const MAX_KEY_COUNT: usize = 256;
 
+/// The place of a key that is not there: there are no more than 256 keys.
+const NO_PLACE: u16 = 256;
+
 /// An installed key and the first packet number that was never used under it.
 #[derive(Drop)]
 pub struct StoredKey {
@@ -32,22 +34,24 @@ pub struct StoredKey {
 #[derive(Drop)]
 pub struct KeyTable {
     rows: Vec<StoredKey>,
+    /// Where each number's key stands among the rows.
+    places: [u16; 256],
 }
 
 impl Model for KeyTable {
     ghost use Rattle.std.specs.Prelude.{◌≤◌, List, map, vec_capacity};
     ghost use Rattle.std.specs.List.{All};
     ghost use Rattle.macsec_suite.specs.KeyRows.{AreKeyRows, InstalledKey, max_key_count};
-    ghost use Rattle.macsec_suite.specs.KeyTables.{HasOwnKey, stored_row};
+    ghost use Rattle.macsec_suite.specs.KeyTables.{HasOwnKey, IsIndex, stored_row};
 
     ghost Value = { List InstalledKey };
 
     ghost view = { λ t. map stored_row t.rows.items };
 
-    // There is room for all the keys that an endpoint can have, their numbers are distinct, and each
-    // is prepared from its own bytes.
+    // There is room for all the keys that an endpoint can have, their numbers are distinct, each is
+    // prepared from its own bytes, and each is found by its number.
     ghost invariant = { λ t. (max_key_count ≤ vec_capacity t.rows) × AreKeyRows (map stored_row t.rows.items)
-        × All (λ s. HasOwnKey s.row) t.rows.items };
+        × All (λ s. HasOwnKey s.row) t.rows.items × IsIndex t.places (map stored_row t.rows.items) };
 }
 
 impl KeyTable {
@@ -57,6 +61,7 @@ impl KeyTable {
     {
         Ok(KeyTable {
             rows: Vec::with_capacity(alloc, MAX_KEY_COUNT)?,
+            places: [NO_PLACE; 256],
         })
     }
 
@@ -104,7 +109,9 @@ impl KeyTable {
         if in_use {
             return Err(Refusal::KeyInUse);
         }
-        retire_row(self.rows.as_mut_slice(), number);
+        let place = self.place_of(number);
+        let stored = &mut self.rows[place];
+        stored.row.retired = true;
         Ok(())
     }
 
@@ -114,24 +121,16 @@ impl KeyTable {
             (λ r. key_row self.now number ≡ Some (row_shown r.now (the_key self.now number).first_unused)) }
         ensures prepared { IfSome result (λ r. HasOwnKey r.now) }
     {
-        for stored in &self.rows {
-            if stored.row.key.number == number {
-                return Some(&stored.row);
-            }
-        }
-        None
+        let stored = self.rows.as_slice().get(self.place_of(number))?;
+        Some(&stored.row)
     }
 
     /// The first packet number that was never used under the key of this number.
     pub fn first_unused(&self, number: u8) -> Option<u128>
         ensures { result ≡ option_map first_unused_of (key_row self.now number) }
     {
-        for stored in &self.rows {
-            if stored.row.key.number == number {
-                return Some(stored.first_unused);
-            }
-        }
-        None
+        let stored = self.rows.as_slice().get(self.place_of(number))?;
+        Some(stored.first_unused)
     }
 
     /// Notes that the packet number `pn` was used under the key of this number, which is there: the
@@ -142,7 +141,16 @@ impl KeyTable {
         ensures noted { self.new ≡ keys_noting self.old number pn }
         ensures rows { AreKeyRows self.new }
     {
-        note_row_used(self.rows.as_mut_slice(), number, pn);
+        let place = self.place_of(number);
+        let stored = &mut self.rows[place];
+        stored.first_unused = u128::from(pn) + 1;
+    }
+
+    /// Where the key of this number stands among the rows; behind them all, where there is none.
+    fn place_of(&self, number: u8) -> usize
+        ensures { key_row self.now number ≡ slice_get self.now result }
+    {
+        self.places[number as usize] as usize
     }
 
     /// Was a key of these bytes installed?
@@ -163,6 +171,7 @@ impl KeyTable {
         ensures added { self.new ≡ self.old ++ row_shown added 1 ∷ [] }
         ensures rows { AreKeyRows self.new }
     {
+        self.places[added.key.number as usize] = self.rows.len() as u16;
         self.rows
             .push(StoredKey {
                 row: added,
@@ -179,26 +188,6 @@ impl StoredKey {
     {
         octets_of(&self.row.key.bytes) == octets_of(&bytes)
     }
-
-    /// Retires the key, where it has this number.
-    fn retire(&mut self, number: u8)
-        ensures row { stored_row self.new ≡ at_number retired_row number (stored_row self.old) }
-        ensures prepared { HasOwnKey self.old.row → HasOwnKey self.new.row }
-    {
-        if self.row.key.number == number {
-            self.row.retired = true;
-        }
-    }
-
-    /// Notes that the packet number `pn` was used under the key, where it has this number.
-    fn note_used(&mut self, number: u8, pn: u64)
-        ensures row { stored_row self.new ≡ at_number (row_noting pn) number (stored_row self.old) }
-        ensures prepared { HasOwnKey self.old.row → HasOwnKey self.new.row }
-    {
-        if self.row.key.number == number {
-            self.first_unused = u128::from(pn) + 1;
-        }
-    }
 }
 
 /// The octets of a key.
@@ -208,25 +197,5 @@ fn octets_of(key: &Key) -> &[u8]
     match key {
         Key::K128(octets) => octets,
         Key::K256(octets) => octets,
-    }
-}
-
-/// Retires the key of this number.
-fn retire_row(rows: &mut [StoredKey], number: u8)
-    ensures rows { map stored_row rows.new ≡ keys_retiring (map stored_row rows.old) number }
-    ensures prepared { All (λ s. HasOwnKey s.row) rows.old → All (λ s. HasOwnKey s.row) rows.new }
-{
-    for stored in rows.iter_mut() {
-        stored.retire(number);
-    }
-}
-
-/// Notes that the packet number `pn` was used under the key of this number.
-fn note_row_used(rows: &mut [StoredKey], number: u8, pn: u64)
-    ensures rows { map stored_row rows.new ≡ keys_noting (map stored_row rows.old) number pn }
-    ensures prepared { All (λ s. HasOwnKey s.row) rows.old → All (λ s. HasOwnKey s.row) rows.new }
-{
-    for stored in rows.iter_mut() {
-        stored.note_used(number, pn);
     }
 }

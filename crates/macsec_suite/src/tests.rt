@@ -90,9 +90,9 @@ fn octets_of(words: [u128; 6]) -> [u8; 96] {
     octets
 }
 
-/// The key of the test frames for a suite, with a confidentiality offset.
-fn key_of(suite: Suite, offset: u8) -> Result<SuiteKey, SuiteFault> {
-    let key = match suite {
+/// The key of the test frames for a suite.
+fn bytes_of(suite: Suite) -> Key {
+    match suite {
         Suite::Gcm128 | Suite::Xpn128 => Key::K128(KEY_128.to_be_bytes()),
         Suite::Gcm256 | Suite::Xpn256 => {
             let mut bytes = [0; 32];
@@ -100,8 +100,17 @@ fn key_of(suite: Suite, offset: u8) -> Result<SuiteKey, SuiteFault> {
             bytes[16..].copy_from_slice(&KEY_256[1].to_be_bytes());
             Key::K256(bytes)
         }
-    };
+    }
+}
+
+/// A key prepared for a suite, with a confidentiality offset.
+fn prepared(suite: Suite, key: Key, offset: u8) -> Result<SuiteKey, SuiteFault> {
     SuiteKey::new(suite, key, salt(), offset)
+}
+
+/// The key of the test frames prepared for a suite, with a confidentiality offset.
+fn key_of(suite: Suite, offset: u8) -> Result<SuiteKey, SuiteFault> {
+    prepared(suite, bytes_of(suite), offset)
 }
 
 /// With this salt, SSCI 1 and packet number 1b2c28465 an extended IV is that of the test frames.
@@ -111,6 +120,14 @@ fn salt() -> [u8; 12] {
     salt
 }
 
+/// The IV of the test frames' SCI, where the suite has such a packet number.
+fn iv_with(suite: Suite, ssci: u32, salt: [u8; 12], pn: u64) -> Option<[u8; 12]> {
+    if pn > suite.last() {
+        return None;
+    }
+    Some(iv_of(suite, Sci(SCI.to_be_bytes()), ssci, salt, pn))
+}
+
 /// The IV of the test frames.
 fn iv(suite: Suite) -> [u8; 12] {
     let pn = if suite.is_xpn() {
@@ -118,31 +135,59 @@ fn iv(suite: Suite) -> [u8; 12] {
     } else {
         0xb2c2_8465
     };
-    iv_of(suite, Sci(SCI.to_be_bytes()), 1, salt(), pn)
+    iv_with(suite, 1, salt(), pn).unwrap_or([0; 12])
+}
+
+/// The length of a suite's keys, its last packet number and its widest replay window.
+fn numbers_of(suite: Suite) -> (usize, u64, u64) {
+    (suite.key_length(), suite.last(), suite.widest_window())
 }
 
 #[test]
-fn suites_and_refused_keys(rt: HostRuntime) -> Result<(), Fail> {
-    for (suite, length) in [(Suite::Gcm128, 16), (Suite::Gcm256, 32)] {
-        assert_eq!(&rt; suite.key_length(), length);
-        assert_eq!(&rt; suite.last(), 0xffff_ffff);
-        for offset in [0, 30, 50] {
-            assert_eq!(&rt; key_of(suite, offset)?.suite(), suite);
-        }
-        assert_eq!(&rt; key_of(suite, 40).err(), Some(SuiteFault::Offset));
+fn suites(rt: HostRuntime) {
+    for (suite, numbers) in [
+        (Suite::Gcm128, (16, 0xffff_ffff, 0xffff_ffff)),
+        (Suite::Gcm256, (32, 0xffff_ffff, 0xffff_ffff)),
+        (Suite::Xpn128, (16, u64::MAX, 0x3fff_ffff)),
+        (Suite::Xpn256, (32, u64::MAX, 0x3fff_ffff)),
+    ] {
+        assert_eq!(rt; numbers_of(suite), numbers);
     }
-    for (suite, length) in [(Suite::Xpn128, 16), (Suite::Xpn256, 32)] {
-        assert_eq!(&rt; suite.key_length(), length);
-        assert_eq!(&rt; suite.last(), u64::MAX);
-        assert_eq!(&rt; suite.widest_window(), 0x3fff_ffff);
-        assert_eq!(&rt; key_of(suite, 0)?.suite(), suite);
-        assert_eq!(&rt; key_of(suite, 30).err(), Some(SuiteFault::Offset));
+}
+
+/// The suite of a prepared key, or why it is not prepared.
+fn preparation(suite: Suite, key: Key, offset: u8) -> Result<Suite, SuiteFault> {
+    Ok(prepared(suite, key, offset)?.suite())
+}
+
+#[test]
+fn prepared_and_refused_keys(rt: HostRuntime) {
+    for (suite, offset, fault) in [
+        (Suite::Gcm128, 0, None),
+        (Suite::Gcm128, 30, None),
+        (Suite::Gcm128, 50, None),
+        (Suite::Gcm128, 40, Some(SuiteFault::Offset)),
+        (Suite::Gcm256, 0, None),
+        (Suite::Gcm256, 30, None),
+        (Suite::Gcm256, 50, None),
+        (Suite::Gcm256, 40, Some(SuiteFault::Offset)),
+        (Suite::Xpn128, 0, None),
+        (Suite::Xpn128, 30, Some(SuiteFault::Offset)),
+        (Suite::Xpn256, 0, None),
+        (Suite::Xpn256, 30, Some(SuiteFault::Offset)),
+    ] {
+        let wanted = match fault {
+            None => Ok(suite),
+            Some(fault) => Err(fault),
+        };
+        assert_eq!(rt; preparation(suite, bytes_of(suite), offset), wanted);
     }
-    let short = SuiteKey::new(Suite::Gcm256, Key::K128(KEY_128.to_be_bytes()), [0; 12], 40);
-    assert_eq!(&rt; short.err(), Some(SuiteFault::KeyLength));
-    let long = SuiteKey::new(Suite::Gcm128, Key::K256([0; 32]), [0; 12], 0);
-    assert_eq!(&rt; long.err(), Some(SuiteFault::KeyLength));
-    Ok(())
+    for (suite, key, offset) in [
+        (Suite::Gcm256, Key::K128(KEY_128.to_be_bytes()), 40),
+        (Suite::Gcm128, Key::K256([0; 32]), 0),
+    ] {
+        assert_eq!(rt; preparation(suite, key, offset), Err(SuiteFault::KeyLength));
+    }
 }
 
 #[test]
@@ -151,34 +196,38 @@ fn ivs(rt: HostRuntime) {
     wanted[..8].copy_from_slice(&SCI.to_be_bytes());
     wanted[8..].copy_from_slice(&0xb2c2_8465u32.to_be_bytes());
     for suite in [Suite::Gcm128, Suite::Gcm256, Suite::Xpn128, Suite::Xpn256] {
-        assert_eq!(&rt; iv(suite), wanted);
+        assert_eq!(rt; iv(suite), wanted);
     }
-    let sci = Sci(SCI.to_be_bytes());
-    let plain = iv_of(Suite::Gcm256, sci, 2, [0xff; 12], 0xb2c2_8465);
-    assert_eq!(&rt; plain, wanted);
-    let other_ssci = iv_of(Suite::Xpn128, sci, 2, salt(), 0x1_b2c2_8465);
-    assert_eq!(&rt; other_ssci[3], wanted[3] ^ 3);
-    let lower_half = iv_of(Suite::Xpn256, sci, 1, salt(), 0xb2c2_8465);
-    assert_eq!(&rt; lower_half[7], wanted[7] ^ 1);
+    let mut other_ssci = wanted;
+    other_ssci[3] ^= 3;
+    let mut lower_half = wanted;
+    lower_half[7] ^= 1;
+    for (suite, ssci, salt, pn, iv) in [
+        (Suite::Gcm256, 2, [0xff; 12], 0xb2c2_8465, wanted),
+        (Suite::Xpn128, 2, salt(), 0x1_b2c2_8465, other_ssci),
+        (Suite::Xpn256, 1, salt(), 0xb2c2_8465, lower_half),
+    ] {
+        assert_eq!(rt; iv_with(suite, ssci, salt, pn), Some(iv));
+    }
 }
 
-/// A frame with its first `length` octets protected in place.
+/// A frame with `length` octets of data protected in place, under a confidentiality offset.
 fn link_frame(
     suite: Suite,
+    offset: u8,
     conf: bool,
     frame: [u128; 6],
     length: usize,
 ) -> Result<[u8; 96], SuiteFault>
-    requires least { 44 ≤ length }
-    requires most { length ≤ 96 }
+    requires { length ≤ 52 }
 {
     let mut octets = octets_of(frame);
     protect_in_place(
-        &key_of(suite, 0)?,
+        &key_of(suite, offset)?,
         &iv(suite),
         conf,
         16,
-        &mut octets[..length],
+        &mut octets[..44 + length],
     );
     Ok(octets)
 }
@@ -208,18 +257,11 @@ fn with_zeros_from(frame: [u8; 96], place: usize) -> [u8; 96] {
 
 #[test]
 fn integrity(rt: HostRuntime) -> Result<(), Fail> {
-    let link = link_frame(Suite::Gcm128, false, FRAME_54, 86)?;
-    assert_eq!(&rt; link, octets_of(LINK_54_128));
-    assert_eq!(&rt;
-        validated_frame(Suite::Gcm128, false, link, 42)?,
-        (true, link)
-    );
-    let link = link_frame(Suite::Gcm256, false, FRAME_54, 86)?;
-    assert_eq!(&rt; link, octets_of(LINK_54_256));
-    assert_eq!(&rt;
-        validated_frame(Suite::Gcm256, false, link, 42)?,
-        (true, link)
-    );
+    for (suite, wanted) in [(Suite::Gcm128, LINK_54_128), (Suite::Gcm256, LINK_54_256)] {
+        let link = link_frame(suite, 0, false, FRAME_54, 42)?;
+        assert_eq!(&rt; link, octets_of(wanted));
+        assert_eq!(&rt; validated_frame(suite, false, link, 42)?, (true, link));
+    }
     Ok(())
 }
 
@@ -231,7 +273,7 @@ fn confidentiality(rt: HostRuntime) -> Result<(), Fail> {
         (Suite::Gcm256, LINK_60_256),
         (Suite::Xpn256, LINK_60_256),
     ] {
-        let link = link_frame(suite, true, FRAME_60, 92)?;
+        let link = link_frame(suite, 0, true, FRAME_60, 48)?;
         assert_eq!(&rt; link, octets_of(wanted));
         let (is_genuine, opened) = validated_frame(suite, true, link, 48)?;
         assert_eq!(&rt;
@@ -239,11 +281,6 @@ fn confidentiality(rt: HostRuntime) -> Result<(), Fail> {
             (true, octets_of(FRAME_60))
         );
     }
-    Ok(())
-}
-
-#[test]
-fn altered_frame(rt: HostRuntime) -> Result<(), Fail> {
     let mut altered = octets_of(LINK_60_128);
     altered[28] = 0x71;
     assert_eq!(&rt;
@@ -256,6 +293,7 @@ fn altered_frame(rt: HostRuntime) -> Result<(), Fail> {
 /// The first octets of the data stay clear: as many as the offset says, or all of fewer.
 #[test]
 fn clear_octets(rt: HostRuntime) -> Result<(), Fail> {
+    let client = octets_of(FRAME_60);
     for (offset, length, clear) in [
         (30, 29, 29),
         (30, 30, 30),
@@ -265,16 +303,7 @@ fn clear_octets(rt: HostRuntime) -> Result<(), Fail> {
         (50, 51, 50),
     ] {
         assert!(&rt; clear <= length && length <= 52);
-        let key = key_of(Suite::Gcm128, offset)?;
-        let client = octets_of(FRAME_60);
-        let mut frame = client;
-        protect_in_place(
-            &key,
-            &iv(Suite::Gcm128),
-            true,
-            16,
-            &mut frame[..44 + length],
-        );
+        let frame = link_frame(Suite::Gcm128, offset, true, FRAME_60, length)?;
         assert_eq!(&rt; frame[..28 + clear], client[..28 + clear]);
         let is_encrypted = frame[28 + clear..28 + length] != client[28 + clear..28 + length];
         assert_eq!(&rt;

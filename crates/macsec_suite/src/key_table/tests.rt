@@ -9,69 +9,124 @@ use std::test::Fail;
 /// The key of 128 bits of the test frames of IEEE 802.1AE, Annex C.
 const KEY_128: u128 = 0xad7a_2bd0_3eac_835a_6f62_0fdc_b506_b345;
 
-/// A key of these 128 bits, all of whose data are encrypted.
-fn key_of(number: u8, bits: u128) -> NewKey {
+/// A call that changes a table.
+#[derive(Clone, Copy, Debug)]
+enum Call {
+    /// Installs a key of this number and these bits under GCM-AES-128.
+    Install(u8, u128),
+    /// Retires the key of this number, of which this says whether it is in use.
+    Retire(u8, bool),
+    /// Notes that a packet number was used under the key of this number, where it is there.
+    Note(u8, u64),
+}
+
+/// A key of these 128 bits, with an offset.
+fn key_of(number: u8, bits: u128, offset: u8) -> NewKey {
     NewKey {
         number,
         bytes: Key::K128(bits.to_be_bytes()),
         salt: [0; 12],
         ssci: 0,
-        offset: 0,
+        offset,
     }
 }
 
-/// Installs such a key under GCM-AES-128.
-fn install(table: &mut KeyTable, number: u8, bits: u128) -> Result<(), Refusal> {
-    table.install(Suite::Gcm128, &key_of(number, bits))
+/// What a table answers to a call.
+fn answer_to(table: &mut KeyTable, call: Call) -> Result<(), Refusal> {
+    match call {
+        Call::Install(number, bits) => table.install(Suite::Gcm128, &key_of(number, bits, 0)),
+        Call::Retire(number, in_use) => table.retire(number, in_use),
+        Call::Note(number, pn) => {
+            if table.key(number).is_some() {
+                table.note_used(number, pn);
+            }
+            Ok(())
+        }
+    }
+}
+
+/// What a table shows of the key of a number: its number, whether it is retired, and its first unused
+/// packet number.
+fn key_shown(table: &KeyTable, number: u8) -> Option<(u8, bool, u128)> {
+    let row = table.key(number)?;
+    let first_unused = table.first_unused(number)?;
+    Some((row.key.number, row.retired, first_unused))
 }
 
 #[test]
-fn installed_and_retired(rt: HostRuntime) -> Result<(), Fail> {
+fn calls_in_a_row(rt: HostRuntime) -> Result<(), Fail> {
     let mut table = KeyTable::new(rt.alloc())?;
-    assert_eq!(&rt; table.retire(9, false), Err(Refusal::NoKey));
-    assert_eq!(&rt; install(&mut table, 0, KEY_128), Ok(()));
-    assert_eq!(&rt; install(&mut table, 0, 1), Err(Refusal::KeyNumberUsed));
-    assert_eq!(&rt;
-        install(&mut table, 0, KEY_128),
-        Err(Refusal::KeyNumberUsed)
-    );
-    assert_eq!(&rt; install(&mut table, 1, KEY_128), Err(Refusal::KeyRepeated));
-    assert_eq!(&rt; table.retire(0, true), Err(Refusal::KeyInUse));
-    assert_eq!(&rt; table.key(0).map(|row| row.retired), Some(false));
-    assert_eq!(&rt; table.retire(0, false), Ok(()));
-    assert_eq!(&rt; table.key(0).map(|row| row.retired), Some(true));
-    assert_eq!(&rt; table.retire(0, true), Err(Refusal::KeyRetired));
-    assert_eq!(&rt; install(&mut table, 0, 1), Err(Refusal::KeyNumberUsed));
-    assert_eq!(&rt; install(&mut table, 2, KEY_128), Err(Refusal::KeyRepeated));
-    assert_eq!(&rt; table.retire(9, true), Err(Refusal::NoKey));
-    assert!(&rt; table.key(9).is_none());
+    for (call, answer, shown) in [
+        (Call::Retire(9, false), Err(Refusal::NoKey), None),
+        (Call::Install(0, KEY_128), Ok(()), Some((0, false, 1))),
+        (
+            Call::Install(0, 1),
+            Err(Refusal::KeyNumberUsed),
+            Some((0, false, 1)),
+        ),
+        (
+            Call::Install(0, KEY_128),
+            Err(Refusal::KeyNumberUsed),
+            Some((0, false, 1)),
+        ),
+        (
+            Call::Install(1, KEY_128),
+            Err(Refusal::KeyRepeated),
+            Some((0, false, 1)),
+        ),
+        (Call::Note(0, 5), Ok(()), Some((0, false, 6))),
+        (Call::Install(1, 1), Ok(()), Some((0, false, 6))),
+        (Call::Note(1, 8), Ok(()), Some((0, false, 6))),
+        (
+            Call::Retire(0, true),
+            Err(Refusal::KeyInUse),
+            Some((0, false, 6)),
+        ),
+        (Call::Retire(0, false), Ok(()), Some((0, true, 6))),
+        (
+            Call::Retire(0, true),
+            Err(Refusal::KeyRetired),
+            Some((0, true, 6)),
+        ),
+        (
+            Call::Install(0, 2),
+            Err(Refusal::KeyNumberUsed),
+            Some((0, true, 6)),
+        ),
+        (
+            Call::Install(2, KEY_128),
+            Err(Refusal::KeyRepeated),
+            Some((0, true, 6)),
+        ),
+        (
+            Call::Retire(9, true),
+            Err(Refusal::NoKey),
+            Some((0, true, 6)),
+        ),
+    ] {
+        assert_eq!(&rt; answer_to(&mut table, call), answer, "{call:?}");
+        assert_eq!(&rt; key_shown(&table, 0), shown, "after {call:?}");
+    }
+    assert_eq!(&rt; key_shown(&table, 1), Some((1, false, 9)));
+    assert_eq!(&rt; key_shown(&table, 9), None);
     Ok(())
+}
+
+/// What an empty table answers to the installation of a key of 128 bits and offset 40.
+fn answer_to_offset_40(table: &mut KeyTable, suite: Suite) -> Result<(), Refusal> {
+    table.install(suite, &key_of(0, KEY_128, 40))
 }
 
 #[test]
 fn wrong_lengths_and_offsets(rt: HostRuntime) -> Result<(), Fail> {
     let mut table = KeyTable::new(rt.alloc())?;
-    let key = NewKey {
-        offset: 40,
-        ..key_of(0, KEY_128)
-    };
-    assert_eq!(&rt; table.install(Suite::Gcm256, &key), Err(Refusal::KeyLength));
-    assert_eq!(&rt; table.install(Suite::Gcm128, &key), Err(Refusal::Offset));
-    assert!(&rt; table.key(0).is_none());
-    Ok(())
-}
-
-#[test]
-fn unused_packet_numbers(rt: HostRuntime) -> Result<(), Fail> {
-    let mut table = KeyTable::new(rt.alloc())?;
-    assert_eq!(&rt; table.first_unused(0), None);
-    assert_eq!(&rt; install(&mut table, 0, KEY_128), Ok(()));
-    assert_eq!(&rt; install(&mut table, 1, 1), Ok(()));
-    assert_eq!(&rt; table.first_unused(0), Some(1));
-    assert!(&rt; table.key(0).is_some());
-    table.note_used(0, 5);
-    assert_eq!(&rt; table.first_unused(0), Some(6));
-    assert_eq!(&rt; table.first_unused(1), Some(1));
+    for (suite, refusal) in [
+        (Suite::Gcm256, Refusal::KeyLength),
+        (Suite::Gcm128, Refusal::Offset),
+    ] {
+        assert_eq!(&rt; answer_to_offset_40(&mut table, suite), Err(refusal));
+        assert_eq!(&rt; key_shown(&table, 0), None);
+    }
     Ok(())
 }
 
@@ -79,13 +134,15 @@ fn unused_packet_numbers(rt: HostRuntime) -> Result<(), Fail> {
 fn room_for_every_number(rt: HostRuntime) -> Result<(), Fail> {
     let mut table = KeyTable::new(rt.alloc())?;
     for number in 0..=255 {
-        assert_eq!(&rt;
-            install(&mut table, number, u128::from(number)),
-            Ok(()),
-            "at {number}"
-        );
+        let install = Call::Install(number, u128::from(number));
+        assert_eq!(&rt; answer_to(&mut table, install), Ok(()), "at {number}");
     }
-    assert_eq!(&rt; install(&mut table, 7, 256), Err(Refusal::KeyNumberUsed));
-    assert_eq!(&rt; table.key(255).map(|row| row.key.number), Some(255));
+    for number in 0..=255 {
+        assert_eq!(&rt; key_shown(&table, number), Some((number, false, 1)));
+    }
+    assert_eq!(&rt;
+        answer_to(&mut table, Call::Install(7, 256)),
+        Err(Refusal::KeyNumberUsed)
+    );
     Ok(())
 }

@@ -1,10 +1,18 @@
-use Rattle.std.proofs.Common.{◌≡◌, ◌∷◌, [], ◌++◌, refl, subst, sym, arith, rules}
+use Rattle.std.proofs.Common.{◌≡◌, ◌<◌, ◌∷◌, [], ◌++◌, map, length, refl, subst, sym, ap, ◌∙◌, arith, rules}
+use Rattle.std.specs.Prelude.{None}
+use Rattle.std.proofs.Math.ListN.{set}
+use Rattle.std.proofs.lemmas.List.{map-append, length-map}
 use Rattle.std.proofs.lemmas.Slice.{pushed}
 use Rattle.macsec_suite.specs.declared.key_table.StoredKey.{StoredKey}
 use Rattle.macsec_suite.proofs.KeyLemmas.{has_room, AreStoredKeys, AreStoredKeys-push}
-use Rattle.macsec_suite.specs.KeyRows.{IsKeyRow}
-use Rattle.macsec_suite.specs.KeyTables.{stored_row}
+use Rattle.macsec_suite.proofs.KeyIndex.{IsIndex-push}
+use Rattle.macsec_suite.specs.KeyRows.{IsKeyRow, key_row, max_key_count}
+use Rattle.macsec_suite.specs.KeyTables.{IsIndex, stored_row}
 use Rattle.macsec_suite.proofs.key_table.KeyTable.append.Goals as goal
+
+pub overflow_cast-self : goal.overflow_cast-self
+overflow_cast-self c =
+    omega (arith, has_room c.self.inside.rows.items c.args.added.key.number c.self.invariant.1 (rw c.self.view_is c.requires.free) (omega arith))
 
 pub unwrap-requires : goal.unwrap-requires
 unwrap-requires c =
@@ -15,10 +23,18 @@ invariant_of-self c =
     let keys = c.self.inside.rows.items in
     let new : StoredKey = record { row = c.args.added; first_unused = 1 } in
     let items : keys ++ new ∷ [] ≡ c.push.new.self.items = sym (pushed (new ∷ []) refl c.unwrap.ensures c.push.ensures.items) in
+    let free : key_row (map stored_row keys) c.args.added.key.number ≡ None = rw c.self.view_is c.requires.free in
     let new_is : IsKeyRow (stored_row new) = record { number = omega arith; bytes = c.requires.length; salt = search rules; ssci = omega arith; first_unused_least = omega arith; first_unused = omega arith } in
-    let all = AreStoredKeys-push keys new (c.self.invariant.1, c.self.invariant.2) (rw c.self.view_is c.requires.free) new_is c.requires.prepared in
+    let all = AreStoredKeys-push keys new (c.self.invariant.1, c.self.invariant.2) free new_is c.requires.prepared in
     let kept = subst AreStoredKeys items all in
-    (omega arith, kept.0, kept.1)
+    let rows = map stored_row keys in
+    let room : length rows < max_key_count = omega (arith, has_room keys c.args.added.key.number c.self.invariant.1 free (omega arith), length-map keys stored_row) in
+    let found : IsIndex (set c.self.inside.places c.args.added.key.number (length rows)) (rows ++ stored_row new ∷ []) =
+    IsIndex-push c.self.inside.places rows (stored_row new) c.self.invariant.3 room (omega arith) free in
+    let same : rows ++ stored_row new ∷ [] ≡ map stored_row c.push.new.self.items = sym (map-append stored_row keys (new ∷ [])) ∙ ap (map stored_row) items in
+    let places : set c.self.inside.places c.args.added.key.number (length rows) ≡ set c.self.inside.places c.args.added.key.number c.len.result =
+    ap (set c.self.inside.places c.args.added.key.number) (omega (arith, length-map keys stored_row)) in
+    (omega arith, kept.0, kept.1, subst (λ p. IsIndex p (map stored_row c.push.new.self.items)) places (subst (IsIndex (set c.self.inside.places c.args.added.key.number (length rows))) same found))
 
 pub returns-clause-rows : goal.returns-clause-rows
 returns-clause-rows c = (invariant_of-self c).1

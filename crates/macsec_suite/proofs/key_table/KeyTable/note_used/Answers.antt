@@ -1,17 +1,24 @@
-use Rattle.std.proofs.Common.{refl, arith}
-use Rattle.macsec_suite.specs.KeyRows.{row_noting}
-use Rattle.macsec_suite.proofs.KeyLemmas.{kept_by_change}
+use Rattle.std.proofs.Common.{◌+◌, refl, ap, ◌∙◌, arith}
+use Rattle.std.proofs.Math.ListN.{set}
+use Rattle.macsec_suite.specs.KeyRows.{keys_noting, row_noting}
+use Rattle.macsec_suite.proofs.KeyIndex.{IsChanged, IsChanged-set}
 use Rattle.macsec_suite.proofs.key_table.KeyTable.note_used.Goals as goal
 
+is_changed : (c : goal.After-self-1) → IsChanged (row_noting c.args.pn) c.args.number c.self.inside.places c.self.inside.rows.items
+    (set c.self.inside.rows.items c.place_of-place.result (record { row = c.index_mut-stored.result.now.row; first_unused = c.from.result + 1 }))
+is_changed c =
+    let keys = c.self.inside.rows.items in
+    let place = c.place_of-place.result in
+    IsChanged-set (row_noting c.args.pn) (λ row. refl)
+    (λ row is. record { number = is.number; bytes = is.bytes; salt = is.salt; ssci = is.ssci; first_unused_least = omega arith; first_unused = omega (arith, c.ranges.pn.fits) })
+    c.args.number place c.self.inside.places keys c.index_mut-stored.result.now _ (c.self.invariant.1, c.self.invariant.2) c.self.invariant.3
+    (rw c.self.view_is c.place_of-place.ensures) (rw c.self.view_is c.requires) c.index_mut-stored.ensures.value (rw c.from.ensures refl) (λ own. own)
+
 pub invariant_of-self : goal.invariant_of-self
-invariant_of-self c =
-    let rows = c.self.inside.rows in
-    let lent = c.as_mut_slice in
-    let call = c.note_row_used in
-    let kept = kept_by_change (row_noting c.args.pn) (λ row. refl)
-    (λ row is. record { number = is.number; bytes = is.bytes; salt = is.salt; ssci = is.ssci; first_unused_least = omega arith; first_unused = omega (arith, c.ranges.pn.fits) }) c.args.number rows.len rows.items lent.result.now call.new.rows (omega arith)
-    lent.ensures.value call.auto.rows call.ensures.rows call.ensures.prepared (c.self.invariant.1, c.self.invariant.2) in
-    (c.self.invariant.0, kept.0, kept.1)
+invariant_of-self c = let changed = is_changed c in (c.self.invariant.0, changed.are.0, changed.are.1, changed.index)
+
+pub returns-clause-noted : goal.returns-clause-noted
+returns-clause-noted c = (is_changed c).rows ∙ ap (λ rows. keys_noting rows c.args.number c.args.pn) c.self.view_is
 
 pub returns-clause-rows : goal.returns-clause-rows
-returns-clause-rows c = (invariant_of-self c).1
+returns-clause-rows c = (is_changed c).are.0

@@ -1,17 +1,24 @@
-use Rattle.std.proofs.Common.{refl, arith}
-use Rattle.macsec_suite.specs.KeyRows.{retired_row}
-use Rattle.macsec_suite.proofs.KeyLemmas.{kept_by_change}
+use Rattle.std.proofs.Common.{true, refl, ap, ◌∙◌}
+use Rattle.std.specs.Prelude.{IsSome}
+use Rattle.std.proofs.Math.ListN.{set}
+use Rattle.macsec_suite.specs.KeyRows.{key_row, keys_retiring, retired_row}
+use Rattle.macsec_suite.proofs.KeyIndex.{IsChanged, IsChanged-set}
 use Rattle.macsec_suite.proofs.key_table.KeyTable.retire.Goals as goal
 
+is_changed : (c : goal.After-self-1) → IsChanged retired_row c.args.number c.self.inside.places c.self.inside.rows.items
+    (set c.self.inside.rows.items c.place_of-place.result (record { row = record c.index_mut-stored.result.now.row { retired = true }; first_unused = c.index_mut-stored.result.now.first_unused }))
+is_changed c =
+    let some : IsSome (key_row c.args.self.now c.args.number) = rw c.in-Some.ensures.row refl in
+    IsChanged-set retired_row (λ row. refl)
+    (λ row is. record { number = is.number; bytes = is.bytes; salt = is.salt; ssci = is.ssci; first_unused_least = is.first_unused_least; first_unused = is.first_unused })
+    c.args.number c.place_of-place.result c.self.inside.places c.self.inside.rows.items c.index_mut-stored.result.now _ (c.self.invariant.1, c.self.invariant.2) c.self.invariant.3
+    (rw c.self.view_is c.place_of-place.ensures) (rw c.self.view_is some) c.index_mut-stored.ensures.value refl (λ own. own)
+
 pub invariant_of-self : goal.invariant_of-self
-invariant_of-self c =
-    let rows = c.self.inside.rows in
-    let lent = c.as_mut_slice in
-    let call = c.retire_row in
-    let kept = kept_by_change retired_row (λ row. refl)
-    (λ row is. record { number = is.number; bytes = is.bytes; salt = is.salt; ssci = is.ssci; first_unused_least = is.first_unused_least; first_unused = is.first_unused }) c.args.number rows.len rows.items lent.result.now call.new.rows (omega arith)
-    lent.ensures.value call.auto.rows call.ensures.rows call.ensures.prepared (c.self.invariant.1, c.self.invariant.2) in
-    (c.self.invariant.0, kept.0, kept.1)
+invariant_of-self c = let changed = is_changed c in (c.self.invariant.0, changed.are.0, changed.are.1, changed.index)
+
+pub returns-clause-done : goal.returns-clause-done
+returns-clause-done c = (is_changed c).rows ∙ ap (λ rows. keys_retiring rows c.args.number) c.self.view_is
 
 pub returns-clause-rows : goal.returns-clause-rows
-returns-clause-rows c = (invariant_of-self c).1
+returns-clause-rows c = (is_changed c).are.0
