@@ -14,15 +14,15 @@
 --   13  the ICV is genuine: Delayed where it is late, else Passed; DA, SA and opened data are delivered
 -- A tagged frame is judged from step 3 on. Step 13 alone accepts the packet number.
 use Rattle.std.specs.Prelude.{ℕ, List, [], ◌∷◌, ◌++◌, take, find, slice_range, ◌+◌, ◌==◌, Bool, true, false, not, ◌&&◌, ◌||◌, is_some, if◌then◌else◌, Option, Some, None}
-use Rattle.macsec_gcm.specs.Gcm.{open_of}
 use Rattle.macsec_tag.specs.declared.Sci.{Sci}
 use Rattle.macsec_tag.specs.Tag.{Tag}
 use Rattle.macsec_tag.specs.Frame.{MpduParts}
 use Rattle.macsec_pn.specs.Numbers.{recovered_number, is_late, accept}
 use Rattle.macsec_suite.specs.declared.Suite.{Suite}
 use Rattle.macsec_suite.specs.Suites.{is_xpn, iv_of}
-use Rattle.macsec_suite.specs.Parts.{aad_and_plaintext, clear_length}
+use Rattle.macsec_suite.specs.Parts.{clear_length}
 use Rattle.macsec_suite.specs.KeyRows.{InstalledKey, the_key}
+use Rattle.macsec_suite.specs.CipherUses.{CipherUse, cipher_use, plaintext_of_use}
 use Rattle.macsec_rx.specs.declared.RxRow.{RxRow}
 use Rattle.macsec_rx.specs.declared.RxOptions.{RxOptions}
 use Rattle.macsec_rx.specs.declared.Mode.{Mode}
@@ -86,11 +86,13 @@ at_row row number step verdict delivered =
 abbrev pub bare_frame : MpduParts → List ℕ
 bare_frame p = p.da ++ p.sa ++ p.secure_data
 
--- the plaintext of the frame under a key and with a packet number, where the ICV is genuine
+-- the use of the cipher that the frame asks to open, under a key and with a packet number
+abbrev pub use_to_open : InstalledKey → RxRow → ℕ → MpduParts → CipherUse
+use_to_open key row number p = cipher_use key (iv_of key.suite row.sci row.ssci key.salt number) p
+
+-- its plaintext, where the ICV is genuine
 abbrev pub plaintext_of : InstalledKey → RxRow → ℕ → MpduParts → Option (List ℕ)
-plaintext_of key row number p =
-    let ac = aad_and_plaintext key.offset p.tag.e p.da p.sa p.tag p.secure_data in
-    open_of key.bytes (iv_of key.suite row.sci row.ssci key.salt number) ac.0 ac.1 p.icv
+plaintext_of key row number p = plaintext_of_use (use_to_open key row number p)
 
 -- the frame with its plaintext, behind the octets that stayed clear
 abbrev pub opened_frame : InstalledKey → MpduParts → List ℕ → List ℕ

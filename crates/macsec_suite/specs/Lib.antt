@@ -6,6 +6,7 @@ pub mod Parts
 pub mod InPlace
 pub mod Laws
 pub mod KeyRows
+pub mod CipherUses
 pub mod Refusals
 pub mod RefusalNumbers
 pub mod KeyTables

@@ -7,6 +7,7 @@ use Rattle.macsec_suite.specs.Suites.{iv_of, last_of}
 use Rattle.macsec_suite.specs.Keys.{PreparedKey}
 use Rattle.macsec_suite.specs.Parts.{aad_and_plaintext, clear_length}
 use Rattle.macsec_suite.specs.KeyRows.{InstalledKey, prepared_key, the_key, keys_noting}
+use Rattle.macsec_suite.specs.CipherUses.{CipherUse, cipher_use}
 use Rattle.macsec_tx.specs.declared.TxRow.{TxRow}
 use Rattle.macsec_tx.specs.declared.TxOptions.{TxOptions}
 use Rattle.macsec_tx.specs.Tags.{sci_sent, es_sent, scb_sent, sl_of}
@@ -52,15 +53,22 @@ parts_under key iv tag frame =
       padding = [];
     }
 
--- the parts of the frame that the association makes of a client's frame, with the packet number that
--- it uses next
+-- the IV of a frame that the association sends, with the packet number that it uses next
+abbrev pub iv_sent : TxOptions → InstalledKey → TxRow → List ℕ
+iv_sent options key row = iv_of key.suite options.sci key.ssci key.salt row.next
+
+-- the parts of the frame that the association makes of a client's frame
 abbrev pub parts_sent : TxOptions → InstalledKey → TxRow → List ℕ → MpduParts
 parts_sent options key row frame =
-    parts_under (prepared_key key) (iv_of key.suite options.sci key.ssci key.salt row.next) (tag_sent options row frame) frame
+    parts_under (prepared_key key) (iv_sent options key row) (tag_sent options row frame) frame
 
 -- that frame
 abbrev pub protected_frame : TxOptions → InstalledKey → TxRow → List ℕ → List ℕ
 protected_frame options key row frame = in_a_row (parts_sent options key row frame)
+
+-- the use of the cipher that this frame is
+abbrev pub use_sent : TxOptions → InstalledKey → TxRow → List ℕ → CipherUse
+use_sent options key row frame = cipher_use key (iv_sent options key row) (parts_sent options key row frame)
 
 -- the octets that protection adds: SecTAG and ICV
 abbrev pub octets_added : Tag → ℕ
