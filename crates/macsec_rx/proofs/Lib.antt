@@ -2,6 +2,5 @@ pub mod Opened
 pub mod Placed
 pub mod Recovered
 pub mod Room
-pub mod RxKeys
 pub mod RxRows
 pub mod Scis

@@ -1,15 +1,16 @@
 -- The judgement under the key that is found and with the packet number that is recovered.
-use Rattle.std.proofs.Common.{◌≡◌, ℕ, List, ap, sym, ◌∙◌}
-use Rattle.std.specs.Prelude.{Some, unwrap_or}
+use Rattle.std.proofs.Common.{◌≡◌, ℕ, List, ap, sym, ◌∙◌, refl}
+use Rattle.std.specs.Prelude.{Option, None, Some, option_map, unwrap_or}
 use Rattle.macsec_tag.specs.Frame.{MpduParts}
 use Rattle.macsec_pn.specs.Numbers.{recovered_number}
 use Rattle.macsec_suite.specs.declared.KeyRow.{KeyRow}
-use Rattle.macsec_suite.specs.Suites.{is_xpn}
+use Rattle.macsec_suite.specs.Suites.{is_xpn, iv_of}
 use Rattle.macsec_suite.specs.KeyRows.{InstalledKey, key_row, no_key, the_key}
-use Rattle.macsec_suite.specs.KeyTables.{row_shown}
+use Rattle.macsec_suite.specs.KeyTables.{HasOwnKey, row_shown}
 use Rattle.macsec_rx.specs.declared.RxRow.{RxRow}
 use Rattle.macsec_rx.specs.declared.RxOptions.{RxOptions}
-use Rattle.macsec_rx.specs.Judge.{judge_number, judge_row}
+use Rattle.macsec_rx.specs.Judge.{judge_number, judge_row, plaintext_of}
+use Rattle.macsec_rx.specs.Delivered.{frame_with, opened_under}
 
 pub judged : (options : RxOptions) (keys : List InstalledKey) (p : MpduParts) (row : RxRow) (key : KeyRow) (first_unused number : ℕ) →
     key_row keys row.key ≡ Some (row_shown key first_unused) →
@@ -19,3 +20,14 @@ judged options keys p row key first_unused number there is =
     let found : the_key keys row.key ≡ row_shown key first_unused = ap (λ o. unwrap_or o no_key) there in
     ap (judge_number options (row_shown key first_unused) row p) is
     ∙ ap (λ k. judge_number options k row p (recovered_number (is_xpn k.suite) row.lowest p.tag.pn)) (sym found)
+
+-- where nothing is delivered under the prepared key, there is no plaintext
+pub no_plaintext : (key : KeyRow) (first_unused : ℕ) (row : RxRow) (number : ℕ) (p : MpduParts) → HasOwnKey key →
+    None ≡ option_map (frame_with key.suite_key p) (opened_under key.suite_key (iv_of key.suite_key.suite row.sci row.ssci key.key.salt number) p) →
+    plaintext_of (row_shown key first_unused) row number p ≡ None
+no_plaintext key first_unused row number p own none =
+    sym (ap (λ k. opened_under k (iv_of key.suite_key.suite row.sci row.ssci key.key.salt number) p) own) ∙ by_parts (opened_under key.suite_key (iv_of key.suite_key.suite row.sci row.ssci key.key.salt number) p) (sym none)
+  where
+    by_parts : (o : Option (List ℕ)) → option_map (frame_with key.suite_key p) o ≡ None → o ≡ None
+    by_parts None e = refl
+    by_parts (Some plaintext) e = cc

@@ -1,6 +1,6 @@
 //! The receive channels, and the commands on them and on their associations.
 
-ghost use Rattle.std.specs.Prelude.{◌≡◌, length, ◌≤◌, true, map, slice_get, false, IfOk, OnErr, OnOk, Some};
+ghost use Rattle.std.specs.Prelude.{◌≡◌, ◌&&◌, length, ◌≤◌, true, map, slice_get, false, IfOk, OnErr, OnOk, Some};
 ghost use Rattle.macsec_suite.specs.Refusals.{first_refusal, refusal_of};
 ghost use Rattle.macsec_rx.specs.Channels.{at_place, is_at, no_channels, rx_row, same_sci, with_rx};
 ghost use Rattle.macsec_rx.specs.Rows.{AreChannels, IsSci};
@@ -86,6 +86,7 @@ impl RxChannels {
         ensures unchanged { OnErr result (self.new ≡ self.old) }
         ensures channels { AreChannels self.new }
     {
+        // A look at the channels: what holds of them is known from here on.
         let _ = &self.scis;
         if sci == own {
             return Err(Refusal::OwnSci);
@@ -132,6 +133,8 @@ impl RxChannels {
         ensures unchanged { OnErr result (self.new ≡ self.old) }
         ensures channels { AreChannels self.new }
     {
+        // A look at the channels and at the number: what holds of them, that it is below 4 among it, is known
+        // from here on.
         let _ = &self.scis;
         let _number = an.number();
         let Some(row) = keys.key(key) else {
@@ -267,7 +270,7 @@ impl RxChannels {
         let sci = self.sci_of(mpdu)?;
         let an = mpdu.tag().an();
         for row in rows {
-            if row.sci == sci && row.an.number() == an.number() && row.on {
+            if is_in_use(row, sci, an) {
                 return Some(*row);
             }
         }
@@ -304,6 +307,13 @@ fn is_at(row: &RxRow, sci: Sci, an: An) -> bool
     ensures { result ≡ is_at sci an row.now }
 {
     row.sci == sci && row.an.number() == an.number()
+}
+
+/// Is the association of this channel and of this number, and on?
+fn is_in_use(row: &RxRow, sci: Sci, an: An) -> bool
+    ensures { result ≡ (is_at sci an row.now && row.now.on) }
+{
+    is_at(row, sci, an) && row.on
 }
 
 /// The association, switched on or off where it is of this channel and of this number.

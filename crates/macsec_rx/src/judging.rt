@@ -1,15 +1,17 @@
 //! The verdict on a tagged frame (IEEE 802.1AE, 10.6).
 
-ghost use Rattle.std.specs.Prelude.{◌≡◌, ◌≤◌, ◌+◌, ◌++◌, ℕ, List, IfSome, IsSome, None, Some, length, map, option_map, true};
+ghost use Rattle.std.specs.Prelude.{◌≡◌, ◌≤◌, ◌+◌, ◌&&◌, ℕ, List, IfSome, IsSome, None, Some, length, option_map};
 ghost use Rattle.macsec_gcm.specs.Gcm.{max_plaintext_len};
 ghost use Rattle.macsec_tag.specs.Tag.{spelling};
 ghost use Rattle.macsec_suite.specs.KeyRows.{InstalledKey, key_row};
-ghost use Rattle.macsec_suite.specs.Suites.{last_of};
+ghost use Rattle.macsec_pn.specs.Numbers.{is_late};
+ghost use Rattle.macsec_suite.specs.Suites.{iv_of, last_of};
 ghost use Rattle.macsec_suite.specs.KeyTables.{HasOwnKey, row_shown};
 ghost use Rattle.macsec_rx.specs.Limits.{max_frame_len};
 ghost use Rattle.macsec_rx.specs.Channels.{with_rx};
 ghost use Rattle.macsec_rx.specs.Commands.{HaveRxKeys};
-ghost use Rattle.macsec_rx.specs.Judge.{accepted_number, bare_frame, in_use, is_bad_number, is_disabled, is_strict, judge_number, judge_opened, judge_row, judge_tagged, judge_tagged_row, plaintext_of, row_accepting, rows_after, sci_of};
+ghost use Rattle.macsec_rx.specs.Judge.{is_disabled, is_strict, judge_number, judge_opened, judge_row, judge_tagged, judge_tagged_row, octets_at, plaintext_of, rows_after};
+ghost use Rattle.macsec_rx.specs.Delivered.{frame_with, opened_under};
 ghost use Rattle.macsec_rx.specs.Rows.{AreChannels};
 ghost use Rattle.macsec_rx.specs.Judged.{ShowsJudgement, ShowsOutcome};
 
@@ -191,6 +193,20 @@ fn judge_row(
     judge_number(key, options, row, number, mpdu, out)
 }
 
+/// Is the packet number late at the association?
+fn is_late(row: &RxRow, number: u64) -> bool
+    ensures { result ≡ is_late row.now.lowest number }
+{
+    u128::from(number) < row.lowest
+}
+
+/// Is a frame of this packet number dropped since it is late?
+fn is_dropped_late(options: &RxOptions, row: &RxRow, number: u64) -> bool
+    ensures { result ≡ (options.now.replay && is_late row.now.lowest number) }
+{
+    options.replay && is_late(row, number)
+}
+
 /// The verdict on a frame of an association and of a packet number.
 fn judge_number(
     key: &KeyRow,
@@ -207,22 +223,69 @@ fn judge_number(
     ensures outcome { (first_unused : ℕ) → ShowsOutcome result out.new (judge_number options.now (row_shown key.now first_unused) row.now mpdu.now (Some number)) }
     ensures row { (first_unused : ℕ) → IfSome result.accepted (λ n. (judge_number options.now (row_shown key.now first_unused) row.now mpdu.now (Some number)).row ≡ Some row.now) }
 {
-    let tag = mpdu.tag();
-    let is_late = u128::from(number) < row.lowest;
-    if options.replay && is_late {
+    if is_dropped_late(options, row, number) {
         return Outcome::at_row(row, Verdict::Late, None, None);
     }
     if is_disabled(options.mode) {
-        if tag.c() {
+        if mpdu.tag().c() {
             return Outcome::at_row(row, Verdict::NotValid, None, None);
         }
-        let verdict = if is_late {
+        let verdict = if is_late(row, number) {
             Verdict::Delayed
         } else {
             Verdict::Unchecked
         };
         return Outcome::at_row(row, verdict, Some(deliver_bare(mpdu, out)), None);
     }
+    judge_validated(key, options, row, number, mpdu, out)
+}
+
+/// The verdict on a frame of an association and of a packet number that is validated.
+fn judge_validated(
+    key: &KeyRow,
+    options: &RxOptions,
+    row: &RxRow,
+    number: u64,
+    mpdu: &Mpdu<'_>,
+    out: &mut [u8],
+) -> Outcome
+    requires own_key { HasOwnKey key.now }
+    requires number { number ≤ last_of key.now.suite_key.suite }
+    requires frame { 28 + length (spelling mpdu.now.tag) + length mpdu.now.secure_data ≤ max_frame_len }
+    requires room { max_frame_len ≤ length out.old }
+    ensures outcome { (first_unused : ℕ) → ShowsOutcome result out.new (judge_opened options.now (row_shown key.now first_unused) row.now number mpdu.now (plaintext_of (row_shown key.now first_unused) row.now number mpdu.now)) }
+    ensures row { (first_unused : ℕ) → IfSome result.accepted (λ n. (judge_opened options.now (row_shown key.now first_unused) row.now number mpdu.now (plaintext_of (row_shown key.now first_unused) row.now number mpdu.now)).row ≡ Some row.now) }
+{
+    match open(key, row, number, mpdu, out) {
+        Some(delivered) => {
+            let verdict = if is_late(row, number) {
+                Verdict::Delayed
+            } else {
+                Verdict::Passed
+            };
+            Outcome::at_row(row, verdict, Some(delivered), Some(number))
+        }
+        None => judge_invalid(options, row, mpdu, out),
+    }
+}
+
+/// Delivers a frame of an association and of a packet number with its plaintext, where its ICV is genuine,
+/// and else nothing.
+fn open(
+    key: &KeyRow,
+    row: &RxRow,
+    number: u64,
+    mpdu: &Mpdu<'_>,
+    out: &mut [u8],
+) -> Option<(usize, usize)>
+    requires number { number ≤ last_of key.now.suite_key.suite }
+    requires frame { 28 + length (spelling mpdu.now.tag) + length mpdu.now.secure_data ≤ max_frame_len }
+    requires room { max_frame_len ≤ length out.old }
+    ensures octets { let iv = iv_of key.now.suite_key.suite row.now.sci row.now.ssci key.now.key.salt number in
+        option_map (octets_at out.new) result ≡
+        option_map (frame_with key.now.suite_key mpdu.now) (opened_under key.now.suite_key iv mpdu.now) }
+    ensures within { IfSome result (λ at. at.0 + at.1 ≤ length out.new) }
+{
     let iv = iv_of(
         key.suite_key.suite(),
         row.sci,
@@ -230,18 +293,17 @@ fn judge_number(
         key.key.salt,
         number,
     );
-    match deliver_opened(&key.suite_key, &iv, mpdu, out) {
-        Some(delivered) => {
-            let verdict = if is_late {
-                Verdict::Delayed
-            } else {
-                Verdict::Passed
-            };
-            Outcome::at_row(row, verdict, Some(delivered), Some(number))
-        }
-        None if tag.c() || is_strict(options.mode) => {
-            Outcome::at_row(row, Verdict::NotValid, None, None)
-        }
-        None => Outcome::at_row(row, Verdict::Invalid, Some(deliver_bare(mpdu, out)), None),
+    deliver_opened(&key.suite_key, &iv, mpdu, out)
+}
+
+/// The verdict on a frame of an association whose ICV is not genuine.
+fn judge_invalid(options: &RxOptions, row: &RxRow, mpdu: &Mpdu<'_>, out: &mut [u8]) -> Outcome
+    requires room { 28 + length (spelling mpdu.now.tag) + length mpdu.now.secure_data ≤ length out.old }
+    ensures outcome { (key : InstalledKey) (number : ℕ) → ShowsOutcome result out.new (judge_opened options.now key row.now number mpdu.now None) }
+    ensures accepted { result.accepted ≡ None }
+{
+    if mpdu.tag().c() || is_strict(options.mode) {
+        return Outcome::at_row(row, Verdict::NotValid, None, None);
     }
+    Outcome::at_row(row, Verdict::Invalid, Some(deliver_bare(mpdu, out)), None)
 }

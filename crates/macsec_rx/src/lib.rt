@@ -6,11 +6,7 @@ ghost use Rattle.macsec_rx.specs.Verdicts.{verdict_name};
 
 mod channels;
 mod delivering;
-#[cfg(test)]
-mod judge_tests;
 mod judging;
-#[cfg(test)]
-mod tests;
 
 pub use channels::RxChannels;
 use macsec_suite::Suite;

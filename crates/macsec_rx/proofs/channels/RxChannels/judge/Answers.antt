@@ -1,3 +1,4 @@
+use Rattle.std.proofs.Common.{rules}
 use Rattle.std.proofs.Common.{sym, subst}
 use Rattle.std.specs.Prelude.{IfSome, IsSome}
 use Rattle.macsec_suite.specs.KeyRows.{key_row}
@@ -9,3 +10,7 @@ pub judge_tagged-outcome-requires-clause-key_there :
 judge_tagged-outcome-requires-clause-key_there c =
     subst (λ row. IfSome row (λ r. IsSome (key_row c.args.keys.now r.key))) (sym c.in_use-row.ensures.row)
     (of_in_use (λ r. IsSome (key_row c.args.keys.now r.key)) _ _ _ c.requires.keys_there)
+
+pub returns-in-Some-accepted-clause-numbers :
+    goal.returns-in-Some-accepted-clause-numbers
+returns-in-Some-accepted-clause-numbers c = search rules

@@ -1,8 +1,8 @@
 use Rattle.std.proofs.Common.{sym, subst}
 use Rattle.macsec_rx.specs.Commands.{HaveRxKeys}
 use Rattle.macsec_rx.specs.Judge.{judge_tagged}
-use Rattle.macsec_rx.proofs.RxKeys.{keys_after_verdict}
-use Rattle.macsec_rx.proofs.judge_tests.answer_to.Goals as goal
+use Rattle.macsec_rx_tests.proofs.RxKeys.{keys_after_verdict}
+use Rattle.macsec_rx_tests.proofs.frames.answer_to.Goals as goal
 
 pub returns : goal.returns
 returns g c =

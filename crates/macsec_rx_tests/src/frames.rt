@@ -5,23 +5,13 @@ ghost use Rattle.std.specs.Prelude.{◌≤◌, length, IfOk};
 ghost use Rattle.macsec_rx.specs.Commands.{HaveRxKeys};
 ghost use Rattle.macsec_rx.specs.Limits.{max_frame_len};
 
-use crate::{Judged, Mode, RxChannels, RxOptions, Verdict};
-use macsec_aes::Key;
-use macsec_suite::{KeyTable, NewKey, Suite};
+use crate::fixture::{NUMBER, OWN, SENDER, an, key_table};
+use macsec_rx::{Judged, Mode, RxChannels, RxOptions, Verdict};
+use macsec_suite::{KeyTable, Suite};
 use macsec_tag::reading::read;
-use macsec_tag::{An, Read, Sci};
-use std::alloc::Global;
+use macsec_tag::{An, Read};
 use std::process::Abort;
 use std::test::Fail;
-
-/// The key of 128 bits of the test frames.
-const KEY_128: u128 = 0xad7a_2bd0_3eac_835a_6f62_0fdc_b506_b345;
-
-/// The SCI of their sender.
-const SENDER: Sci = Sci([0x12, 0x15, 0x35, 0x24, 0xc0, 0x89, 0x5e, 0x81]);
-
-/// The packet number of both.
-const NUMBER: u32 = 0xb2c2_8465;
 
 /// The client's frame of 54 octets.
 const CLIENT_54: [u8; 54] = [
@@ -69,30 +59,15 @@ fn options(mode: Mode) -> RxOptions {
     }
 }
 
-/// A table of the key of the test frames, of the number 0.
-fn key_table(alloc: Global) -> Result<KeyTable, Fail> {
-    let mut keys = KeyTable::new(alloc)?;
-    let key = NewKey {
-        number: 0,
-        bytes: Key::K128(KEY_128.to_be_bytes()),
-        salt: [0; 12],
-        ssci: 0,
-        offset: 0,
-    };
-    keys.install(Suite::Gcm128, &key)?;
-    Ok(keys)
-}
-
-/// The channel of the sender and its association 2, on, whose lowest acceptable packet number is that of the
-/// test frames.
-fn sender_channel(keys: &KeyTable) -> Result<RxChannels, Fail>
+/// The sender's channel and its association 2, on, whose lowest acceptable packet number is that of the test
+/// frames.
+fn channel_on(keys: &KeyTable) -> Result<RxChannels, Fail>
     ensures { IfOk result (λ channels. HaveRxKeys keys.now channels.rows) }
 {
-    let an = An::new(2).ok_or("the number is below 4")?;
     let mut channels = RxChannels::new();
-    channels.rx_sc(Sci([0, 0, 0, 0, 0, 0, 0, 2]), SENDER)?;
-    channels.rx_sa(keys, SENDER, an, 0, 0, u64::from(NUMBER))?;
-    channels.rx_on(SENDER, an)?;
+    channels.rx_sc(OWN, SENDER)?;
+    channels.rx_sa(keys, SENDER, an(2)?, 0, 0, u64::from(NUMBER))?;
+    channels.rx_on(SENDER, an(2)?)?;
     Ok(channels)
 }
 
@@ -194,20 +169,16 @@ fn altered<const N: usize>(frame: [u8; N], place: usize, octet: u8) -> [u8; N] {
     altered
 }
 
-/// The frame with the packet number 0.
-fn with_number_0(frame: [u8; 86]) -> [u8; 86] {
-    let mut altered = frame;
-    altered[16..20].copy_from_slice(&[0; 4]);
-    altered
-}
-
 #[test]
 fn first_frame_of_an_association(rt: HostRuntime) -> Result<(), Fail> {
     let keys = key_table(rt.alloc())?;
     let false_54 = altered(LINK_54, 28, 0x09);
     let false_60 = altered(LINK_60, 28, 0x71);
     let false_icv = altered(LINK_54, 85, 0xde);
-    let number_0 = with_number_0(LINK_54);
+    let mut number_0 = LINK_54;
+    for place in 16..20 {
+        number_0 = altered(number_0, place, 0);
+    }
     let reserved = altered(LINK_54, 14, 0x2a);
     for (mode, case) in [
         (
@@ -237,7 +208,7 @@ fn first_frame_of_an_association(rt: HostRuntime) -> Result<(), Fail> {
         (Mode::Check, dropped(&number_0, Verdict::BadTag)),
         (Mode::Check, dropped(&reserved, Verdict::Reserved)),
     ] {
-        let mut channels = sender_channel(&keys)?;
+        let mut channels = channel_on(&keys)?;
         check_case(&rt, &keys, &mut channels, options(mode), case);
         let number = u128::from(NUMBER) + u128::from(case.verdict == Verdict::Passed);
         assert_eq!(&rt;
@@ -277,7 +248,7 @@ fn frame_heard_twice(rt: HostRuntime) -> Result<(), Fail> {
             window,
             ..options(Mode::Strict)
         };
-        let mut channels = sender_channel(&keys)?;
+        let mut channels = channel_on(&keys)?;
         let first = delivered(&LINK_54, Verdict::Passed, &CLIENT_54);
         check_case(&rt, &keys, &mut channels, options, first);
         let after = numbers(&channels);
@@ -296,7 +267,7 @@ fn each_octet_of_tci_and_an(rt: HostRuntime) -> Result<(), Fail> {
     for octet in 0..=u8::MAX {
         let frame = altered(LINK_54, 14, octet);
         if matches!(read(&frame), Read::Tagged(_)) {
-            let mut channels = sender_channel(&keys)?;
+            let mut channels = channel_on(&keys)?;
             let judged = answer_to(
                 &rt,
                 &keys,
