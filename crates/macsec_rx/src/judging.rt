@@ -10,7 +10,7 @@ ghost use Rattle.macsec_suite.specs.KeyTables.{HasOwnKey, row_shown};
 ghost use Rattle.macsec_rx.specs.Limits.{max_frame_len};
 ghost use Rattle.macsec_rx.specs.Channels.{with_rx};
 ghost use Rattle.macsec_rx.specs.Commands.{HaveRxKeys};
-ghost use Rattle.macsec_rx.specs.Judge.{is_disabled, is_strict, judge_number, judge_opened, judge_row, judge_tagged, judge_tagged_row, octets_at, plaintext_of, rows_after};
+ghost use Rattle.macsec_rx.specs.Judge.{is_bad_number, is_disabled, is_strict, judge_number, judge_opened, judge_row, judge_tagged, judge_tagged_row, octets_at, plaintext_of, rows_after};
 ghost use Rattle.macsec_rx.specs.Delivered.{frame_with, opened_under};
 ghost use Rattle.macsec_rx.specs.Rows.{AreChannels};
 ghost use Rattle.macsec_rx.specs.Judged.{ShowsJudgement, ShowsOutcome};
@@ -112,6 +112,13 @@ fn is_disabled(mode: Mode) -> bool
     }
 }
 
+/// Has the frame the packet number 0, where packet numbers have 32 bits?
+fn has_bad_number(options: &RxOptions, mpdu: &Mpdu<'_>) -> bool
+    ensures { result ≡ is_bad_number options.now.suite mpdu.now.tag }
+{
+    mpdu.tag().pn() == 0 && !options.suite.is_xpn()
+}
+
 /// The verdict, where the association in use for the frame is `row`, or there is none.
 fn judge_tagged(
     keys: &KeyTable,
@@ -126,10 +133,10 @@ fn judge_tagged(
     ensures outcome { ShowsOutcome result out.new (judge_tagged_row options.now keys.now mpdu.now row.now) }
     ensures row { IfSome result.accepted (λ n. (judge_tagged_row options.now keys.now mpdu.now row.now).row ≡ row.now) }
 {
-    let tag = mpdu.tag();
-    if tag.pn() == 0 && !options.suite.is_xpn() {
+    if has_bad_number(options, mpdu) {
         return Outcome::without_row(Verdict::BadTag, None);
     }
+    let tag = mpdu.tag();
     if tag.e() && !tag.c() {
         return Outcome::without_row(Verdict::Reserved, None);
     }
