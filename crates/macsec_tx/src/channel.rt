@@ -93,6 +93,7 @@ impl TxChannel {
         ensures unchanged { OnErr result (self.new ≡ self.old) }
         ensures rows { OnOk result (AreTxRows self.new) }
     {
+        // A look at the number: that it is below 4 is known from here on.
         let _number = an.number();
         let Some(row) = keys.key(key) else {
             return Err(Refusal::NoKey);

@@ -158,6 +158,7 @@ fn tag_of(options: &TxOptions, row: &TxRow, frame: &[u8]) -> SecTag
     ensures { result ≡ tag_sent options.now row.now frame.now }
 {
     let own = is_own(options, frame);
+    // A look at the number: that it is below 4 is known from here on.
     let _number = row.an.number();
     SecTag::new(
         es_sent(options, own),

@@ -100,12 +100,52 @@ fn have_keys(keys: &KeyTable, channel: &TxChannel) -> bool
     true
 }
 
+/// A command on associations: that of an association number, and for a new one its key and its first packet
+/// number.
+#[derive(Clone, Copy)]
+enum Command {
+    Make(u8, u8, u64),
+    SwitchOn(u8),
+    SwitchOff(u8),
+    Remove(u8),
+}
+
+/// What the channel answers to a command.
+fn answer(
+    rt: &impl Abort,
+    keys: &KeyTable,
+    channel: &mut TxChannel,
+    command: Command,
+) -> Result<Result<(), Refusal>, Fail> {
+    assert!(rt; have_keys(keys, channel));
+    Ok(match command {
+        Command::Make(number, key, next) => channel.tx_sa(keys, an(number)?, key, next, false),
+        Command::SwitchOn(number) => channel.tx_on(keys, an(number)?),
+        Command::SwitchOff(number) => channel.tx_off(an(number)?),
+        Command::Remove(number) => channel.tx_del(an(number)?),
+    })
+}
+
+/// Holds the answers to commands, one after another, against what they should be.
+fn check_answers(
+    rt: &impl Abort,
+    keys: &KeyTable,
+    channel: &mut TxChannel,
+    rows: &[(Command, Result<(), Refusal>)],
+) -> Result<(), Fail> {
+    for (place, (command, wanted)) in rows.iter().enumerate() {
+        let answer = answer(rt, keys, channel, *command)?;
+        assert_eq!(rt; answer, *wanted, "at command {place}");
+    }
+    Ok(())
+}
+
 /// A channel whose association 2 is on, uses key 0, and sends with the packet number `next`.
 fn channel_at(rt: &impl Abort, keys: &KeyTable, next: u64, conf: bool) -> Result<TxChannel, Fail> {
     let mut channel = TxChannel::new();
     assert_eq!(rt; channel.tx_sa(keys, an(2)?, 0, next, conf), Ok(()));
-    assert!(rt; have_keys(keys, &channel));
-    assert_eq!(rt; channel.tx_on(keys, an(2)?), Ok(()));
+    let on = answer(rt, keys, &mut channel, Command::SwitchOn(2))?;
+    assert_eq!(rt; on, Ok(()));
     Ok(channel)
 }
 
@@ -130,22 +170,27 @@ fn send(
     Ok((result, out))
 }
 
+/// The next packet number of association 2, and the first unused one of key 0.
+fn next_numbers(keys: &KeyTable, channel: &TxChannel) -> Option<(u128, u128)> {
+    let row = channel.row(An::new(2)?)?;
+    Some((row.next, keys.first_unused(0)?))
+}
+
 #[test]
 fn frames_of_the_standard(rt: HostRuntime) -> Result<(), Fail> {
-    let mut keys = key_table(&rt)?;
-    let mut channel = channel_at(&rt, &keys, 0xb2c2_8465, false)?;
-    let (result, made) = send(&rt, &mut keys, &mut channel, &OPTIONS, &CLIENT_54)?;
-    assert_eq!(&rt; result, TxResult::Made { len: 86, key: 0 });
-    assert_eq!(&rt; made.as_slice(), LINK_54.as_slice());
-    let next = channel.row(an(2)?).map(|row| row.next);
-    assert_eq!(&rt; next, Some(0xb2c2_8466));
-    assert_eq!(&rt; keys.first_unused(0), Some(0xb2c2_8466));
-
-    let mut keys = key_table(&rt)?;
-    let mut channel = channel_at(&rt, &keys, 0xb2c2_8465, true)?;
-    let (result, made) = send(&rt, &mut keys, &mut channel, &OPTIONS, &CLIENT_60)?;
-    assert_eq!(&rt; result, TxResult::Made { len: 92, key: 0 });
-    assert_eq!(&rt; made.as_slice(), LINK_60.as_slice());
+    for (conf, client, link) in [
+        (false, CLIENT_54.as_slice(), LINK_54.as_slice()),
+        (true, CLIENT_60.as_slice(), LINK_60.as_slice()),
+    ] {
+        let mut keys = key_table(&rt)?;
+        let mut channel = channel_at(&rt, &keys, 0xb2c2_8465, conf)?;
+        let (result, made) = send(&rt, &mut keys, &mut channel, &OPTIONS, client)?;
+        let len = link.len();
+        assert_eq!(&rt; result, TxResult::Made { len, key: 0 });
+        assert_eq!(&rt; made.as_slice(), link);
+        let next = next_numbers(&keys, &channel);
+        assert_eq!(&rt; next, Some((0xb2c2_8466, 0xb2c2_8466)));
+    }
     Ok(())
 }
 
@@ -198,46 +243,64 @@ fn tags_of_each_form(rt: HostRuntime) -> Result<(), Fail> {
 fn last_packet_number(rt: HostRuntime) -> Result<(), Fail> {
     let mut keys = key_table(&rt)?;
     let mut channel = channel_at(&rt, &keys, 0xffff_ffff, false)?;
-    let (result, made) = send(&rt, &mut keys, &mut channel, &OPTIONS, &CLIENT_54)?;
-    assert_eq!(&rt; result, TxResult::Made { len: 86, key: 0 });
-    assert_eq!(&rt; made.get(16..20), Some([0xff; 4].as_slice()));
-    let (result, _) = send(&rt, &mut keys, &mut channel, &OPTIONS, &CLIENT_54)?;
-    assert_eq!(&rt; result, TxResult::NoSa);
-    let row = channel.row(an(2)?).map(|row| (row.next, row.on));
-    assert_eq!(&rt; row, Some((0x1_0000_0000, true)));
-    assert!(&rt; have_keys(&keys, &channel));
-    assert_eq!(&rt; channel.tx_on(&keys, an(2)?), Err(Refusal::Exhausted));
-    assert_eq!(&rt; channel.tx_off(an(2)?), Ok(()));
-    assert!(&rt; have_keys(&keys, &channel));
-    assert_eq!(&rt; channel.tx_on(&keys, an(2)?), Err(Refusal::Exhausted));
-    Ok(())
+    for (wanted, number) in [
+        (
+            TxResult::Made { len: 86, key: 0 },
+            Some([0xff; 4].as_slice()),
+        ),
+        (TxResult::NoSa, None),
+    ] {
+        let (result, made) = send(&rt, &mut keys, &mut channel, &OPTIONS, &CLIENT_54)?;
+        assert_eq!(&rt; result, wanted);
+        assert_eq!(&rt; made.get(16..20), number);
+        let next = next_numbers(&keys, &channel);
+        assert_eq!(&rt; next, Some((0x1_0000_0000, 0x1_0000_0000)));
+        assert!(&rt; channel.row_on().is_some());
+    }
+    check_answers(
+        &rt,
+        &keys,
+        &mut channel,
+        &[
+            (Command::SwitchOn(2), Err(Refusal::Exhausted)),
+            (Command::SwitchOff(2), Ok(())),
+            (Command::SwitchOn(2), Err(Refusal::Exhausted)),
+        ],
+    )
 }
 
 #[test]
 fn largest_frames(rt: HostRuntime) -> Result<(), Fail> {
-    let mut keys = key_table(&rt)?;
-    let mut channel = channel_at(&rt, &keys, 1, false)?;
-    let options = TxOptions {
-        max_frame: 64,
-        ..OPTIONS
-    };
-    let (result, _) = send(&rt, &mut keys, &mut channel, &options, &[0; 33])?;
-    assert_eq!(&rt; result, TxResult::TooLong);
-    assert_eq!(&rt; channel.row(an(2)?).map(|row| row.next), Some(1));
-    assert_eq!(&rt; keys.first_unused(0), Some(1));
-    let (result, _) = send(&rt, &mut keys, &mut channel, &options, &[0; 32])?;
-    assert_eq!(&rt; result, TxResult::Made { len: 64, key: 0 });
-    assert_eq!(&rt; channel.tx_off(an(2)?), Ok(()));
-    let (result, _) = send(&rt, &mut keys, &mut channel, &options, &[0; 65])?;
-    assert_eq!(&rt; result, TxResult::NoSa);
-    let options = TxOptions {
-        protect: false,
-        ..options
-    };
-    let (result, _) = send(&rt, &mut keys, &mut channel, &options, &[0; 64])?;
-    assert_eq!(&rt; result, TxResult::Plain);
-    let (result, _) = send(&rt, &mut keys, &mut channel, &options, &[0; 65])?;
-    assert_eq!(&rt; result, TxResult::TooLong);
+    let zeros = [0; 65];
+    // Whether frames are protected, whether the association is on, the octets of the client's frame, what
+    // becomes of it, and the packet number that is next then.
+    for (protect, on, length, wanted, next) in [
+        (true, true, 33, TxResult::TooLong, 1),
+        (true, true, 32, TxResult::Made { len: 64, key: 0 }, 2),
+        (true, false, 65, TxResult::NoSa, 1),
+        (false, false, 64, TxResult::Plain, 1),
+        (false, false, 65, TxResult::TooLong, 1),
+    ] {
+        let options = TxOptions {
+            protect,
+            max_frame: 64,
+            ..OPTIONS
+        };
+        let mut keys = key_table(&rt)?;
+        let mut channel = channel_at(&rt, &keys, 1, false)?;
+        if !on {
+            let off = answer(&rt, &keys, &mut channel, Command::SwitchOff(2))?;
+            assert_eq!(&rt; off, Ok(()));
+        }
+        let frame = zeros.get(..length).ok_or("a frame has at most 65 octets")?;
+        let (result, _) = send(&rt, &mut keys, &mut channel, &options, frame)?;
+        assert_eq!(&rt; result, wanted, "at {length}");
+        assert_eq!(&rt;
+            next_numbers(&keys, &channel),
+            Some((next, next)),
+            "at {length}"
+        );
+    }
     Ok(())
 }
 
@@ -250,29 +313,26 @@ fn refused_commands(rt: HostRuntime) -> Result<(), Fail> {
     let mut channel = channel_at(&rt, &keys, 1, false)?;
     assert!(&rt; keys.key(1).is_some());
     keys.note_used(1, 5);
-    // The association number, the key, the packet number, and the answer.
-    let rows = [
-        (2, 3, 0, Err(Refusal::NoKey)),
-        (2, 2, 0, Err(Refusal::KeyRetired)),
-        (2, 0, 0, Err(Refusal::KeyInUse)),
-        (2, 1, 0, Err(Refusal::AnTaken)),
-        (3, 1, 0, Err(Refusal::PnRange)),
-        (3, 1, 0x1_0000_0000, Err(Refusal::PnRange)),
-        (3, 1, 5, Err(Refusal::PnFloor)),
-        (3, 1, 6, Ok(())),
+    let made = [
+        (Command::Make(2, 3, 0), Err(Refusal::NoKey)),
+        (Command::Make(2, 2, 0), Err(Refusal::KeyRetired)),
+        (Command::Make(2, 0, 0), Err(Refusal::KeyInUse)),
+        (Command::Make(2, 1, 0), Err(Refusal::AnTaken)),
+        (Command::Make(3, 1, 0), Err(Refusal::PnRange)),
+        (Command::Make(3, 1, 0x1_0000_0000), Err(Refusal::PnRange)),
+        (Command::Make(3, 1, 5), Err(Refusal::PnFloor)),
+        (Command::Make(3, 1, 6), Ok(())),
+        (Command::SwitchOn(3), Ok(())),
     ];
-    for (number, key, next, answer) in rows {
-        let made = channel.tx_sa(&keys, an(number)?, key, next, true);
-        assert_eq!(&rt; made, answer, "at {next}");
-    }
-    assert!(&rt; have_keys(&keys, &channel));
-    assert_eq!(&rt; channel.tx_on(&keys, an(3)?), Ok(()));
+    check_answers(&rt, &keys, &mut channel, &made)?;
     assert_eq!(&rt; channel.row_on().map(|row| row.key), Some(1));
-    assert_eq!(&rt; channel.tx_del(an(3)?), Ok(()));
+    let removed = [
+        (Command::Remove(3), Ok(())),
+        (Command::SwitchOff(3), Err(Refusal::NoSa)),
+        (Command::Remove(3), Err(Refusal::NoSa)),
+        (Command::SwitchOn(3), Err(Refusal::NoSa)),
+    ];
+    check_answers(&rt, &keys, &mut channel, &removed)?;
     assert!(&rt; !channel.uses(1) && channel.uses(0) && channel.row_on().is_none());
-    assert_eq!(&rt; channel.tx_off(an(3)?), Err(Refusal::NoSa));
-    assert_eq!(&rt; channel.tx_del(an(3)?), Err(Refusal::NoSa));
-    assert!(&rt; have_keys(&keys, &channel));
-    assert_eq!(&rt; channel.tx_on(&keys, an(3)?), Err(Refusal::NoSa));
     Ok(())
 }
