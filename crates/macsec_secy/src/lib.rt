@@ -14,20 +14,10 @@ ghost use Rattle.macsec_secy.specs.Rests.{RestsAs};
 ghost use Rattle.macsec_secy.specs.Sound.{IsSound};
 ghost use Rattle.macsec_secy.specs.Sums.{AddsFrames};
 
-#[cfg(test)]
-mod channel_tests;
 mod counting;
-#[cfg(test)]
-mod extended_tests;
 pub mod laws;
 mod managing;
-#[cfg(test)]
-mod receive_tests;
 mod receiving;
-#[cfg(test)]
-mod test_ends;
-#[cfg(test)]
-mod tests;
 
 use arrayvec::ArrayVec;
 pub use macsec_aes::Key;

@@ -1,0 +1,13 @@
+//! Tests of the endpoint, over its public calls alone.
+#![tactic(auto)]
+
+#[cfg(test)]
+mod channels;
+#[cfg(test)]
+mod ends;
+#[cfg(test)]
+mod extended;
+#[cfg(test)]
+mod receiving;
+#[cfg(test)]
+mod sending;
