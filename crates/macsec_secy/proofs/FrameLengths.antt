@@ -1,24 +1,30 @@
 -- How long the frames are that an endpoint gives out.
 use Rattle.std.proofs.Common.{◌≡◌, ℕ, ◌+◌, ◌≤◌, ◌<◌, Bool, true, false, List, [], ◌∷◌, ◌++◌, length, take, drop, refl, ap, sym, ◌∙◌, arith, length-take, length-drop, length-append}
-use Rattle.std.specs.Prelude.{if◌then◌else◌, nat_lt, not, ◌&&◌, ◌||◌, Option, Some, None, IfSome}
+use Rattle.std.specs.Prelude.{if◌then◌else◌, nat_lt, not, slice_range, ◌&&◌, ◌||◌, Option, Some, None, IfSome}
+use Rattle.std.specs.Int.{w32, to_be_bytes}
 use Rattle.std.proofs.lemmas.Bool.{ltb-false}
 use Rattle.std.proofs.lemmas.List.{take-append-drop}
 use Rattle.macsec_gcm.specs.Gcm.{seal_of}
 use Rattle.macsec_gcm.specs.Laws.{OpenUndoesSeal, SealedLengths}
+use Rattle.macsec_tag.specs.declared.Sci.{Sci}
 use Rattle.macsec_tag.specs.declared.TagFault.{TagFault}
 use Rattle.macsec_tag.specs.declared.TagFault.TheVariants.{Cut}
 use Rattle.macsec_tag.specs.Frame.{MpduParts, has_macsec_ethertype}
+use Rattle.macsec_tag.specs.Tag.{Tag, sci_octets, spelling, tci_an}
 use Rattle.macsec_tag.specs.Table.{Reading, untagged, bad, tagged, after_tag, data_length_at, parts_at, reading, reading_with, tag_fault, tag_length_at}
 use Rattle.macsec_pn.specs.Numbers.{is_late, recovered_number}
 use Rattle.macsec_suite.specs.declared.Refusal.{Refusal}
 use Rattle.macsec_suite.specs.KeyRows.{InstalledKey, the_key}
 use Rattle.macsec_suite.specs.Parts.{aad_and_plaintext, clear_length}
 use Rattle.macsec_suite.specs.Suites.{is_xpn, iv_of, last_of}
+use Rattle.macsec_tx.specs.declared.TagForm.{TagForm}
+use Rattle.macsec_tx.specs.declared.TagForm.TheVariants as form
 use Rattle.macsec_tx.specs.declared.TxOptions.{TxOptions}
 use Rattle.macsec_tx.specs.declared.TxRow.{TxRow}
 use Rattle.macsec_tx.specs.Laws.{CanBeSent, IsReadAsSent}
 use Rattle.macsec_tx.specs.Limits.{max_frame_len}
 use Rattle.macsec_tx.specs.Rows.{AreTxRows}
+use Rattle.macsec_tx.specs.Tags.{is_own, sci_sent}
 use Rattle.macsec_tx.specs.Transmit.{Leaving, plain, protected, no_sa, too_long, Sending, not_protected, octets_added, protected_frame, row_on, sending_by, tag_sent}
 use Rattle.macsec_rx.specs.declared.RxOptions.{RxOptions}
 use Rattle.macsec_rx.specs.declared.RxRow.{RxRow}
@@ -29,15 +35,18 @@ use Rattle.macsec_secy.specs.declared.FrameFault.TheVariants.{Short, Long}
 use Rattle.macsec_secy.specs.State.{State, rx_options, tx_options}
 use Rattle.macsec_secy.specs.Reception.{judge_reading, judgement_of}
 use Rattle.macsec_secy.specs.Commands.{refusal}
-use Rattle.macsec_secy.specs.Step.{Input, Output, operator_command, client_frame, uncontrolled_frame, link_frame, command_output, frame_fault, leaves, received_output, sending_of, sent_output, step, unless_fault}
-use Rattle.macsec_secy.specs.Frames.{HasFrameLength, HasFrameLengths}
+use Rattle.macsec_secy.specs.Step.{Input, Output, operator_command, client_frame, uncontrolled_frame, link_frame, command_output, fault, frame_fault, leaves, received_output, sending_of, sent_output, step, unless_fault}
+use Rattle.macsec_secy.specs.Frames.{HasFrameLength, HasFrameLengths, HasLengthsFrom, HasProtectedLength}
 use Rattle.macsec_secy.specs.Sound.{IsSound}
 
 -- the laws of the lower layers, as their calls give them
+abbrev pub ReadAsSent : Type 0
+ReadAsSent = (options : TxOptions) (key : InstalledKey) (row : TxRow) (frame : List ℕ) → CanBeSent options row frame → IsReadAsSent options key row frame
+
 pub record LowerLaws : Type 0 where
   pub undoes : OpenUndoesSeal
   pub lengths : SealedLengths
-  pub sent : (options : TxOptions) (key : InstalledKey) (row : TxRow) (frame : List ℕ) → CanBeSent options row frame → IsReadAsSent options key row frame
+  pub sent : ReadAsSent
 
 -- ---- a frame that comes in and has no fault
 
@@ -50,23 +59,42 @@ has_no_fault frame none = by_tests (nat_lt (length frame) 14) refl (nat_lt max_f
     by_tests false s true l none = absurd cc
     by_tests false s false l none = record { least = ltb-false (length frame) 14 s; most = ltb-false max_frame_len (length frame) l }
 
--- an output that has frames of good length where the frame that came in has one
-unless_faulty : (s after : State) (frame : List ℕ) (output : Output) → (HasFrameLength frame → HasFrameLengths output) →
-    HasFrameLengths (unless_fault (frame_fault frame) s (output, after)).0
-unless_faulty s after frame output good = by_fault (frame_fault frame) refl
+-- a fact of every fault, and of an output where the frame that came in has a good length
+unless_faulty : (P : Output → Type 0) → ((f : FrameFault) → P (fault f)) → (s after : State) (frame : List ℕ) (output : Output) →
+    (HasFrameLength frame → P output) → P (unless_fault (frame_fault frame) s (output, after)).0
+unless_faulty P faulty s after frame output good = by_fault (frame_fault frame) refl
   where
-    by_fault : (fault : Option FrameFault) → frame_fault frame ≡ fault → HasFrameLengths (unless_fault fault s (output, after)).0
+    by_fault : (found : Option FrameFault) → frame_fault frame ≡ found → P (unless_fault found s (output, after)).0
     by_fault None none = good (has_no_fault frame none)
-    by_fault (Some f) some = tt
+    by_fault (Some f) some = faulty f
 
 -- ---- what leaves
 
--- a frame that leaves protected has a good length
-abbrev IsWithin : Leaving → Type 0
-IsWithin plain = Unit {0}
-IsWithin (protected key frame) = HasFrameLength frame
-IsWithin no_sa = Unit {0}
-IsWithin too_long = Unit {0}
+-- a frame that leaves protected has a good length, and that of a protected one of the client's frame
+abbrev IsWithin : List ℕ → Leaving → Type 0
+IsWithin client plain = Unit {0}
+IsWithin client (protected key frame) = HasFrameLength frame × HasProtectedLength client frame
+IsWithin client no_sa = Unit {0}
+IsWithin client too_long = Unit {0}
+
+-- a SecTAG that is sent carries the own SCI, if any
+where_there : (sci : Sci) → length sci.0 ≡ 8 → (there : Bool) → length (sci_octets (if there then Some sci else None)) ≤ 8
+where_there sci eight true = omega (arith, eight)
+where_there sci eight false = omega arith
+
+where_foreign : (sci : Sci) → length sci.0 ≡ 8 → (own : Bool) → length (sci_octets (if own then None else Some sci)) ≤ 8
+where_foreign sci eight true = omega arith
+where_foreign sci eight false = omega (arith, eight)
+
+sci_up_to_8 : (f : TagForm) (many : Bool) (sci : Sci) (sa : List ℕ) → length sci.0 ≡ 8 → length (sci_octets (sci_sent f many sci sa)) ≤ 8
+sci_up_to_8 form.Auto many sci sa eight = where_there sci eight many
+sci_up_to_8 form.Sci many sci sa eight = omega (arith, eight)
+sci_up_to_8 form.Es many sci sa eight = where_foreign sci eight (is_own sci sa)
+sci_up_to_8 form.Scb many sci sa eight = where_foreign sci eight (is_own sci sa)
+
+-- what is before the SCI has 8 octets
+spelled_long : (t : Tag) → length (spelling t) ≡ 8 + length (sci_octets t.sci)
+spelled_long t = length-append (0x88 ∷ 0xe5 ∷ tci_an t ∷ t.sl ∷ to_be_bytes w32 t.pn) (sci_octets t.sci)
 
 -- the association that is on has an association number that there is
 on_has_number : (rows : List TxRow) → AreTxRows rows → IfSome (row_on rows) (λ row. row.an < 4)
@@ -77,53 +105,63 @@ on_has_number (row ∷ rows) are = by_test row.on (on_has_number rows are.2)
     by_test true later = are.0.an
     by_test false later = later
 
-protected_within : LowerLaws → (options : TxOptions) (key : InstalledKey) (row : TxRow) (frame : List ℕ) → options.max_frame ≤ max_frame_len →
+protected_within : ReadAsSent → (options : TxOptions) (key : InstalledKey) (row : TxRow) (frame : List ℕ) → options.max_frame ≤ max_frame_len →
     CanBeSent options row frame → nat_lt options.max_frame (length frame + octets_added (tag_sent options row frame)) ≡ false →
-    HasFrameLength (protected_frame options key row frame)
-protected_within laws options key row frame limit can fits =
-    let octets = (laws.sent options key row frame can).octets in
+    HasFrameLength (protected_frame options key row frame) × HasProtectedLength frame (protected_frame options key row frame)
+protected_within read options key row frame limit can fits =
+    let octets = (read options key row frame can).octets in
     let short = ltb-false options.max_frame (length frame + octets_added (tag_sent options row frame)) fits in
-    record { least = omega (arith, octets, can.long); most = omega (arith, octets, short, limit) }
+    let tag = spelled_long (tag_sent options row frame) in
+    let sci = sci_up_to_8 options.form options.many options.sci (slice_range frame 6 12) can.sci in (
+      record { least = omega (arith, octets, can.long); most = omega (arith, octets, short, limit) },
+      record { least = omega (arith, octets, tag); most = omega (arith, octets, tag, sci) },
+    )
 
-sent_by : LowerLaws → (options : TxOptions) (keys : List InstalledKey) (frame : List ℕ) (on : Option TxRow) → options.max_frame ≤ max_frame_len →
-    IfSome on (λ row. CanBeSent options row frame) → IsWithin (sending_by options keys frame on).leaving
-sent_by laws options keys frame None limit can = tt
-sent_by laws options keys frame (Some row) limit can =
+sent_by : ReadAsSent → (options : TxOptions) (keys : List InstalledKey) (frame : List ℕ) (on : Option TxRow) → options.max_frame ≤ max_frame_len →
+    IfSome on (λ row. CanBeSent options row frame) → IsWithin frame (sending_by options keys frame on).leaving
+sent_by read options keys frame None limit can = tt
+sent_by read options keys frame (Some row) limit can =
     by_tests (nat_lt (last_of (the_key keys row.key).suite) row.next) (nat_lt options.max_frame (length frame + octets_added (tag_sent options row frame))) refl
   where
     made : Sending
     made = record { leaving = protected row.key (protected_frame options (the_key keys row.key) row frame); by = Some row }
 
     by_tests : (used long : Bool) → nat_lt options.max_frame (length frame + octets_added (tag_sent options row frame)) ≡ long →
-        IsWithin (if used then not_protected no_sa else if long then not_protected too_long else made).leaving
+        IsWithin frame (if used then not_protected no_sa else if long then not_protected too_long else made).leaving
     by_tests true long e = tt
     by_tests false true e = tt
-    by_tests false false e = protected_within laws options (the_key keys row.key) row frame limit can e
+    by_tests false false e = protected_within read options (the_key keys row.key) row frame limit can e
 
-sent_within : LowerLaws → (s : State) → IsSound s → (frame : List ℕ) → HasFrameLength frame → IsWithin (sending_of s frame).leaving
-sent_within laws s sound frame good = by_test s.options.protect (nat_lt s.config.max_frame (length frame))
+sent_within : ReadAsSent → (s : State) → IsSound s → (frame : List ℕ) → HasFrameLength frame → IsWithin frame (sending_of s frame).leaving
+sent_within read s sound frame good = by_test s.options.protect (nat_lt s.config.max_frame (length frame))
   where
     can_send : (on : Option TxRow) → IfSome on (λ row. row.an < 4) → IfSome on (λ row. CanBeSent (tx_options s) row frame)
     can_send None an = tt
     can_send (Some row) an = record { long = good.least; an = an; sci = sound.own_sci.count }
 
-    by_test : (protects long : Bool) → IsWithin (if protects then sending_by (tx_options s) s.keys frame (row_on s.tx) else not_protected (if long then too_long else plain)).leaving
-    by_test true long = sent_by laws (tx_options s) s.keys frame (row_on s.tx) sound.max_frame_most (can_send (row_on s.tx) (on_has_number s.tx sound.tx))
+    by_test : (protects long : Bool) → IsWithin frame (if protects then sending_by (tx_options s) s.keys frame (row_on s.tx) else not_protected (if long then too_long else plain)).leaving
+    by_test true long = sent_by read (tx_options s) s.keys frame (row_on s.tx) sound.max_frame_most (can_send (row_on s.tx) (on_has_number s.tx sound.tx))
     by_test false true = tt
     by_test false false = tt
 
-output_within : (frame : List ℕ) (leaving : Leaving) → HasFrameLength frame → IsWithin leaving → HasFrameLengths (sent_output frame leaving)
+output_within : (frame : List ℕ) (leaving : Leaving) → HasFrameLength frame → IsWithin frame leaving → HasFrameLengths (sent_output frame leaving)
 output_within frame plain good within = good
-output_within frame (protected key protected_frame) good within = within
+output_within frame (protected key protected_frame) good within = within.0
 output_within frame no_sa good within = tt
 output_within frame too_long good within = tt
+
+output_from : (frame : List ℕ) (leaving : Leaving) → IsWithin frame leaving → HasLengthsFrom frame (sent_output frame leaving)
+output_from frame plain within = refl
+output_from frame (protected key protected_frame) within = within.1
+output_from frame no_sa within = tt
+output_from frame too_long within = tt
 
 -- ---- what is received
 
 -- what is read of a frame has no more octets without SecTAG, ICV and padding
 abbrev FitsIn : ℕ → Reading → Type 0
 FitsIn n untagged = Unit {0}
-FitsIn n (bad fault) = Unit {0}
+FitsIn n (bad found) = Unit {0}
 FitsIn n (tagged p) = length (bare_frame p) ≤ n
 
 -- what is delivered has at most so many octets
@@ -150,10 +188,10 @@ parts_fit frame long =
 reading_fits : (frame : List ℕ) → 14 ≤ length frame → FitsIn (length frame) (reading frame)
 reading_fits frame long = by_tests (nat_lt (length frame) 14) (not (has_macsec_ethertype frame)) (tag_fault frame)
   where
-    by_tests : (short other : Bool) (fault : Option TagFault) → FitsIn (length frame) (if short then bad Cut else if other then untagged else reading_with frame fault)
-    by_tests true other fault = tt
-    by_tests false true fault = tt
-    by_tests false false (Some fault) = tt
+    by_tests : (short other : Bool) (found : Option TagFault) → FitsIn (length frame) (if short then bad Cut else if other then untagged else reading_with frame found)
+    by_tests true other found = tt
+    by_tests false true found = tt
+    by_tests false false (Some found) = tt
     by_tests false false None = parts_fit frame long
 
 -- a plaintext has as many octets as its ciphertext
@@ -228,10 +266,10 @@ judged_up_to laws s frame untagged fits = by_test (is_strict s.options.mode)
     by_test : (b : Bool) → DeliversUpTo (length frame) (if b then without_row 1 NoTag None else without_row 2 Untagged (Some frame))
     by_test true = tt
     by_test false = omega arith
-judged_up_to laws s frame (bad fault) fits = tt
+judged_up_to laws s frame (bad found) fits = tt
 judged_up_to laws s frame (tagged p) fits = tagged_up_to laws (length frame) (rx_options s) s.keys p (in_use s.rx.rows p.tag.an (sci_of s.rx.scis p)) fits
 
--- ---- the law
+-- ---- the laws
 
 command_has_none : (r : Option Refusal) → HasFrameLengths (command_output r)
 command_has_none None = tt
@@ -240,9 +278,14 @@ command_has_none (Some r) = tt
 pub lengths_of_frames : LowerLaws → (s : State) (input : Input) → IsSound s → HasFrameLengths (step s input).0
 lengths_of_frames laws s (operator_command c) sound = command_has_none (refusal s c)
 lengths_of_frames laws s (client_frame frame) sound =
-    unless_faulty s _ frame (sent_output frame (sending_of s frame).leaving)
-    (λ good. output_within frame (sending_of s frame).leaving good (sent_within laws s sound frame good))
-lengths_of_frames laws s (uncontrolled_frame frame) sound = unless_faulty s s frame (leaves frame None) (λ good. good)
+    unless_faulty HasFrameLengths (λ f. tt) s _ frame (sent_output frame (sending_of s frame).leaving)
+    (λ good. output_within frame (sending_of s frame).leaving good (sent_within laws.sent s sound frame good))
+lengths_of_frames laws s (uncontrolled_frame frame) sound = unless_faulty HasFrameLengths (λ f. tt) s s frame (leaves frame None) (λ good. good)
 lengths_of_frames laws s (link_frame frame) sound =
-    unless_faulty s _ frame (received_output frame (judgement_of s frame))
+    unless_faulty HasFrameLengths (λ f. tt) s _ frame (received_output frame (judgement_of s frame))
     (λ good. record { shown = good; controlled = judged_up_to laws s frame (reading frame) (reading_fits frame good.least) })
+
+pub lengths_of_protected_frames : ReadAsSent → (s : State) (frame : List ℕ) → IsSound s → HasLengthsFrom frame (step s (client_frame frame)).0
+lengths_of_protected_frames read s frame sound =
+    unless_faulty (HasLengthsFrom frame) (λ f. tt) s _ frame (sent_output frame (sending_of s frame).leaving)
+    (λ good. output_from frame (sending_of s frame).leaving (sent_within read s sound frame good))

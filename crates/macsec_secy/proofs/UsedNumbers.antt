@@ -1,6 +1,6 @@
--- No packet number is used twice under a key: each is at least the first that was never used under it,
--- and from then on that is a later one.
-use Rattle.std.proofs.Common.{◌≡◌, ◌≢◌, ◌⊎◌, inl, inr, ℕ, ◌+◌, ◌≤◌, Bool, true, false, List, [], ◌∷◌, ◌++◌, length, refl, sym, subst, arith, All, AllPairs}
+-- Under a key packet numbers rise in the order of their use: each is at least the first that was never used
+-- under it, and from then on that is a later one. So none is used twice.
+use Rattle.std.proofs.Common.{◌≡◌, ◌≢◌, ◌⊎◌, inl, inr, ℕ, ◌+◌, ◌<◌, ◌≤◌, Bool, true, false, List, [], ◌∷◌, ◌++◌, length, refl, ap, sym, subst, arith, All, AllPairs}
 use Rattle.std.specs.Prelude.{nat_lt, if◌then◌else◌, Option, Some, None}
 use Rattle.std.proofs.lemmas.Bool.{cases_eq}
 use Rattle.std.proofs.lemmas.List.Elements.{All-cons, All-nil, All-weaker}
@@ -18,16 +18,16 @@ use Rattle.macsec_secy.specs.State.{State, start, tx_options}
 use Rattle.macsec_secy.specs.Commands.{effect, refusal, unless_refused}
 use Rattle.macsec_secy.specs.Step.{Input, Output, operator_command, client_frame, uncontrolled_frame, link_frame, frame_fault, leaves, received_output, sending_of, sent_output, state_after_sending, step, unless_fault}
 use Rattle.macsec_secy.specs.Reception.{judgement_of, state_after_receiving}
-use Rattle.macsec_secy.specs.Laws.{UsedNumber, UsesNoNumberTwice, number_of_row, number_unless_fault, number_used, numbers_used}
+use Rattle.macsec_secy.specs.Laws.{RisesUnderOneKey, UsedNumber, UsesNoNumberTwice, UsesRisingNumbers, number_of_row, number_unless_fault, number_used, numbers_used}
 use Rattle.macsec_secy.specs.Agrees.{HasUnusedNext, HaveUnusedNext, first_unused}
 use Rattle.macsec_secy.proofs.FirstUnused.{first-noting, first-noting_other}
 use Rattle.macsec_secy.proofs.UnusedNext.{after_frame, on_unused}
 use Rattle.macsec_secy.proofs.AfterCommands.{effect_keeps, effect_stays}
 
--- each number is at least the first that the keys have not used, and no two are the same
+-- each number is at least the first that the keys have not used, and they rise under each key
 record AreNew (keys : List InstalledKey) (used : List UsedNumber) : Type 0 where
   late : All (λ u. first_unused keys u.0 ≤ u.1) used
-  apart : AllPairs (λ a b. a ≢ b) used
+  rising : AllPairs RisesUnderOneKey used
 
 -- from keys to keys and associations: what is used on the way is new, with what is used later
 record Goes (keys : List InstalledKey) (keys_then : List InstalledKey) (rows_then : List TxRow) (used : List UsedNumber) : Type 0 where
@@ -37,7 +37,7 @@ record Goes (keys : List InstalledKey) (keys_then : List InstalledKey) (rows_the
 before : (keys keys_then : List InstalledKey) → ((n : ℕ) → first_unused keys n ≤ first_unused keys_then n) → (used : List UsedNumber) → AreNew keys_then used → AreNew keys used
 before keys keys_then grows used new = record {
   late = All-weaker (λ u. first_unused keys_then u.0 ≤ u.1) (λ u. first_unused keys u.0 ≤ u.1) (λ u h. omega (arith, grows u.0, h)) used new.late;
-  apart = new.apart;
+  rising = new.rising;
 }
 
 -- ---- commands
@@ -64,14 +64,14 @@ row_adds : (keys : List InstalledKey) (row : TxRow) → HasUnusedNext keys row �
 row_adds keys row unused later new = record {
   late = All-cons (λ u. first_unused keys u.0 ≤ u.1) (row.key, row.next) later unused.next
       (before keys (keys_noting keys row.key row.next) (noting_grows keys row unused) later new).late;
-  apart = AllPairs-cons (λ a b. a ≢ b) (row.key, row.next) later
-      (All-weaker (λ u. first_unused (keys_noting keys row.key row.next) u.0 ≤ u.1) (λ u. (row.key, row.next) ≢ u) differs later new.late) new.apart;
+  rising = AllPairs-cons RisesUnderOneKey (row.key, row.next) later
+      (All-weaker (λ u. first_unused (keys_noting keys row.key row.next) u.0 ≤ u.1) (λ u. RisesUnderOneKey (row.key, row.next) u) rises later new.late) new.rising;
 }
   where
-    differs : (u : UsedNumber) → first_unused (keys_noting keys row.key row.next) u.0 ≤ u.1 → (row.key, row.next) ≡ u → ⊥
-    differs u h same =
-        let again : first_unused (keys_noting keys row.key row.next) row.key ≤ row.next =
-        subst (λ (v : UsedNumber). first_unused (keys_noting keys row.key row.next) v.0 ≤ v.1) (sym same) h in
+    rises : (u : UsedNumber) → first_unused (keys_noting keys row.key row.next) u.0 ≤ u.1 → row.key ≡ u.0 → row.next < u.1
+    rises u h same =
+        let again : first_unused (keys_noting keys row.key row.next) row.key ≤ u.1 =
+        subst (λ n. first_unused (keys_noting keys row.key row.next) n ≤ u.1) (sym same) h in
         omega (arith, again, first-noting keys row.key row.next unused.there)
 
 sending_goes : (keys : List InstalledKey) (rows : List TxRow) (by : Option TxRow) → (by ≡ None) ⊎ (by ≡ row_on rows) → HaveUnusedNext keys rows →
@@ -137,10 +137,16 @@ step_goes s (uncontrolled_frame frame) have = nothing_goes s (leaves frame None)
 step_goes s (link_frame frame) have = receiving_goes s frame (received_output frame (judgement_of s frame)) have (frame_fault frame)
 
 numbers_new : (inputs : List Input) (s : State) → HaveUnusedNext s.keys s.tx → AreNew s.keys (numbers_used s inputs)
-numbers_new [] s have = record { late = All-nil (λ u. first_unused s.keys u.0 ≤ u.1); apart = λ i j d less within. absurd (omega arith) }
+numbers_new [] s have = record { late = All-nil (λ u. first_unused s.keys u.0 ≤ u.1); rising = λ i j d less within. absurd (omega arith) }
 numbers_new (input ∷ inputs) s have =
     let goes = step_goes s input have in
     goes.adds (numbers_used (step s input).1 inputs) (numbers_new inputs (step s input).1 goes.keeps)
 
+pub uses_rising_numbers : (config : EndConfig) (inputs : List Input) → UsesRisingNumbers config inputs
+uses_rising_numbers config inputs = (numbers_new inputs (start config) tt).rising
+
+rises_apart : (a b : UsedNumber) → RisesUnderOneKey a b → a ≢ b
+rises_apart a b rises same = omega (arith, rises (ap (λ (u : UsedNumber). u.0) same), ap (λ (u : UsedNumber). u.1) same)
+
 pub uses_no_number_twice : (config : EndConfig) (inputs : List Input) → UsesNoNumberTwice config inputs
-uses_no_number_twice config inputs = (numbers_new inputs (start config) tt).apart
+uses_no_number_twice config inputs = λ i j d less within. rises_apart _ _ (uses_rising_numbers config inputs i j d less within)

@@ -1,5 +1,5 @@
 -- How long the frames are that an endpoint gives out.
-use Rattle.std.specs.Prelude.{◌≤◌, ℕ, List, length, Option, IfSome}
+use Rattle.std.specs.Prelude.{◌≡◌, ◌≤◌, ◌+◌, ℕ, List, length, Option, Some, None, IfSome}
 use Rattle.macsec_tx.specs.Limits.{min_frame_len, max_frame_len}
 use Rattle.macsec_secy.specs.Step.{Output, done, refused, leaves, dropped_no_sa, dropped_too_long, received, fault}
 
@@ -23,3 +23,24 @@ HasFrameLengths dropped_no_sa = Unit {0}
 HasFrameLengths dropped_too_long = Unit {0}
 HasFrameLengths (received verdict row shown controlled) = HasReceivedLengths shown controlled
 HasFrameLengths (fault f) = Unit {0}
+
+-- a protected frame has 24 to 32 octets more than the client's frame: the 8 or 16 of its SecTAG, and the 16
+-- of its ICV
+pub record HasProtectedLength (client frame : List ℕ) : Type 0 where
+  pub least : length client + 24 ≤ length frame
+  pub most : length frame ≤ length client + 32
+
+-- a frame that leaves for a client's frame has as many octets, and, where it is protected, so many more
+abbrev pub HasLengthFrom : List ℕ → Option ℕ → List ℕ → Type 0
+HasLengthFrom client None frame = length frame ≡ length client
+HasLengthFrom client (Some key) frame = HasProtectedLength client frame
+
+-- what goes out for a client's frame has such a frame, or none
+abbrev pub HasLengthsFrom : List ℕ → Output → Type 0
+HasLengthsFrom client done = Unit {0}
+HasLengthsFrom client (refused r) = Unit {0}
+HasLengthsFrom client (leaves frame under) = HasLengthFrom client under frame
+HasLengthsFrom client dropped_no_sa = Unit {0}
+HasLengthsFrom client dropped_too_long = Unit {0}
+HasLengthsFrom client (received verdict row shown controlled) = Unit {0}
+HasLengthsFrom client (fault f) = Unit {0}

@@ -1,5 +1,5 @@
--- A law of the machine: under a key no packet number is used twice.
-use Rattle.std.specs.Prelude.{◌≢◌, ℕ, List, [], ◌∷◌, ◌++◌, Option, Some, None}
+-- Laws of the machine: under a key packet numbers rise in the order of their use, and so none is used twice.
+use Rattle.std.specs.Prelude.{◌≡◌, ◌≢◌, ◌<◌, ℕ, List, [], ◌∷◌, ◌++◌, Option, Some, None}
 use Rattle.std.specs.List.{AllPairs}
 use Rattle.macsec_tx.specs.declared.TxRow.{TxRow}
 use Rattle.macsec_secy.specs.declared.EndConfig.{EndConfig}
@@ -31,6 +31,14 @@ abbrev pub numbers_used : State → List Input → List UsedNumber
 numbers_used s [] = []
 numbers_used s (input ∷ inputs) = number_used s input ++ numbers_used (step s input).1 inputs
 
--- no two are the same, whatever comes in from the making of the endpoint on
+-- of two uses under one key the later one is of the greater packet number
+abbrev pub RisesUnderOneKey : UsedNumber → UsedNumber → Type 0
+RisesUnderOneKey first later = first.0 ≡ later.0 → first.1 < later.1
+
+-- the packet numbers rise under each key, whatever comes in from the making of the endpoint on
+abbrev pub UsesRisingNumbers : EndConfig → List Input → Type 0
+UsesRisingNumbers config inputs = AllPairs RisesUnderOneKey (numbers_used (start config) inputs)
+
+-- no two uses are the same, whatever comes in from the making of the endpoint on
 abbrev pub UsesNoNumberTwice : EndConfig → List Input → Type 0
 UsesNoNumberTwice config inputs = AllPairs (λ a b. a ≢ b) (numbers_used (start config) inputs)

@@ -1,5 +1,6 @@
 pub mod Limits
 pub mod Configs
+pub mod FaultNumbers
 pub mod State
 pub mod Agrees
 pub mod Sound

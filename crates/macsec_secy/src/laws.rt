@@ -1,22 +1,23 @@
 //! Laws of the machine, over the definitions alone: each is the contract of a function that does
 //! nothing.
 
-ghost use Rattle.std.specs.Prelude.{List};
+ghost use Rattle.std.specs.Prelude.{ℕ, List};
 ghost use Rattle.macsec_secy.specs.declared.EndConfig.{EndConfig};
 ghost use Rattle.macsec_secy.specs.State.{State, start};
 ghost use Rattle.macsec_secy.specs.Agrees.{Agrees};
 ghost use Rattle.macsec_secy.specs.Sound.{IsSound};
-ghost use Rattle.macsec_secy.specs.Step.{Input, step};
-ghost use Rattle.macsec_secy.specs.Frames.{HasFrameLengths};
-ghost use Rattle.macsec_secy.specs.Laws.{UsesNoNumberTwice};
+ghost use Rattle.macsec_secy.specs.Step.{Input, client_frame, step};
+ghost use Rattle.macsec_secy.specs.Frames.{HasFrameLengths, HasLengthsFrom};
+ghost use Rattle.macsec_secy.specs.Laws.{UsesNoNumberTwice, UsesRisingNumbers};
 
 use macsec_gcm::laws::{open_undoes_seal, sealed_lengths};
 use macsec_tx::laws::read_as_sent;
 
-/// Whatever comes in from the making of an endpoint on, no packet number is used twice under a key's
-/// number.
+/// Whatever comes in from the making of an endpoint on, the packet numbers that are used under a key's
+/// number rise in the order of their use, and so none is used twice.
 pub fn uses_no_number_twice()
-    ensures { (config : EndConfig) (inputs : List Input) → UsesNoNumberTwice config inputs }
+    ensures rising { (config : EndConfig) (inputs : List Input) → UsesRisingNumbers config inputs }
+    ensures no_two { (config : EndConfig) (inputs : List Input) → UsesNoNumberTwice config inputs }
 {}
 
 /// The rows of the tables agree after the making, and whatever comes in leaves them so.
@@ -32,5 +33,13 @@ pub fn lengths_of_frames()
 {
     open_undoes_seal();
     sealed_lengths();
+    read_as_sent();
+}
+
+/// In every state of which `IsSound` holds, a frame that leaves for a client's frame has as many octets, and
+/// one that leaves protected 24 to 32 more.
+pub fn lengths_of_protected_frames()
+    ensures { (s : State) (frame : List ℕ) → IsSound s → HasLengthsFrom frame (step s (client_frame frame)).0 }
+{
     read_as_sent();
 }

@@ -5,6 +5,7 @@ ghost use Rattle.std.specs.Prelude.{◌≡◌, ◌≤◌, length, slice_get, IfO
 ghost use Rattle.std.specs.Borrow.{sem};
 ghost use Rattle.macsec_tx.specs.Transmit.{tx_row};
 ghost use Rattle.macsec_secy.specs.Configs.{config_fault};
+ghost use Rattle.macsec_secy.specs.FaultNumbers.{number_of_frame_fault, number_of_new_fault};
 ghost use Rattle.macsec_rx.specs.Channels.{rx_row};
 ghost use Rattle.macsec_rx.specs.Limits.{max_channel_count};
 ghost use Rattle.macsec_rx.specs.Rows.{IsSci};
@@ -206,6 +207,15 @@ pub enum NewFault {
     SciForm = 3,
 }
 
+impl NewFault {
+    /// The number of the fault, 1 to 3.
+    pub fn number(self) -> u8
+        ensures { result ≡ number_of_new_fault self }
+    {
+        self as u8
+    }
+}
+
 /// Why a frame is not taken.
 #[derive(Clone, Copy, PartialEq, Eq, Debug, Error)]
 pub enum FrameFault {
@@ -215,6 +225,15 @@ pub enum FrameFault {
     /// It has more than 9,248 octets.
     #[error("the frame has more than 9,248 octets")]
     Long = 2,
+}
+
+impl FrameFault {
+    /// The number of the fault, 1 or 2.
+    pub fn number(self) -> u8
+        ensures { result ≡ number_of_frame_fault self }
+    {
+        self as u8
+    }
 }
 
 /// Why nothing leaves for a client's frame.
@@ -296,7 +315,7 @@ impl Secy {
     /// An endpoint of this configuration, without keys and associations, whose counters are 0: it
     /// protects, validates strictly, and drops late frames at a replay window of 0. None is made for
     /// `MaxFrame` and `SciForm`, in this order, and then for want of memory for its keys and its room
-    /// for frames. No other call takes memory.
+    /// for frames. No later call is handed an allocator, and none can answer that memory is wanting.
     pub fn new(alloc: Global, config: EndConfig) -> Result<Secy, NewFault>
         ensures result { MakesEndpoint config result }
         ensures sound { IfOk result IsSound }
