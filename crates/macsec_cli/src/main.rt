@@ -1,20 +1,9 @@
 //! The program `macsec`: runs a script for a MACsec endpoint.
 #![tactic(auto)]
 
-mod faults;
-mod lines;
-mod numbers;
-mod running;
-mod script;
-#[cfg(test)]
-mod tests;
-mod words;
-
 use clap::error::ErrorKind;
 use clap::{Arg, ArgAction, ArgMatches, Command};
-use faults::Failure;
-pub use faults::ScriptFault;
-pub use running::run_script;
+use macsec_script::{Failure, ScriptFault, run_script};
 use std::alloc::{AllocError, Global};
 use std::io::{BufWriter, Read, Write};
 use std::process::ExitCode;

@@ -1,4 +1,0 @@
-use Rattle.macsec_cli.proofs.running.print_uncontrolled.Goals as goal
-
-pub returns-in-Ok-clause-text : goal.returns-in-Ok-clause-text
-returns-in-Ok-clause-text g c = rw (← c.octets.ensures, ← c.in-Ok.ensures.output) c.print_link.ensures

@@ -1,0 +1,399 @@
+-- Lines of the script language and what they say.
+use Rattle.std.specs.Prelude.{◌≡◌, ℕ, ◌++◌, List, [], ◌∷◌, replicate, codes, Some, None, Ok, Err, true, false, refl}
+use Rattle.std.specs.Fmt.{digits}
+use Rattle.hex.proofs.OnLiterals.{hex_on_literals}
+use Rattle.macsec_aes.specs.declared.Key.TheVariants.{K128, K256}
+use Rattle.macsec_tx.specs.declared.TagForm.TheVariants as form
+use Rattle.macsec_secy.specs.declared.Command.TheVariants as by
+use Rattle.macsec_rx.specs.declared.Mode.TheVariants.{Check}
+use Rattle.macsec_suite.specs.declared.Suite.TheVariants.{Gcm128, Gcm256, Xpn128, Xpn256}
+use Rattle.macsec_script.specs.declared.lines.End.TheVariants.{A, B}
+use Rattle.macsec_script.specs.declared.lines.Line.TheVariants as line
+use Rattle.macsec_script.specs.declared.lines.LineFault.TheVariants.{Word, Count, Hex, Number, LineLong}
+use Rattle.macsec_script.specs.declared.faults.ScriptFault.TheVariants as script
+use Rattle.macsec_script.specs.Kinds.{line_of}
+use Rattle.macsec_script.specs.Numbers.{packet_number_text, rx_text}
+use Rattle.macsec_script.specs.Printed.{printed_text}
+
+-- ---- lines that are skipped
+
+blank : line_of (codes " \t\r") ≡ Ok None
+blank = refl
+
+comment : line_of (codes " \t#frob") ≡ Ok None
+comment = refl
+
+-- ---- keywords that there are not
+
+frob : line_of (codes "A frob") ≡ Err Word
+frob = refl
+
+of_b : line_of (codes "B send 00") ≡ Err Word
+of_b = refl
+
+other_end : line_of (codes "C send 00") ≡ Err Word
+other_end = refl
+
+no_end : line_of (codes "send 00") ≡ Err Word
+no_end = refl
+
+tag_form : line_of (codes "end A gcm128 12153524c0895e81 1518 none") ≡ Err Word
+unfolding hex_on_literals
+tag_form = refl
+
+other_suite : line_of (codes "end A xpn192 12153524c0895e81 1518 sci") ≡ Err Word
+other_suite = refl
+
+protection : line_of (codes "A txsa 2 0 b2c28465 none") ≡ Err Word
+protection = refl
+
+switch : line_of (codes "A protect On") ≡ Err Word
+switch = refl
+
+mode : line_of (codes "A validate loose") ≡ Err Word
+mode = refl
+
+-- ---- too few words or too many
+
+alone : line_of (codes "A") ≡ Err Count
+alone = refl
+
+too_few : line_of (codes "A send") ≡ Err Count
+too_few = refl
+
+too_many : line_of (codes "A txon 2 3") ≡ Err Count
+too_many = refl
+
+no_window : line_of (codes "A replay off") ≡ Err Count
+no_window = refl
+
+-- an SSCI without a salt; the words are counted before any of them is read
+no_salt : line_of (codes "A key 256 ad7a2bd03eac835a6f620fdcb506b345 0 00000001") ≡ Err Count
+no_salt = refl
+
+six_words : line_of (codes "A key 0 ad7a2bd03eac835a6f620fdcb506b345 0 00000001 12153525c0895e8000000000 0") ≡ Err Count
+six_words = refl
+
+numbers_of : line_of (codes "A numbers 1") ≡ Err Count
+numbers_of = refl
+
+-- ---- words that are not hex
+
+odd : line_of (codes "A send 0") ≡ Err Hex
+unfolding hex_on_literals
+odd = refl
+
+no_digit : line_of (codes "A send 0g") ≡ Err Hex
+unfolding hex_on_literals
+no_digit = refl
+
+short_sci : line_of (codes "end A gcm128 00 1518 sci") ≡ Err Hex
+unfolding hex_on_literals
+short_sci = refl
+
+short_key : line_of (codes "A key 0 ad7a 0") ≡ Err Hex
+unfolding hex_on_literals
+short_key = refl
+
+short_ssci : line_of (codes "A key 0 ad7a2bd03eac835a6f620fdcb506b345 0 000001 12153525c0895e8000000000") ≡ Err Hex
+unfolding hex_on_literals
+short_ssci = refl
+
+long_salt : line_of (codes "A key 0 ad7a2bd03eac835a6f620fdcb506b345 0 00000001 12153525c0895e800000000000") ≡ Err Hex
+unfolding hex_on_literals
+long_salt = refl
+
+salt_without_digits : line_of (codes "A key 0 ad7a2bd03eac835a6f620fdcb506b345 0 00000001 12153525c0895e800000000g") ≡ Err Hex
+unfolding hex_on_literals
+salt_without_digits = refl
+
+seventeen_digits : line_of (codes "A txsa 0 0 00000000000000001 int") ≡ Err Hex
+seventeen_digits = refl
+
+-- ---- numbers out of range
+
+key_256 : line_of (codes "A key 256 ad7a2bd03eac835a6f620fdcb506b345 0") ≡ Err Number
+key_256 = refl
+
+an_4 : line_of (codes "A txon 4") ≡ Err Number
+an_4 = refl
+
+offset_256 : line_of (codes "A key 0 ad7a2bd03eac835a6f620fdcb506b345 256") ≡ Err Number
+unfolding hex_on_literals
+offset_256 = refl
+
+-- the words from left to right
+offset_before_ssci : line_of (codes "A key 0 ad7a2bd03eac835a6f620fdcb506b345 256 000001 00") ≡ Err Number
+unfolding hex_on_literals
+offset_before_ssci = refl
+
+small_frames : line_of (codes "end A gcm128 12153524c0895e81 63 sci") ≡ Err Number
+unfolding hex_on_literals
+small_frames = refl
+
+twenty_one_digits : line_of (codes "A txon 000000000000000000002") ≡ Err Number
+twenty_one_digits = refl
+
+wide_window : line_of (codes "A replay off 18446744073709551616") ≡ Err Number
+wide_window = refl
+
+-- ---- long lines
+
+longest : line_of (codes "A send " ++ replicate 19993 103) ≡ Err Hex
+unfolding hex_on_literals
+longest = refl
+
+too_long : line_of (codes "A send " ++ replicate 19994 48) ≡ Err LineLong
+too_long = refl
+
+-- ---- lines that say something
+
+end_a : line_of (codes "end A gcm128 12153524c0895e81 1518 sci") ≡
+    Ok (Some (line.End A (record {
+      suite = Gcm128;
+      sci = record { 0 = 18 ∷ 21 ∷ 53 ∷ 36 ∷ 192 ∷ 137 ∷ 94 ∷ 129 ∷ [] };
+      max_frame = 1518;
+      form = form.Sci;
+    })))
+unfolding hex_on_literals
+end_a = refl
+
+end_b : line_of (codes "end B gcm256 0000000000000001 64 es") ≡
+    Ok (Some (line.End B (record {
+      suite = Gcm256;
+      sci = record { 0 = 0 ∷ 0 ∷ 0 ∷ 0 ∷ 0 ∷ 0 ∷ 0 ∷ 1 ∷ [] };
+      max_frame = 64;
+      form = form.Es;
+    })))
+unfolding hex_on_literals
+end_b = refl
+
+end_of_xpn128 : line_of (codes "end A xpn128 12153524c0895e81 1518 sci") ≡
+    Ok (Some (line.End A (record {
+      suite = Xpn128;
+      sci = record { 0 = 18 ∷ 21 ∷ 53 ∷ 36 ∷ 192 ∷ 137 ∷ 94 ∷ 129 ∷ [] };
+      max_frame = 1518;
+      form = form.Sci;
+    })))
+unfolding hex_on_literals
+end_of_xpn128 = refl
+
+end_of_xpn256 : line_of (codes "end B xpn256 0000000000000002 64 auto") ≡
+    Ok (Some (line.End B (record {
+      suite = Xpn256;
+      sci = record { 0 = 0 ∷ 0 ∷ 0 ∷ 0 ∷ 0 ∷ 0 ∷ 0 ∷ 2 ∷ [] };
+      max_frame = 64;
+      form = form.Auto;
+    })))
+unfolding hex_on_literals
+end_of_xpn256 = refl
+
+key : line_of (codes "A key 7 000102030405060708090A0B0C0D0E0F 0") ≡
+    Ok (Some (line.Command (by.Key (record {
+      number = 7;
+      bytes = K128 (0 ∷ 1 ∷ 2 ∷ 3 ∷ 4 ∷ 5 ∷ 6 ∷ 7 ∷ 8 ∷ 9 ∷ 10 ∷ 11 ∷ 12 ∷ 13 ∷ 14 ∷ 15 ∷ []);
+      salt = replicate 12 0;
+      ssci = 0;
+      offset = 0;
+    }))))
+unfolding hex_on_literals
+key = refl
+
+key_of_32_octets : line_of (codes "A key 7 000102030405060708090a0b0c0d0e0f101112131415161718191a1b1c1d1e1f 0") ≡
+    Ok (Some (line.Command (by.Key (record {
+      number = 7;
+      bytes = K256 (0 ∷ 1 ∷ 2 ∷ 3 ∷ 4 ∷ 5 ∷ 6 ∷ 7 ∷ 8 ∷ 9 ∷ 10 ∷ 11 ∷ 12 ∷ 13 ∷ 14 ∷ 15 ∷ 16 ∷ 17 ∷ 18 ∷ 19 ∷ 20 ∷ 21 ∷ 22 ∷ 23 ∷ 24 ∷ 25 ∷ 26 ∷ 27 ∷ 28 ∷ 29 ∷ 30 ∷ 31 ∷ []);
+      salt = replicate 12 0;
+      ssci = 0;
+      offset = 0;
+    }))))
+unfolding hex_on_literals
+key_of_32_octets = refl
+
+offset_30 : line_of (codes "A key 7 000102030405060708090a0b0c0d0e0f 30") ≡
+    Ok (Some (line.Command (by.Key (record {
+      number = 7;
+      bytes = K128 (0 ∷ 1 ∷ 2 ∷ 3 ∷ 4 ∷ 5 ∷ 6 ∷ 7 ∷ 8 ∷ 9 ∷ 10 ∷ 11 ∷ 12 ∷ 13 ∷ 14 ∷ 15 ∷ []);
+      salt = replicate 12 0;
+      ssci = 0;
+      offset = 30;
+    }))))
+unfolding hex_on_literals
+offset_30 = refl
+
+-- an SSCI has its most significant octet first
+ssci_and_salt : line_of (codes "A key 7 000102030405060708090a0b0c0d0e0f 0 0a0B0c0D 12153525c0895e8000000000") ≡
+    Ok (Some (line.Command (by.Key (record {
+      number = 7;
+      bytes = K128 (0 ∷ 1 ∷ 2 ∷ 3 ∷ 4 ∷ 5 ∷ 6 ∷ 7 ∷ 8 ∷ 9 ∷ 10 ∷ 11 ∷ 12 ∷ 13 ∷ 14 ∷ 15 ∷ []);
+      salt = 18 ∷ 21 ∷ 53 ∷ 37 ∷ 192 ∷ 137 ∷ 94 ∷ 128 ∷ 0 ∷ 0 ∷ 0 ∷ 0 ∷ [];
+      ssci = 168496141;
+      offset = 0;
+    }))))
+unfolding hex_on_literals
+ssci_and_salt = refl
+
+tx_sa : line_of (codes "A  txsa\t2 00 b2C28465 int\r") ≡ Ok (Some (line.Command (by.TxSa 2 0 2999092325 false)))
+tx_sa = refl
+
+encrypts : line_of (codes "A txsa 2 0 b2c28465 conf") ≡ Ok (Some (line.Command (by.TxSa 2 0 2999092325 true)))
+encrypts = refl
+
+extended_number : line_of (codes "A txsa 2 0 1b2c28465 conf") ≡ Ok (Some (line.Command (by.TxSa 2 0 7294059621 true)))
+extended_number = refl
+
+tx_on : line_of (codes "A txon 02") ≡ Ok (Some (line.Command (by.TxOn 2)))
+tx_on = refl
+
+send : line_of (codes "A send 0aFf") ≡ Ok (Some (line.Send (10 ∷ 255 ∷ [])))
+unfolding hex_on_literals
+send = refl
+
+protect : line_of (codes "A protect off") ≡ Ok (Some (line.Command (by.Protect false)))
+protect = refl
+
+validate : line_of (codes "A validate check") ≡ Ok (Some (line.Command (by.Validate Check)))
+validate = refl
+
+replay : line_of (codes "A replay on 4294967296") ≡ Ok (Some (line.Command (by.Replay true 4294967296)))
+replay = refl
+
+tag : line_of (codes "A tag es") ≡ Ok (Some (line.Command (by.Tag form.Es)))
+tag = refl
+
+retire : line_of (codes "A retire 7") ≡ Ok (Some (line.Command (by.Retire 7)))
+retire = refl
+
+tx_off : line_of (codes "A txoff 0") ≡ Ok (Some (line.Command (by.TxOff 0)))
+tx_off = refl
+
+tx_del : line_of (codes "A txdel 3") ≡ Ok (Some (line.Command (by.TxDel 3)))
+tx_del = refl
+
+uncontrolled : line_of (codes "A sendu 0aFf") ≡ Ok (Some (line.SendUncontrolled (10 ∷ 255 ∷ [])))
+unfolding hex_on_literals
+uncontrolled = refl
+
+numbers : line_of (codes "A numbers\r") ≡ Ok (Some line.Numbers)
+numbers = refl
+
+-- ---- packet numbers that are shown
+
+first_shown : packet_number_text 1 ≡ codes "0000000000000001"
+unfolding digits
+first_shown = refl
+
+-- as many digits as there are, in lower case
+all_digits_shown : packet_number_text 81985529216486895 ≡ codes "0123456789abcdef"
+unfolding digits
+all_digits_shown = refl
+
+-- one past the last of 64 bits
+past_64_bits_shown : packet_number_text 18446744073709551616 ≡ codes "10000000000000000"
+unfolding digits
+past_64_bits_shown = refl
+
+received_shown : rx_text 12 (Some (record {
+  sci = record { 0 = 18 ∷ 21 ∷ 53 ∷ 36 ∷ 192 ∷ 137 ∷ 94 ∷ 129 ∷ [] };
+  an = 3;
+  key = 255;
+  ssci = 1;
+  next = 4294967297;
+  lowest = 4294967296;
+  on = true;
+})) ≡ codes "12 rx 12153524c0895e81 3 255 0000000100000001 0000000100000000 on\n"
+unfolding hex_on_literals digits
+received_shown = refl
+
+-- ---- scripts
+
+abbrev both_ends : List ℕ
+both_ends = codes "end A gcm128 12153524c0895e81 1518 sci\nend B gcm128 0000000000000002 1518 auto\n"
+
+nothing : printed_text (codes "# nothing\n\n") ≡ Ok []
+nothing = refl
+
+no_end_b : printed_text (codes "end A gcm128 12153524c0895e81 1518 sci\n") ≡ Err (script.Ends 1)
+unfolding hex_on_literals
+no_end_b = refl
+
+-- the fault of a line of the script is Word
+few_words_for_a_key : printed_text (codes "end A gcm128 12153524c0895e81 1518 sci\nA key 256\n") ≡ Err (script.Word 2)
+unfolding hex_on_literals
+few_words_for_a_key = refl
+
+ssci_without_salt : printed_text (both_ends ++ codes "A key 0 ad7a2bd03eac835a6f620fdcb506b345 0 00000001\n") ≡ Err (script.Word 3)
+unfolding hex_on_literals
+ssci_without_salt = refl
+
+other_port : printed_text (codes "end A gcm128 12153524c0895e81 1518 sci\nend B gcm128 0000000000000002 1518 es\n") ≡ Err (script.Word 2)
+unfolding hex_on_literals
+other_port = refl
+
+ends_alone : printed_text both_ends ≡ Ok []
+unfolding hex_on_literals
+ends_alone = refl
+
+third_end : printed_text (both_ends ++ codes "end A gcm128 12153524c0895e81 1518 sci\n") ≡ Err (script.Word 3)
+unfolding hex_on_literals
+third_end = refl
+
+-- a key of 32 octets under gcm128, and an offset that is none of the three
+long_key : printed_text (both_ends ++ codes "A key 0 000102030405060708090a0b0c0d0e0f101112131415161718191a1b1c1d1e1f 0\n") ≡ Ok (codes "3 refused 1 KeyLength\n")
+unfolding hex_on_literals digits
+long_key = refl
+
+offset_31 : printed_text (both_ends ++ codes "A key 0 ad7a2bd03eac835a6f620fdcb506b345 31\n") ≡ Ok (codes "3 refused 2 Offset\n")
+unfolding hex_on_literals digits
+offset_31 = refl
+
+-- packet numbers begin with 1
+first_number : printed_text (both_ends ++ codes "A key 0 ad7a2bd03eac835a6f620fdcb506b345 0\nA txsa 0 0 0 int\nA txsa 0 0 1 int\n") ≡ Ok (codes "3 done\n4 refused 14 PnRange\n5 done\n")
+unfolding hex_on_literals digits
+first_number = refl
+
+-- and end with ffffffff
+past_32_bits : printed_text (both_ends ++ codes "A key 0 ad7a2bd03eac835a6f620fdcb506b345 0\nA txsa 0 0 100000000 int\n") ≡ Ok (codes "3 done\n4 refused 14 PnRange\n")
+unfolding hex_on_literals digits
+past_32_bits = refl
+
+-- the widest window
+windows : printed_text (both_ends ++ codes "A replay on 4294967295\nA replay off 4294967296\n") ≡ Ok (codes "3 done\n4 refused 18 Window\n")
+unfolding hex_on_literals digits
+windows = refl
+
+-- extended packet numbers: a key has no offset, the window is narrower, and packet numbers have 64 bits
+abbrev pub extended_ends : List ℕ
+extended_ends = codes "end A xpn128 12153524c0895e81 1518 sci\nend B xpn128 0000000000000002 1518 auto\n"
+
+extended_offset : printed_text (extended_ends ++ codes "A key 0 ad7a2bd03eac835a6f620fdcb506b345 30 00000001 12153525c0895e8000000000\nA key 0 ad7a2bd03eac835a6f620fdcb506b345 0 00000001 12153525c0895e8000000000\n") ≡ Ok (codes "3 refused 2 Offset\n4 done\n")
+unfolding hex_on_literals digits
+extended_offset = refl
+
+extended_windows : printed_text (extended_ends ++ codes "A replay on 1073741823\nA replay on 1073741824\n") ≡ Ok (codes "3 done\n4 refused 18 Window\n")
+unfolding hex_on_literals digits
+extended_windows = refl
+
+extended_numbers : printed_text (extended_ends ++ codes "A key 0 ad7a2bd03eac835a6f620fdcb506b345 0\nA txsa 0 0 0 int\nA txsa 0 0 100000000 int\nA txdel 0\nA txsa 0 0 ffffffffffffffff int\n") ≡ Ok (codes "3 done\n4 refused 14 PnRange\n5 done\n6 done\n7 done\n")
+unfolding hex_on_literals digits
+extended_numbers = refl
+
+-- a frame of each port; without protection they leave as they are
+both_ports : printed_text (both_ends ++ codes "A send 00112233445566778899aabb0800\nA protect off\nA send 00112233445566778899AABB0800\nA sendu 00112233445566778899aabb0801\n") ≡ Ok (codes "3 dropped NoSA\n4 done\n5 frame 0 00112233445566778899aabb0800\n6 frame 1 00112233445566778899aabb0801\n")
+unfolding hex_on_literals digits
+both_ports = refl
+
+five_lines : printed_text (both_ends ++ codes "A key 0 ad7a2bd03eac835a6f620fdcb506b345 0\nA txsa 2 0 b2c28465 int\nA txon 2\n") ≡ Ok (codes "3 done\n4 done\n5 done\n")
+unfolding hex_on_literals digits
+five_lines = refl
+
+-- associations by their numbers, whatever the order of their making
+shown : printed_text (both_ends ++ codes "A numbers\nA key 0 ad7a2bd03eac835a6f620fdcb506b345 0\nA key 1 000102030405060708090a0b0c0d0e0f 0\nA txsa 3 0 abcdef conf\nA txsa 1 1 1 int\nA txon 1\nA numbers\n") ≡
+    Ok (codes "4 done\n5 done\n6 done\n7 done\n8 done\n9 tx 1 1 0000000000000001 on int\n9 tx 3 0 0000000000abcdef off conf\n")
+unfolding hex_on_literals digits
+shown = refl
+
+-- a last line without a line feed counts, and a skipped line has its number
+three_lines : printed_text (codes "#\nend A gcm128 12153524c0895e81 1518 sci\nend B gcm128 0000000000000001 1518 es\nA send 00") ≡ Ok (codes "4 fault 5 Short\n")
+unfolding hex_on_literals digits
+three_lines = refl

@@ -1,0 +1,102 @@
+-- Answers of a run that printed nothing.
+use Rattle.std.proofs.Common.{◌≡◌, ℕ, List, [], refl, sym, ◌∙◌, ap, subst}
+use Rattle.std.specs.Prelude.{Option, Some, None, Result, Ok, Err, IfSome, IfErr, ◌≤◌, length}
+use Rattle.std.specs.Io.KnownBytes.{Keeps}
+use Rattle.std.proofs.KnownBytes.{Appends-nil, Appends-kept, Keeps-refl}
+use Rattle.macsec_script.specs.declared.faults.ScriptFault.{ScriptFault}
+use Rattle.macsec_script.specs.declared.faults.ScriptFault.TheVariants.{Word, Count, Hex, Number, Ends, LineLong, ScriptLong, Memory, Read, Write}
+use Rattle.macsec_script.specs.Fields.{map_ok}
+use Rattle.macsec_script.specs.Scripts.{NumberedLine, script_of}
+use Rattle.macsec_script.specs.Printed.{printed_text, text_of}
+use Rattle.macsec_script.specs.Runs.{IsBegun, LeavesText, RunGives, Parses, Prints}
+
+-- nothing begins every answer
+pub begun_by_nothing : (answer : Result (List ℕ) ScriptFault) → IsBegun answer []
+begun_by_nothing (Ok whole) = (whole, refl)
+begun_by_nothing (Err fault) = refl
+
+pub out_of_memory : (script : List ℕ) (old new : Option (List ℕ)) → Keeps old new → RunGives script old new (Err Memory)
+out_of_memory script old new kept = ([], begun_by_nothing (printed_text script), Appends-kept old old new [] (Appends-nil old) kept)
+
+printed_fault : (script : List ℕ) (f : ScriptFault) → script_of script ≡ Err f → printed_text script ≡ Err f
+printed_fault script f h = ap (map_ok text_of) h
+
+-- a script at fault
+pub at_fault : (script : List ℕ) (old new : Option (List ℕ)) → Keeps old new → (f : ScriptFault) → Parses (script_of script) (Err f) → RunGives script old new (Err f)
+at_fault script old new kept Memory h = out_of_memory script old new kept
+at_fault script old new kept Read h = kept
+at_fault script old new kept Write h = absurd h
+at_fault script old new kept ScriptLong h = (printed_fault script ScriptLong h, kept)
+at_fault script old new kept (Word n) h = (printed_fault script (Word n) h, kept)
+at_fault script old new kept (Count n) h = (printed_fault script (Count n) h, kept)
+at_fault script old new kept (Hex n) h = (printed_fault script (Hex n) h, kept)
+at_fault script old new kept (Number n) h = (printed_fault script (Number n) h, kept)
+at_fault script old new kept (Ends n) h = (printed_fault script (Ends n) h, kept)
+at_fault script old new kept (LineLong n) h = (printed_fault script (LineLong n) h, kept)
+
+-- a script that was parsed and printed
+pub after_parsing : (script : List ℕ) (lines : List NumberedLine) (old new : Option (List ℕ)) → script_of script ≡ Ok lines →
+    (answer : Result (Unit {0}) ScriptFault) → Prints (text_of lines) old new answer → RunGives script old new answer
+after_parsing script lines old new parsed (Ok done) h = (text_of lines, ap (map_ok text_of) parsed, h)
+after_parsing script lines old new parsed (Err Memory) h =
+    (h.0, let P : Result (List ℕ) ScriptFault → Type 0 = λ answer. IsBegun answer h.0 in subst P (sym (ap (map_ok text_of) parsed)) h.1, h.2)
+after_parsing script lines old new parsed (Err Write) h = (text_of lines, ap (map_ok text_of) parsed)
+after_parsing script lines old new parsed (Err Read) h = absurd h
+after_parsing script lines old new parsed (Err ScriptLong) h = absurd h
+after_parsing script lines old new parsed (Err (Word n)) h = absurd h
+after_parsing script lines old new parsed (Err (Count n)) h = absurd h
+after_parsing script lines old new parsed (Err (Hex n)) h = absurd h
+after_parsing script lines old new parsed (Err (Number n)) h = absurd h
+after_parsing script lines old new parsed (Err (Ends n)) h = absurd h
+after_parsing script lines old new parsed (Err (LineLong n)) h = absurd h
+
+-- the same for a reader that tells its octets, and for one that doesn't
+pub at_fault_read : (known : Option (List ℕ)) (text lent : List ℕ) (old new : Option (List ℕ)) →
+    IfSome known (λ all. (text ≡ all) × (length all ≤ 1048576)) → lent ≡ text → Keeps old new → (f : ScriptFault) →
+    Parses (script_of lent) (Err f) → IfSome known (λ script. RunGives script old new (Err f))
+at_fault_read None text lent old new read same kept f h = tt
+at_fault_read (Some all) text lent old new read same kept f h =
+    let P : List ℕ → Type 0 = λ script. RunGives script old new (Err f) in subst P (same ∙ read.0) (at_fault lent old new kept f h)
+
+pub after_reading : (known : Option (List ℕ)) (text : List ℕ) (lines : List NumberedLine) (old new : Option (List ℕ)) →
+    IfSome known (λ all. (text ≡ all) × (length all ≤ 1048576)) → script_of text ≡ Ok lines →
+    (answer : Result (Unit {0}) ScriptFault) → Prints (text_of lines) old new answer → IfSome known (λ script. RunGives script old new answer)
+after_reading None text lines old new read parsed answer h = tt
+after_reading (Some all) text lines old new read parsed answer h =
+    let P : List ℕ → Type 0 = λ script. RunGives script old new answer in subst P read.0 (after_parsing text lines old new parsed answer h)
+
+-- the same over slices of the text and of the lines
+pub after_running : (known : Option (List ℕ)) (text lent : List ℕ) (lines given : List NumberedLine) (old new : Option (List ℕ)) →
+    IfSome known (λ all. (text ≡ all) × (length all ≤ 1048576)) → lent ≡ text → script_of lent ≡ Ok lines → given ≡ lines →
+    (answer : Result (Unit {0}) ScriptFault) → Prints (text_of given) old new answer → IfSome known (λ script. RunGives script old new answer)
+after_running known text lent lines given old new read same parsed value_of_keyword answer h =
+    after_reading known text lines old new read (ap script_of (sym same) ∙ parsed) answer
+    (let P : List NumberedLine → Type 0 = λ l. Prints (text_of l) old new answer in subst P value_of_keyword h)
+
+-- a text that is as it was
+pub left_alone : (text : Option (List ℕ)) (f : ScriptFault) → LeavesText text text f
+left_alone text Memory = tt
+left_alone text Write = tt
+left_alone text Read = Keeps-refl text
+left_alone text ScriptLong = Keeps-refl text
+left_alone text (Word n) = Keeps-refl text
+left_alone text (Count n) = Keeps-refl text
+left_alone text (Hex n) = Keeps-refl text
+left_alone text (Number n) = Keeps-refl text
+left_alone text (Ends n) = Keeps-refl text
+left_alone text (LineLong n) = Keeps-refl text
+
+-- printing fails by want of memory or by a write
+pub only_written : (whole : List ℕ) (old new : Option (List ℕ)) (answer : Result (Unit {0}) ScriptFault) →
+    Prints whole old new answer → IfErr answer (λ f. LeavesText old new f)
+only_written whole old new (Ok done) h = tt
+only_written whole old new (Err Memory) h = tt
+only_written whole old new (Err Write) h = tt
+only_written whole old new (Err Read) h = absurd h
+only_written whole old new (Err ScriptLong) h = absurd h
+only_written whole old new (Err (Word n)) h = absurd h
+only_written whole old new (Err (Count n)) h = absurd h
+only_written whole old new (Err (Hex n)) h = absurd h
+only_written whole old new (Err (Number n)) h = absurd h
+only_written whole old new (Err (Ends n)) h = absurd h
+only_written whole old new (Err (LineLong n)) h = absurd h

@@ -1,0 +1,23 @@
+use Rattle.std.proofs.KnownBytes.{Keeps-refl}
+use Rattle.std.proofs.lemmas.Result.{err_from_is_err_and}
+use Rattle.macsec_script.proofs.Unwritten.{at_fault_read, after_running, left_alone, only_written}
+use Rattle.macsec_script.proofs.running.run_script.Goals as goal
+
+pub returns-in_err-lines-clause-run : goal.returns-in_err-lines-clause-run
+returns-in_err-lines-clause-run g c =
+    let p = err_from_is_err_and c.from_residual-in_err-lines.result c.from_residual-in_err-lines.ensures.1 in
+    rw (p.1, p.2)
+    (at_fault_read _ c.in_ok-text.text.items _ _ _ c.in_ok-text.ensures c.as_slice.ensures.value (Keeps-refl _) _ c.in_err-lines.ensures)
+
+pub returns-in_err-lines-clause-unwritten : goal.returns-in_err-lines-clause-unwritten
+returns-in_err-lines-clause-unwritten g c =
+    let p = err_from_is_err_and c.from_residual-in_err-lines.result c.from_residual-in_err-lines.ensures.1 in
+    rw p.1 (left_alone _ _)
+
+pub returns-clause-run : goal.returns-clause-run
+returns-clause-run g c =
+    after_running _ c.in_ok-text.text.items _ c.in_ok-lines.lines.items _ _ _ c.in_ok-text.ensures c.as_slice.ensures.value
+    c.in_ok-lines.ensures c.as_slice-2.ensures.value _ c.print_script.ensures
+
+pub returns-clause-unwritten : goal.returns-clause-unwritten
+returns-clause-unwritten g c = only_written _ _ _ c.print_script.result c.print_script.ensures

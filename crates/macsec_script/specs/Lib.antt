@@ -1,0 +1,12 @@
+pub mod Limits
+pub mod Words
+pub mod Numerals
+pub mod Fields
+pub mod Kinds
+pub mod Scripts
+pub mod Refusals
+pub mod Numbers
+pub mod Printed
+pub mod Runs
+pub mod Faults
+pub mod Failures

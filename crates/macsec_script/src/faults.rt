@@ -1,0 +1,120 @@
+//! What goes wrong in a script or in its run, as a line on standard error and as the program's status.
+
+ghost use Rattle.std.specs.Prelude.{◌≡◌, OnOk, MatchResult, Ok, Err};
+ghost use Rattle.std.specs.Io.KnownBytes.{Appends};
+ghost use Rattle.macsec_script.specs.declared.faults.ScriptFault.TheVariants.{Write};
+ghost use Rattle.macsec_script.specs.Faults.{fault_line, fault_name, fault_status, fault_text, text_at};
+
+use std::io::{self, Write};
+use thiserror::Error;
+
+/// Why a script is not run to its end. The first six are told with the number of their line, from 1.
+#[derive(Clone, Copy, Debug, Error)]
+pub enum ScriptFault {
+    /// A line that the program does not take at its place, whatever is wrong with it.
+    #[error("line {0} is none that can stand there")]
+    Word(u32),
+    /// A line has too few words or too many. No script gets this fault yet: such a line is `Word`.
+    #[error("line {0} has too few words or too many")]
+    Count(u32),
+    /// A word is not the hex text of as many octets as are wanted. Such a line is `Word` yet.
+    #[error("line {0} has a word that is no such hex text")]
+    Hex(u32),
+    /// A word is not a decimal number in its range. Such a line is `Word` yet.
+    #[error("line {0} has a word that is no number in its range")]
+    Number(u32),
+    /// The script ends after its first line and before its second, skipped ones aside; the number is its
+    /// last line's, skipped or not.
+    #[error("the script ends too early, at line {0}")]
+    Ends(u32),
+    /// A line has more than 20,000 octets, without its line feed.
+    #[error("line {0} is too long")]
+    LineLong(u32),
+    /// The script has more than 1,048,576 octets or more than 65,536 lines.
+    #[error("the script is too long")]
+    ScriptLong,
+    /// Memory was wanting.
+    #[error("memory was wanting")]
+    Memory,
+    /// The reader failed.
+    #[error("the script can't be read")]
+    Read,
+    /// The writer failed.
+    #[error("the text can't be written")]
+    Write,
+}
+
+impl ScriptFault {
+    /// Writes the one line that tells the fault.
+    pub fn tell<W: Write>(self, writer: &mut W) -> io::Result<()>
+        ensures { OnOk result (Appends (W.contents writer.old) (W.contents writer.new) (fault_text self)) }
+    {
+        tell_name(writer, self.line(), self.name())
+    }
+
+    /// The name of the fault.
+    pub fn name(self) -> &'static str
+        ensures { result.now ≡ fault_name self }
+    {
+        match self {
+            ScriptFault::Word(_) => "Word",
+            ScriptFault::Count(_) => "Count",
+            ScriptFault::Hex(_) => "Hex",
+            ScriptFault::Number(_) => "Number",
+            ScriptFault::Ends(_) => "Ends",
+            ScriptFault::LineLong(_) => "LineLong",
+            ScriptFault::ScriptLong => "ScriptLong",
+            ScriptFault::Memory => "Memory",
+            ScriptFault::Read => "Read",
+            ScriptFault::Write => "Write",
+        }
+    }
+
+    /// The number of the line at fault, from 1, where the fault is a line's.
+    pub fn line(self) -> Option<u32>
+        ensures { result ≡ fault_line self }
+    {
+        match self {
+            ScriptFault::Word(n)
+            | ScriptFault::Count(n)
+            | ScriptFault::Hex(n)
+            | ScriptFault::Number(n)
+            | ScriptFault::Ends(n)
+            | ScriptFault::LineLong(n) => Some(n),
+            ScriptFault::ScriptLong
+            | ScriptFault::Memory
+            | ScriptFault::Read
+            | ScriptFault::Write => None,
+        }
+    }
+
+    /// The program's status: 2 where the script is at fault, else 1.
+    pub fn status(self) -> u8
+        ensures { result ≡ fault_status self }
+    {
+        match self {
+            ScriptFault::Memory | ScriptFault::Read | ScriptFault::Write => 1,
+            _ => 2,
+        }
+    }
+}
+
+/// Writes the name of a fault, and its line where it has one.
+fn tell_name<W: Write>(writer: &mut W, line: Option<u32>, name: &str) -> io::Result<()>
+    ensures { OnOk result (Appends (W.contents writer.old) (W.contents writer.new) (text_at line name.now)) }
+{
+    match line {
+        Some(n) => writeln!(writer, "macsec: line {n}: {name}"),
+        None => writeln!(writer, "macsec: {name}"),
+    }
+}
+
+/// A write that failed, as the fault of a script.
+pub fn write_fault(written: io::Result<()>) -> Result<(), ScriptFault>
+    ensures { MatchResult written (λ _. result ≡ Ok tt) (λ _. result ≡ Err Write) }
+{
+    match written {
+        Ok(()) => Ok(()),
+        Err(_) => Err(ScriptFault::Write),
+    }
+}
