@@ -1,8 +1,10 @@
 -- What the program writes on standard error, and its status.
-use Rattle.std.specs.Prelude.{ℕ, List, ◌++◌, codes}
+use Rattle.std.specs.Prelude.{◌≡◌, ℕ, List, [], ◌++◌, codes, Option, Result, Ok, Err}
+use Rattle.std.specs.Io.KnownBytes.{Keeps}
 use Rattle.macsec_script.specs.declared.failures.Failure.{Failure}
 use Rattle.macsec_script.specs.declared.failures.Failure.TheVariants.{Usage, CannotOpen, Script}
 use Rattle.macsec_script.specs.Faults.{fault_text, fault_status}
+use Rattle.macsec_script.specs.Runs.{LeavesText, RunGives}
 
 abbrev pub failure_text : Failure → List ℕ
 failure_text Usage = codes "macsec: usage\n"
@@ -13,3 +15,31 @@ abbrev pub failure_status : Failure → ℕ
 failure_status Usage = 2
 failure_status (CannotOpen path) = 1
 failure_status (Script fault) = fault_status fault
+
+-- the status and the text of how a program ends
+abbrev pub told_status : Result (Unit {0}) Failure → ℕ
+told_status (Ok done) = 0
+told_status (Err failure) = failure_status failure
+
+abbrev pub told_text : Result (Unit {0}) Failure → List ℕ
+told_text (Ok done) = []
+told_text (Err failure) = failure_text failure
+
+-- what a run from standard input answers is what a run of its script does
+abbrev pub NamedGives : List ℕ → Option (List ℕ) → Option (List ℕ) → Result (Unit {0}) Failure → Type 0
+NamedGives script old new (Ok done) = RunGives script old new (Ok done)
+NamedGives script old new (Err (Script fault)) = RunGives script old new (Err fault)
+NamedGives script old new (Err Usage) = ⊥
+NamedGives script old new (Err (CannotOpen path)) = ⊥
+
+-- a run of a named script can't be at fault by the words, and only the named file can't be opened
+abbrev pub FailsAs : List ℕ → Failure → Type 0
+FailsAs name Usage = ⊥
+FailsAs name (CannotOpen path) = path.now ≡ name
+FailsAs name (Script fault) = Unit {0}
+
+-- nothing is written where the file can't be opened
+abbrev pub LeavesOutput : Option (List ℕ) → Option (List ℕ) → Failure → Type 0
+LeavesOutput old new Usage = Keeps old new
+LeavesOutput old new (CannotOpen path) = Keeps old new
+LeavesOutput old new (Script fault) = LeavesText old new fault

@@ -1,14 +1,18 @@
-//! What goes wrong in a program that runs a script, as a line on standard error and as its status.
+//! How a program that runs a script ends: what goes wrong, as a line on standard error and as its status.
 
-ghost use Rattle.std.specs.Prelude.{◌≡◌, OnOk};
+ghost use Rattle.std.specs.Prelude.{◌≡◌, ◌≢◌, OnOk};
+ghost use Rattle.std.specs.IoError.{error_kind};
+ghost use Rattle.std.specs.declared.io.ErrorKind.TheVariants.{OutOfMemory};
 ghost use Rattle.std.specs.Io.KnownBytes.{Appends};
-ghost use Rattle.macsec_script.specs.Failures.{failure_text, failure_status};
+ghost use Rattle.macsec_script.specs.declared.failures.Failure.TheVariants.{Script, Usage};
+ghost use Rattle.macsec_script.specs.declared.faults.ScriptFault.TheVariants.{Memory};
+ghost use Rattle.macsec_script.specs.Failures.{failure_text, failure_status, told_text, told_status};
 
 use crate::faults::ScriptFault;
 use std::io::{self, Write};
 use thiserror::Error;
 
-/// Why the program does not end well.
+/// Why a program that runs a script does not end well.
 #[derive(Clone, Copy, Debug, Error)]
 pub enum Failure<'a> {
     /// The words are not `run SCRIPT`.
@@ -24,7 +28,7 @@ pub enum Failure<'a> {
 
 impl Failure<'_> {
     /// Writes the one line that tells the failure.
-    pub fn tell<W: Write>(self, writer: &mut W) -> io::Result<()>
+    fn tell<W: Write>(self, writer: &mut W) -> io::Result<()>
         ensures { OnOk result (Appends (W.contents writer.old) (W.contents writer.new) (failure_text self.entry)) }
     {
         match self {
@@ -35,7 +39,7 @@ impl Failure<'_> {
     }
 
     /// The program's status: 2 where the words or the script are at fault, else 1.
-    pub fn status(self) -> u8
+    fn status(self) -> u8
         ensures { result ≡ failure_status self.entry }
     {
         match self {
@@ -43,5 +47,29 @@ impl Failure<'_> {
             Failure::CannotOpen(_) => 1,
             Failure::Script(fault) => fault.status(),
         }
+    }
+}
+
+/// Why the words of a program can't be had: memory was wanting, or one of them is no text.
+pub fn failure_of_words<'a>(error: &io::Error) -> Failure<'a>
+    ensures memory { error_kind error.now ≡ OutOfMemory → result ≡ Script Memory }
+    ensures usage { error_kind error.now ≢ OutOfMemory → result ≡ Usage }
+{
+    if error.kind() == io::ErrorKind::OutOfMemory {
+        Failure::Script(ScriptFault::Memory)
+    } else {
+        Failure::Usage
+    }
+}
+
+/// Tells how a program ends: writes the one line of its failure, where it fails. Answers its status, 0 where
+/// it ends well, and whether the writer took the line.
+pub fn tell<W: Write>(writer: &mut W, ended: Result<(), Failure<'_>>) -> (u8, io::Result<()>)
+    ensures status { result.0 ≡ told_status ended.entry }
+    ensures line { OnOk result.1 (Appends (W.contents writer.old) (W.contents writer.new) (told_text ended.entry)) }
+{
+    match ended {
+        Ok(()) => (0, Ok(())),
+        Err(failure) => (failure.status(), failure.tell(writer)),
     }
 }

@@ -1,9 +1,6 @@
 //! The packet numbers of an endpoint, as they are shown.
 
-use super::{
-    CLIENT, ENDS, KEY_128, KEY_256, assert_fails, assert_lines, assert_prints, commands_of,
-    ends_of, printed,
-};
+use super::{ANY_58, DONE, ENDS, KEY, KEY_256, Row, SEND, XPN_ENDS, assert_rows, joined};
 use macsec_script::{LineFault, parse_line, print_numbers};
 use macsec_secy::{
     An, Command, EndConfig, Key, NewKey, Refusal, Sci, Secy, Sent, Suite, TagForm, Verdict,
@@ -21,86 +18,103 @@ const RECEIVER: Sci = Sci([0, 0, 0, 0, 0, 0, 0, 2]);
 /// A client's frame of 14 octets: it has no data but its EtherType.
 const SHORTEST: [u8; 14] = [0xff, 0xff, 0xff, 0xff, 0xff, 0xff, 2, 0, 0, 0, 0, 1, 8, 0];
 
-/// The last packet number of 32 bits is used, and no other comes after it.
-#[test]
-fn past_the_last_of_32_bits(rt: HostRuntime) -> Result<(), Fail> {
-    let alloc = rt.alloc();
-    let commands = commands_of(alloc, KEY_128, 0, 0, "ffffffff", "int")?;
-    let sends = format!(in alloc; "A send {CLIENT}\nA send {CLIENT}\n")?;
-    let script = format!(in alloc; "{ENDS}{commands}{sends}A numbers\n")?;
-    let wanted = [
-        ("3 done", 0),
-        ("4 done", 0),
-        ("5 done", 0),
-        (
+const ROWS: &[Row] = &[
+    // The last packet number of 32 bits is used, and no other comes after it.
+    (
+        &[
+            ENDS,
+            KEY,
+            "A txsa 0 0 ffffffff int\nA txon 0\n",
+            SEND,
+            SEND,
+            "A numbers\n",
+        ],
+        &[
+            DONE,
             "6 frame 0 d609b1f056637a0d46df998d88e5202affffffff12153524c0895e81",
-            58,
-        ),
-        ("7 dropped NoSA", 0),
-        ("8 tx 0 0 0000000100000000 on int", 0),
-    ];
-    Ok(assert_lines(&rt, script.as_str(), &wanted)?)
-}
+            ANY_58,
+            "\n7 dropped NoSA\n8 tx 0 0 0000000100000000 on int\n",
+        ],
+    ),
+    // Extended packet numbers, across 2^32 and past the last one, which is the only one of 17 digits.
+    (
+        &[
+            XPN_ENDS,
+            KEY,
+            "A txsa 0 0 ffffffff int\nA txon 0\n",
+            SEND,
+            SEND,
+            "A numbers\n",
+        ],
+        &[
+            DONE,
+            "6 frame 0 d609b1f056637a0d46df998d88e5202affffffff12153524c0895e81",
+            ANY_58,
+            "\n7 frame 1 d609b1f056637a0d46df998d88e5202a0000000012153524c0895e81",
+            ANY_58,
+            "\n8 tx 0 0 0000000100000001 on int\n",
+        ],
+    ),
+    (
+        &[
+            XPN_ENDS,
+            KEY,
+            "A txsa 0 0 FFFFFFFFFFFFFFFE int\nA txon 0\n",
+            SEND,
+            "A numbers\n",
+        ],
+        &[
+            DONE,
+            "6 frame 0 d609b1f056637a0d46df998d88e5202afffffffe12153524c0895e81",
+            ANY_58,
+            "\n7 tx 0 0 ffffffffffffffff on int\n",
+        ],
+    ),
+    (
+        &[
+            XPN_ENDS,
+            KEY,
+            "A txsa 0 0 ffffffffffffffff int\nA txon 0\n",
+            SEND,
+            "A numbers\n",
+        ],
+        &[
+            DONE,
+            "6 frame 0 d609b1f056637a0d46df998d88e5202affffffff12153524c0895e81",
+            ANY_58,
+            "\n7 tx 0 0 10000000000000000 on int\n",
+        ],
+    ),
+    // Associations are shown by their numbers, whatever the order of their making; nothing is shown before
+    // there is one and after it is removed; and to be shown changes nothing.
+    (
+        &[
+            "end A gcm256 12153524c0895e81 1518 sci\nend B gcm256 0000000000000002 1518 auto\n",
+            "A numbers\nA key 255 ",
+            KEY_256,
+            " 0\nA key 0 000102030405060708090a0b0c0d0e0f101112131415161718191a1b1c1d1e1f 0\n",
+            "A txsa 3 255 ABCDEF conf\nA txsa 1 0 1 int\nA txon 1\n",
+            "A numbers\nA txon 3\nA numbers\nA txdel 1\nA numbers\nA txdel 3\nA numbers\n",
+        ],
+        &[
+            "4 done\n5 done\n6 done\n7 done\n8 done\n",
+            "9 tx 1 0 0000000000000001 on int\n9 tx 3 255 0000000000abcdef off conf\n",
+            "10 done\n",
+            "11 tx 1 0 0000000000000001 off int\n11 tx 3 255 0000000000abcdef on conf\n",
+            "12 done\n13 tx 3 255 0000000000abcdef on conf\n14 done\n",
+        ],
+    ),
+];
 
-/// Extended packet numbers, across 2^32 and past the last one, which is the only one of 17 digits.
 #[test]
-fn extended(rt: HostRuntime) -> Result<(), Fail> {
-    let alloc = rt.alloc();
-    let ends = ends_of(alloc, "xpn128", "xpn128")?;
-    for (next, line, shown) in [
-        ("ffffffff", 8, "0000000100000001"),
-        ("FFFFFFFFFFFFFFFE", 7, "ffffffffffffffff"),
-        ("ffffffffffffffff", 7, "10000000000000000"),
-    ] {
-        let commands = commands_of(alloc, KEY_128, 0, 0, next, "int")?;
-        let mut script = format!(in alloc; "{ends}{commands}")?;
-        for _ in 6..line {
-            write!(script, "A send {CLIENT}\n")?;
-        }
-        script.push_str("A numbers\n")?;
-        let (done, text) = printed(&rt, script.as_str());
-        assert!(&rt; done.is_ok(), "{done:?}");
-        let wanted = format!(in alloc; "\n{line} tx 0 0 {shown} on int\n")?;
-        assert!(&rt; text.as_slice().ends_with(wanted.as_bytes()), "at {next}");
-    }
-    Ok(())
-}
-
-/// Associations are shown by their numbers, whatever the order of their making; nothing is shown before
-/// there is one and after it is removed; and to be shown changes nothing.
-#[test]
-fn order_and_state(rt: HostRuntime) -> Result<(), Fail> {
-    let alloc = rt.alloc();
-    let ends = ends_of(alloc, "gcm256", "gcm256")?;
-    let other = "000102030405060708090a0b0c0d0e0f101112131415161718191a1b1c1d1e1f";
-    let keys = format!(in alloc; "A numbers\nA key 255 {KEY_256} 0\nA key 0 {other} 0\n")?;
-    let made = "A txsa 3 255 ABCDEF conf\nA txsa 1 0 1 int\nA txon 1\n";
-    let shown = "A numbers\nA txon 3\nA numbers\nA txdel 1\nA numbers\nA txdel 3\nA numbers\n";
-    let script = format!(in alloc; "{ends}{keys}{made}{shown}")?;
-    let done = "4 done\n5 done\n6 done\n7 done\n8 done\n";
-    let first = "9 tx 1 0 0000000000000001 on int\n9 tx 3 255 0000000000abcdef off conf\n";
-    let then =
-        "10 done\n11 tx 1 0 0000000000000001 off int\n11 tx 3 255 0000000000abcdef on conf\n";
-    let last = "12 done\n13 tx 3 255 0000000000abcdef on conf\n14 done\n";
-    let wanted = format!(in alloc; "{done}{first}{then}{last}")?;
-    assert_prints(&rt, script.as_str(), wanted.as_str());
-    Ok(())
+fn numbers(rt: HostRuntime) -> Result<(), Fail> {
+    Ok(assert_rows(&rt, ROWS)?)
 }
 
 /// The line has two words, and is A's.
 #[test]
 fn faults(rt: HostRuntime) -> Result<(), Fail> {
     let alloc = rt.alloc();
-    for line in [
-        "A numbers 1",
-        "A Numbers",
-        "A number",
-        "B numbers",
-        "numbers",
-    ] {
-        let script = format!(in alloc; "{ENDS}{line}\n")?;
-        assert_fails(&rt, script.as_str(), "macsec: line 3: Word\n");
-    }
     assert!(&rt; matches!(parse_line(alloc, b"A numbers 1"), Err(LineFault::Count)));
     assert!(&rt; matches!(parse_line(alloc, b"B numbers"), Err(LineFault::Word)));
     Ok(())
@@ -197,6 +211,13 @@ fn received(rt: HostRuntime) -> Result<(), Fail> {
     Ok(())
 }
 
+/// Shows the packet numbers of an endpoint in line 65,536.
+fn shown(alloc: Global, secy: &Secy) -> Result<Vec<u8>, Fail> {
+    let mut text = Vec::new(alloc);
+    print_numbers(&mut text, 65_536, secy)?;
+    Ok(text)
+}
+
 /// Transmit associations come first, then receive channels in the order of their making, and in each its
 /// associations by their numbers.
 #[test]
@@ -215,13 +236,43 @@ fn order_of_channels(rt: HostRuntime) -> Result<(), Fail> {
         next: 0x40,
         conf: false,
     })?;
-    let mut text = Vec::new(rt.alloc());
-    print_numbers(&mut text, 65_536, &secy)?;
-    let sent = "65536 tx 0 7 0000000000000040 off int\n";
-    let of_first = "65536 rx fedcba9876543210 2 7 0000000000000020 0000000000000020 off\n";
-    let of_second =
-        "65536 rx 12153524c0895e81 1 7 0000000000000030 0000000000000030 off\n65536 rx 12153524c0895e81 3 7 0000000000000010 0000000000000010 on\n";
-    let wanted = format!(in rt.alloc(); "{sent}{of_first}{of_second}")?;
+    let text = shown(rt.alloc(), &secy)?;
+    let wanted = joined(
+        rt.alloc(),
+        &[
+            "65536 tx 0 7 0000000000000040 off int\n",
+            "65536 rx fedcba9876543210 2 7 0000000000000020 0000000000000020 off\n",
+            "65536 rx 12153524c0895e81 1 7 0000000000000030 0000000000000030 off\n",
+            "65536 rx 12153524c0895e81 3 7 0000000000000010 0000000000000010 on\n",
+        ],
+    )?;
+    assert_eq!(&rt; text.as_slice(), wanted.as_bytes());
+    Ok(())
+}
+
+/// All eight receive channels are shown, in the order of their making.
+#[test]
+fn eight_channels(rt: HostRuntime) -> Result<(), Fail> {
+    let mut secy = endpoint(rt.alloc(), RECEIVER, 2)?;
+    for number in [8, 1, 7, 2, 6, 3, 5, 4] {
+        let sci = Sci([2, 0, 0, 0, 0, 0, 0, number]);
+        secy.command(&Command::RxSc(sci))?;
+        make(&mut secy, sci, an(&rt, 0), number as u64)?;
+    }
+    let text = shown(rt.alloc(), &secy)?;
+    let wanted = joined(
+        rt.alloc(),
+        &[
+            "65536 rx 0200000000000008 0 7 0000000000000008 0000000000000008 off\n",
+            "65536 rx 0200000000000001 0 7 0000000000000001 0000000000000001 off\n",
+            "65536 rx 0200000000000007 0 7 0000000000000007 0000000000000007 off\n",
+            "65536 rx 0200000000000002 0 7 0000000000000002 0000000000000002 off\n",
+            "65536 rx 0200000000000006 0 7 0000000000000006 0000000000000006 off\n",
+            "65536 rx 0200000000000003 0 7 0000000000000003 0000000000000003 off\n",
+            "65536 rx 0200000000000005 0 7 0000000000000005 0000000000000005 off\n",
+            "65536 rx 0200000000000004 0 7 0000000000000004 0000000000000004 off\n",
+        ],
+    )?;
     assert_eq!(&rt; text.as_slice(), wanted.as_bytes());
     Ok(())
 }

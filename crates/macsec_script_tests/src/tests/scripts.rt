@@ -1,62 +1,88 @@
 //! Lines that are skipped, and scripts at fault.
 
-use super::{CLIENT, COMMANDS, DONE, ENDS, KEY_128, PROTECTED, assert_fails, assert_prints};
+use super::{
+    CLIENT, COMMANDS, ENDS, KEY, PROTECTED, Row, SEND, assert_fails, assert_prints, assert_rows,
+    joined,
+};
 use std::test::Fail;
 
+const ROWS: &[Row] = &[
+    // Blanks, returns, and lines that are skipped.
+    (
+        &[
+            "# ends\n \t\r\n",
+            ENDS,
+            COMMANDS,
+            "\tA  send\t",
+            CLIENT,
+            " \r",
+        ],
+        &["5 done\n6 done\n7 done\n8 frame 0 ", PROTECTED, "\n"],
+    ),
+    (&[], &[]),
+    (&["# nothing\n\n \n"], &[]),
+    // After the lines of the ends, lines come in any order, and the script may end anywhere.
+    (&[ENDS], &[]),
+    (
+        &[ENDS, SEND, "A tag sci\n", KEY, "#\n"],
+        &["3 dropped NoSA\n4 done\n5 done\n"],
+    ),
+];
+
 #[test]
-fn blanks_returns_and_skipped_lines(rt: HostRuntime) -> Result<(), Fail> {
-    let alloc = rt.alloc();
-    let script = format!(in alloc; "# ends\n \t\r\n{ENDS}{COMMANDS}\tA  send\t{CLIENT} \r")?;
-    let wanted = format!(in alloc; "5 done\n6 done\n7 done\n8 frame 0 {PROTECTED}\n")?;
-    assert_prints(&rt, script.as_str(), wanted.as_str());
-    assert_prints(&rt, "", "");
-    assert_prints(&rt, "# nothing\n\n \n", "");
-    Ok(())
+fn scripts(rt: HostRuntime) -> Result<(), Fail> {
+    Ok(assert_rows(&rt, ROWS)?)
 }
 
-/// After the lines of the ends, lines come in any order, and the script may end anywhere.
-#[test]
-fn order_of_lines(rt: HostRuntime) -> Result<(), Fail> {
-    let alloc = rt.alloc();
-    assert_prints(&rt, ENDS, "");
-    let script = format!(in alloc; "{ENDS}A send {CLIENT}\nA tag sci\nA key 0 {KEY_128} 0\n#\n")?;
-    assert_prints(&rt, script.as_str(), "3 dropped NoSA\n4 done\n5 done\n");
-    assert_fails(
-        &rt,
-        "end A gcm128 12153524c0895e81 1518 sci\n# the end\n",
-        "macsec: line 2: Ends\n",
-    );
-    let script = format!(in alloc; "{ENDS}{COMMANDS}{ENDS}")?;
-    assert_fails(&rt, script.as_str(), "macsec: line 6: Word\n");
-    Ok(())
-}
+/// A line that the program does not take is at fault by `Word`.
+const LINES_AT_FAULT: [&str; 16] = [
+    "A send 0g",
+    "A sendu",
+    "A protect maybe",
+    "A validate loose",
+    "A replay on",
+    "A replay off 18446744073709551616",
+    "A tag none",
+    "A key 0 ad7a2bd03eac835a6f620fdcb506b345 0 00000001",
+    "A retire 256",
+    "A txdel 4",
+    "B send 00",
+    "A numbers 1",
+    "A Numbers",
+    "A number",
+    "B numbers",
+    "numbers",
+];
 
-/// A line that the program does not take is at fault by `Word`; the first one is told.
 #[test]
-fn faults_of_lines(rt: HostRuntime) -> Result<(), Fail> {
-    let alloc = rt.alloc();
-    assert_fails(&rt, "frob\n", "macsec: line 1: Word\n");
-    assert_fails(
-        &rt,
-        "end A gcm128 12153524c0895e81 1518 es\n",
-        "macsec: line 1: Word\n",
-    );
-    for line in [
-        "A send 0g",
-        "A sendu",
-        "A protect maybe",
-        "A validate loose",
-        "A replay on",
-        "A replay off 18446744073709551616",
-        "A tag none",
-        "A key 0 ad7a2bd03eac835a6f620fdcb506b345 0 00000001",
-        "A retire 256",
-        "A txdel 4",
-        "B send 00",
-    ] {
-        let script = format!(in alloc; "{ENDS}{line}\nfrob\n")?;
+fn lines_at_fault(rt: HostRuntime) -> Result<(), Fail> {
+    for line in LINES_AT_FAULT {
+        let script = joined(rt.alloc(), &[ENDS, line, "\nfrob\n"])?;
         assert_fails(&rt, script.as_str(), "macsec: line 3: Word\n");
     }
+    Ok(())
+}
+
+/// The first fault is told.
+#[test]
+fn scripts_at_fault(rt: HostRuntime) -> Result<(), Fail> {
+    for (pieces, told) in [
+        (["frob\n", ""], "macsec: line 1: Word\n"),
+        (
+            ["end A gcm128 12153524c0895e81 1518 es\n", ""],
+            "macsec: line 1: Word\n",
+        ),
+        (
+            ["end A gcm128 12153524c0895e81 1518 sci\n", "# the end\n"],
+            "macsec: line 2: Ends\n",
+        ),
+        ([ENDS, ENDS], "macsec: line 3: Word\n"),
+    ] {
+        let script = joined(rt.alloc(), &pieces)?;
+        assert_fails(&rt, script.as_str(), told);
+    }
+    let script = joined(rt.alloc(), &[ENDS, COMMANDS, ENDS])?;
+    assert_fails(&rt, script.as_str(), "macsec: line 6: Word\n");
     Ok(())
 }
 

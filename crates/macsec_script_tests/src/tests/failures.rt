@@ -1,0 +1,110 @@
+//! How a program that runs a script ends, and what it tells of that.
+
+use super::devices::FailingWriter;
+use super::{COMMANDS, DONE, ENDS, PROTECTED, SEND, assert_told, joined};
+use macsec_script::{Failure, ScriptFault, failure_of_words, run_named, tell};
+use std::io::{self, Write};
+use std::test::Fail;
+
+#[test]
+fn failures_told(rt: HostRuntime) {
+    for (failure, told, status) in [
+        (Failure::Usage, "macsec: usage\n", 2),
+        (
+            Failure::CannotOpen("no/such"),
+            "macsec: cannot open no/such\n",
+            1,
+        ),
+        (
+            Failure::Script(ScriptFault::Hex(3)),
+            "macsec: line 3: Hex\n",
+            2,
+        ),
+        (Failure::Script(ScriptFault::Memory), "macsec: Memory\n", 1),
+        (Failure::Script(ScriptFault::Read), "macsec: Read\n", 1),
+        (Failure::Script(ScriptFault::Write), "macsec: Write\n", 1),
+    ] {
+        assert_told(&rt, failure, told, status);
+    }
+    let mut told = Vec::new(rt.alloc());
+    let (status, _) = tell(&mut told, Ok(()));
+    assert!(rt; told.is_empty());
+    assert_eq!(rt; status, 0);
+}
+
+/// Want of memory is not told as a fault of the words.
+#[test]
+fn words_that_cannot_be_had(rt: HostRuntime) {
+    for (kind, told, status) in [
+        (io::ErrorKind::OutOfMemory, "macsec: Memory\n", 1),
+        (io::ErrorKind::InvalidData, "macsec: usage\n", 2),
+        (io::ErrorKind::Other, "macsec: usage\n", 2),
+    ] {
+        assert_told(&rt, failure_of_words(&io::Error::from(kind)), told, status);
+    }
+}
+
+/// How the run of a named script ends, where standard input has the script `script`; what it printed, and how
+/// many octets of standard input it left.
+fn ended<W: Write>(
+    rt: &HostRuntime,
+    name: &str,
+    script: &str,
+    output: &mut W,
+) -> (u8, Vec<u8>, usize) {
+    let mut input = script.as_bytes();
+    let mut told = Vec::new(rt.alloc());
+    let (status, _) = tell(
+        &mut told,
+        run_named(rt, rt.alloc(), name, &mut input, output),
+    );
+    (status, told, input.len())
+}
+
+/// A script is read from the file that is named, and from standard input only where that is named. A file that
+/// can't be opened is told by its path, a directory can't be read.
+#[test]
+fn named_scripts(rt: HostRuntime) -> Result<(), Fail> {
+    let script = joined(rt.alloc(), &[ENDS, COMMANDS, SEND])?;
+    let text = joined(rt.alloc(), &[DONE, "6 frame 0 ", PROTECTED, "\n"])?;
+    let (script, text) = (script.as_str(), text.as_str());
+    for (name, status, told, printed, left) in [
+        ("-", 0, "", text, 0),
+        ("/dev/null", 0, "", "", script.len()),
+        (
+            "no/such",
+            1,
+            "macsec: cannot open no/such\n",
+            "",
+            script.len(),
+        ),
+        (".", 1, "macsec: Read\n", "", script.len()),
+    ] {
+        let mut output = Vec::new(rt.alloc());
+        let (found, line, rest) = ended(&rt, name, script, &mut output);
+        assert_eq!(rt; found, status, "{name}");
+        assert_eq!(rt; line.as_slice(), told.as_bytes());
+        assert_eq!(rt; output.as_slice(), printed.as_bytes());
+        assert_eq!(rt; rest, left);
+    }
+    Ok(())
+}
+
+/// A flush that fails is told, but not in place of the run's own fault.
+#[test]
+fn flushes_that_fail(rt: HostRuntime) -> Result<(), Fail> {
+    let script = joined(rt.alloc(), &[ENDS, COMMANDS, SEND])?;
+    for (script, status, told) in [
+        (script.as_str(), 1, "macsec: Write\n"),
+        ("frob\n", 2, "macsec: line 1: Word\n"),
+    ] {
+        let mut output = FailingWriter {
+            left: 100,
+            flush_fails: true,
+        };
+        let (found, line, _) = ended(&rt, "-", script, &mut output);
+        assert_eq!(rt; found, status);
+        assert_eq!(rt; line.as_slice(), told.as_bytes());
+    }
+    Ok(())
+}
