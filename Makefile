@@ -1,4 +1,4 @@
-# `make` builds the proved program as build/macsec, `make run` runs it on the first example,
+# `make` builds the proved program as build/macsec, `make run` runs it on the tour,
 # `make check` is the gate, and `make bench` measures the plain cipher.
 RT := $(shell command -v rt 2>/dev/null)
 SOURCES := crates.txt $(shell find crates -name out -prune -o -type f \( -name '*.rt' -o -name '*.antt' \) -print)
@@ -8,7 +8,7 @@ SOURCES := crates.txt $(shell find crates -name out -prune -o -type f \( -name '
 all: build/macsec
 
 run: build/macsec
-	@build/macsec run - < examples/first-frame.macsec
+	@build/macsec run - < examples/tour.macsec
 
 check: toolchain
 	rt ci
