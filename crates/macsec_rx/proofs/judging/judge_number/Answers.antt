@@ -1,4 +1,4 @@
-use Rattle.std.proofs.Common.{◌≡◌, Bool, false, ◌&&◌, sym, ◌∙◌}
+use Rattle.std.proofs.Common.{◌≡◌, false, ◌&&◌, sym, ◌∙◌}
 use Rattle.macsec_pn.specs.Numbers.{is_late}
 use Rattle.macsec_rx.specs.Judge.{is_disabled}
 use Rattle.macsec_rx.proofs.judging.judge_number.Goals as goal
