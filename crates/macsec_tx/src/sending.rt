@@ -1,8 +1,9 @@
 //! What becomes of a client's frame.
 
-ghost use Rattle.std.specs.Prelude.{◌≡◌, ◌<◌, ◌≤◌, ◌+◌, ◌^◌, ◌++◌, length, take, drop, slice_range, nat_lt, if◌then◌else◌, IsSome, Some, ℕ, List};
+ghost use Rattle.std.specs.Prelude.{◌≡◌, ◌<◌, ◌≤◌, ◌+◌, ◌^◌, ◌++◌, length, take, drop, slice_range, nat_lt, if◌then◌else◌, IsSome, Some, SomeIff, ℕ, List};
 ghost use Rattle.std.specs.Option.{ForSome};
 ghost use Rattle.macsec_suite.specs.KeyRows.{AreKeyRows, key_row};
+ghost use Rattle.macsec_suite.specs.Suites.{iv_of, last_of};
 ghost use Rattle.macsec_tag.specs.Tag.{spelling};
 ghost use Rattle.macsec_tag.specs.Frame.{in_a_row};
 ghost use Rattle.macsec_tx.specs.Limits.{max_frame_len, min_frame_len};
@@ -15,7 +16,7 @@ ghost use Rattle.macsec_tx.specs.Answers.{IfMade, ShowsLeaving};
 use crate::{TagForm, TxChannel, TxOptions, TxResult, TxRow};
 use macsec_pn::TxNumbers;
 use macsec_suite::laws::parts_in_place;
-use macsec_suite::{ICV_LENGTH, KeyTable, SuiteKey, iv_of, protect_in_place};
+use macsec_suite::{ICV_LENGTH, KeyRow, KeyTable, SuiteKey, iv_of, protect_in_place};
 use macsec_tag::{Sci, SecTag, write_tag};
 
 /// The octets of DA and SA.
@@ -86,18 +87,38 @@ fn frame_under(
     ensures number { IfMade result (row.now.next < 2 ^ 64) }
 {
     let key = keys.key(row.key).unwrap();
-    let suite = key.suite_key.suite();
-    let mut numbers = TxNumbers { next: row.next };
-    let Some(pn) = numbers.take(suite.last()) else {
+    let Some(pn) = number_of_frame(key, row) else {
         return TxResult::NoSa;
     };
     let tag = tag_of(options, row, frame);
     if frame.len() + tag.length() + ICV_LENGTH > options.max_frame as usize {
         return TxResult::TooLong;
     }
-    let iv = iv_of(suite, options.sci, key.key.ssci, key.key.salt, pn);
+    let iv = iv_of_frame(options, key, pn);
     let len = write_frame(&key.suite_key, &iv, &tag, frame, out);
     TxResult::Made { len, key: row.key }
+}
+
+/// The packet number of the association's next frame, where one is left under its key.
+fn number_of_frame(key: &KeyRow, row: &TxRow) -> Option<u64>
+    ensures { SomeIff result (row.now.next ≤ last_of key.now.suite_key.suite) row.now.next }
+{
+    let mut numbers = TxNumbers { next: row.next };
+    numbers.take(key.suite_key.suite().last())
+}
+
+/// The IV of a frame of this packet number.
+fn iv_of_frame(options: &TxOptions, key: &KeyRow, pn: u64) -> [u8; 12]
+    requires { pn ≤ last_of key.now.suite_key.suite }
+    ensures { result ≡ iv_of key.now.suite_key.suite options.now.sci key.now.key.ssci key.now.key.salt pn }
+{
+    iv_of(
+        key.suite_key.suite(),
+        options.sci,
+        key.key.ssci,
+        key.key.salt,
+        pn,
+    )
 }
 
 /// The SL of so many octets of Secure Data (9.7).
