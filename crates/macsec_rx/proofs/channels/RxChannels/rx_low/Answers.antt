@@ -1,4 +1,4 @@
-use Rattle.std.proofs.Common.{length, ap, ◌∙◌, arith}
+use Rattle.std.proofs.Common.{length, ap, ◌∙◌, arith, rules}
 use Rattle.std.specs.Prelude.{IsSome}
 use Rattle.macsec_suite.specs.KeyRows.{key_row}
 use Rattle.macsec_rx.proofs.RxRows.{found, of_row, raised_rows, refilled}
@@ -17,6 +17,10 @@ invariant_of-self c = record {
   rows = refilled _ _ _ (c.raise.auto.rows ∙ ap length c.as_mut_slice.ensures.value)
       (rw (c.raise.ensures, c.as_mut_slice.ensures.value) (raised_rows _ c.args.pn c.args.sci c.args.an (omega arith) (omega (arith, c.ranges.pn.fits)) _ c.self.invariant.rows));
 }
+
+-- Where the search would prove it too: there is no other try at a wrong body.
+pub returns-clause-refusal : goal.returns-clause-refusal
+returns-clause-refusal c = search rules
 
 pub returns-clause-channels : goal.returns-clause-channels
 returns-clause-channels c = invariant_of-self c

@@ -30,5 +30,9 @@ invariant_of-self c =
           (joined c.self.inside.scis.items c.self.inside.rows.items _ c.self.invariant.rows free (record { channel = there; an = small; key = omega (arith, c.ranges.key.fits); ssci = omega (arith, c.ranges.ssci.fits); next = search rules; lowest_least = search (rules, arith); lowest = search (rules, arith) }));
     }
 
+-- Where the search would prove it too: there is no other try at a wrong body.
+pub returns-clause-refusal : goal.returns-clause-refusal
+returns-clause-refusal c = search rules
+
 pub returns-clause-channels : goal.returns-clause-channels
 returns-clause-channels c = invariant_of-self c
