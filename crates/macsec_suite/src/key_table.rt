@@ -8,9 +8,6 @@ ghost use Rattle.macsec_suite.specs.KeyTables.{HasOwnKey, first_unused_of, row_s
 ghost use Rattle.macsec_suite.specs.Suites.{key_length};
 ghost use Rattle.macsec_suite.specs.Refusals.{first_refusal, install_refusals, is_repeated, refusal_of, retire_refusals};
 
-#[cfg(test)]
-mod tests;
-
 use crate::{KeyRow, NewKey, Refusal, Suite, SuiteFault, SuiteKey};
 use macsec_aes::Key;
 use std::alloc::{AllocError, Global};
@@ -121,7 +118,7 @@ impl KeyTable {
             (λ r. key_row self.now number ≡ Some (row_shown r.now (the_key self.now number).first_unused)) }
         ensures prepared { IfSome result (λ r. HasOwnKey r.now) }
     {
-        let stored = self.rows.as_slice().get(self.place_of(number))?;
+        let stored = self.stored(number)?;
         Some(&stored.row)
     }
 
@@ -129,7 +126,7 @@ impl KeyTable {
     pub fn first_unused(&self, number: u8) -> Option<u128>
         ensures { result ≡ option_map first_unused_of (key_row self.now number) }
     {
-        let stored = self.rows.as_slice().get(self.place_of(number))?;
+        let stored = self.stored(number)?;
         Some(stored.first_unused)
     }
 
@@ -144,6 +141,15 @@ impl KeyTable {
         let place = self.place_of(number);
         let stored = &mut self.rows[place];
         stored.first_unused = u128::from(pn) + 1;
+    }
+
+    /// The key of this number.
+    fn stored(&self, number: u8) -> Option<&StoredKey>
+        ensures row { MatchOption result (key_row self.now number ≡ None)
+            (λ s. key_row self.now number ≡ Some (stored_row s.now)) }
+        ensures prepared { IfSome result (λ s. HasOwnKey s.now.row) }
+    {
+        self.rows.as_slice().get(self.place_of(number))
     }
 
     /// Where the key of this number stands among the rows; behind them all, where there is none.

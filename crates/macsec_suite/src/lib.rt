@@ -15,8 +15,6 @@ ghost use Rattle.macsec_suite.specs.InPlace.{IsTagLength, protected_octets, vali
 
 mod key_table;
 pub mod laws;
-#[cfg(test)]
-mod tests;
 
 use byteorder::{BigEndian, ByteOrder};
 pub use key_table::KeyTable;

@@ -8,8 +8,6 @@ ghost use Rattle.macsec_tag.specs.Tag.{IsTag, spelling, tag_from};
 
 pub mod laws;
 pub mod reading;
-#[cfg(test)]
-mod tests;
 mod writing;
 
 use std::marker::Model;

@@ -1,4 +1,4 @@
-use Rattle.std.proofs.Common.{true, refl, ap, ◌∙◌}
+use Rattle.std.proofs.Common.{rules, true, refl, ap, ◌∙◌}
 use Rattle.std.specs.Prelude.{IsSome}
 use Rattle.std.proofs.Math.ListN.{set}
 use Rattle.macsec_suite.specs.KeyRows.{key_row, keys_retiring, retired_row}
@@ -22,3 +22,6 @@ returns-clause-done c = (is_changed c).rows ∙ ap (λ rows. keys_retiring rows 
 
 pub returns-clause-rows : goal.returns-clause-rows
 returns-clause-rows c = (is_changed c).are.0
+
+pub returns-clause-refusal : goal.returns-clause-refusal
+returns-clause-refusal c = search rules

@@ -3,8 +3,8 @@
 
 ghost use Rattle.std.specs.Prelude.{◌≤◌};
 
-use crate::{Suite, SuiteFault, SuiteKey, iv_of, protect_in_place, validate_in_place};
 use macsec_aes::Key;
+use macsec_suite::{Suite, SuiteFault, SuiteKey, iv_of, protect_in_place, validate_in_place};
 use macsec_tag::Sci;
 use std::test::Fail;
 

@@ -1,9 +1,8 @@
 //! What no clause says: what a table answers to commands one after another, and that it has room for
 //! every number.
 
-use super::KeyTable;
-use crate::{NewKey, Refusal, Suite};
 use macsec_aes::Key;
+use macsec_suite::{KeyTable, NewKey, Refusal, Suite};
 use std::test::Fail;
 
 /// The key of 128 bits of the test frames of IEEE 802.1AE, Annex C.
@@ -45,70 +44,82 @@ fn answer_to(table: &mut KeyTable, call: Call) -> Result<(), Refusal> {
     }
 }
 
-/// What a table shows of the key of a number: its number, whether it is retired, and its first unused
-/// packet number.
-fn key_shown(table: &KeyTable, number: u8) -> Option<(u8, bool, u128)> {
-    let row = table.key(number)?;
-    let first_unused = table.first_unused(number)?;
-    Some((row.key.number, row.retired, first_unused))
+/// Whether the key of a number is retired, where it is there.
+fn is_retired(table: &KeyTable, number: u8) -> Option<bool> {
+    table.key(number).map(|row| row.retired)
+}
+
+/// The first unused packet number under the key of a number, where it is there.
+fn first_unused(table: &KeyTable, number: u8) -> Option<u128> {
+    table.first_unused(number)
 }
 
 #[test]
 fn calls_in_a_row(rt: HostRuntime) -> Result<(), Fail> {
     let mut table = KeyTable::new(rt.alloc())?;
-    for (call, answer, shown) in [
-        (Call::Retire(9, false), Err(Refusal::NoKey), None),
-        (Call::Install(0, KEY_128), Ok(()), Some((0, false, 1))),
+    for (call, answer, retired, unused) in [
+        (Call::Retire(9, false), Err(Refusal::NoKey), None, None),
+        (Call::Install(0, KEY_128), Ok(()), Some(false), Some(1)),
         (
             Call::Install(0, 1),
             Err(Refusal::KeyNumberUsed),
-            Some((0, false, 1)),
+            Some(false),
+            Some(1),
         ),
         (
             Call::Install(0, KEY_128),
             Err(Refusal::KeyNumberUsed),
-            Some((0, false, 1)),
+            Some(false),
+            Some(1),
         ),
         (
             Call::Install(1, KEY_128),
             Err(Refusal::KeyRepeated),
-            Some((0, false, 1)),
+            Some(false),
+            Some(1),
         ),
-        (Call::Note(0, 5), Ok(()), Some((0, false, 6))),
-        (Call::Install(1, 1), Ok(()), Some((0, false, 6))),
-        (Call::Note(1, 8), Ok(()), Some((0, false, 6))),
+        (Call::Note(0, 5), Ok(()), Some(false), Some(6)),
+        (Call::Install(1, 1), Ok(()), Some(false), Some(6)),
+        (Call::Note(1, 8), Ok(()), Some(false), Some(6)),
         (
             Call::Retire(0, true),
             Err(Refusal::KeyInUse),
-            Some((0, false, 6)),
+            Some(false),
+            Some(6),
         ),
-        (Call::Retire(0, false), Ok(()), Some((0, true, 6))),
+        (Call::Retire(0, false), Ok(()), Some(true), Some(6)),
         (
             Call::Retire(0, true),
             Err(Refusal::KeyRetired),
-            Some((0, true, 6)),
+            Some(true),
+            Some(6),
         ),
         (
             Call::Install(0, 2),
             Err(Refusal::KeyNumberUsed),
-            Some((0, true, 6)),
+            Some(true),
+            Some(6),
         ),
         (
             Call::Install(2, KEY_128),
             Err(Refusal::KeyRepeated),
-            Some((0, true, 6)),
+            Some(true),
+            Some(6),
         ),
         (
             Call::Retire(9, true),
             Err(Refusal::NoKey),
-            Some((0, true, 6)),
+            Some(true),
+            Some(6),
         ),
     ] {
         assert_eq!(&rt; answer_to(&mut table, call), answer, "{call:?}");
-        assert_eq!(&rt; key_shown(&table, 0), shown, "after {call:?}");
+        assert_eq!(&rt; is_retired(&table, 0), retired, "after {call:?}");
+        assert_eq!(&rt; first_unused(&table, 0), unused, "after {call:?}");
     }
-    assert_eq!(&rt; key_shown(&table, 1), Some((1, false, 9)));
-    assert_eq!(&rt; key_shown(&table, 9), None);
+    assert_eq!(&rt; is_retired(&table, 1), Some(false));
+    assert_eq!(&rt; first_unused(&table, 1), Some(9));
+    assert_eq!(&rt; is_retired(&table, 9), None);
     Ok(())
 }
 
@@ -125,9 +136,14 @@ fn wrong_lengths_and_offsets(rt: HostRuntime) -> Result<(), Fail> {
         (Suite::Gcm128, Refusal::Offset),
     ] {
         assert_eq!(&rt; answer_to_offset_40(&mut table, suite), Err(refusal));
-        assert_eq!(&rt; key_shown(&table, 0), None);
+        assert_eq!(&rt; is_retired(&table, 0), None);
     }
     Ok(())
+}
+
+/// The number of the key that is found by a number.
+fn number_found(table: &KeyTable, number: u8) -> Option<u8> {
+    table.key(number).map(|row| row.key.number)
 }
 
 #[test]
@@ -138,7 +154,7 @@ fn room_for_every_number(rt: HostRuntime) -> Result<(), Fail> {
         assert_eq!(&rt; answer_to(&mut table, install), Ok(()), "at {number}");
     }
     for number in 0..=255 {
-        assert_eq!(&rt; key_shown(&table, number), Some((number, false, 1)));
+        assert_eq!(&rt; number_found(&table, number), Some(number));
     }
     assert_eq!(&rt;
         answer_to(&mut table, Call::Install(7, 256)),
