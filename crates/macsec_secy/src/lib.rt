@@ -1,16 +1,13 @@
 //! The endpoint: the MAC security entity (IEEE 802.1AE, clause 10).
 #![tactic(auto)]
 
-ghost use Rattle.std.specs.Prelude.{◌≡◌, ◌≤◌, length, slice_get, IfOk};
+ghost use Rattle.std.specs.Prelude.{◌≡◌, IfOk};
 ghost use Rattle.std.specs.Borrow.{sem};
-ghost use Rattle.macsec_tx.specs.Transmit.{tx_row};
 ghost use Rattle.macsec_secy.specs.Configs.{config_fault};
 ghost use Rattle.macsec_secy.specs.FaultNumbers.{number_of_frame_fault, number_of_new_fault};
-ghost use Rattle.macsec_rx.specs.Channels.{rx_row};
-ghost use Rattle.macsec_rx.specs.Limits.{max_channel_count};
 ghost use Rattle.macsec_rx.specs.Rows.{IsSci};
 ghost use Rattle.macsec_secy.specs.Step.{client_frame, frame_fault, link_frame, operator_command, step, uncontrolled_frame};
-ghost use Rattle.macsec_secy.specs.Answers.{MakesEndpoint, output_of_command, output_of_frame, output_of_received, output_of_sent, rx_counters_of};
+ghost use Rattle.macsec_secy.specs.Answers.{MakesEndpoint, output_of_command, output_of_frame, output_of_received, output_of_sent};
 ghost use Rattle.macsec_secy.specs.Rests.{RestsAs};
 ghost use Rattle.macsec_secy.specs.Sound.{IsSound};
 ghost use Rattle.macsec_secy.specs.Sums.{AddsFrames};
@@ -19,6 +16,7 @@ mod counting;
 pub mod laws;
 mod managing;
 mod receiving;
+mod showing;
 
 use arrayvec::ArrayVec;
 pub use macsec_aes::Key;
@@ -360,15 +358,12 @@ impl Secy {
                 self.options.protect = on;
                 Ok(())
             }
-            Command::Validate(mode) => {
-                self.options.mode = mode;
-                Ok(())
-            }
+            Command::Validate(mode) => self.validate(mode),
             Command::Replay { protect, window } => self.replay(protect, window),
             Command::Tag(form) => self.tag(form),
             Command::Key(key) => self.keys.install(self.config.suite, &key),
             Command::Retire(key) => {
-                let in_use = self.tx.uses(key) || self.rx.uses(key);
+                let in_use = self.uses(key);
                 self.keys.retire(key, in_use)
             }
             Command::TxSa {
@@ -514,57 +509,5 @@ impl Secy {
             return Some(FrameFault::Long);
         }
         None
-    }
-
-    /// The options.
-    pub fn options(&self) -> Options
-        ensures { result ≡ self.now.options }
-    {
-        self.options
-    }
-
-    /// The endpoint's counters.
-    pub fn counters(&self) -> Counters
-        ensures { result ≡ self.now.counters }
-    {
-        self.counters
-    }
-
-    /// The counters of the transmit channel.
-    pub fn tx_counters(&self) -> TxCounters
-        ensures { result ≡ self.now.tx_counters }
-    {
-        self.tx_counters
-    }
-
-    /// The transmit association of this number, where there is one.
-    pub fn tx_row(&self, an: An) -> Option<TxRow>
-        ensures { result ≡ tx_row self.now.tx an }
-    {
-        self.tx.row(an)
-    }
-
-    /// The counters of the receive channel of this SCI, where there is one.
-    pub fn rx_counters(&self, sci: Sci) -> Option<RxCounters>
-        ensures { result ≡ rx_counters_of self.now.rx_counters sci }
-    {
-        let row = self.rx_counters.iter().find(|row| row.sci == sci)?;
-        Some(row.counters)
-    }
-
-    /// The SCI of the receive channel at this place in the order of making, from 0, where there is one.
-    /// There are at most eight.
-    pub fn rx_channel(&self, place: usize) -> Option<Sci>
-        ensures sci { result ≡ slice_get self.now.rx.scis place }
-        ensures count { length self.now.rx.scis ≤ max_channel_count }
-    {
-        self.rx.channel(place)
-    }
-
-    /// The receive association of this channel and of this number, where there is one.
-    pub fn rx_row(&self, sci: Sci, an: An) -> Option<RxRow>
-        ensures { result ≡ rx_row self.now.rx.rows sci an }
-    {
-        self.rx.row(sci, an)
     }
 }

@@ -8,12 +8,22 @@ ghost use Rattle.macsec_secy.specs.declared.Command.TheVariants as by;
 ghost use Rattle.macsec_secy.specs.State.{tx_options};
 ghost use Rattle.macsec_secy.specs.Configs.{is_unfit};
 ghost use Rattle.macsec_secy.specs.Sound.{IsSound};
-ghost use Rattle.macsec_secy.specs.Commands.{refusal, state_after_command};
+ghost use Rattle.macsec_secy.specs.Commands.{refusal, state_after_command, uses};
 
-use crate::{Refusal, Sci, Secy, TagForm};
+use crate::{Mode, Refusal, Sci, Secy, TagForm};
 use macsec_tx::TxOptions;
 
 impl Secy {
+    /// Sets how received frames are validated.
+    pub(crate) fn validate(&mut self, mode: Mode) -> Result<(), Refusal>
+        ensures refusal { refusal_of result ≡ refusal self.old (by.Validate mode) }
+        ensures after { self.new ≡ state_after_command self.old (by.Validate mode) }
+        ensures sound { IsSound self.new }
+    {
+        self.options.mode = mode;
+        Ok(())
+    }
+
     /// Sets whether late frames are dropped, and the replay window.
     pub(crate) fn replay(&mut self, protect: bool, window: u64) -> Result<(), Refusal>
         ensures refusal { refusal_of result ≡ refusal self.old (by.Replay protect window) }
@@ -40,6 +50,13 @@ impl Secy {
         }
         self.options.form = form;
         Ok(())
+    }
+
+    /// Does an association use the key of this number?
+    pub(crate) fn uses(&self, key: u8) -> bool
+        ensures { result ≡ uses self.now key }
+    {
+        self.tx.uses(key) || self.rx.uses(key)
     }
 
     /// Does the association that is on encrypt?

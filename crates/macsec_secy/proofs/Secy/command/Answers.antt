@@ -29,8 +29,8 @@ invariant_of-self-in-Retire c =
       room = s.invariant.room;
     }
 
-pub returns-after-uses-clause-sound : goal.returns-after-uses-clause-sound
-returns-after-uses-clause-sound c = (invariant_of-self-in-Retire c).sound
+pub returns-in-Retire-clause-sound : goal.returns-in-Retire-clause-sound
+returns-in-Retire-clause-sound c = (invariant_of-self-in-Retire c).sound
 
 pub invariant_of-self-in-TxSa : goal.invariant_of-self-in-TxSa
 invariant_of-self-in-TxSa c =

@@ -1,0 +1,5 @@
+use Rattle.std.proofs.Common.{rules}
+use Rattle.macsec_secy.proofs.Secy.tx_counters.Goals as goal
+
+pub returns : goal.returns
+returns c = search rules

@@ -1,0 +1,5 @@
+use Rattle.std.proofs.Common.{rules}
+use Rattle.macsec_secy.proofs.Secy.uses.Goals as goal
+
+pub returns-else-uses : goal.returns-else-uses
+returns-else-uses c = search rules
