@@ -1,6 +1,5 @@
 -- Words of the command line, and the scripts that they name.
-use Rattle.std.specs.Prelude.{◌≡◌, List, [], ◌∷◌, codes, Some, None, refl}
-use Rattle.clap.specs.Words.{Text}
+use Rattle.std.specs.Prelude.{◌≡◌, [], ◌∷◌, codes, Some, None, refl}
 use Rattle.clap.proofs.OnLiterals.{clap_on_literals}
 use Rattle.macsec_cli.specs.Words.{named_script}
 

@@ -124,6 +124,11 @@ fn an(rt: &impl Abort, number: u8) -> An {
     An::new(number).expect(rt, "an association number")
 }
 
+/// A command, of which the tests ask only whether it is done.
+fn tell(secy: &mut Secy, command: Command) -> Result<(), Refusal> {
+    secy.command(&command)
+}
+
 /// An endpoint with extended packet numbers, with one key.
 fn endpoint(alloc: Global, sci: Sci, ssci: u32) -> Result<Secy, Fail> {
     let mut secy = Secy::new(
@@ -135,25 +140,31 @@ fn endpoint(alloc: Global, sci: Sci, ssci: u32) -> Result<Secy, Fail> {
             form: TagForm::Sci,
         },
     )?;
-    secy.command(&Command::Key(NewKey {
-        number: 7,
-        bytes: Key::K128([0xad; 16]),
-        salt: [0; 12],
-        ssci,
-        offset: 0,
-    }))?;
+    tell(
+        &mut secy,
+        Command::Key(NewKey {
+            number: 7,
+            bytes: Key::K128([0xad; 16]),
+            salt: [0; 12],
+            ssci,
+            offset: 0,
+        }),
+    )?;
     Ok(secy)
 }
 
 /// Makes a receive association, off.
 fn make(secy: &mut Secy, sci: Sci, an: An, lowest: u64) -> Result<(), Refusal> {
-    secy.command(&Command::RxSa {
-        sci,
-        an,
-        key: 7,
-        ssci: 1,
-        lowest,
-    })
+    tell(
+        secy,
+        Command::RxSa {
+            sci,
+            an,
+            key: 7,
+            ssci: 1,
+            lowest,
+        },
+    )
 }
 
 /// What a receiver of some frames, the first of which has packet number `next`, shows in line 9.
@@ -165,21 +176,27 @@ fn shown_after(
 ) -> Result<Vec<u8>, Fail> {
     let zero = an(rt, 0);
     let mut sender = endpoint(rt.alloc(), SENDER, 1)?;
-    sender.command(&Command::TxSa {
-        an: zero,
-        key: 7,
-        next,
-        conf: true,
-    })?;
-    sender.command(&Command::TxOn(zero))?;
+    tell(
+        &mut sender,
+        Command::TxSa {
+            an: zero,
+            key: 7,
+            next,
+            conf: true,
+        },
+    )?;
+    tell(&mut sender, Command::TxOn(zero))?;
     let mut receiver = endpoint(rt.alloc(), RECEIVER, 2)?;
-    receiver.command(&Command::Replay {
-        protect: true,
-        window,
-    })?;
-    receiver.command(&Command::RxSc(SENDER))?;
+    tell(
+        &mut receiver,
+        Command::Replay {
+            protect: true,
+            window,
+        },
+    )?;
+    tell(&mut receiver, Command::RxSc(SENDER))?;
     make(&mut receiver, SENDER, zero, next)?;
-    receiver.command(&Command::RxOn(SENDER, zero))?;
+    tell(&mut receiver, Command::RxOn(SENDER, zero))?;
     for _ in 0..frames {
         match sender.send(&SHORTEST)? {
             Sent::Link { frame, .. } => {
@@ -224,18 +241,21 @@ fn shown(alloc: Global, secy: &Secy) -> Result<Vec<u8>, Fail> {
 fn order_of_channels(rt: HostRuntime) -> Result<(), Fail> {
     let first = Sci([0xfe, 0xdc, 0xba, 0x98, 0x76, 0x54, 0x32, 0x10]);
     let mut secy = endpoint(rt.alloc(), RECEIVER, 2)?;
-    secy.command(&Command::RxSc(first))?;
-    secy.command(&Command::RxSc(SENDER))?;
+    tell(&mut secy, Command::RxSc(first))?;
+    tell(&mut secy, Command::RxSc(SENDER))?;
     make(&mut secy, SENDER, an(&rt, 3), 0x10)?;
     make(&mut secy, first, an(&rt, 2), 0x20)?;
     make(&mut secy, SENDER, an(&rt, 1), 0x30)?;
-    secy.command(&Command::RxOn(SENDER, an(&rt, 3)))?;
-    secy.command(&Command::TxSa {
-        an: an(&rt, 0),
-        key: 7,
-        next: 0x40,
-        conf: false,
-    })?;
+    tell(&mut secy, Command::RxOn(SENDER, an(&rt, 3)))?;
+    tell(
+        &mut secy,
+        Command::TxSa {
+            an: an(&rt, 0),
+            key: 7,
+            next: 0x40,
+            conf: false,
+        },
+    )?;
     let text = shown(rt.alloc(), &secy)?;
     let wanted = joined(
         rt.alloc(),
@@ -256,7 +276,7 @@ fn eight_channels(rt: HostRuntime) -> Result<(), Fail> {
     let mut secy = endpoint(rt.alloc(), RECEIVER, 2)?;
     for number in [8, 1, 7, 2, 6, 3, 5, 4] {
         let sci = Sci([2, 0, 0, 0, 0, 0, 0, number]);
-        secy.command(&Command::RxSc(sci))?;
+        tell(&mut secy, Command::RxSc(sci))?;
         make(&mut secy, sci, an(&rt, 0), number as u64)?;
     }
     let text = shown(rt.alloc(), &secy)?;

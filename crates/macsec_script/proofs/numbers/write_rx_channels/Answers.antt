@@ -1,4 +1,5 @@
-use Rattle.std.proofs.Common.{sym}
+use Rattle.std.proofs.Common.{arith, sym}
+use Rattle.std.proofs.lemmas.Grind.{common_steps}
 use Rattle.std.proofs.lemmas.Option.{slice_get_within, get_or_from_slice_get}
 use Rattle.macsec_script.specs.Numbers.{channel_text}
 use Rattle.macsec_script.proofs.Pieces.{one_more_piece}
@@ -13,3 +14,6 @@ loop-place-preserved g c =
           c.loop-place.invariant.text (rw (get_or_from_slice_get scis c.loop-place.place sci sci there) c.in_ok-write_rx_rows.ensures);
       count = λ some. c.in-Some.ensures.count;
     }
+
+pub returns : goal.returns
+returns g c = grind (arith, common_steps)

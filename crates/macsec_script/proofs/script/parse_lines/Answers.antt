@@ -1,4 +1,5 @@
-use Rattle.std.proofs.Common.{sym, ◌∙◌, ap, not}
+use Rattle.std.proofs.Common.{arith, sym, ◌∙◌, ap, not}
+use Rattle.std.proofs.lemmas.Grind.{common_steps}
 use Rattle.macsec_script.proofs.LinesLeft.{on_after_skipped, on_after_line, stopped_unwanted, parses_fault}
 use Rattle.macsec_script.proofs.script.parse_lines.Goals as goal
 
@@ -22,3 +23,6 @@ pub returns-in-Err : goal.returns-in-Err
 returns-in-Err c =
     rw c.at_line.ensures
     (parses_fault c.loop-i.said.items c.loop-i.place c.loop-i.i c.args.lines.now _ c.in-Err.fault c.loop-i-test.true c.loop-i.invariant c.in-Err.ensures)
+
+pub returns-in-EndB : goal.returns-in-EndB
+returns-in-EndB c = grind (arith, common_steps)

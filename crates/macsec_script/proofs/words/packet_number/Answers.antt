@@ -1,4 +1,4 @@
-use Rattle.std.proofs.Common.{arith}
+use Rattle.std.proofs.Common.{rules, arith}
 use Rattle.macsec_script.proofs.HexDigits.{digit_more}
 use Rattle.macsec_script.proofs.words.packet_number.Goals as goal
 
@@ -7,3 +7,6 @@ overflow_mul-number c = omega (arith, digit_more c.loop-digit.number 0 c.loop-di
 
 pub overflow_add-number : goal.overflow_add-number
 overflow_add-number c = omega (arith, digit_more c.loop-digit.number c.in-Some.value c.loop-digit.digit-index (omega arith) c.in-Some.ensures.below (omega arith))
+
+pub returns-then-is_empty : goal.returns-then-is_empty
+returns-then-is_empty c = search rules
