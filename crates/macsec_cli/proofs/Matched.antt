@@ -1,8 +1,8 @@
 -- The script in what clap met.
-use Rattle.std.proofs.Common.{◌≡◌, ◌⊎◌, inl, inr, List, [], ◌∷◌, Bool, true, false, codes, refl, sym, ◌∙◌, ap, subst, Option, Some, None, option_map, Err}
+use Rattle.std.proofs.Common.{◌≡◌, ◌⊎◌, inl, inr, List, [], ◌∷◌, Bool, true, false, codes, refl, ap, subst, Option, Some, None, option_map, Err}
 use Rattle.std.specs.Prelude.{bytes_eq}
 use Rattle.std.proofs.lemmas.Slice.Eq.{bytes_eq-Decides}
-use Rattle.clap.specs.Words.{App, HasKind, HasMatchesOf, IsAmong, Kinds, Row, Text, fault_of, first_of, is_simple, is_simple_and_free, kind_of, subcommand_of, subcommand_name_of, subcommand_rows_of}
+use Rattle.clap.specs.Words.{App, HasKind, IsAmong, Kinds, Row, Text, fault_of, first_of, is_simple_and_free, kind_of, subcommand_of, subcommand_name_of, subcommand_rows_of}
 use Rattle.clap.specs.declared.error.Error.{Error}
 use Rattle.clap.specs.declared.error.kind.ErrorKind.{ErrorKind}
 use Rattle.clap.specs.declared.error.kind.ErrorKind.TheVariants.{OutOfMemory}
@@ -40,18 +40,6 @@ name_met m = composed _ _ (out-ArgMatches m).subcommand
 pub is_free : is_simple_and_free macsec_app ≡ true
 unfolding clap_on_literals
 is_free = refl
-
-is_plain : is_simple macsec_app ≡ true
-unfolding clap_on_literals
-is_plain = refl
-
--- words without fault name what was matched
-pub taken : (app : App) (words : List Text) (m : ArgMatches) → app ≡ macsec_app → HasMatchesOf app words m →
-    fault_of app words ≡ [] → script_in (subcommand_rows_of m) ≡ named_script words
-taken app words m is matched free =
-    let app_fault : fault_of macsec_app words ≡ [] = ap (λ a. fault_of a words) (sym is) ∙ free in
-    ap script_in ((matched (ap is_simple is ∙ is_plain)).1 ∙ ap (λ a. subcommand_of a words) is) ∙
-    sym (ap (λ kinds. without_fault kinds (script_in (subcommand_of macsec_app words))) app_fault)
 
 -- an error of clap's: want of memory, or a fault of the words
 pub refused : (kind : ErrorKind) (kinds : Kinds) (script : Option Text) → (kind ≡ OutOfMemory) ⊎ IsAmong kind kinds →
