@@ -23,3 +23,10 @@ pub mod TxRowsAgree
 pub mod RxRowsAgree
 pub mod OtherSscis
 pub mod StaysAgreed
+pub mod OctetsBehind
+pub mod SealedParts
+pub mod NearNumbers
+pub mod ProtectedBy
+pub mod InUse
+pub mod Passed
+pub mod Accepted

@@ -14,3 +14,4 @@ pub mod Sums
 pub mod Laws
 pub mod Answers
 pub mod Rests
+pub mod Accepts

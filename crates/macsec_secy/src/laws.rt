@@ -2,6 +2,8 @@
 //! nothing.
 
 ghost use Rattle.std.specs.Prelude.{ℕ, List};
+ghost use Rattle.macsec_tx.specs.declared.TxRow.{TxRow};
+ghost use Rattle.macsec_rx.specs.declared.RxRow.{RxRow};
 ghost use Rattle.macsec_secy.specs.declared.EndConfig.{EndConfig};
 ghost use Rattle.macsec_secy.specs.State.{State, start};
 ghost use Rattle.macsec_secy.specs.Agrees.{Agrees};
@@ -9,8 +11,10 @@ ghost use Rattle.macsec_secy.specs.Sound.{IsSound};
 ghost use Rattle.macsec_secy.specs.Step.{Input, client_frame, step};
 ghost use Rattle.macsec_secy.specs.Frames.{HasFrameLengths, HasLengthsFrom};
 ghost use Rattle.macsec_secy.specs.Laws.{UsesNoNumberTwice, UsesRisingNumbers};
+ghost use Rattle.macsec_secy.specs.Accepts.{AcceptsSent};
 
 use macsec_gcm::laws::{open_undoes_seal, sealed_lengths};
+use macsec_tag::laws::read_again;
 use macsec_tx::laws::read_as_sent;
 
 /// Whatever comes in from the making of an endpoint on, the packet numbers that are used under a key's
@@ -41,5 +45,18 @@ pub fn lengths_of_frames()
 pub fn lengths_of_protected_frames()
     ensures { (s : State) (frame : List ℕ) → IsSound s → HasLengthsFrom frame (step s (client_frame frame)).0 }
 {
+    read_as_sent();
+}
+
+/// What an endpoint makes of a client's frame is passed by another endpoint that validates and has the
+/// association for it, and gives the client's frame, also with octets behind it where its SL is not 0: the
+/// receiving association is on and its key goes with the sending one's, and the packet number is not late nor,
+/// where it is extended, too far on to be recovered.
+pub fn accepts_sent()
+    ensures { (sender receiver : State) (client : List ℕ) (tx : TxRow) (rx : RxRow) (behind : List ℕ) → AcceptsSent sender receiver client tx rx behind }
+{
+    open_undoes_seal();
+    sealed_lengths();
+    read_again();
     read_as_sent();
 }

@@ -109,6 +109,7 @@ read_as_sent read_again sealed options key row frame can =
     let lengths = has_lengths sealed (prepared_key key) iv options row frame can.long in
     let octets = data_long sealed (prepared_key key) iv tag frame in
     record {
+      is_tagged = record { row = refl; tag = is; lengths = lengths };
       parts = read_again p is lengths;
       octets = omega (arith, row_long p lengths refl, octets, can.long);
     }

@@ -1,5 +1,6 @@
 -- A law of frames that leave protected.
 use Rattle.std.specs.Prelude.{◌≡◌, ℕ, ◌+◌, ◌<◌, ◌≤◌, List, length}
+use Rattle.macsec_tag.specs.Frame.{IsTagged}
 use Rattle.macsec_tag.specs.Table.{reading, tagged}
 use Rattle.macsec_suite.specs.KeyRows.{InstalledKey}
 use Rattle.macsec_tx.specs.declared.TxRow.{TxRow}
@@ -14,8 +15,9 @@ pub record CanBeSent (options : TxOptions) (row : TxRow) (frame : List ℕ) : Ty
   pub an : row.an < 4
   pub sci : length options.sci.0 ≡ 8
 
--- the protected frame is read as the parts that were sent, and has the octets of the client's frame and
--- those that protection adds
+-- the protected frame is tagged, with the parts that were sent; it is read as these; and it has the octets
+-- of the client's frame and those that protection adds
 pub record IsReadAsSent (options : TxOptions) (key : InstalledKey) (row : TxRow) (frame : List ℕ) : Type 0 where
+  pub is_tagged : IsTagged (protected_frame options key row frame) (parts_sent options key row frame)
   pub parts : reading (protected_frame options key row frame) ≡ tagged (parts_sent options key row frame)
   pub octets : length (protected_frame options key row frame) ≡ length frame + octets_added (tag_sent options row frame)

@@ -1,0 +1,147 @@
+-- What one endpoint sends protected is passed by another one that has its association.
+use Rattle.std.proofs.Common.{◌≡◌, ℕ, ◌≤◌, Bool, true, false, List, ◌++◌, length, take, refl, ap, sym, ◌∙◌, arith, length-append}
+use Rattle.std.specs.Prelude.{◌%◌, ◌^◌, ◌&&◌, not, nat_lt, if◌then◌else◌, Option, Some, None, IsSome}
+use Rattle.std.specs.Int.{w32, to_be_bytes}
+use Rattle.std.proofs.lemmas.Bool.{le-ltb, ltb-false}
+use Rattle.macsec_gcm.specs.Gcm.{open_of}
+use Rattle.macsec_gcm.specs.Laws.{OpenUndoesSeal, SealedLengths}
+use Rattle.macsec_tag.specs.declared.Sci.{Sci}
+use Rattle.macsec_tag.specs.Tag.{spelling}
+use Rattle.macsec_tag.specs.Frame.{HasLengths, MpduParts, in_a_row}
+use Rattle.macsec_tag.specs.Laws.{ReadAgain}
+use Rattle.macsec_tag.specs.Table.{reading, tagged}
+use Rattle.macsec_pn.specs.Numbers.{recovered_number}
+use Rattle.macsec_suite.specs.declared.Suite.{Suite}
+use Rattle.macsec_suite.specs.Suites.{extended_iv, is_xpn, iv_of}
+use Rattle.macsec_suite.specs.Parts.{aad_and_plaintext, clear_length}
+use Rattle.macsec_suite.specs.KeyRows.{InstalledKey, key_row, prepared_key, the_key}
+use Rattle.macsec_tx.specs.declared.TxOptions.{TxOptions}
+use Rattle.macsec_tx.specs.declared.TxRow.{TxRow}
+use Rattle.macsec_tx.specs.Laws.{CanBeSent, IsReadAsSent}
+use Rattle.macsec_tx.specs.Limits.{max_frame_len, min_frame_len}
+use Rattle.macsec_tx.specs.Transmit.{parts_sent, tag_sent}
+use Rattle.macsec_rx.specs.declared.RxRow.{RxRow}
+use Rattle.macsec_rx.specs.declared.Verdict.TheVariants.{Passed}
+use Rattle.macsec_rx.specs.Judge.{at_row, is_bad_number, judge_tagged, opened_frame, plaintext_of, in_use}
+use Rattle.macsec_secy.specs.declared.FrameFault.TheVariants.{Short, Long}
+use Rattle.macsec_secy.specs.Accepts.{AcceptsSent, HasSameKey, min_padded_len}
+use Rattle.macsec_secy.specs.State.{State, rx_options, tx_options}
+use Rattle.macsec_secy.specs.Step.{frame_fault, link_frame, received, step}
+use Rattle.macsec_secy.proofs.InUse.{in_use_is, the_key_holds}
+use Rattle.macsec_secy.proofs.NearNumbers.{not_bad, recovered}
+use Rattle.macsec_secy.proofs.OctetsBehind.{read_with, with_behind}
+use Rattle.macsec_secy.proofs.Passed.{is_enabled, passed}
+use Rattle.macsec_secy.proofs.ProtectedBy.{is_row, protected_by}
+use Rattle.macsec_secy.proofs.SealedParts.{gives_frame, sealed_of, sealed_opens}
+
+-- the laws of the lower layers, as their calls give them
+pub record LowerLaws : Type 0 where
+  pub undoes : OpenUndoesSeal
+  pub lengths : SealedLengths
+  pub read_again : (p : MpduParts) → ReadAgain p
+  pub read_as_sent : (options : TxOptions) (key : InstalledKey) (row : TxRow) (frame : List ℕ) → CanBeSent options row frame → IsReadAsSent options key row frame
+
+-- ---- the same key, and the same IV
+
+same_iv : (suite : Suite) (sci : Sci) (a b : ℕ) (salt other : List ℕ) (number : ℕ) → (is_xpn suite ≡ true → salt ≡ other) → (is_xpn suite ≡ true → a ≡ b) →
+    iv_of suite sci a salt number ≡ iv_of suite sci b other number
+same_iv suite sci a b salt other number same_salt same_ssci = by_test (is_xpn suite) (sci.0 ++ to_be_bytes w32 number) same_salt same_ssci
+  where
+    by_test : (xpn : Bool) (plain : List ℕ) → (xpn ≡ true → salt ≡ other) → (xpn ≡ true → a ≡ b) →
+        (if xpn then extended_iv a salt number else plain) ≡ (if xpn then extended_iv b other number else plain)
+    by_test true plain s c = rw (s refl, c refl) refl
+    by_test false plain s c = refl
+
+abbrev opened_by : List ℕ → ℕ → List ℕ → MpduParts → Option (List ℕ)
+opened_by bytes offset iv p = let ac = aad_and_plaintext offset p.tag.e p.da p.sa p.tag p.secure_data in open_of bytes iv ac.0 ac.1 p.icv
+
+same_plaintext : (key other : InstalledKey) (rx : RxRow) (sci : Sci) (number : ℕ) (p : MpduParts) → HasSameKey key other rx.ssci → rx.sci ≡ sci →
+    plaintext_of other rx number p ≡ opened_by key.bytes key.offset (iv_of key.suite sci key.ssci key.salt number) p
+same_plaintext key other rx sci number p same of_sci =
+    let iv : iv_of other.suite rx.sci rx.ssci other.salt number ≡ iv_of key.suite sci key.ssci key.salt number =
+    ap (λ (suite : Suite). iv_of suite rx.sci rx.ssci other.salt number) same.suite
+    ∙ ap (λ (s : Sci). iv_of key.suite s rx.ssci other.salt number) of_sci
+    ∙ same_iv key.suite sci rx.ssci key.ssci other.salt key.salt number same.salt same.ssci in
+    ap (λ (x : List ℕ). opened_by other.bytes other.offset x p) iv
+    ∙ ap (λ (bytes : List ℕ). opened_by bytes other.offset (iv_of key.suite sci key.ssci key.salt number) p) same.bytes
+    ∙ ap (λ (offset : ℕ). opened_by key.bytes offset (iv_of key.suite sci key.ssci key.salt number) p) same.offset
+
+-- ---- the lengths of frames
+
+no_fault : (frame : List ℕ) → min_frame_len ≤ length frame → length frame ≤ max_frame_len → frame_fault frame ≡ None
+no_fault frame least most = rw (le-ltb (length frame) min_frame_len least, le-ltb max_frame_len (length frame) most) refl
+
+is_long : (frame : List ℕ) → frame_fault frame ≡ None → min_frame_len ≤ length frame
+is_long frame none = by_test (nat_lt (length frame) min_frame_len) refl none
+  where
+    by_test : (b : Bool) → nat_lt (length frame) min_frame_len ≡ b → (if b then Some Short else if nat_lt max_frame_len (length frame) then Some Long else None) ≡ None → min_frame_len ≤ length frame
+    by_test true is none' = cc
+    by_test false is none' = ltb-false (length frame) min_frame_len is
+
+-- where SL is 0 the frame has 60 octets or more
+has_data : (p : MpduParts) → HasLengths p → p.tag.sl ≡ 0 → min_padded_len ≤ length (in_a_row p)
+has_data p lengths none =
+    omega (
+      arith,
+      length-append (p.da ++ p.sa ++ spelling p.tag ++ p.secure_data ++ p.icv) p.padding,
+      length-append (p.da ++ p.sa ++ spelling p.tag ++ p.secure_data) p.icv,
+      length-append (p.da ++ p.sa ++ spelling p.tag) p.secure_data,
+      length-append (p.da ++ p.sa) (spelling p.tag),
+      length-append p.da p.sa,
+      lengths.da,
+      lengths.sa,
+      lengths.long none,
+    )
+
+-- ---- the answer
+
+answered : (receiver : State) (frame : List ℕ) (p : MpduParts) (rx : RxRow) (number : ℕ) (delivered : List ℕ) → frame_fault frame ≡ None → reading frame ≡ tagged p →
+    judge_tagged (rx_options receiver) receiver.keys receiver.rx p ≡ at_row rx number 13 Passed (Some delivered) →
+    (step receiver (link_frame frame)).0 ≡ received Passed (Some (rx.sci, rx.an)) frame (Some delivered)
+answered receiver frame p rx number delivered fits reads judged = rw (fits, reads, judged) refl
+
+pub accepts_sent : LowerLaws → (sender receiver : State) (client : List ℕ) (tx : TxRow) (rx : RxRow) (behind : List ℕ) → AcceptsSent sender receiver client tx rx behind
+accepts_sent laws sender receiver client tx rx behind sender_sound receiver_sound fits by can may =
+    let options : TxOptions = tx_options sender in
+    let key : InstalledKey = the_key sender.keys tx.key in
+    let other : InstalledKey = the_key receiver.keys rx.key in
+    let iv : List ℕ = iv_of key.suite options.sci key.ssci key.salt tx.next in
+    let tag = tag_sent options tx client in
+    let p : MpduParts = parts_sent options key tx client in
+    let q : MpduParts = with_behind p behind in
+    let frame : List ℕ = in_a_row p ++ behind in
+    let plaintext : List ℕ = (sealed_of key.offset tag client).1 in
+    let sent = protected_by options sender.keys sender.tx client tx by in
+    let row = is_row sender.tx tx sender_sound.tx sent.on in
+    let long : min_frame_len ≤ length client = is_long client fits in
+    let as_sent = laws.read_as_sent options key tx client (record { long = long; an = row.an; sci = sender_sound.own_sci.count }) in
+    let reads : reading frame ≡ tagged q = read_with laws.read_again p as_sent.is_tagged.tag as_sent.is_tagged.lengths refl behind (λ none. may.none none (has_data p as_sent.is_tagged.lengths none)) in
+    let good : frame_fault frame ≡ None = no_fault frame (omega (arith, length-append (in_a_row p) behind, as_sent.octets, long)) may.most in
+    let used = in_use_is (λ (r : RxRow). IsSome (key_row receiver.keys r.key)) receiver.rx.rows sender.config.sci tx.an rx receiver_sound.rx_keys can.on in
+    let own_suite : other.suite ≡ receiver.config.suite = the_key_holds (λ (k : InstalledKey). k.suite ≡ receiver.config.suite) receiver.keys rx.key receiver_sound.suite used.holds in
+    let suite : receiver.config.suite ≡ key.suite = sym own_suite ∙ can.key.suite in
+    let delivers : opened_frame other q plaintext ≡ client =
+    ap (λ (offset : ℕ). p.da ++ p.sa ++ take (clear_length offset tag.e p.secure_data) p.secure_data ++ plaintext) can.key.offset
+    ∙ gives_frame laws.lengths (prepared_key key) iv tag client in
+    let judged = passed (rx_options receiver) receiver.keys receiver.rx q rx tx.next plaintext (record {
+      number_sent = ap (λ (s : Suite). is_bad_number s q.tag) suite ∙ not_bad (is_xpn key.suite) tx.next row.next_least sent.next;
+      not_reserved = same_bits tx.conf;
+      used = ap (in_use receiver.rx.rows tx.an) can.sci ∙ can.on;
+      recovered = ap (λ (s : Suite). recovered_number_of s) can.key.suite ∙ recovered (is_xpn key.suite) rx.lowest tx.next row.next_least sent.next can.not_late can.near;
+      in_time = le-ltb tx.next rx.lowest can.not_late;
+      enabled = is_enabled receiver.options.mode can.not_disabled;
+      opens = same_plaintext key other rx sender.config.sci tx.next q can.key used.sci ∙ sealed_opens laws.undoes laws.lengths (prepared_key key) iv tag client;
+    }) in
+    answered receiver frame q rx tx.next (opened_frame other q plaintext) good reads judged
+    ∙ told used.sci used.an delivers
+  where
+    same_bits : (c : Bool) → (c && not c) ≡ false
+    same_bits true = refl
+    same_bits false = refl
+
+    recovered_number_of : Suite → Option ℕ
+    recovered_number_of s = recovered_number (is_xpn s) rx.lowest (tx.next % 2 ^ 32)
+
+    told : {sci : Sci} {an : ℕ} {frame delivered : List ℕ} → rx.sci ≡ sci → rx.an ≡ an → delivered ≡ client →
+        received Passed (Some (rx.sci, rx.an)) frame (Some delivered) ≡ received Passed (Some (sci, an)) frame (Some client)
+    told s a d = rw (s, a, d) refl

@@ -1,0 +1,47 @@
+-- The association in use for a frame: it is at the frame's place, and its key is there.
+use Rattle.std.proofs.Common.{◌≡◌, ℕ, suc, Bool, true, false, List, [], ◌∷◌, refl, sym, ap, subst, arith, All}
+use Rattle.std.specs.Prelude.{◌==◌, ◌&&◌, find, if◌then◌else◌, Option, Some, None, IsSome, unwrap_or}
+use Rattle.std.specs.Cmp.Lexicographic.{same_text}
+use Rattle.std.proofs.lemmas.Bool.{and_parts, eqb-true}
+use Rattle.macsec_tag.specs.declared.Sci.{Sci}
+use Rattle.macsec_suite.specs.KeyRows.{InstalledKey, key_row, no_key, the_key}
+use Rattle.macsec_rx.specs.declared.RxRow.{RxRow}
+use Rattle.macsec_rx.specs.Channels.{is_at, same_sci}
+use Rattle.macsec_rx.specs.Judge.{in_use}
+
+-- what is found passes the test, and what holds of each element holds of it
+pub record IsFound {A : Type 0} (test : A → Bool) (P : A → Type 0) (x : A) : Type 0 where
+  pub passes : test x ≡ true
+  pub holds : P x
+
+pub found : {A : Type 0} (test : A → Bool) (P : A → Type 0) (xs : List A) (x : A) → All P xs → find test xs ≡ Some x → IsFound test P x
+found test P [] x all is = cc
+found test P (y ∷ ys) x all is = by_test (test y) refl (found test P ys x (λ k d within. all (suc k) d (omega (arith, within)))) is
+  where
+    by_test : (b : Bool) → test y ≡ b → (find test ys ≡ Some x → IsFound test P x) → (if b then Some y else find test ys) ≡ Some x → IsFound test P x
+    by_test true passes later is' = let it : y ≡ x = cc in subst (IsFound test P) it (record { passes = passes; holds = all 0 y (omega arith) })
+    by_test false passes later is' = later is'
+
+one_sci : (s t : Sci) → same_sci s t ≡ true → s ≡ t
+one_sci s t same = ap {B = Sci} (λ octets. record { 0 = octets }) (same_text s.0 t.0 (sym same))
+
+pub record IsInUse (P : RxRow → Type 0) (of_sci : Sci) (of_an : ℕ) (row : RxRow) : Type 0 where
+  pub sci : row.sci ≡ of_sci
+  pub an : row.an ≡ of_an
+  pub holds : P row
+
+pub in_use_is : (P : RxRow → Type 0) (rows : List RxRow) (sci : Sci) (an : ℕ) (row : RxRow) → All P rows → in_use rows an (Some sci) ≡ Some row → IsInUse P sci an row
+in_use_is P rows sci an row all is =
+    let it = found (λ (r : RxRow). is_at sci an r && r.on) P rows row all is in
+    let here = (and_parts (is_at sci an row) row.on it.passes).0 in
+    let parts = and_parts (same_sci row.sci sci) (row.an == an) here in
+    record { sci = one_sci row.sci sci parts.0; an = eqb-true row.an an parts.1; holds = it.holds }
+
+-- what holds of each key holds of one that is there
+pub the_key_holds : (P : InstalledKey → Type 0) (keys : List InstalledKey) (number : ℕ) → All P keys → IsSome (key_row keys number) → P (the_key keys number)
+the_key_holds P keys number all there = by_row (key_row keys number) refl there
+  where
+    by_row : (o : Option InstalledKey) → key_row keys number ≡ o → IsSome o → P (the_key keys number)
+    by_row None is there' = cc
+    by_row (Some key) is there' =
+        subst P (ap (λ (o : Option InstalledKey). unwrap_or o no_key) (sym is)) (found (λ (k : InstalledKey). k.number == number) P keys key all is).holds

@@ -1,0 +1,58 @@
+-- The law on acceptance: the frame that one endpoint makes of its client's frame is passed by another endpoint
+-- that has its association, and gives the client's frame.
+use Rattle.std.specs.Prelude.{◌≡◌, ◌≢◌, ◌≤◌, ◌<◌, ◌+◌, ◌^◌, ℕ, List, [], ◌++◌, length, true, Some, None}
+use Rattle.macsec_tag.specs.declared.Sci.{Sci}
+use Rattle.macsec_tag.specs.Frame.{MpduParts, in_a_row}
+use Rattle.macsec_suite.specs.Suites.{is_xpn}
+use Rattle.macsec_suite.specs.KeyRows.{InstalledKey, the_key}
+use Rattle.macsec_tx.specs.declared.TxRow.{TxRow}
+use Rattle.macsec_tx.specs.Limits.{max_frame_len}
+use Rattle.macsec_tx.specs.Transmit.{parts_sent}
+use Rattle.macsec_rx.specs.declared.RxRow.{RxRow}
+use Rattle.macsec_rx.specs.declared.Mode.TheVariants.{Disabled}
+use Rattle.macsec_rx.specs.declared.Verdict.TheVariants.{Passed}
+use Rattle.macsec_rx.specs.Judge.{sci_of, in_use}
+use Rattle.macsec_secy.specs.State.{State, tx_options}
+use Rattle.macsec_secy.specs.Step.{frame_fault, link_frame, received, sending_of, step}
+use Rattle.macsec_secy.specs.Sound.{IsSound}
+
+-- the key of a receive association goes with that of a transmit association: it has its bytes, suite and
+-- offset, and with extended packet numbers its salt; then the SSCI of the receive association is the own one
+-- of the transmit association's key
+pub record HasSameKey (sender receiver : InstalledKey) (of_row : ℕ) : Type 0 where
+  pub bytes : receiver.bytes ≡ sender.bytes
+  pub suite : receiver.suite ≡ sender.suite
+  pub offset : receiver.offset ≡ sender.offset
+  pub salt : is_xpn sender.suite ≡ true → receiver.salt ≡ sender.salt
+  pub ssci : is_xpn sender.suite ≡ true → of_row ≡ sender.ssci
+
+-- the receiver validates; the SCI of the parts that the sender's association makes is the sender's; the
+-- receiver's association with it and with their association number is on, and has the key; and the packet
+-- number is not late, nor, where it is extended, too far on to be recovered
+pub record CanAccept (sender receiver : State) (tx : TxRow) (rx : RxRow) (p : MpduParts) : Type 0 where
+  pub not_disabled : receiver.options.mode ≢ Disabled
+  pub sci : sci_of receiver.rx.scis p ≡ Some sender.config.sci
+  pub on : in_use receiver.rx.rows p.tag.an (Some sender.config.sci) ≡ Some rx
+  pub key : HasSameKey (the_key sender.keys tx.key) (the_key receiver.keys rx.key) rx.ssci
+  pub not_late : rx.lowest ≤ tx.next
+  pub near : is_xpn (the_key sender.keys tx.key).suite ≡ true → tx.next < rx.lowest + 2 ^ 31
+
+-- the fewest octets of a frame to which a MAC adds no padding
+abbrev pub min_padded_len : ℕ
+min_padded_len = 60
+
+-- octets may come behind a frame of these parts, as padding does: where SL is 0 and the frame has 60 octets or
+-- more there are none (with fewer octets SL is never 0), and the frame with them is none too long
+pub record CanComeBehind (p : MpduParts) (behind : List ℕ) : Type 0 where
+  pub none : p.tag.sl ≡ 0 → min_padded_len ≤ length (in_a_row p) → behind ≡ []
+  pub most : length (in_a_row p ++ behind) ≤ max_frame_len
+
+-- the answer to the frame is that it is passed, from the association at this place, and gives the client's frame
+abbrev pub IsPassed : State → Sci → ℕ → List ℕ → List ℕ → Type 0
+IsPassed receiver sci an frame client = (step receiver (link_frame frame)).0 ≡ received Passed (Some (sci, an)) frame (Some client)
+
+abbrev pub AcceptsSent : State → State → List ℕ → TxRow → RxRow → List ℕ → Type 0
+AcceptsSent sender receiver client tx rx behind =
+    let p = parts_sent (tx_options sender) (the_key sender.keys tx.key) tx client in
+    IsSound sender → IsSound receiver → frame_fault client ≡ None → (sending_of sender client).by ≡ Some tx →
+    CanAccept sender receiver tx rx p → CanComeBehind p behind → IsPassed receiver sender.config.sci tx.an (in_a_row p ++ behind) client
