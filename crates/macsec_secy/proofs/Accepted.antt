@@ -24,7 +24,7 @@ use Rattle.macsec_rx.specs.declared.RxRow.{RxRow}
 use Rattle.macsec_rx.specs.declared.Verdict.TheVariants.{Passed}
 use Rattle.macsec_rx.specs.Judge.{at_row, is_bad_number, judge_tagged, opened_frame, plaintext_of, in_use}
 use Rattle.macsec_secy.specs.declared.FrameFault.TheVariants.{Short, Long}
-use Rattle.macsec_secy.specs.Accepts.{AcceptsSent, HasSameKey, min_padded_len}
+use Rattle.macsec_secy.specs.Accepts.{AcceptsSent, HasSameKey}
 use Rattle.macsec_secy.specs.State.{State, rx_options, tx_options}
 use Rattle.macsec_secy.specs.Step.{frame_fault, link_frame, received, step}
 use Rattle.macsec_secy.proofs.InUse.{in_use_is, the_key_holds}
@@ -78,21 +78,6 @@ is_long frame none = by_test (nat_lt (length frame) min_frame_len) refl none
     by_test true is none' = cc
     by_test false is none' = ltb-false (length frame) min_frame_len is
 
--- where SL is 0 the frame has 60 octets or more
-has_data : (p : MpduParts) → HasLengths p → p.tag.sl ≡ 0 → min_padded_len ≤ length (in_a_row p)
-has_data p lengths none =
-    omega (
-      arith,
-      length-append (p.da ++ p.sa ++ spelling p.tag ++ p.secure_data ++ p.icv) p.padding,
-      length-append (p.da ++ p.sa ++ spelling p.tag ++ p.secure_data) p.icv,
-      length-append (p.da ++ p.sa ++ spelling p.tag) p.secure_data,
-      length-append (p.da ++ p.sa) (spelling p.tag),
-      length-append p.da p.sa,
-      lengths.da,
-      lengths.sa,
-      lengths.long none,
-    )
-
 -- ---- the answer
 
 answered : (receiver : State) (frame : List ℕ) (p : MpduParts) (rx : RxRow) (number : ℕ) (delivered : List ℕ) → frame_fault frame ≡ None → reading frame ≡ tagged p →
@@ -115,7 +100,7 @@ accepts_sent laws sender receiver client tx rx behind sender_sound receiver_soun
     let row = is_row sender.tx tx sender_sound.tx sent.on in
     let long : min_frame_len ≤ length client = is_long client fits in
     let as_sent = laws.read_as_sent options key tx client (record { long = long; an = row.an; sci = sender_sound.own_sci.count }) in
-    let reads : reading frame ≡ tagged q = read_with laws.read_again p as_sent.is_tagged.tag as_sent.is_tagged.lengths refl behind (λ none. may.none none (has_data p as_sent.is_tagged.lengths none)) in
+    let reads : reading frame ≡ tagged q = read_with laws.read_again p as_sent.is_tagged.tag as_sent.is_tagged.lengths refl behind may.none in
     let good : frame_fault frame ≡ None = no_fault frame (omega (arith, length-append (in_a_row p) behind, as_sent.octets, long)) may.most in
     let used = in_use_is (λ (r : RxRow). IsSome (key_row receiver.keys r.key)) receiver.rx.rows sender.config.sci tx.an rx receiver_sound.rx_keys can.on in
     let own_suite : other.suite ≡ receiver.config.suite = the_key_holds (λ (k : InstalledKey). k.suite ≡ receiver.config.suite) receiver.keys rx.key receiver_sound.suite used.holds in

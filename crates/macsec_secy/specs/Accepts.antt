@@ -37,14 +37,10 @@ pub record CanAccept (sender receiver : State) (tx : TxRow) (rx : RxRow) (p : Mp
   pub not_late : rx.lowest ≤ tx.next
   pub near : is_xpn (the_key sender.keys tx.key).suite ≡ true → tx.next < rx.lowest + 2 ^ 31
 
--- the fewest octets of a frame to which a MAC adds no padding
-abbrev pub min_padded_len : ℕ
-min_padded_len = 60
-
--- octets may come behind a frame of these parts, as padding does: where SL is 0 and the frame has 60 octets or
--- more there are none (with fewer octets SL is never 0), and the frame with them is none too long
+-- octets may come behind a frame of these parts, as padding does: where SL is 0 there are none, and the frame with
+-- them is none too long
 pub record CanComeBehind (p : MpduParts) (behind : List ℕ) : Type 0 where
-  pub none : p.tag.sl ≡ 0 → min_padded_len ≤ length (in_a_row p) → behind ≡ []
+  pub none : p.tag.sl ≡ 0 → behind ≡ []
   pub most : length (in_a_row p ++ behind) ≤ max_frame_len
 
 -- the answer to the frame is that it is passed, from the association at this place, and gives the client's frame
