@@ -4,7 +4,7 @@ use Rattle.macsec_suite.specs.declared.Refusal.{Refusal}
 use Rattle.macsec_secy.specs.declared.Command.{Command}
 use Rattle.macsec_secy.specs.State.{State}
 use Rattle.macsec_secy.specs.Step.{Output, done, operator_command, refused, step}
-use Rattle.macsec_link.specs.Answers.{EndHappens}
+use Rattle.macsec_link.specs.Kept.{EndHappens}
 use Rattle.macsec_link.specs.Logs.{DeliveryLog, delivered_after, logs_after_command}
 use Rattle.macsec_link.specs.World.{EndState}
 

@@ -23,7 +23,7 @@ use Rattle.macsec_secy.specs.Commands.{effect, refusal, unless_refused}
 use Rattle.macsec_secy.specs.Reception.{judgement_of, state_after_receiving}
 use Rattle.macsec_secy.specs.Step.{Input, operator_command, client_frame, link_frame, uncontrolled_frame, Output, command_output, done, refused, leaves, dropped_no_sa, dropped_too_long, received, fault, frame_fault, received_output, sending_of, sent_output, state_after_sending, step}
 use Rattle.macsec_secy.specs.Step as machine
-use Rattle.macsec_link.specs.Answers.{EndHappens}
+use Rattle.macsec_link.specs.Kept.{EndHappens}
 use Rattle.macsec_link.specs.Logs.{AreLogged, DeliveryLog, SentLogs, association_of_log, association_of_row, delivered_after, is_live_at, live_logs, log_closing, log_delivering, logs_after_command, sent_after, with_first}
 use Rattle.macsec_link.specs.Sound.{IsSoundEnd}
 use Rattle.macsec_link.specs.World.{EndState, end_after}
