@@ -1,7 +1,7 @@
 -- What was sealed and comes in time is genuine where a strictly validating end opens it: so the premise of the law on
 -- origin, that no tag is forged, holds of the frames that the law on acceptance speaks of.
-use Rattle.std.proofs.Common.{◌≡◌, ℕ, ◌≤◌, List, [], length, refl, ap, sym, subst, ◌∙◌, Contains, append-nil}
-use Rattle.std.specs.Prelude.{if◌then◌else◌, option_map, slice_get, Option, Some, None, IfSome}
+use Rattle.std.proofs.Common.{◌≡◌, inl, inr, ℕ, ◌^◌, ◌≤◌, List, [], ◌∷◌, ◌++◌, length, refl, ap, sym, subst, ◌∙◌, Contains, append-nil}
+use Rattle.std.specs.Prelude.{◌%◌, if◌then◌else◌, option_map, slice_get, Option, Some, None, IfSome}
 use Rattle.macsec_tag.specs.declared.Sci.{Sci}
 use Rattle.macsec_tag.specs.Frame.{MpduParts, in_a_row}
 use Rattle.macsec_tag.specs.Table.{reading, tagged}
@@ -22,18 +22,25 @@ use Rattle.macsec_secy.specs.Sound as endpoint
 use Rattle.macsec_secy.specs.Accepts.{CanAccept}
 use Rattle.macsec_secy.specs.Accepts as law
 use Rattle.macsec_secy.specs.Reception.{judgement_of, state_after_receiving}
-use Rattle.macsec_secy.specs.Step.{frame_fault, link_frame, received, received_output, sending_of, step}
+use Rattle.macsec_secy.specs.Step.{client_frame, frame_fault, link_frame, received, received_output, sending_of, step}
 use Rattle.macsec_secy.specs.Step as machine
 use Rattle.macsec_suite.specs.CipherUses.{CipherUse, cipher_use}
 use Rattle.macsec_link.specs.declared.End.{End}
-use Rattle.macsec_link.specs.declared.Event.TheVariants.{Deliver}
-use Rattle.macsec_link.specs.World.{WorldState, end_of, frame_at}
+use Rattle.macsec_link.specs.declared.End.TheVariants.{A, B}
+use Rattle.macsec_link.specs.declared.WorldFault.{WorldFault}
+use Rattle.macsec_link.specs.declared.Event.TheVariants.{Deliver, Send}
+use Rattle.macsec_link.specs.World.{EndState, WorldState, end_after, end_of, frame_at, with_end}
+use Rattle.macsec_link.specs.Step as link
+use Rattle.macsec_link.specs.Step.{world_step}
 use Rattle.macsec_link.specs.Faults.{fault_of}
 use Rattle.macsec_link.specs.Sound.{IsSound}
-use Rattle.macsec_link.specs.Trace.{text_sealed_by, text_to_open}
-use Rattle.macsec_link.specs.Genuine.{text_opened, text_opened_in}
+use Rattle.macsec_link.specs.Trace.{Trace, seals_by, text_sealed_by, text_to_open, trace_step}
+use Rattle.macsec_link.specs.Trace as trace
+use Rattle.macsec_link.specs.Genuine.{IsGenuineAt, text_opened, text_opened_in}
 use Rattle.macsec_link.proofs.Accepted.{LawOfStep, no_fault, not_short}
-use Rattle.macsec_link.proofs.AcceptedExample.{client}
+use Rattle.macsec_link.proofs.EndSteps.{reaction_ends}
+use Rattle.macsec_link.proofs.Members.{IsMember, contained}
+use Rattle.macsec_link.proofs.SentStands.{stands_on_link}
 use Rattle.macsec_link.proofs.Judged.{delivered_in_time, used_in}
 use Rattle.macsec_link.proofs.LinkFrames.{finds}
 use Rattle.macsec_link.proofs.Seals.{sound_end}
@@ -140,3 +147,51 @@ module _ (law_of_step : LawOfStep) (read_as_sent : ReadAsSent) (w : WorldState) 
             ap (λ o. text_opened_in s (judgement_of s (in_a_row p)) o (reading (in_a_row p))) (j.of_row ∙ ap Some of_rx)
             ∙ ap (λ r. text_opened_in s (judgement_of s (in_a_row p)) (Some rx) r) opened.reads
             ∙ ap (λ b. if b then Some (text_to_open s rx (judgement_of s (in_a_row p)).number opened.p) else None) opened.thirteen
+
+-- ---- a frame that comes at once
+
+last_member : {X : Type 0} (xs : List X) (x : X) → IsMember (xs ++ x ∷ []) x
+last_member [] x = inl refl
+last_member (y ∷ xs) x = inr (last_member xs x)
+
+-- what A's client sends protected, and the link delivers to B at once: where B can accept it and validates strictly it is
+-- genuine, and B delivers it. So an exchange of frames in time meets the premises of the law on origin, and those on the
+-- options are the end's own
+module _ (law_of_step : LawOfStep) (read_as_sent : ReadAsSent) (t : Trace) (client : List ℕ) (tx : TxRow) (rx : RxRow)
+    (sound : IsSound t.world) (sound_after : IsSound (trace_step t (Send A client)).world) (none : fault_of t.world (Send A client) ≡ None)
+    (fits : frame_fault client ≡ None) (by : (sending_of t.world.a.state client).by ≡ Some tx)
+    (can : CanAccept t.world.a.state t.world.b.state tx rx (parts_sent (tx_options t.world.a.state) (the_key t.world.a.state.keys tx.key) tx client)) where
+  abbrev after : WorldState
+  after = (world_step t.world (Send A client)).1
+
+  b_stays : after.b ≡ t.world.b
+  b_stays =
+      ap (λ (f : Option WorldFault). (link.unless_fault f t.world (Send A client)).1.b) none
+      ∙ reaction_ends (with_end t.world A (end_after t.world.a (client_frame client) (step t.world.a.state (client_frame client)))) (step t.world.a.state (client_frame client)).0 B
+
+  can_after : CanAccept t.world.a.state after.b.state tx rx (parts_sent (tx_options t.world.a.state) (the_key t.world.a.state.keys tx.key) tx client)
+  can_after = subst (λ (x : EndState). CanAccept t.world.a.state x.state tx rx (parts_sent (tx_options t.world.a.state) (the_key t.world.a.state.keys tx.key) tx client)) (sym b_stays) can
+
+  on_link : slice_get after.frames (length t.world.frames) ≡ Some (in_a_row (parts_sent (tx_options t.world.a.state) (the_key t.world.a.state.keys tx.key) tx client))
+  on_link = stands_on_link t.world A client tx none fits by
+
+  sealed : Contains (trace_step t (Send A client)).seals (text_sealed_by t.world.a.state client tx)
+  sealed =
+      let new : trace.unless_fault (fault_of t.world (Send A client)) (seals_by t.world.a.state client (sending_of t.world.a.state client).by) ≡ text_sealed_by t.world.a.state client tx ∷ [] =
+      ap (λ f. trace.unless_fault f (seals_by t.world.a.state client (sending_of t.world.a.state client).by)) none ∙ ap (seals_by t.world.a.state client) by in
+      subst (λ (us : List CipherUse). Contains (t.seals ++ us) (text_sealed_by t.world.a.state client tx)) (sym new)
+      (contained (t.seals ++ text_sealed_by t.world.a.state client tx ∷ []) (text_sealed_by t.world.a.state client tx) (last_member t.seals (text_sealed_by t.world.a.state client tx)))
+
+  pub genuine_at_once : t.world.b.state.options.mode ≡ Strict →
+      iv_of (the_key t.world.b.state.keys rx.key).suite rx.sci rx.ssci (the_key t.world.b.state.keys rx.key).salt tx.next ≡
+      iv_of (the_key t.world.a.state.keys tx.key).suite t.world.a.state.config.sci (the_key t.world.a.state.keys tx.key).ssci (the_key t.world.a.state.keys tx.key).salt tx.next →
+      recovered_number (is_xpn (the_key t.world.b.state.keys rx.key).suite) rx.lowest (tx.next % 2 ^ 32) ≡ Some tx.next →
+      IsGenuineAt (trace_step t (Send A client)) (Deliver B (length t.world.frames))
+  genuine_at_once strict iv recovered =
+      genuine_in_time law_of_step read_as_sent after B (length t.world.frames) t.world.a.state client tx rx sound_after sound.a.endpoint fits by can_after on_link
+      (ap (λ (x : EndState). x.state.options.mode) b_stays ∙ strict) (trace_step t (Send A client)).seals sealed
+      (ap (λ (x : EndState). iv_of (the_key x.state.keys rx.key).suite rx.sci rx.ssci (the_key x.state.keys rx.key).salt tx.next) b_stays ∙ iv)
+      (ap (λ (x : EndState). recovered_number (is_xpn (the_key x.state.keys rx.key).suite) rx.lowest (tx.next % 2 ^ 32)) b_stays ∙ recovered)
+
+  pub delivered_at_once : (judgement_of after.b.state (frame_at after (length t.world.frames))).delivered ≡ Some client
+  delivered_at_once = delivered_is law_of_step read_as_sent after B (length t.world.frames) t.world.a.state client tx rx sound_after sound.a.endpoint fits by can_after on_link
