@@ -1,6 +1,8 @@
-//! Octets per second of the plain cipher: AES block by block, GHASH, and sealing. With no words it
-//! measures nothing and prints nothing.
+//! Octets per second of the plain cipher: AES block by block, GHASH, and sealing; and how long a full link
+//! of two ends takes. With no words it measures nothing and prints nothing.
 #![tactic(auto)]
+
+mod link;
 
 use macsec_aes::{Key, Schedule, encrypt};
 use macsec_field128::Block;
@@ -47,7 +49,7 @@ fn main(rt: HostRuntime) -> anyhow::Result<()> {
         report(&rt, "ghash", work, time_ghash(&rt, work)?)?;
         report(&rt, "seal", work, time_seal(&rt, work)?)?;
     }
-    Ok(())
+    link::report(&rt)
 }
 
 /// Prints a line of what was measured.
