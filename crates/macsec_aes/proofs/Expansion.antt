@@ -9,7 +9,7 @@ use Rattle.macsec_aes.specs.Aes.{schedule_of, word, rounds_of, key_words, key_ex
 
 -- ---- reading a schedule
 
--- a word of the schedule stands at its place
+-- a word of the schedule is at its position
 pub schedule_word : (words : List (List ℕ)) (rounds i : ℕ) → IsSchedule words rounds → i < 4 * (rounds + 1) → word words i ≡ word (schedule_of (key_of words rounds)) i
 schedule_word words rounds i s lt =
     sym (get_or-take (4 * (rounds + 1)) words i [] lt) ∙ ap (λ (ws : List (List ℕ)). word ws i) s.expanded

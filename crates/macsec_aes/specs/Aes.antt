@@ -101,7 +101,7 @@ after_rounds ws block zero = add_round_key block (round_key ws 0)
 after_rounds ws block (suc r) =
     add_round_key (mix_columns (shift_rows (sub_bytes (after_rounds ws block r)))) (round_key ws (suc r))
 
--- the block that AES makes of a block under a key of 16 or 32 bytes: the last round mixes no columns
+-- AES of a block under a key of 16 or 32 bytes: the last round has no MixColumns
 unfoldable pub aes : List ℕ → List ℕ → List ℕ
 aes key block =
     let ws = schedule_of key in

@@ -40,6 +40,6 @@ unfoldable pub affine_transformation : ℕ → ℕ
 affine_transformation b = sum_below 8 (λ i.
     (bit b i + bit b (i + 4) + bit b (i + 5) + bit b (i + 6) + bit b (i + 7) + bit 0x63 i) % 2 * 2 ^ i)
 
--- the S-box: the inverse of a byte, under the affine transformation (5.1.1)
+-- the S-box: the affine transformation of the inverse of a byte (5.1.1)
 unfoldable pub s_box : ℕ → ℕ
 s_box a = affine_transformation (inverse a)

@@ -146,8 +146,8 @@ const S_BOX: [u8; 256] = [
     0x8c, 0xa1, 0x89, 0x0d, 0xbf, 0xe6, 0x42, 0x68, 0x41, 0x99, 0x2d, 0x0f, 0xb0, 0x54, 0xbb, 0x16,
 ];
 
-/// The S-box at a byte (FIPS 197, 5.1.1): its inverse in the field of bytes (4.2), 0 for 0, under
-/// the affine transformation.
+/// The S-box at a byte (FIPS 197, 5.1.1): the affine transformation of its inverse in the field of bytes (4.2), 0 for
+/// 0.
 pub fn sub(a: u8) -> u8
     ensures { result ≡ s_box a }
 {
@@ -222,15 +222,14 @@ fn full_round(state: [u8; 16], key: [u8; 16]) -> [u8; 16]
     add_round_key(mix_columns(shift_rows(sub_bytes(state))), key)
 }
 
-/// The last round, which mixes no columns.
+/// The last round, which has no MixColumns.
 fn last_round(state: [u8; 16], key: [u8; 16]) -> [u8; 16]
     ensures { result ≡ add_round_key (shift_rows (sub_bytes state)) key }
 {
     add_round_key(shift_rows(sub_bytes(state)), key)
 }
 
-/// The block of 16 bytes that AES makes of a block under the key of a schedule: Cipher (FIPS 197,
-/// 5.1).
+/// Encrypts a block of 16 bytes under the key of a schedule: Cipher (FIPS 197, 5.1).
 pub fn encrypt(schedule: &Schedule, block: [u8; 16]) -> [u8; 16]
     ensures { result ≡ aes schedule.now block }
 {

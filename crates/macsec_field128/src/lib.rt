@@ -4,6 +4,9 @@
 ghost use Rattle.std.specs.Prelude.{◌≡◌, bit_xor};
 ghost use Rattle.macsec_field128.specs.Field.{block_product, times_x};
 
+#[cfg(test)]
+mod tests;
+
 /// An element of the field. Its leftmost bit is the most significant one.
 #[derive(Clone, Copy, PartialEq, Eq)]
 pub struct Block(pub u128);
@@ -43,41 +46,4 @@ pub fn mul(a: Block, b: Block) -> Block
         power = times_x(power);
     }
     sum
-}
-
-#[cfg(test)]
-mod tests {
-    use super::*;
-
-    const ONE: Block = Block(1 << 127);
-
-    const SUBKEY: Block = Block(0x66e9_4bd4_ef8a_2c3b_884c_fa59_ca34_2b2e);
-
-    const CIPHERTEXT: Block = Block(0x0388_dace_60b6_a392_f328_c2b9_71b2_fe78);
-
-    #[test]
-    fn sum_with_itself_is_zero(rt: HostRuntime) {
-        assert!(rt; add(SUBKEY, SUBKEY) == Block(0));
-        assert!(rt; add(SUBKEY, Block(0)) == SUBKEY);
-    }
-
-    #[test]
-    fn one_is_neutral(rt: HostRuntime) {
-        assert!(rt; mul(ONE, SUBKEY) == SUBKEY);
-        assert!(rt; mul(SUBKEY, ONE) == SUBKEY);
-    }
-
-    #[test]
-    fn times_x_of_the_rightmost_bit(rt: HostRuntime) {
-        assert!(rt; times_x(Block(1)) == Block(0xe100_0000_0000_0000_0000_0000_0000_0000));
-        assert!(rt; times_x(Block(2)) == Block(1));
-    }
-
-    // Test case 2 of the GCM specification: its ciphertext times its hash subkey.
-    #[test]
-    fn known_product(rt: HostRuntime) {
-        let product = Block(0x5e2e_c746_9170_6288_2c85_b068_5353_deb7);
-        assert!(rt; mul(CIPHERTEXT, SUBKEY) == product);
-        assert!(rt; mul(SUBKEY, CIPHERTEXT) == product);
-    }
 }

@@ -15,7 +15,7 @@ use Rattle.macsec_gcm.specs.Octets.{sum_with_stream}
 abbrev pub key_stream : List ℕ → List ℕ → ℕ → ℕ
 key_stream key icb k = get_or (aes key (iterate inc32 (k / 16) icb)) (k % 16) 0
 
--- octet k of the key stream, from the block in which it stands
+-- octet k of the key stream, from the block that contains it
 pub key_stream_at : (key icb : List ℕ) (i k : ℕ) → 16 * i ≤ k → k < 16 * i + 16 → key_stream key icb k ≡ get_or (aes key (iterate inc32 i icb)) (k - 16 * i) 0
 key_stream_at key icb i k low high =
     let block : k / 16 ≡ i = omega arith in

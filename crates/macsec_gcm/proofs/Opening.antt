@@ -58,7 +58,7 @@ pub open_of-by_test : (key iv aad ciphertext tag : List ℕ) → open_of key iv 
 unfolding open_of
 open_of-by_test key iv aad ciphertext tag = rw (seal_of-sum key iv aad ciphertext, same_octets-refl ciphertext) refl
 
--- the test stands in the conclusion too: it is the call with all the variables, by which tactics find the lemma
+-- the test is in the conclusion too: it is the call with all the variables, by which tactics find the lemma
 pub sealed_by_test : (key iv aad ciphertext tag : List ℕ) → same_octets (tag_of key iv aad ciphertext) tag ≡ true
     → (same_octets (tag_of key iv aad ciphertext) tag ≡ true) × (seal_of key iv aad (sum_of key iv ciphertext) ≡ (ciphertext, tag))
 sealed_by_test key iv aad ciphertext tag e =

@@ -40,8 +40,8 @@ pre_counter_block iv = iv ++ 0 ∷ 0 ∷ 0 ∷ 1 ∷ []
 unfoldable pub length_block : List ℕ → List ℕ → List ℕ
 length_block aad ciphertext = to_be_bytes w64 (8 * length aad) ++ to_be_bytes w64 (8 * length ciphertext)
 
--- T: the hash of the additional authenticated data, the ciphertext and their lengths, each filled with
--- zeros to whole blocks, under GCTR from J0 on (7.1, steps 4 to 6)
+-- T: the hash of the additional authenticated data, the ciphertext and their lengths, each padded with zeros to whole
+-- blocks, encrypted by GCTR from J0 on (7.1, steps 4 to 6)
 unfoldable pub authentication_tag : List ℕ → List ℕ → List ℕ → List ℕ → List ℕ
 authentication_tag key j0 aad ciphertext =
     let hash = ghash (hash_subkey key) (pad aad ++ (pad ciphertext ++ pad (length_block aad ciphertext))) in
@@ -53,9 +53,8 @@ seal_of key iv aad plaintext =
     let ciphertext = gctr key (inc32 (pre_counter_block iv)) plaintext in
     (ciphertext, authentication_tag key (pre_counter_block iv) aad ciphertext)
 
--- GCM-AD: the plaintext that seals to the ciphertext and the tag, where there is one, and else none.
--- Only the sum of the ciphertext with the key stream can be that plaintext, and it is sealed again to
--- see that it is (7.2)
+-- GCM-AD: the plaintext that seals to the ciphertext and the tag, if there is one, and else none. Only the sum of the
+-- ciphertext with the key stream can be that plaintext, and it is sealed again to test whether it is (7.2)
 unfoldable pub open_of : List ℕ → List ℕ → List ℕ → List ℕ → List ℕ → Option (List ℕ)
 open_of key iv aad ciphertext tag =
     let plaintext = gctr key (inc32 (pre_counter_block iv)) ciphertext in

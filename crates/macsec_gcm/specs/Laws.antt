@@ -2,12 +2,11 @@
 use Rattle.std.specs.Prelude.{◌≡◌, ◌↔◌, ℕ, List, length, Some}
 use Rattle.macsec_gcm.specs.Gcm.{seal_of, open_of}
 
--- opening undoes sealing: it gives a plaintext exactly where that plaintext seals to the ciphertext
--- and the tag
+-- opening undoes sealing: it gives a plaintext exactly when that plaintext seals to the ciphertext and the tag
 abbrev pub OpenUndoesSeal : Type 0
 OpenUndoesSeal = (key iv aad ciphertext tag plaintext : List ℕ) → (open_of key iv aad ciphertext tag ≡ Some plaintext) ↔ (seal_of key iv aad plaintext ≡ (ciphertext, tag))
 
--- sealing is injective: key, IV, additional authenticated data and ciphertext fix the plaintext
+-- sealing is injective: key, IV, additional authenticated data and ciphertext determine the plaintext
 abbrev pub SealingIsInjective : Type 0
 SealingIsInjective = (key iv aad p q : List ℕ) → (seal_of key iv aad p).0 ≡ (seal_of key iv aad q).0 → p ≡ q
 

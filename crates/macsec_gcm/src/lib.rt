@@ -43,9 +43,9 @@ impl GcmKey {
         GcmKey { schedule, subkey }
     }
 
-    /// Encrypts the plaintext `text` in place, at most 2^36 - 32 octets, and gives the authentication
-    /// tag of the ciphertext and of the additional authenticated data, at most 2^61 - 1 octets
-    /// (SP 800-38D, 7.1). No contract keeps a caller from using an IV twice under a key.
+    /// Encrypts the plaintext `text` in place, at most 2^36 - 32 octets. Returns the authentication tag of the
+    /// ciphertext and of the additional authenticated data, at most 2^61 - 1 octets (SP 800-38D, 7.1). No contract
+    /// keeps a caller from using an IV twice under a key.
     #[tactic(auto, unfolding(crate::specs::Gcm::seal_of))]
     pub fn seal(&self, iv: &[u8; 12], aad: &[u8], text: &mut [u8]) -> [u8; 16]
         requires text_length { length text.old ≤ max_plaintext_len }
@@ -57,14 +57,13 @@ impl GcmKey {
         self.authentication_tag(j0, aad, text)
     }
 
-    /// Decrypts the ciphertext `text` in place where it and the additional authenticated data have
-    /// this tag, and says whether they have; else leaves the text as it is (SP 800-38D, 7.2). Lengths
-    /// are those of `seal`.
+    /// Decrypts the ciphertext `text` in place and returns true if it and the additional authenticated data have this
+    /// tag; else returns false and leaves the text as it is (SP 800-38D, 7.2). Lengths are those of `seal`.
     #[tactic(auto, using(crate::proofs::Opening::tests_of_tags))]
     pub fn open(&self, iv: &[u8; 12], aad: &[u8], text: &mut [u8], tag: &[u8; 16]) -> bool
         requires text_length { length text.old ≤ max_plaintext_len }
         requires aad_length { length aad.now ≤ max_aad_len }
-        // The text that then stands there seals to the ciphertext and the tag.
+        // The text is now a plaintext that seals to the ciphertext and the tag.
         ensures opened { OnTrue result
             (seal_of self.now iv.now aad.now text.new ≡ (text.old, tag.now)) }
         // No text seals to them.

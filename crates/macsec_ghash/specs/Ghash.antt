@@ -11,15 +11,15 @@ hash_next h y x = block_product (bit_xor y x) h
 unfoldable pub ghash : ℕ → List ℕ → ℕ
 ghash h blocks = fold (hash_next h) 0 blocks
 
--- the block of at most 16 octets, filled with zeros on the right (7.1, steps 4 and 5)
+-- the block of at most 16 octets, padded with zeros on the right (7.1, steps 4 and 5)
 unfoldable pub block_of : List ℕ → ℕ
 block_of octets = from_be_bytes w128 (octets ++ replicate (16 - length octets) 0)
 
--- the first n blocks of a text, filled with zeros past its end (7.1, steps 4 and 5)
+-- the first n blocks of a text, padded with zeros past its end (7.1, steps 4 and 5)
 unfoldable pub blocks_of : ℕ → List ℕ → List ℕ
 blocks_of zero text = []
 blocks_of (suc n) text = block_of (take 16 text) ∷ blocks_of n (drop 16 text)
 
--- the blocks of a text, the last of them filled with zeros: none of an empty text (7.1, steps 4 and 5)
+-- the blocks of a text, the last of them padded with zeros; an empty text has none (7.1, steps 4 and 5)
 unfoldable pub pad : List ℕ → List ℕ
 pad text = blocks_of ((length text + 15) / 16) text

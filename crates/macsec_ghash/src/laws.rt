@@ -1,4 +1,4 @@
-//! GHASH is what its steps say (SP 800-38D, 6.4): the contract of a function that does nothing.
+//! GHASH by its steps (SP 800-38D, 6.4): the contract of a function with an empty body.
 
 ghost use Rattle.macsec_ghash.specs.Laws.{StartsFromZero, GoesBlockByBlock};
 

@@ -5,7 +5,7 @@ use Rattle.std.proofs.Math.Seq.{take-append_seam, drop-append_seam}
 use Rattle.std.proofs.lemmas.List.{take-append-drop}
 use Rattle.macsec_gcm.specs.Gcm.{open_of}
 use Rattle.macsec_gcm.specs.Laws.{OpenUndoesSeal, SealedLengths}
-use Rattle.macsec_tag.specs.Tag.{Tag, spelling}
+use Rattle.macsec_tag.specs.Tag.{Tag, encoding}
 use Rattle.macsec_tag.specs.Frame.{MpduParts}
 use Rattle.macsec_suite.specs.Keys.{PreparedKey}
 use Rattle.macsec_suite.specs.Parts.{aad_and_plaintext, clear_length}
@@ -19,27 +19,27 @@ pub record LowerLaws : Type 0 where
   pub undoes : OpenUndoesSeal
   pub lengths : SealedLengths
 
--- DA, SA, SecTAG, Secure Data and ICV in a row
+-- DA, SA, SecTAG, Secure Data and ICV concatenated
 abbrev pub laid_out : MpduParts → List ℕ
-laid_out p = p.da ++ p.sa ++ spelling p.tag ++ p.secure_data ++ p.icv
+laid_out p = p.da ++ p.sa ++ encoding p.tag ++ p.secure_data ++ p.icv
 
--- what is authenticated alone, and the ciphertext
+-- what is authenticated only, and the ciphertext
 abbrev parts_of : PreparedKey → MpduParts → List ℕ × List ℕ
 parts_of key p = aad_and_plaintext key.offset p.tag.e p.da p.sa p.tag p.secure_data
 
--- how many octets stand before the Secure Data
+-- the number of octets before the Secure Data
 abbrev pub data_place : MpduParts → ℕ
-data_place p = 12 + length (spelling p.tag)
+data_place p = 12 + length (encoding p.tag)
 
-head_long : (p : MpduParts) → HasFixedLengths p → length (p.da ++ p.sa ++ spelling p.tag) ≡ data_place p
-head_long p fixed = omega (arith, length-append (p.da ++ p.sa) (spelling p.tag), length-append p.da p.sa, fixed.da, fixed.sa)
+head_long : (p : MpduParts) → HasFixedLengths p → length (p.da ++ p.sa ++ encoding p.tag) ≡ data_place p
+head_long p fixed = omega (arith, length-append (p.da ++ p.sa) (encoding p.tag), length-append p.da p.sa, fixed.da, fixed.sa)
 
 -- what the definition over places opens is what the definition over parts opens
 validated_is : LowerLaws → (key : PreparedKey) (iv : List ℕ) (p : MpduParts) → HasFixedLengths p
     → validated_octets key iv p.tag.e (data_place p) (data_place p + length p.secure_data) (laid_out p) ≡
     option_map (λ plaintext. (parts_of key p).0 ++ plaintext ++ p.icv) (opened_under key iv p)
 validated_is laws key iv p fixed =
-    let head : List ℕ = p.da ++ p.sa ++ spelling p.tag in
+    let head : List ℕ = p.da ++ p.sa ++ encoding p.tag in
     let n : ℕ = data_place p in
     let e : ℕ = n + length p.secure_data in
     let long : length (head ++ p.secure_data) ≡ e = omega (arith, length-append head p.secure_data, head_long p fixed) in
@@ -81,7 +81,7 @@ pub opened : LowerLaws → (key : PreparedKey) (iv : List ℕ) (p : MpduParts) (
 opened laws key iv p new rest fixed e = by (opened_under key iv p) refl (sym (validated_is laws key iv p fixed) ∙ e)
   where
     head : List ℕ
-    head = p.da ++ p.sa ++ spelling p.tag
+    head = p.da ++ p.sa ++ encoding p.tag
 
     clear : List ℕ
     clear = take (clear_length key.offset p.tag.e p.secure_data) p.secure_data

@@ -3,7 +3,7 @@ use Rattle.std.proofs.Common.{◌≡◌, ℕ, List, ap, sym, ◌∙◌, refl}
 use Rattle.std.specs.Prelude.{Option, None, Some, option_map, unwrap_or}
 use Rattle.macsec_tag.specs.Frame.{MpduParts}
 use Rattle.macsec_pn.specs.Numbers.{recovered_number}
-use Rattle.macsec_suite.specs.declared.KeyRow.{KeyRow}
+use Rattle.macsec_suite.specs.declared.key_row.KeyRow.{KeyRow}
 use Rattle.macsec_suite.specs.Suites.{is_xpn, iv_of}
 use Rattle.macsec_suite.specs.KeyRows.{InstalledKey, key_row, no_key, the_key}
 use Rattle.macsec_suite.specs.KeyTables.{HasOwnKey, row_shown}

@@ -1,12 +1,12 @@
--- There is room for an association whose number is free: with its channel's place it makes a number below
--- four times the count of the channels, and no two associations make the same.
+-- There is space for an association whose number is free: with its channel's place it gives a number below four times
+-- the count of the channels, and no two associations give the same.
 use Rattle.std.proofs.Common.{◌≡◌, ◌∙◌, ℕ, suc, ◌+◌, ◌*◌, ◌<◌, ◌≤◌, Bool, true, false, cond, ◌||◌, List, [], ◌∷◌, map, length, refl, arith, eqb, sym, ap, inl, inr}
 use Rattle.std.specs.Prelude.{Option, Some, None, if◌then◌else◌}
 use Rattle.std.specs.List.{IsDistinct, AllByRecursion, list_any}
 use Rattle.std.proofs.lemmas.Map.Steps.{length-le_from_distinct_below}
 use Rattle.std.proofs.lemmas.Bool.{ne_eqb, eq-eqb}
 use Rattle.std.proofs.lemmas.Bool.Decides.{eqb_tells}
-use Rattle.macsec_tag.specs.declared.Sci.{Sci}
+use Rattle.macsec_tag.specs.declared.identifiers.Sci.{Sci}
 use Rattle.macsec_rx.specs.declared.RxRow.{RxRow}
 use Rattle.macsec_rx.specs.Channels.{rx_row, same_sci, is_at}
 use Rattle.macsec_rx.specs.Commands.{has_channel}
@@ -44,7 +44,7 @@ one_place (c ∷ scis) s t hs ht e = by_tests (same_sci c s) (same_sci c t) refl
     by_tests false true hx hy hs ht e later = absurd (omega (arith, e))
     by_tests false false hx hy hs ht e later = later hs ht (omega (arith, e))
 
--- the number that an association makes
+-- the number that an association gives
 abbrev pub slot : List Sci → Sci → ℕ → ℕ
 slot scis sci an = 4 * place scis sci + an
 

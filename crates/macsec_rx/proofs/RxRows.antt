@@ -4,8 +4,8 @@ use Rattle.std.specs.Prelude.{Option, Some, None, IsSome, MatchOption, is_some, 
 use Rattle.std.specs.List.{All, refill}
 use Rattle.std.proofs.lemmas.List.{take-append-le}
 use Rattle.std.proofs.lemmas.List.Elements.{All-head, All-tail}
-use Rattle.std.proofs.lemmas.Bool.{eq-eqb, eqb-true}
-use Rattle.macsec_tag.specs.declared.Sci.{Sci}
+use Rattle.std.proofs.lemmas.Bool.{eq-eqb, eqb-true, and_parts}
+use Rattle.macsec_tag.specs.declared.identifiers.Sci.{Sci}
 use Rattle.macsec_rx.specs.declared.RxRow.{RxRow}
 use Rattle.macsec_rx.specs.Judge.{in_use, row_accepting}
 use Rattle.macsec_rx.specs.Channels.{at_place, is_at, rx_row, same_sci}
@@ -23,17 +23,13 @@ pub found : {A B : Type 0} (o : Option A) (there : Option B) (P : A → Type 0) 
 found {B = B} None there P none some = absurd (let no : IsSome {T = B} None = subst IsSome none some in cc)
 found (Some x) there P one some = refl
 
-both_true : (a b : Bool) → (a && b) ≡ true → (a ≡ true) × (b ≡ true)
-both_true true b h = (refl, h)
-both_true false b h = cc
-
 -- one association is not at the place of the other, nor is that at the place of the one
 other_place : (row new : RxRow) → is_at new.sci new.an row ≡ false → is_at row.sci row.an new ≡ false
 other_place row new other = by_test (is_at row.sci row.an new) refl
   where
     by_test : (b : Bool) → is_at row.sci row.an new ≡ b → b ≡ false
     by_test true same =
-        let parts = both_true (same_sci new.sci row.sci) (new.an == row.an) same in
+        let parts = and_parts (same_sci new.sci row.sci) (new.an == row.an) same in
         let both : is_at new.sci new.an row ≡ true = rw (one_sci new.sci row.sci parts.0, eqb-true new.an row.an parts.1, same_sci-refl row.sci, eq-eqb row.an row.an refl) refl in
         absurd (let no = sym both ∙ other in cc)
     by_test false same = refl
@@ -58,7 +54,7 @@ of_more scis more still [] h = tt
 of_more scis more still (row ∷ rows) h =
     (record { channel = still row.sci h.0.channel; an = h.0.an; key = h.0.key; ssci = h.0.ssci; next = h.0.next; lowest_least = h.0.lowest_least; lowest = h.0.lowest }, h.1, of_more scis more still rows h.2)
 
--- a change of numbers or of the switch, which leaves the association at its place
+-- a change of numbers, or enabling and disabling, which leaves the association at its place
 pub record KeepsPlace (f : RxRow → RxRow) : Type 0 where
   pub sci : (row : RxRow) → (f row).sci ≡ row.sci
   pub an : (row : RxRow) → (f row).an ≡ row.an
@@ -84,7 +80,7 @@ not_among_filter p (row ∷ rows) sci an free =
     by_test true kept other rest = rw other rest
     by_test false kept other rest = rest
 
--- removal of associations, where the channels of the others stay
+-- deletion of associations, if the channels of the others stay
 pub kept : (scis left : List Sci) (p : RxRow → Bool) → ((row : RxRow) → p row ≡ true → has_channel scis row.sci ≡ true → has_channel left row.sci ≡ true) →
     (rows : List RxRow) → AreRxRows scis rows → AreRxRows left (filter p rows)
 kept scis left p still [] h = tt
@@ -145,7 +141,7 @@ refill_same xs ws same =
     let fits : length xs ≤ length ws = omega arith in
     rw (← same) (take-append-le (length ws) ws (drop (length ws) xs) (omega arith) ∙ take_all ws)
 
--- what was lent as a slice comes back as it was left
+-- what was borrowed as a slice is afterwards as the borrower left it
 pub refilled : (scis : List Sci) (xs ws : List RxRow) → length ws ≡ length xs → AreRxRows scis ws → AreRxRows scis (refill (length xs) xs ws)
 refilled scis xs ws same h = rw (refill_same xs ws same) h
 
@@ -158,7 +154,7 @@ of_row P (first ∷ rows) sci an row h e = by_test (is_at sci an first) (of_row 
     by_test true later e' = let same : first ≡ row = cc in rw (← same) (All-head P first rows h)
     by_test false later e' = later e'
 
--- and of the one that is in use
+-- and of the one that is enabled for a frame
 pub of_in_use : (P : RxRow → Type 0) (rows : List RxRow) (an : ℕ) (sci : Option Sci) → All P rows → IfSome (in_use rows an sci) P
 of_in_use P rows an None h = tt
 of_in_use P [] an (Some sci) h = tt

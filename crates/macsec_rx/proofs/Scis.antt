@@ -2,11 +2,11 @@
 use Rattle.std.proofs.Common.{◌≡◌, ◌∙◌, ℕ, Bool, true, false, cond, ◌||◌, List, [], ◌∷◌, ◌++◌, refl, sym, ap, subst}
 use Rattle.std.specs.Prelude.{filter, not}
 use Rattle.std.specs.Cmp.Lexicographic.{same_text}
-use Rattle.std.proofs.lemmas.Bool.{eq-eqb}
+use Rattle.std.proofs.lemmas.Bool.{eq-eqb, or_parts}
 use Rattle.std.proofs.lemmas.List.Folds.{list_any-append}
 use Rattle.std.proofs.lemmas.Map.Views.{any-filter_same}
 use Rattle.macsec_gcm.specs.Octets.{same_octets}
-use Rattle.macsec_tag.specs.declared.Sci.{Sci}
+use Rattle.macsec_tag.specs.declared.identifiers.Sci.{Sci}
 use Rattle.macsec_rx.specs.Channels.{same_sci}
 use Rattle.macsec_rx.specs.Commands.{has_channel}
 use Rattle.macsec_rx.specs.Rows.{AreScis, IsSci}
@@ -28,22 +28,18 @@ other_sci s t other = by_test (same_sci t s) refl
     by_test true same = absurd (let e : same_sci s t ≡ true = rw (one_sci t s same) (same_sci-refl s) in let no = sym e ∙ other in cc)
     by_test false same = refl
 
-pub either_false : (a b : Bool) → (a || b) ≡ false → (a ≡ false) × (b ≡ false)
-either_false true b h = cc
-either_false false b h = (refl, h)
-
 -- a channel of another SCI may join
 pub joined_scis : (scis : List Sci) (sci : Sci) → AreScis scis → IsSci sci → has_channel scis sci ≡ false → AreScis (scis ++ sci ∷ [])
 joined_scis [] sci h good free = (good, refl, tt)
 joined_scis (s ∷ scis) sci h good free =
-    let parts = either_false (same_sci s sci) (has_channel scis sci) free in
+    let parts = or_parts (same_sci s sci) (has_channel scis sci) free in
     (h.0, list_any-append (λ t. same_sci t s) scis (sci ∷ []) ∙ rw (h.1, other_sci s sci parts.0) refl, joined_scis scis sci h.2 good parts.1)
 
 -- the channels are still there after one joins
 pub still_channel : (scis : List Sci) (sci s : Sci) → has_channel scis s ≡ true → has_channel (scis ++ sci ∷ []) s ≡ true
 still_channel scis sci s there = list_any-append (λ t. same_sci t s) scis (sci ∷ []) ∙ rw there refl
 
--- and the other ones after one is removed
+-- and the other ones after one is deleted
 pub other_channel : (scis : List Sci) (sci s : Sci) → has_channel scis s ≡ true → not (same_sci s sci) ≡ true → has_channel (filter (λ t. not (same_sci t sci)) scis) s ≡ true
 other_channel scis sci s there other =
     any-filter_same (λ t. same_sci t s) (λ t. not (same_sci t sci)) true (λ t same. rw (one_sci t s same) other) scis ∙ there
@@ -51,14 +47,14 @@ other_channel scis sci s there other =
 not_among_filter : (p : Sci → Bool) (scis : List Sci) (s : Sci) → has_channel scis s ≡ false → has_channel (filter p scis) s ≡ false
 not_among_filter p [] s free = refl
 not_among_filter p (t ∷ scis) s free =
-    let parts = either_false (same_sci t s) (has_channel scis s) free in
+    let parts = or_parts (same_sci t s) (has_channel scis s) free in
     by_test (p t) (filter p scis) parts.0 (not_among_filter p scis s parts.1)
   where
     by_test : (b : Bool) (kept : List Sci) → same_sci t s ≡ false → has_channel kept s ≡ false → has_channel (cond b (t ∷ kept) kept) s ≡ false
     by_test true kept other rest = rw other rest
     by_test false kept other rest = rest
 
--- removal keeps the SCIs distinct
+-- deletion keeps the SCIs distinct
 pub kept_scis : (p : Sci → Bool) (scis : List Sci) → AreScis scis → AreScis (filter p scis)
 kept_scis p [] h = tt
 kept_scis p (s ∷ scis) h = by_test (p s) (filter p scis) (not_among_filter p scis s h.1) (kept_scis p scis h.2)

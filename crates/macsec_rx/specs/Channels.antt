@@ -1,7 +1,7 @@
--- Receive channels in the order of their making, and receive associations (IEEE 802.1AE, 10.6 and 10.7).
+-- Receive channels in the order of their creation, and receive associations (IEEE 802.1AE, 10.6 and 10.7).
 use Rattle.std.specs.Prelude.{ℕ, List, [], find, map, ◌==◌, Bool, ◌&&◌, if◌then◌else◌, Option}
 use Rattle.macsec_gcm.specs.Octets.{same_octets}
-use Rattle.macsec_tag.specs.declared.Sci.{Sci}
+use Rattle.macsec_tag.specs.declared.identifiers.Sci.{Sci}
 use Rattle.macsec_pn.specs.declared.RxNumbers.{RxNumbers}
 use Rattle.macsec_rx.specs.declared.RxRow.{RxRow}
 
@@ -20,7 +20,7 @@ same_sci s t = same_octets s.0 t.0
 abbrev pub is_at : Sci → ℕ → RxRow → Bool
 is_at sci an row = same_sci row.sci sci && row.an == an
 
--- the association of this channel and of this number, where there is one
+-- the association of this channel and of this number, if there is one
 abbrev pub rx_row : List RxRow → Sci → ℕ → Option RxRow
 rx_row rows sci an = find (λ row. is_at sci an row) rows
 

@@ -2,9 +2,9 @@
 -- and what it does (IEEE 802.1AE, 10.7).
 use Rattle.std.specs.Prelude.{ℕ, List, [], ◌∷◌, ◌++◌, length, map, filter, ◌==◌, Bool, false, not, ◌&&◌, nat_lt, nat_le, is_some, IsSome}
 use Rattle.std.specs.List.{All, list_any}
-use Rattle.macsec_tag.specs.declared.Sci.{Sci}
+use Rattle.macsec_tag.specs.declared.identifiers.Sci.{Sci}
 use Rattle.macsec_pn.specs.Numbers.{narrow, raise}
-use Rattle.macsec_suite.specs.declared.Refusal.TheVariants.{NoKey, KeyRetired, OwnSci, ScTaken, ScFull, NoSc, AnTaken, NoSa, PnRange, PnLower, SsciOwn}
+use Rattle.macsec_suite.specs.declared.refusal.Refusal.TheVariants.{NoKey, KeyRetired, OwnSci, ScTaken, ScFull, NoSc, AnTaken, NoSa, PnRange, PnLower, SsciOwn}
 use Rattle.macsec_suite.specs.Suites.{is_xpn, last_of}
 use Rattle.macsec_suite.specs.KeyRows.{InstalledKey, key_row, the_key}
 use Rattle.macsec_suite.specs.Refusals.{RefusalLine, holds_of, is_number_used, is_retired, is_outside}
@@ -24,7 +24,7 @@ has_rx rows sci an = is_some (rx_row rows sci an)
 abbrev pub rx_uses : List RxRow → ℕ → Bool
 rx_uses rows key = list_any (λ row. row.key == key) rows
 
--- why making a channel is refused
+-- why creating a channel is refused
 abbrev pub rx_sc_refusals : Channels → Sci → Sci → List RefusalLine
 rx_sc_refusals channels own sci =
     (OwnSci, same_sci sci own) ∷
@@ -35,7 +35,7 @@ rx_sc_refusals channels own sci =
 abbrev pub with_channel : Channels → Sci → Channels
 with_channel channels sci = record channels { scis = channels.scis ++ sci ∷ [] }
 
--- why removing a channel is refused
+-- why deleting a channel is refused
 abbrev pub rx_sc_del_refusals : Channels → Sci → List RefusalLine
 rx_sc_del_refusals channels sci = (NoSc, not (has_channel channels.scis sci)) ∷ []
 
@@ -46,11 +46,11 @@ without_channel channels sci = record {
   rows = filter (λ row. not (same_sci row.sci sci)) channels.rows;
 }
 
--- the SSCI is the key's own one, where packet numbers are extended
+-- the SSCI is the key's own, and packet numbers are extended
 abbrev pub is_own_ssci : InstalledKey → ℕ → Bool
 is_own_ssci key ssci = is_xpn key.suite && ssci == key.ssci
 
--- why making an association is refused
+-- why creating an association is refused
 abbrev pub rx_sa_refusals : List InstalledKey → Channels → Sci → ℕ → ℕ → ℕ → ℕ → List RefusalLine
 rx_sa_refusals keys channels sci an key ssci lowest =
     (NoKey, not (is_number_used keys key)) ∷
@@ -60,14 +60,14 @@ rx_sa_refusals keys channels sci an key ssci lowest =
     (PnRange, is_outside (last_of (the_key keys key).suite) lowest) ∷
     (SsciOwn, is_own_ssci (the_key keys key) ssci) ∷ []
 
--- the associations with a new one, which is off
+-- the associations with a new one, which is disabled
 abbrev pub with_rx_sa : Channels → Sci → ℕ → ℕ → ℕ → ℕ → Channels
 with_rx_sa channels sci an key ssci lowest =
     record channels {
       rows = channels.rows ++ record { sci = sci; an = an; key = key; ssci = ssci; next = lowest; lowest = lowest; on = false } ∷ [];
     }
 
--- why switching an association on or off is refused, and why removing it is
+-- why enabling or disabling an association is refused, and why deleting it is
 abbrev pub rx_row_refusals : Channels → Sci → ℕ → List RefusalLine
 rx_row_refusals channels sci an =
     (NoSc, not (has_channel channels.scis sci)) ∷ (NoSa, not (has_rx channels.rows sci an)) ∷ []
@@ -75,7 +75,7 @@ rx_row_refusals channels sci an =
 abbrev pub row_switched : Bool → RxRow → RxRow
 row_switched on row = record row { on = on }
 
--- this association is on, or off
+-- this association is enabled, or disabled
 abbrev pub with_rx_on : Channels → Sci → ℕ → Bool → Channels
 with_rx_on channels sci an on = record channels { rows = with_rx (row_switched on) sci an channels.rows }
 

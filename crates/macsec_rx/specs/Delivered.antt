@@ -11,7 +11,7 @@ pub record HasFixedLengths (p : MpduParts) : Type 0 where
   pub sa : length p.sa ≡ 6
   pub icv : length p.icv ≡ 16
 
--- the plaintext of a frame under a key and an IV, where the ICV is genuine
+-- the plaintext of a frame under a key and an IV, if the ICV is valid
 abbrev pub opened_under : PreparedKey → List ℕ → MpduParts → Option (List ℕ)
 opened_under key iv p =
     let ac = aad_and_plaintext key.offset p.tag.e p.da p.sa p.tag p.secure_data in

@@ -1,24 +1,24 @@
 -- The verdict on a tagged frame: the first step of reception whose condition holds (IEEE 802.1AE, 10.6).
 --    1  an untagged frame, in Strict: NoTag
 --    2  an untagged frame, in another mode: Untagged; the frame is delivered
---    3  no SecTAG can be read, or it has PN 0 where packet numbers have 32 bits: BadTag
+--    3  the SecTAG has a fault, or PN 0 in a suite with 32-bit packet numbers: BadTag
 --    4  E is set and C clear: Reserved
---    5  no association is in use for the frame; Strict, or C set: NoSaError
---    6  no association is in use for it, otherwise: NoSa; DA, SA and data are delivered
+--    5  no association is enabled for the frame; Strict, or C set: NoSaError
+--    6  no association is enabled for it, otherwise: NoSa; DA, SA and data are delivered
 --    7  no packet number is recovered: BadTag
 --    8  replay protection, and the packet number is late: Late
 --    9  Disabled, and C is set: NotValid
---   10  Disabled, otherwise: Delayed where it is late, else Unchecked; DA, SA and data are delivered
---   11  the ICV is not genuine; Strict, or C set: NotValid
---   12  the ICV is not genuine, otherwise: Invalid; DA, SA and data are delivered as they were received
---   13  the ICV is genuine: Delayed where it is late, else Passed; DA, SA and opened data are delivered
--- A tagged frame is judged from step 3 on. Step 13 alone accepts the packet number.
+--   10  Disabled, otherwise: Delayed if it is late, else Unchecked; DA, SA and data are delivered
+--   11  the ICV is not valid; Strict, or C set: NotValid
+--   12  the ICV is not valid, otherwise: Invalid; DA, SA and data are delivered as they were received
+--   13  the ICV is valid: Delayed if it is late, else Passed; DA, SA and opened data are delivered
+-- A tagged frame is judged from step 3 on. Only step 13 accepts the packet number.
 use Rattle.std.specs.Prelude.{ℕ, List, [], ◌∷◌, ◌++◌, take, find, slice_range, ◌+◌, ◌==◌, Bool, true, false, not, ◌&&◌, ◌||◌, is_some, if◌then◌else◌, Option, Some, None}
-use Rattle.macsec_tag.specs.declared.Sci.{Sci}
+use Rattle.macsec_tag.specs.declared.identifiers.Sci.{Sci}
 use Rattle.macsec_tag.specs.Tag.{Tag}
 use Rattle.macsec_tag.specs.Frame.{MpduParts}
 use Rattle.macsec_pn.specs.Numbers.{recovered_number, is_late, accept}
-use Rattle.macsec_suite.specs.declared.Suite.{Suite}
+use Rattle.macsec_suite.specs.declared.suite.Suite.{Suite}
 use Rattle.macsec_suite.specs.Suites.{is_xpn, iv_of}
 use Rattle.macsec_suite.specs.Parts.{clear_length}
 use Rattle.macsec_suite.specs.KeyRows.{InstalledKey, the_key}
@@ -45,14 +45,14 @@ is_disabled Strict = false
 abbrev pub port_of : List ℕ → ℕ → Sci
 port_of address port = record { 0 = address ++ 0 ∷ port ∷ [] }
 
--- the only channel, where there is one and no more
+-- the only channel, if there is exactly one
 abbrev pub only_channel : List Sci → Option Sci
 only_channel [] = None
 only_channel (sci ∷ []) = Some sci
 only_channel (sci ∷ other ∷ scis) = None
 
--- the SCI of a received frame: that of its SecTAG; else, where SCB is set, its source address and port 0;
--- else, where ES is set, its source address and port 1; else that of the only channel
+-- the SCI of a received frame: that of its SecTAG; else, if SCB is set, its source address and port 0; else, if ES is
+-- set, its source address and port 1; else that of the only channel
 abbrev pub sci_of : List Sci → MpduParts → Option Sci
 sci_of scis p =
     if is_some p.tag.sci then p.tag.sci
@@ -60,7 +60,7 @@ sci_of scis p =
     else if p.tag.es then Some (port_of p.sa 1)
     else only_channel scis
 
--- the association in use for a received frame: that of its SCI and its association number, where it is on
+-- the association enabled for a received frame: that of its SCI and its association number, if it is enabled
 abbrev pub in_use : List RxRow → ℕ → Option Sci → Option RxRow
 in_use rows an None = None
 in_use rows an (Some sci) = find (λ row. is_at sci an row && row.on) rows
@@ -86,20 +86,20 @@ at_row row number step verdict delivered =
 abbrev pub bare_frame : MpduParts → List ℕ
 bare_frame p = p.da ++ p.sa ++ p.secure_data
 
--- the use of the cipher that the frame asks to open, under a key and with a packet number
+-- the use of the cipher that is opened for the frame, under a key and with a packet number
 abbrev pub use_to_open : InstalledKey → RxRow → ℕ → MpduParts → CipherUse
 use_to_open key row number p = cipher_use key (iv_of key.suite row.sci row.ssci key.salt number) p
 
--- its plaintext, where the ICV is genuine
+-- its plaintext, if the ICV is valid
 abbrev pub plaintext_of : InstalledKey → RxRow → ℕ → MpduParts → Option (List ℕ)
 plaintext_of key row number p = plaintext_of_use (use_to_open key row number p)
 
--- the frame with its plaintext, behind the octets that stayed clear
+-- the frame with its plaintext, after the octets that stayed clear
 abbrev pub opened_frame : InstalledKey → MpduParts → List ℕ → List ℕ
 opened_frame key p plaintext =
     p.da ++ p.sa ++ take (clear_length key.offset p.tag.e p.secure_data) p.secure_data ++ plaintext
 
--- steps 11 to 13: the ICV is not genuine, or it is
+-- steps 11 to 13: the ICV is not valid, or it is
 abbrev pub judge_opened : RxOptions → InstalledKey → RxRow → ℕ → MpduParts → Option (List ℕ) → Judgement
 judge_opened options key row number p None =
     if p.tag.c || is_strict options.mode then at_row row number 11 NotValid None
@@ -117,7 +117,7 @@ judge_number options key association p (Some number) =
     then at_row association number 10 (if is_late association.lowest number then Delayed else Unchecked) (Some (bare_frame p))
     else judge_opened options key association number p (plaintext_of key association number p)
 
--- steps 5 to 13: there is no association in use, or there is one
+-- steps 5 to 13: no association is enabled for the frame, or there is one
 abbrev pub judge_row : RxOptions → List InstalledKey → MpduParts → Option RxRow → Judgement
 judge_row options keys p None =
     if is_strict options.mode || p.tag.c then without_row 5 NoSaError None
@@ -126,11 +126,11 @@ judge_row options keys p (Some row) =
     let key = the_key keys row.key in
     judge_number options key row p (recovered_number (is_xpn key.suite) row.lowest p.tag.pn)
 
--- the packet number 0, which no sender uses, where packet numbers have 32 bits
+-- the packet number is 0, which no sender uses, and packet numbers have 32 bits
 abbrev pub is_bad_number : Suite → Tag → Bool
 is_bad_number suite tag = tag.pn == 0 && not (is_xpn suite)
 
--- steps 3 to 13, with the association in use for the frame, where there is one
+-- steps 3 to 13, with the association enabled for the frame, if there is one
 abbrev pub judge_tagged_row : RxOptions → List InstalledKey → MpduParts → Option RxRow → Judgement
 judge_tagged_row options keys p row =
     if is_bad_number options.suite p.tag then without_row 3 BadTag None
@@ -141,7 +141,7 @@ abbrev pub judge_tagged : RxOptions → List InstalledKey → Channels → MpduP
 judge_tagged options keys channels p =
     judge_tagged_row options keys p (in_use channels.rows p.tag.an (sci_of channels.scis p))
 
--- the packet number is accepted where step 13 decides, and there alone
+-- the packet number is accepted if and only if step 13 decides
 abbrev pub accepted_number : Judgement → Option ℕ
 accepted_number j = if j.step == 13 then Some j.number else None
 

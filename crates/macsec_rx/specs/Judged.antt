@@ -1,10 +1,10 @@
--- What the channels answer of a frame, and what they leave in their caller's slice.
+-- What the channels return for a frame, and what they leave in their caller's slice.
 use Rattle.std.specs.Prelude.{◌≡◌, ◌+◌, ◌≤◌, ℕ, List, length, option_map, IfSome}
 use Rattle.macsec_rx.specs.declared.Judged.{Judged}
 use Rattle.macsec_rx.specs.declared.judging.Outcome.{Outcome}
 use Rattle.macsec_rx.specs.Judge.{Judgement, accepted_number, octets_at, place_of}
 
--- the answer is the judgement, and what is delivered stands in the slice, at its place and within it
+-- the result is the judgement, and what is delivered is in the slice, at its position and within it
 pub record ShowsJudgement (judged : Judged) (out : List ℕ) (j : Judgement) : Type 0 where
   pub verdict : judged.verdict ≡ j.verdict
   pub row : judged.row ≡ option_map place_of j.row

@@ -1,5 +1,7 @@
 -- The limits of receive channels.
-use Rattle.std.specs.Prelude.{ℕ}
+use Rattle.std.specs.Prelude.{ℕ, ◌+◌, length}
+use Rattle.macsec_tag.specs.Tag.{encoding}
+use Rattle.macsec_tag.specs.Frame.{MpduParts}
 
 -- the most channels of an endpoint, and the most associations of a channel
 abbrev pub max_channel_count : ℕ
@@ -8,6 +10,6 @@ max_channel_count = 8
 abbrev pub max_association_count : ℕ
 max_association_count = 4
 
--- the most octets of a frame
-abbrev pub max_frame_len : ℕ
-max_frame_len = 9248
+-- the octets of a tagged frame without its padding: DA and SA, SecTAG, Secure Data and ICV
+abbrev pub unpadded_length : MpduParts → ℕ
+unpadded_length p = 28 + length (encoding p.tag) + length p.secure_data

@@ -1,6 +1,6 @@
 -- What holds of receive channels and their associations.
 use Rattle.std.specs.Prelude.{◌≡◌, ◌^◌, ◌<◌, ◌≤◌, List, [], ◌∷◌, length, None, true, false}
-use Rattle.macsec_tag.specs.declared.Sci.{Sci}
+use Rattle.macsec_tag.specs.declared.identifiers.Sci.{Sci}
 use Rattle.macsec_tag.specs.Laws.{AreOctets}
 use Rattle.macsec_rx.specs.declared.RxRow.{RxRow}
 use Rattle.macsec_rx.specs.Limits.{max_channel_count, max_association_count}
@@ -24,7 +24,7 @@ pub record IsRxRow (scis : List Sci) (row : RxRow) : Type 0 where
   pub lowest_least : 1 ≤ row.lowest
   pub lowest : row.lowest ≤ row.next
 
--- each association is such a one, and no two associations of a channel have one number
+-- each association has these bounds, and no two associations of a channel have the same number
 abbrev pub AreRxRows : List Sci → List RxRow → Type 0
 AreRxRows scis [] = Unit {0}
 AreRxRows scis (row ∷ rows) = IsRxRow scis row × (rx_row rows row.sci row.an ≡ None) × AreRxRows scis rows

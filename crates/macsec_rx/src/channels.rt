@@ -14,8 +14,8 @@ use macsec_suite::{KeyTable, Refusal};
 use macsec_tag::{An, Mpdu, Sci};
 use std::marker::Model;
 
-/// The receive channels: up to eight, of four associations each. Contracts see them as the SCIs in the
-/// order of their making, and the associations in the order of theirs.
+/// The receive channels: up to eight, of four associations each. Contracts see them as the SCIs in the order of their
+/// creation, and the associations in the order of theirs.
 #[derive(Drop)]
 pub struct RxChannels {
     scis: ArrayVec<Sci, 8>,
@@ -45,14 +45,14 @@ impl RxChannels {
         }
     }
 
-    /// The SCI of the channel at this place in the order of making, from 0, where there is one.
+    /// The SCI of the channel at this place in the order of creation, from 0, if there is one.
     pub fn channel(&self, place: usize) -> Option<Sci>
         ensures { result ≡ slice_get self.now.scis place }
     {
         self.scis.as_slice().get(place).copied()
     }
 
-    /// The association of this channel and of this number, where there is one.
+    /// The association of this channel and of this number, if there is one.
     pub fn row(&self, sci: Sci, an: An) -> Option<RxRow>
         ensures { result ≡ rx_row self.now.rows sci an }
     {
@@ -71,7 +71,7 @@ impl RxChannels {
         self.rows.iter().any(|row| row.key == key)
     }
 
-    /// Is there a channel of this SCI?
+    /// Is there a channel with this SCI?
     fn has_channel(&self, sci: Sci) -> bool
         ensures there { result ≡ has_channel self.now.scis sci }
         ensures sci { IsSci sci }
@@ -79,14 +79,14 @@ impl RxChannels {
         self.scis.iter().any(|s| *s == sci)
     }
 
-    /// Makes a channel, the last. It is refused by `OwnSci`, `ScTaken` and `ScFull`, in this order.
+    /// Creates a channel, the last. Refused with the first of `OwnSci`, `ScTaken` and `ScFull` that applies.
     pub fn rx_sc(&mut self, own: Sci, sci: Sci) -> Result<(), Refusal>
         ensures refusal { refusal_of result ≡ first_refusal (rx_sc_refusals self.old own sci) }
         ensures done { OnOk result (self.new ≡ with_channel self.old sci) }
         ensures unchanged { OnErr result (self.new ≡ self.old) }
         ensures channels { AreChannels self.new }
     {
-        // A look at the channels: what holds of them is known from here on.
+        // For the prover alone: from here on it knows what holds of the channels. The compiler deletes the line.
         let _ = &self.scis;
         if sci == own {
             return Err(Refusal::OwnSci);
@@ -101,7 +101,7 @@ impl RxChannels {
         Ok(())
     }
 
-    /// Removes a channel and its associations; the later channels move up. It is refused by `NoSc`.
+    /// Deletes a channel and its associations; the later channels move up. Refused with `NoSc`.
     pub fn rx_sc_del(&mut self, sci: Sci) -> Result<(), Refusal>
         ensures refusal { refusal_of result ≡ first_refusal (rx_sc_del_refusals self.old sci) }
         ensures done { OnOk result (self.new ≡ without_channel self.old sci) }
@@ -116,9 +116,8 @@ impl RxChannels {
         Ok(())
     }
 
-    /// Makes an association, off, whose lowest acceptable packet number is `lowest`. It is refused by
-    /// `NoKey`, `KeyRetired`, `NoSc`, `AnTaken`, `PnRange` and, where packet numbers are extended,
-    /// `SsciOwn`, in this order.
+    /// Creates an association, disabled, whose lowest acceptable packet number is `lowest`. Refused with the first of
+    /// `NoKey`, `KeyRetired`, `NoSc`, `AnTaken`, `PnRange` and, if packet numbers are extended, `SsciOwn` that applies.
     pub fn rx_sa(
         &mut self,
         keys: &KeyTable,
@@ -133,8 +132,8 @@ impl RxChannels {
         ensures unchanged { OnErr result (self.new ≡ self.old) }
         ensures channels { AreChannels self.new }
     {
-        // A look at the channels and at the number: what holds of them, that it is below 4 among it, is known
-        // from here on.
+        // For the prover alone: from here on it knows what holds of the channels, and that the number is below 4. The
+        // compiler deletes both lines.
         let _ = &self.scis;
         let _number = an.number();
         let Some(row) = keys.key(key) else {
@@ -169,7 +168,7 @@ impl RxChannels {
         Ok(())
     }
 
-    /// Switches an association on. It is refused by `NoSc` and `NoSa`, in this order.
+    /// Enables an association. Refused with the first of `NoSc` and `NoSa` that applies.
     pub fn rx_on(&mut self, sci: Sci, an: An) -> Result<(), Refusal>
         ensures refusal { refusal_of result ≡ first_refusal (rx_row_refusals self.old sci an) }
         ensures done { OnOk result (self.new ≡ with_rx_on self.old sci an true) }
@@ -181,7 +180,7 @@ impl RxChannels {
         Ok(())
     }
 
-    /// Switches an association off. It is refused by `NoSc` and `NoSa`, in this order.
+    /// Disables an association. Refused with the first of `NoSc` and `NoSa` that applies.
     pub fn rx_off(&mut self, sci: Sci, an: An) -> Result<(), Refusal>
         ensures refusal { refusal_of result ≡ first_refusal (rx_row_refusals self.old sci an) }
         ensures done { OnOk result (self.new ≡ with_rx_on self.old sci an false) }
@@ -193,8 +192,8 @@ impl RxChannels {
         Ok(())
     }
 
-    /// Raises the lowest acceptable packet number of an association to `pn`. The key of each association
-    /// is in the table. It is refused by `NoSc`, `NoSa`, `PnRange` and `PnLower`, in this order.
+    /// Raises the lowest acceptable packet number of an association to `pn`. The key of each association is in the
+    /// table. Refused with the first of `NoSc`, `NoSa`, `PnRange` and `PnLower` that applies.
     pub fn rx_low(&mut self, keys: &KeyTable, sci: Sci, an: An, pn: u64) -> Result<(), Refusal>
         requires { HaveRxKeys keys.now self.old.rows }
         ensures refusal { refusal_of result ≡ first_refusal (rx_low_refusals keys.now self.old sci an pn) }
@@ -214,7 +213,7 @@ impl RxChannels {
         Ok(())
     }
 
-    /// Removes an association. It is refused by `NoSc` and `NoSa`, in this order.
+    /// Deletes an association. Refused with the first of `NoSc` and `NoSa` that applies.
     pub fn rx_del(&mut self, sci: Sci, an: An) -> Result<(), Refusal>
         ensures refusal { refusal_of result ≡ first_refusal (rx_row_refusals self.old sci an) }
         ensures done { OnOk result (self.new ≡ without_rx self.old sci an) }
@@ -234,8 +233,8 @@ impl RxChannels {
         narrow(self.rows.as_mut_slice(), window);
     }
 
-    /// The SCI of a received frame, where it is known: that of its SecTAG, or by its source address where
-    /// SCB or ES is set, or that of the only channel.
+    /// The SCI of a received frame, if it is known: that of its SecTAG; or, if SCB or ES is set, that of its source
+    /// address; or that of the only channel.
     fn sci_of(&self, mpdu: &Mpdu<'_>) -> Option<Sci>
         ensures { result ≡ sci_of self.now.scis mpdu.now }
     {
@@ -251,7 +250,7 @@ impl RxChannels {
         }
     }
 
-    /// The only channel, where there is one and no more.
+    /// The only channel, if there is exactly one.
     fn only_channel(&self) -> Option<Sci>
         ensures { result ≡ only_channel self.now.scis }
     {
@@ -261,11 +260,12 @@ impl RxChannels {
         }
     }
 
-    /// The association that a received frame is for: of its SCI and of its association number, and on.
+    /// The association that a received frame is for: with its SCI and its association number, and enabled.
     pub(crate) fn in_use(&self, mpdu: &Mpdu<'_>) -> Option<RxRow>
         ensures row { result ≡ in_use self.now.rows mpdu.now.tag.an (sci_of self.now.scis mpdu.now) }
         ensures channels { AreChannels self.now }
     {
+        // Read before the `?`: so the prover knows at each return what holds of the channels.
         let rows = self.rows.as_slice();
         let sci = self.sci_of(mpdu)?;
         let an = mpdu.tag().an();
@@ -277,8 +277,7 @@ impl RxChannels {
         None
     }
 
-    /// Takes note that a frame of this association and of the packet number `number` was accepted, under a
-    /// replay window.
+    /// Records that a frame of this association and with the packet number `number` was accepted, with a replay window.
     pub(crate) fn accept(&mut self, row: RxRow, number: u64, window: u64)
         ensures accepted { self.new ≡ record self.old { rows = with_rx (row_accepting window number) row.sci row.an self.old.rows } }
         ensures channels { AreChannels self.new }
@@ -286,8 +285,7 @@ impl RxChannels {
         accept(self.rows.as_mut_slice(), row.sci, row.an, number, window);
     }
 
-    /// The association of this channel and of this number. It is refused by `NoSc` and `NoSa`, in this
-    /// order.
+    /// The association of this channel and of this number. Refused with the first of `NoSc` and `NoSa` that applies.
     fn find(&self, sci: Sci, an: An) -> Result<RxRow, Refusal>
         ensures refusal { refusal_of result ≡ first_refusal (rx_row_refusals self.now sci an) }
         ensures row { IfOk result (λ row. rx_row self.now.rows sci an ≡ Some row) }
@@ -309,15 +307,15 @@ fn is_at(row: &RxRow, sci: Sci, an: An) -> bool
     row.sci == sci && row.an.number() == an.number()
 }
 
-/// Is the association of this channel and of this number, and on?
+/// Is the association of this channel and of this number, and enabled?
 fn is_in_use(row: &RxRow, sci: Sci, an: An) -> bool
     ensures { result ≡ (is_at sci an row.now && row.now.on) }
 {
     is_at(row, sci, an) && row.on
 }
 
-/// The association, switched on or off where it is of this channel and of this number.
-fn switched(row: RxRow, sci: Sci, an: An, on: bool) -> RxRow
+/// The association, enabled or disabled if it is of this channel and of this number.
+fn row_switched(row: RxRow, sci: Sci, an: An, on: bool) -> RxRow
     ensures { result ≡ at_place (row_switched on) sci an row }
 {
     if is_at(&row, sci, an) {
@@ -327,10 +325,12 @@ fn switched(row: RxRow, sci: Sci, an: An, on: bool) -> RxRow
     }
 }
 
-/// The association, with its lowest acceptable number raised where it is of this channel and of this number.
-fn raised(row: RxRow, sci: Sci, an: An, pn: u64) -> RxRow
+/// The association, with its lowest acceptable number raised if it is of this channel and of this number.
+fn row_raised(row: RxRow, sci: Sci, an: An, pn: u64) -> RxRow
     ensures { result ≡ at_place (row_raised pn) sci an row }
 {
+    // Not by `RxNumbers::raise`: that requires a number that is not below the lowest acceptable one. This is known of
+    // the one row that is meant, and not of each row that this is called for.
     if is_at(&row, sci, an) {
         let next = row.next.max(u128::from(pn));
         let lowest = u128::from(pn);
@@ -345,24 +345,20 @@ fn raised(row: RxRow, sci: Sci, an: An, pn: u64) -> RxRow
 }
 
 /// The association, narrowed to the replay window.
-fn narrowed(row: RxRow, window: u64) -> RxRow
+fn row_narrowed(row: RxRow, window: u64) -> RxRow
     ensures { result ≡ row_narrowed window row }
 {
-    let mut numbers = RxNumbers {
-        next: row.next,
-        lowest: row.lowest,
-    };
+    let mut numbers = row.numbers();
     numbers.narrow(window);
-    let lowest = numbers.lowest;
-    RxRow { lowest, ..row }
+    row.with_numbers(numbers)
 }
 
-/// Switches the association of this channel and of this number on or off.
+/// Enables or disables the association of this channel and of this number.
 fn switch(rows: &mut [RxRow], sci: Sci, an: An, on: bool)
     ensures { rows.new ≡ with_rx (row_switched on) sci an rows.old }
 {
     for row in rows.iter_mut() {
-        *row = switched(*row, sci, an, on);
+        *row = row_switched(*row, sci, an, on);
     }
 }
 
@@ -371,7 +367,7 @@ fn raise(rows: &mut [RxRow], sci: Sci, an: An, pn: u64)
     ensures { rows.new ≡ with_rx (row_raised pn) sci an rows.old }
 {
     for row in rows.iter_mut() {
-        *row = raised(*row, sci, an, pn);
+        *row = row_raised(*row, sci, an, pn);
     }
 }
 
@@ -380,7 +376,7 @@ fn narrow(rows: &mut [RxRow], window: u64)
     ensures { rows.new ≡ map (row_narrowed window) rows.old }
 {
     for row in rows.iter_mut() {
-        *row = narrowed(*row, window);
+        *row = row_narrowed(*row, window);
     }
 }
 
@@ -395,21 +391,14 @@ fn port_of(address: &[u8], port: u8) -> Sci
     Sci(octets)
 }
 
-/// The association, with a packet number accepted where it is of this channel and of this number.
-fn accepting(row: RxRow, sci: Sci, an: An, number: u64, window: u64) -> RxRow
+/// The association, with a packet number accepted if it is of this channel and of this number.
+fn row_accepting(row: RxRow, sci: Sci, an: An, number: u64, window: u64) -> RxRow
     ensures { result ≡ at_place (row_accepting window number) sci an row }
 {
     if is_at(&row, sci, an) {
-        let mut numbers = RxNumbers {
-            next: row.next,
-            lowest: row.lowest,
-        };
+        let mut numbers = row.numbers();
         numbers.accept(number, window);
-        RxRow {
-            next: numbers.next,
-            lowest: numbers.lowest,
-            ..row
-        }
+        row.with_numbers(numbers)
     } else {
         row
     }
@@ -420,6 +409,6 @@ fn accept(rows: &mut [RxRow], sci: Sci, an: An, number: u64, window: u64)
     ensures { rows.new ≡ with_rx (row_accepting window number) sci an rows.old }
 {
     for row in rows.iter_mut() {
-        *row = accepting(*row, sci, an, number, window);
+        *row = row_accepting(*row, sci, an, number, window);
     }
 }

@@ -1,20 +1,18 @@
-//! What is delivered of a frame: DA, SA and data, which stand behind one another in a slice.
+//! What is delivered of a frame: DA, SA and data, concatenated in a slice.
 
 ghost use Rattle.std.specs.Prelude.{◌≡◌, ◌≤◌, ◌+◌, ◌++◌, drop, length, option_map, take, IfSome};
 ghost use Rattle.macsec_gcm.specs.Gcm.{max_plaintext_len};
-ghost use Rattle.macsec_tag.specs.Tag.{spelling};
+ghost use Rattle.macsec_tag.specs.Tag.{encoding};
+ghost use Rattle.macsec_rx.specs.Limits.{unpadded_length};
 ghost use Rattle.macsec_rx.specs.Judge.{bare_frame, octets_at};
 ghost use Rattle.macsec_rx.specs.Delivered.{HasFixedLengths, frame_with, opened_under};
 
 use macsec_gcm::laws::{open_undoes_seal, sealed_lengths};
 use macsec_suite::laws::parts_in_place;
 use macsec_suite::{SuiteKey, validate_in_place};
-use macsec_tag::Mpdu;
+use macsec_tag::{ADDRESSES_LENGTH, Mpdu};
 
-/// The octets of DA and SA.
-const ADDRESSES_LENGTH: usize = 12;
-
-/// Puts a part behind the first `at` octets of `out`, and answers where it ends.
+/// Puts a part after the first `at` octets of `out`, and returns where it ends.
 fn put(part: &[u8], at: usize, out: &mut [u8]) -> usize
     requires { at + length part.now ≤ length out.old }
     ensures end { result ≡ at + length part.now }
@@ -26,13 +24,12 @@ fn put(part: &[u8], at: usize, out: &mut [u8]) -> usize
     end
 }
 
-/// Puts DA, SA, SecTAG, Secure Data and ICV of a frame at the front of `out`, and answers how many octets
-/// they are.
+/// Puts DA, SA, SecTAG, Secure Data and ICV of a frame at the start of `out`, and returns how many octets they are.
 fn lay_out(mpdu: &Mpdu<'_>, out: &mut [u8]) -> usize
-    requires { 28 + length (spelling mpdu.now.tag) + length mpdu.now.secure_data ≤ length out.old }
-    ensures length { result ≡ 28 + length (spelling mpdu.now.tag) + length mpdu.now.secure_data }
+    requires { unpadded_length mpdu.now ≤ length out.old }
+    ensures length { result ≡ unpadded_length mpdu.now }
     ensures octets { take result out.new ≡
-        mpdu.now.da ++ mpdu.now.sa ++ spelling mpdu.now.tag ++ mpdu.now.secure_data ++ mpdu.now.icv }
+        mpdu.now.da ++ mpdu.now.sa ++ encoding mpdu.now.tag ++ mpdu.now.secure_data ++ mpdu.now.icv }
     ensures lengths { HasFixedLengths mpdu.now }
 {
     let addresses = put(mpdu.addresses(), 0, out);
@@ -41,12 +38,12 @@ fn lay_out(mpdu: &Mpdu<'_>, out: &mut [u8]) -> usize
     put(mpdu.icv(), data, out)
 }
 
-/// Puts DA and SA before the data, which stand in `out` where the SecTAG left them, and answers where
-/// the delivered frame stands, and how many octets it has.
+/// Puts DA and SA right before the data, which are in `out` after the SecTAG. Returns where the delivered frame begins,
+/// and how many octets it has.
 fn deliver(mpdu: &Mpdu<'_>, out: &mut [u8]) -> (usize, usize)
-    requires { 12 + length (spelling mpdu.now.tag) + length mpdu.now.secure_data ≤ length out.old }
+    requires { 12 + length (encoding mpdu.now.tag) + length mpdu.now.secure_data ≤ length out.old }
     ensures octets { octets_at out.new result ≡ mpdu.now.da ++ mpdu.now.sa ++
-        take (length mpdu.now.secure_data) (drop (12 + length (spelling mpdu.now.tag)) out.old) }
+        take (length mpdu.now.secure_data) (drop (12 + length (encoding mpdu.now.tag)) out.old) }
     ensures within { result.0 + result.1 ≤ length out.new }
 {
     let tag_length = mpdu.tag_bytes().len();
@@ -56,7 +53,7 @@ fn deliver(mpdu: &Mpdu<'_>, out: &mut [u8]) -> (usize, usize)
 
 /// Delivers the frame without SecTAG, ICV and padding, its data as they were received.
 pub fn deliver_bare(mpdu: &Mpdu<'_>, out: &mut [u8]) -> (usize, usize)
-    requires { 12 + length (spelling mpdu.now.tag) + length mpdu.now.secure_data ≤ length out.old }
+    requires { 12 + length (encoding mpdu.now.tag) + length mpdu.now.secure_data ≤ length out.old }
     ensures octets { octets_at out.new result ≡ bare_frame mpdu.now }
     ensures within { result.0 + result.1 ≤ length out.new }
 {
@@ -65,8 +62,7 @@ pub fn deliver_bare(mpdu: &Mpdu<'_>, out: &mut [u8]) -> (usize, usize)
     deliver(mpdu, out)
 }
 
-/// Delivers the frame with its plaintext, where the ICV is genuine under the key and the IV, and else
-/// nothing.
+/// Delivers the frame with its plaintext if the ICV is valid under the key and the IV, and else nothing.
 pub fn deliver_opened(
     key: &SuiteKey,
     iv: &[u8; 12],
@@ -74,11 +70,12 @@ pub fn deliver_opened(
     out: &mut [u8],
 ) -> Option<(usize, usize)>
     requires data_length { length mpdu.now.secure_data ≤ max_plaintext_len }
-    requires room { 28 + length (spelling mpdu.now.tag) + length mpdu.now.secure_data ≤ length out.old }
+    requires room { unpadded_length mpdu.now ≤ length out.old }
     ensures octets { option_map (octets_at out.new) result ≡
         option_map (frame_with key.now mpdu.now) (opened_under key.now iv.now mpdu.now) }
     ensures within { IfSome result (λ at. at.0 + at.1 ≤ length out.new) }
 {
+    // Laws that the proof cites; the calls do nothing.
     parts_in_place();
     open_undoes_seal();
     sealed_lengths();

@@ -2,12 +2,12 @@
 
 ghost use Rattle.std.specs.Prelude.{◌≡◌, ◌≤◌, ◌+◌, ◌&&◌, ℕ, List, IfSome, IsSome, None, Some, length, option_map};
 ghost use Rattle.macsec_gcm.specs.Gcm.{max_plaintext_len};
-ghost use Rattle.macsec_tag.specs.Tag.{spelling};
 ghost use Rattle.macsec_suite.specs.KeyRows.{InstalledKey, key_row};
 ghost use Rattle.macsec_pn.specs.Numbers.{is_late};
 ghost use Rattle.macsec_suite.specs.Suites.{iv_of, last_of};
 ghost use Rattle.macsec_suite.specs.KeyTables.{HasOwnKey, row_shown};
-ghost use Rattle.macsec_rx.specs.Limits.{max_frame_len};
+ghost use Rattle.macsec_tag.specs.Limits.{max_frame_len};
+ghost use Rattle.macsec_rx.specs.Limits.{unpadded_length};
 ghost use Rattle.macsec_rx.specs.Channels.{with_rx};
 ghost use Rattle.macsec_rx.specs.Commands.{HaveRxKeys};
 ghost use Rattle.macsec_rx.specs.Judge.{is_bad_number, is_disabled, is_strict, judge_number, judge_opened, judge_row, judge_tagged, judge_tagged_row, octets_at, plaintext_of, rows_after};
@@ -17,11 +17,10 @@ ghost use Rattle.macsec_rx.specs.Judged.{ShowsJudgement, ShowsOutcome};
 
 use crate::delivering::{deliver_bare, deliver_opened};
 use crate::{Judged, Mode, RxChannels, RxOptions, RxRow, Verdict};
-use macsec_pn::RxNumbers;
 use macsec_suite::{KeyRow, KeyTable, iv_of};
 use macsec_tag::Mpdu;
 
-/// A verdict, and the packet number that is accepted with it, where one is.
+/// A verdict, and the packet number that is accepted with it, if one is.
 #[derive(Clone, Copy)]
 pub struct Outcome {
     judged: Judged,
@@ -64,9 +63,9 @@ impl Outcome {
 }
 
 impl RxChannels {
-    /// The verdict on a tagged frame of at most 9,248 octets, its padding aside, and the change of its
-    /// association's packet numbers, where they are accepted. What is delivered stands in `out`, which has
-    /// 9,248 octets or more. The key of each association is in the table.
+    /// The verdict on a tagged frame of at most 9,248 octets without its padding. If the packet number is accepted, the
+    /// packet numbers of its association change. What is delivered is in `out`, which has 9,248 octets or more. The key
+    /// of each association is in the table.
     pub fn judge(
         &mut self,
         keys: &KeyTable,
@@ -75,14 +74,14 @@ impl RxChannels {
         out: &mut [u8],
     ) -> Judged
         requires keys_there { HaveRxKeys keys.now self.old.rows }
-        requires frame { 28 + length (spelling mpdu.now.tag) + length mpdu.now.secure_data ≤ max_frame_len }
+        requires frame { unpadded_length mpdu.now ≤ max_frame_len }
         requires room { max_frame_len ≤ length out.old }
         ensures judged { ShowsJudgement result out.new (judge_tagged options.now keys.now self.old mpdu.now) }
         ensures numbers { self.new ≡ record self.old { rows = rows_after options.now.window (judge_tagged options.now keys.now self.old mpdu.now) self.old.rows } }
         ensures channels { AreChannels self.new }
     {
         let row = self.in_use(mpdu);
-        let outcome = judge_tagged(keys, options, &row, mpdu, out);
+        let outcome = judge_tagged_row(keys, options, &row, mpdu, out);
         if let Some(row) = row {
             if let Some(number) = outcome.accepted {
                 self.accept(row, number, options.window);
@@ -112,15 +111,15 @@ fn is_disabled(mode: Mode) -> bool
     }
 }
 
-/// Has the frame the packet number 0, where packet numbers have 32 bits?
+/// Does the frame have the packet number 0, and do packet numbers have 32 bits?
 fn has_bad_number(options: &RxOptions, mpdu: &Mpdu<'_>) -> bool
     ensures { result ≡ is_bad_number options.now.suite mpdu.now.tag }
 {
     mpdu.tag().pn() == 0 && !options.suite.is_xpn()
 }
 
-/// The verdict, where the association in use for the frame is `row`, or there is none.
-fn judge_tagged(
+/// The verdict, with `row` the association enabled for the frame, or none.
+fn judge_tagged_row(
     keys: &KeyTable,
     options: &RxOptions,
     row: &Option<RxRow>,
@@ -128,7 +127,7 @@ fn judge_tagged(
     out: &mut [u8],
 ) -> Outcome
     requires key_there { IfSome row.now (λ r. IsSome (key_row keys.now r.key)) }
-    requires frame { 28 + length (spelling mpdu.now.tag) + length mpdu.now.secure_data ≤ max_frame_len }
+    requires frame { unpadded_length mpdu.now ≤ max_frame_len }
     requires room { max_frame_len ≤ length out.old }
     ensures outcome { ShowsOutcome result out.new (judge_tagged_row options.now keys.now mpdu.now row.now) }
     ensures row { IfSome result.accepted (λ n. (judge_tagged_row options.now keys.now mpdu.now row.now).row ≡ row.now) }
@@ -140,11 +139,11 @@ fn judge_tagged(
     if tag.e() && !tag.c() {
         return Outcome::without_row(Verdict::Reserved, None);
     }
-    judge_association(keys, options, row, mpdu, out)
+    judge_row(keys, options, row, mpdu, out)
 }
 
-/// The verdict on a frame whose tag is not at fault, of an association or of none.
-fn judge_association(
+/// The verdict on a frame whose SecTAG is valid, of an association or of none.
+fn judge_row(
     keys: &KeyTable,
     options: &RxOptions,
     row: &Option<RxRow>,
@@ -152,20 +151,20 @@ fn judge_association(
     out: &mut [u8],
 ) -> Outcome
     requires key_there { IfSome row.now (λ r. IsSome (key_row keys.now r.key)) }
-    requires frame { 28 + length (spelling mpdu.now.tag) + length mpdu.now.secure_data ≤ max_frame_len }
+    requires frame { unpadded_length mpdu.now ≤ max_frame_len }
     requires room { max_frame_len ≤ length out.old }
     ensures outcome { ShowsOutcome result out.new (judge_row options.now keys.now mpdu.now row.now) }
     ensures row { IfSome result.accepted (λ n. (judge_row options.now keys.now mpdu.now row.now).row ≡ row.now) }
 {
     match row {
-        Some(row) => judge_row(keys, options, row, mpdu, out),
+        Some(row) => judge_known(keys, options, row, mpdu, out),
         None => judge_unknown(options, mpdu, out),
     }
 }
 
 /// The verdict on a frame of no association.
 fn judge_unknown(options: &RxOptions, mpdu: &Mpdu<'_>, out: &mut [u8]) -> Outcome
-    requires room { 28 + length (spelling mpdu.now.tag) + length mpdu.now.secure_data ≤ length out.old }
+    requires room { unpadded_length mpdu.now ≤ length out.old }
     ensures outcome { (keys : List InstalledKey) → ShowsOutcome result out.new (judge_row options.now keys mpdu.now None) }
     ensures row { result.accepted ≡ None }
 {
@@ -176,7 +175,7 @@ fn judge_unknown(options: &RxOptions, mpdu: &Mpdu<'_>, out: &mut [u8]) -> Outcom
 }
 
 /// The verdict on a frame of an association.
-fn judge_row(
+fn judge_known(
     keys: &KeyTable,
     options: &RxOptions,
     row: &RxRow,
@@ -184,17 +183,14 @@ fn judge_row(
     out: &mut [u8],
 ) -> Outcome
     requires key_there { IsSome (key_row keys.now row.now.key) }
-    requires frame { 28 + length (spelling mpdu.now.tag) + length mpdu.now.secure_data ≤ max_frame_len }
+    requires frame { unpadded_length mpdu.now ≤ max_frame_len }
     requires room { max_frame_len ≤ length out.old }
     ensures outcome { ShowsOutcome result out.new (judge_row options.now keys.now mpdu.now (Some row.now)) }
     ensures row { IfSome result.accepted (λ n. (judge_row options.now keys.now mpdu.now (Some row.now)).row ≡ Some row.now) }
 {
     let key = keys.key(row.key).unwrap();
-    let numbers = RxNumbers {
-        next: row.next,
-        lowest: row.lowest,
-    };
-    let Some(number) = numbers.recover(key.suite_key.suite().is_xpn(), mpdu.tag().pn()) else {
+    let is_xpn = key.suite_key.suite().is_xpn();
+    let Some(number) = row.numbers().recover(is_xpn, mpdu.tag().pn()) else {
         return Outcome::at_row(row, Verdict::BadTag, None, None);
     };
     judge_number(key, options, row, number, mpdu, out)
@@ -204,17 +200,17 @@ fn judge_row(
 fn is_late(row: &RxRow, number: u64) -> bool
     ensures { result ≡ is_late row.now.lowest number }
 {
-    u128::from(number) < row.lowest
+    row.numbers().is_late(number)
 }
 
-/// Is a frame of this packet number dropped since it is late?
+/// Is a frame with this packet number dropped because it is late?
 fn is_dropped_late(options: &RxOptions, row: &RxRow, number: u64) -> bool
     ensures { result ≡ (options.now.replay && is_late row.now.lowest number) }
 {
     options.replay && is_late(row, number)
 }
 
-/// The verdict on a frame of an association and of a packet number.
+/// The verdict on a frame of an association and with a packet number.
 fn judge_number(
     key: &KeyRow,
     options: &RxOptions,
@@ -225,7 +221,7 @@ fn judge_number(
 ) -> Outcome
     requires own_key { HasOwnKey key.now }
     requires number { number ≤ last_of key.now.suite_key.suite }
-    requires frame { 28 + length (spelling mpdu.now.tag) + length mpdu.now.secure_data ≤ max_frame_len }
+    requires frame { unpadded_length mpdu.now ≤ max_frame_len }
     requires room { max_frame_len ≤ length out.old }
     ensures outcome { (first_unused : ℕ) → ShowsOutcome result out.new (judge_number options.now (row_shown key.now first_unused) row.now mpdu.now (Some number)) }
     ensures row { (first_unused : ℕ) → IfSome result.accepted (λ n. (judge_number options.now (row_shown key.now first_unused) row.now mpdu.now (Some number)).row ≡ Some row.now) }
@@ -247,7 +243,7 @@ fn judge_number(
     judge_validated(key, options, row, number, mpdu, out)
 }
 
-/// The verdict on a frame of an association and of a packet number that is validated.
+/// The verdict on a frame of an association and with a packet number, by its validation.
 fn judge_validated(
     key: &KeyRow,
     options: &RxOptions,
@@ -258,7 +254,7 @@ fn judge_validated(
 ) -> Outcome
     requires own_key { HasOwnKey key.now }
     requires number { number ≤ last_of key.now.suite_key.suite }
-    requires frame { 28 + length (spelling mpdu.now.tag) + length mpdu.now.secure_data ≤ max_frame_len }
+    requires frame { unpadded_length mpdu.now ≤ max_frame_len }
     requires room { max_frame_len ≤ length out.old }
     ensures outcome { (first_unused : ℕ) → ShowsOutcome result out.new (judge_opened options.now (row_shown key.now first_unused) row.now number mpdu.now (plaintext_of (row_shown key.now first_unused) row.now number mpdu.now)) }
     ensures row { (first_unused : ℕ) → IfSome result.accepted (λ n. (judge_opened options.now (row_shown key.now first_unused) row.now number mpdu.now (plaintext_of (row_shown key.now first_unused) row.now number mpdu.now)).row ≡ Some row.now) }
@@ -276,8 +272,7 @@ fn judge_validated(
     }
 }
 
-/// Delivers a frame of an association and of a packet number with its plaintext, where its ICV is genuine,
-/// and else nothing.
+/// Delivers a frame of an association and with a packet number: its plaintext if its ICV is valid, and else nothing.
 fn open(
     key: &KeyRow,
     row: &RxRow,
@@ -286,7 +281,7 @@ fn open(
     out: &mut [u8],
 ) -> Option<(usize, usize)>
     requires number { number ≤ last_of key.now.suite_key.suite }
-    requires frame { 28 + length (spelling mpdu.now.tag) + length mpdu.now.secure_data ≤ max_frame_len }
+    requires frame { unpadded_length mpdu.now ≤ max_frame_len }
     requires room { max_frame_len ≤ length out.old }
     ensures octets { let iv = iv_of key.now.suite_key.suite row.now.sci row.now.ssci key.now.key.salt number in
         option_map (octets_at out.new) result ≡
@@ -303,9 +298,9 @@ fn open(
     deliver_opened(&key.suite_key, &iv, mpdu, out)
 }
 
-/// The verdict on a frame of an association whose ICV is not genuine.
+/// The verdict on a frame of an association whose ICV is not valid.
 fn judge_invalid(options: &RxOptions, row: &RxRow, mpdu: &Mpdu<'_>, out: &mut [u8]) -> Outcome
-    requires room { 28 + length (spelling mpdu.now.tag) + length mpdu.now.secure_data ≤ length out.old }
+    requires room { unpadded_length mpdu.now ≤ length out.old }
     ensures outcome { (key : InstalledKey) (number : ℕ) → ShowsOutcome result out.new (judge_opened options.now key row.now number mpdu.now None) }
     ensures accepted { result.accepted ≡ None }
 {

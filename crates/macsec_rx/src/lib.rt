@@ -2,6 +2,7 @@
 #![tactic(auto)]
 
 ghost use Rattle.std.specs.Prelude.{◌≡◌, Some};
+ghost use Rattle.macsec_rx.specs.Channels.{numbers_of, with_numbers};
 ghost use Rattle.macsec_rx.specs.Verdicts.{verdict_name};
 
 mod channels;
@@ -9,6 +10,7 @@ mod delivering;
 mod judging;
 
 pub use channels::RxChannels;
+use macsec_pn::RxNumbers;
 use macsec_suite::Suite;
 use macsec_tag::{An, Sci};
 use std::fmt;
@@ -31,25 +33,25 @@ pub enum Verdict {
     Untagged,
     /// It has no SecTAG, and is dropped.
     NoTag,
-    /// Its SecTAG or its packet number is at fault.
+    /// Its SecTAG or its packet number is invalid.
     BadTag,
     /// E is set and C clear.
     Reserved,
-    /// No association is in use for it, and it is dropped.
+    /// No association is enabled for it, and it is dropped.
     NoSaError,
-    /// No association is in use for it, and it is delivered.
+    /// No association is enabled for it, and it is delivered.
     NoSa,
-    /// Its packet number is too low, and it is dropped.
+    /// Its packet number is late, and it is dropped.
     Late,
     /// It is not valid, or can't be used unopened, and is dropped.
     NotValid,
     /// It was not validated, and is delivered.
     Unchecked,
-    /// Its packet number is too low, and it is delivered.
+    /// Its packet number is late, and it is delivered.
     Delayed,
     /// It is not valid, and is delivered.
     Invalid,
-    /// It is valid and in time; its name is `OK`.
+    /// It is valid and not late; its name is `OK`.
     Passed,
 }
 
@@ -83,8 +85,8 @@ impl fmt::Display for Verdict {
     }
 }
 
-/// What reception goes by: the endpoint's suite, how frames are validated, whether late frames are dropped,
-/// and the replay window.
+/// What reception depends on: the endpoint's suite, how frames are validated, whether late frames are dropped, and the
+/// replay window.
 #[derive(Clone, Copy, PartialEq, Eq, Debug)]
 pub struct RxOptions {
     pub suite: Suite,
@@ -93,9 +95,8 @@ pub struct RxOptions {
     pub window: u64,
 }
 
-/// A receive association: the SCI of its channel, its number, the number of its key, the SSCI of the
-/// sender, the next packet number, which is past each that was accepted, the lowest acceptable one, and
-/// whether it is on.
+/// A receive association: the SCI of its channel, its number, the number of its key, the SSCI of the sender, the next
+/// packet number, which is past each that was accepted, the lowest acceptable one, and whether it is enabled.
 #[derive(Clone, Copy, PartialEq, Eq, Debug, Default)]
 pub struct RxRow {
     pub sci: Sci,
@@ -107,8 +108,31 @@ pub struct RxRow {
     pub on: bool,
 }
 
-/// The verdict on a frame, the association that it comes from, where the verdict goes by one, and the place
-/// and the length of what is delivered.
+impl RxRow {
+    /// Its packet numbers.
+    pub(crate) fn numbers(&self) -> RxNumbers
+        ensures { result ≡ numbers_of self.now }
+    {
+        RxNumbers {
+            next: self.next,
+            lowest: self.lowest,
+        }
+    }
+
+    /// The same association with these packet numbers.
+    pub(crate) fn with_numbers(self, numbers: RxNumbers) -> RxRow
+        ensures { result ≡ with_numbers numbers self }
+    {
+        RxRow {
+            next: numbers.next,
+            lowest: numbers.lowest,
+            ..self
+        }
+    }
+}
+
+/// The verdict on a frame, its association if the verdict depends on one, and the position and the length of what is
+/// delivered.
 #[derive(Clone, Copy, PartialEq, Eq, Debug)]
 pub struct Judged {
     pub verdict: Verdict,

@@ -1,29 +1,28 @@
--- What one endpoint sends protected is passed by another one that has its association.
+-- A protected frame that one endpoint sends is passed by another one that has its association.
 use Rattle.std.proofs.Common.{◌≡◌, ℕ, ◌≤◌, Bool, true, false, List, ◌++◌, length, take, refl, ap, sym, ◌∙◌, arith, length-append}
 use Rattle.std.specs.Prelude.{◌%◌, ◌^◌, ◌&&◌, not, nat_lt, if◌then◌else◌, Option, Some, None, IsSome}
 use Rattle.std.specs.Int.{w32, to_be_bytes}
 use Rattle.std.proofs.lemmas.Bool.{le-ltb, ltb-false}
 use Rattle.macsec_gcm.specs.Gcm.{open_of}
 use Rattle.macsec_gcm.specs.Laws.{OpenUndoesSeal, SealedLengths}
-use Rattle.macsec_tag.specs.declared.Sci.{Sci}
-use Rattle.macsec_tag.specs.Tag.{spelling}
-use Rattle.macsec_tag.specs.Frame.{HasLengths, MpduParts, in_a_row}
+use Rattle.macsec_tag.specs.declared.identifiers.Sci.{Sci}
+use Rattle.macsec_tag.specs.Frame.{MpduParts, in_a_row}
 use Rattle.macsec_tag.specs.Laws.{ReadAgain}
 use Rattle.macsec_tag.specs.Table.{reading, tagged}
 use Rattle.macsec_pn.specs.Numbers.{recovered_number}
-use Rattle.macsec_suite.specs.declared.Suite.{Suite}
+use Rattle.macsec_suite.specs.declared.suite.Suite.{Suite}
 use Rattle.macsec_suite.specs.Suites.{extended_iv, is_xpn, iv_of}
 use Rattle.macsec_suite.specs.Parts.{aad_and_plaintext, clear_length}
 use Rattle.macsec_suite.specs.KeyRows.{InstalledKey, key_row, prepared_key, the_key}
 use Rattle.macsec_tx.specs.declared.TxOptions.{TxOptions}
 use Rattle.macsec_tx.specs.declared.TxRow.{TxRow}
 use Rattle.macsec_tx.specs.Laws.{CanBeSent, IsReadAsSent}
-use Rattle.macsec_tx.specs.Limits.{max_frame_len, min_frame_len}
+use Rattle.macsec_tag.specs.Limits.{max_frame_len, min_frame_len}
 use Rattle.macsec_tx.specs.Transmit.{parts_sent, tag_sent}
 use Rattle.macsec_rx.specs.declared.RxRow.{RxRow}
 use Rattle.macsec_rx.specs.declared.Verdict.TheVariants.{Passed}
 use Rattle.macsec_rx.specs.Judge.{at_row, is_bad_number, judge_tagged, opened_frame, plaintext_of, in_use}
-use Rattle.macsec_secy.specs.declared.FrameFault.TheVariants.{Short, Long}
+use Rattle.macsec_secy.specs.declared.fault.FrameFault.TheVariants.{Short, Long}
 use Rattle.macsec_secy.specs.Accepts.{AcceptsSent, HasSameKey}
 use Rattle.macsec_secy.specs.State.{State, rx_options, tx_options}
 use Rattle.macsec_secy.specs.Step.{frame_fault, link_frame, received, step}
@@ -78,7 +77,7 @@ is_long frame none = by_test (nat_lt (length frame) min_frame_len) refl none
     by_test true is none' = cc
     by_test false is none' = ltb-false (length frame) min_frame_len is
 
--- ---- the answer
+-- ---- the output
 
 answered : (receiver : State) (frame : List ℕ) (p : MpduParts) (rx : RxRow) (number : ℕ) (delivered : List ℕ) → frame_fault frame ≡ None → reading frame ≡ tagged p →
     judge_tagged (rx_options receiver) receiver.keys receiver.rx p ≡ at_row rx number 13 Passed (Some delivered) →

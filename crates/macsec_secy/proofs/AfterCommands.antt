@@ -7,8 +7,8 @@ use Rattle.macsec_suite.specs.KeyRows.{InstalledKey, key_row, keys_retiring, key
 use Rattle.macsec_suite.specs.Refusals.{RefusalLine, first_refusal, is_number_used}
 use Rattle.macsec_tx.specs.declared.TxRow.{TxRow}
 use Rattle.macsec_tx.specs.Commands.{tx_sa_refusals, tx_uses}
-use Rattle.macsec_secy.specs.declared.Command.{Command}
-use Rattle.macsec_secy.specs.declared.Command.TheVariants.{Protect, Validate, Replay, Tag, Key, Retire, TxSa, TxOn, TxOff, TxDel, RxSc, RxScDel, RxSa, RxOn, RxOff, RxLow, RxDel}
+use Rattle.macsec_secy.specs.declared.command.Command.{Command}
+use Rattle.macsec_secy.specs.declared.command.Command.TheVariants.{Protect, Validate, Replay, Tag, Key, Retire, TxSa, TxOn, TxOff, TxDel, RxSc, RxScDel, RxSa, RxOn, RxOff, RxLow, RxDel}
 use Rattle.macsec_secy.specs.State.{State}
 use Rattle.macsec_secy.specs.Commands.{effect, refusal}
 use Rattle.macsec_secy.specs.Agrees.{HaveUnusedNext, first_unused}
@@ -57,7 +57,7 @@ true_from_not : (b : Bool) → not b ≡ false → b ≡ true
 true_from_not true e = refl
 true_from_not false e = cc
 
--- what is known where the making of an association is not refused
+-- what is known where the creation of an association is not refused
 free_to_join : (keys : List InstalledKey) (rows : List TxRow) (an key next : ℕ) → first_refusal (tx_sa_refusals keys rows an key next) ≡ None →
     IsSome (key_row keys key) × (tx_uses rows key ≡ false) × (first_unused keys key ≤ next)
 free_to_join keys rows an key next e =

@@ -1,14 +1,14 @@
--- Each channel keeps its counters, and they stand in the order of the channels.
+-- Each channel keeps its counters, and they are in the order of the channels.
 use Rattle.std.proofs.Common.{◌≡◌, ℕ, Bool, true, false, List, [], ◌∷◌, map, filter, length, refl, ap, ◌∙◌}
 use Rattle.std.specs.Prelude.{not, if◌then◌else◌, Option, Some, None}
 use Rattle.std.specs.List.{refill}
 use Rattle.std.proofs.lemmas.List.{length-map}
-use Rattle.macsec_tag.specs.declared.Sci.{Sci}
+use Rattle.macsec_tag.specs.declared.identifiers.Sci.{Sci}
 use Rattle.macsec_rx.specs.declared.Verdict.{Verdict}
 use Rattle.macsec_rx.specs.declared.RxRow.{RxRow}
 use Rattle.macsec_rx.specs.Channels.{same_sci}
 use Rattle.macsec_rx.specs.Judge.{Judgement}
-use Rattle.macsec_secy.specs.declared.ChannelCounters.{ChannelCounters}
+use Rattle.macsec_secy.specs.declared.counters.ChannelCounters.{ChannelCounters}
 use Rattle.macsec_secy.specs.Counting.{count_at, count_in_channel}
 use Rattle.macsec_secy.specs.Reception.{counted_at_row, is_counted_by_channel, rx_packet_counted}
 use Rattle.macsec_secy.specs.Verdicts.{counted_at_place}
@@ -42,7 +42,7 @@ after_judging j rows = by_parts (is_counted_by_channel j) j.row
     by_parts true None = refl
     by_parts true (Some row) = scis_kept j.verdict row.sci rows
 
--- a channel is removed
+-- a channel is deleted
 pub without_counters : (sci : Sci) (rows : List ChannelCounters) →
     map sci_of_counters (filter (λ row. not (same_sci row.sci sci)) rows) ≡ filter (λ s. not (same_sci s sci)) (map sci_of_counters rows)
 without_counters sci [] = refl
@@ -59,7 +59,7 @@ length_kept : (verdict : Verdict) (place : Option (Sci × ℕ)) (rows : List Cha
 length_kept verdict None rows = refl
 length_kept verdict (Some place) rows = length-map rows (count_at verdict place.0)
 
--- the counters that were lent as a slice come back as they were left
+-- the counters that were borrowed as a slice are afterwards as the borrower left them
 pub counted_again : (old lent new : List ChannelCounters) (verdict : Verdict) (place : Option (Sci × ℕ)) → lent ≡ old → new ≡ counted_at_place verdict place lent →
     refill (length old) old new ≡ counted_at_place verdict place old
 counted_again old lent new verdict place same counted =

@@ -3,7 +3,7 @@ use Rattle.std.proofs.Common.{ℕ, ◌<◌, ◌^◌, Bool, true, false, List, ar
 use Rattle.std.specs.Prelude.{if◌then◌else◌, nat_le, Option, Some, None}
 use Rattle.std.specs.List.{All}
 use Rattle.std.proofs.lemmas.List.Elements.{All-map, All-weaker}
-use Rattle.macsec_tag.specs.declared.Sci.{Sci}
+use Rattle.macsec_tag.specs.declared.identifiers.Sci.{Sci}
 use Rattle.macsec_tag.specs.Table.{Reading, untagged, bad, tagged}
 use Rattle.macsec_tx.specs.declared.TxRow.{TxRow}
 use Rattle.macsec_tx.specs.Transmit.{Leaving, plain, protected, no_sa, too_long}
@@ -12,10 +12,10 @@ use Rattle.macsec_rx.specs.declared.Verdict.{Verdict}
 use Rattle.macsec_rx.specs.declared.Verdict.TheVariants.{Untagged, NoTag, BadTag, Reserved, NoSa, NoSaError, Late, NotValid, Unchecked, Delayed, Invalid, Passed}
 use Rattle.macsec_rx.specs.Channels.{same_sci}
 use Rattle.macsec_rx.specs.Judge.{Judgement}
-use Rattle.macsec_secy.specs.declared.Counters.{Counters}
-use Rattle.macsec_secy.specs.declared.TxCounters.{TxCounters}
-use Rattle.macsec_secy.specs.declared.RxCounters.{RxCounters}
-use Rattle.macsec_secy.specs.declared.ChannelCounters.{ChannelCounters}
+use Rattle.macsec_secy.specs.declared.counters.Counters.{Counters}
+use Rattle.macsec_secy.specs.declared.counters.TxCounters.{TxCounters}
+use Rattle.macsec_secy.specs.declared.counters.RxCounters.{RxCounters}
+use Rattle.macsec_secy.specs.declared.counters.ChannelCounters.{ChannelCounters}
 use Rattle.macsec_secy.specs.State.{no_counters, no_rx_counters, no_tx_counters}
 use Rattle.macsec_secy.specs.Counting.{plus, count_at, count_in_channel, count_leaving, count_octets, count_octets_received, count_packet, count_protected}
 use Rattle.macsec_secy.specs.Reception.{counted_at_row, data_counted, is_counted_by_channel, octets_counted, packet_counted, rx_packet_counted}
@@ -42,7 +42,7 @@ no_rx_counted = assumption zero
 wraps : (counter n : ℕ) → plus counter n < 2 ^ 64
 wraps counter n = omega arith
 
--- ---- a client's frame
+-- ---- a client frame
 
 pub after_leaving : (leaving : Leaving) (c : Counters) → AreCounters c → AreCounters (count_leaving leaving c)
 after_leaving plain c are = assumption (wraps c.out_pkts_untagged 1)

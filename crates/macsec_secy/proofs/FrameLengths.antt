@@ -1,4 +1,4 @@
--- How long the frames are that an endpoint gives out.
+-- The lengths of the frames that an endpoint returns.
 use Rattle.std.proofs.Common.{◌≡◌, ℕ, ◌+◌, ◌≤◌, ◌<◌, Bool, true, false, List, [], ◌∷◌, ◌++◌, length, take, drop, refl, ap, sym, ◌∙◌, arith, length-take, length-drop, length-append}
 use Rattle.std.specs.Prelude.{if◌then◌else◌, nat_lt, not, slice_range, ◌&&◌, ◌||◌, Option, Some, None, IfSome}
 use Rattle.std.specs.Int.{w32, to_be_bytes}
@@ -6,14 +6,14 @@ use Rattle.std.proofs.lemmas.Bool.{ltb-false}
 use Rattle.std.proofs.lemmas.List.{take-append-drop}
 use Rattle.macsec_gcm.specs.Gcm.{seal_of}
 use Rattle.macsec_gcm.specs.Laws.{OpenUndoesSeal, SealedLengths}
-use Rattle.macsec_tag.specs.declared.Sci.{Sci}
-use Rattle.macsec_tag.specs.declared.TagFault.{TagFault}
-use Rattle.macsec_tag.specs.declared.TagFault.TheVariants.{Cut}
+use Rattle.macsec_tag.specs.declared.identifiers.Sci.{Sci}
+use Rattle.macsec_tag.specs.declared.fault.TagFault.{TagFault}
+use Rattle.macsec_tag.specs.declared.fault.TagFault.TheVariants.{Cut}
 use Rattle.macsec_tag.specs.Frame.{MpduParts, has_macsec_ethertype}
-use Rattle.macsec_tag.specs.Tag.{Tag, sci_octets, spelling, tci_an}
+use Rattle.macsec_tag.specs.Tag.{Tag, sci_octets, encoding, tci_an}
 use Rattle.macsec_tag.specs.Table.{Reading, untagged, bad, tagged, after_tag, data_length_at, parts_at, reading, reading_with, tag_fault, tag_length_at}
 use Rattle.macsec_pn.specs.Numbers.{is_late, recovered_number}
-use Rattle.macsec_suite.specs.declared.Refusal.{Refusal}
+use Rattle.macsec_suite.specs.declared.refusal.Refusal.{Refusal}
 use Rattle.macsec_suite.specs.KeyRows.{InstalledKey, the_key}
 use Rattle.macsec_suite.specs.Parts.{aad_and_plaintext, clear_length}
 use Rattle.macsec_suite.specs.Suites.{is_xpn, iv_of, last_of}
@@ -22,7 +22,7 @@ use Rattle.macsec_tx.specs.declared.TagForm.TheVariants as form
 use Rattle.macsec_tx.specs.declared.TxOptions.{TxOptions}
 use Rattle.macsec_tx.specs.declared.TxRow.{TxRow}
 use Rattle.macsec_tx.specs.Laws.{CanBeSent, IsReadAsSent}
-use Rattle.macsec_tx.specs.Limits.{max_frame_len}
+use Rattle.macsec_tag.specs.Limits.{max_frame_len}
 use Rattle.macsec_tx.specs.Rows.{AreTxRows}
 use Rattle.macsec_tx.specs.Tags.{is_own, sci_sent}
 use Rattle.macsec_tx.specs.Transmit.{Leaving, plain, protected, no_sa, too_long, Sending, not_protected, octets_added, protected_frame, row_on, sending_by, tag_sent}
@@ -30,8 +30,8 @@ use Rattle.macsec_rx.specs.declared.RxOptions.{RxOptions}
 use Rattle.macsec_rx.specs.declared.RxRow.{RxRow}
 use Rattle.macsec_rx.specs.declared.Verdict.TheVariants.{Untagged, NoTag, BadTag, Reserved, NoSa, NoSaError, Late, NotValid, Unchecked, Delayed, Invalid}
 use Rattle.macsec_rx.specs.Judge.{Judgement, at_row, bare_frame, in_use, is_bad_number, is_disabled, is_strict, judge_number, judge_opened, judge_row, judge_tagged_row, opened_frame, plaintext_of, sci_of, without_row}
-use Rattle.macsec_secy.specs.declared.FrameFault.{FrameFault}
-use Rattle.macsec_secy.specs.declared.FrameFault.TheVariants.{Short, Long}
+use Rattle.macsec_secy.specs.declared.fault.FrameFault.{FrameFault}
+use Rattle.macsec_secy.specs.declared.fault.FrameFault.TheVariants.{Short, Long}
 use Rattle.macsec_secy.specs.State.{State, rx_options, tx_options}
 use Rattle.macsec_secy.specs.Reception.{judge_reading, judgement_of}
 use Rattle.macsec_secy.specs.Commands.{refusal}
@@ -68,16 +68,16 @@ unless_faulty P faulty s after frame output good = by_fault (frame_fault frame) 
     by_fault None none = good (has_no_fault frame none)
     by_fault (Some f) some = faulty f
 
--- ---- what leaves
+-- ---- what is sent
 
--- a frame that leaves protected has a good length, and that of a protected one of the client's frame
+-- a frame that is sent protected has a good length, and that of a protected one of the client frame
 abbrev IsWithin : List ℕ → Leaving → Type 0
 IsWithin client plain = Unit {0}
 IsWithin client (protected key frame) = HasFrameLength frame × HasProtectedLength client frame
 IsWithin client no_sa = Unit {0}
 IsWithin client too_long = Unit {0}
 
--- a SecTAG that is sent carries the own SCI, if any
+-- a SecTAG that is sent carries the endpoint's own SCI, if any
 where_there : (sci : Sci) → length sci.0 ≡ 8 → (there : Bool) → length (sci_octets (if there then Some sci else None)) ≤ 8
 where_there sci eight true = omega (arith, eight)
 where_there sci eight false = omega arith
@@ -93,10 +93,10 @@ sci_up_to_8 form.Es many sci sa eight = where_foreign sci eight (is_own sci sa)
 sci_up_to_8 form.Scb many sci sa eight = where_foreign sci eight (is_own sci sa)
 
 -- what is before the SCI has 8 octets
-spelled_long : (t : Tag) → length (spelling t) ≡ 8 + length (sci_octets t.sci)
+spelled_long : (t : Tag) → length (encoding t) ≡ 8 + length (sci_octets t.sci)
 spelled_long t = length-append (0x88 ∷ 0xe5 ∷ tci_an t ∷ t.sl ∷ to_be_bytes w32 t.pn) (sci_octets t.sci)
 
--- the association that is on has an association number that there is
+-- the enabled association has an association number that there is
 on_has_number : (rows : List TxRow) → AreTxRows rows → IfSome (row_on rows) (λ row. row.an < 4)
 on_has_number [] are = tt
 on_has_number (row ∷ rows) are = by_test row.on (on_has_number rows are.2)
@@ -164,7 +164,7 @@ FitsIn n untagged = Unit {0}
 FitsIn n (bad found) = Unit {0}
 FitsIn n (tagged p) = length (bare_frame p) ≤ n
 
--- what is delivered has at most so many octets
+-- what is delivered has at most that many octets
 abbrev DeliversUpTo : ℕ → Judgement → Type 0
 DeliversUpTo n j = IfSome j.delivered (λ frame. length frame ≤ n)
 

@@ -1,15 +1,15 @@
--- Each received frame raises the sum of the counters of received packets by one, and nothing else changes it
--- but the removal of a channel.
+-- Each received frame raises the sum of the counters of received packets by one, and nothing else changes it but the
+-- deletion of a channel.
 use Rattle.std.proofs.Common.{◌≡◌, ℕ, ◌+◌, ◌%◌, ◌^◌, Bool, true, false, List, [], ◌∷◌, map, refl, ap, ◌∙◌, add-zero, arith}
 use Rattle.std.specs.Prelude.{if◌then◌else◌, nat_le, is_some, not, ◌&&◌, ◌||◌, Option, Some, None, IfSome}
 use Rattle.std.proofs.lemmas.List.Sums.{sum_by_push}
 use Rattle.std.proofs.lemmas.List.Elements.{All-cons, All-head, All-nil, All-tail}
 use Rattle.std.specs.List.{All}
-use Rattle.macsec_tag.specs.declared.Sci.{Sci}
+use Rattle.macsec_tag.specs.declared.identifiers.Sci.{Sci}
 use Rattle.macsec_tag.specs.Frame.{MpduParts}
 use Rattle.macsec_tag.specs.Table.{Reading, untagged, bad, tagged, reading}
 use Rattle.macsec_pn.specs.Numbers.{is_late, recovered_number}
-use Rattle.macsec_suite.specs.declared.Refusal.{Refusal}
+use Rattle.macsec_suite.specs.declared.refusal.Refusal.{Refusal}
 use Rattle.macsec_suite.specs.KeyRows.{InstalledKey, the_key}
 use Rattle.macsec_suite.specs.Suites.{is_xpn}
 use Rattle.macsec_tx.specs.Transmit.{Leaving, plain, protected, no_sa, too_long}
@@ -21,11 +21,11 @@ use Rattle.macsec_rx.specs.Channels.{is_at}
 use Rattle.macsec_rx.specs.Commands.{has_channel}
 use Rattle.macsec_rx.specs.Judge.{Judgement, at_row, bare_frame, in_use, is_bad_number, is_disabled, is_strict, judge_number, judge_opened, judge_row, judge_tagged_row, opened_frame, plaintext_of, sci_of, without_row}
 use Rattle.macsec_rx.specs.Rows.{AreRxRows, AreScis}
-use Rattle.macsec_secy.specs.declared.Command.{Command}
-use Rattle.macsec_secy.specs.declared.Command.TheVariants.{Protect, Validate, Replay, Tag, Key, Retire, TxSa, TxOn, TxOff, TxDel, RxSc, RxScDel, RxSa, RxOn, RxOff, RxLow, RxDel}
-use Rattle.macsec_secy.specs.declared.Counters.{Counters}
-use Rattle.macsec_secy.specs.declared.ChannelCounters.{ChannelCounters}
-use Rattle.macsec_secy.specs.declared.FrameFault.{FrameFault}
+use Rattle.macsec_secy.specs.declared.command.Command.{Command}
+use Rattle.macsec_secy.specs.declared.command.Command.TheVariants.{Protect, Validate, Replay, Tag, Key, Retire, TxSa, TxOn, TxOff, TxDel, RxSc, RxScDel, RxSa, RxOn, RxOff, RxLow, RxDel}
+use Rattle.macsec_secy.specs.declared.counters.Counters.{Counters}
+use Rattle.macsec_secy.specs.declared.counters.ChannelCounters.{ChannelCounters}
+use Rattle.macsec_secy.specs.declared.fault.FrameFault.{FrameFault}
 use Rattle.macsec_secy.specs.State.{State, rx_options}
 use Rattle.macsec_secy.specs.Counting.{plus, count_at, count_leaving, count_octets_received}
 use Rattle.macsec_secy.specs.Reception.{data_counted, judge_reading, judgement_of, octets_counted, packet_counted, rx_packet_counted, state_after_receiving}
@@ -102,13 +102,13 @@ once_tagged rows options keys p row has = by_tests (is_bad_number options.suite 
     by_tests false true c = raised _ _ c.in_pkts_reserved (omega arith)
     by_tests false false c = once_of_row rows options keys p row has c
 
--- ---- the association in use is of a channel, which has its counters once
+-- ---- the association enabled for a frame is of a channel, which has its counters once
 
 all_of_channels : (scis : List Sci) (rows : List RxRow) → AreRxRows scis rows → All (λ row. has_channel scis row.sci ≡ true) rows
 all_of_channels scis [] are = All-nil (λ row. has_channel scis row.sci ≡ true)
 all_of_channels scis (row ∷ rows) are = All-cons (λ r. has_channel scis r.sci ≡ true) row rows are.0.channel (all_of_channels scis rows are.2)
 
--- what holds of all associations holds of the one that is in use
+-- what holds of all associations holds of the one that is enabled for a frame
 of_in_use : (P : RxRow → Type 0) (rows : List RxRow) (an : ℕ) (sci : Option Sci) → All P rows → IfSome (in_use rows an sci) P
 of_in_use P rows an None all = tt
 of_in_use P [] an (Some sci) all = tt
@@ -160,7 +160,7 @@ after_link_frame s sound frame output None =
     once_judged s sound frame (reading frame) s.counters
 after_link_frame s sound frame output (Some fault) = not_raised _
 
--- what leaves, or does not, is no received packet
+-- a frame that is sent or dropped is no received packet
 leaving_apart : (leaving : Leaving) (c : Counters) → packets_of (count_leaving leaving c) ≡ packets_of c
 leaving_apart plain c = refl
 leaving_apart (protected key frame) c = refl

@@ -1,9 +1,9 @@
--- The association in use for a frame: it is at the frame's place, and its key is there.
+-- The association enabled for a frame: it is at the frame's place, and its key is in the table.
 use Rattle.std.proofs.Common.{◌≡◌, ℕ, suc, Bool, true, false, List, [], ◌∷◌, refl, sym, ap, subst, arith, All}
 use Rattle.std.specs.Prelude.{◌==◌, ◌&&◌, find, if◌then◌else◌, Option, Some, None, IsSome, unwrap_or}
 use Rattle.std.specs.Cmp.Lexicographic.{same_text}
 use Rattle.std.proofs.lemmas.Bool.{and_parts, eqb-true}
-use Rattle.macsec_tag.specs.declared.Sci.{Sci}
+use Rattle.macsec_tag.specs.declared.identifiers.Sci.{Sci}
 use Rattle.macsec_suite.specs.KeyRows.{InstalledKey, key_row, no_key, the_key}
 use Rattle.macsec_rx.specs.declared.RxRow.{RxRow}
 use Rattle.macsec_rx.specs.Channels.{is_at, same_sci}

@@ -1,8 +1,8 @@
 -- No two keys have the same bytes, whatever is done: a key whose bytes are there is refused.
 use Rattle.std.proofs.Common.{◌≡◌, ℕ, List, map, refl}
 use Rattle.std.specs.Prelude.{◌==◌, Option, Some, None}
-use Rattle.macsec_suite.specs.declared.Suite.{Suite}
-use Rattle.macsec_suite.specs.declared.NewKey.{NewKey}
+use Rattle.macsec_suite.specs.declared.suite.Suite.{Suite}
+use Rattle.macsec_suite.specs.declared.key_row.NewKey.{NewKey}
 use Rattle.macsec_suite.specs.KeyRows.{InstalledKey, at_number, keys_retiring, keys_with, new_row, retired_row, row_noting}
 use Rattle.macsec_suite.specs.Refusals.{first_refusal, install_refusals}
 use Rattle.macsec_tx.specs.declared.TxRow.{TxRow}

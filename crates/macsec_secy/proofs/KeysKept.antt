@@ -2,8 +2,8 @@
 use Rattle.std.proofs.Common.{◌≡◌, ℕ, Bool, true, false, List, [], ◌∷◌, ◌++◌, map, refl, ap, sym, subst, ◌∙◌}
 use Rattle.std.specs.Prelude.{◌==◌, not, if◌then◌else◌, Option, Some, None, IsSome, IfSome, Result, Ok, Err, OnOk, OnErr}
 use Rattle.std.proofs.lemmas.Bool.{eqb-true}
-use Rattle.macsec_suite.specs.declared.Refusal.{Refusal}
-use Rattle.macsec_suite.specs.declared.Refusal.TheVariants.{NoKey}
+use Rattle.macsec_suite.specs.declared.refusal.Refusal.{Refusal}
+use Rattle.macsec_suite.specs.declared.refusal.Refusal.TheVariants.{NoKey}
 use Rattle.macsec_suite.specs.KeyRows.{InstalledKey, at_number, key_row, keys_noting, keys_retiring, retired_row, row_noting}
 use Rattle.macsec_suite.specs.Refusals.{first_refusal, is_number_used, refusal_of}
 use Rattle.macsec_tx.specs.declared.TxRow.{TxRow}
@@ -32,7 +32,7 @@ field_kept field change same false x = refl
 
 -- ---- changes of the keys
 
--- a key stays in the table where others come behind it
+-- a key stays in the table where others come after it
 pub there_with_more : (keys more : List InstalledKey) (number : ℕ) → IsThere keys number → IsThere (keys ++ more) number
 there_with_more [] more number there = cc
 there_with_more (key ∷ keys) more number there = by_test (key.number == number) (there_with_more keys more number) there
@@ -122,18 +122,18 @@ at_an change same an = record {
   key = λ row. field_kept (λ (r : TxRow). r.key) change same.key (row.an == an) row;
 }
 
--- an association is switched on, and every other one off
+-- an association is enabled, and every other one disabled
 pub with_one_on : (keys : List InstalledKey) (rows : List TxRow) (an : ℕ) → HaveKeys keys rows → HaveKeys keys (with_tx_on rows an)
 with_one_on keys rows an have n = with_changed_rows keys (switch_to an) (record { an = λ row. refl; key = λ row. refl }) rows n (have n)
 
--- an association is switched off
+-- an association is disabled
 pub with_one_off : (keys : List InstalledKey) (rows : List TxRow) (an : ℕ) → HaveKeys keys rows → HaveKeys keys (with_tx_off rows an)
 with_one_off keys rows an have n =
     with_changed_rows keys (off_at an) (at_an (λ row. record row { on = false }) (record { an = λ row. refl; key = λ row. refl }) an) rows n (have n)
 
 -- ---- an association less
 
--- there is none left of the number that is removed
+-- there is none left of the number that is deleted
 none_left : (rows : List TxRow) (an : ℕ) → tx_row (without_tx rows an) an ≡ None
 none_left [] an = refl
 none_left (row ∷ rows) an = by_test (row.an == an) refl (none_left rows an)
@@ -155,7 +155,7 @@ others_left (row ∷ rows) an number differs = by_test (row.an == an) refl (othe
         later ∙ sym (ap (λ b. if b then Some row else tx_row rows number) other)
     by_test false kept later = ap (λ found. if row.an == number then Some row else found) later
 
--- an association is removed
+-- an association is deleted
 pub without_one : (keys : List InstalledKey) (rows : List TxRow) (an : ℕ) → HaveKeys keys rows → HaveKeys keys (without_tx rows an)
 without_one keys rows an have number = by_test (an == number) refl
   where
@@ -167,7 +167,7 @@ without_one keys rows an have number = by_test (an == number) refl
 
 -- ---- an association more
 
--- an association whose key is in the table comes behind the others
+-- an association whose key is in the table comes after the others
 with_row : (keys : List InstalledKey) (rows : List TxRow) (new : TxRow) (number : ℕ) → IsThere keys new.key →
     HasKey keys (tx_row rows number) → HasKey keys (tx_row (rows ++ new ∷ []) number)
 with_row keys [] new number there here = by_test (new.an == number)
@@ -187,7 +187,7 @@ pub not_refused : (holds : Bool) (refusal : Refusal) (later : Option Refusal) �
 not_refused true refusal later none = refl
 not_refused false refusal later none = cc
 
--- an association is made
+-- an association is created
 pub with_one_more : (keys : List InstalledKey) (rows : List TxRow) (an key next : ℕ) (conf : Bool) →
     first_refusal (tx_sa_refusals keys rows an key next) ≡ None → HaveKeys keys rows → HaveKeys keys (with_tx_sa rows an key next conf)
 with_one_more keys rows an key next conf none have number =
@@ -196,7 +196,7 @@ with_one_more keys rows an key next conf none have number =
 
 -- ---- a frame
 
--- a client's frame is sent, whether an association protects it or none
+-- a client frame is sent, whether an association protects it or none
 pub after_sending : (keys : List InstalledKey) (rows : List TxRow) (by : Option TxRow) → HaveKeys keys rows → HaveKeys (keys_after keys by) (rows_after rows by)
 after_sending keys rows None have = have
 after_sending keys rows (Some row) have =

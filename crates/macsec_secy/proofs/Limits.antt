@@ -1,11 +1,11 @@
--- The largest frame of a configuration of which an endpoint can be made.
+-- The largest frame of a configuration from which an endpoint can be created.
 use Rattle.std.proofs.Common.{◌≡◌, ℕ, ◌≤◌, Bool, true, false, refl}
 use Rattle.std.specs.Prelude.{if◌then◌else◌, Option, Some, None}
 use Rattle.std.proofs.lemmas.Bool.Decides.{nat_tests}
 use Rattle.std.proofs.Common.{arith}
-use Rattle.macsec_tx.specs.Limits.{max_frame_len}
-use Rattle.macsec_secy.specs.declared.EndConfig.{EndConfig}
-use Rattle.macsec_secy.specs.declared.NewFault.{NewFault}
+use Rattle.macsec_tag.specs.Limits.{max_frame_len}
+use Rattle.macsec_secy.specs.declared.config.EndConfig.{EndConfig}
+use Rattle.macsec_secy.specs.declared.fault.NewFault.{NewFault}
 use Rattle.macsec_secy.specs.Limits.{min_max_frame}
 use Rattle.macsec_secy.specs.Configs.{config_fault, is_bad_limit}
 

@@ -62,7 +62,7 @@ no_two-filter keep test (x ∷ xs) apart = by_test (keep x) (none-filter (test x
     by_test true none later = (none, later)
     by_test false none later = later
 
--- one comes behind them that passes it with none
+-- one comes after them that passes it with none
 pub no_two-with : {A : Type 0} (test : A → A → Bool) (xs : List A) (new : A) → list_any (λ x. test x new) xs ≡ false → NoTwo test xs → NoTwo test (xs ++ new ∷ [])
 no_two-with test [] new none apart = (refl, tt)
 no_two-with test (x ∷ xs) new none apart =

@@ -1,6 +1,6 @@
--- A frame of parts without padding is read again with octets behind it, which are the padding.
+-- A frame of parts without padding is read again with octets after it, which are the padding.
 use Rattle.std.proofs.Common.{◌≡◌, ℕ, List, [], ◌++◌, ap, ◌∙◌, append-nil}
-use Rattle.macsec_tag.specs.Tag.{IsTag, spelling}
+use Rattle.macsec_tag.specs.Tag.{IsTag, encoding}
 use Rattle.macsec_tag.specs.Frame.{HasLengths, MpduParts, in_a_row}
 use Rattle.macsec_tag.specs.Table.{reading, tagged}
 use Rattle.macsec_tag.specs.Laws.{ReadAgain}
@@ -10,7 +10,7 @@ with_behind p behind = record p { padding = behind }
 
 row_with : (p : MpduParts) → p.padding ≡ [] → (behind : List ℕ) → in_a_row p ++ behind ≡ in_a_row (with_behind p behind)
 row_with p none behind =
-    let front : List ℕ = p.da ++ p.sa ++ spelling p.tag ++ p.secure_data ++ p.icv in
+    let front : List ℕ = p.da ++ p.sa ++ encoding p.tag ++ p.secure_data ++ p.icv in
     ap (λ (xs : List ℕ). front ++ xs ++ behind) none ∙ ap (λ (xs : List ℕ). xs ++ behind) (append-nil front)
 
 pub read_with : ((p : MpduParts) → ReadAgain p) → (p : MpduParts) → IsTag p.tag → HasLengths p → p.padding ≡ [] → (behind : List ℕ) → (p.tag.sl ≡ 0 → behind ≡ []) →

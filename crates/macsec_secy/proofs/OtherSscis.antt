@@ -1,10 +1,10 @@
--- Where packet numbers are extended no receive association has the own SSCI of its key, whatever is done.
+-- If packet numbers are extended, no receive association has its key's own SSCI, whatever is done.
 use Rattle.std.proofs.Common.{◌≡◌, ℕ, Bool, false, List, [], ◌∷◌, ◌++◌, map, refl}
 use Rattle.std.specs.Prelude.{◌==◌, Option, Some, None}
 use Rattle.std.specs.List.{All}
 use Rattle.std.proofs.lemmas.List.Elements.{All-append, All-cons, All-map, All-nil, All-weaker}
-use Rattle.macsec_tag.specs.declared.Sci.{Sci}
-use Rattle.macsec_suite.specs.declared.Refusal.TheVariants.{NoKey}
+use Rattle.macsec_tag.specs.declared.identifiers.Sci.{Sci}
+use Rattle.macsec_suite.specs.declared.refusal.Refusal.TheVariants.{NoKey}
 use Rattle.macsec_suite.specs.KeyRows.{InstalledKey, at_number, keys_retiring, retired_row, row_noting, the_key}
 use Rattle.macsec_suite.specs.Refusals.{first_refusal, is_number_used}
 use Rattle.macsec_tx.specs.declared.TxRow.{TxRow}
@@ -102,7 +102,7 @@ pub with_all_narrowed : (keys : List InstalledKey) (channels : Channels) (window
     HaveOtherSscis keys (channels_narrowed channels window).rows
 with_all_narrowed keys channels window have = rows_changed keys (row_narrowed window) (record { key = λ row. refl; ssci = λ row. refl }) channels.rows have
 
--- an association is made
+-- an association is created
 pub with_one_more : (keys : List InstalledKey) (channels : Channels) (sci : Sci) (an key ssci lowest : ℕ) →
     first_refusal (rx_sa_refusals keys channels sci an key ssci lowest) ≡ None → HaveOtherSscis keys channels.rows →
     HaveOtherSscis keys (with_rx_sa channels sci an key ssci lowest).rows

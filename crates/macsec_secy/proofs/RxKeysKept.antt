@@ -2,8 +2,8 @@
 use Rattle.std.proofs.Common.{◌≡◌, ℕ, Bool, false, List, [], ◌∷◌, ◌++◌, map, refl, sym, subst}
 use Rattle.std.specs.Prelude.{not, Option, Some, None}
 use Rattle.std.proofs.lemmas.List.Elements.{All-append, All-cons, All-filter, All-head, All-nil, All-tail, All-weaker}
-use Rattle.macsec_tag.specs.declared.Sci.{Sci}
-use Rattle.macsec_suite.specs.declared.Refusal.TheVariants.{NoKey}
+use Rattle.macsec_tag.specs.declared.identifiers.Sci.{Sci}
+use Rattle.macsec_suite.specs.declared.refusal.Refusal.TheVariants.{NoKey}
 use Rattle.macsec_suite.specs.KeyRows.{InstalledKey, keys_noting, keys_retiring}
 use Rattle.macsec_suite.specs.Refusals.{first_refusal, is_number_used}
 use Rattle.macsec_tx.specs.declared.TxRow.{TxRow}
@@ -69,7 +69,7 @@ pub without_channel_of : (keys : List InstalledKey) (channels : Channels) (sci :
     HaveRxKeys keys (without_channel channels sci).rows
 without_channel_of keys channels sci have = All-filter (λ row. not (same_sci row.sci sci)) (KeyIsThere keys) channels.rows have
 
--- an association is made
+-- an association is created
 pub with_one_more : (keys : List InstalledKey) (channels : Channels) (sci : Sci) (an key ssci lowest : ℕ) →
     first_refusal (rx_sa_refusals keys channels sci an key ssci lowest) ≡ None → HaveRxKeys keys channels.rows →
     HaveRxKeys keys (with_rx_sa channels sci an key ssci lowest).rows

@@ -5,7 +5,7 @@ use Rattle.std.specs.Prelude.{◌==◌, nat_lt, if◌then◌else◌, Option, Som
 use Rattle.std.specs.List.{All, list_any, slice_index_or}
 use Rattle.std.proofs.lemmas.Bool.{and_parts, eqb-true, false_from_ne_true, ltb-false, or_parts}
 use Rattle.std.proofs.lemmas.List.Elements.{All-append, All-cons, All-filter, All-map, All-nil, All-weaker}
-use Rattle.macsec_tag.specs.declared.Sci.{Sci}
+use Rattle.macsec_tag.specs.declared.identifiers.Sci.{Sci}
 use Rattle.macsec_suite.specs.KeyRows.{InstalledKey}
 use Rattle.macsec_suite.specs.Refusals.{first_refusal, holds_of}
 use Rattle.macsec_rx.specs.declared.RxRow.{RxRow}
@@ -84,7 +84,7 @@ with_one_switched channels window sci an on agree = record {
   within = within_after window (at_place (row_switched on) sci an) (λ row within. one_within window (row_switched on) sci an row (λ here. within) within) channels.rows agree.within;
 }
 
--- some associations are removed
+-- some associations are deleted
 pub some_left : (keep : RxRow → Bool) (window : ℕ) (rows : List RxRow) → RxRowsAgree window rows → RxRowsAgree window (filter keep rows)
 some_left keep window rows agree = record {
   places = no_two-filter keep same_place rows agree.places;

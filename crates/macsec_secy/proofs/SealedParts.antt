@@ -1,11 +1,11 @@
--- What was sealed of a client's frame is opened again, under the same bytes, offset and IV, and gives the frame.
+-- What was sealed of a client frame is opened again, with the same key bytes, offset and IV, and gives the frame.
 use Rattle.std.proofs.Common.{◌≡◌, ℕ, ◌+◌, ◌≤◌, Bool, true, false, List, ◌++◌, length, take, drop, min, refl, ap, sym, ◌∙◌, arith, append_assoc, length-append}
 use Rattle.std.specs.Prelude.{slice_range, if◌then◌else◌, Some}
 use Rattle.std.proofs.Math.Seq.{take-add, take-append_seam, drop-append_seam}
 use Rattle.std.proofs.lemmas.List.{length-take-le, take-append-drop}
 use Rattle.macsec_gcm.specs.Gcm.{open_of, seal_of}
 use Rattle.macsec_gcm.specs.Laws.{OpenUndoesSeal, SealedLengths}
-use Rattle.macsec_tag.specs.Tag.{Tag, spelling}
+use Rattle.macsec_tag.specs.Tag.{Tag, encoding}
 use Rattle.macsec_suite.specs.Keys.{PreparedKey}
 use Rattle.macsec_suite.specs.Parts.{aad_and_plaintext, clear_length}
 use Rattle.macsec_tx.specs.Transmit.{parts_under}
@@ -50,11 +50,11 @@ rest_again offset e xs ys long =
 cut_again : (offset : ℕ) (e : Bool) (da sa : List ℕ) (tag : Tag) (xs ys : List ℕ) → length ys ≡ length (drop (clear_length offset e xs) xs) →
     aad_and_plaintext offset e da sa tag (with_clear offset e xs ys) ≡ two (aad_and_plaintext offset e da sa tag xs).0 ys
 cut_again offset e da sa tag xs ys long =
-    both _ _ _ _ (ap (λ (clear : List ℕ). da ++ sa ++ spelling tag ++ clear) (clear_again offset e xs ys long)) (rest_again offset e xs ys long)
+    both _ _ _ _ (ap (λ (clear : List ℕ). da ++ sa ++ encoding tag ++ clear) (clear_again offset e xs ys long)) (rest_again offset e xs ys long)
 
 -- ---- what was sealed is opened
 
--- the additional authenticated data and the plaintext of a client's frame
+-- the additional authenticated data and the plaintext of a client frame
 abbrev pub sealed_of : ℕ → Tag → List ℕ → List ℕ × List ℕ
 sealed_of offset tag frame = aad_and_plaintext offset tag.e (take 6 frame) (slice_range frame 6 12) tag (drop 12 frame)
 
@@ -71,7 +71,7 @@ sealed_opens undoes lengths key iv tag frame =
     let cut = cut_again key.offset tag.e (take 6 frame) (slice_range frame 6 12) tag (drop 12 frame) ct.0 (lengths.ciphertext key.bytes iv s.0 s.1) in
     ap (λ (ac : List ℕ × List ℕ). open_of key.bytes iv ac.0 ac.1 ct.1) cut ∙ opens undoes key.bytes iv s.0 s.1
 
--- ---- and gives the client's frame
+-- ---- and gives the client frame
 
 pub gives_frame : SealedLengths → (key : PreparedKey) (iv : List ℕ) (tag : Tag) (frame : List ℕ) →
     let p = parts_under key iv tag frame in

@@ -1,4 +1,4 @@
--- What an endpoint answers to a client's frame, and what holds of the tables that it leaves.
+-- What an endpoint returns for a client frame, and what holds of the tables that it leaves.
 use Rattle.std.proofs.Common.{◌≡◌, ℕ, ◌+◌, Bool, true, false, List, length, refl, sym, ap, subst, ◌∙◌}
 use Rattle.std.specs.Prelude.{nat_lt, if◌then◌else◌, Option, Some, None}
 use Rattle.macsec_suite.specs.Suites.{last_of}
@@ -10,20 +10,20 @@ use Rattle.macsec_tx.specs.declared.TxRow.{TxRow}
 use Rattle.macsec_tx.specs.Answers.{IfMade, ShowsLeaving}
 use Rattle.macsec_tx.specs.Rows.{AreTxRows}
 use Rattle.macsec_tx.specs.Transmit.{Leaving, plain, protected, no_sa, too_long, Sending, keys_after, not_protected, octets_added, row_on, rows_after, sending, sending_by, tag_sent}
-use Rattle.macsec_secy.specs.declared.FrameFault.{FrameFault}
+use Rattle.macsec_secy.specs.declared.fault.FrameFault.{FrameFault}
 use Rattle.macsec_secy.specs.State.{State, tx_options}
 use Rattle.macsec_secy.specs.Step.{client_frame, frame_fault, leaves, sending_of, sent_output, state_after_sending, step, unless_fault}
 use Rattle.macsec_secy.specs.Sound.{IsSound}
 use Rattle.macsec_secy.proofs.StaysSound.{TablesHold, after_client_frame}
 
--- the answer to a frame that leaves protected
+-- the result for a frame that is sent protected
 pub left_protected : (s : State) (frame : List ℕ) → frame_fault frame ≡ None → (options : TxOptions) → options ≡ tx_options s → (key : ℕ) (out : List ℕ) →
     (sending options s.keys s.tx frame).leaving ≡ protected key out → leaves out (Some key) ≡ (step s (client_frame frame)).0
 left_protected s frame fits options same key out protects =
     let leaving : (sending (tx_options s) s.keys s.tx frame).leaving ≡ protected key out = ap (λ o. (sending o s.keys s.tx frame).leaving) (sym same) ∙ protects in
     rw (fits, leaving) refl
 
--- ---- no association protects what leaves as it is, or does not leave
+-- ---- no association protects a frame that is sent as it is, or dropped
 
 abbrev IsProtected : Leaving → Type 0
 IsProtected plain = ⊥

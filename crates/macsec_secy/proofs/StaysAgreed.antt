@@ -1,17 +1,17 @@
--- The rows of an endpoint's tables agree with one another from its making on, whatever comes in.
+-- The rows of an endpoint's tables agree with one another from its creation on, whatever comes in.
 use Rattle.std.proofs.Common.{◌≡◌, ◌⊎◌, ℕ, Bool, true, false, List, [], filter, refl}
 use Rattle.std.specs.Prelude.{not, Option, Some, None}
 use Rattle.std.proofs.lemmas.List.Elements.{All-filter, All-nil}
-use Rattle.macsec_suite.specs.declared.Refusal.{Refusal}
+use Rattle.macsec_suite.specs.declared.refusal.Refusal.{Refusal}
 use Rattle.macsec_suite.specs.KeyRows.{new_row}
 use Rattle.macsec_tx.specs.Transmit.{Sending, row_on}
 use Rattle.macsec_rx.specs.declared.RxRow.{RxRow}
 use Rattle.macsec_rx.specs.Channels.{is_at, same_sci}
 use Rattle.macsec_rx.specs.Judge.{Judgement}
-use Rattle.macsec_secy.specs.declared.EndConfig.{EndConfig}
-use Rattle.macsec_secy.specs.declared.FrameFault.{FrameFault}
-use Rattle.macsec_secy.specs.declared.Command.{Command}
-use Rattle.macsec_secy.specs.declared.Command.TheVariants.{Protect, Validate, Replay, Tag, Key, Retire, TxSa, TxOn, TxOff, TxDel, RxSc, RxScDel, RxSa, RxOn, RxOff, RxLow, RxDel}
+use Rattle.macsec_secy.specs.declared.config.EndConfig.{EndConfig}
+use Rattle.macsec_secy.specs.declared.fault.FrameFault.{FrameFault}
+use Rattle.macsec_secy.specs.declared.command.Command.{Command}
+use Rattle.macsec_secy.specs.declared.command.Command.TheVariants.{Protect, Validate, Replay, Tag, Key, Retire, TxSa, TxOn, TxOff, TxDel, RxSc, RxScDel, RxSa, RxOn, RxOff, RxLow, RxDel}
 use Rattle.macsec_secy.specs.State.{State, start, tx_options}
 use Rattle.macsec_secy.specs.Agrees.{Agrees, HasOtherSsci}
 use Rattle.macsec_secy.specs.Commands.{effect, refusal, refusals, unless_refused}

@@ -1,7 +1,7 @@
--- What the verdict on a frame tells of the step that decided.
+-- What the verdict on a frame says of the step that decided.
 use Rattle.std.proofs.Common.{◌≡◌, ℕ, Bool, true, false, List, [], ◌∷◌, map, refl, ap, sym, ◌∙◌}
 use Rattle.std.specs.Prelude.{if◌then◌else◌, nat_le, not, ◌&&◌, ◌||◌, option_map, Option, Some, None}
-use Rattle.macsec_tag.specs.declared.Sci.{Sci}
+use Rattle.macsec_tag.specs.declared.identifiers.Sci.{Sci}
 use Rattle.macsec_tag.specs.Frame.{MpduParts}
 use Rattle.macsec_pn.specs.Numbers.{is_late, recovered_number}
 use Rattle.macsec_suite.specs.KeyRows.{InstalledKey, the_key}
@@ -12,13 +12,13 @@ use Rattle.macsec_rx.specs.declared.RxRow.{RxRow}
 use Rattle.macsec_rx.specs.declared.Verdict.TheVariants.{BadTag, Reserved, NoSa, NoSaError, Late, NotValid, Unchecked, Delayed, Invalid, Passed}
 use Rattle.macsec_rx.specs.Channels.{Channels, same_sci}
 use Rattle.macsec_rx.specs.Judge.{Judgement, at_row, bare_frame, is_bad_number, is_disabled, is_strict, judge_number, judge_opened, judge_row, judge_tagged, judge_tagged_row, opened_frame, place_of, plaintext_of, without_row}
-use Rattle.macsec_secy.specs.declared.Counters.{Counters}
-use Rattle.macsec_secy.specs.declared.ChannelCounters.{ChannelCounters}
+use Rattle.macsec_secy.specs.declared.counters.Counters.{Counters}
+use Rattle.macsec_secy.specs.declared.counters.ChannelCounters.{ChannelCounters}
 use Rattle.macsec_secy.specs.Counting.{count_at, count_in_channel, count_packet}
 use Rattle.macsec_secy.specs.Reception.{packet_counted, rx_packet_counted}
 use Rattle.macsec_secy.specs.Verdicts.{counted_at_place, is_opened}
 
--- the verdict and the way of validation tell which counters the frame raises
+-- the verdict and the mode of validation say which counters the frame raises
 pub record Tells (mode : Mode) (j : Judgement) : Type 0 where
   pub packet : (c : Counters) → packet_counted j c ≡ count_packet j.verdict c
   pub channel : (rows : List ChannelCounters) → rx_packet_counted j rows ≡ counted_at_place j.verdict (option_map place_of j.row) rows

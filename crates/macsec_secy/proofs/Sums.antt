@@ -1,28 +1,25 @@
 -- A counter that is raised raises the sum of the counters of received packets, and each other change keeps
 -- it.
 use Rattle.std.proofs.Common.{◌≡◌, ℕ, ◌+◌, ◌*◌, ◌/◌, ◌%◌, ◌^◌, Bool, true, false, List, [], ◌∷◌, map, refl, sym, ap, ◌∙◌, arith}
+use Rattle.std.proofs.lemmas.Bool.{or_parts}
 use Rattle.std.specs.Prelude.{if◌then◌else◌, ◌||◌}
 use Rattle.std.specs.List.{sum_by}
 use Rattle.std.specs.Cmp.Lexicographic.{same_text}
 use Rattle.std.proofs.Math.Nat.{add-mul-mod_self_left, add-mod-mod, mod-add-div, mod-add-mod}
 use Rattle.std.proofs.lemmas.List.Sums.{sum_by-cons}
-use Rattle.macsec_tag.specs.declared.Sci.{Sci}
+use Rattle.macsec_tag.specs.declared.identifiers.Sci.{Sci}
 use Rattle.macsec_rx.specs.declared.Verdict.{Verdict}
 use Rattle.macsec_rx.specs.declared.Verdict.TheVariants.{Late, NotValid, Unchecked, Delayed, Invalid, Passed}
 use Rattle.macsec_rx.specs.Channels.{same_sci}
 use Rattle.macsec_rx.specs.Commands.{has_channel}
 use Rattle.macsec_rx.specs.Rows.{AreScis}
-use Rattle.macsec_secy.specs.declared.RxCounters.{RxCounters}
-use Rattle.macsec_secy.specs.declared.ChannelCounters.{ChannelCounters}
+use Rattle.macsec_secy.specs.declared.counters.RxCounters.{RxCounters}
+use Rattle.macsec_secy.specs.declared.counters.ChannelCounters.{ChannelCounters}
 use Rattle.macsec_secy.specs.Counting.{plus, count_at, count_in_channel}
 use Rattle.macsec_secy.specs.Sums.{channel_packets_of}
 use Rattle.macsec_secy.specs.Sound.{sci_of_counters}
 
-either_false : (a b : Bool) → (a || b) ≡ false → (a ≡ false) × (b ≡ false)
-either_false true b h = cc
-either_false false b h = (refl, h)
-
--- SCIs that are told as the same are the same
+-- SCIs that are found the same are the same
 pub one_sci : (s t : Sci) → same_sci s t ≡ true → s ≡ t
 one_sci s t same = ap {B = Sci} (λ octets. record { 0 = octets }) (same_text s.0 t.0 (sym same))
 
@@ -87,7 +84,7 @@ channels_packets rows = sum_by (λ row. channel_packets_of row.counters) rows
 none_counted : (verdict : Verdict) (sci : Sci) (rows : List ChannelCounters) → has_channel (map sci_of_counters rows) sci ≡ false → map (count_at verdict sci) rows ≡ rows
 none_counted verdict sci [] none = refl
 none_counted verdict sci (row ∷ rows) none =
-    let parts = either_false (same_sci row.sci sci) (has_channel (map sci_of_counters rows) sci) none in
+    let parts = or_parts (same_sci row.sci sci) (has_channel (map sci_of_counters rows) sci) none in
     ap (λ b. (if b then record row { counters = count_in_channel verdict row.counters } else row) ∷ map (count_at verdict sci) rows) parts.0
     ∙ ap (λ rs. row ∷ rs) (none_counted verdict sci rows parts.1)
 

@@ -1,7 +1,7 @@
--- What an endpoint answers to a tagged frame, and the state that it leaves, are those of the machine.
+-- What an endpoint returns for a tagged frame, and the state that it leaves, are those of the machine.
 use Rattle.std.proofs.Common.{◌≡◌, ℕ, List, length, refl, sym}
 use Rattle.std.specs.Prelude.{option_map, Option, None}
-use Rattle.macsec_tag.specs.declared.Sci.{Sci}
+use Rattle.macsec_tag.specs.declared.identifiers.Sci.{Sci}
 use Rattle.macsec_tag.specs.Frame.{MpduParts}
 use Rattle.macsec_tag.specs.Table.{reading, tagged}
 use Rattle.macsec_rx.specs.declared.Mode.{Mode}
@@ -9,8 +9,8 @@ use Rattle.macsec_rx.specs.declared.RxOptions.{RxOptions}
 use Rattle.macsec_rx.specs.Channels.{Channels}
 use Rattle.macsec_rx.specs.declared.Verdict.{Verdict}
 use Rattle.macsec_rx.specs.Judge.{Judgement, judge_tagged, place_of, rows_after}
-use Rattle.macsec_secy.specs.declared.Counters.{Counters}
-use Rattle.macsec_secy.specs.declared.ChannelCounters.{ChannelCounters}
+use Rattle.macsec_secy.specs.declared.counters.Counters.{Counters}
+use Rattle.macsec_secy.specs.declared.counters.ChannelCounters.{ChannelCounters}
 use Rattle.macsec_secy.specs.State.{State, rx_options}
 use Rattle.macsec_secy.specs.Reception.{octets_counted, packet_counted}
 use Rattle.macsec_secy.specs.Verdicts.{counted_at_place, counted_by}

@@ -1,4 +1,4 @@
--- No two transmit associations have one number, and at most one is on, whatever is done.
+-- No two transmit associations have one number, and at most one is enabled, whatever is done.
 use Rattle.std.proofs.Common.{◌≡◌, ◌∙◌, ℕ, Bool, true, false, List, map, refl, sym}
 use Rattle.std.specs.Prelude.{◌==◌, ◌&&◌, not, if◌then◌else◌, Option, Some, None}
 use Rattle.std.proofs.lemmas.Bool.{and_right, eq-eqb, eqb-true}
@@ -20,7 +20,7 @@ pub record TxRowsAgree (rows : List TxRow) : Type 0 where
 numbers_kept : (f : TxRow → TxRow) → ((row : TxRow) → (f row).an ≡ row.an) → (rows : List TxRow) → NoTwo same_an rows → NoTwo same_an (map f rows)
 numbers_kept f same rows apart = no_two-map f same_an same_an (λ a b differs. rw (same a, same b) differs) rows apart
 
--- a new association, which is off
+-- a new association, which is disabled
 pub with_one_more : (keys : List InstalledKey) (rows : List TxRow) (an key next : ℕ) (conf : Bool) → first_refusal (tx_sa_refusals keys rows an key next) ≡ None →
     TxRowsAgree rows → TxRowsAgree (with_tx_sa rows an key next conf)
 with_one_more keys rows an key next conf e agree =
@@ -31,7 +31,7 @@ with_one_more keys rows an key next conf e agree =
       one_on = no_two-with both_on rows new (none_at_all (λ row. row.on && false) (λ row. and_right row.on false refl) rows) agree.one_on;
     }
 
--- the association that is on has the number, and no other one has it
+-- the enabled association has the number, and no other one has it
 pub with_one_on : (rows : List TxRow) (an : ℕ) → TxRowsAgree rows → TxRowsAgree (with_tx_on rows an)
 with_one_on rows an agree = record {
   numbers = numbers_kept (switch_to an) (λ row. refl) rows agree.numbers;
@@ -68,7 +68,7 @@ without_one rows an agree = record {
   one_on = no_two-filter (λ row. not (row.an == an)) both_on rows agree.one_on;
 }
 
--- a client's frame is sent
+-- a client frame is sent
 pub after_sending : (rows : List TxRow) (by : Option TxRow) → TxRowsAgree rows → TxRowsAgree (rows_after rows by)
 after_sending rows None agree = agree
 after_sending rows (Some by) agree = record {

@@ -134,7 +134,7 @@ others_used keys by (row ∷ rows) none have =
       others_used keys by rows parts.1 have.2,
     )
 
--- a key that no association uses is not that of the association that is on
+-- a key that no association uses is not that of the enabled association
 on_has_other_key : (rows : List TxRow) (by : TxRow) (key : ℕ) → row_on rows ≡ Some by → tx_uses rows key ≡ false → (by.key ≡ key → ⊥)
 on_has_other_key [] by key on none = cc
 on_has_other_key (row ∷ rows) by key on none =
@@ -145,7 +145,7 @@ on_has_other_key (row ∷ rows) by key on none =
     by_on true other later on' same = let it : row ≡ by = cc in eqb-false row.key key other (ap (λ r. r.key) it ∙ same)
     by_on false other later on' same = later on' same
 
--- the next number of the association that is on
+-- the next number of the enabled association
 pub on_unused : (keys : List InstalledKey) (rows : List TxRow) (by : TxRow) → row_on rows ≡ Some by → HaveUnusedNext keys rows → HasUnusedNext keys by
 on_unused keys [] by on have = cc
 on_unused keys (row ∷ rows) by on have = by_on row.on (λ on'. on_unused keys rows by on' have.2) on
@@ -172,7 +172,7 @@ after_sending keys (row ∷ rows) by on have = by_on row.on (λ on'. after_sendi
       later on',
     )
 
--- a client's frame is sent, by the association that is on, if by any
+-- a client frame is sent, by the enabled association, if by any
 pub after_frame : (keys : List InstalledKey) (rows : List TxRow) (by : Option TxRow) → (by ≡ None) ⊎ (by ≡ row_on rows) → HaveUnusedNext keys rows →
     HaveUnusedNext (keys_after keys by) (rows_after rows by)
 after_frame keys rows None which have = have

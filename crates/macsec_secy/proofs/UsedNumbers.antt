@@ -5,15 +5,15 @@ use Rattle.std.specs.Prelude.{nat_lt, if◌then◌else◌, Option, Some, None}
 use Rattle.std.proofs.lemmas.Bool.{cases_eq}
 use Rattle.std.proofs.lemmas.List.Elements.{All-cons, All-nil, All-weaker}
 use Rattle.std.proofs.lemmas.List.Kept.{AllPairs-cons}
-use Rattle.macsec_suite.specs.declared.Refusal.{Refusal}
+use Rattle.macsec_suite.specs.declared.refusal.Refusal.{Refusal}
 use Rattle.macsec_suite.specs.Suites.{last_of}
 use Rattle.macsec_suite.specs.KeyRows.{InstalledKey, keys_noting, the_key}
 use Rattle.macsec_tx.specs.declared.TxRow.{TxRow}
 use Rattle.macsec_tx.specs.declared.TxOptions.{TxOptions}
 use Rattle.macsec_tx.specs.Transmit.{Leaving, no_sa, too_long, Sending, keys_after, not_protected, octets_added, row_on, rows_after, sending, sending_by, tag_sent}
-use Rattle.macsec_secy.specs.declared.EndConfig.{EndConfig}
-use Rattle.macsec_secy.specs.declared.FrameFault.{FrameFault}
-use Rattle.macsec_secy.specs.declared.Command.{Command}
+use Rattle.macsec_secy.specs.declared.config.EndConfig.{EndConfig}
+use Rattle.macsec_secy.specs.declared.fault.FrameFault.{FrameFault}
+use Rattle.macsec_secy.specs.declared.command.Command.{Command}
 use Rattle.macsec_secy.specs.State.{State, start, tx_options}
 use Rattle.macsec_secy.specs.Commands.{effect, refusal, unless_refused}
 use Rattle.macsec_secy.specs.Step.{Input, Output, operator_command, client_frame, uncontrolled_frame, link_frame, frame_fault, leaves, received_output, sending_of, sent_output, state_after_sending, step, unless_fault}
@@ -83,8 +83,7 @@ sending_goes keys rows (Some row) (inr on) have = record {
   adds = row_adds keys row (on_unused keys rows row (sym on) have);
 }
 
--- a frame is protected by the association that is on, if by any: it may be exhausted, or the protected
--- frame too long
+-- a frame is protected by the enabled association, if by any: it may be exhausted, or the protected frame too long
 abbrev unless_dropped : Bool → Bool → Sending → Sending
 unless_dropped exhausted long sent = if exhausted then not_protected no_sa else if long then not_protected too_long else sent
 

@@ -1,12 +1,12 @@
--- The law on acceptance: the frame that one endpoint makes of its client's frame is passed by another endpoint
--- that has its association, and gives the client's frame.
+-- The law on acceptance: the frame that one endpoint sends for a client frame is passed by another endpoint that has
+-- its association, and gives the client frame.
 use Rattle.std.specs.Prelude.{◌≡◌, ◌≢◌, ◌≤◌, ◌<◌, ◌+◌, ◌^◌, ℕ, List, [], ◌++◌, length, true, Some, None}
-use Rattle.macsec_tag.specs.declared.Sci.{Sci}
+use Rattle.macsec_tag.specs.declared.identifiers.Sci.{Sci}
 use Rattle.macsec_tag.specs.Frame.{MpduParts, in_a_row}
 use Rattle.macsec_suite.specs.Suites.{is_xpn}
 use Rattle.macsec_suite.specs.KeyRows.{InstalledKey, the_key}
 use Rattle.macsec_tx.specs.declared.TxRow.{TxRow}
-use Rattle.macsec_tx.specs.Limits.{max_frame_len}
+use Rattle.macsec_tag.specs.Limits.{max_frame_len}
 use Rattle.macsec_tx.specs.Transmit.{parts_sent}
 use Rattle.macsec_rx.specs.declared.RxRow.{RxRow}
 use Rattle.macsec_rx.specs.declared.Mode.TheVariants.{Disabled}
@@ -16,9 +16,9 @@ use Rattle.macsec_secy.specs.State.{State, tx_options}
 use Rattle.macsec_secy.specs.Step.{frame_fault, link_frame, received, sending_of, step}
 use Rattle.macsec_secy.specs.Sound.{IsSound}
 
--- the key of a receive association goes with that of a transmit association: it has its bytes, suite and
--- offset, and with extended packet numbers its salt; then the SSCI of the receive association is the own one
--- of the transmit association's key
+-- the key of a receive association matches that of a transmit association: it has its bytes, suite and offset, and with
+-- extended packet numbers its salt; then the SSCI of the receive association is the own SSCI of the transmit
+-- association's key
 pub record HasSameKey (sender receiver : InstalledKey) (of_row : ℕ) : Type 0 where
   pub bytes : receiver.bytes ≡ sender.bytes
   pub suite : receiver.suite ≡ sender.suite
@@ -26,9 +26,9 @@ pub record HasSameKey (sender receiver : InstalledKey) (of_row : ℕ) : Type 0 w
   pub salt : is_xpn sender.suite ≡ true → receiver.salt ≡ sender.salt
   pub ssci : is_xpn sender.suite ≡ true → of_row ≡ sender.ssci
 
--- the receiver validates; the SCI of the parts that the sender's association makes is the sender's; the
--- receiver's association with it and with their association number is on, and has the key; and the packet
--- number is not late, nor, where it is extended, too far on to be recovered
+-- the receiver validates; the SCI of the parts that the sender's association gives is the sender's; the receiver's
+-- association with it and with their association number is enabled, and has the key; and the packet number is not late,
+-- nor, if it is extended, too high to be recovered
 pub record CanAccept (sender receiver : State) (tx : TxRow) (rx : RxRow) (p : MpduParts) : Type 0 where
   pub not_disabled : receiver.options.mode ≢ Disabled
   pub sci : sci_of receiver.rx.scis p ≡ Some sender.config.sci
@@ -37,13 +37,13 @@ pub record CanAccept (sender receiver : State) (tx : TxRow) (rx : RxRow) (p : Mp
   pub not_late : rx.lowest ≤ tx.next
   pub near : is_xpn (the_key sender.keys tx.key).suite ≡ true → tx.next < rx.lowest + 2 ^ 31
 
--- octets may come behind a frame of these parts, as padding does: where SL is 0 there are none, and the frame with
--- them is none too long
+-- octets may come after a frame of these parts, as padding does: if SL is 0 there are none, and the frame with them is
+-- not too long
 pub record CanComeBehind (p : MpduParts) (behind : List ℕ) : Type 0 where
   pub none : p.tag.sl ≡ 0 → behind ≡ []
   pub most : length (in_a_row p ++ behind) ≤ max_frame_len
 
--- the answer to the frame is that it is passed, from the association at this place, and gives the client's frame
+-- the output for the frame is that it is passed, from the association at this place, and gives the client frame
 abbrev pub IsPassed : State → Sci → ℕ → List ℕ → List ℕ → Type 0
 IsPassed receiver sci an frame client = (step receiver (link_frame frame)).0 ≡ received Passed (Some (sci, an)) frame (Some client)
 

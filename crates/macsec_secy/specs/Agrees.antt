@@ -1,5 +1,5 @@
--- How the rows of an endpoint's tables agree with one another, whatever came in since its making
--- (IEEE 802.1AE, 10.7). It stands by itself: each step keeps it without the rest of what holds of an endpoint.
+-- How the rows of an endpoint's tables agree with one another, whatever came in since its creation (IEEE 802.1AE,
+-- 10.7). Each step keeps this by itself, without the rest of what holds of an endpoint.
 use Rattle.std.specs.Prelude.{◌≡◌, ◌≤◌, ◌+◌, ℕ, List, [], ◌∷◌, ◌==◌, Bool, false, ◌&&◌, IsSome}
 use Rattle.std.specs.List.{All, list_any}
 use Rattle.macsec_gcm.specs.Octets.{same_octets}
@@ -11,7 +11,7 @@ use Rattle.macsec_rx.specs.Channels.{is_at}
 use Rattle.macsec_rx.specs.Commands.{has_channel, is_own_ssci}
 use Rattle.macsec_secy.specs.State.{State}
 
--- no element of the list has one behind it that passes the test with it
+-- no element of the list has one after it that passes the test with it
 abbrev pub NoTwo : {A : Type 0} → (A → A → Bool) → List A → Type 0
 NoTwo test [] = Unit {0}
 NoTwo test (x ∷ xs) = (list_any (test x) xs ≡ false) × NoTwo test xs
@@ -40,7 +40,7 @@ pub record HasUnusedNext (keys : List InstalledKey) (row : TxRow) : Type 0 where
   pub there : IsSome (key_row keys row.key)
   pub next : first_unused keys row.key ≤ row.next
 
--- each association is such a one, and no two of them have one key
+-- each association has such a next packet number, and no two of them have the same key
 abbrev pub HaveUnusedNext : List InstalledKey → List TxRow → Type 0
 HaveUnusedNext keys [] = Unit {0}
 HaveUnusedNext keys (row ∷ rows) = HasUnusedNext keys row × (tx_uses rows row.key ≡ false) × HaveUnusedNext keys rows
@@ -59,7 +59,7 @@ pub record Agrees (s : State) : Type 0 where
   pub unused_next : HaveUnusedNext s.keys s.tx
   -- no two transmit associations have one number
   pub tx_numbers : NoTwo same_an s.tx
-  -- at most one transmit association is on
+  -- at most one transmit association is enabled
   pub one_on : NoTwo both_on s.tx
   -- no receive channel has the endpoint's own SCI
   pub other_scis : has_channel s.rx.scis s.config.sci ≡ false

@@ -1,20 +1,20 @@
--- What the calls of an endpoint answer, as outputs of the machine.
+-- What the calls of an endpoint return, as outputs of the machine.
 use Rattle.std.specs.Prelude.{◌≡◌, ℕ, List, Option, Some, None, Result, Ok, Err, option_map, find}
 use Rattle.std.specs.Borrow.{Bor}
-use Rattle.macsec_suite.specs.declared.Refusal.{Refusal}
-use Rattle.macsec_secy.specs.declared.EndConfig.{EndConfig}
-use Rattle.macsec_secy.specs.declared.FrameFault.{FrameFault}
-use Rattle.macsec_secy.specs.declared.NewFault.{NewFault}
-use Rattle.macsec_secy.specs.declared.NewFault.TheVariants.{Memory, MaxFrame, SciForm}
-use Rattle.macsec_secy.specs.declared.Received.{Received}
-use Rattle.macsec_secy.specs.declared.Sent.{Sent}
-use Rattle.macsec_secy.specs.declared.Sent.TheVariants.{Link, Dropped}
-use Rattle.macsec_secy.specs.declared.DropReason.{DropReason}
-use Rattle.macsec_secy.specs.declared.DropReason.TheVariants.{NoSa, TooLong}
-use Rattle.macsec_tag.specs.declared.Sci.{Sci}
+use Rattle.macsec_suite.specs.declared.refusal.Refusal.{Refusal}
+use Rattle.macsec_secy.specs.declared.config.EndConfig.{EndConfig}
+use Rattle.macsec_secy.specs.declared.fault.FrameFault.{FrameFault}
+use Rattle.macsec_secy.specs.declared.fault.NewFault.{NewFault}
+use Rattle.macsec_secy.specs.declared.fault.NewFault.TheVariants.{Memory, MaxFrame, SciForm}
+use Rattle.macsec_secy.specs.declared.answers.Received.{Received}
+use Rattle.macsec_secy.specs.declared.answers.Sent.{Sent}
+use Rattle.macsec_secy.specs.declared.answers.Sent.TheVariants.{Link, Dropped}
+use Rattle.macsec_secy.specs.declared.answers.DropReason.{DropReason}
+use Rattle.macsec_secy.specs.declared.answers.DropReason.TheVariants.{NoSa, TooLong}
+use Rattle.macsec_tag.specs.declared.identifiers.Sci.{Sci}
 use Rattle.macsec_rx.specs.Channels.{same_sci}
-use Rattle.macsec_secy.specs.declared.RxCounters.{RxCounters}
-use Rattle.macsec_secy.specs.declared.ChannelCounters.{ChannelCounters}
+use Rattle.macsec_secy.specs.declared.counters.RxCounters.{RxCounters}
+use Rattle.macsec_secy.specs.declared.counters.ChannelCounters.{ChannelCounters}
 use Rattle.macsec_secy.specs.State.{State, start}
 use Rattle.macsec_secy.specs.Configs.{config_fault}
 use Rattle.macsec_secy.specs.Step.{Output, done, refused, leaves, dropped_no_sa, dropped_too_long, received, fault}
@@ -45,8 +45,7 @@ abbrev pub output_of_frame : Result (Bor (List ℕ)) FrameFault → Output
 output_of_frame (Ok frame) = leaves frame.now None
 output_of_frame (Err f) = fault f
 
--- of `new`: the state after making, or the fault of the configuration, or, where it has none, want of
--- memory
+-- of `new`: the state at creation, or the fault of the configuration, or, if it has none, out of memory
 abbrev pub MakesEndpoint : EndConfig → Result State NewFault → Type 0
 MakesEndpoint config (Ok s) = (config_fault config ≡ None) × (s ≡ start config)
 MakesEndpoint config (Err Memory) = config_fault config ≡ None

@@ -1,18 +1,17 @@
--- Configurations of which no endpoint can be made.
+-- Configurations from which no endpoint can be created.
 use Rattle.std.specs.Prelude.{ℕ, [], ◌∷◌, drop, Bool, false, not, nat_lt, ◌||◌, Option}
 use Rattle.macsec_gcm.specs.Octets.{same_octets}
-use Rattle.macsec_tag.specs.declared.Sci.{Sci}
+use Rattle.macsec_tag.specs.declared.identifiers.Sci.{Sci}
 use Rattle.macsec_suite.specs.FirstThatHolds.{first_that_holds}
-use Rattle.macsec_tx.specs.Limits.{max_frame_len}
+use Rattle.macsec_tag.specs.Limits.{max_frame_len}
 use Rattle.macsec_tx.specs.declared.TagForm.{TagForm}
 use Rattle.macsec_tx.specs.declared.TagForm.TheVariants as form
-use Rattle.macsec_secy.specs.declared.EndConfig.{EndConfig}
-use Rattle.macsec_secy.specs.declared.NewFault.{NewFault}
-use Rattle.macsec_secy.specs.declared.NewFault.TheVariants.{MaxFrame, SciForm}
+use Rattle.macsec_secy.specs.declared.config.EndConfig.{EndConfig}
+use Rattle.macsec_secy.specs.declared.fault.NewFault.{NewFault}
+use Rattle.macsec_secy.specs.declared.fault.NewFault.TheVariants.{MaxFrame, SciForm}
 use Rattle.macsec_secy.specs.Limits.{min_max_frame}
 
--- the tag form asks for another port than the SCI has: in place of an SCI, ES stands for port 0001 and
--- SCB for port 0000 (9.5)
+-- the tag form requires a port other than the SCI's: in place of an SCI, ES means port 0001 and SCB port 0000 (9.5)
 abbrev pub is_unfit : TagForm → Sci → Bool
 is_unfit form.Auto sci = false
 is_unfit form.Sci sci = false
@@ -23,7 +22,7 @@ is_unfit form.Scb sci = not (same_octets (drop 6 sci.0) (0 ∷ 0 ∷ []))
 abbrev pub is_bad_limit : ℕ → Bool
 is_bad_limit max_frame = nat_lt max_frame min_max_frame || nat_lt max_frame_len max_frame
 
--- why no endpoint can be made of a configuration
+-- why no endpoint can be created from a configuration
 abbrev pub config_fault : EndConfig → Option NewFault
 config_fault config =
     first_that_holds ((MaxFrame, is_bad_limit config.max_frame) ∷ (SciForm, is_unfit config.form config.sci) ∷ [])

@@ -1,22 +1,22 @@
--- Counters, of 64 bits: which of them a client's frame raises, and which a link frame (IEEE 802.1AE, 10.7).
+-- Counters, of 64 bits: which of them a client frame raises, and which a link frame (IEEE 802.1AE, 10.7).
 use Rattle.std.specs.Prelude.{ℕ, ◌+◌, ◌-◌, ◌%◌, ◌^◌, List, length, Bool, if◌then◌else◌, Option, Some, None}
 use Rattle.macsec_tx.specs.declared.TxRow.{TxRow}
 use Rattle.macsec_tx.specs.Transmit.{Leaving, plain, protected, no_sa, too_long}
-use Rattle.macsec_secy.specs.declared.Counters.{Counters}
-use Rattle.macsec_tag.specs.declared.Sci.{Sci}
+use Rattle.macsec_secy.specs.declared.counters.Counters.{Counters}
+use Rattle.macsec_tag.specs.declared.identifiers.Sci.{Sci}
 use Rattle.macsec_rx.specs.declared.Verdict.{Verdict}
 use Rattle.macsec_rx.specs.declared.Verdict.TheVariants.{Untagged, NoTag, BadTag, Reserved, NoSa, NoSaError, Late, NotValid, Unchecked, Delayed, Invalid, Passed}
 use Rattle.macsec_rx.specs.Channels.{same_sci}
-use Rattle.macsec_secy.specs.declared.TxCounters.{TxCounters}
-use Rattle.macsec_secy.specs.declared.RxCounters.{RxCounters}
-use Rattle.macsec_secy.specs.declared.ChannelCounters.{ChannelCounters}
+use Rattle.macsec_secy.specs.declared.counters.TxCounters.{TxCounters}
+use Rattle.macsec_secy.specs.declared.counters.RxCounters.{RxCounters}
+use Rattle.macsec_secy.specs.declared.counters.ChannelCounters.{ChannelCounters}
 
 -- a counter raised by n
 abbrev pub plus : ℕ → ℕ → ℕ
 plus counter n = (counter + n) % 2 ^ 64
 
--- the endpoint's counters after a client's frame: one counts what leaves as it is or does not leave,
--- and none what leaves protected
+-- the endpoint's counters after a client frame: one counts a frame that is sent as it is or dropped, and none a frame
+-- that is sent protected
 abbrev pub count_leaving : Leaving → Counters → Counters
 count_leaving plain c = record c { out_pkts_untagged = plus c.out_pkts_untagged 1 }
 count_leaving (protected key frame) c = c
@@ -31,8 +31,8 @@ count_octets conf octets c =
     then record c { out_pkts_encrypted = plus c.out_pkts_encrypted 1; out_octets_encrypted = plus c.out_octets_encrypted octets }
     else record c { out_pkts_protected = plus c.out_pkts_protected 1; out_octets_protected = plus c.out_octets_protected octets }
 
--- the transmit channel's counters after a client's frame, with the association that protects it, where
--- one does; its data are all but DA and SA
+-- the transmit channel's counters after a client frame, with the association that protects it, if one does; its data
+-- are all but DA and SA
 abbrev pub count_protected : Option TxRow → List ℕ → TxCounters → TxCounters
 count_protected None frame c = c
 count_protected (Some row) frame c = count_octets row.conf (length frame - 12) c

@@ -1,9 +1,9 @@
--- The numbers of the faults of an endpoint's making and of a frame.
+-- The numbers of the faults of a configuration and of a frame.
 use Rattle.std.specs.Prelude.{ℕ}
-use Rattle.macsec_secy.specs.declared.FrameFault.{FrameFault}
-use Rattle.macsec_secy.specs.declared.FrameFault.TheVariants.{Short, Long}
-use Rattle.macsec_secy.specs.declared.NewFault.{NewFault}
-use Rattle.macsec_secy.specs.declared.NewFault.TheVariants.{Memory, MaxFrame, SciForm}
+use Rattle.macsec_secy.specs.declared.fault.FrameFault.{FrameFault}
+use Rattle.macsec_secy.specs.declared.fault.FrameFault.TheVariants.{Short, Long}
+use Rattle.macsec_secy.specs.declared.fault.NewFault.{NewFault}
+use Rattle.macsec_secy.specs.declared.fault.NewFault.TheVariants.{Memory, MaxFrame, SciForm}
 
 abbrev pub number_of_new_fault : NewFault → ℕ
 number_of_new_fault Memory = 1

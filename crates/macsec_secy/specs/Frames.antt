@@ -1,6 +1,6 @@
--- How long the frames are that an endpoint gives out.
+-- The lengths of the frames that an endpoint returns.
 use Rattle.std.specs.Prelude.{◌≡◌, ◌≤◌, ◌+◌, ℕ, List, length, Option, Some, None, IfSome}
-use Rattle.macsec_tx.specs.Limits.{min_frame_len, max_frame_len}
+use Rattle.macsec_tag.specs.Limits.{min_frame_len, max_frame_len}
 use Rattle.macsec_secy.specs.Step.{Output, done, refused, leaves, dropped_no_sa, dropped_too_long, received, fault}
 
 -- the frame has 14 to 9,248 octets
@@ -8,13 +8,13 @@ pub record HasFrameLength (frame : List ℕ) : Type 0 where
   pub least : min_frame_len ≤ length frame
   pub most : length frame ≤ max_frame_len
 
--- of a received frame: it has 14 to 9,248 octets itself, and what is delivered of it at the controlled port,
--- where something is, has no more octets than it has
+-- of a received frame: it has 14 to 9,248 octets itself, and what is delivered of it at the controlled port, if
+-- anything is, has no more octets than it has
 pub record HasReceivedLengths (frame : List ℕ) (delivered : Option (List ℕ)) : Type 0 where
   pub shown : HasFrameLength frame
   pub controlled : IfSome delivered (λ d. length d ≤ length frame)
 
--- a frame that leaves has 14 to 9,248 octets; no other output but that of a received frame has a frame
+-- a frame that is sent has 14 to 9,248 octets; no other output but that of a received frame has a frame
 abbrev pub HasFrameLengths : Output → Type 0
 HasFrameLengths done = Unit {0}
 HasFrameLengths (refused r) = Unit {0}
@@ -24,18 +24,17 @@ HasFrameLengths dropped_too_long = Unit {0}
 HasFrameLengths (received verdict row shown controlled) = HasReceivedLengths shown controlled
 HasFrameLengths (fault f) = Unit {0}
 
--- a protected frame has 24 to 32 octets more than the client's frame: the 8 or 16 of its SecTAG, and the 16
--- of its ICV
+-- a protected frame has 24 to 32 octets more than the client frame: the 8 or 16 of its SecTAG, and the 16 of its ICV
 pub record HasProtectedLength (client frame : List ℕ) : Type 0 where
   pub least : length client + 24 ≤ length frame
   pub most : length frame ≤ length client + 32
 
--- a frame that leaves for a client's frame has as many octets, and, where it is protected, so many more
+-- a frame that is sent for a client frame has as many octets, and, if it is protected, that many more
 abbrev pub HasLengthFrom : List ℕ → Option ℕ → List ℕ → Type 0
 HasLengthFrom client None frame = length frame ≡ length client
 HasLengthFrom client (Some key) frame = HasProtectedLength client frame
 
--- what goes out for a client's frame has such a frame, or none
+-- the output for a client frame has such a frame, or none
 abbrev pub HasLengthsFrom : List ℕ → Output → Type 0
 HasLengthsFrom client done = Unit {0}
 HasLengthsFrom client (refused r) = Unit {0}

@@ -2,8 +2,8 @@
 use Rattle.std.specs.Prelude.{◌≡◌, ◌≢◌, ◌<◌, ℕ, List, [], ◌∷◌, ◌++◌, Option, Some, None}
 use Rattle.std.specs.List.{AllPairs}
 use Rattle.macsec_tx.specs.declared.TxRow.{TxRow}
-use Rattle.macsec_secy.specs.declared.EndConfig.{EndConfig}
-use Rattle.macsec_secy.specs.declared.FrameFault.{FrameFault}
+use Rattle.macsec_secy.specs.declared.config.EndConfig.{EndConfig}
+use Rattle.macsec_secy.specs.declared.fault.FrameFault.{FrameFault}
 use Rattle.macsec_secy.specs.State.{State, start}
 use Rattle.macsec_secy.specs.Step.{Input, operator_command, client_frame, uncontrolled_frame, link_frame, frame_fault, sending_of, step}
 
@@ -35,10 +35,10 @@ numbers_used s (input ∷ inputs) = number_used s input ++ numbers_used (step s 
 abbrev pub RisesUnderOneKey : UsedNumber → UsedNumber → Type 0
 RisesUnderOneKey first later = first.0 ≡ later.0 → first.1 < later.1
 
--- the packet numbers rise under each key, whatever comes in from the making of the endpoint on
+-- the packet numbers rise under each key, whatever comes in from the creation of the endpoint on
 abbrev pub UsesRisingNumbers : EndConfig → List Input → Type 0
 UsesRisingNumbers config inputs = AllPairs RisesUnderOneKey (numbers_used (start config) inputs)
 
--- no two uses are the same, whatever comes in from the making of the endpoint on
+-- no two uses are the same, whatever comes in from the creation of the endpoint on
 abbrev pub UsesNoNumberTwice : EndConfig → List Input → Type 0
 UsesNoNumberTwice config inputs = AllPairs (λ a b. a ≢ b) (numbers_used (start config) inputs)

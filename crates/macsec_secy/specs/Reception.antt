@@ -5,8 +5,8 @@ use Rattle.macsec_rx.specs.declared.RxRow.{RxRow}
 use Rattle.macsec_rx.specs.declared.Verdict.{Verdict}
 use Rattle.macsec_rx.specs.declared.Verdict.TheVariants.{Untagged, NoTag, BadTag}
 use Rattle.macsec_rx.specs.Judge.{Judgement, is_strict, judge_tagged, rows_after, without_row}
-use Rattle.macsec_secy.specs.declared.Counters.{Counters}
-use Rattle.macsec_secy.specs.declared.ChannelCounters.{ChannelCounters}
+use Rattle.macsec_secy.specs.declared.counters.Counters.{Counters}
+use Rattle.macsec_secy.specs.declared.counters.ChannelCounters.{ChannelCounters}
 use Rattle.macsec_secy.specs.State.{State, rx_options}
 use Rattle.macsec_secy.specs.Counting.{count_at, count_octets_received, count_packet}
 
@@ -34,7 +34,7 @@ counted_at_row verdict (Some row) rows = map (count_at verdict row.sci) rows
 abbrev pub rx_packet_counted : Judgement → List ChannelCounters → List ChannelCounters
 rx_packet_counted j rows = if is_counted_by_channel j then counted_at_row j.verdict j.row rows else rows
 
--- where a step from 11 on decides the cipher was applied, and the octets of the data are counted
+-- if step 11, 12 or 13 decides, the cipher was applied, and the octets of the data are counted
 abbrev pub data_counted : Reading → Counters → Counters
 data_counted untagged c = c
 data_counted (bad fault) c = c

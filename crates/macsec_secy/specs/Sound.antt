@@ -1,18 +1,18 @@
 -- What holds of an endpoint at all times.
 use Rattle.std.specs.Prelude.{◌≡◌, ◌<◌, ◌≤◌, ◌^◌, ℕ, map}
 use Rattle.std.specs.List.{All}
-use Rattle.macsec_tag.specs.declared.Sci.{Sci}
+use Rattle.macsec_tag.specs.declared.identifiers.Sci.{Sci}
 use Rattle.macsec_suite.specs.KeyRows.{AreKeyRows}
 use Rattle.macsec_suite.specs.Suites.{widest_window}
-use Rattle.macsec_tx.specs.Limits.{max_frame_len}
+use Rattle.macsec_tag.specs.Limits.{max_frame_len}
 use Rattle.macsec_tx.specs.Commands.{HaveKeys}
 use Rattle.macsec_tx.specs.Rows.{AreTxRows}
 use Rattle.macsec_rx.specs.Commands.{HaveRxKeys}
 use Rattle.macsec_rx.specs.Rows.{AreChannels, IsSci}
-use Rattle.macsec_secy.specs.declared.Counters.{Counters}
-use Rattle.macsec_secy.specs.declared.TxCounters.{TxCounters}
-use Rattle.macsec_secy.specs.declared.RxCounters.{RxCounters}
-use Rattle.macsec_secy.specs.declared.ChannelCounters.{ChannelCounters}
+use Rattle.macsec_secy.specs.declared.counters.Counters.{Counters}
+use Rattle.macsec_secy.specs.declared.counters.TxCounters.{TxCounters}
+use Rattle.macsec_secy.specs.declared.counters.RxCounters.{RxCounters}
+use Rattle.macsec_secy.specs.declared.counters.ChannelCounters.{ChannelCounters}
 use Rattle.macsec_secy.specs.Agrees.{Agrees}
 use Rattle.macsec_secy.specs.Limits.{min_max_frame}
 use Rattle.macsec_secy.specs.State.{State}
@@ -50,10 +50,10 @@ pub record AreRxCounters (c : RxCounters) : Type 0 where
   pub in_pkts_invalid : c.in_pkts_invalid < 2 ^ 64
   pub in_pkts_not_valid : c.in_pkts_not_valid < 2 ^ 64
 
--- the largest frame of the configuration has 64 to 9,248 octets, and the own SCI is 8 octets; keys, transmit
--- associations and receive channels are such as there can be; the replay window is none too wide for the
--- suite, and all keys are of that suite; the key of each association is there; each channel has its counters,
--- in the order of the channels; the counters have 64 bits; and the rows of the tables agree with one another
+-- the largest frame of the configuration has 64 to 9,248 octets, and the endpoint's SCI has 8; keys, transmit
+-- associations and receive channels have their bounds; the replay window is not too wide for the suite, and all keys
+-- are of that suite; the key of each association is in the table; each channel has its counters, in the order of the
+-- channels; the counters have 64 bits; and the rows of the tables agree with one another
 pub record IsSound (s : State) : Type 0 where
   pub max_frame_least : min_max_frame ≤ s.config.max_frame
   pub max_frame_most : s.config.max_frame ≤ max_frame_len
@@ -71,7 +71,7 @@ pub record IsSound (s : State) : Type 0 where
   pub rx_counters : All (λ row. AreRxCounters row.counters) s.rx_counters
   pub agrees : Agrees s
 
--- it is sound, and there is room for the longest frame
+-- it is sound, and its buffer holds the longest frame
 pub record IsReady (s : State) (room_length : ℕ) : Type 0 where
   pub sound : IsSound s
   pub room : room_length ≡ max_frame_len

@@ -3,20 +3,20 @@ use Rattle.std.specs.Prelude.{List, [], length, nat_lt, Bool, true}
 use Rattle.macsec_suite.specs.KeyRows.{InstalledKey}
 use Rattle.macsec_tx.specs.declared.TxRow.{TxRow}
 use Rattle.macsec_tx.specs.declared.TxOptions.{TxOptions}
-use Rattle.macsec_secy.specs.declared.EndConfig.{EndConfig}
+use Rattle.macsec_secy.specs.declared.config.EndConfig.{EndConfig}
 use Rattle.macsec_rx.specs.declared.Mode.TheVariants.{Strict}
 use Rattle.macsec_rx.specs.declared.RxOptions.{RxOptions}
 use Rattle.macsec_rx.specs.Channels.{Channels, no_channels}
-use Rattle.macsec_tag.specs.declared.Sci.{Sci}
-use Rattle.macsec_secy.specs.declared.Options.{Options}
-use Rattle.macsec_secy.specs.declared.Counters.{Counters}
-use Rattle.macsec_secy.specs.declared.TxCounters.{TxCounters}
-use Rattle.macsec_secy.specs.declared.RxCounters.{RxCounters}
-use Rattle.macsec_secy.specs.declared.ChannelCounters.{ChannelCounters}
+use Rattle.macsec_tag.specs.declared.identifiers.Sci.{Sci}
+use Rattle.macsec_secy.specs.declared.command.Options.{Options}
+use Rattle.macsec_secy.specs.declared.counters.Counters.{Counters}
+use Rattle.macsec_secy.specs.declared.counters.TxCounters.{TxCounters}
+use Rattle.macsec_secy.specs.declared.counters.RxCounters.{RxCounters}
+use Rattle.macsec_secy.specs.declared.counters.ChannelCounters.{ChannelCounters}
 
--- the configuration; the options; the keys, in the order of their installation; the transmit
--- associations, in the order of their making; the receive channels with their associations; the counters
--- of the endpoint, of its transmit channel, and of each receive channel
+-- the configuration; the options; the keys, in the order of their installation; the transmit associations, in the order
+-- of their creation; the receive channels with their associations; the counters of the endpoint, of its transmit
+-- channel, and of each receive channel
 pub record State : Type 0 where
   pub config : EndConfig
   pub options : Options
@@ -56,11 +56,11 @@ no_rx_counters = record {
   in_pkts_not_valid = 0;
 }
 
--- the options after making
+-- the options at creation
 abbrev pub first_options : EndConfig → Options
 first_options config = record { protect = true; mode = Strict; replay = true; window = 0; form = config.form }
 
--- the state after making
+-- the state at creation
 abbrev pub start : EndConfig → State
 start config = record {
   config = config;
@@ -77,7 +77,7 @@ start config = record {
 abbrev pub has_many : List Sci → Bool
 has_many scis = nat_lt 1 (length scis)
 
--- what transmission goes by
+-- what transmission depends on
 abbrev pub tx_options : State → TxOptions
 tx_options s = record {
   protect = s.options.protect;
@@ -87,7 +87,7 @@ tx_options s = record {
   many = has_many s.rx.scis;
 }
 
--- what reception goes by
+-- what reception depends on
 abbrev pub rx_options : State → RxOptions
 rx_options s = record {
   suite = s.config.suite;

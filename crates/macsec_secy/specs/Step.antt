@@ -1,20 +1,20 @@
 -- The machine: one input, its output, and the state after it.
 use Rattle.std.specs.Prelude.{ℕ, List, length, nat_lt, option_map, if◌then◌else◌, Option, Some, None}
-use Rattle.macsec_tag.specs.declared.Sci.{Sci}
-use Rattle.macsec_suite.specs.declared.Refusal.{Refusal}
-use Rattle.macsec_tx.specs.Limits.{min_frame_len, max_frame_len}
+use Rattle.macsec_tag.specs.declared.identifiers.Sci.{Sci}
+use Rattle.macsec_suite.specs.declared.refusal.Refusal.{Refusal}
+use Rattle.macsec_tag.specs.Limits.{min_frame_len, max_frame_len}
 use Rattle.macsec_tx.specs.Transmit.{Leaving, plain, protected, no_sa, too_long, Sending, sending, rows_after, keys_after}
 use Rattle.macsec_rx.specs.declared.Verdict.{Verdict}
 use Rattle.macsec_rx.specs.Judge.{Judgement, place_of}
-use Rattle.macsec_secy.specs.declared.FrameFault.{FrameFault}
-use Rattle.macsec_secy.specs.declared.FrameFault.TheVariants.{Short, Long}
-use Rattle.macsec_secy.specs.declared.Command.{Command}
+use Rattle.macsec_secy.specs.declared.fault.FrameFault.{FrameFault}
+use Rattle.macsec_secy.specs.declared.fault.FrameFault.TheVariants.{Short, Long}
+use Rattle.macsec_secy.specs.declared.command.Command.{Command}
 use Rattle.macsec_secy.specs.State.{State, tx_options}
 use Rattle.macsec_secy.specs.Counting.{count_leaving, count_protected}
 use Rattle.macsec_secy.specs.Commands.{refusal, state_after_command}
 use Rattle.macsec_secy.specs.Reception.{judgement_of, state_after_receiving}
 
--- what leaves for a client's frame, and the association that protects it
+-- what is sent for a client frame, and the association that protects it
 abbrev pub sending_of : State → List ℕ → Sending
 sending_of s frame = sending (tx_options s) s.keys s.tx frame
 
@@ -27,16 +27,15 @@ state_after_sending s frame sent = record s {
   tx_counters = count_protected sent.by frame s.tx_counters;
 }
 
--- what comes in: a management command, a frame of the controlled port's client, one of the uncontrolled
--- port's client, or one from the link
+-- the inputs: a management command, a client frame of the controlled port, a client frame of the uncontrolled port, or
+-- a frame from the link
 pub data Input : Type 0 where
   operator_command : Command → Input
   client_frame : List ℕ → Input
   uncontrolled_frame : List ℕ → Input
   link_frame : List ℕ → Input
 
--- what goes out; a frame that leaves is told with the number of the key that it is protected under,
--- where it is
+-- the outputs; a frame that is sent comes with the number of the key that protects it, if one does
 pub data Output : Type 0 where
   done : Output
   refused : Refusal → Output
@@ -47,30 +46,30 @@ pub data Output : Type 0 where
   received : (verdict : Verdict) → (row : Option (Sci × ℕ)) → (shown : List ℕ) → (controlled : Option (List ℕ)) → Output
   fault : FrameFault → Output
 
--- the fault of a frame that has fewer than 14 octets, or more than 9,248; such a frame changes nothing
+-- the fault of a frame that has fewer than 14 octets, or more than 9,248; it changes nothing
 abbrev pub frame_fault : List ℕ → Option FrameFault
 frame_fault frame =
     if nat_lt (length frame) min_frame_len then Some Short
     else if nat_lt max_frame_len (length frame) then Some Long
     else None
 
--- a command is done where nothing refuses it
+-- a command is done if nothing refuses it
 abbrev pub command_output : Option Refusal → Output
 command_output None = done
 command_output (Some r) = refused r
 
--- what goes out for a client's frame
+-- the output for a client frame
 abbrev pub sent_output : List ℕ → Leaving → Output
 sent_output frame plain = leaves frame None
 sent_output frame (protected key protected_frame) = leaves protected_frame (Some key)
 sent_output frame no_sa = dropped_no_sa
 sent_output frame too_long = dropped_too_long
 
--- what goes out for a link frame
+-- the output for a link frame
 abbrev pub received_output : List ℕ → Judgement → Output
 received_output frame j = received j.verdict (option_map place_of j.row) frame j.delivered
 
--- the answer, or the fault of a frame with the same state
+-- the output and the state after, or the fault of a frame and the same state
 abbrev pub unless_fault : Option FrameFault → State → Output × State → Output × State
 unless_fault None s answer = answer
 unless_fault (Some f) s answer = (fault f, s)

@@ -1,11 +1,11 @@
--- The sum law of a received frame's counters (IEEE 802.1AE, 10.7): each received frame raises the sum of
--- the counters of received packets, of the endpoint and of all channels, modulo 2^64, by one. Nothing
--- else changes it but the removal of a channel.
+-- The sum law of a received frame's counters (IEEE 802.1AE, 10.7): each received frame raises the sum of the counters
+-- of received packets, of the endpoint and of all channels, modulo 2^64, by one. Nothing else changes it but the
+-- deletion of a channel.
 use Rattle.std.specs.Prelude.{◌≡◌, ◌+◌, ◌%◌, ◌^◌, ℕ, Bool, false, if◌then◌else◌, is_some, not}
 use Rattle.std.specs.List.{sum_by}
-use Rattle.macsec_secy.specs.declared.Counters.{Counters}
-use Rattle.macsec_secy.specs.declared.RxCounters.{RxCounters}
-use Rattle.macsec_secy.specs.declared.Command.TheVariants.{RxScDel}
+use Rattle.macsec_secy.specs.declared.counters.Counters.{Counters}
+use Rattle.macsec_secy.specs.declared.counters.RxCounters.{RxCounters}
+use Rattle.macsec_secy.specs.declared.command.Command.TheVariants.{RxScDel}
 use Rattle.macsec_secy.specs.State.{State}
 use Rattle.macsec_secy.specs.Counting.{plus}
 use Rattle.macsec_secy.specs.Commands.{refusal}
@@ -32,11 +32,11 @@ frames_added (client_frame frame) = 0
 frames_added (uncontrolled_frame frame) = 0
 frames_added (link_frame frame) = if is_some (frame_fault frame) then 0 else 1
 
--- the input is a command that removes a channel, and it is not refused
+-- the input is a command that deletes a channel, and it is not refused
 abbrev pub removes_channel : State → Input → Bool
 removes_channel s (operator_command (RxScDel sci)) = not (is_some (refusal s (RxScDel sci)))
 removes_channel s input = false
 
--- an input raises the sum by that much, unless it removes a channel
+-- an input raises the sum by that much, unless it deletes a channel
 abbrev pub AddsFrames : State → Input → Type 0
 AddsFrames s input = removes_channel s input ≡ false → frames_counted (step s input).1 ≡ plus (frames_counted s) (frames_added input)

@@ -1,12 +1,12 @@
--- What the verdict and the way of validation tell of the step that decided.
+-- What the verdict and the mode of validation say of the step that decided.
 use Rattle.std.specs.Prelude.{ℕ, List, map, Bool, true, false, not, if◌then◌else◌, Option, Some, None}
-use Rattle.macsec_tag.specs.declared.Sci.{Sci}
+use Rattle.macsec_tag.specs.declared.identifiers.Sci.{Sci}
 use Rattle.macsec_rx.specs.declared.Mode.{Mode}
 use Rattle.macsec_rx.specs.declared.Verdict.{Verdict}
 use Rattle.macsec_rx.specs.declared.Verdict.TheVariants.{Untagged, NoTag, BadTag, Reserved, NoSa, NoSaError, Late, NotValid, Unchecked, Delayed, Invalid, Passed}
 use Rattle.macsec_rx.specs.Judge.{is_disabled, is_strict}
-use Rattle.macsec_secy.specs.declared.Counters.{Counters}
-use Rattle.macsec_secy.specs.declared.ChannelCounters.{ChannelCounters}
+use Rattle.macsec_secy.specs.declared.counters.Counters.{Counters}
+use Rattle.macsec_secy.specs.declared.counters.ChannelCounters.{ChannelCounters}
 use Rattle.macsec_secy.specs.Counting.{count_at, count_octets_received, count_packet}
 
 -- the cipher was applied
@@ -24,7 +24,7 @@ is_opened mode Delayed = not (is_disabled mode)
 is_opened mode Invalid = true
 is_opened mode Passed = true
 
--- the endpoint's counters after a tagged frame of so many octets of data
+-- the endpoint's counters after a tagged frame with this many octets of data
 abbrev pub counted_by : Mode → Verdict → Bool → ℕ → Counters → Counters
 counted_by mode verdict e octets c =
     if is_opened mode verdict then count_octets_received e octets (count_packet verdict c) else count_packet verdict c

@@ -27,21 +27,21 @@ impl Counters {
         }
     }
 
-    /// Counts a client's frame that leaves as it is.
+    /// Counts a client frame that is sent as it is.
     pub(crate) fn count_plain(&mut self)
         ensures { self.new ≡ count_leaving plain self.old }
     {
         self.out_pkts_untagged = self.out_pkts_untagged.wrapping_add(1);
     }
 
-    /// Counts a client's frame for which no association is on, or only an exhausted one.
+    /// Counts a client frame for which no association is enabled, or only an exhausted one.
     pub(crate) fn count_no_sa(&mut self)
         ensures { self.new ≡ count_leaving no_sa self.old }
     {
         self.out_pkts_no_sa = self.out_pkts_no_sa.wrapping_add(1);
     }
 
-    /// Counts a client's frame that is too long.
+    /// Counts a client frame that is too long.
     pub(crate) fn count_too_long(&mut self)
         ensures { self.new ≡ count_leaving too_long self.old }
     {
@@ -62,7 +62,7 @@ impl TxCounters {
         }
     }
 
-    /// Counts a protected frame of so many octets of data, which is encrypted where `conf` is true.
+    /// Counts a protected frame with this many octets of data, which is encrypted if `conf` is true.
     pub(crate) fn count(&mut self, conf: bool, octets: u64)
         ensures { self.new ≡ count_octets conf octets self.old }
     {

@@ -4,7 +4,7 @@ ghost use Rattle.std.specs.Prelude.{◌≡◌};
 ghost use Rattle.macsec_suite.specs.Refusals.{holds_of, refusal_of};
 ghost use Rattle.macsec_tx.specs.Transmit.{row_on};
 ghost use Rattle.macsec_rx.specs.Rows.{IsSci};
-ghost use Rattle.macsec_secy.specs.declared.Command.TheVariants as by;
+ghost use Rattle.macsec_secy.specs.declared.command.Command.TheVariants as by;
 ghost use Rattle.macsec_secy.specs.State.{tx_options};
 ghost use Rattle.macsec_secy.specs.Configs.{is_unfit};
 ghost use Rattle.macsec_secy.specs.Sound.{IsSound};
@@ -59,7 +59,7 @@ impl Secy {
         self.tx.uses(key) || self.rx.uses(key)
     }
 
-    /// Does the association that is on encrypt?
+    /// Does the enabled association encrypt?
     pub(crate) fn encrypts(&self) -> bool
         ensures { result ≡ holds_of (λ row. row.conf) (row_on self.now.tx) }
     {
@@ -69,7 +69,7 @@ impl Secy {
         }
     }
 
-    /// What transmission goes by.
+    /// What transmission depends on.
     pub(crate) fn tx_options(&self) -> TxOptions
         ensures { result ≡ tx_options self.now }
     {
@@ -83,7 +83,7 @@ impl Secy {
     }
 }
 
-/// Does the tag form ask for another port than the SCI's?
+/// Does the tag form require a port other than the SCI's?
 pub(crate) fn is_unfit(form: TagForm, sci: Sci) -> bool
     ensures unfit { result ≡ is_unfit form sci }
     ensures sci { IsSci sci }

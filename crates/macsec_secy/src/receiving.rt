@@ -1,8 +1,8 @@
-//! What the endpoint does of reception itself: its channels' counters, and what it hands to its channels.
+//! The endpoint's own part of reception: its channels' counters, and what it hands to its channels.
 
 ghost use Rattle.std.specs.Prelude.{◌≡◌, ◌+◌, ◌≤◌, map, length, option_map, IfSome};
 ghost use Rattle.macsec_suite.specs.Refusals.{refusal_of};
-ghost use Rattle.macsec_secy.specs.declared.Command.TheVariants as by;
+ghost use Rattle.macsec_secy.specs.declared.command.Command.TheVariants as by;
 ghost use Rattle.macsec_secy.specs.State.{no_rx_counters, rx_options};
 ghost use Rattle.macsec_rx.specs.Judge.{octets_at};
 ghost use Rattle.macsec_secy.specs.Counting.{count_at, count_in_channel, count_packet};
@@ -14,7 +14,7 @@ use crate::{An, ChannelCounters, Counters, Mode, Refusal, RxCounters, Sci, Secy,
 use macsec_rx::{Judged, RxOptions};
 
 impl Secy {
-    /// Makes a receive channel, with counters of 0.
+    /// Creates a receive channel, with counters of 0.
     pub(crate) fn rx_sc(&mut self, sci: Sci) -> Result<(), Refusal>
         ensures refusal { refusal_of result ≡ refusal self.old (by.RxSc sci) }
         ensures after { self.new ≡ state_after_command self.old (by.RxSc sci) }
@@ -28,7 +28,7 @@ impl Secy {
         Ok(())
     }
 
-    /// Removes a receive channel and its counters.
+    /// Deletes a receive channel and its counters.
     pub(crate) fn rx_sc_del(&mut self, sci: Sci) -> Result<(), Refusal>
         ensures refusal { refusal_of result ≡ refusal self.old (by.RxScDel sci) }
         ensures after { self.new ≡ state_after_command self.old (by.RxScDel sci) }
@@ -39,7 +39,7 @@ impl Secy {
         Ok(())
     }
 
-    /// What reception goes by.
+    /// What reception depends on.
     pub(crate) fn rx_options(&self) -> RxOptions
         ensures { result ≡ rx_options self.now }
     {
@@ -53,7 +53,7 @@ impl Secy {
 }
 
 impl Counters {
-    /// Counts a frame of a verdict that no channel counts.
+    /// Counts a frame with a verdict that no channel counts.
     pub(crate) fn count_packet(&mut self, verdict: Verdict)
         ensures { self.new ≡ count_packet verdict self.old }
     {
@@ -70,8 +70,8 @@ impl Counters {
         }
     }
 
-    /// Counts a tagged frame of so many octets of data, by the verdict on it and the way of validation:
-    /// the frame where no channel counts it, and the octets where the cipher was applied.
+    /// Counts a tagged frame with this many octets of data, by its verdict and the mode of validation: the frame if no
+    /// channel counts it, and the octets if the cipher was applied.
     pub(crate) fn count_tagged(&mut self, mode: Mode, verdict: Verdict, e: bool, octets: u64)
         ensures { self.new ≡ counted_by mode verdict e octets self.old }
     {
@@ -87,7 +87,7 @@ impl Counters {
     }
 }
 
-/// Was the cipher applied to a frame of this verdict?
+/// Was the cipher applied to a frame with this verdict?
 fn is_opened(mode: Mode, verdict: Verdict) -> bool
     ensures { result ≡ is_opened mode verdict }
 {
@@ -113,7 +113,7 @@ impl RxCounters {
         }
     }
 
-    /// The counters with a frame of a verdict counted, where a channel counts it.
+    /// The counters with a frame of a verdict counted, if a channel counts it.
     fn with(self, verdict: Verdict) -> RxCounters
         ensures { result ≡ count_in_channel verdict self }
     {
@@ -135,8 +135,8 @@ impl RxCounters {
     }
 }
 
-/// The counters of a channel, with a frame counted where the channel has this SCI.
-fn counted(row: ChannelCounters, verdict: Verdict, sci: Sci) -> ChannelCounters
+/// The counters of a channel, with a frame counted if the channel has this SCI.
+fn row_counting(row: ChannelCounters, verdict: Verdict, sci: Sci) -> ChannelCounters
     ensures { result ≡ count_at verdict sci row }
 {
     if row.sci == sci {
@@ -149,16 +149,16 @@ fn counted(row: ChannelCounters, verdict: Verdict, sci: Sci) -> ChannelCounters
     }
 }
 
-/// Counts a frame at the channel of this SCI.
+/// Counts a frame at the channel with this SCI.
 fn count_at(rows: &mut [ChannelCounters], verdict: Verdict, sci: Sci)
     ensures { rows.new ≡ map (count_at verdict sci) rows.old }
 {
     for row in rows.iter_mut() {
-        *row = counted(*row, verdict, sci);
+        *row = row_counting(*row, verdict, sci);
     }
 }
 
-/// Counts a frame at the channel of its association, where it has one.
+/// Counts a frame at the channel of its association, if it has one.
 pub(crate) fn count_at_row(rows: &mut [ChannelCounters], verdict: Verdict, row: Option<(Sci, An)>)
     ensures { rows.new ≡ counted_at_place verdict row rows.old }
 {
@@ -195,7 +195,7 @@ pub(crate) fn sci_and_number(row: Option<(Sci, An)>) -> Option<(Sci, u8)>
     Some((sci, an.number()))
 }
 
-/// The frame that is delivered, as it stands in the room.
+/// The delivered frame, in the endpoint's buffer.
 pub(crate) fn delivered_octets<'a>(judged: &Judged, room: &'a [u8]) -> Option<&'a [u8]>
     requires { IfSome judged.now.delivered (λ at. at.0 + at.1 ≤ length room.now) }
     ensures { option_map (λ f. f.now) result ≡ option_map (octets_at room.now) judged.now.delivered }

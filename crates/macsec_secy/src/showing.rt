@@ -30,14 +30,14 @@ impl Secy {
         self.tx_counters
     }
 
-    /// The transmit association of this number, where there is one.
+    /// The transmit association of this number, if there is one.
     pub fn tx_row(&self, an: An) -> Option<TxRow>
         ensures { result ≡ tx_row self.now.tx an }
     {
         self.tx.row(an)
     }
 
-    /// The counters of the receive channel of this SCI, where there is one.
+    /// The counters of the receive channel with this SCI, if there is one.
     pub fn rx_counters(&self, sci: Sci) -> Option<RxCounters>
         ensures { result ≡ rx_counters_of self.now.rx_counters sci }
     {
@@ -45,8 +45,8 @@ impl Secy {
         Some(row.counters)
     }
 
-    /// The SCI of the receive channel at this place in the order of making, from 0, where there is one.
-    /// There are at most eight.
+    /// The SCI of the receive channel at this place in the order of creation, from 0, if there is one. There are at
+    /// most eight.
     pub fn rx_channel(&self, place: usize) -> Option<Sci>
         ensures sci { result ≡ slice_get self.now.rx.scis place }
         ensures count { length self.now.rx.scis ≤ max_channel_count }
@@ -54,7 +54,7 @@ impl Secy {
         self.rx.channel(place)
     }
 
-    /// The receive association of this channel and of this number, where there is one.
+    /// The receive association of this channel and of this number, if there is one.
     pub fn rx_row(&self, sci: Sci, an: An) -> Option<RxRow>
         ensures { result ≡ rx_row self.now.rx.rows sci an }
     {

@@ -1,7 +1,7 @@
--- Parts of a frame in place, as parts of its octets in a row.
+-- Parts of a frame in place, as parts of its octets concatenated.
 use Rattle.std.proofs.Common.{◌≡◌, ℕ, ◌+◌, List, ◌++◌, length, take, drop, Bool, ap, ◌∙◌, arith, length-append}
 use Rattle.std.proofs.Math.Seq.{take-append-add, drop-append-add, drop-append_seam}
-use Rattle.macsec_tag.specs.Tag.{Tag, spelling}
+use Rattle.macsec_tag.specs.Tag.{Tag, encoding}
 use Rattle.macsec_suite.specs.Parts.{clear_length}
 use Rattle.macsec_suite.specs.InPlace.{clear_and_rest}
 use Rattle.macsec_suite.specs.Laws.{PartsInPlace}
@@ -22,6 +22,6 @@ cut_behind offset e head user_data =
 
 pub parts_in_place : (offset : ℕ) (e : Bool) (da sa : List ℕ) (tag : Tag) (user_data : List ℕ) → PartsInPlace offset e da sa tag user_data
 parts_in_place offset e da sa tag user_data da_long sa_long =
-    let head : List ℕ = da ++ sa ++ spelling tag in
-    let long : 12 + length (spelling tag) ≡ length head = omega (arith, length-append (da ++ sa) (spelling tag), length-append da sa, da_long, sa_long) in
+    let head : List ℕ = da ++ sa ++ encoding tag in
+    let long : 12 + length (encoding tag) ≡ length head = omega (arith, length-append (da ++ sa) (encoding tag), length-append da sa, da_long, sa_long) in
     ap (λ (n : ℕ). clear_and_rest offset e n (head ++ user_data)) long ∙ cut_behind offset e head user_data

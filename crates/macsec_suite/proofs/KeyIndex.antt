@@ -62,7 +62,7 @@ key_row-push_other : (rows : List InstalledKey) (new : InstalledKey) (n : ℕ) �
 key_row-push_other [] new n other = rw other refl
 key_row-push_other (row ∷ rows) new n other = ap (λ rest. cond (row.number == n) (Some row) rest) (key_row-push_other rows new n other)
 
--- a key of a new number stands at the end, and is found there
+-- a key of a new number is at the end, and is found there
 pub IsIndex-push : (places : List ℕ) (rows : List InstalledKey) (new : InstalledKey) → IsIndex places rows → length rows < max_key_count →
     new.number < length places → key_row rows new.number ≡ None → IsIndex (set places new.number (length rows)) (rows ++ new ∷ [])
 IsIndex-push places rows new index room small free = record {

@@ -41,7 +41,7 @@ numbers-lt : (rows : List InstalledKey) → AreKeyRows rows → (q : ℕ) → li
 numbers-lt [] h q any = cc
 numbers-lt (row ∷ rows) h q any = lt_from_among q row.number max_key_count (list_any (eqb q) (numbers_of rows)) h.0.number (λ e. numbers-lt rows h.2 q e) any
 
--- there is room for a key of a new number
+-- there is space for a key of a new number
 pub has_room : (keys : List StoredKey) (n : ℕ) → AreKeyRows (map stored_row keys) → key_row (map stored_row keys) n ≡ None → n < max_key_count →
     length keys < max_key_count
 unfolding IsDistinct

@@ -20,6 +20,6 @@ cipher_use key iv p =
     let ac = aad_and_plaintext key.offset p.tag.e p.da p.sa p.tag p.secure_data in
     record { key = key.bytes; iv = iv; aad = ac.0; ciphertext = ac.1; tag = p.icv }
 
--- the plaintext of a use, where its authentication tag is genuine
+-- the plaintext of a use, where its authentication tag is valid
 abbrev pub plaintext_of_use : CipherUse → Option (List ℕ)
 plaintext_of_use u = open_of u.key u.iv u.aad u.ciphertext u.tag

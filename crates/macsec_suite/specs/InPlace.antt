@@ -1,5 +1,5 @@
--- Frames that are protected and validated in place: DA, SA, SecTAG, data and ICV in a row, of which
--- the data begin behind `head` octets.
+-- Frames that are protected and validated in place: DA, SA, SecTAG, data and ICV concatenated, of which the data begin
+-- after `head` octets.
 use Rattle.std.specs.Prelude.{◌≡◌, ◌⊎◌, ℕ, ◌+◌, ◌-◌, List, ◌++◌, length, take, drop, Bool, Option, option_map}
 use Rattle.macsec_gcm.specs.Gcm.{seal_of, open_of}
 use Rattle.macsec_suite.specs.Keys.{PreparedKey}
@@ -20,7 +20,7 @@ protected_octets key iv conf head frame =
     let ap = clear_and_rest key.offset conf head (take (length frame - 16) frame) in
     let ct = seal_of key.bytes iv ap.0 ap.1 in ap.0 ++ ct.0 ++ ct.1
 
--- the frame with the rest of its first `n` octets decrypted, where they have the ICV behind them
+-- the frame with the rest of its first `n` octets decrypted, if the ICV follows them
 abbrev pub validated_octets : PreparedKey → List ℕ → Bool → ℕ → ℕ → List ℕ → Option (List ℕ)
 validated_octets key iv e head n frame =
     let ac = clear_and_rest key.offset e head (take n frame) in

@@ -1,9 +1,9 @@
 -- The keys of an endpoint, as a list of rows in the order of their installation.
 use Rattle.std.specs.Prelude.{◌≡◌, ℕ, ◌+◌, ◌^◌, ◌<◌, ◌≤◌, List, [], ◌∷◌, ◌++◌, length, map, find, ◌==◌, Bool, false, true, if◌then◌else◌, Option, None, unwrap_or}
 use Rattle.macsec_aes.specs.Keys.{key_bytes}
-use Rattle.macsec_suite.specs.declared.NewKey.{NewKey}
-use Rattle.macsec_suite.specs.declared.Suite.{Suite}
-use Rattle.macsec_suite.specs.declared.Suite.TheVariants.{Gcm128}
+use Rattle.macsec_suite.specs.declared.key_row.NewKey.{NewKey}
+use Rattle.macsec_suite.specs.declared.suite.Suite.{Suite}
+use Rattle.macsec_suite.specs.declared.suite.Suite.TheVariants.{Gcm128}
 use Rattle.macsec_suite.specs.Keys.{PreparedKey}
 use Rattle.macsec_suite.specs.Suites.{key_length}
 
@@ -11,9 +11,9 @@ use Rattle.macsec_suite.specs.Suites.{key_length}
 abbrev pub max_key_count : ℕ
 max_key_count = 256
 
--- a key that was installed: its number, its suite, its bytes, its salt, the own SSCI, its
--- confidentiality offset, its first unused packet number, which is 1 and then one past the last that was
--- used under it, and whether it is retired
+-- a key that was installed: its number, its suite, its bytes, its salt, the endpoint's own SSCI, its confidentiality
+-- offset, its first unused packet number (1, and then one past the last that was used under it), and whether it is
+-- retired
 pub record InstalledKey : Type 0 where
   pub number : ℕ
   pub suite : Suite
@@ -28,11 +28,11 @@ pub record InstalledKey : Type 0 where
 abbrev pub prepared_key : InstalledKey → PreparedKey
 prepared_key row = record { suite = row.suite; bytes = row.bytes; offset = row.offset }
 
--- the row of this number, where there is one
+-- the row of this number, if there is one
 abbrev pub key_row : List InstalledKey → ℕ → Option InstalledKey
 key_row rows number = find (λ row. row.number == number) rows
 
--- a row that stands for no key
+-- a row in place of a key that is not there
 abbrev pub no_key : InstalledKey
 no_key = record { number = 0; suite = Gcm128; bytes = []; salt = []; ssci = 0; offset = 0; first_unused = 1; retired = false }
 
@@ -78,9 +78,9 @@ row_noting pn row = record row { first_unused = pn + 1 }
 abbrev pub keys_noting : List InstalledKey → ℕ → ℕ → List InstalledKey
 keys_noting rows number pn = with_key (row_noting pn) number rows
 
--- what holds of a key's row, whoever installed it: its number is below 256, it has as many bytes as its
--- suite asks for, its salt has twelve octets, its SSCI 32 bits, and its first unused packet number is at
--- least 1 and at most one past the last of 64 bits
+-- what holds of every key's row: its number is below 256, it has as many bytes as its suite requires, its salt has
+-- twelve octets, its SSCI 32 bits, and its first unused packet number is at least 1 and at most one past the last of 64
+-- bits
 pub record IsKeyRow (row : InstalledKey) : Type 0 where
   pub number : row.number < max_key_count
   pub bytes : length row.bytes ≡ key_length row.suite
@@ -89,7 +89,7 @@ pub record IsKeyRow (row : InstalledKey) : Type 0 where
   pub first_unused_least : 1 ≤ row.first_unused
   pub first_unused : row.first_unused ≤ 2 ^ 64
 
--- each row is such a one, and no two have the same number
+-- each row has these bounds, and no two have the same number
 abbrev pub AreKeyRows : List InstalledKey → Type 0
 AreKeyRows [] = Unit {0}
 AreKeyRows (row ∷ rows) = IsKeyRow row × (key_row rows row.number ≡ None) × AreKeyRows rows

@@ -1,7 +1,7 @@
 -- A stored key as a row of the table, and the index of the rows.
 use Rattle.std.specs.Prelude.{◌≡◌, ℕ, ◌<◌, List, length, slice_get, slice_index}
 use Rattle.macsec_aes.specs.Keys.{key_bytes}
-use Rattle.macsec_suite.specs.declared.KeyRow.{KeyRow}
+use Rattle.macsec_suite.specs.declared.key_row.KeyRow.{KeyRow}
 use Rattle.macsec_suite.specs.declared.key_table.StoredKey.{StoredKey}
 use Rattle.macsec_suite.specs.Keys.{prepared_from}
 use Rattle.macsec_suite.specs.KeyRows.{InstalledKey, key_row, max_key_count}
@@ -28,8 +28,8 @@ first_unused_of row = row.first_unused
 abbrev pub HasOwnKey : KeyRow → Type 0
 HasOwnKey row = row.suite_key ≡ prepared_from row.suite_key.suite row.key.bytes row.key.offset
 
--- the index of the rows: at each number the place of the row of this number, and where there is none a
--- place behind all that there can be
+-- the index of the rows: at each number the place of the row of this number, or, if there is none, a place past all
+-- that there can be
 pub record IsIndex (places : List ℕ) (rows : List InstalledKey) : Type 0 where
   pub finds : (n : ℕ) → n < max_key_count → key_row rows n ≡ slice_get rows (slice_index places n)
   pub within : (n : ℕ) → n < max_key_count → slice_index places n < max_key_count → slice_index places n < length rows

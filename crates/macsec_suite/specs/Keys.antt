@@ -2,9 +2,9 @@
 use Rattle.std.specs.Prelude.{ℕ, List, [], ◌∷◌, length, Bool, not, ◌==◌, ◌||◌, if◌then◌else◌, Option, Some, None, Result, Ok, Err}
 use Rattle.macsec_aes.specs.declared.Key.{Key}
 use Rattle.macsec_aes.specs.Keys.{key_bytes}
-use Rattle.macsec_suite.specs.declared.Suite.{Suite}
-use Rattle.macsec_suite.specs.declared.SuiteFault.{SuiteFault}
-use Rattle.macsec_suite.specs.declared.SuiteFault.TheVariants.{KeyLength, Offset}
+use Rattle.macsec_suite.specs.declared.suite.Suite.{Suite}
+use Rattle.macsec_suite.specs.declared.suite_key.SuiteFault.{SuiteFault}
+use Rattle.macsec_suite.specs.declared.suite_key.SuiteFault.TheVariants.{KeyLength, Offset}
 use Rattle.macsec_suite.specs.Suites.{is_xpn, key_length}
 use Rattle.macsec_suite.specs.FirstThatHolds.{first_that_holds}
 
@@ -18,11 +18,11 @@ pub record PreparedKey : Type 0 where
 abbrev pub prepared_from : Suite → Key → ℕ → PreparedKey
 prepared_from suite key offset = record { suite = suite; bytes = key_bytes key; offset = offset }
 
--- the key has another length than the suite's keys
+-- the key's length is not that of the suite's keys
 abbrev pub has_wrong_length : Suite → Key → Bool
 has_wrong_length suite key = not (length (key_bytes key) == key_length suite)
 
--- the confidentiality offset is none of 0, 30 and 50, or, with extended packet numbers, not 0
+-- the confidentiality offset is not 0, 30 or 50, or, with extended packet numbers, not 0
 abbrev pub has_wrong_offset : Suite → ℕ → Bool
 has_wrong_offset suite offset =
     if is_xpn suite then not (offset == 0) else not (offset == 0 || offset == 30 || offset == 50)
@@ -32,7 +32,7 @@ abbrev pub suite_key_fault : Suite → Key → ℕ → Option SuiteFault
 suite_key_fault suite key offset =
     first_that_holds ((KeyLength, has_wrong_length suite key) ∷ (Offset, has_wrong_offset suite offset) ∷ [])
 
--- the fault that was answered
+-- the fault that was returned
 abbrev pub fault_of : {A : Type 0} → Result A SuiteFault → Option SuiteFault
 fault_of (Ok key) = None
 fault_of (Err fault) = Some fault

@@ -1,6 +1,6 @@
 -- A law of frames in place.
 use Rattle.std.specs.Prelude.{◌≡◌, ℕ, ◌+◌, List, ◌++◌, length, Bool}
-use Rattle.macsec_tag.specs.Tag.{Tag, spelling}
+use Rattle.macsec_tag.specs.Tag.{Tag, encoding}
 use Rattle.macsec_suite.specs.Parts.{aad_and_plaintext}
 use Rattle.macsec_suite.specs.InPlace.{clear_and_rest}
 
@@ -9,5 +9,5 @@ use Rattle.macsec_suite.specs.InPlace.{clear_and_rest}
 abbrev pub PartsInPlace : ℕ → Bool → List ℕ → List ℕ → Tag → List ℕ → Type 0
 PartsInPlace offset e da sa tag user_data =
     length da ≡ 6 → length sa ≡ 6 →
-    clear_and_rest offset e (12 + length (spelling tag)) (da ++ sa ++ spelling tag ++ user_data) ≡
+    clear_and_rest offset e (12 + length (encoding tag)) (da ++ sa ++ encoding tag ++ user_data) ≡
     aad_and_plaintext offset e da sa tag user_data

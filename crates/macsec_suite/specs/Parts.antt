@@ -1,6 +1,6 @@
--- What of a frame is authenticated alone, and what is encrypted too (IEEE 802.1AE, 14.5 to 14.8).
+-- What of a frame is authenticated only, and what is encrypted too (IEEE 802.1AE, 14.5 to 14.8).
 use Rattle.std.specs.Prelude.{ℕ, List, ◌++◌, length, take, drop, min, Bool, if◌then◌else◌}
-use Rattle.macsec_tag.specs.Tag.{Tag, spelling}
+use Rattle.macsec_tag.specs.Tag.{Tag, encoding}
 
 -- how many octets of the data stay clear: those before the confidentiality offset, where the E bit is
 -- set, and else all
@@ -12,4 +12,4 @@ clear_length offset e user_data = if e then min offset (length user_data) else l
 abbrev pub aad_and_plaintext : ℕ → Bool → List ℕ → List ℕ → Tag → List ℕ → List ℕ × List ℕ
 aad_and_plaintext offset e da sa tag user_data =
     let clear = clear_length offset e user_data in
-    (da ++ sa ++ spelling tag ++ take clear user_data, drop clear user_data)
+    (da ++ sa ++ encoding tag ++ take clear user_data, drop clear user_data)

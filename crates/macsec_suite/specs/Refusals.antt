@@ -3,10 +3,10 @@ use Rattle.std.specs.Prelude.{ℕ, List, [], ◌∷◌, Bool, false, not, nat_lt
 use Rattle.std.specs.List.{list_any}
 use Rattle.macsec_aes.specs.Keys.{key_bytes}
 use Rattle.macsec_gcm.specs.Octets.{same_octets}
-use Rattle.macsec_suite.specs.declared.Suite.{Suite}
-use Rattle.macsec_suite.specs.declared.NewKey.{NewKey}
-use Rattle.macsec_suite.specs.declared.Refusal.{Refusal}
-use Rattle.macsec_suite.specs.declared.Refusal.TheVariants.{KeyLength, Offset, KeyNumberUsed, KeyRepeated, NoKey, KeyRetired, KeyInUse}
+use Rattle.macsec_suite.specs.declared.suite.Suite.{Suite}
+use Rattle.macsec_suite.specs.declared.key_row.NewKey.{NewKey}
+use Rattle.macsec_suite.specs.declared.refusal.Refusal.{Refusal}
+use Rattle.macsec_suite.specs.declared.refusal.Refusal.TheVariants.{KeyLength, Offset, KeyNumberUsed, KeyRepeated, NoKey, KeyRetired, KeyInUse}
 use Rattle.macsec_suite.specs.FirstThatHolds.{first_that_holds}
 use Rattle.macsec_suite.specs.Keys.{has_wrong_length, has_wrong_offset}
 use Rattle.macsec_suite.specs.KeyRows.{InstalledKey, key_row}
@@ -55,7 +55,7 @@ retire_refusals rows number in_use =
 abbrev pub is_outside : ℕ → ℕ → Bool
 is_outside last pn = pn == 0 || nat_lt last pn
 
--- the refusal that a command answered
+-- the refusal that a command returned
 abbrev pub refusal_of : {A : Type 0} → Result A Refusal → Option Refusal
 refusal_of (Ok done) = None
 refusal_of (Err refusal) = Some refusal

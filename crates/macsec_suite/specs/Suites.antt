@@ -2,9 +2,9 @@
 use Rattle.std.specs.Prelude.{ℕ, ◌-◌, ◌^◌, List, ◌++◌, Bool, true, false, if◌then◌else◌}
 use Rattle.std.specs.Int.{w32, w64, to_be_bytes}
 use Rattle.macsec_gcm.specs.Octets.{sum_with_stream}
-use Rattle.macsec_tag.specs.declared.Sci.{Sci}
-use Rattle.macsec_suite.specs.declared.Suite.{Suite}
-use Rattle.macsec_suite.specs.declared.Suite.TheVariants.{Gcm128, Gcm256, Xpn128, Xpn256}
+use Rattle.macsec_tag.specs.declared.identifiers.Sci.{Sci}
+use Rattle.macsec_suite.specs.declared.suite.Suite.{Suite}
+use Rattle.macsec_suite.specs.declared.suite.Suite.TheVariants.{Gcm128, Gcm256, Xpn128, Xpn256}
 
 -- how many octets a key has (14.5 to 14.8)
 abbrev pub key_length : Suite → ℕ
@@ -24,13 +24,12 @@ is_xpn Xpn256 = true
 abbrev pub last_of : Suite → ℕ
 last_of suite = if is_xpn suite then 2 ^ 64 - 1 else 2 ^ 32 - 1
 
--- the salt, exclusive or the SSCI in four octets and then the packet number in eight (14.7, 14.8)
+-- the exclusive or of the salt and of the SSCI in four octets and then the packet number in eight (14.7, 14.8)
 abbrev pub extended_iv : ℕ → List ℕ → ℕ → List ℕ
 extended_iv ssci salt pn = sum_with_stream salt (to_be_bytes w32 ssci ++ to_be_bytes w64 pn)
 
--- the IV of a frame: the SCI and then the packet number in four octets, of which SSCI and salt are no
--- part (14.5, 14.6); with extended packet numbers it is of SSCI, salt and packet number, and the SCI is
--- no part of it
+-- the IV of a frame: the SCI and then the packet number in four octets, without SSCI and salt (14.5, 14.6); with
+-- extended packet numbers it depends on SSCI, salt and packet number, and not on the SCI
 abbrev pub iv_of : Suite → Sci → ℕ → List ℕ → ℕ → List ℕ
 iv_of suite sci ssci salt pn = if is_xpn suite then extended_iv ssci salt pn else sci.0 ++ to_be_bytes w32 pn
 

@@ -16,7 +16,7 @@ use std::marker::Model;
 /// The most keys of an endpoint.
 const MAX_KEY_COUNT: usize = 256;
 
-/// The place of a key that is not there: there are no more than 256 keys.
+/// The index of a key that is not in the table: there are no more than 256 keys.
 const NO_PLACE: u16 = 256;
 
 /// An installed key and the first packet number that was never used under it.
@@ -31,7 +31,7 @@ pub struct StoredKey {
 #[derive(Drop)]
 pub struct KeyTable {
     rows: Vec<StoredKey>,
-    /// Where each number's key stands among the rows.
+    /// The index of each number's key among the rows.
     places: [u16; 256],
 }
 
@@ -45,14 +45,14 @@ impl Model for KeyTable {
 
     ghost view = { λ t. map stored_row t.rows.items };
 
-    // There is room for all the keys that an endpoint can have, their numbers are distinct, each is
-    // prepared from its own bytes, and each is found by its number.
+    // There is space for all the keys that an endpoint can have, their numbers are distinct, each is prepared from its
+    // own bytes, and each is found by its number.
     ghost invariant = { λ t. (max_key_count ≤ vec_capacity t.rows) × AreKeyRows (map stored_row t.rows.items)
         × All (λ s. HasOwnKey s.row) t.rows.items × IsIndex t.places (map stored_row t.rows.items) };
 }
 
 impl KeyTable {
-    /// A table without a key, with room for 256.
+    /// A table without a key, with space for 256.
     pub fn new(alloc: Global) -> Result<KeyTable, AllocError>
         ensures { IfOk result (λ t. t ≡ []) }
     {
@@ -62,8 +62,8 @@ impl KeyTable {
         })
     }
 
-    /// Installs a key under a suite: its first unused packet number is 1. It is refused by
-    /// `KeyLength`, `Offset`, `KeyNumberUsed` and `KeyRepeated`, in this order.
+    /// Installs a key of a suite; its first unused packet number is 1. Refused with the first of `KeyLength`, `Offset`,
+    /// `KeyNumberUsed` and `KeyRepeated` that applies.
     pub fn install(&mut self, suite: Suite, key: &NewKey) -> Result<(), Refusal>
         ensures refusal { refusal_of result ≡ first_refusal (install_refusals suite self.old key.now) }
         ensures done { OnOk result (self.new ≡ keys_with suite self.old key.now) }
@@ -89,8 +89,8 @@ impl KeyTable {
         Ok(())
     }
 
-    /// Retires a key, of which the caller says whether an association uses it: no new association may
-    /// use it from then on. It is refused by `NoKey`, `KeyRetired` and `KeyInUse`, in this order.
+    /// Retires a key: no new association may use it from then on. `in_use` says whether an association uses it. Refused
+    /// with the first of `NoKey`, `KeyRetired` and `KeyInUse` that applies.
     pub fn retire(&mut self, number: u8, in_use: bool) -> Result<(), Refusal>
         ensures refusal { refusal_of result ≡ first_refusal (retire_refusals self.old number in_use) }
         ensures done { OnOk result (self.new ≡ keys_retiring self.old number) }
@@ -130,9 +130,8 @@ impl KeyTable {
         Some(stored.first_unused)
     }
 
-    /// Notes that the packet number `pn` was used under the key of this number, which is there: the
-    /// first unused one becomes one past the number that was noted last, also where a greater one was
-    /// noted before. So numbers are noted in rising order.
+    /// Notes that the packet number `pn` was used under the key of this number, which is in the table. The first unused
+    /// one becomes `pn` + 1, even if a greater one was noted before. So numbers are noted in rising order.
     pub fn note_used(&mut self, number: u8, pn: u64)
         requires { IsSome (key_row self.old number) }
         ensures noted { self.new ≡ keys_noting self.old number pn }
@@ -152,7 +151,7 @@ impl KeyTable {
         self.rows.as_slice().get(self.place_of(number))
     }
 
-    /// Where the key of this number stands among the rows; behind them all, where there is none.
+    /// The index of the key of this number among the rows; past their end if there is none.
     fn place_of(&self, number: u8) -> usize
         ensures { key_row self.now number ≡ slice_get self.now result }
     {
@@ -169,7 +168,7 @@ impl KeyTable {
             .any(|stored| stored.has_bytes(bytes))
     }
 
-    /// Puts a row at the end, in the room that `new` made.
+    /// Puts a row at the end, in the space that `new` reserved.
     fn append(&mut self, added: KeyRow)
         requires free { key_row self.old added.key.number ≡ None }
         requires length { length (key_bytes added.key.bytes) ≡ key_length added.suite_key.suite }
@@ -188,7 +187,7 @@ impl KeyTable {
 }
 
 impl StoredKey {
-    /// Has the key these bytes?
+    /// Does the key have these bytes?
     fn has_bytes(&self, bytes: Key) -> bool
         ensures { result ≡ same_octets (stored_row self.now).bytes (key_bytes bytes) }
     {
@@ -196,7 +195,7 @@ impl StoredKey {
     }
 }
 
-/// The octets of a key.
+/// The bytes of a key.
 fn octets_of(key: &Key) -> &[u8]
     ensures { result.now ≡ key_bytes key.now }
 {

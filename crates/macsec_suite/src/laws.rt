@@ -1,4 +1,4 @@
-//! A law of frames in place, over the definitions alone: the contract of a function that does nothing.
+//! A law of frames in place, of the definitions alone: the contract of a function with an empty body.
 
 ghost use Rattle.std.specs.Prelude.{ℕ, List, Bool};
 ghost use Rattle.macsec_tag.specs.Tag.{Tag};

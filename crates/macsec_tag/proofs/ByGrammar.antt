@@ -1,4 +1,4 @@
--- The parts of a tagged frame in a row stand the tests of a tagged one, and are found by their places.
+-- The parts of a tagged frame, concatenated, pass the tests of a tagged one, and are found by their positions.
 use Rattle.std.proofs.Common.{◌≡◌, ℕ, ◌+◌, ◌-◌, ◌<◌, ◌≤◌, Bool, true, false, List, [], ◌∷◌, ◌++◌, length, take, drop, refl, arith, ap, sym, subst, ◌∙◌, append_assoc, length-append, length-drop, lit≤}
 use Rattle.std.specs.Prelude.{Option, Some, None, is_some, slice_index, slice_range, ◌==◌, nat_lt, if◌then◌else◌, ◌^◌}
 use Rattle.std.specs.Option.{ForSome}
@@ -6,16 +6,16 @@ use Rattle.std.specs.Int.{w32, from_be_bytes}
 use Rattle.std.proofs.lemmas.Nat.{from_be_bytes-to_be_bytes_4}
 use Rattle.std.proofs.lemmas.List.{take_at, drop_at}
 use Rattle.std.proofs.lemmas.Bool.Decides.{nat_tests}
-use Rattle.macsec_tag.specs.declared.Sci.{Sci}
-use Rattle.macsec_tag.specs.Tag.{Tag, IsTag, spelling, sci_octets, tci_an, sc_bit}
+use Rattle.macsec_tag.specs.declared.identifiers.Sci.{Sci}
+use Rattle.macsec_tag.specs.Tag.{Tag, IsTag, encoding, sci_octets, tci_an, sc_bit}
 use Rattle.macsec_tag.specs.Frame.{MpduParts, in_a_row, HasLengths}
 use Rattle.macsec_tag.specs.Table.{has_bit, sec_tag_at, tag_length_at, after_tag, data_length_at, parts_at}
 use Rattle.macsec_tag.specs.Standing.{StandsAsTagged}
 use Rattle.macsec_tag.proofs.TciBits.{HasBits, octet_of_has}
 
--- ---- the octets of the tag, at their places
+-- ---- the octets of the tag, at their positions
 
--- the tag stands behind twelve octets, and these octets behind it
+-- the tag follows twelve octets, and these octets after it
 pub record StandsBehind (frame : List ℕ) (t : Tag) (rest : List ℕ) : Type 0 where
   pub e12 : slice_index frame 12 ≡ 0x88
   pub e13 : slice_index frame 13 ≡ 0xe5
@@ -23,30 +23,30 @@ pub record StandsBehind (frame : List ℕ) (t : Tag) (rest : List ℕ) : Type 0 
   pub e15 : slice_index frame 15 ≡ t.sl
   pub pn : from_be_bytes w32 (slice_range frame 16 20) ≡ t.pn
   pub sci : slice_range frame 20 28 ≡ take 8 (sci_octets t.sci ++ rest)
-  pub after : drop 12 frame ≡ spelling t ++ rest
+  pub after : drop 12 frame ≡ encoding t ++ rest
 
--- a tag behind twelve octets stands there
-behind : (front : List ℕ) (t : Tag) (rest : List ℕ) → length front ≡ 12 → t.pn < 2 ^ 32 → StandsBehind (front ++ (spelling t ++ rest)) t rest
+-- a tag after twelve octets is there
+behind : (front : List ℕ) (t : Tag) (rest : List ℕ) → length front ≡ 12 → t.pn < 2 ^ 32 → StandsBehind (front ++ (encoding t ++ rest)) t rest
 behind (a0 ∷ a1 ∷ a2 ∷ a3 ∷ a4 ∷ a5 ∷ a6 ∷ a7 ∷ a8 ∷ a9 ∷ a10 ∷ a11 ∷ []) t rest long small =
     record { e12 = refl; e13 = refl; e14 = refl; e15 = refl; pn = from_be_bytes-to_be_bytes_4 t.pn small; sci = refl; after = refl }
 behind other t rest long small = absurd (omega (arith, long))
 
--- what stands behind the tag
+-- what follows the tag
 abbrev pub behind_tag : MpduParts → List ℕ
 behind_tag p = (p.secure_data ++ p.icv) ++ p.padding
 
--- the parts, with all that stands behind the tag in one
+-- the parts, with all that follows the tag as one
 abbrev pub by_tag : MpduParts → List ℕ
-by_tag p = (p.da ++ p.sa) ++ (spelling p.tag ++ behind_tag p)
+by_tag p = (p.da ++ p.sa) ++ (encoding p.tag ++ behind_tag p)
 
--- the parts in a row are these
+-- the parts concatenated are these
 regrouped : (p : MpduParts) → in_a_row p ≡ by_tag p
-regrouped p = grouped (p.da ++ p.sa) (spelling p.tag) p.secure_data p.icv p.padding
+regrouped p = grouped (p.da ++ p.sa) (encoding p.tag) p.secure_data p.icv p.padding
   where
     grouped : (front tag text icv padding : List ℕ) → (((front ++ tag) ++ text) ++ icv) ++ padding ≡ front ++ (tag ++ ((text ++ icv) ++ padding))
     grouped front tag text icv padding = simp append_assoc
 
--- the tag of the parts in a row stands behind the addresses
+-- the tag of the parts concatenated follows the addresses
 pub stands_behind : (p : MpduParts) → IsTag p.tag → HasLengths p → StandsBehind (in_a_row p) p.tag (behind_tag p)
 stands_behind p h l =
     let long : length (p.da ++ p.sa) ≡ 12 = omega (arith, length-append p.da p.sa, l.da, l.sa) in
@@ -59,7 +59,7 @@ bits_of p h l =
     let t = p.tag in
     subst (HasBits t.es (is_some t.sci) t.scb t.e t.c t.an) (sym (stands_behind p h l).e14) (octet_of_has t.es (is_some t.sci) t.scb t.e t.c t.an h.an)
 
--- ---- the tag and what stands behind it, read by their places
+-- ---- the tag and what follows it, read by their positions
 
 -- the SCI is found where SC is set
 sci_by : (sci : Option Sci) (b : Bool) (octets rest : List ℕ) → b ≡ is_some sci → ForSome sci (λ s. length s.0 ≡ 8) → octets ≡ take 8 (sci_octets sci ++ rest) →
@@ -67,7 +67,7 @@ sci_by : (sci : Option Sci) (b : Bool) (octets rest : List ℕ) → b ≡ is_som
 sci_by None b octets rest same eight there = rw same refl
 sci_by (Some s) b octets rest same eight there = rw (same, there, take_at s.0 rest 8 (eight s refl)) refl
 
--- the tag is found at its place
+-- the tag is found at its position
 tag_is : (p : MpduParts) → IsTag p.tag → HasLengths p → sec_tag_at (in_a_row p) ≡ p.tag
 tag_is p h l =
     let frame = in_a_row p in
@@ -86,11 +86,11 @@ tag_is p h l =
 
 -- what is left once the octets of the tag are dropped
 past_tag : (sci : Option Sci) (t : Tag) (rest : List ℕ) → t.sci ≡ sci → ForSome sci (λ s. length s.0 ≡ 8) →
-    drop (if is_some sci then 16 else 8) (spelling t ++ rest) ≡ rest
+    drop (if is_some sci then 16 else 8) (encoding t ++ rest) ≡ rest
 past_tag None t rest same eight = rw same refl
 past_tag (Some s) t rest same eight = rw same (drop_at s.0 rest 8 (eight s refl))
 
--- so is what stands behind it
+-- so is what follows it
 after_is : (p : MpduParts) → IsTag p.tag → HasLengths p → after_tag (in_a_row p) ≡ behind_tag p
 after_is p h l =
     let frame = in_a_row p in
@@ -104,7 +104,7 @@ after_length p h l =
     ap length (after_is p h l)
     ∙ omega (arith, length-append (p.secure_data ++ p.icv) p.padding, length-append p.secure_data p.icv, l.icv)
 
--- the number of octets of Secure Data, as SL tells it
+-- the number of octets of Secure Data, as SL says it
 by_sl : (sl n m : ℕ) → (0 < sl → n ≡ sl) → (sl ≡ 0 → m ≡ 0) → (if sl == 0 then n + 16 + m - 16 else sl) ≡ n
 by_sl sl n m short none = grind (arith, nat_tests)
 
@@ -119,7 +119,7 @@ data_length_is p h l =
     ∙ ap (λ sl. if sl == 0 then n + 16 + m - 16 else sl) e15
     ∙ by_sl p.tag.sl n m l.short (λ long. ap length (l.no_padding long))
 
--- ---- the parts, cut by their places
+-- ---- the parts, cut by their positions
 
 -- the two addresses
 cut_front : (da sa rest : List ℕ) → length da ≡ 6 → length sa ≡ 6 → (take 6 ((da ++ sa) ++ rest) ≡ da) × (take 6 (drop 6 ((da ++ sa) ++ rest)) ≡ sa)
@@ -140,12 +140,12 @@ cut_back text icv padding n long sixteen =
       ap (drop 16) rest ∙ drop_at icv padding 16 sixteen,
     )
 
--- the parts by place are those that stand in a row
+-- the parts by position are those that were concatenated
 pub parts_is : (p : MpduParts) → IsTag p.tag → HasLengths p → parts_at (in_a_row p) ≡ p
 parts_is p h l =
     let frame = in_a_row p in
     let whole : frame ≡ by_tag p = regrouped p in
-    let front = cut_front p.da p.sa (spelling p.tag ++ behind_tag p) l.da l.sa in
+    let front = cut_front p.da p.sa (encoding p.tag ++ behind_tag p) l.da l.sa in
     let n = data_length_at frame in
     let back = cut_back p.secure_data p.icv p.padding n (sym (data_length_is p h l)) l.icv in
     let after = after_is p h l in
@@ -158,7 +158,7 @@ parts_is p h l =
 
 -- ---- the tests of a tagged frame
 
--- there are as many octets as SL asks for
+-- there are as many octets as SL requires
 right_length : (sl n m : ℕ) → (0 < sl → n ≡ sl) → (sl ≡ 0 → 48 ≤ n) → (if sl == 0 then nat_lt (n + 16 + m) 64 else nat_lt (n + 16 + m) (sl + 16)) ≡ false
 right_length sl n m short long = grind (arith, nat_tests)
 
@@ -167,7 +167,7 @@ eight_at_least : (b : Bool) → 8 ≤ (if b then 16 else 8)
 eight_at_least true = lit≤ tt
 eight_at_least false = lit≤ tt
 
--- the parts in a row stand them
+-- the parts concatenated pass them
 pub stands_by : (p : MpduParts) → IsTag p.tag → HasLengths p → StandsAsTagged (in_a_row p)
 stands_by p h l =
     let frame = in_a_row p in

@@ -1,4 +1,4 @@
--- A frame that stands the tests of a tagged one is its parts, by their places, in a row.
+-- A frame that passes the tests of a tagged one is its parts, cut by their positions, concatenated.
 use Rattle.std.proofs.Common.{◌≡◌, ℕ, zero, suc, lit<, ◌+◌, ◌-◌, ◌<◌, ◌≤◌, Bool, true, false, List, [], ◌∷◌, ◌++◌, length, take, drop, refl, arith, ap, sym, subst, ◌∙◌, get_or, append_assoc, length-take, length-drop, Fits, w8}
 use Rattle.std.specs.Prelude.{Option, Some, None, is_some, IsSome, IfSome, slice_index, slice_range, bit_and, ◌==◌, nat_lt, if◌then◌else◌, ◌^◌}
 use Rattle.std.specs.Option.{ForSome}
@@ -7,22 +7,22 @@ use Rattle.std.proofs.lemmas.Nat.{be_bytes_4, and_le_r}
 use Rattle.std.proofs.lemmas.List.Elements.{All-from_get_or}
 use Rattle.std.proofs.lemmas.List.{take-append-drop, drop-take, take_at, length-take-le}
 use Rattle.std.proofs.Math.Seq.{take-add}
-use Rattle.std.proofs.lemmas.Bool.{eqb-true}
+use Rattle.std.proofs.lemmas.Bool.{eqb-true, and_parts}
 use Rattle.std.proofs.lemmas.Bool.Decides.{nat_tests}
 use Rattle.std.proofs.Math.ListN.{drop_of_length-le}
-use Rattle.macsec_tag.specs.declared.Sci.{Sci}
-use Rattle.macsec_tag.specs.Tag.{Tag, IsTag, spelling, sci_octets, v_bit, es_bit, sc_bit, scb_bit, e_bit, c_bit}
+use Rattle.macsec_tag.specs.declared.identifiers.Sci.{Sci}
+use Rattle.macsec_tag.specs.Tag.{Tag, IsTag, encoding, sci_octets, v_bit, es_bit, sc_bit, scb_bit, e_bit, c_bit}
 use Rattle.macsec_tag.specs.Frame.{in_a_row, HasLengths, IsTagged}
 use Rattle.macsec_tag.specs.Table.{has_bit, sec_tag_at, tag_length_at, after_tag, data_length_at, parts_at}
 use Rattle.macsec_tag.specs.Standing.{StandsAsTagged}
 use Rattle.macsec_tag.specs.Laws.{AreOctets}
-use Rattle.macsec_tag.proofs.TciBits.{both_true, is_set, made_again_is}
+use Rattle.macsec_tag.proofs.TciBits.{is_set, made_again_is}
 
 -- the items of a slice of octets are octets
 pub are_octets : (xs : List ℕ) → ((i : ℕ) → Fits w8 (get_or xs i 0)) → AreOctets xs
 are_octets xs fits = All-from_get_or (λ x. x < 256) xs 0 (λ i inside. omega (arith, fits i))
 
--- ---- the spelling of the tag
+-- ---- the encoding of the tag
 
 -- an octet more
 octets_cons : (a : ℕ) (xs : List ℕ) → a < 256 → ((i : ℕ) → get_or xs i 0 < 256) → (i : ℕ) → get_or (a ∷ xs) i 0 < 256
@@ -33,7 +33,7 @@ octets_cons a xs small h (suc i) = h i
 no_octets : (i : ℕ) → get_or {A = ℕ} [] i 0 < 256
 no_octets i = lit< tt
 
--- four octets are those of the number that they spell
+-- four octets are those of the number that they encode
 four_again : (p q r s : ℕ) → p < 256 → q < 256 → r < 256 → s < 256 →
     to_be_bytes w32 (from_be_bytes w32 (p ∷ q ∷ r ∷ s ∷ [])) ≡ p ∷ q ∷ r ∷ s ∷ []
 four_again p q r s hp hq hr hs =
@@ -53,33 +53,33 @@ tag_of_octets tci sl p q r s sci = record {
   sci = sci;
 }
 
--- that tag is spelled with these octets
+-- that tag is encoded by these octets
 spelled_octets : (tci sl p q r s : ℕ) (sci : Option Sci) → tci < 256 → p < 256 → q < 256 → r < 256 → s < 256 →
     is_set v_bit tci ≡ false → is_some sci ≡ is_set sc_bit tci →
-    spelling (tag_of_octets tci sl p q r s sci) ≡ 0x88 ∷ 0xe5 ∷ tci ∷ sl ∷ p ∷ q ∷ r ∷ s ∷ sci_octets sci
+    encoding (tag_of_octets tci sl p q r s sci) ≡ 0x88 ∷ 0xe5 ∷ tci ∷ sl ∷ p ∷ q ∷ r ∷ s ∷ sci_octets sci
 spelled_octets tci sl p q r s sci htci hp hq hr hs version has_sci =
     let again = made_again_is tci htci version in
     rw (has_sci, again) (ap (λ pn. 0x88 ∷ 0xe5 ∷ tci ∷ sl ∷ (pn ++ sci_octets sci)) (four_again p q r s hp hq hr hs))
 
--- the tag is spelled where it stands
-pub spelled_there : (frame : List ℕ) → AreOctets frame → StandsAsTagged frame → spelling (sec_tag_at frame) ≡ take (tag_length_at frame) (drop 12 frame)
+-- the encoding of the tag is at its position
+pub spelled_there : (frame : List ℕ) → AreOctets frame → StandsAsTagged frame → encoding (sec_tag_at frame) ≡ take (tag_length_at frame) (drop 12 frame)
 spelled_there (a0 ∷ a1 ∷ a2 ∷ a3 ∷ a4 ∷ a5 ∷ a6 ∷ a7 ∷ a8 ∷ a9 ∷ a10 ∷ a11 ∷ a12 ∷ a13 ∷ a14 ∷ a15 ∷ a16 ∷ a17 ∷ a18 ∷ a19 ∷ rest) octets h =
-    let type = both_true (a12 == 0x88) (a13 == 0xe5) h.ethertype in
+    let type = and_parts (a12 == 0x88) (a13 == 0xe5) h.ethertype in
     let e12 = eqb-true a12 0x88 type.0 in
     let e13 = eqb-true a13 0xe5 type.1 in
-    let spelled : (sci : Option Sci) → is_some sci ≡ is_set sc_bit a14 → spelling (tag_of_octets a14 a15 a16 a17 a18 a19 sci) ≡ 0x88 ∷ 0xe5 ∷ a14 ∷ a15 ∷ a16 ∷ a17 ∷ a18 ∷ a19 ∷ sci_octets sci =
+    let spelled : (sci : Option Sci) → is_some sci ≡ is_set sc_bit a14 → encoding (tag_of_octets a14 a15 a16 a17 a18 a19 sci) ≡ 0x88 ∷ 0xe5 ∷ a14 ∷ a15 ∷ a16 ∷ a17 ∷ a18 ∷ a19 ∷ sci_octets sci =
     λ sci same. spelled_octets a14 a15 a16 a17 a18 a19 sci (octets 14 0 (omega (arith, h.long))) (octets 16 0 (omega (arith, h.long))) (octets 17 0 (omega (arith, h.long))) (octets 18 0 (omega (arith, h.long))) (octets 19 0 (omega (arith, h.long))) h.version same in
     rw (e12, e13) (by_sc (is_set sc_bit a14) a14 a15 a16 a17 a18 a19 rest spelled)
   where
     by_sc : (b : Bool) (tci sl p q r s : ℕ) (rest : List ℕ) →
-        ((sci : Option Sci) → is_some sci ≡ b → spelling (tag_of_octets tci sl p q r s sci) ≡ 0x88 ∷ 0xe5 ∷ tci ∷ sl ∷ p ∷ q ∷ r ∷ s ∷ sci_octets sci) →
-        spelling (tag_of_octets tci sl p q r s (if b then Some (record { 0 = take 8 rest }) else None)) ≡
+        ((sci : Option Sci) → is_some sci ≡ b → encoding (tag_of_octets tci sl p q r s sci) ≡ 0x88 ∷ 0xe5 ∷ tci ∷ sl ∷ p ∷ q ∷ r ∷ s ∷ sci_octets sci) →
+        encoding (tag_of_octets tci sl p q r s (if b then Some (record { 0 = take 8 rest }) else None)) ≡
         take (if b then 16 else 8) (0x88 ∷ 0xe5 ∷ tci ∷ sl ∷ p ∷ q ∷ r ∷ s ∷ rest)
     by_sc true tci sl p q r s rest spelled = spelled (Some (record { 0 = take 8 rest })) refl
     by_sc false tci sl p q r s rest spelled = spelled None refl
 spelled_there short octets h = absurd (omega (arith, h.long))
 
--- ---- the parts in a row
+-- ---- the parts concatenated
 
 -- parts that join to what they were cut from
 rejoined : (da sa tag secure_data icv padding frame behind rest later : List ℕ) →
@@ -91,13 +91,13 @@ rejoined da sa tag secure_data icv padding frame behind rest later e_later e_res
     regrouped : (front tag secure_data icv padding : List ℕ) → (((front ++ tag) ++ secure_data) ++ icv) ++ padding ≡ front ++ (tag ++ (secure_data ++ (icv ++ padding)))
     regrouped front tag secure_data icv padding = simp append_assoc
 
--- the frame is its parts in a row
+-- the frame is its parts concatenated
 pub row_by : (frame : List ℕ) → AreOctets frame → StandsAsTagged frame → frame ≡ in_a_row (parts_at frame)
 row_by frame octets h =
     let n = data_length_at frame in
     let rest = after_tag frame in
     let spelled = spelled_there frame octets h in
-    rejoined (take 6 frame) (take 6 (drop 6 frame)) (spelling (sec_tag_at frame)) (take n rest) (take 16 (drop n rest)) (drop 16 (drop n rest))
+    rejoined (take 6 frame) (take 6 (drop 6 frame)) (encoding (sec_tag_at frame)) (take n rest) (take 16 (drop n rest)) (drop 16 (drop n rest))
     frame (drop 12 frame) rest (drop n rest)
     (take-append-drop 16 (drop n rest)) (take-append-drop n rest)
     (ap (λ tag. tag ++ rest) spelled ∙ take-append-drop (tag_length_at frame) (drop 12 frame))
@@ -105,7 +105,7 @@ row_by frame octets h =
 
 -- ---- the lengths of the parts
 
--- the octets behind the tag are as many as SL asks for
+-- the octets after the tag are as many as SL requires
 enough : (sl len : ℕ) → (if sl == 0 then nat_lt len 64 else nat_lt len (sl + 16)) ≡ false → (sl ≡ 0 → 64 ≤ len) × (0 < sl → sl + 16 ≤ len)
 enough sl len h = grind (arith, nat_tests, h)
 
@@ -113,7 +113,7 @@ enough sl len h = grind (arith, nat_tests, h)
 data_length_is : (sl len : ℕ) → (sl ≡ 0 → (if sl == 0 then len - 16 else sl) ≡ len - 16) × (0 < sl → (if sl == 0 then len - 16 else sl) ≡ sl)
 data_length_is sl len = grind (arith, nat_tests)
 
--- the lengths of what is cut behind the tag
+-- the lengths of what is cut after the tag
 cut_lengths : (sl n : ℕ) (rest : List ℕ) → (sl ≡ 0 → 64 ≤ length rest) → (0 < sl → sl + 16 ≤ length rest) →
     (sl ≡ 0 → n ≡ length rest - 16) → (0 < sl → n ≡ sl) →
     (length (take 16 (drop n rest)) ≡ 16) × (0 < sl → length (take n rest) ≡ sl) × (sl ≡ 0 → 48 ≤ length (take n rest)) × (sl ≡ 0 → drop 16 (drop n rest) ≡ [])
@@ -143,17 +143,17 @@ lengths_by frame h =
 
 -- ---- the tag and the whole
 
--- four octets spell a number of 32 bits
+-- four octets encode a number of 32 bits
 four_small : (p q r s : ℕ) → p < 256 → q < 256 → r < 256 → s < 256 → from_be_bytes w32 (p ∷ q ∷ r ∷ s ∷ []) < 2 ^ 32
 four_small p q r s hp hq hr hs = omega arith
 
--- so do those behind the octet of SL
+-- so do those after the octet of SL
 pn_small : (frame : List ℕ) → AreOctets frame → 20 ≤ length frame → from_be_bytes w32 (slice_range frame 16 20) < 2 ^ 32
 pn_small (a0 ∷ a1 ∷ a2 ∷ a3 ∷ a4 ∷ a5 ∷ a6 ∷ a7 ∷ a8 ∷ a9 ∷ a10 ∷ a11 ∷ a12 ∷ a13 ∷ a14 ∷ a15 ∷ a16 ∷ a17 ∷ a18 ∷ a19 ∷ rest) octets long =
     four_small a16 a17 a18 a19 (octets 16 0 (omega (arith, long))) (octets 17 0 (omega (arith, long))) (octets 18 0 (omega (arith, long))) (octets 19 0 (omega (arith, long)))
 pn_small short octets long = absurd (omega (arith, long))
 
--- an SCI that stands there has eight octets
+-- an SCI at that position has eight octets
 eight_by : (b : Bool) (frame : List ℕ) → 12 + (if b then 16 else 8) ≤ length frame →
     ForSome {T = Sci} (if b then Some (record { 0 = slice_range frame 20 28 }) else None) (λ s. length s.0 ≡ 8)
 eight_by true frame room s same =
@@ -166,7 +166,7 @@ sc_by : (b : Bool) (sci : Sci) → IsSome (if b then Some sci else None) → b �
 sc_by true sci h = refl
 sc_by false sci h = cc
 
--- what stands there is a SecTAG
+-- what is there is a SecTAG
 pub is_tag_by : (frame : List ℕ) → AreOctets frame → StandsAsTagged frame → IsTag (sec_tag_at frame)
 is_tag_by frame octets h =
     let sci : Sci = record { 0 = slice_range frame 20 28 } in record {
@@ -178,7 +178,7 @@ is_tag_by frame octets h =
       no_scb = λ some. h.no_scb (sc_by (has_bit sc_bit frame) sci some);
     }
 
--- the parts by place are the parts by the grammar
+-- the parts by position are the parts by the grammar
 pub tagged_by : (frame : List ℕ) → AreOctets frame → StandsAsTagged frame → IsTagged frame (parts_at frame)
 tagged_by frame octets h =
     record { row = row_by frame octets h; tag = is_tag_by frame octets h; lengths = lengths_by frame h }
@@ -190,7 +190,7 @@ front_twelve : (frame : List ℕ) → 20 ≤ length frame → (take 6 (take 12 f
 front_twelve frame long =
     (ap (take 6) (take-add 6 6 frame) ∙ take_at (take 6 frame) (take 6 (drop 6 frame)) 6 (length-take-le 6 frame (omega (arith, long))), drop-take 6 6 frame)
 
--- the parts that the code cuts are those by place
+-- the parts that the code cuts are those by position
 pub parts_cut : (frame addresses text icv padding : List ℕ) (tag : Tag) → StandsAsTagged frame → addresses ≡ take 12 frame → text ≡ take (data_length_at frame) (after_tag frame) →
     icv ≡ take 16 (drop (data_length_at frame) (after_tag frame)) → padding ≡ drop 16 (drop (data_length_at frame) (after_tag frame)) → tag ≡ sec_tag_at frame →
     record { da = take 6 addresses; sa = drop 6 addresses; tag = tag; secure_data = text; icv = icv; padding = padding } ≡ parts_at frame

@@ -3,8 +3,8 @@ use Rattle.std.proofs.Common.{◌≡◌, ℕ, ◌+◌, ◌≤◌, Bool, true, fa
 use Rattle.std.specs.Prelude.{slice_index, nat_lt, nat_le, if◌then◌else◌, ◌↔◌, Option, Some, None}
 use Rattle.std.proofs.lemmas.Bool.{ltb-false, leb-false, le-ltb, lt-leb}
 use Rattle.std.proofs.lemmas.Bool.Decides.{nat_tests}
-use Rattle.macsec_tag.specs.declared.TagFault.{TagFault}
-use Rattle.macsec_tag.specs.declared.TagFault.TheVariants.{Cut, Version, SciBits, ShortBits, Length}
+use Rattle.macsec_tag.specs.declared.fault.TagFault.{TagFault}
+use Rattle.macsec_tag.specs.declared.fault.TagFault.TheVariants.{Cut, Version, SciBits, ShortBits, Length}
 use Rattle.macsec_tag.specs.Tag.{v_bit, es_bit, sc_bit, scb_bit}
 use Rattle.macsec_tag.specs.Frame.{MpduParts, IsTagged, IsUntagged, in_a_row, has_macsec_ethertype}
 use Rattle.macsec_tag.specs.Table.{Reading, untagged, bad, tagged, reading, reading_with, tag_fault, has_bit, parts_at, has_wrong_length}
@@ -15,7 +15,7 @@ use Rattle.macsec_tag.proofs.ByGrammar.{parts_is, stands_by}
 
 -- ---- by the table
 
--- a frame that stands the tests reads as its parts by place
+-- a frame that passes the tests reads as its parts by position
 pub reads_by : (frame : List ℕ) → StandsAsTagged frame → reading frame ≡ tagged (parts_at frame)
 reads_by frame h =
     let cut = room_test (has_bit sc_bit frame) (length frame) h.long h.tag in
@@ -32,7 +32,7 @@ reads_by frame h =
     bits_test true es scb no_es no_scb = rw (no_es refl, no_scb refl) refl
     bits_test false es scb no_es no_scb = refl
 
--- a frame that reads as tagged has the EtherType, no fault, and its parts by place
+-- a frame that reads as tagged has the EtherType, no fault, and its parts by position
 through : (short has_ethertype : Bool) (fault : Option TagFault) (frame : List ℕ) (p : MpduParts) →
     (if short then bad Cut else if not has_ethertype then untagged else reading_with frame fault) ≡ tagged p →
     (has_ethertype ≡ true) × (fault ≡ None) × (parts_at frame ≡ p)
@@ -41,7 +41,7 @@ through false false fault frame p h = cc
 through false true (Some fault) frame p h = cc
 through false true None frame p h = (refl, refl, cc)
 
--- where no fault is told, each test is passed
+-- if no fault is found, each test is passed
 passed : (cut version sci sl_64 sl_48 wrong : Bool) →
     (if cut then Some Cut else if version then Some Version else if sci then Some SciBits
     else if sl_64 then Some ShortBits else if sl_48 then Some Length else if wrong then Some Length else None) ≡ None →
@@ -59,14 +59,14 @@ room_by : (sc : Bool) (n : ℕ) → (nat_lt n 20 || (sc && nat_lt n 28)) ≡ fal
 room_by true n h = grind (arith, nat_tests, h)
 room_by false n h = grind (arith, nat_tests, h)
 
--- what the test of ES and SCB beside SC says
+-- what the test of ES and SCB with SC says
 bits_by : (sc es scb : Bool) → (sc && (es || scb)) ≡ false → (sc ≡ true → es ≡ false) × (sc ≡ true → scb ≡ false)
 bits_by true false false h = (λ _. refl, λ _. refl)
 bits_by true false true h = cc
 bits_by true true scb h = cc
 bits_by false es scb h = (λ e. cc, λ e. cc)
 
--- a frame with the EtherType and no fault stands the tests
+-- a frame with the EtherType and no fault passes the tests
 stands_without_fault : (frame : List ℕ) → has_macsec_ethertype frame ≡ true → tag_fault frame ≡ None → StandsAsTagged frame
 stands_without_fault frame ethertype h =
     let n = length frame in
@@ -107,7 +107,7 @@ reads_untagged frame = (
 
 -- ---- by the grammar
 
--- the parts in a row are read again
+-- the parts concatenated are read again
 pub read_again : (p : MpduParts) → ReadAgain p
 read_again p h l = reads_by (in_a_row p) (stands_by p h l) ∙ ap tagged (parts_is p h l)
 
@@ -136,7 +136,7 @@ reads_by_grammar frame octets = record {
   is_untagged = reads_untagged frame;
 }
 
--- so does an answer that is the table's
+-- so does a result that is the table's
 pub answered_by : (frame : List ℕ) (answer : Reading) → AreOctets frame → answer ≡ reading frame → (p : MpduParts) → (answer ≡ tagged p) ↔ IsTagged frame p
 answered_by frame answer octets same p =
     let law = (reads_by_grammar frame octets).is_tagged p in

@@ -1,7 +1,7 @@
 -- The octet of TCI and AN, both ways: two tables that antt computes.
 use Rattle.std.proofs.Common.{◌≡◌, ℕ, zero, suc, ◌+◌, ◌<◌, Bool, true, false, not, ◌&&◌, refl, arith, inl, inr}
 use Rattle.std.specs.Prelude.{◌==◌, bit_and, ◌||◌}
-use Rattle.std.proofs.lemmas.Bool.{eqb-true}
+use Rattle.std.proofs.lemmas.Bool.{eqb-true, and_parts}
 use Rattle.std.proofs.lemmas.Bool.Decides.{eqb_tells}
 use Rattle.macsec_tag.specs.Tag.{bit_where, v_bit, es_bit, sc_bit, scb_bit, e_bit, c_bit}
 
@@ -12,26 +12,21 @@ abbrev pub all_below : (ℕ → Bool) → ℕ → Bool
 all_below test zero = true
 all_below test (suc n) = test n && all_below test n
 
--- a conjunction that is true has both its parts
-pub both_true : (a b : Bool) → (a && b) ≡ true → (a ≡ true) × (b ≡ true)
-both_true true b h = (refl, h)
-both_true false b h = cc
-
--- what the table tells of a number
+-- what the table says of a number
 pub at_below : (test : ℕ → Bool) (n : ℕ) → all_below test n ≡ true → (k : ℕ) → k < n → test k ≡ true
 at_below test zero h k small = absurd (omega arith)
 at_below test (suc n) h k small =
-    let parts = both_true (test n) (all_below test n) h in
+    let parts = and_parts (test n) (all_below test n) h in
     elim (eqb_tells k n) [ inl same ↦ rw same.1 parts.0 | inr other ↦ at_below test n parts.1 k (omega (arith, other.1)) ]
 
 -- the test holds of either truth value
 abbrev pub of_either : (Bool → Bool) → Bool
 of_either test = test true && test false
 
--- what the table tells of a truth value
+-- what the table says of a truth value
 pub at_either : (test : Bool → Bool) → of_either test ≡ true → (b : Bool) → test b ≡ true
-at_either test h true = (both_true (test true) (test false) h).0
-at_either test h false = (both_true (test true) (test false) h).1
+at_either test h true = (and_parts (test true) (test false) h).0
+at_either test h false = (and_parts (test true) (test false) h).1
 
 -- ---- from the octet to its bits and back
 
@@ -70,13 +65,13 @@ abbrev pub is_same : Bool → Bool → Bool
 is_same true b = b
 is_same false b = not b
 
--- what that test tells
+-- what that test says
 same_by : (a b : Bool) → is_same a b ≡ true → b ≡ a
 same_by true b h = h
 same_by false true h = cc
 same_by false false h = refl
 
--- what the negation tells
+-- what the negation says
 not_by : (b : Bool) → not b ≡ true → b ≡ false
 not_by true h = cc
 not_by false h = refl
@@ -113,12 +108,12 @@ octet_of_has es sc scb e c an small =
     let h_e = at_either (λ e. of_either (λ c. all_below (has_these es sc scb e c) 4)) h_scb e in
     let h_c = at_either (λ c. all_below (has_these es sc scb e c) 4) h_e c in
     let all : has_these es sc scb e c an ≡ true = at_below (has_these es sc scb e c) 4 h_c an small in
-    let from_v = both_true (not (is_set v_bit octet)) _ all in
-    let from_es = both_true (is_same es (is_set es_bit octet)) _ from_v.1 in
-    let from_sc = both_true (is_same sc (is_set sc_bit octet)) _ from_es.1 in
-    let from_scb = both_true (is_same scb (is_set scb_bit octet)) _ from_sc.1 in
-    let from_e = both_true (is_same e (is_set e_bit octet)) _ from_scb.1 in
-    let from_c = both_true (is_same c (is_set c_bit octet)) _ from_e.1 in
+    let from_v = and_parts (not (is_set v_bit octet)) _ all in
+    let from_es = and_parts (is_same es (is_set es_bit octet)) _ from_v.1 in
+    let from_sc = and_parts (is_same sc (is_set sc_bit octet)) _ from_es.1 in
+    let from_scb = and_parts (is_same scb (is_set scb_bit octet)) _ from_sc.1 in
+    let from_e = and_parts (is_same e (is_set e_bit octet)) _ from_scb.1 in
+    let from_c = and_parts (is_same c (is_set c_bit octet)) _ from_e.1 in
     record {
       v_is = not_by (is_set v_bit octet) from_v.0;
       es_is = same_by es (is_set es_bit octet) from_es.0;

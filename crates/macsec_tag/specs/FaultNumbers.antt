@@ -1,7 +1,7 @@
 -- The numbers of the faults of frames, in the order of their first test.
 use Rattle.std.specs.Prelude.{ℕ}
-use Rattle.macsec_tag.specs.declared.TagFault.{TagFault}
-use Rattle.macsec_tag.specs.declared.TagFault.TheVariants.{Cut, Version, SciBits, ShortBits, Length}
+use Rattle.macsec_tag.specs.declared.fault.TagFault.{TagFault}
+use Rattle.macsec_tag.specs.declared.fault.TagFault.TheVariants.{Cut, Version, SciBits, ShortBits, Length}
 
 abbrev pub number_of_fault : TagFault → ℕ
 number_of_fault Cut = 1

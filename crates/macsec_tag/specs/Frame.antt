@@ -1,9 +1,9 @@
--- The grammar of frames (IEEE 802.1AE, clause 9): a tagged frame is its parts in a row.
+-- The grammar of frames (IEEE 802.1AE, clause 9): a tagged frame is its parts concatenated.
 use Rattle.std.specs.Prelude.{◌≡◌, ℕ, ◌<◌, ◌≤◌, List, [], ◌++◌, length, Bool, false, ◌&&◌, ◌==◌, slice_index}
-use Rattle.macsec_tag.specs.Tag.{Tag, IsTag, spelling}
+use Rattle.macsec_tag.specs.Limits.{min_frame_len}
+use Rattle.macsec_tag.specs.Tag.{Tag, IsTag, encoding}
 
--- the parts of a tagged frame: destination and source address, SecTAG, Secure Data, ICV, and the
--- padding behind it
+-- the parts of a tagged frame: destination and source address, SecTAG, Secure Data, ICV, and the padding after it
 pub record MpduParts : Type 0 where
   pub da : List ℕ
   pub sa : List ℕ
@@ -12,12 +12,12 @@ pub record MpduParts : Type 0 where
   pub icv : List ℕ
   pub padding : List ℕ
 
--- the parts in a row
+-- the parts concatenated
 abbrev pub in_a_row : MpduParts → List ℕ
-in_a_row p = p.da ++ p.sa ++ spelling p.tag ++ p.secure_data ++ p.icv ++ p.padding
+in_a_row p = p.da ++ p.sa ++ encoding p.tag ++ p.secure_data ++ p.icv ++ p.padding
 
--- the parts have the lengths that the SecTAG says: SL is the number of octets of Secure Data where
--- that is under 48, and else 0, and then nothing stands behind the ICV (9.7)
+-- the parts have the lengths that the SecTAG says: SL is the number of octets of Secure Data if that is under 48, and
+-- else 0, and then nothing follows the ICV (9.7)
 pub record HasLengths (p : MpduParts) : Type 0 where
   pub da : length p.da ≡ 6
   pub sa : length p.sa ≡ 6
@@ -32,11 +32,11 @@ pub record IsTagged (frame : List ℕ) (p : MpduParts) : Type 0 where
   pub tag : IsTag p.tag
   pub lengths : HasLengths p
 
--- the MACsec EtherType stands behind the two addresses (9.4)
+-- the MACsec EtherType follows the two addresses (9.4)
 abbrev pub has_macsec_ethertype : List ℕ → Bool
 has_macsec_ethertype frame = slice_index frame 12 == 0x88 && slice_index frame 13 == 0xe5
 
 -- the frame is untagged: addresses and an EtherType, which is another
 pub record IsUntagged (frame : List ℕ) : Type 0 where
-  pub long : 14 ≤ length frame
+  pub long : min_frame_len ≤ length frame
   pub ethertype : has_macsec_ethertype frame ≡ false

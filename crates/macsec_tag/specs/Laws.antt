@@ -1,7 +1,7 @@
 -- Laws of the SecTAG and of the grammar of frames.
 use Rattle.std.specs.Prelude.{◌≡◌, ◌↔◌, ◌<◌, ℕ, List}
 use Rattle.std.specs.List.{All}
-use Rattle.macsec_tag.specs.Tag.{Tag, IsTag, spelling}
+use Rattle.macsec_tag.specs.Tag.{Tag, IsTag, encoding}
 use Rattle.macsec_tag.specs.Frame.{MpduParts, HasLengths, IsTagged, IsUntagged, in_a_row}
 use Rattle.macsec_tag.specs.Table.{reading, tagged, untagged}
 
@@ -9,16 +9,16 @@ use Rattle.macsec_tag.specs.Table.{reading, tagged, untagged}
 abbrev pub AreOctets : List ℕ → Type 0
 AreOctets xs = All (λ x. x < 256) xs
 
--- a SecTAG has one spelling, and no other SecTAG has it
+-- a SecTAG has one encoding, and no two SecTAGs have the same one
 abbrev pub SpelledOnce : Tag → Tag → Type 0
-SpelledOnce t u = IsTag t → IsTag u → spelling t ≡ spelling u → t ≡ u
+SpelledOnce t u = IsTag t → IsTag u → encoding t ≡ encoding u → t ≡ u
 
 -- a frame has at most one reading: one list of parts, or none and another EtherType
 pub record OneReading (frame : List ℕ) : Type 0 where
   pub one : (p q : MpduParts) → IsTagged frame p → IsTagged frame q → p ≡ q
   pub not_both : (p : MpduParts) → IsTagged frame p → IsUntagged frame → ⊥
 
--- a frame that is built of parts is read again as these parts
+-- reading a frame that was assembled from parts gives those parts
 abbrev pub ReadAgain : MpduParts → Type 0
 ReadAgain p = IsTag p.tag → HasLengths p → reading (in_a_row p) ≡ tagged p
 

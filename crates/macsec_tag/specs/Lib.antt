@@ -1,3 +1,4 @@
+pub mod Limits
 pub mod Tag
 pub mod Frame
 pub mod Table

@@ -1,6 +1,6 @@
--- What the reader answers, as the table says it.
-use Rattle.macsec_tag.specs.declared.Read.{Read}
-use Rattle.macsec_tag.specs.declared.Read.TheVariants.{Untagged, Bad, Tagged}
+-- What the reader returns, as the table says it.
+use Rattle.macsec_tag.specs.declared.mpdu.Read.{Read}
+use Rattle.macsec_tag.specs.declared.mpdu.Read.TheVariants.{Untagged, Bad, Tagged}
 use Rattle.macsec_tag.specs.Table.{Reading, untagged, bad, tagged}
 
 abbrev pub reading_of : Read → Reading

@@ -1,11 +1,11 @@
--- The SecTAG and its one spelling (IEEE 802.1AE, 9.3 to 9.9). A list of numbers stands for octets.
+-- The SecTAG and its one encoding (IEEE 802.1AE, 9.3 to 9.9). Octets are a list of numbers.
 use Rattle.std.specs.Prelude.{◌≡◌, ℕ, ◌+◌, ◌^◌, ◌<◌, List, [], ◌∷◌, ◌++◌, length, Bool, false, Option, Some, None, is_some, IsSome, if◌then◌else◌}
 use Rattle.std.specs.Option.{ForSome}
 use Rattle.std.specs.Int.{w32, to_be_bytes}
-use Rattle.macsec_tag.specs.declared.Sci.{Sci}
+use Rattle.macsec_tag.specs.declared.identifiers.Sci.{Sci}
 
--- what a SecTAG says: the bits ES, SCB, E and C, the association number, the short length, the packet
--- number, of 32 bits, and the SCI, where it carries one
+-- what a SecTAG says: the bits ES, SCB, E and C, the association number, the short length, the 32 bits of the packet
+-- number, and the SCI if it carries one
 pub record Tag : Type 0 where
   pub es : Bool
   pub scb : Bool
@@ -16,7 +16,7 @@ pub record Tag : Type 0 where
   pub pn : ℕ
   pub sci : Option Sci
 
--- the tags that there are: neither ES nor SCB stands beside an SCI (9.5)
+-- the SecTAGs that there are: if there is an SCI, ES and SCB are clear (9.5)
 pub record IsTag (t : Tag) : Type 0 where
   pub an : t.an < 4
   pub sl : t.sl < 48
@@ -44,11 +44,11 @@ e_bit = 0x08
 abbrev pub c_bit : ℕ
 c_bit = 0x04
 
--- a bit, where it is set
+-- a bit if it is set, else 0
 abbrev pub bit_where : Bool → ℕ → ℕ
 bit_where b bit = if b then bit else 0
 
--- the octet of TCI and AN; SC is set where the tag carries the SCI (9.5, 9.6)
+-- the octet of TCI and AN; SC is set if the SecTAG carries the SCI (9.5, 9.6)
 abbrev pub tci_an : Tag → ℕ
 tci_an t =
     bit_where t.es es_bit + bit_where (is_some t.sci) sc_bit + bit_where t.scb scb_bit +
@@ -59,8 +59,8 @@ sci_octets None = []
 sci_octets (Some sci) = sci.0
 
 -- the 8 or 16 octets of a SecTAG: MACsec EtherType, TCI and AN, SL, PN, SCI (9.3)
-abbrev pub spelling : Tag → List ℕ
-spelling t = 0x88 ∷ 0xe5 ∷ tci_an t ∷ t.sl ∷ to_be_bytes w32 t.pn ++ sci_octets t.sci
+abbrev pub encoding : Tag → List ℕ
+encoding t = 0x88 ∷ 0xe5 ∷ tci_an t ∷ t.sl ∷ to_be_bytes w32 t.pn ++ sci_octets t.sci
 
 abbrev pub tag_from : Bool → Bool → Bool → Bool → ℕ → ℕ → ℕ → Option Sci → Tag
 tag_from es scb e c an sl pn sci = record { es = es; scb = scb; e = e; c = c; an = an; sl = sl; pn = pn; sci = sci }

@@ -1,12 +1,12 @@
-//! Laws of the SecTAG and of the grammar of frames, over their definitions alone: each is the
-//! contract of a function that does nothing.
+//! Laws of the SecTAG and of the grammar of frames, of their definitions alone: each is the contract of a function with
+//! an empty body.
 
 ghost use Rattle.std.specs.Prelude.{ℕ, List};
 ghost use Rattle.macsec_tag.specs.Tag.{Tag};
 ghost use Rattle.macsec_tag.specs.Frame.{MpduParts};
 ghost use Rattle.macsec_tag.specs.Laws.{AreOctets, OneReading, ReadAgain, ReadsByGrammar, SpelledOnce};
 
-/// Two SecTAGs of one spelling are the same.
+/// Two SecTAGs with the same encoding are the same.
 pub fn spelled_once()
     ensures { (t u : Tag) → SpelledOnce t u }
 {}
@@ -16,12 +16,12 @@ pub fn one_reading()
     ensures { (frame : List ℕ) → OneReading frame }
 {}
 
-/// A frame that is built of parts is read again as these parts.
+/// Reading a frame that was assembled from parts gives those parts.
 pub fn read_again()
     ensures { (p : MpduParts) → ReadAgain p }
 {}
 
-/// The table of places by which frames are read is the grammar, for every list of octets.
+/// For every list of octets, the table of positions reads it as the grammar does.
 pub fn reads_by_grammar()
     ensures { (frame : List ℕ) → AreOctets frame → ReadsByGrammar frame }
 {}

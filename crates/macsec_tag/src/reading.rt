@@ -1,4 +1,4 @@
-//! Reading a frame, by the places of its octets.
+//! Reading a frame, by the positions of its octets.
 
 ghost use Rattle.std.specs.Prelude.{◌≡◌, ◌≤◌, ◌+◌, ◌↔◌, length, true, IfNone};
 ghost use Rattle.macsec_tag.specs.Frame.{MpduParts, IsTagged, IsUntagged, has_macsec_ethertype};
@@ -6,29 +6,21 @@ ghost use Rattle.macsec_tag.specs.Table.{reading, untagged, tagged, tag_fault, s
 ghost use Rattle.macsec_tag.specs.Standing.{StandsAsTagged};
 ghost use Rattle.macsec_tag.specs.Read.{reading_of};
 
-use crate::{
-    An, C_BIT, E_BIT, ES_BIT, MACSEC_ETHERTYPE, Mpdu, Read, SC_BIT, SCB_BIT, Sci, SecTag, TagFault,
-    V_BIT,
-};
+use crate::places::{AFTER_SCI, PN_PLACE, SCI_PLACE, SL_PLACE, TCI_PLACE};
+use crate::sec_tag::{C_BIT, E_BIT, ES_BIT, MACSEC_ETHERTYPE, SC_BIT, SCB_BIT, V_BIT};
+use crate::{ADDRESSES_LENGTH, An, ICV_LENGTH, MIN_FRAME_LEN, Mpdu, Read, Sci, SecTag, TagFault};
 use byteorder::{BigEndian, ByteOrder};
 
-/// The octets of destination and source address.
-const ADDRESSES_LENGTH: usize = 12;
-
-/// The octets of an ICV.
-const ICV_LENGTH: usize = 16;
-
-/// How a frame reads: its parts where it is tagged, `Untagged` where another EtherType stands behind
-/// its addresses, or its first fault.
+/// Reads a frame: its parts if it is tagged, `Untagged` if another EtherType follows its addresses, or its first fault.
 pub fn read(frame: &[u8]) -> Read<'_>
-    // The parts are answered exactly where the grammar has them.
+    // The parts are returned exactly when the grammar has them.
     ensures is_tagged { (p : MpduParts) → (reading_of result ≡ tagged p) ↔ IsTagged frame.now p }
-    // Untagged is answered exactly where the grammar says so.
+    // Untagged is returned exactly when the grammar says so.
     ensures is_untagged { (reading_of result ≡ untagged) ↔ IsUntagged frame.now }
     // In any other case the fault is the first one of the table.
     ensures table { reading_of result ≡ reading frame.now }
 {
-    if frame.len() < 14 {
+    if frame.len() < MIN_FRAME_LEN {
         return Read::Bad(TagFault::Cut);
     }
     if BigEndian::read_u16(&frame[ADDRESSES_LENGTH..]) != MACSEC_ETHERTYPE {
@@ -46,12 +38,12 @@ fn fault_of(frame: &[u8]) -> Option<TagFault>
     ensures fault { result ≡ tag_fault frame.now }
     ensures none { IfNone result (StandsAsTagged frame.now) }
 {
-    if frame.len() < 20 {
+    if frame.len() < SCI_PLACE {
         return Some(TagFault::Cut);
     }
-    let tci = frame[14];
+    let tci = frame[TCI_PLACE];
     let has_sci = tci & SC_BIT != 0;
-    if has_sci && frame.len() < 28 {
+    if has_sci && frame.len() < AFTER_SCI {
         return Some(TagFault::Cut);
     }
     if tci & V_BIT != 0 {
@@ -60,10 +52,10 @@ fn fault_of(frame: &[u8]) -> Option<TagFault>
     if has_sci && (tci & ES_BIT != 0 || tci & SCB_BIT != 0) {
         return Some(TagFault::SciBits);
     }
-    if frame[15] >= 64 {
+    if frame[SL_PLACE] >= 64 {
         return Some(TagFault::ShortBits);
     }
-    if frame[15] >= 48 || is_wrong_length(frame) {
+    if frame[SL_PLACE] >= 48 || is_wrong_length(frame) {
         return Some(TagFault::Length);
     }
     None
@@ -74,10 +66,14 @@ fn tag_length(frame: &[u8]) -> usize
     requires { 20 ≤ length frame.now }
     ensures { result ≡ tag_length_at frame.now }
 {
-    if frame[14] & SC_BIT != 0 { 16 } else { 8 }
+    if frame[TCI_PLACE] & SC_BIT != 0 {
+        16
+    } else {
+        8
+    }
 }
 
-/// The octets behind the SecTAG.
+/// The octets after the SecTAG.
 fn after_tag(frame: &[u8]) -> &[u8]
     requires long { 20 ≤ length frame.now }
     requires tag { 12 + tag_length_at frame.now ≤ length frame.now }
@@ -88,14 +84,14 @@ fn after_tag(frame: &[u8]) -> &[u8]
     rest
 }
 
-/// Are there fewer octets behind the SecTAG than its SL asks for?
+/// Are there fewer octets after the SecTAG than its SL requires?
 fn is_wrong_length(frame: &[u8]) -> bool
     requires long { 20 ≤ length frame.now }
     requires tag { 12 + tag_length_at frame.now ≤ length frame.now }
     ensures { result ≡ has_wrong_length frame.now }
 {
     let rest = after_tag(frame);
-    let sl = frame[15];
+    let sl = frame[SL_PLACE];
     if sl == 0 {
         rest.len() < 48 + ICV_LENGTH
     } else {
@@ -122,16 +118,16 @@ fn parts_of(frame: &[u8]) -> Mpdu<'_>
     }
 }
 
-/// How many octets of Secure Data a tagged frame has.
+/// The number of octets of Secure Data of a tagged frame.
 fn data_length(frame: &[u8]) -> usize
     requires { StandsAsTagged frame.now }
     ensures value { result ≡ data_length_at frame.now }
     ensures within { result + 16 ≤ length (after_tag frame.now) }
 {
-    if frame[15] == 0 {
+    if frame[SL_PLACE] == 0 {
         after_tag(frame).len() - ICV_LENGTH
     } else {
-        frame[15] as usize
+        frame[SL_PLACE] as usize
     }
 }
 
@@ -140,15 +136,15 @@ fn sec_tag(frame: &[u8]) -> SecTag
     requires { StandsAsTagged frame.now }
     ensures { result ≡ sec_tag_at frame.now }
 {
-    let tci = frame[14];
+    let tci = frame[TCI_PLACE];
     SecTag {
         es: tci & ES_BIT != 0,
         scb: tci & SCB_BIT != 0,
         e: tci & E_BIT != 0,
         c: tci & C_BIT != 0,
         an: An(tci & 3),
-        sl: frame[15],
-        pn: BigEndian::read_u32(&frame[16..]),
+        sl: frame[SL_PLACE],
+        pn: BigEndian::read_u32(&frame[PN_PLACE..]),
         sci: sci(frame),
     }
 }
@@ -158,10 +154,10 @@ fn sci(frame: &[u8]) -> Option<Sci>
     requires { StandsAsTagged frame.now }
     ensures { result ≡ (sec_tag_at frame.now).sci }
 {
-    if frame[14] & SC_BIT == 0 {
+    if frame[TCI_PLACE] & SC_BIT == 0 {
         return None;
     }
     let mut octets = [0; 8];
-    octets.copy_from_slice(&frame[20..28]);
+    octets.copy_from_slice(&frame[SCI_PLACE..AFTER_SCI]);
     Some(Sci(octets))
 }

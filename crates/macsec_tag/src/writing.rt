@@ -1,32 +1,34 @@
 //! Writing a SecTAG.
 
 ghost use Rattle.std.specs.Prelude.{◌≡◌, ◌≤◌, ◌++◌, length, drop};
-ghost use Rattle.macsec_tag.specs.Tag.{bit_where, spelling, tci_an};
+ghost use Rattle.macsec_tag.specs.Tag.{bit_where, encoding, tci_an};
 
-use crate::{C_BIT, E_BIT, ES_BIT, MACSEC_ETHERTYPE, SC_BIT, SCB_BIT, SecTag};
+use crate::places::{AFTER_SCI, PN_PLACE, SCI_PLACE, SL_PLACE, TCI_PLACE};
+use crate::sec_tag::{C_BIT, E_BIT, ES_BIT, MACSEC_ETHERTYPE, SC_BIT, SCB_BIT};
+use crate::{ADDRESSES_LENGTH, SecTag};
 use byteorder::{BigEndian, ByteOrder};
 
-/// Writes the 8 or 16 octets of the tag to the front of `out`, leaves the rest, and answers how many
-/// they are; `out` has 16 octets or more (9.3).
+/// Writes the 8 or 16 octets of the SecTAG at the start of `out`, leaves the rest, and returns how many they are; `out`
+/// has 16 octets or more (9.3).
 pub fn write_tag(tag: &SecTag, out: &mut [u8]) -> usize
     requires { 16 ≤ length out.old }
-    ensures length { result ≡ length (spelling tag.now) }
-    ensures octets { out.new ≡ spelling tag.now ++ drop (length (spelling tag.now)) out.old }
+    ensures length { result ≡ length (encoding tag.now) }
+    ensures octets { out.new ≡ encoding tag.now ++ drop (length (encoding tag.now)) out.old }
 {
     BigEndian::write_u16(out, MACSEC_ETHERTYPE);
-    out[2] = tci_an(tag);
-    out[3] = tag.sl;
-    BigEndian::write_u32(&mut out[4..], tag.pn);
+    out[TCI_PLACE - ADDRESSES_LENGTH] = tci_an(tag);
+    out[SL_PLACE - ADDRESSES_LENGTH] = tag.sl;
+    BigEndian::write_u32(&mut out[PN_PLACE - ADDRESSES_LENGTH..], tag.pn);
     match tag.sci {
         Some(sci) => {
-            out[8..16].copy_from_slice(&sci.0);
+            out[SCI_PLACE - ADDRESSES_LENGTH..AFTER_SCI - ADDRESSES_LENGTH].copy_from_slice(&sci.0);
             16
         }
         None => 8,
     }
 }
 
-/// The octet of TCI and AN; SC is set where the tag carries the SCI (9.5, 9.6).
+/// The octet of TCI and AN; SC is set if the SecTAG carries the SCI (9.5, 9.6).
 fn tci_an(tag: &SecTag) -> u8
     ensures { result ≡ tci_an tag.now }
 {
@@ -38,7 +40,7 @@ fn tci_an(tag: &SecTag) -> u8
         + tag.an.number()
 }
 
-/// A bit, where it is set.
+/// A bit if it is set, else 0.
 fn bit_where(on: bool, bit: u8) -> u8
     ensures { result ≡ bit_where on bit }
 {

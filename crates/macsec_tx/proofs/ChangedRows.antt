@@ -23,7 +23,7 @@ AreTxRows-map f same good [] h = tt
 AreTxRows-map f same good (row ∷ rows) h =
     (good row h.0, ap (λ an. tx_row (map f rows) an) (same row) ∙ tx_row-map_none f same rows row.an h.1, AreTxRows-map f same good rows h.2)
 
--- a number stays free where rows are removed
+-- a number stays free when rows are deleted
 tx_row-filter_none : (p : TxRow → Bool) (rows : List TxRow) (an : ℕ) → tx_row rows an ≡ None → tx_row (filter p rows) an ≡ None
 tx_row-filter_none p [] an free = refl
 tx_row-filter_none p (row ∷ rows) an free =
@@ -34,7 +34,7 @@ tx_row-filter_none p (row ∷ rows) an free =
     by_test true other rest = rw other rest
     by_test false other rest = rest
 
--- removal keeps what holds of the rows
+-- deletion keeps what holds of the rows
 pub AreTxRows-filter : (p : TxRow → Bool) (rows : List TxRow) → AreTxRows rows → AreTxRows (filter p rows)
 AreTxRows-filter p [] h = tt
 AreTxRows-filter p (row ∷ rows) h = by_test (p row) (AreTxRows-filter p rows h.2)
@@ -43,15 +43,15 @@ AreTxRows-filter p (row ∷ rows) h = by_test (p row) (AreTxRows-filter p rows h
     by_test true rest = (h.0, tx_row-filter_none p rows row.an h.1, rest)
     by_test false rest = rest
 
--- what was lent as a slice comes back as it was left
+-- what was borrowed as a slice is afterwards as the borrower left it
 pub AreTxRows-refill : (old new : List TxRow) → length new ≡ length old → AreTxRows new → AreTxRows (refill (length old) old new)
 AreTxRows-refill old new same h = rw (take_at new (drop (length new) old) (length old) same) h
 
--- an association that is switched is still one
+-- an association that is enabled or disabled is still one
 pub IsTxRow-switch_to : (an : ℕ) (row : TxRow) → IsTxRow row → IsTxRow (switch_to an row)
 IsTxRow-switch_to an row h = record { an = h.an; key = h.key; next_least = h.next_least; next = h.next }
 
--- and so is one that is switched off, where it has the number
+-- and so is one that is disabled, where it has the number
 pub IsTxRow-off_at : (an : ℕ) (row : TxRow) → IsTxRow row → IsTxRow (off_at an row)
 IsTxRow-off_at an row h = by_test (row.an == an)
   where
@@ -59,7 +59,7 @@ IsTxRow-off_at an row h = by_test (row.an == an)
     by_test true = record { an = h.an; key = h.key; next_least = h.next_least; next = h.next }
     by_test false = h
 
--- an association keeps its number when it is switched off
+-- an association keeps its number when it is disabled
 pub an-off_at : (an : ℕ) (row : TxRow) → (off_at an row).an ≡ row.an
 an-off_at an row = by_test (row.an == an)
   where

@@ -1,4 +1,4 @@
--- A frame that leaves protected is read again as the parts that were sent.
+-- Reading a frame that is sent protected gives the parts that were sent.
 use Rattle.std.proofs.Common.{◌≡◌, ℕ, ◌+◌, ◌-◌, ◌<◌, ◌≤◌, Bool, true, false, List, [], ◌++◌, length, take, drop, refl, ap, sym, ◌∙◌, arith, length-take, length-drop, length-append}
 use Rattle.std.specs.Prelude.{Some, None, slice_range, if◌then◌else◌}
 use Rattle.std.specs.Option.{ForSome}
@@ -6,8 +6,8 @@ use Rattle.std.proofs.lemmas.Bool.Decides.{nat_tests}
 use Rattle.std.proofs.lemmas.List.{take-append-drop}
 use Rattle.macsec_gcm.specs.Gcm.{seal_of}
 use Rattle.macsec_gcm.specs.Laws.{SealedLengths}
-use Rattle.macsec_tag.specs.declared.Sci.{Sci}
-use Rattle.macsec_tag.specs.Tag.{Tag, spelling}
+use Rattle.macsec_tag.specs.declared.identifiers.Sci.{Sci}
+use Rattle.macsec_tag.specs.Tag.{Tag, encoding}
 use Rattle.macsec_tag.specs.Frame.{HasLengths, MpduParts, in_a_row}
 use Rattle.macsec_tag.specs.Laws.{ReadAgain}
 use Rattle.macsec_suite.specs.Keys.{PreparedKey}
@@ -84,14 +84,14 @@ has_lengths lengths key iv options row frame long =
 
 -- ---- the law
 
-row_long : (p : MpduParts) → HasLengths p → p.padding ≡ [] → length (in_a_row p) ≡ 28 + length (spelling p.tag) + length p.secure_data
+row_long : (p : MpduParts) → HasLengths p → p.padding ≡ [] → length (in_a_row p) ≡ 28 + length (encoding p.tag) + length p.secure_data
 row_long p lengths none =
     omega (
       arith,
-      length-append (p.da ++ p.sa ++ spelling p.tag ++ p.secure_data ++ p.icv) p.padding,
-      length-append (p.da ++ p.sa ++ spelling p.tag ++ p.secure_data) p.icv,
-      length-append (p.da ++ p.sa ++ spelling p.tag) p.secure_data,
-      length-append (p.da ++ p.sa) (spelling p.tag),
+      length-append (p.da ++ p.sa ++ encoding p.tag ++ p.secure_data ++ p.icv) p.padding,
+      length-append (p.da ++ p.sa ++ encoding p.tag ++ p.secure_data) p.icv,
+      length-append (p.da ++ p.sa ++ encoding p.tag) p.secure_data,
+      length-append (p.da ++ p.sa) (encoding p.tag),
       length-append p.da p.sa,
       lengths.da,
       lengths.sa,

@@ -3,7 +3,7 @@ use Rattle.std.proofs.Common.{◌≡◌, ℕ, ◌<◌, ◌-◌, List, length, Bo
 use Rattle.std.specs.Prelude.{Some, None, IsSome, slice_range, if◌then◌else◌}
 use Rattle.std.specs.Option.{ForSome}
 use Rattle.std.proofs.lemmas.Bool.Decides.{nat_tests}
-use Rattle.macsec_tag.specs.declared.Sci.{Sci}
+use Rattle.macsec_tag.specs.declared.identifiers.Sci.{Sci}
 use Rattle.macsec_tag.specs.Tag.{IsTag}
 use Rattle.macsec_tx.specs.declared.TagForm.{TagForm}
 use Rattle.macsec_tx.specs.declared.TagForm.TheVariants as form
@@ -16,12 +16,12 @@ use Rattle.macsec_tx.specs.Transmit.{tag_sent}
 short : (n : ℕ) → sl_of n < 48
 short n = grind (arith, nat_tests)
 
--- where the tag carries an SCI that stands only for a foreign source address, that address is foreign
+-- if the SecTAG carries an SCI that is needed only for a foreign source address, that address is foreign
 none_there : (own : Bool) (sci : Sci) → IsSome (if own then None else Some sci) → own ≡ false
 none_there true sci there = cc
 none_there false sci there = refl
 
--- ES does not stand beside an SCI
+-- ES is not set if there is an SCI
 no_es : (f : TagForm) (many : Bool) (sci : Sci) (sa : List ℕ) → IsSome (sci_sent f many sci sa) → es_sent f sci sa ≡ false
 no_es form.Auto many sci sa there = refl
 no_es form.Sci many sci sa there = refl

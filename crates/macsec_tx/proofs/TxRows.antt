@@ -1,4 +1,4 @@
--- Laws on the rows of a transmit channel: their numbers, their room, and the rows that are found.
+-- Laws on the rows of a transmit channel: their numbers, their space, and the rows that are found.
 use Rattle.std.proofs.Common.{◌≡◌, ℕ, suc, ◌<◌, ◌≤◌, ◌+◌, Bool, true, false, cond, List, [], ◌∷◌, ◌++◌, map, length, refl, arith, eqb, sym, ap, ◌||◌, inl, inr, drop, get_or, ◌∙◌}
 use Rattle.std.specs.Prelude.{Option, Some, None, is_some, ◌==◌, ◌^◌, if◌then◌else◌}
 use Rattle.std.specs.List.{All, IsDistinct, AllByRecursion, list_any}
@@ -19,7 +19,7 @@ AreTxRows-nil = tt
 abbrev pub numbers_of : List TxRow → List ℕ
 numbers_of rows = map (λ row. row.an) rows
 
--- where nothing is found, the first was passed over, and nothing is found behind it
+-- where nothing is found, the first was passed over, and nothing is found after it
 pub none_found : {A : Type 0} (b : Bool) (x : A) (rest : Option A) → cond b (Some x) rest ≡ None → (b ≡ false) × (rest ≡ None)
 none_found true x rest none = cc
 none_found false x rest none = (refl, none)
@@ -53,7 +53,7 @@ pub length-numbers_of : (rows : List TxRow) → length (numbers_of rows) ≡ len
 length-numbers_of [] = refl
 length-numbers_of (row ∷ rows) = ap suc (length-numbers_of rows)
 
--- there is room for an association of a new number
+-- there is space for an association of a new number
 pub has_room : (rows : List TxRow) (an : ℕ) → AreTxRows rows → tx_row rows an ≡ None → an < 4 → length rows < 4
 unfolding IsDistinct
 has_room rows an h free small =
@@ -85,7 +85,7 @@ pub all_within : (rows : List TxRow) → AreTxRows rows → All (λ row. row.nex
 all_within [] h = All-nil (λ row. row.next ≤ 2 ^ 64)
 all_within (row ∷ rows) h = All-cons (λ row. row.next ≤ 2 ^ 64) row rows h.0.next (all_within rows h.2)
 
--- the association that is on is the one of its number
+-- the enabled association is the one of its number
 pub row_on_is_there : (rows : List TxRow) → AreTxRows rows → (row : TxRow) → row_on rows ≡ Some row → tx_row rows row.an ≡ Some row
 row_on_is_there [] h row found = cc
 row_on_is_there (first ∷ rows) h row found = by_on first.on (row_on_is_there rows h.2 row) found
@@ -98,7 +98,7 @@ row_on_is_there (first ∷ rows) h row found = by_on first.on (row_on_is_there r
     by_on true later found' = let first_is : first ≡ row = cc in rw (← first_is, eq-eqb first.an first.an refl) refl
     by_on false later found' = by_number (first.an == row.an) refl (later found')
 
--- a row that is on is the first such one of the rows from it on
+-- an enabled row is the first enabled one of the rows from it on
 pub row_on-drop : (rows : List TxRow) (i : ℕ) (row : TxRow) → row ≡ get_or rows i row → i < length rows → row.on ≡ true → row_on (drop i rows) ≡ Some row
 row_on-drop rows i row item within on =
     let left : drop i rows ≡ row ∷ drop (i + 1) rows = drop_more rows i row within ∙ ap (λ r. r ∷ drop (i + 1) rows) (sym item) in

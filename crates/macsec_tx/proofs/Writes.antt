@@ -1,10 +1,10 @@
--- The front of a list after writes.
+-- The prefix of a list after writes.
 use Rattle.std.proofs.Common.{◌≡◌, ◌≤◌, ◌+◌, ◌++◌, ℕ, List, length, take, sym, ap, ◌∙◌, arith}
 use Rattle.std.proofs.lemmas.List.{append_assoc, length-append, length-take-le}
 use Rattle.std.proofs.Math.Seq.{take-append_seam, take-append-add}
 use borrow.Rule.Slice.PartMut.{put_mid, post_of}
 
--- what a part begins with stands behind what the whole has before the part
+-- what a part begins with follows what the whole has before the part
 pub take-put_mid_front : (a k : ℕ) (xs front rest : List ℕ) → a ≤ length xs
     → take (a + length front) (put_mid a k xs (front ++ rest)) ≡ take a xs ++ front
 take-put_mid_front a k xs front rest le =

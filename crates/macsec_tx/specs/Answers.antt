@@ -1,10 +1,10 @@
--- What the transmit channel answers, and the frame that it puts into its caller's slice.
+-- What the transmit channel returns, and the frame that it puts into its caller's slice.
 use Rattle.std.specs.Prelude.{◌≡◌, ◌≤◌, ℕ, List, take, length}
 use Rattle.macsec_tx.specs.declared.TxResult.{TxResult}
 use Rattle.macsec_tx.specs.declared.TxResult.TheVariants.{Plain, Made, NoSa, TooLong}
 use Rattle.macsec_tx.specs.Transmit.{Leaving, plain, protected, no_sa, too_long}
 
--- the answer says what leaves, and a protected frame is at the front of the slice `out`
+-- the result says what is sent, and a protected frame is at the start of the slice `out`
 abbrev pub ShowsLeaving : TxResult → List ℕ → Leaving → Type 0
 ShowsLeaving Plain out leaving = leaving ≡ plain
 ShowsLeaving (Made len key) out leaving = (leaving ≡ protected key (take len out)) × (len ≤ length out)

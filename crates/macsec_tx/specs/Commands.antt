@@ -2,7 +2,7 @@
 -- (IEEE 802.1AE, 10.7).
 use Rattle.std.specs.Prelude.{ℕ, List, [], ◌∷◌, ◌++◌, map, filter, ◌==◌, Bool, false, not, nat_lt, is_some, if◌then◌else◌, IsSome, IfSome}
 use Rattle.std.specs.List.{list_any}
-use Rattle.macsec_suite.specs.declared.Refusal.TheVariants.{NoKey, KeyRetired, KeyInUse, AnTaken, NoSa, PnRange, PnFloor, Exhausted}
+use Rattle.macsec_suite.specs.declared.refusal.Refusal.TheVariants.{NoKey, KeyRetired, KeyInUse, AnTaken, NoSa, PnRange, PnFloor, Exhausted}
 use Rattle.macsec_suite.specs.Suites.{last_of}
 use Rattle.macsec_suite.specs.KeyRows.{InstalledKey, key_row, the_key}
 use Rattle.macsec_suite.specs.Refusals.{RefusalLine, holds_of, is_number_used, is_retired, is_outside}
@@ -17,7 +17,7 @@ tx_uses rows key = list_any (λ row. row.key == key) rows
 abbrev pub has_tx : List TxRow → ℕ → Bool
 has_tx rows an = is_some (tx_row rows an)
 
--- why making an association is refused: `next` is to be its first packet number
+-- why creating an association is refused: `next` is to be its first packet number
 abbrev pub tx_sa_refusals : List InstalledKey → List TxRow → ℕ → ℕ → ℕ → List RefusalLine
 tx_sa_refusals keys rows an key next =
     (NoKey, not (is_number_used keys key)) ∷
@@ -27,7 +27,7 @@ tx_sa_refusals keys rows an key next =
     (PnRange, is_outside (last_of (the_key keys key).suite) next) ∷
     (PnFloor, nat_lt next (the_key keys key).first_unused) ∷ []
 
--- the associations with a new one at the end, which is off; it encrypts where `conf` is true
+-- the associations with a new one at the end, which is disabled; it encrypts if `conf` is true
 abbrev pub with_tx_sa : List TxRow → ℕ → ℕ → ℕ → Bool → List TxRow
 with_tx_sa rows an key next conf =
     rows ++ record { an = an; key = key; next = next; conf = conf; on = false } ∷ []
@@ -37,27 +37,27 @@ abbrev pub is_exhausted : List InstalledKey → List TxRow → ℕ → Bool
 is_exhausted keys rows an =
     holds_of (λ row. nat_lt (last_of (the_key keys row.key).suite) row.next) (tx_row rows an)
 
--- why switching an association on is refused
+-- why enabling an association is refused
 abbrev pub tx_on_refusals : List InstalledKey → List TxRow → ℕ → List RefusalLine
 tx_on_refusals keys rows an = (NoSa, not (has_tx rows an)) ∷ (Exhausted, is_exhausted keys rows an) ∷ []
 
--- the association, on where it has this number, and else off
+-- the association, enabled if it has this number, and else disabled
 abbrev pub switch_to : ℕ → TxRow → TxRow
 switch_to an row = record row { on = row.an == an }
 
--- this association is on, and every other one off
+-- this association is enabled, and every other one disabled
 abbrev pub with_tx_on : List TxRow → ℕ → List TxRow
 with_tx_on rows an = map (switch_to an) rows
 
--- why switching an association off is refused, and why removing it is
+-- why disabling an association is refused, and why deleting it is
 abbrev pub tx_off_refusals : List TxRow → ℕ → List RefusalLine
 tx_off_refusals rows an = (NoSa, not (has_tx rows an)) ∷ []
 
--- the association, off where it has this number, and else as it was
+-- the association, disabled if it has this number, and else as it was
 abbrev pub off_at : ℕ → TxRow → TxRow
 off_at an row = if row.an == an then record row { on = false } else row
 
--- this association is off, and every other one as it was
+-- this association is disabled, and every other one as it was
 abbrev pub with_tx_off : List TxRow → ℕ → List TxRow
 with_tx_off rows an = map (off_at an) rows
 

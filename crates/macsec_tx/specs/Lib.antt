@@ -1,4 +1,3 @@
-pub mod Limits
 pub mod Tags
 pub mod Transmit
 pub mod Commands

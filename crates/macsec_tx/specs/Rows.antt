@@ -11,7 +11,7 @@ pub record IsTxRow (row : TxRow) : Type 0 where
   pub next_least : 1 ≤ row.next
   pub next : row.next ≤ 2 ^ 64
 
--- each association is such a one, and no two of them have the same number
+-- each association has these bounds, and no two have the same number
 abbrev pub AreTxRows : List TxRow → Type 0
 AreTxRows [] = Unit {0}
 AreTxRows (row ∷ rows) = IsTxRow row × (tx_row rows row.an ≡ None) × AreTxRows rows

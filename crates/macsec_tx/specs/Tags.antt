@@ -1,7 +1,7 @@
 -- The SecTAG of a frame that is sent (IEEE 802.1AE, 9.5 and 10.5.3).
 use Rattle.std.specs.Prelude.{ℕ, List, take, Bool, false, nat_lt, if◌then◌else◌, Option, Some, None}
 use Rattle.macsec_gcm.specs.Octets.{same_octets}
-use Rattle.macsec_tag.specs.declared.Sci.{Sci}
+use Rattle.macsec_tag.specs.declared.identifiers.Sci.{Sci}
 use Rattle.macsec_tx.specs.declared.TagForm.{TagForm}
 use Rattle.macsec_tx.specs.declared.TagForm.TheVariants as form
 
@@ -9,8 +9,8 @@ use Rattle.macsec_tx.specs.declared.TagForm.TheVariants as form
 abbrev pub is_own : Sci → List ℕ → Bool
 is_own sci sa = same_octets sa (take 6 sci.0)
 
--- the SCI that the tag carries, where it carries one: SC is set exactly then; `many` says that there
--- is more than one receive channel
+-- the SCI that the SecTAG carries, if it carries one: SC is set exactly then; `many` says that there is more than one
+-- receive channel
 abbrev pub sci_sent : TagForm → Bool → Sci → List ℕ → Option Sci
 sci_sent form.Auto many sci sa = if many then Some sci else None
 sci_sent form.Sci many sci sa = Some sci
@@ -31,6 +31,6 @@ scb_sent form.Sci sci sa = false
 scb_sent form.Es sci sa = false
 scb_sent form.Scb sci sa = is_own sci sa
 
--- the SL of so many octets of Secure Data: 0 stands for 48 and more (9.7)
+-- the SL of this number of octets of Secure Data: 0 means 48 and more (9.7)
 abbrev pub sl_of : ℕ → ℕ
 sl_of n = if nat_lt n 48 then n else 0

@@ -1,7 +1,7 @@
--- What becomes of a client's frame (IEEE 802.1AE, 10.5).
+-- What becomes of a client frame (IEEE 802.1AE, 10.5).
 use Rattle.std.specs.Prelude.{ℕ, ◌+◌, ◌-◌, ◌%◌, ◌^◌, List, [], ◌++◌, length, take, drop, map, find, slice_range, ◌==◌, nat_lt, if◌then◌else◌, Option, Some, None}
 use Rattle.macsec_gcm.specs.Gcm.{seal_of}
-use Rattle.macsec_tag.specs.Tag.{Tag, spelling}
+use Rattle.macsec_tag.specs.Tag.{Tag, encoding}
 use Rattle.macsec_tag.specs.Frame.{MpduParts, in_a_row}
 use Rattle.macsec_suite.specs.Suites.{iv_of, last_of}
 use Rattle.macsec_suite.specs.Keys.{PreparedKey}
@@ -12,16 +12,16 @@ use Rattle.macsec_tx.specs.declared.TxRow.{TxRow}
 use Rattle.macsec_tx.specs.declared.TxOptions.{TxOptions}
 use Rattle.macsec_tx.specs.Tags.{sci_sent, es_sent, scb_sent, sl_of}
 
--- the association of this number, where there is one
+-- the association of this number, if there is one
 abbrev pub tx_row : List TxRow → ℕ → Option TxRow
 tx_row rows an = find (λ row. row.an == an) rows
 
--- the association that is on
+-- the enabled association
 abbrev pub row_on : List TxRow → Option TxRow
 row_on rows = find (λ row. row.on) rows
 
--- the SecTAG of a frame that the association sends: E and C are both set where it encrypts, and else
--- both clear (9.5), and PN is the low 32 bits of the packet number (9.8)
+-- the SecTAG of a frame that the association sends: E and C are both set if it encrypts, and else both clear (9.5), and
+-- PN is the low 32 bits of the packet number (9.8)
 abbrev pub tag_sent : TxOptions → TxRow → List ℕ → Tag
 tag_sent options row frame =
     let sa = slice_range frame 6 12 in record {
@@ -35,8 +35,8 @@ tag_sent options row frame =
       sci = sci_sent options.form options.many options.sci sa;
     }
 
--- the parts of a client's frame that is protected with a key, an IV and a SecTAG: the Secure Data are
--- the octets of the client's data that stay clear, and behind them the ciphertext of the rest
+-- the parts of a client frame that is protected with a key, an IV and a SecTAG: the Secure Data are the octets of the
+-- client's data that stay clear, and after them the ciphertext of the rest
 abbrev pub parts_under : PreparedKey → List ℕ → Tag → List ℕ → MpduParts
 parts_under key iv tag frame =
     let da = take 6 frame in
@@ -57,7 +57,7 @@ parts_under key iv tag frame =
 abbrev pub iv_sent : TxOptions → InstalledKey → TxRow → List ℕ
 iv_sent options key row = iv_of key.suite options.sci key.ssci key.salt row.next
 
--- the parts of the frame that the association makes of a client's frame
+-- the parts of the frame that the association makes of a client frame
 abbrev pub parts_sent : TxOptions → InstalledKey → TxRow → List ℕ → MpduParts
 parts_sent options key row frame =
     parts_under (prepared_key key) (iv_sent options key row) (tag_sent options row frame) frame
@@ -72,28 +72,27 @@ use_sent options key row frame = cipher_use key (iv_sent options key row) (parts
 
 -- the octets that protection adds: SecTAG and ICV
 abbrev pub octets_added : Tag → ℕ
-octets_added tag = length (spelling tag) + 16
+octets_added tag = length (encoding tag) + 16
 
--- what leaves: the client's frame as it is; a frame that is protected under the key of this number; or
--- nothing, since no association can send, or since the frame would be too long
+-- what is sent: the client frame as it is; a frame that is protected under the key of this number; or nothing, since no
+-- association can send, or since the frame would be too long
 pub data Leaving : Type 0 where
   plain : Leaving
   protected : (key : ℕ) → (frame : List ℕ) → Leaving
   no_sa : Leaving
   too_long : Leaving
 
--- what leaves, and the association that protects it, where one does, as it was before the frame
+-- what is sent, and the association that protects it, if one does, as it was before the frame
 pub record Sending : Type 0 where
   pub leaving : Leaving
   pub by : Option TxRow
 
--- no association protects what leaves
+-- no association protects what is sent
 abbrev pub not_protected : Leaving → Sending
 not_protected leaving = record { leaving = leaving; by = None }
 
--- what leaves from the association that is on, where one is: nothing where none is or where it has no
--- packet number left; nothing where the protected frame would be longer than `max_frame`; else the
--- protected frame
+-- what the enabled association sends: nothing if there is none or if it has no packet number left; nothing if the
+-- protected frame would be longer than `max_frame`; else the protected frame
 abbrev pub sending_by : TxOptions → List InstalledKey → List ℕ → Option TxRow → Sending
 sending_by options keys frame None = not_protected no_sa
 sending_by options keys frame (Some row) =
@@ -102,8 +101,8 @@ sending_by options keys frame (Some row) =
     else if nat_lt options.max_frame (length frame + octets_added (tag_sent options row frame)) then not_protected too_long
     else record { leaving = protected row.key (protected_frame options key row frame); by = Some row }
 
--- what leaves: from the association that is on where protection is on, and else the client's frame,
--- unless it is longer than `max_frame`
+-- what is sent: what the enabled association sends if protection is on, and else the client frame, unless it is longer
+-- than `max_frame`
 abbrev pub sending : TxOptions → List InstalledKey → List TxRow → List ℕ → Sending
 sending options keys rows frame =
     if options.protect then sending_by options keys frame (row_on rows)
@@ -117,12 +116,12 @@ next_used row = record row { next = row.next + 1 }
 abbrev pub used_at : ℕ → TxRow → TxRow
 used_at an row = if row.an == an then next_used row else row
 
--- the associations after a client's frame: the one that protects it has used its packet number
+-- the associations after a client frame: the one that protects it has used its packet number
 abbrev pub rows_after : List TxRow → Option TxRow → List TxRow
 rows_after rows None = rows
 rows_after rows (Some by) = map (used_at by.an) rows
 
--- the keys after a client's frame: under the key of that association the packet number is used
+-- the keys after a client frame: under the key of that association the packet number is used
 abbrev pub keys_after : List InstalledKey → Option TxRow → List InstalledKey
 keys_after keys None = keys
 keys_after keys (Some by) = keys_noting keys by.key by.next

@@ -7,17 +7,14 @@ ghost use Rattle.macsec_tx.specs.Transmit.{row_on, tx_row, used_at};
 ghost use Rattle.macsec_tx.specs.Rows.{AreTxRows};
 ghost use Rattle.macsec_tx.specs.Commands.{HaveKeys, off_at, switch_to, tx_off_refusals, tx_on_refusals, tx_sa_refusals, tx_uses, with_tx_off, with_tx_on, with_tx_sa, without_tx};
 
-#[cfg(test)]
-mod tests;
-
 use crate::TxRow;
 use arrayvec::ArrayVec;
 use macsec_suite::{KeyTable, Refusal};
 use macsec_tag::An;
 use std::marker::Model;
 
-/// The transmit channel: up to four associations of different numbers. Contracts see it as the list of
-/// them, in the order of their making.
+/// The transmit channel: up to four associations with different numbers. Contracts see it as the list of them, in the
+/// order of their creation.
 #[derive(Drop)]
 pub struct TxChannel {
     rows: ArrayVec<TxRow, 4>,
@@ -45,7 +42,7 @@ impl TxChannel {
         }
     }
 
-    /// The association of this number, where there is one.
+    /// The association of this number, if there is one.
     pub fn row(&self, an: An) -> Option<TxRow>
         ensures { result ≡ tx_row self.now an }
     {
@@ -57,7 +54,7 @@ impl TxChannel {
         None
     }
 
-    /// The association that is on, where one is.
+    /// The enabled association, if there is one.
     pub fn row_on(&self) -> Option<TxRow>
         ensures row { result ≡ row_on self.now }
         ensures number { IfSome result (λ row. tx_row self.now row.an ≡ Some row) }
@@ -77,9 +74,8 @@ impl TxChannel {
         self.rows.iter().any(|row| row.key == key)
     }
 
-    /// Makes an association, off, whose first packet number is `next`; it encrypts where `conf` is true.
-    /// It is refused by `NoKey`, `KeyRetired`, `KeyInUse`, `AnTaken`, `PnRange` and `PnFloor`, in this
-    /// order.
+    /// Creates an association, disabled, whose first packet number is `next`; it encrypts if `conf` is true. Refused
+    /// with the first of `NoKey`, `KeyRetired`, `KeyInUse`, `AnTaken`, `PnRange` and `PnFloor` that applies.
     pub fn tx_sa(
         &mut self,
         keys: &KeyTable,
@@ -93,7 +89,7 @@ impl TxChannel {
         ensures unchanged { OnErr result (self.new ≡ self.old) }
         ensures rows { OnOk result (AreTxRows self.new) }
     {
-        // A look at the number: that it is below 4 is known from here on.
+        // For the prover alone: from here on it knows that the number is below 4. The compiler deletes the line.
         let _number = an.number();
         let Some(row) = keys.key(key) else {
             return Err(Refusal::NoKey);
@@ -123,8 +119,8 @@ impl TxChannel {
         Ok(())
     }
 
-    /// Switches this association on, and every other one off. It is refused by `NoSa` and `Exhausted`,
-    /// in this order.
+    /// Enables this association, and disables every other one. Refused with the first of `NoSa` and `Exhausted` that
+    /// applies.
     pub fn tx_on(&mut self, keys: &KeyTable, an: An) -> Result<(), Refusal>
         requires { HaveKeys keys.now self.old }
         ensures refusal { refusal_of result ≡ first_refusal (tx_on_refusals keys.now self.old an) }
@@ -143,7 +139,7 @@ impl TxChannel {
         Ok(())
     }
 
-    /// Switches this association off. It is refused by `NoSa`.
+    /// Disables this association. Refused with `NoSa`.
     pub fn tx_off(&mut self, an: An) -> Result<(), Refusal>
         ensures refusal { refusal_of result ≡ first_refusal (tx_off_refusals self.old an) }
         ensures done { OnOk result (self.new ≡ with_tx_off self.old an) }
@@ -157,7 +153,7 @@ impl TxChannel {
         Ok(())
     }
 
-    /// Removes this association. It is refused by `NoSa`.
+    /// Deletes this association. Refused with `NoSa`.
     pub fn tx_del(&mut self, an: An) -> Result<(), Refusal>
         ensures refusal { refusal_of result ≡ first_refusal (tx_off_refusals self.old an) }
         ensures done { OnOk result (self.new ≡ without_tx self.old an) }
@@ -171,8 +167,7 @@ impl TxChannel {
         Ok(())
     }
 
-    /// Notes that the association of this number, where there is one, has used its next packet number,
-    /// which has 64 bits.
+    /// Notes that the association of this number, if there is one, has used its next packet number, which has 64 bits.
     pub(crate) fn use_number(&mut self, an: An)
         requires { IfSome (tx_row self.old an) (λ row. row.next < 2 ^ 64) }
         ensures used { self.new ≡ map (used_at an) self.old }
@@ -182,7 +177,7 @@ impl TxChannel {
     }
 }
 
-/// The association, on where it has this number, and else off.
+/// The association, enabled if it has this number, and else disabled.
 fn switched_row(row: TxRow, an: An) -> TxRow
     ensures { result ≡ switch_to an row }
 {
@@ -192,7 +187,7 @@ fn switched_row(row: TxRow, an: An) -> TxRow
     }
 }
 
-/// The association, off where it has this number.
+/// The association, disabled if it has this number.
 fn off_row(row: TxRow, an: An) -> TxRow
     ensures { result ≡ off_at an row }
 {
@@ -203,7 +198,7 @@ fn off_row(row: TxRow, an: An) -> TxRow
     }
 }
 
-/// Switches the association of this number on, and every other one off.
+/// Enables the association of this number, and disables every other one.
 fn switch_to(rows: &mut [TxRow], an: An)
     ensures { rows.new ≡ with_tx_on rows.old an }
 {
@@ -212,7 +207,7 @@ fn switch_to(rows: &mut [TxRow], an: An)
     }
 }
 
-/// Switches the association of this number off.
+/// Disables the association of this number.
 fn switch_off(rows: &mut [TxRow], an: An)
     ensures { rows.new ≡ with_tx_off rows.old an }
 {
@@ -221,7 +216,7 @@ fn switch_off(rows: &mut [TxRow], an: An)
     }
 }
 
-/// The association, which has used its next packet number where it has this association number.
+/// The association, which has used its next packet number if it has this association number.
 fn used_row(row: TxRow, an: An) -> TxRow
     requires { row.next ≤ 2 ^ 64 }
     ensures { result ≡ used_at an row }

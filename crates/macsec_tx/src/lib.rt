@@ -1,4 +1,4 @@
-//! The transmit channel: its associations, and what becomes of a client's frame (IEEE 802.1AE, 10.5).
+//! The transmit channel: its associations, and what becomes of a client frame (IEEE 802.1AE, 10.5).
 #![tactic(auto)]
 
 mod channel;
@@ -11,17 +11,17 @@ use macsec_tag::{An, Sci};
 /// Which SecTAG a frame gets (9.5).
 #[derive(Clone, Copy, PartialEq, Eq, Debug)]
 pub enum TagForm {
-    /// One with the SCI where there is more than one receive channel, else one without.
+    /// With the SCI if there is more than one receive channel, else without ES, SCB and SCI.
     Auto,
-    /// One with the SCI.
+    /// With the SCI.
     Sci,
-    /// One with ES in place of the SCI where the source address is that of the SCI, else one with the SCI.
+    /// With ES in place of the SCI if the source address is that of the SCI, else with the SCI.
     Es,
-    /// One with SCB in place of the SCI where the source address is that of the SCI, else one with the SCI.
+    /// With SCB in place of the SCI if the source address is that of the SCI, else with the SCI.
     Scb,
 }
 
-/// What transmission goes by: whether frames are protected, the tag form, the own SCI, the octets of the
+/// What transmission depends on: whether frames are protected, the tag form, the endpoint's SCI, the octets of the
 /// largest frame, and whether there is more than one receive channel.
 #[derive(Clone, Copy, PartialEq, Eq, Debug)]
 pub struct TxOptions {
@@ -32,8 +32,8 @@ pub struct TxOptions {
     pub many: bool,
 }
 
-/// A transmit association: its number, the number of its key, the packet number that it uses next, which
-/// is one past the last where it is exhausted, whether it encrypts, and whether it is on.
+/// A transmit association: its number, the number of its key, its next packet number, which is one past the last if it
+/// is exhausted, whether it encrypts, and whether it is enabled.
 #[derive(Clone, Copy, PartialEq, Eq, Debug, Default)]
 pub struct TxRow {
     pub an: An,
@@ -43,15 +43,15 @@ pub struct TxRow {
     pub on: bool,
 }
 
-/// What becomes of a client's frame.
+/// What becomes of a client frame.
 #[derive(Clone, Copy, PartialEq, Eq, Debug)]
 pub enum TxResult {
-    /// It leaves as it is.
+    /// It is sent as it is.
     Plain,
-    /// It leaves protected under the key of this number, as the first `len` octets of the caller's slice.
+    /// It is sent protected under the key of this number, as the first `len` octets of the caller's slice.
     Made { len: usize, key: u8 },
-    /// It does not leave: no association is on, or the one that is on is exhausted.
+    /// It is dropped: no association is enabled, or the enabled one is exhausted.
     NoSa,
-    /// It does not leave: it would be longer than the largest frame, or protection would make it so.
+    /// It is dropped: it would be longer than the largest frame, or protection would make it so.
     TooLong,
 }

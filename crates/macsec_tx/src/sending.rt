@@ -1,12 +1,12 @@
-//! What becomes of a client's frame.
+//! What becomes of a client frame.
 
 ghost use Rattle.std.specs.Prelude.{◌≡◌, ◌<◌, ◌≤◌, ◌+◌, ◌^◌, ◌++◌, length, take, drop, slice_range, nat_lt, if◌then◌else◌, IsSome, Some, SomeIff, ℕ, List};
 ghost use Rattle.std.specs.Option.{ForSome};
-ghost use Rattle.macsec_suite.specs.KeyRows.{AreKeyRows, key_row};
+ghost use Rattle.macsec_suite.specs.KeyRows.{AreKeyRows, key_row, the_key};
 ghost use Rattle.macsec_suite.specs.Suites.{iv_of, last_of};
-ghost use Rattle.macsec_tag.specs.Tag.{spelling};
+ghost use Rattle.macsec_tag.specs.Tag.{encoding};
 ghost use Rattle.macsec_tag.specs.Frame.{in_a_row};
-ghost use Rattle.macsec_tx.specs.Limits.{max_frame_len, min_frame_len};
+ghost use Rattle.macsec_tag.specs.Limits.{max_frame_len, min_frame_len};
 ghost use Rattle.macsec_tx.specs.Tags.{es_sent, is_own, scb_sent, sci_sent, sl_of};
 ghost use Rattle.macsec_tx.specs.Transmit.{keys_after, octets_added, parts_under, rows_after, sending, sending_by, tag_sent};
 ghost use Rattle.macsec_tx.specs.Commands.{HaveKeys};
@@ -16,16 +16,13 @@ ghost use Rattle.macsec_tx.specs.Answers.{IfMade, ShowsLeaving};
 use crate::{TagForm, TxChannel, TxOptions, TxResult, TxRow};
 use macsec_pn::TxNumbers;
 use macsec_suite::laws::parts_in_place;
-use macsec_suite::{ICV_LENGTH, KeyRow, KeyTable, SuiteKey, iv_of, protect_in_place};
-use macsec_tag::{Sci, SecTag, write_tag};
-
-/// The octets of DA and SA.
-const ADDRESSES_LENGTH: usize = 12;
+use macsec_suite::{KeyRow, KeyTable, SuiteKey, iv_of, protect_in_place};
+use macsec_tag::{ADDRESSES_LENGTH, ICV_LENGTH, Sci, SecTag, write_tag};
 
 impl TxChannel {
-    /// What leaves for a client's frame of 14 to 9,248 octets. A protected frame is at the front of
-    /// `out`, which has 9,248 octets or more. The key of each association is in the table, and the
-    /// largest frame has at most 9,248 octets.
+    /// What is sent for a client frame of 14 to 9,248 octets. A protected frame is at the start of `out`, which has
+    /// 9,248 octets or more. The key of each association is in the table, and the largest frame is at most 9,248
+    /// octets.
     pub fn next_frame(
         &mut self,
         keys: &mut KeyTable,
@@ -50,16 +47,20 @@ impl TxChannel {
         let Some(row) = self.row_on() else {
             return TxResult::NoSa;
         };
-        let result = frame_under(keys, options, &row, frame, out);
+        let key = keys.key(row.key).unwrap();
+        let Some(pn) = number_of_frame(key, &row) else {
+            return TxResult::NoSa;
+        };
+        let result = frame_under(keys, options, &row, pn, frame, out);
         if let TxResult::Made { .. } = result {
-            keys.note_used(row.key, row.next as u64);
+            keys.note_used(row.key, pn);
             self.use_number(row.an);
         }
         result
     }
 }
 
-/// What leaves without protection.
+/// What is sent without protection.
 fn plain(options: &TxOptions, frame: &[u8]) -> TxResult
     ensures { result ≡ (if nat_lt options.now.max_frame (length frame.now) then TxResult.TooLong else TxResult.Plain) }
 {
@@ -70,27 +71,26 @@ fn plain(options: &TxOptions, frame: &[u8]) -> TxResult
     }
 }
 
-/// What leaves from the association that is on.
+/// What the enabled association sends with its next packet number `pn`, which is not past the last one.
 fn frame_under(
     keys: &KeyTable,
     options: &TxOptions,
     row: &TxRow,
+    pn: u64,
     frame: &[u8],
     out: &mut [u8],
 ) -> TxResult
     requires key_there { IsSome (key_row keys.now row.now.key) }
+    requires next { pn ≡ row.now.next }
+    requires left { pn ≤ last_of (the_key keys.now row.now.key).suite }
     requires frame_long { min_frame_len ≤ length frame.now }
     requires frame_short { length frame.now ≤ max_frame_len }
     requires limit { options.now.max_frame ≤ max_frame_len }
     requires room { max_frame_len ≤ length out.old }
     ensures leaving { ShowsLeaving result out.new (sending_by options.now keys.now frame.now (Some row.now)).leaving }
-    ensures number { IfMade result (row.now.next < 2 ^ 64) }
 {
     let key = keys.key(row.key).unwrap();
-    let Some(pn) = number_of_frame(key, row) else {
-        return TxResult::NoSa;
-    };
-    let tag = tag_of(options, row, frame);
+    let tag = tag_of(options, row, pn, frame);
     if frame.len() + tag.length() + ICV_LENGTH > options.max_frame as usize {
         return TxResult::TooLong;
     }
@@ -99,7 +99,7 @@ fn frame_under(
     TxResult::Made { len, key: row.key }
 }
 
-/// The packet number of the association's next frame, where one is left under its key.
+/// The packet number of the association's next frame; `None` if the association is exhausted.
 fn number_of_frame(key: &KeyRow, row: &TxRow) -> Option<u64>
     ensures { SomeIff result (row.now.next ≤ last_of key.now.suite_key.suite) row.now.next }
 {
@@ -121,14 +121,14 @@ fn iv_of_frame(options: &TxOptions, key: &KeyRow, pn: u64) -> [u8; 12]
     )
 }
 
-/// The SL of so many octets of Secure Data (9.7).
+/// The SL of this number of octets of Secure Data (9.7).
 fn sl_of(octets: usize) -> u8
     ensures { result ≡ sl_of octets }
 {
     if octets < 48 { octets as u8 } else { 0 }
 }
 
-/// Is the source address of a client's frame that of the SCI?
+/// Is the source address of a client frame that of the SCI?
 fn is_own(options: &TxOptions, frame: &[u8]) -> bool
     requires { min_frame_len ≤ length frame.now }
     ensures { result ≡ is_own options.now.sci (slice_range frame.now 6 12) }
@@ -173,13 +173,14 @@ fn scb_sent(options: &TxOptions, own: bool) -> bool
     }
 }
 
-/// The SecTAG of a client's frame that the association sends.
-fn tag_of(options: &TxOptions, row: &TxRow, frame: &[u8]) -> SecTag
+/// The SecTAG of a client frame that the association sends with its next packet number.
+fn tag_of(options: &TxOptions, row: &TxRow, pn: u64, frame: &[u8]) -> SecTag
+    requires next { pn ≡ row.now.next }
     requires frame_long { min_frame_len ≤ length frame.now }
     ensures { result ≡ tag_sent options.now row.now frame.now }
 {
     let own = is_own(options, frame);
-    // A look at the number: that it is below 4 is known from here on.
+    // For the prover alone: from here on it knows that the number is below 4. The compiler deletes the line.
     let _number = row.an.number();
     SecTag::new(
         es_sent(options, own),
@@ -188,14 +189,13 @@ fn tag_of(options: &TxOptions, row: &TxRow, frame: &[u8]) -> SecTag
         row.conf,
         row.an,
         sl_of(frame.len() - ADDRESSES_LENGTH),
-        (row.next % (1 << 32)) as u32,
+        (pn % (1 << 32)) as u32,
         sci_sent(*options, own),
     )
     .unwrap()
 }
 
-/// Puts DA, SA, SecTAG, Secure Data and ICV at the front of `out`, and answers how many octets they
-/// are.
+/// Puts DA, SA, SecTAG, Secure Data and ICV at the start of `out`, and returns how many octets they are.
 fn write_frame(key: &SuiteKey, iv: &[u8; 12], tag: &SecTag, frame: &[u8], out: &mut [u8]) -> usize
     requires frame_long { min_frame_len ≤ length frame.now }
     requires frame_short { length frame.now ≤ max_frame_len }
@@ -203,20 +203,21 @@ fn write_frame(key: &SuiteKey, iv: &[u8; 12], tag: &SecTag, frame: &[u8], out: &
     ensures length { result ≡ length frame.now + octets_added tag.now }
     ensures octets { take result out.new ≡ in_a_row (parts_under key.now iv.now tag.now frame.now) }
 {
+    // A law that the proof cites; the call does nothing.
     parts_in_place();
     let end = write_clear(tag, frame, out) + ICV_LENGTH;
     protect_in_place(key, iv, tag.e(), tag.length(), &mut out[..end]);
     end
 }
 
-/// Puts DA, SA, SecTAG and client data at the front of `out`, and answers how many octets they are.
+/// Puts DA, SA, SecTAG and client data at the start of `out`, and returns how many octets they are.
 fn write_clear(tag: &SecTag, frame: &[u8], out: &mut [u8]) -> usize
     requires frame_long { min_frame_len ≤ length frame.now }
     requires frame_short { length frame.now ≤ max_frame_len }
     requires room { length frame.now + octets_added tag.now ≤ length out.old }
-    ensures length { result ≡ length frame.now + length (spelling tag.now) }
+    ensures length { result ≡ length frame.now + length (encoding tag.now) }
     ensures short { result ≤ length frame.now + 16 }
-    ensures octets { take result out.new ≡ take 12 frame.now ++ spelling tag.now ++ drop 12 frame.now }
+    ensures octets { take result out.new ≡ take 12 frame.now ++ encoding tag.now ++ drop 12 frame.now }
 {
     let tag_length = tag.length();
     let data = ADDRESSES_LENGTH + tag_length;

@@ -1,3 +1,5 @@
+-- The loop adds up the product bit by bit, and after 128 bits its sum is `block_product`.
+-- By cases of the bit: a term that counts, or one that does not (`Sums`), and one more multiplication by x.
 use Rattle.std.proofs.Common.{◌≡◌, ℕ, ◌-◌, ◌*◌, ap, ◌∙◌, sym, arith}
 use Rattle.std.proofs.lemmas.Nat.Bits.{shr_and_one, bit_at-lt}
 use Rattle.std.specs.Fn.{iterate}

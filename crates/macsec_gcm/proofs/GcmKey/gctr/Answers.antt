@@ -1,3 +1,5 @@
+-- The key stream is added block by block, with the counter of each block, and in the end to the whole text: `gctr`.
+-- By the lemma on one block more (`KeyStreams`).
 use Rattle.std.proofs.Common.{◌≡◌, ◌+◌, ◌*◌, ℕ, get_or, bit_xor, ◌∙◌, sym, refl, arith, rules}
 use Rattle.std.proofs.lemmas.List.FromFn.{fill_by_all}
 use Rattle.std.specs.Fn.{iterate}

@@ -4,6 +4,7 @@ use Rattle.macsec_gcm.specs.Gcm.{inc32}
 use Rattle.macsec_gcm.proofs.KeyStreams.{IsSumBelow, key_stream}
 use Rattle.macsec_gcm.proofs.GcmKey.gctr.Given as goal
 
+-- the counter was incremented i times, and the key stream was added to the first i blocks and to no other octet
 abbrev pub invariant-loop-i : goal.invariant-loop-i
 invariant-loop-i l = record {
   counter : l.counter ≡ iterate inc32 l.i l.fn.icb;

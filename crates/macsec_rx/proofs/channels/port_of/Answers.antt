@@ -1,6 +1,6 @@
 use Rattle.std.proofs.Common.{◌++◌, ◌∷◌, [], List, ℕ, set, ap, ◌∙◌, arith}
 use Rattle.std.proofs.lemmas.List.{set-append_right}
-use Rattle.macsec_tag.specs.declared.Sci.{Sci}
+use Rattle.macsec_tag.specs.declared.identifiers.Sci.{Sci}
 use Rattle.macsec_rx.proofs.channels.port_of.Goals as goal
 
 as_sci : List ℕ → Sci

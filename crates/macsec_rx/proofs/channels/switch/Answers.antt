@@ -6,5 +6,5 @@ use Rattle.macsec_rx.proofs.channels.switch.Goals as goal
 
 pub loop-row-preserved : goal.loop-row-preserved
 loop-row-preserved c =
-    rw (c.switched.ensures, ← c.row-item.is)
+    rw (c.row_switched.ensures, ← c.row-item.is)
     (map_over_more (at_place (row_switched c.args.on) c.args.sci c.args.an) c.args.rows.now c.loop-row.rows c.loop-row.row-index c.row-item.result (omega arith) c.loop-row.invariant c.row-item.is)

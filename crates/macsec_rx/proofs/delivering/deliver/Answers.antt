@@ -1,6 +1,6 @@
 use Rattle.std.proofs.Common.{◌≡◌, ◌+◌, ◌++◌, ℕ, List, length, take, drop, ap, sym, ◌∙◌, arith}
 use Rattle.std.proofs.lemmas.List.{length-take-le}
-use Rattle.macsec_tag.specs.Tag.{spelling}
+use Rattle.macsec_tag.specs.Tag.{encoding}
 use Rattle.macsec_rx.proofs.Placed.{placed}
 use Rattle.macsec_rx.proofs.delivering.deliver.Goals as goal
 
@@ -12,10 +12,10 @@ returns-clause-octets c =
     let addresses : List ℕ = c.addresses.result.now in
     let n : ℕ = length c.tag_bytes-tag_length.result.now in
     let m : ℕ = length c.secure_data.result.now in
-    let tag_long : n ≡ length (spelling p.tag) = ap length c.tag_bytes-tag_length.ensures in
+    let tag_long : n ≡ length (encoding p.tag) = ap length c.tag_bytes-tag_length.ensures in
     let m_is : m ≡ length p.secure_data = ap length c.secure_data.ensures in
     let end : c.put.result ≡ n + 12 = omega (arith, c.put.ensures.end, c.addresses.ensures.length) in
-    let place : n + 12 ≡ 12 + length (spelling p.tag) = omega (arith, tag_long) in
+    let place : n + 12 ≡ 12 + length (encoding p.tag) = omega (arith, tag_long) in
     let front_long : length (take n out) ≡ n = length-take-le n out (omega (arith, c.requires, tag_long)) in
     placed new (take n out) addresses (drop (n + 12) out) n 12 m front_long c.addresses.ensures.length
     (ap (λ (j : ℕ). take j new) (sym end) ∙ c.put.ensures.octets)

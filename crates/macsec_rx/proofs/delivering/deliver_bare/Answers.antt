@@ -1,6 +1,6 @@
 use Rattle.std.proofs.Common.{◌≡◌, ◌+◌, ◌++◌, ℕ, List, length, take, ap, sym, ◌∙◌, arith}
 use Rattle.std.proofs.lemmas.List.{length-take-le}
-use Rattle.macsec_tag.specs.Tag.{spelling}
+use Rattle.macsec_tag.specs.Tag.{encoding}
 use Rattle.macsec_rx.proofs.Placed.{behind}
 use Rattle.macsec_rx.proofs.delivering.deliver_bare.Goals as goal
 
@@ -9,7 +9,7 @@ returns-clause-octets c =
     let out : List ℕ = c.args.out.now in
     let new : List ℕ = c.put.new.out in
     let p = c.args.mpdu.now in
-    let n : ℕ = 12 + length (spelling p.tag) in
+    let n : ℕ = 12 + length (encoding p.tag) in
     let m : ℕ = length p.secure_data in
     let at : 12 + length c.tag_bytes.result.now ≡ n = ap (λ (xs : List ℕ). 12 + length xs) c.tag_bytes.ensures in
     let end : c.put.result ≡ n + m = omega (arith, c.put.ensures.end, at, ap length c.secure_data.ensures) in

@@ -1,3 +1,5 @@
+-- What is delivered is the plaintext of the definition if the ICV is valid, and else nothing.
+-- By the lemmas that opening by position is opening by parts (`Opened`).
 use Rattle.std.proofs.Common.{◌≡◌, ◌+◌, length, drop, ap, sym, ◌∙◌}
 use Rattle.std.specs.Prelude.{Some, None}
 use Rattle.macsec_suite.specs.InPlace.{validated_octets}

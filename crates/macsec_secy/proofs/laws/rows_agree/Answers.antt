@@ -1,3 +1,5 @@
+-- The rows agree at the start, and after each step: both clauses of the law.
+-- By the lemmas of `StaysAgreed`.
 use Rattle.macsec_secy.proofs.StaysAgreed.{after_step, at_start}
 use Rattle.macsec_secy.proofs.laws.rows_agree.Goals as goal
 

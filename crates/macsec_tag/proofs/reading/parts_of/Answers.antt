@@ -1,5 +1,5 @@
 use Rattle.std.proofs.Common.{sym, ◌∙◌, ap, subst}
-use Rattle.macsec_tag.specs.Tag.{spelling}
+use Rattle.macsec_tag.specs.Tag.{encoding}
 use Rattle.macsec_tag.specs.Frame.{HasLengths}
 use Rattle.macsec_tag.proofs.ByPlace.{are_octets, parts_cut, lengths_by, spelled_there}
 use Rattle.macsec_tag.proofs.reading.parts_of.Goals as goal
@@ -14,6 +14,6 @@ invariant_of-result c =
     let icv_is = rw after_is at c.split_at-4.ensures.front in
     let padding_is = rw after_is at c.split_at-4.ensures.back in
     let parts_are = parts_cut frame c.split_at.result.0.now _ _ _ _ c.requires c.split_at.ensures.front data_is icv_is padding_is c.sec_tag.ensures in (
-      tag_is ∙ sym (spelled_there frame octets c.requires) ∙ ap spelling (sym c.sec_tag.ensures),
+      tag_is ∙ sym (spelled_there frame octets c.requires) ∙ ap encoding (sym c.sec_tag.ensures),
       subst HasLengths (sym parts_are) (lengths_by frame c.requires),
     )

@@ -1,3 +1,5 @@
+-- A frame is read as tagged exactly when the grammar says so: a goal for each return after the test of the length.
+-- By the law that table and grammar agree (`answered_by` of `Readings`).
 use Rattle.std.proofs.Common.{arith}
 use Rattle.std.proofs.lemmas.Grind.{common_steps}
 use Rattle.macsec_tag.proofs.ByPlace.{are_octets}

@@ -1,3 +1,5 @@
+-- The loop changes each row as the definition does, and each has a number that can be followed by one more.
+-- By the lemma that a row that the loop has not reached is as it was.
 use Rattle.std.proofs.Common.{◌≤◌, arith, sym, subst}
 use Rattle.std.specs.Prelude.{◌^◌}
 use Rattle.std.proofs.lemmas.List.Edits.{map_over_more}

@@ -10,4 +10,4 @@ unwrap-requires c =
     let sci = c.sci_sent.ensures.value _ own in
     let octets = subst (λ o. ForSome o (λ s. length s.0 ≡ 8)) sci c.sci_sent.ensures.octets in
     c.new.ensures.valid.1
-    (rw (c.es_sent.ensures _ own, c.scb_sent.ensures _ own, sci, c.sl_of.ensures) (is_tag c.args.options.now c.args.row.now c.args.frame.now small octets))
+    (rw (c.requires.next, c.es_sent.ensures _ own, c.scb_sent.ensures _ own, sci, c.sl_of.ensures) (is_tag c.args.options.now c.args.row.now c.args.frame.now small octets))

@@ -2,7 +2,7 @@ use Rattle.std.proofs.Common.{◌≡◌, ◌≤◌, ◌+◌, ◌++◌, ◌-◌, 
 use Rattle.std.proofs.lemmas.List.{take_at}
 use Rattle.std.proofs.lemmas.Slice.{between_to_end, take-put_mid}
 use borrow.Rule.Slice.PartMut.{put_mid}
-use Rattle.macsec_tag.specs.Tag.{spelling}
+use Rattle.macsec_tag.specs.Tag.{encoding}
 use Rattle.macsec_tx.proofs.Writes.{take-put_mid_front, length-put_mid_front}
 use Rattle.macsec_tx.proofs.sending.write_clear.Goals as goal
 
@@ -10,7 +10,7 @@ pub returns-clause-octets : goal.returns-clause-octets
 returns-clause-octets c =
     let frame : List ℕ = c.args.frame.now in
     let out : List ℕ = c.args.out.now in
-    let tag : List ℕ = spelling c.args.tag.now in
+    let tag : List ℕ = encoding c.args.tag.now in
     let n : ℕ = c.length-tag_length.result in
     let addresses : List ℕ = c.copy_from_slice.new.self in
     let first : List ℕ = addresses ++ drop 12 out in

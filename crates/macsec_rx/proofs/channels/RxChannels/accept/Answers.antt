@@ -1,3 +1,5 @@
+-- What holds of the channels still holds once an association has accepted a packet number.
+-- By the lemma on that change (`RxRows`).
 use Rattle.std.proofs.Common.{length, ap, ◌∙◌, arith}
 use Rattle.macsec_rx.proofs.RxRows.{accepting_rows, refilled}
 use Rattle.macsec_rx.proofs.channels.RxChannels.accept.Goals as goal

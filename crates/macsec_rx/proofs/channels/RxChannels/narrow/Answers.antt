@@ -1,3 +1,5 @@
+-- What holds of the channels still holds once every association is narrowed.
+-- By the lemma on that change (`RxRows`).
 use Rattle.std.proofs.Common.{length, ap, ◌∙◌}
 use Rattle.macsec_rx.proofs.RxRows.{narrowed_rows, refilled}
 use Rattle.macsec_rx.proofs.channels.RxChannels.narrow.Goals as goal

@@ -1,3 +1,5 @@
+-- What is left are the other associations, and what holds of the channels holds of them.
+-- By the contract of `retain`, which is a filter, and the lemma on deletion (`RxRows`).
 use Rattle.std.proofs.Common.{◌≡◌, ap, rules}
 use Rattle.std.specs.Prelude.{filter, not}
 use Rattle.arrayvec.proofs.ArrayVecLemmas.{filter-from_retain}

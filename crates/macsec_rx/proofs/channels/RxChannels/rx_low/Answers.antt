@@ -1,3 +1,5 @@
+-- The key of the association is in the table, and what holds of the channels still holds once its numbers are raised.
+-- By the lemmas on an association that is found and on that change (`RxRows`).
 use Rattle.std.proofs.Common.{length, ap, ◌∙◌, arith, rules}
 use Rattle.std.specs.Prelude.{IsSome}
 use Rattle.macsec_suite.specs.KeyRows.{key_row}
@@ -18,7 +20,7 @@ invariant_of-self c = record {
       (rw (c.raise.ensures, c.as_mut_slice.ensures.value) (raised_rows _ c.args.pn c.args.sci c.args.an (omega arith) (omega (arith, c.ranges.pn.fits)) _ c.self.invariant.rows));
 }
 
--- Where the search would prove it too: there is no other try at a wrong body.
+-- For speed: the prover finds this by itself too, but on a mutant it would try more than this search.
 pub returns-clause-refusal : goal.returns-clause-refusal
 returns-clause-refusal c = search rules
 

@@ -1,3 +1,5 @@
+-- What holds of the channels still holds once an association is disabled.
+-- By the lemma on that change (`RxRows`).
 use Rattle.std.proofs.Common.{length, ap, ◌∙◌, false}
 use Rattle.macsec_rx.proofs.RxRows.{refilled, switched_rows}
 use Rattle.macsec_rx.proofs.channels.RxChannels.rx_off.Goals as goal

@@ -1,3 +1,5 @@
+-- What holds of the channels still holds once an association is enabled.
+-- By the lemma on that change (`RxRows`).
 use Rattle.std.proofs.Common.{length, ap, ◌∙◌, true}
 use Rattle.macsec_rx.proofs.RxRows.{refilled, switched_rows}
 use Rattle.macsec_rx.proofs.channels.RxChannels.rx_on.Goals as goal

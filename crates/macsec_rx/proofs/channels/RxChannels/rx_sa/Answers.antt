@@ -1,3 +1,5 @@
+-- There is space for an association of a free number of a channel, and what holds of the channels holds with it.
+-- By the lemmas `has_room` (`Room`) and `joined` (`RxRows`).
 use Rattle.std.proofs.Common.{◌≡◌, ◌<◌, sym, ◌∙◌, ap, lit<, arith, rules, true}
 use Rattle.std.specs.Prelude.{None}
 use Rattle.macsec_rx.specs.Channels.{rx_row}
@@ -30,7 +32,7 @@ invariant_of-self c =
           (joined c.self.inside.scis.items c.self.inside.rows.items _ c.self.invariant.rows free (record { channel = there; an = small; key = omega (arith, c.ranges.key.fits); ssci = omega (arith, c.ranges.ssci.fits); next = search rules; lowest_least = search (rules, arith); lowest = search (rules, arith) }));
     }
 
--- Where the search would prove it too: there is no other try at a wrong body.
+-- For speed: the prover finds this by itself too, but on a mutant it would try more than this search.
 pub returns-clause-refusal : goal.returns-clause-refusal
 returns-clause-refusal c = search rules
 

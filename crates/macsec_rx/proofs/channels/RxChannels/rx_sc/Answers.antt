@@ -1,3 +1,5 @@
+-- What holds of the channels holds with a new one, whose SCI is free.
+-- By the lemmas on a channel that joins (`Scis`, `RxRows`).
 use Rattle.std.proofs.Common.{◌≡◌, ◌∙◌, ap, sym, false, rules}
 use Rattle.macsec_rx.specs.Commands.{has_channel}
 use Rattle.macsec_rx.proofs.RxRows.{of_more}

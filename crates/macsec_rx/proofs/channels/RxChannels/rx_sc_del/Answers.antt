@@ -1,3 +1,5 @@
+-- What is left are the other channels and their associations, and what holds of the channels holds of them.
+-- By the contracts of `retain`, which is a filter, and the lemmas on deletion (`Scis`, `RxRows`).
 use Rattle.std.proofs.Common.{◌≡◌, ◌≤◌, ap, rules, arith, length}
 use Rattle.std.specs.Prelude.{filter, not}
 use Rattle.arrayvec.proofs.ArrayVecLemmas.{filter-from_retain}

@@ -1,3 +1,5 @@
+-- A new key has space in the table and its place in the index, and the rows are those before and its own.
+-- By the lemmas that a key of a new number may join (`KeyLemmas`, `KeyIndex`).
 use Rattle.std.proofs.Common.{◌≡◌, ◌<◌, ◌∷◌, [], ◌++◌, map, length, refl, subst, sym, ap, ◌∙◌, arith, rules}
 use Rattle.std.specs.Prelude.{None}
 use Rattle.std.proofs.Math.ListN.{set}

@@ -1,3 +1,5 @@
+-- A key that no line refuses has a free number; the refusal and the effect are those of the definitions.
+-- By search; these proofs are here for speed.
 use Rattle.std.proofs.Common.{rules}
 use Rattle.macsec_suite.proofs.key_table.KeyTable.install.Goals as goal
 

@@ -1,3 +1,5 @@
+-- There is space for an association of a free number, and what holds of the rows holds with it.
+-- By the lemmas on a new association (`TxRows`); that its number is below 4 comes from the look at it.
 use Rattle.std.proofs.Common.{◌≡◌, ◌<◌, sym, ◌∙◌, ap, lit<, arith, rules}
 use Rattle.std.specs.Prelude.{None}
 use Rattle.macsec_tx.specs.Transmit.{tx_row}

@@ -1,5 +1,0 @@
-use Rattle.std.proofs.Common.{rules}
-use Rattle.macsec_secy.proofs.Counters.count_packet.Goals as goal
-
-pub returns-in-BadTag : goal.returns-in-BadTag
-returns-in-BadTag c = search rules

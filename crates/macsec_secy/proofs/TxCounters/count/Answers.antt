@@ -1,5 +1,0 @@
-use Rattle.std.proofs.Common.{rules}
-use Rattle.macsec_secy.proofs.TxCounters.count.Goals as goal
-
-pub returns-then-conf : goal.returns-then-conf
-returns-then-conf c = search rules

@@ -1,0 +1,5 @@
+use Rattle.std.proofs.Common.{rules}
+use Rattle.macsec_secy.proofs.counters.Counters.count_packet.Goals as goal
+
+pub returns-in-BadTag : goal.returns-in-BadTag
+returns-in-BadTag c = search rules

@@ -1,0 +1,10 @@
+-- The counters are those of the definition: one goal with E set, one with E clear.
+-- By search; these proofs are here for speed.
+use Rattle.std.proofs.Common.{rules}
+use Rattle.macsec_secy.proofs.counters.Counters.count_tagged.Goals as goal
+
+pub returns-then-e : goal.returns-then-e
+returns-then-e c = search rules
+
+pub returns-else-e : goal.returns-else-e
+returns-else-e c = search rules

@@ -1,0 +1,5 @@
+use Rattle.std.proofs.Common.{rules}
+use Rattle.macsec_secy.proofs.counters.TxCounters.count.Goals as goal
+
+pub returns-then-conf : goal.returns-then-conf
+returns-then-conf c = search rules

@@ -1,0 +1,33 @@
+//! What becomes of a frame.
+
+use crate::{Sci, Verdict};
+
+/// Why nothing is sent for a client frame.
+#[derive(Clone, Copy, PartialEq, Eq, Debug)]
+pub enum DropReason {
+    /// No association is enabled, or the enabled one is exhausted.
+    NoSa,
+    /// What would be sent is longer than the largest frame of the configuration.
+    TooLong,
+}
+
+/// What becomes of a client frame.
+#[derive(Drop)]
+pub enum Sent<'a> {
+    /// This frame is sent, protected under the key of this number, or as it is. It borrows from the endpoint's buffer
+    /// or from the caller's frame.
+    Link { frame: &'a [u8], under: Option<u8> },
+    /// Nothing is sent.
+    Dropped(DropReason),
+}
+
+/// What becomes of a link frame: the verdict; from step 7 on the association that it is for, by the SCI of its channel
+/// and its number, 0 to 3; the frame at the uncontrolled port; and the frame at the controlled port, if one is
+/// delivered.
+#[derive(Drop)]
+pub struct Received<'a> {
+    pub verdict: Verdict,
+    pub row: Option<(Sci, u8)>,
+    pub uncontrolled: &'a [u8],
+    pub controlled: Option<&'a [u8]>,
+}

@@ -1,0 +1,46 @@
+//! The counters of an endpoint (IEEE 802.1AE, 10.7).
+
+use crate::Sci;
+
+/// The endpoint's counters, modulo 2^64.
+#[derive(Clone, Copy, PartialEq, Eq, Debug)]
+pub struct Counters {
+    pub in_pkts_untagged: u64,
+    pub in_pkts_no_tag: u64,
+    pub in_pkts_bad_tag: u64,
+    pub in_pkts_reserved: u64,
+    pub in_pkts_no_sa: u64,
+    pub in_pkts_no_sa_error: u64,
+    pub in_octets_validated: u64,
+    pub in_octets_decrypted: u64,
+    pub out_pkts_untagged: u64,
+    pub out_pkts_too_long: u64,
+    pub out_pkts_no_sa: u64,
+}
+
+/// The counters of the transmit channel, modulo 2^64.
+#[derive(Clone, Copy, PartialEq, Eq, Debug)]
+pub struct TxCounters {
+    pub out_pkts_protected: u64,
+    pub out_pkts_encrypted: u64,
+    pub out_octets_protected: u64,
+    pub out_octets_encrypted: u64,
+}
+
+/// The counters of a receive channel, modulo 2^64 (10.7).
+#[derive(Clone, Copy, PartialEq, Eq, Debug, Default)]
+pub struct RxCounters {
+    pub in_pkts_ok: u64,
+    pub in_pkts_unchecked: u64,
+    pub in_pkts_delayed: u64,
+    pub in_pkts_late: u64,
+    pub in_pkts_invalid: u64,
+    pub in_pkts_not_valid: u64,
+}
+
+/// The counters of the receive channel of this SCI.
+#[derive(Clone, Copy, PartialEq, Eq, Debug, Default)]
+pub struct ChannelCounters {
+    pub sci: Sci,
+    pub counters: RxCounters,
+}

@@ -1,8 +1,0 @@
-use Rattle.std.proofs.Common.{rules}
-use Rattle.macsec_suite.proofs.Suite.widest_window.Goals as goal
-
-pub returns-then-is_xpn : goal.returns-then-is_xpn
-returns-then-is_xpn c = search rules
-
-pub returns-else-is_xpn : goal.returns-else-is_xpn
-returns-else-is_xpn c = search rules

@@ -1,8 +1,0 @@
-use Rattle.std.proofs.Common.{rules}
-use Rattle.macsec_suite.proofs.SuiteKey.new.Goals as goal
-
-pub returns-clause-fault : goal.returns-clause-fault
-returns-clause-fault c = search rules
-
-pub returns-clause-value : goal.returns-clause-value
-returns-clause-value c = search rules

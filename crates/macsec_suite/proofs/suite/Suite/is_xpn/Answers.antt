@@ -1,0 +1,10 @@
+-- The suites with extended packet numbers are those of the definition, in each arm.
+-- By search; these proofs are here for speed.
+use Rattle.std.proofs.Common.{rules}
+use Rattle.macsec_suite.proofs.suite.Suite.is_xpn.Goals as goal
+
+pub returns-in-Gcm128 : goal.returns-in-Gcm128
+returns-in-Gcm128 c = search rules
+
+pub returns-in-Xpn128 : goal.returns-in-Xpn128
+returns-in-Xpn128 c = search rules

@@ -1,0 +1,59 @@
+//! Frames protected and validated in place.
+
+ghost use Rattle.std.specs.Prelude.{◌≡◌, ◌≤◌, ◌+◌, length, Some, None};
+ghost use Rattle.std.specs.Bool.{OnTrue, OnFalse};
+ghost use Rattle.macsec_gcm.specs.Gcm.{max_plaintext_len};
+ghost use Rattle.macsec_suite.specs.InPlace.{IsTagLength, protected_octets, validated_octets};
+
+use crate::SuiteKey;
+use macsec_tag::{ADDRESSES_LENGTH, ICV_LENGTH};
+
+/// Protects DA, SA, a SecTAG of `tag_len` octets, 8 or 16, and data in place, and puts the ICV into the 16 octets after
+/// them, the last of `frame`. If `conf` is true, the data after the key's confidentiality offset are encrypted; the
+/// rest is authenticated only. The data have at most 2^36 - 32 octets.
+///
+/// No contract keeps a caller from using an IV twice under a key. Two frames under one IV reveal the exclusive or of
+/// their encrypted data, and help to forge ICVs of other frames. For one sender `iv_of` gives a different IV for each
+/// packet number: so each packet number must be used only once under a key.
+pub fn protect_in_place(key: &SuiteKey, iv: &[u8; 12], conf: bool, tag_len: usize, frame: &mut [u8])
+    requires tag { IsTagLength tag_len }
+    requires room { 28 + tag_len ≤ length frame.old }
+    requires data_length { length frame.old ≤ 28 + tag_len + max_plaintext_len }
+    ensures { frame.new ≡ protected_octets key.now iv.now conf (12 + tag_len) frame.old }
+{
+    let head = ADDRESSES_LENGTH + tag_len;
+    let end = frame.len() - ICV_LENGTH;
+    let clear = head + key.clear_length(conf, end - head);
+    let (body, icv) = frame.split_at_mut(end);
+    let (aad, text) = body.split_at_mut(clear);
+    let tag = key.key.seal(iv, aad, text);
+    icv.copy_from_slice(&tag);
+}
+
+/// Validates DA, SA, a SecTAG of `tag_len` octets, 8 or 16, `data_len` octets of Secure Data, at most 2^36 - 32, and
+/// the 16 octets of ICV after them. Returns whether the ICV is valid. If it is and `e` is true, the Secure Data after
+/// the key's confidentiality offset are decrypted in place; else nothing is changed.
+pub fn validate_in_place(
+    key: &SuiteKey,
+    iv: &[u8; 12],
+    e: bool,
+    tag_len: usize,
+    data_len: usize,
+    frame: &mut [u8],
+) -> bool
+    requires tag { IsTagLength tag_len }
+    requires data_length { data_len ≤ max_plaintext_len }
+    requires room { 28 + tag_len + data_len ≤ length frame.old }
+    ensures genuine { OnTrue result (validated_octets key.now iv.now e (12 + tag_len) (12 + tag_len + data_len) frame.old ≡ Some frame.new) }
+    ensures false_frame { OnFalse result (validated_octets key.now iv.now e (12 + tag_len) (12 + tag_len + data_len) frame.old ≡ None) }
+    ensures unchanged { OnFalse result (frame.new ≡ frame.old) }
+{
+    let head = ADDRESSES_LENGTH + tag_len;
+    let end = head + data_len;
+    let clear = head + key.clear_length(e, data_len);
+    let (body, behind) = frame.split_at_mut(end);
+    let (aad, text) = body.split_at_mut(clear);
+    let mut icv = [0; ICV_LENGTH];
+    icv.copy_from_slice(&behind[..ICV_LENGTH]);
+    key.key.open(iv, aad, text, &icv)
+}

@@ -1,0 +1,69 @@
+//! The cipher suites (IEEE 802.1AE, clause 14).
+
+ghost use Rattle.std.specs.Prelude.{◌≡◌, ◌<◌};
+ghost use Rattle.macsec_suite.specs.Suites.{is_xpn, key_length, last_of, widest_window};
+ghost use Rattle.macsec_suite.specs.Keys.{has_wrong_offset};
+
+/// A cipher suite.
+#[derive(Clone, Copy, PartialEq, Eq, Debug)]
+pub enum Suite {
+    /// GCM-AES-128 (14.5).
+    Gcm128,
+    /// GCM-AES-256 (14.6).
+    Gcm256,
+    /// GCM-AES-XPN-128: extended packet numbers (14.7).
+    Xpn128,
+    /// GCM-AES-XPN-256: extended packet numbers (14.8).
+    Xpn256,
+}
+
+impl Suite {
+    /// The number of octets of a key.
+    pub fn key_length(self) -> usize
+        ensures { result ≡ key_length self }
+    {
+        match self {
+            Suite::Gcm128 | Suite::Xpn128 => 16,
+            Suite::Gcm256 | Suite::Xpn256 => 32,
+        }
+    }
+
+    /// Are packet numbers extended: have they 64 bits, of which the SecTAG carries the lower 32?
+    pub fn is_xpn(self) -> bool
+        ensures { result ≡ is_xpn self }
+    {
+        match self {
+            Suite::Gcm128 | Suite::Gcm256 => false,
+            Suite::Xpn128 | Suite::Xpn256 => true,
+        }
+    }
+
+    /// The last packet number.
+    pub fn last(self) -> u64
+        ensures { result ≡ last_of self }
+    {
+        if self.is_xpn() { u64::MAX } else { 0xffff_ffff }
+    }
+
+    /// The widest replay window.
+    pub fn widest_window(self) -> u64
+        ensures { result ≡ widest_window self }
+    {
+        if self.is_xpn() {
+            (1 << 30) - 1
+        } else {
+            u64::from(u32::MAX)
+        }
+    }
+
+    /// Is this no confidentiality offset of the suite's keys?
+    pub(crate) fn has_wrong_offset(self, offset: u8) -> bool
+        ensures { result ≡ has_wrong_offset self offset }
+    {
+        if self.is_xpn() {
+            offset != 0
+        } else {
+            !(offset == 0 || offset == 30 || offset == 50)
+        }
+    }
+}

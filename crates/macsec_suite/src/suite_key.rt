@@ -1,0 +1,98 @@
+//! Keys prepared for a suite.
+
+ghost use Rattle.std.specs.Prelude.{◌≡◌, ◌<◌, length, min, if◌then◌else◌, IfOk};
+ghost use Rattle.macsec_aes.specs.Keys.{key_bytes};
+ghost use Rattle.macsec_suite.specs.Suites.{key_length};
+ghost use Rattle.macsec_suite.specs.Keys.{fault_of, has_wrong_offset, prepared_from, suite_key_fault};
+ghost use Rattle.macsec_suite.specs.FaultNumbers.{number_of_suite_fault};
+
+use crate::Suite;
+use macsec_aes::Key;
+use macsec_gcm::GcmKey;
+use std::marker::Model;
+use thiserror::Error;
+
+/// Why a key is not prepared for a suite, in the order of the tests.
+#[derive(Clone, Copy, PartialEq, Eq, Debug, Error)]
+pub enum SuiteFault {
+    /// The key's length is not that of the suite's keys.
+    #[error("the key's length is not the suite's")]
+    KeyLength = 1,
+    /// The confidentiality offset is not 0, 30 or 50, or, with extended packet numbers, not 0.
+    #[error("the suite's keys have no such offset")]
+    Offset = 2,
+}
+
+impl SuiteFault {
+    /// The number of the fault, 1 or 2, in the order of the tests.
+    pub fn number(self) -> u8
+        ensures { result ≡ number_of_suite_fault self }
+    {
+        self as u8
+    }
+}
+
+/// A key prepared for a suite. Contracts see it as the suite, the key's bytes and its confidentiality
+/// offset.
+#[derive(Drop)]
+pub struct SuiteKey {
+    pub(crate) suite: Suite,
+    pub(crate) key: GcmKey,
+    pub(crate) offset: u8,
+}
+
+impl Model for SuiteKey {
+    ghost use Rattle.macsec_suite.specs.Keys.{PreparedKey};
+
+    ghost Value = { PreparedKey };
+
+    ghost view = { λ k. record { suite = k.suite; bytes = k.key; offset = k.offset } };
+}
+
+impl SuiteKey {
+    /// Prepares a key for a suite. The prepared key does not keep the salt, which goes to `iv_of`.
+    pub fn new(suite: Suite, key: Key, _salt: [u8; 12], offset: u8) -> Result<SuiteKey, SuiteFault>
+        ensures fault { fault_of result ≡ suite_key_fault suite key offset }
+        ensures value { IfOk result (λ k. k ≡ prepared_from suite key offset) }
+    {
+        if length_of(key) != suite.key_length() {
+            return Err(SuiteFault::KeyLength);
+        }
+        if suite.has_wrong_offset(offset) {
+            return Err(SuiteFault::Offset);
+        }
+        Ok(SuiteKey {
+            suite,
+            key: GcmKey::new(key),
+            offset,
+        })
+    }
+
+    /// The suite that the key is prepared for.
+    pub fn suite(&self) -> Suite
+        ensures { result ≡ self.now.suite }
+    {
+        self.suite
+    }
+
+    /// How many of `len` octets of data stay clear.
+    pub(crate) fn clear_length(&self, e: bool, len: usize) -> usize
+        ensures { result ≡ (if e then min self.now.offset len else len) }
+    {
+        if e {
+            len.min(self.offset as usize)
+        } else {
+            len
+        }
+    }
+}
+
+/// The bytes of a key.
+fn length_of(key: Key) -> usize
+    ensures { result ≡ length (key_bytes key) }
+{
+    match key {
+        Key::K128(bytes) => bytes.len(),
+        Key::K256(bytes) => bytes.len(),
+    }
+}
