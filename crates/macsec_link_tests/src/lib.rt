@@ -3,7 +3,7 @@
 #![tactic(auto)]
 
 #[cfg(test)]
-mod bench;
+mod fixture;
 #[cfg(test)]
 mod limits;
 #[cfg(test)]

@@ -1,13 +1,22 @@
 //! The limits of a link, the faults of events in their order, and the making of a world.
 
-use crate::bench::{
-    A, B, CLIENT_54, CLIENTS_14, NUMBER, PROTECTED_54, Want, frame, send, step, two_ends,
-};
+use crate::fixture::{A, B, CLIENTS_14, NUMBER, Want, frame, inject, send, step, steps, two_ends};
 use macsec_link::{
-    Command, DropReason, End, EndConfig, Event, Frame, NewFault, Refusal, TagForm, Verdict, World,
+    Command, DropReason, End, EndConfig, Event, NewFault, Refusal, TagForm, Verdict, World,
     WorldFault,
 };
+use macsec_vectors::{CLIENT_54, LINK_54};
+use std::alloc::Global;
+use std::process::Abort;
 use std::test::Fail;
+
+const NO_FRAME: Want = Want::Fault(WorldFault::NoFrame);
+
+const SHORT: Want = Want::Fault(WorldFault::Short);
+
+const ALTER_RANGE: Want = Want::Fault(WorldFault::AlterRange);
+
+const LINK_FULL: Want = Want::Fault(WorldFault::LinkFull);
 
 /// A's fault comes before B's.
 #[test]
@@ -37,108 +46,55 @@ fn makings(rt: HostRuntime) {
 #[test]
 fn faults(rt: HostRuntime) -> Result<(), Fail> {
     let mut world = World::new(rt.alloc(), A, B)?;
-    let no_frame = Want::Fault(WorldFault::NoFrame);
-    step(&rt, &mut world, Event::Deliver(End::B, 0), no_frame);
-    step(&rt, &mut world, Event::Alter(0, 0, 0), no_frame);
-    step(&rt, &mut world, Event::Pad(0), no_frame);
-    step(
-        &rt,
-        &mut world,
-        Event::Inject(frame(rt.alloc(), &[0])?),
-        Want::Made(0),
-    );
-    step(
-        &rt,
-        &mut world,
-        Event::Deliver(End::B, 0),
-        Want::Fault(WorldFault::Short),
-    );
-    step(
-        &rt,
-        &mut world,
-        Event::Alter(0, 1, 0xff),
-        Want::Fault(WorldFault::AlterRange),
-    );
-    let long = vec![in rt.alloc(); 0; 9249]?;
-    step(
-        &rt,
-        &mut world,
-        Event::Inject(Frame::new(long)),
-        Want::Fault(WorldFault::Long),
-    );
-    let short = frame(rt.alloc(), &CLIENT_54[..13])?;
-    step(
-        &rt,
-        &mut world,
-        Event::Send(End::A, short),
-        Want::Fault(WorldFault::Short),
-    );
-    let sent = frame(rt.alloc(), &CLIENT_54)?;
-    step(
-        &rt,
-        &mut world,
-        Event::Send(End::A, sent),
-        Want::Dropped(DropReason::NoSa),
-    );
+    let of_no_frame = [
+        (Event::Deliver(End::B, 0), NO_FRAME),
+        (Event::Alter(0, 0, 0), NO_FRAME),
+        (Event::Pad(0), NO_FRAME),
+    ];
+    steps(&rt, &mut world, &of_no_frame);
+    inject(&rt, rt.alloc(), &mut world, &[0], Want::Made(0))?;
+    let of_one_octet = [
+        (Event::Deliver(End::B, 0), SHORT),
+        (Event::Alter(0, 1, 0xff), ALTER_RANGE),
+    ];
+    steps(&rt, &mut world, &of_one_octet);
+    let long = Want::Fault(WorldFault::Long);
+    inject(&rt, rt.alloc(), &mut world, &[0; 9249], long)?;
+    send(&rt, rt.alloc(), &mut world, &CLIENT_54[..13], SHORT)?;
+    let no_sa = Want::Dropped(DropReason::NoSa);
+    send(&rt, rt.alloc(), &mut world, &CLIENT_54, no_sa)?;
     assert_eq!(rt; world.frame(0), Some([0].as_slice()));
     assert_eq!(rt; world.frame(1), None);
     Ok(())
 }
 
-/// The link has 65,536 frames of one octet: each fault in its order, and no counter moves.
+/// Two ends whose link has 65,536 frames of one octet.
+fn full_world(rt: &impl Abort, alloc: Global) -> Result<World, Fail> {
+    let mut world = World::new(alloc, A, B)?;
+    for n in 0..65536 {
+        inject(rt, alloc, &mut world, &[0], Want::Made(n))?;
+    }
+    Ok(world)
+}
+
+/// Each fault in its order, and no counter moves.
 #[test]
 fn full_link(rt: HostRuntime) -> Result<(), Fail> {
-    let mut world = World::new(rt.alloc(), A, B)?;
-    for n in 0..65536 {
-        step(
-            &rt,
-            &mut world,
-            Event::Inject(frame(rt.alloc(), &[0])?),
-            Want::Made(n),
-        );
-    }
-    let full = Want::Fault(WorldFault::LinkFull);
-    let short = Want::Fault(WorldFault::Short);
-    step(
-        &rt,
-        &mut world,
-        Event::Inject(frame(rt.alloc(), &[0])?),
-        full,
-    );
-    step(
-        &rt,
-        &mut world,
-        Event::Inject(frame(rt.alloc(), &[])?),
-        short,
-    );
-    step(
-        &rt,
-        &mut world,
-        Event::Deliver(End::B, 65536),
-        Want::Fault(WorldFault::NoFrame),
-    );
-    step(&rt, &mut world, Event::Deliver(End::B, 0), short);
-    step(
-        &rt,
-        &mut world,
-        Event::Alter(0, 1, 0),
-        Want::Fault(WorldFault::AlterRange),
-    );
-    step(&rt, &mut world, Event::Alter(0, 0, 1), full);
-    step(&rt, &mut world, Event::Pad(0), full);
+    let mut world = full_world(&rt, rt.alloc())?;
+    inject(&rt, rt.alloc(), &mut world, &[0], LINK_FULL)?;
+    inject(&rt, rt.alloc(), &mut world, &[], SHORT)?;
+    let of_other_frames = [
+        (Event::Deliver(End::B, 65536), NO_FRAME),
+        (Event::Deliver(End::B, 0), SHORT),
+        (Event::Alter(0, 1, 0), ALTER_RANGE),
+        (Event::Alter(0, 0, 1), LINK_FULL),
+        (Event::Pad(0), LINK_FULL),
+    ];
+    steps(&rt, &mut world, &of_other_frames);
     let counted = world.end(End::A).counters();
-    step(
-        &rt,
-        &mut world,
-        Event::Send(End::A, frame(rt.alloc(), &CLIENTS_14[0])?),
-        full,
-    );
-    step(
-        &rt,
-        &mut world,
-        Event::SendUncontrolled(End::A, frame(rt.alloc(), &CLIENTS_14[0])?),
-        full,
-    );
+    send(&rt, rt.alloc(), &mut world, &CLIENTS_14[0], LINK_FULL)?;
+    let uncontrolled = Event::SendUncontrolled(End::A, frame(rt.alloc(), &CLIENTS_14[0])?);
+    step(&rt, &mut world, uncontrolled, LINK_FULL);
     assert_eq!(rt; world.end(End::A).counters(), counted);
     Ok(())
 }
@@ -147,11 +103,11 @@ fn full_link(rt: HostRuntime) -> Result<(), Fail> {
 #[test]
 fn padding(rt: HostRuntime) -> Result<(), Fail> {
     let mut world = two_ends(&rt, rt.alloc(), 2, NUMBER)?;
-    send(&rt, rt.alloc(), &mut world, &CLIENT_54, 0)?;
+    send(&rt, rt.alloc(), &mut world, &CLIENT_54, Want::Made(0))?;
     step(&rt, &mut world, Event::Pad(0), Want::Made(1));
-    assert_eq!(rt; world.frame(0), Some(&PROTECTED_54[..]));
-    assert_eq!(rt; world.frame(1), Some(&PROTECTED_54[..]));
-    send(&rt, rt.alloc(), &mut world, &CLIENTS_14[0], 2)?;
+    assert_eq!(rt; world.frame(0), Some(&LINK_54[..]));
+    assert_eq!(rt; world.frame(1), Some(&LINK_54[..]));
+    send(&rt, rt.alloc(), &mut world, &CLIENTS_14[0], Want::Made(2))?;
     step(&rt, &mut world, Event::Pad(2), Want::Made(3));
     assert_eq!(rt; world.frame(2).map(|f| f.len()), Some(46));
     assert_eq!(rt; world.frame(3).map(|f| f.len()), Some(60));
@@ -164,7 +120,7 @@ fn padding(rt: HostRuntime) -> Result<(), Fail> {
 #[test]
 fn reflection(rt: HostRuntime) -> Result<(), Fail> {
     let mut world = two_ends(&rt, rt.alloc(), 2, NUMBER)?;
-    send(&rt, rt.alloc(), &mut world, &CLIENT_54, 0)?;
+    send(&rt, rt.alloc(), &mut world, &CLIENT_54, Want::Made(0))?;
     step(
         &rt,
         &mut world,

@@ -1,6 +1,6 @@
 //! What was sent under each key, and what was delivered from each association.
 
-use crate::bench::{
+use crate::fixture::{
     A, CLIENTS_14, Want, an, commands, frame, key, rx_sa, send, step, two_ends, tx_sa,
 };
 use macsec_link::{Command, End, Event, Verdict, World};
@@ -32,7 +32,7 @@ fn rollover(rt: HostRuntime) -> Result<(), Fail> {
     let mut world = two_ends(&rt, rt.alloc(), 0, 1)?;
     let next = an(&rt, 1);
     for (n, client) in (0..2).zip(&CLIENTS_14[..2]) {
-        send(&rt, rt.alloc(), &mut world, client, n)?;
+        send(&rt, rt.alloc(), &mut world, client, Want::Made(n))?;
         pass(&rt, &mut world, n, client);
     }
     commands(
@@ -48,7 +48,7 @@ fn rollover(rt: HostRuntime) -> Result<(), Fail> {
         [key(1), rx_sa(next, 1, 1), Command::RxOn(A.sci, next)],
     );
     for (n, client) in (2..4).zip(&CLIENTS_14[2..]) {
-        send(&rt, rt.alloc(), &mut world, client, n)?;
+        send(&rt, rt.alloc(), &mut world, client, Want::Made(n))?;
         pass(&rt, &mut world, n, client);
     }
     for (key, clients) in [
@@ -77,7 +77,7 @@ fn associations_made_again(rt: HostRuntime) -> Result<(), Fail> {
     let mut world = two_ends(&rt, rt.alloc(), 0, 1)?;
     let an = an(&rt, 0);
     for (n, client) in (0..4).zip(&CLIENTS_14) {
-        send(&rt, rt.alloc(), &mut world, client, n)?;
+        send(&rt, rt.alloc(), &mut world, client, Want::Made(n))?;
     }
     pass(&rt, &mut world, 0, &CLIENTS_14[0]);
     step(

@@ -3,15 +3,16 @@
 ghost use Rattle.std.specs.Prelude.{IfOk};
 ghost use Rattle.macsec_rx.specs.Commands.{HaveRxKeys};
 
-use crate::fixture::{NUMBER, OWN, SENDER, an, key_table};
+use crate::fixture::{OWN, SENDER, an, key_table};
 use macsec_rx::{RxChannels, RxRow, Verdict};
 use macsec_suite::{KeyTable, Refusal};
 use macsec_tag::Sci;
+use macsec_vectors::PACKET_NUMBER;
 use std::process::Abort;
 use std::test::Fail;
 
 /// The packet number that associations are made from.
-const FIRST: u64 = NUMBER as u64;
+const FIRST: u64 = PACKET_NUMBER as u64;
 
 /// The SCI of a port of a third endpoint.
 fn port(number: u8) -> Sci {

@@ -3,51 +3,16 @@
 
 ghost use Rattle.std.specs.Prelude.{◌≤◌, length, IfOk};
 ghost use Rattle.macsec_rx.specs.Commands.{HaveRxKeys};
-ghost use Rattle.macsec_rx.specs.Limits.{max_frame_len};
+ghost use Rattle.macsec_tag.specs.Limits.{max_frame_len};
 
-use crate::fixture::{NUMBER, OWN, SENDER, an, key_table};
+use crate::fixture::{OWN, SENDER, an, key_table};
 use macsec_rx::{Judged, Mode, RxChannels, RxOptions, Verdict};
 use macsec_suite::{KeyTable, Suite};
 use macsec_tag::reading::read;
 use macsec_tag::{An, Read};
+use macsec_vectors::{CLIENT_54, CLIENT_60, LINK_54, LINK_60, PACKET_NUMBER};
 use std::process::Abort;
 use std::test::Fail;
-
-/// The client's frame of 54 octets.
-const CLIENT_54: [u8; 54] = [
-    0xd6, 0x09, 0xb1, 0xf0, 0x56, 0x63, 0x7a, 0x0d, 0x46, 0xdf, 0x99, 0x8d, 0x08, 0x00, 0x0f, 0x10,
-    0x11, 0x12, 0x13, 0x14, 0x15, 0x16, 0x17, 0x18, 0x19, 0x1a, 0x1b, 0x1c, 0x1d, 0x1e, 0x1f, 0x20,
-    0x21, 0x22, 0x23, 0x24, 0x25, 0x26, 0x27, 0x28, 0x29, 0x2a, 0x2b, 0x2c, 0x2d, 0x2e, 0x2f, 0x30,
-    0x31, 0x32, 0x33, 0x34, 0x00, 0x01,
-];
-
-/// That frame, protected for integrity.
-const LINK_54: [u8; 86] = [
-    0xd6, 0x09, 0xb1, 0xf0, 0x56, 0x63, 0x7a, 0x0d, 0x46, 0xdf, 0x99, 0x8d, 0x88, 0xe5, 0x22, 0x2a,
-    0xb2, 0xc2, 0x84, 0x65, 0x12, 0x15, 0x35, 0x24, 0xc0, 0x89, 0x5e, 0x81, 0x08, 0x00, 0x0f, 0x10,
-    0x11, 0x12, 0x13, 0x14, 0x15, 0x16, 0x17, 0x18, 0x19, 0x1a, 0x1b, 0x1c, 0x1d, 0x1e, 0x1f, 0x20,
-    0x21, 0x22, 0x23, 0x24, 0x25, 0x26, 0x27, 0x28, 0x29, 0x2a, 0x2b, 0x2c, 0x2d, 0x2e, 0x2f, 0x30,
-    0x31, 0x32, 0x33, 0x34, 0x00, 0x01, 0xf0, 0x94, 0x78, 0xa9, 0xb0, 0x90, 0x07, 0xd0, 0x6f, 0x46,
-    0xe9, 0xb6, 0xa1, 0xda, 0x25, 0xdd,
-];
-
-/// The client's frame of 60 octets.
-const CLIENT_60: [u8; 60] = [
-    0xd6, 0x09, 0xb1, 0xf0, 0x56, 0x63, 0x7a, 0x0d, 0x46, 0xdf, 0x99, 0x8d, 0x08, 0x00, 0x0f, 0x10,
-    0x11, 0x12, 0x13, 0x14, 0x15, 0x16, 0x17, 0x18, 0x19, 0x1a, 0x1b, 0x1c, 0x1d, 0x1e, 0x1f, 0x20,
-    0x21, 0x22, 0x23, 0x24, 0x25, 0x26, 0x27, 0x28, 0x29, 0x2a, 0x2b, 0x2c, 0x2d, 0x2e, 0x2f, 0x30,
-    0x31, 0x32, 0x33, 0x34, 0x35, 0x36, 0x37, 0x38, 0x39, 0x3a, 0x00, 0x02,
-];
-
-/// That frame, protected for confidentiality.
-const LINK_60: [u8; 92] = [
-    0xd6, 0x09, 0xb1, 0xf0, 0x56, 0x63, 0x7a, 0x0d, 0x46, 0xdf, 0x99, 0x8d, 0x88, 0xe5, 0x2e, 0x00,
-    0xb2, 0xc2, 0x84, 0x65, 0x12, 0x15, 0x35, 0x24, 0xc0, 0x89, 0x5e, 0x81, 0x70, 0x1a, 0xfa, 0x1c,
-    0xc0, 0x39, 0xc0, 0xd7, 0x65, 0x12, 0x8a, 0x66, 0x5d, 0xab, 0x69, 0x24, 0x38, 0x99, 0xbf, 0x73,
-    0x18, 0xcc, 0xdc, 0x81, 0xc9, 0x93, 0x1d, 0xa1, 0x7f, 0xbe, 0x8e, 0xdd, 0x7d, 0x17, 0xcb, 0x8b,
-    0x4c, 0x26, 0xfc, 0x81, 0xe3, 0x28, 0x4f, 0x2b, 0x7f, 0xba, 0x71, 0x3d, 0x4f, 0x8d, 0x55, 0xe7,
-    0xd3, 0xf0, 0x6f, 0xd5, 0xa1, 0x3c, 0x0c, 0x29, 0xb9, 0xd5, 0xb8, 0x80,
-];
 
 /// What an endpoint of GCM-AES-128 goes by, with replay protection and a window of 0.
 fn options(mode: Mode) -> RxOptions {
@@ -66,7 +31,7 @@ fn channel_on(keys: &KeyTable) -> Result<RxChannels, Fail>
 {
     let mut channels = RxChannels::new();
     channels.rx_sc(OWN, SENDER)?;
-    channels.rx_sa(keys, SENDER, an(2)?, 0, 0, u64::from(NUMBER))?;
+    channels.rx_sa(keys, SENDER, an(2)?, 0, 0, u64::from(PACKET_NUMBER))?;
     channels.rx_on(SENDER, an(2)?)?;
     Ok(channels)
 }
@@ -88,13 +53,23 @@ fn delivered<'a>(frame: &'a [u8], verdict: Verdict, client: &'a [u8]) -> Case<'a
     }
 }
 
-/// A case where none is.
+/// A case where a frame is accepted.
+fn passed<'a>(frame: &'a [u8], client: &'a [u8]) -> Case<'a> {
+    delivered(frame, Verdict::Passed, client)
+}
+
+/// A case where none is delivered.
 fn dropped(frame: &[u8], verdict: Verdict) -> Case<'_> {
     Case {
         frame,
         verdict,
         delivered: None,
     }
+}
+
+/// A case where a frame is not valid.
+fn not_valid(frame: &[u8]) -> Case<'_> {
+    dropped(frame, Verdict::NotValid)
 }
 
 /// Holds the channels' answer to a frame against what it should be.
@@ -169,54 +144,54 @@ fn altered<const N: usize>(frame: [u8; N], place: usize, octet: u8) -> [u8; N] {
     altered
 }
 
+/// Holds the answer to the first frame of an association against what it should be.
+fn check_first(rt: &impl Abort, keys: &KeyTable, mode: Mode, case: Case<'_>) -> Result<(), Fail> {
+    let mut channels = channel_on(keys)?;
+    check_case(rt, keys, &mut channels, options(mode), case);
+    let number = u128::from(PACKET_NUMBER) + u128::from(case.verdict == Verdict::Passed);
+    let after = numbers(&channels);
+    assert_eq!(rt; after, Some((number, number)), "{:?}", case.verdict);
+    Ok(())
+}
+
 #[test]
-fn first_frame_of_an_association(rt: HostRuntime) -> Result<(), Fail> {
+fn whole_frames(rt: HostRuntime) -> Result<(), Fail> {
     let keys = key_table(rt.alloc())?;
-    let false_54 = altered(LINK_54, 28, 0x09);
-    let false_60 = altered(LINK_60, 28, 0x71);
-    let false_icv = altered(LINK_54, 85, 0xde);
+    for (mode, case) in [
+        (Mode::Strict, passed(&LINK_60, &CLIENT_60)),
+        (Mode::Check, passed(&LINK_60, &CLIENT_60)),
+        (Mode::Strict, passed(&LINK_54, &CLIENT_54)),
+        (Mode::Disabled, not_valid(&LINK_60)),
+    ] {
+        check_first(&rt, &keys, mode, case)?;
+    }
+    Ok(())
+}
+
+/// Altered in the first octet of their data, in the last one of their ICV, or in their SecTAG.
+#[test]
+fn altered_frames(rt: HostRuntime) -> Result<(), Fail> {
+    let keys = key_table(rt.alloc())?;
+    let data_54 = altered(LINK_54, 28, 0x09);
+    let data_60 = altered(LINK_60, 28, 0x71);
+    let icv_54 = altered(LINK_54, 85, 0xde);
+    let client = altered(CLIENT_54, 12, 0x09);
+    let reserved = altered(LINK_54, 14, 0x2a);
     let mut number_0 = LINK_54;
     for place in 16..20 {
         number_0 = altered(number_0, place, 0);
     }
-    let reserved = altered(LINK_54, 14, 0x2a);
+    let unchecked = delivered(&icv_54, Verdict::Unchecked, &CLIENT_54);
     for (mode, case) in [
-        (
-            Mode::Strict,
-            delivered(&LINK_60, Verdict::Passed, &CLIENT_60),
-        ),
-        (
-            Mode::Check,
-            delivered(&LINK_60, Verdict::Passed, &CLIENT_60),
-        ),
-        (
-            Mode::Strict,
-            delivered(&LINK_54, Verdict::Passed, &CLIENT_54),
-        ),
-        (Mode::Strict, dropped(&false_60, Verdict::NotValid)),
-        (Mode::Check, dropped(&false_60, Verdict::NotValid)),
-        (Mode::Strict, dropped(&false_54, Verdict::NotValid)),
-        (
-            Mode::Check,
-            delivered(&false_54, Verdict::Invalid, &altered(CLIENT_54, 12, 0x09)),
-        ),
-        (
-            Mode::Disabled,
-            delivered(&false_icv, Verdict::Unchecked, &CLIENT_54),
-        ),
-        (Mode::Disabled, dropped(&LINK_60, Verdict::NotValid)),
+        (Mode::Strict, not_valid(&data_60)),
+        (Mode::Check, not_valid(&data_60)),
+        (Mode::Strict, not_valid(&data_54)),
+        (Mode::Check, delivered(&data_54, Verdict::Invalid, &client)),
+        (Mode::Disabled, unchecked),
         (Mode::Check, dropped(&number_0, Verdict::BadTag)),
         (Mode::Check, dropped(&reserved, Verdict::Reserved)),
     ] {
-        let mut channels = channel_on(&keys)?;
-        check_case(&rt, &keys, &mut channels, options(mode), case);
-        let number = u128::from(NUMBER) + u128::from(case.verdict == Verdict::Passed);
-        assert_eq!(&rt;
-            numbers(&channels),
-            Some((number, number)),
-            "where it is {:?}",
-            case.verdict
-        );
+        check_first(&rt, &keys, mode, case)?;
     }
     Ok(())
 }

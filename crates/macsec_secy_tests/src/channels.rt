@@ -1,13 +1,13 @@
 //! What no clause says: what an endpoint answers to the commands on its receive channels, and which channel
 //! a frame is of.
 
-use crate::ends::{
-    CLIENT_14, CLIENT_54, KEY, NOTHING_HEARD, NUMBER, PROTECTED_54, RECEIVER, SENDER, an,
-    assert_answer, assert_front, assert_heard_counted, assert_not_delivered, assert_numbers,
-    assert_passed, assert_refused, carry_out, endpoint, key_of, link_frame, receiver, receiver_of,
-    rx_sa, sender, start,
+use crate::fixture::{
+    CLIENT_14, NOTHING_HEARD, NUMBER, RECEIVER, SENDER, an, assert_answer, assert_front,
+    assert_heard_counted, assert_not_delivered, assert_numbers, assert_passed, assert_refused,
+    carry_out, endpoint, key_of, link_frame, receiver, receiver_of, rx_sa, sender, start,
 };
 use macsec_secy::{Command, EndConfig, Refusal, RxCounters, Sci, Secy, TagForm, Verdict};
+use macsec_vectors::{CLIENT_54, LINK_54};
 use std::process::Abort;
 
 /// The counters of a channel that has accepted one frame.
@@ -57,7 +57,7 @@ fn refusals_of_receive_commands(rt: HostRuntime) {
     let none = port(1);
     let low = |sci, an, pn| Command::RxLow { sci, an, pn };
     let mut secy = receiver(&rt, rt.alloc(), two, NUMBER);
-    let retired = [key_of(1, KEY + 1, 0), Command::Retire(1)];
+    let retired = [key_of(1, [1; 16], 0), Command::Retire(1)];
     carry_out(&rt, &mut secy, &retired);
     for (command, refusal, number) in [
         (rx_sa(sci, three, 7, 1), Refusal::NoKey, 5),
@@ -117,7 +117,7 @@ fn lowest_packet_number_is_raised(rt: HostRuntime) {
         let number = u128::from(pn);
         assert_numbers(&rt, &secy, an, Some((number, number)));
     }
-    assert_not_delivered(&rt, &mut secy, &PROTECTED_54, Verdict::Late);
+    assert_not_delivered(&rt, &mut secy, &LINK_54, Verdict::Late);
 }
 
 #[test]
@@ -125,9 +125,9 @@ fn association_switched_off(rt: HostRuntime) {
     let an = an(&rt, 2);
     let mut to = receiver(&rt, rt.alloc(), an, NUMBER);
     carry_out(&rt, &mut to, &[Command::RxOff(SENDER.sci, an)]);
-    assert_not_delivered(&rt, &mut to, &PROTECTED_54, Verdict::NoSaError);
+    assert_not_delivered(&rt, &mut to, &LINK_54, Verdict::NoSaError);
     carry_out(&rt, &mut to, &[Command::RxOn(SENDER.sci, an)]);
-    assert_passed(&rt, &mut to, &PROTECTED_54, &CLIENT_54);
+    assert_passed(&rt, &mut to, &LINK_54, &CLIENT_54);
 }
 
 #[test]
@@ -135,7 +135,7 @@ fn removed_channel_takes_its_associations_and_counters(rt: HostRuntime) {
     let an = an(&rt, 2);
     let sci = SENDER.sci;
     let mut to = receiver(&rt, rt.alloc(), an, NUMBER);
-    assert_passed(&rt, &mut to, &PROTECTED_54, &CLIENT_54);
+    assert_passed(&rt, &mut to, &LINK_54, &CLIENT_54);
     assert_heard_counted(&rt, &to, sci, Some(ONE_OK));
     carry_out(&rt, &mut to, &[Command::RxScDel(sci)]);
     assert_heard_counted(&rt, &to, sci, None);
@@ -143,7 +143,7 @@ fn removed_channel_takes_its_associations_and_counters(rt: HostRuntime) {
     carry_out(&rt, &mut to, &[Command::RxSc(sci)]);
     assert_heard_counted(&rt, &to, sci, Some(NOTHING_HEARD));
     assert_numbers(&rt, &to, an, None);
-    assert_not_delivered(&rt, &mut to, &PROTECTED_54, Verdict::NoSaError);
+    assert_not_delivered(&rt, &mut to, &LINK_54, Verdict::NoSaError);
 }
 
 #[test]

@@ -1,14 +1,15 @@
 //! What no clause says, of extended packet numbers: frames of one endpoint at another across 2^32, the last
 //! packet number, and the refusals that only these suites have.
 
-use crate::ends::{
-    Answer, CLIENT_14, CLIENT_60, KEY, PROTECTED_60, RECEIVER, SENDER, an, assert_answer,
-    assert_front, assert_next, assert_not_delivered, assert_numbers, assert_passed, assert_sent,
-    carry_out, endpoint, link_frame, replay, tx_sa,
+use crate::fixture::{
+    Answer, CLIENT_14, RECEIVER, SENDER, an, assert_answer, assert_front, assert_next,
+    assert_not_delivered, assert_numbers, assert_passed, assert_sent, carry_out, endpoint,
+    link_frame, replay, tx_sa,
 };
 use macsec_secy::{
     An, Command, DropReason, EndConfig, Key, NewKey, Refusal, Sci, Secy, Suite, Verdict,
 };
+use macsec_vectors::{CLIENT_60, KEY_128, LINK_60};
 use std::alloc::Global;
 use std::process::Abort;
 
@@ -34,7 +35,7 @@ const SALT: [u8; 12] = [0x12, 0x15, 0x35, 0x25, 0xc0, 0x89, 0x5e, 0x80, 0, 0, 0,
 fn key_at(ssci: u32, offset: u8) -> Command {
     Command::Key(NewKey {
         number: 0,
-        bytes: Key::K128(KEY.to_be_bytes()),
+        bytes: Key::K128(KEY_128),
         salt: SALT,
         ssci,
         offset,
@@ -95,7 +96,7 @@ fn test_frame_has_the_same_iv(rt: HostRuntime) {
     let two = an(&rt, 2);
     let mut sender = sender(&rt, rt.alloc(), two, 0x1_b2c2_8465, true);
     let link: [u8; 92] = link_frame(&rt, &mut sender, &CLIENT_60);
-    assert_eq!(rt; link, PROTECTED_60);
+    assert_eq!(rt; link, LINK_60);
     let mut receiver = receiver(&rt, rt.alloc(), two, 0x1_b2c2_8465);
     assert_passed(&rt, &mut receiver, &link, &CLIENT_60);
     assert_numbers(&rt, &receiver, two, Some((0x1_b2c2_8466, 0x1_b2c2_8466)));
@@ -106,7 +107,7 @@ fn test_frame_has_the_same_iv(rt: HostRuntime) {
 fn test_frame_of_another_upper_half(rt: HostRuntime) {
     let two = an(&rt, 2);
     let mut receiver = receiver(&rt, rt.alloc(), two, 0xb2c2_8465);
-    assert_not_delivered(&rt, &mut receiver, &PROTECTED_60, Verdict::NotValid);
+    assert_not_delivered(&rt, &mut receiver, &LINK_60, Verdict::NotValid);
     assert_numbers(&rt, &receiver, two, Some((0xb2c2_8465, 0xb2c2_8465)));
 }
 

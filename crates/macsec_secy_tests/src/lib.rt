@@ -4,9 +4,9 @@
 #[cfg(test)]
 mod channels;
 #[cfg(test)]
-mod ends;
-#[cfg(test)]
 mod extended;
+#[cfg(test)]
+mod fixture;
 #[cfg(test)]
 mod receiving;
 #[cfg(test)]

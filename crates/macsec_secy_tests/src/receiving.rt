@@ -1,16 +1,18 @@
 //! What no clause says: that an endpoint gives the frames of another one the verdicts and the counters that
 //! it should.
 
-use crate::ends::{
-    CLIENT_14, CLIENT_54, CLIENT_60, NOTHING_COUNTED, NOTHING_HEARD, NUMBER, PROTECTED_54,
-    PROTECTED_60, RECEIVER, SENDER, altered, an, assert_answer, assert_counted, assert_front,
-    assert_heard, assert_heard_counted, assert_not_delivered, assert_numbers, assert_passed,
-    carry_out, endpoint, link_frame, receiver, replay, rx_sa, sender,
+use crate::fixture::{
+    CLIENT_14, NOTHING_COUNTED, NOTHING_HEARD, NUMBER, RECEIVER, SENDER, altered, an,
+    assert_answer, assert_counted, assert_front, assert_heard, assert_heard_counted,
+    assert_not_delivered, assert_numbers, assert_passed, carry_out, endpoint, link_frame, receiver,
+    replay, rx_sa, sender,
 };
 use macsec_secy::{
     Command, Counters, EndConfig, FrameFault, Key, Mode, NewKey, Refusal, RxCounters, Secy, Suite,
     Verdict,
 };
+use macsec_vectors::{CLIENT_54, CLIENT_60, KEY_256, LINK_54, LINK_60, LINK_60_256};
+use std::alloc::Global;
 use std::process::Abort;
 
 /// The packet numbers of an association made for the test frames, before it has accepted one and after.
@@ -18,40 +20,38 @@ const BEFORE: (u128, u128) = (0xb2c2_8465, 0xb2c2_8465);
 
 const AFTER: (u128, u128) = (0xb2c2_8466, 0xb2c2_8466);
 
-/// The key of 256 bits of the test frames.
-const KEY_256: [u8; 32] = [
-    0xe3, 0xc0, 0x8a, 0x8f, 0x06, 0xc6, 0xe3, 0xad, 0x95, 0xa7, 0x05, 0x57, 0xb2, 0x3f, 0x75, 0x48,
-    0x3c, 0xe3, 0x30, 0x21, 0xa9, 0xc7, 0x2b, 0x70, 0x25, 0x66, 0x62, 0x04, 0xc6, 0x9c, 0x0b, 0x72,
-];
+/// A verdict, and the counters of a channel that has counted one frame of it.
+const OK: (Verdict, RxCounters) = (
+    Verdict::Passed,
+    RxCounters {
+        in_pkts_ok: 1,
+        ..NOTHING_HEARD
+    },
+);
 
-/// Secure Data and ICV of the 60-octet test frame, protected for confidentiality under that key.
-const SECURED_256: [u8; 64] = [
-    0xe2, 0x00, 0x6e, 0xb4, 0x2f, 0x52, 0x77, 0x02, 0x2d, 0x9b, 0x19, 0x92, 0x5b, 0xc4, 0x19, 0xd7,
-    0xa5, 0x92, 0x66, 0x6c, 0x92, 0x5f, 0xe2, 0xef, 0x71, 0x8e, 0xb4, 0xe3, 0x08, 0xef, 0xea, 0xa7,
-    0xc5, 0x27, 0x3b, 0x39, 0x41, 0x18, 0x86, 0x0a, 0x5b, 0xe2, 0xa9, 0x7f, 0x56, 0xab, 0x78, 0x36,
-    0x5c, 0xa5, 0x97, 0xcd, 0xbb, 0x3e, 0xdb, 0x8d, 0x1a, 0x11, 0x51, 0xea, 0x0a, 0xf7, 0xb4, 0x36,
-];
+const NOT_VALID: (Verdict, RxCounters) = (
+    Verdict::NotValid,
+    RxCounters {
+        in_pkts_not_valid: 1,
+        ..NOTHING_HEARD
+    },
+);
 
-/// A channel's counters of one frame: accepted, not valid, invalid, and not validated.
-const ONE_OK: RxCounters = RxCounters {
-    in_pkts_ok: 1,
-    ..NOTHING_HEARD
-};
+const INVALID: (Verdict, RxCounters) = (
+    Verdict::Invalid,
+    RxCounters {
+        in_pkts_invalid: 1,
+        ..NOTHING_HEARD
+    },
+);
 
-const ONE_NOT_VALID: RxCounters = RxCounters {
-    in_pkts_not_valid: 1,
-    ..NOTHING_HEARD
-};
-
-const ONE_INVALID: RxCounters = RxCounters {
-    in_pkts_invalid: 1,
-    ..NOTHING_HEARD
-};
-
-const ONE_UNCHECKED: RxCounters = RxCounters {
-    in_pkts_unchecked: 1,
-    ..NOTHING_HEARD
-};
+const UNCHECKED: (Verdict, RxCounters) = (
+    Verdict::Unchecked,
+    RxCounters {
+        in_pkts_unchecked: 1,
+        ..NOTHING_HEARD
+    },
+);
 
 /// A frame is at fault, and not taken.
 fn assert_fault(rt: &impl Abort, secy: &mut Secy, link: &[u8], wanted: FrameFault) {
@@ -67,65 +67,61 @@ fn of_octets((in_octets_validated, in_octets_decrypted): (u64, u64)) -> Counters
     }
 }
 
-/// Each at a new receiver that validates in this way: whole, and altered in an octet of their data or in the
-/// last one of their ICV. Beside the verdict stands what the channel counts; then come the frame delivered
-/// and the octets that the cipher was applied to.
+/// Gives a test frame to a new receiver that validates in this way. With the verdict stands what the channel
+/// counts; then come the frame delivered and the octets that the cipher was applied to.
+fn assert_first(
+    (rt, alloc): (&impl Abort, Global),
+    mode: Mode,
+    link: &[u8],
+    (verdict, counted): (Verdict, RxCounters),
+    delivered: Option<&[u8]>,
+    octets: (u64, u64),
+) {
+    let an = an(rt, 2);
+    let mut to = receiver(rt, alloc, an, NUMBER);
+    carry_out(rt, &mut to, &[Command::Validate(mode)]);
+    assert_heard(rt, &mut to, link, verdict, delivered);
+    let is_accepted = verdict == Verdict::Passed;
+    assert_numbers(rt, &to, an, Some(if is_accepted { AFTER } else { BEFORE }));
+    assert_counted(rt, &to, of_octets(octets));
+    assert_heard_counted(rt, &to, SENDER.sci, Some(counted));
+}
+
 #[test]
-fn test_frames_whole_and_altered(rt: HostRuntime) {
-    let an = an(&rt, 2);
-    let client_54 = &CLIENT_54[..];
-    let client_60 = &CLIENT_60[..];
-    let data_54 = altered(PROTECTED_54, 28, 0x09);
-    let icv_54 = altered(PROTECTED_54, 85, 0xde);
-    let data_60 = altered(PROTECTED_60, 28, 0x71);
+fn whole_test_frames(rt: HostRuntime) {
+    let on = (&rt, rt.alloc());
+    let client_54 = Some(&CLIENT_54[..]);
+    let client_60 = Some(&CLIENT_60[..]);
+    assert_first(on, Mode::Strict, &LINK_54, OK, client_54, (42, 0));
+    assert_first(on, Mode::Strict, &LINK_60, OK, client_60, (0, 48));
+    assert_first(on, Mode::Disabled, &LINK_60, NOT_VALID, None, (0, 0));
+}
+
+/// Altered in the first octet of their data or in the last one of their ICV.
+#[test]
+fn altered_test_frames(rt: HostRuntime) {
+    let on = (&rt, rt.alloc());
+    let data_54 = altered(LINK_54, 28, 0x09);
+    let icv_54 = altered(LINK_54, 85, 0xde);
+    let data_60 = altered(LINK_60, 28, 0x71);
     let altered_54 = altered(CLIENT_54, 12, 0x09);
-    let ok = (Verdict::Passed, ONE_OK);
-    let not_valid = (Verdict::NotValid, ONE_NOT_VALID);
-    let invalid = (Verdict::Invalid, ONE_INVALID);
-    let unchecked = (Verdict::Unchecked, ONE_UNCHECKED);
-    for (mode, link, (verdict, counted), delivered, octets) in [
-        (
-            Mode::Strict,
-            &PROTECTED_54[..],
-            ok,
-            Some(client_54),
-            (42, 0),
-        ),
-        (
-            Mode::Strict,
-            &PROTECTED_60[..],
-            ok,
-            Some(client_60),
-            (0, 48),
-        ),
-        (Mode::Strict, &data_54[..], not_valid, None, (42, 0)),
-        (Mode::Strict, &icv_54[..], not_valid, None, (42, 0)),
-        (Mode::Strict, &data_60[..], not_valid, None, (0, 48)),
+    let client_54 = Some(&CLIENT_54[..]);
+    for (mode, link, wanted, delivered, octets) in [
+        (Mode::Strict, &data_54[..], NOT_VALID, None, (42, 0)),
+        (Mode::Strict, &icv_54[..], NOT_VALID, None, (42, 0)),
+        (Mode::Strict, &data_60[..], NOT_VALID, None, (0, 48)),
         (
             Mode::Check,
             &data_54[..],
-            invalid,
+            INVALID,
             Some(&altered_54[..]),
             (42, 0),
         ),
-        (Mode::Check, &icv_54[..], invalid, Some(client_54), (42, 0)),
-        (Mode::Check, &data_60[..], not_valid, None, (0, 48)),
-        (
-            Mode::Disabled,
-            &icv_54[..],
-            unchecked,
-            Some(client_54),
-            (0, 0),
-        ),
-        (Mode::Disabled, &PROTECTED_60[..], not_valid, None, (0, 0)),
+        (Mode::Check, &icv_54[..], INVALID, client_54, (42, 0)),
+        (Mode::Check, &data_60[..], NOT_VALID, None, (0, 48)),
+        (Mode::Disabled, &icv_54[..], UNCHECKED, client_54, (0, 0)),
     ] {
-        let mut to = receiver(&rt, rt.alloc(), an, NUMBER);
-        carry_out(&rt, &mut to, &[Command::Validate(mode)]);
-        assert_heard(&rt, &mut to, link, verdict, delivered);
-        let is_accepted = verdict == Verdict::Passed;
-        assert_numbers(&rt, &to, an, Some(if is_accepted { AFTER } else { BEFORE }));
-        assert_counted(&rt, &to, of_octets(octets));
-        assert_heard_counted(&rt, &to, SENDER.sci, Some(counted));
+        assert_first(on, mode, link, wanted, delivered, octets);
     }
 }
 
@@ -152,10 +148,8 @@ fn test_frame_under_the_key_of_256_bits(rt: HostRuntime) {
         Command::RxOn(sci, an),
     ];
     carry_out(&rt, &mut to, &commands);
-    assert_not_delivered(&rt, &mut to, &PROTECTED_60, Verdict::NotValid);
-    let mut link = PROTECTED_60;
-    link[28..].copy_from_slice(&SECURED_256);
-    assert_passed(&rt, &mut to, &link, &CLIENT_60);
+    assert_not_delivered(&rt, &mut to, &LINK_60, Verdict::NotValid);
+    assert_passed(&rt, &mut to, &LINK_60_256, &CLIENT_60);
 }
 
 #[test]
@@ -264,10 +258,10 @@ fn last_packet_number_is_accepted_once(rt: HostRuntime) {
 #[test]
 fn tags_at_fault_are_counted_and_change_nothing_else(rt: HostRuntime) {
     let an = an(&rt, 2);
-    let version = altered(PROTECTED_54, 14, 0xa2);
-    let sci_bits = altered(PROTECTED_54, 14, 0x62);
-    let reserved = altered(PROTECTED_54, 14, 0x2a);
-    let mut number_0 = PROTECTED_54;
+    let version = altered(LINK_54, 14, 0xa2);
+    let sci_bits = altered(LINK_54, 14, 0x62);
+    let reserved = altered(LINK_54, 14, 0x2a);
+    let mut number_0 = LINK_54;
     number_0[16..20].copy_from_slice(&[0; 4]);
     for mode in [Mode::Disabled, Mode::Check, Mode::Strict] {
         let mut to = receiver(&rt, rt.alloc(), an, NUMBER);
@@ -277,7 +271,7 @@ fn tags_at_fault_are_counted_and_change_nothing_else(rt: HostRuntime) {
             (&sci_bits[..], Verdict::BadTag),
             (&reserved[..], Verdict::Reserved),
             (&number_0[..], Verdict::BadTag),
-            (&PROTECTED_54[..15], Verdict::BadTag),
+            (&LINK_54[..15], Verdict::BadTag),
         ] {
             assert_not_delivered(&rt, &mut to, link, wanted);
         }
@@ -319,10 +313,10 @@ fn untagged_frames(rt: HostRuntime) {
 #[test]
 fn frames_of_no_channel(rt: HostRuntime) {
     let mut to = endpoint(&rt, rt.alloc(), RECEIVER);
-    assert_not_delivered(&rt, &mut to, &PROTECTED_54, Verdict::NoSaError);
+    assert_not_delivered(&rt, &mut to, &LINK_54, Verdict::NoSaError);
     carry_out(&rt, &mut to, &[Command::Validate(Mode::Check)]);
-    assert_heard(&rt, &mut to, &PROTECTED_54, Verdict::NoSa, Some(&CLIENT_54));
-    assert_not_delivered(&rt, &mut to, &PROTECTED_60, Verdict::NoSaError);
+    assert_heard(&rt, &mut to, &LINK_54, Verdict::NoSa, Some(&CLIENT_54));
+    assert_not_delivered(&rt, &mut to, &LINK_60, Verdict::NoSaError);
     let counted = Counters {
         in_pkts_no_sa: 1,
         in_pkts_no_sa_error: 2,
@@ -359,12 +353,12 @@ fn late_frames_in_disabled(rt: HostRuntime) {
     let an = an(&rt, 2);
     let mut to = receiver(&rt, rt.alloc(), an, NUMBER + 1);
     carry_out(&rt, &mut to, &[Command::Validate(Mode::Disabled)]);
-    assert_not_delivered(&rt, &mut to, &PROTECTED_54, Verdict::Late);
-    assert_not_delivered(&rt, &mut to, &PROTECTED_60, Verdict::Late);
+    assert_not_delivered(&rt, &mut to, &LINK_54, Verdict::Late);
+    assert_not_delivered(&rt, &mut to, &LINK_60, Verdict::Late);
     carry_out(&rt, &mut to, &[replay(false, 0)]);
     let delayed = Verdict::Delayed;
-    assert_heard(&rt, &mut to, &PROTECTED_54, delayed, Some(&CLIENT_54));
-    assert_not_delivered(&rt, &mut to, &PROTECTED_60, Verdict::NotValid);
+    assert_heard(&rt, &mut to, &LINK_54, delayed, Some(&CLIENT_54));
+    assert_not_delivered(&rt, &mut to, &LINK_60, Verdict::NotValid);
     assert_numbers(&rt, &to, an, Some(AFTER));
     assert_counted(&rt, &to, NOTHING_COUNTED);
     let counted = RxCounters {
@@ -396,7 +390,7 @@ fn each_octet_of_tci_and_an(rt: HostRuntime) {
         };
         let delivered = (wanted == Verdict::Passed).then_some(&CLIENT_54[..]);
         carry_out(&rt, &mut to, &anew);
-        let link = altered(PROTECTED_54, 14, octet);
+        let link = altered(LINK_54, 14, octet);
         assert_heard(&rt, &mut to, &link, wanted, delivered);
     }
     let counted = Counters {

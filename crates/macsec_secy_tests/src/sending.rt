@@ -1,16 +1,16 @@
 //! What no clause says: that the definitions give the test frames and the counters that they should, what
 //! an endpoint answers to commands one after another, and where its limits are.
 
-use crate::ends::{
-    Answer, CLIENT_14, CLIENT_54, CLIENT_60, KEY, NOTHING_COUNTED, NOTHING_SENT, NUMBER,
-    PROTECTED_54, PROTECTED_60, SENDER, an, assert_answer, assert_counted, assert_front,
-    assert_next, assert_refused, assert_sent, assert_sent_counted, carry_out, endpoint, key_of,
-    link_frame, replay, start, tx_sa,
+use crate::fixture::{
+    Answer, CLIENT_14, NOTHING_COUNTED, NOTHING_SENT, NUMBER, SENDER, an, assert_answer,
+    assert_counted, assert_front, assert_next, assert_refused, assert_sent, assert_sent_counted,
+    carry_out, endpoint, key_of, link_frame, replay, start, tx_sa,
 };
 use macsec_secy::{
     Command, Counters, DropReason, EndConfig, FrameFault, Mode, NewFault, Options, Refusal, Sci,
     Secy, Suite, TagForm, TxCounters,
 };
+use macsec_vectors::{CLIENT_54, CLIENT_60, KEY_128, LINK_54, LINK_60};
 use std::alloc::Global;
 use std::process::Abort;
 
@@ -115,7 +115,7 @@ fn protected_for_integrity(rt: HostRuntime) {
     start(&rt, &mut secy, an, NUMBER, false, 0);
     assert_next(&rt, &secy, an, u128::from(NUMBER));
     let link: [u8; 86] = link_frame(&rt, &mut secy, &CLIENT_54);
-    assert_eq!(rt; link, PROTECTED_54);
+    assert_eq!(rt; link, LINK_54);
     assert_next(&rt, &secy, an, u128::from(NUMBER) + 1);
     assert_uncontrolled(&rt, &secy, &CLIENT_54, None);
     let counted = TxCounters {
@@ -135,9 +135,9 @@ fn protected_for_confidentiality(rt: HostRuntime) {
         start(&rt, &mut secy, an(&rt, 2), NUMBER, true, offset);
         let link: [u8; 92] = link_frame(&rt, &mut secy, &CLIENT_60);
         if offset == 0 {
-            assert_eq!(rt; link, PROTECTED_60);
+            assert_eq!(rt; link, LINK_60);
         } else {
-            let mut clear = PROTECTED_60;
+            let mut clear = LINK_60;
             clear[28..76].copy_from_slice(&CLIENT_60[12..]);
             assert_front(&rt, &link, &clear[..58]);
             assert!(rt; !link.starts_with(&clear[..76]));
@@ -250,8 +250,8 @@ fn keys_and_associations(rt: HostRuntime) {
     }
     let made = |next| tx_sa(first, next, false);
     for (command, wanted) in [
-        (key_of(1, KEY, 0), Err(Refusal::KeyRepeated)),
-        (key_of(0, 1, 0), Err(Refusal::KeyNumberUsed)),
+        (key_of(1, KEY_128, 0), Err(Refusal::KeyRepeated)),
+        (key_of(0, [1; 16], 0), Err(Refusal::KeyNumberUsed)),
         (Command::Retire(0), Err(Refusal::KeyInUse)),
         (tx_sa(second, 9, false), Err(Refusal::KeyInUse)),
         (Command::TxDel(first), Ok(())),
@@ -263,7 +263,7 @@ fn keys_and_associations(rt: HostRuntime) {
         (Command::TxDel(first), Err(Refusal::NoSa)),
         (Command::Retire(0), Ok(())),
         (made(9), Err(Refusal::KeyRetired)),
-        (key_of(1, KEY, 0), Err(Refusal::KeyRepeated)),
+        (key_of(1, KEY_128, 0), Err(Refusal::KeyRepeated)),
     ] {
         assert_answer(&rt, &mut secy, &command, wanted);
     }

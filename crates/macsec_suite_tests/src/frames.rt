@@ -1,105 +1,42 @@
 //! What no clause says: that the definitions give the test frames of IEEE 802.1AE, Annex C, and that
 //! the calls succeed.
 
-ghost use Rattle.std.specs.Prelude.{◌≤◌};
+ghost use Rattle.std.specs.Prelude.{◌≤◌, length};
 
 use macsec_aes::Key;
 use macsec_suite::{Suite, SuiteFault, SuiteKey, iv_of, protect_in_place, validate_in_place};
 use macsec_tag::Sci;
+use macsec_vectors::{
+    CLIENT_54, CLIENT_60, KEY_128, KEY_256, LINK_54, LINK_54_256, LINK_60, LINK_60_256,
+    PACKET_NUMBER, SCI,
+};
 use std::test::Fail;
 
-/// The SCI of the test frames.
-const SCI: u64 = 0x1215_3524_c089_5e81;
+/// A client's frame with the SecTAG of its protected frame, and zeros to the end.
+fn tagged(client: &[u8], link: &[u8]) -> [u8; 96]
+    requires link { 28 ≤ length link.now }
+    requires client { 12 ≤ length client.now }
+    requires room { length client.now ≤ 60 }
+{
+    let mut octets = padded(&link[..28]);
+    octets[28..16 + client.len()].copy_from_slice(&client[12..]);
+    octets
+}
 
-/// Their key of 128 bits.
-const KEY_128: u128 = 0xad7a_2bd0_3eac_835a_6f62_0fdc_b506_b345;
-
-/// Their key of 256 bits.
-const KEY_256: [u128; 2] = [
-    0xe3c0_8a8f_06c6_e3ad_95a7_0557_b23f_7548,
-    0x3ce3_3021_a9c7_2b70_2566_6204_c69c_0b72,
-];
-
-/// A client's frame of 54 octets with its SecTAG, for integrity alone; 16 octets a word, and zeros to
-/// the end. So are all the frames here.
-const FRAME_54: [u128; 6] = [
-    0xd609_b1f0_5663_7a0d_46df_998d_88e5_222a,
-    0xb2c2_8465_1215_3524_c089_5e81_0800_0f10,
-    0x1112_1314_1516_1718_191a_1b1c_1d1e_1f20,
-    0x2122_2324_2526_2728_292a_2b2c_2d2e_2f30,
-    0x3132_3334_0001_0000_0000_0000_0000_0000,
-    0,
-];
-
-/// That frame, protected under the key of 128 bits.
-const LINK_54_128: [u128; 6] = [
-    0xd609_b1f0_5663_7a0d_46df_998d_88e5_222a,
-    0xb2c2_8465_1215_3524_c089_5e81_0800_0f10,
-    0x1112_1314_1516_1718_191a_1b1c_1d1e_1f20,
-    0x2122_2324_2526_2728_292a_2b2c_2d2e_2f30,
-    0x3132_3334_0001_f094_78a9_b090_07d0_6f46,
-    0xe9b6_a1da_25dd_0000_0000_0000_0000_0000,
-];
-
-/// That frame, protected under the key of 256 bits.
-const LINK_54_256: [u128; 6] = [
-    0xd609_b1f0_5663_7a0d_46df_998d_88e5_222a,
-    0xb2c2_8465_1215_3524_c089_5e81_0800_0f10,
-    0x1112_1314_1516_1718_191a_1b1c_1d1e_1f20,
-    0x2122_2324_2526_2728_292a_2b2c_2d2e_2f30,
-    0x3132_3334_0001_2f0b_c5af_409e_06d6_09ea,
-    0x8b7d_0fa5_ea50_0000_0000_0000_0000_0000,
-];
-
-/// A client's frame of 60 octets with its SecTAG, for confidentiality.
-const FRAME_60: [u128; 6] = [
-    0xd609_b1f0_5663_7a0d_46df_998d_88e5_2e00,
-    0xb2c2_8465_1215_3524_c089_5e81_0800_0f10,
-    0x1112_1314_1516_1718_191a_1b1c_1d1e_1f20,
-    0x2122_2324_2526_2728_292a_2b2c_2d2e_2f30,
-    0x3132_3334_3536_3738_393a_0002_0000_0000,
-    0,
-];
-
-/// That frame, protected under the key of 128 bits.
-const LINK_60_128: [u128; 6] = [
-    0xd609_b1f0_5663_7a0d_46df_998d_88e5_2e00,
-    0xb2c2_8465_1215_3524_c089_5e81_701a_fa1c,
-    0xc039_c0d7_6512_8a66_5dab_6924_3899_bf73,
-    0x18cc_dc81_c993_1da1_7fbe_8edd_7d17_cb8b,
-    0x4c26_fc81_e328_4f2b_7fba_713d_4f8d_55e7,
-    0xd3f0_6fd5_a13c_0c29_b9d5_b880_0000_0000,
-];
-
-/// That frame, protected under the key of 256 bits.
-const LINK_60_256: [u128; 6] = [
-    0xd609_b1f0_5663_7a0d_46df_998d_88e5_2e00,
-    0xb2c2_8465_1215_3524_c089_5e81_e200_6eb4,
-    0x2f52_7702_2d9b_1992_5bc4_19d7_a592_666c,
-    0x925f_e2ef_718e_b4e3_08ef_eaa7_c527_3b39,
-    0x4118_860a_5be2_a97f_56ab_7836_5ca5_97cd,
-    0xbb3e_db8d_1a11_51ea_0af7_b436_0000_0000,
-];
-
-/// The octets of a frame.
-fn octets_of(words: [u128; 6]) -> [u8; 96] {
+/// The frame with zeros to the end.
+fn padded(frame: &[u8]) -> [u8; 96]
+    requires { length frame.now ≤ 96 }
+{
     let mut octets = [0; 96];
-    for (i, octet) in octets.iter_mut().enumerate() {
-        *octet = words[i / 16].to_be_bytes()[i % 16];
-    }
+    octets[..frame.len()].copy_from_slice(frame);
     octets
 }
 
 /// The key of the test frames for a suite.
 fn bytes_of(suite: Suite) -> Key {
     match suite {
-        Suite::Gcm128 | Suite::Xpn128 => Key::K128(KEY_128.to_be_bytes()),
-        Suite::Gcm256 | Suite::Xpn256 => {
-            let mut bytes = [0; 32];
-            bytes[..16].copy_from_slice(&KEY_256[0].to_be_bytes());
-            bytes[16..].copy_from_slice(&KEY_256[1].to_be_bytes());
-            Key::K256(bytes)
-        }
+        Suite::Gcm128 | Suite::Xpn128 => Key::K128(KEY_128),
+        Suite::Gcm256 | Suite::Xpn256 => Key::K256(KEY_256),
     }
 }
 
@@ -125,7 +62,7 @@ fn iv_with(suite: Suite, ssci: u32, salt: [u8; 12], pn: u64) -> Option<[u8; 12]>
     if pn > suite.last() {
         return None;
     }
-    Some(iv_of(suite, Sci(SCI.to_be_bytes()), ssci, salt, pn))
+    Some(iv_of(suite, Sci(SCI), ssci, salt, pn))
 }
 
 /// The IV of the test frames.
@@ -183,7 +120,7 @@ fn prepared_and_refused_keys(rt: HostRuntime) {
         assert_eq!(rt; preparation(suite, bytes_of(suite), offset), wanted);
     }
     for (suite, key, offset) in [
-        (Suite::Gcm256, Key::K128(KEY_128.to_be_bytes()), 40),
+        (Suite::Gcm256, Key::K128(KEY_128), 40),
         (Suite::Gcm128, Key::K256([0; 32]), 0),
     ] {
         assert_eq!(rt; preparation(suite, key, offset), Err(SuiteFault::KeyLength));
@@ -193,8 +130,8 @@ fn prepared_and_refused_keys(rt: HostRuntime) {
 #[test]
 fn ivs(rt: HostRuntime) {
     let mut wanted = [0; 12];
-    wanted[..8].copy_from_slice(&SCI.to_be_bytes());
-    wanted[8..].copy_from_slice(&0xb2c2_8465u32.to_be_bytes());
+    wanted[..8].copy_from_slice(&SCI);
+    wanted[8..].copy_from_slice(&PACKET_NUMBER.to_be_bytes());
     for suite in [Suite::Gcm128, Suite::Gcm256, Suite::Xpn128, Suite::Xpn256] {
         assert_eq!(rt; iv(suite), wanted);
     }
@@ -216,12 +153,12 @@ fn link_frame(
     suite: Suite,
     offset: u8,
     conf: bool,
-    frame: [u128; 6],
+    frame: [u8; 96],
     length: usize,
 ) -> Result<[u8; 96], SuiteFault>
     requires { length ≤ 52 }
 {
-    let mut octets = octets_of(frame);
+    let mut octets = frame;
     protect_in_place(
         &key_of(suite, offset)?,
         &iv(suite),
@@ -257,9 +194,10 @@ fn with_zeros_from(frame: [u8; 96], place: usize) -> [u8; 96] {
 
 #[test]
 fn integrity(rt: HostRuntime) -> Result<(), Fail> {
-    for (suite, wanted) in [(Suite::Gcm128, LINK_54_128), (Suite::Gcm256, LINK_54_256)] {
-        let link = link_frame(suite, 0, false, FRAME_54, 42)?;
-        assert_eq!(&rt; link, octets_of(wanted));
+    let frame = tagged(&CLIENT_54, &LINK_54);
+    for (suite, wanted) in [(Suite::Gcm128, LINK_54), (Suite::Gcm256, LINK_54_256)] {
+        let link = link_frame(suite, 0, false, frame, 42)?;
+        assert_eq!(&rt; link, padded(&wanted));
         assert_eq!(&rt; validated_frame(suite, false, link, 42)?, (true, link));
     }
     Ok(())
@@ -267,21 +205,19 @@ fn integrity(rt: HostRuntime) -> Result<(), Fail> {
 
 #[test]
 fn confidentiality(rt: HostRuntime) -> Result<(), Fail> {
+    let frame = tagged(&CLIENT_60, &LINK_60);
     for (suite, wanted) in [
-        (Suite::Gcm128, LINK_60_128),
-        (Suite::Xpn128, LINK_60_128),
+        (Suite::Gcm128, LINK_60),
+        (Suite::Xpn128, LINK_60),
         (Suite::Gcm256, LINK_60_256),
         (Suite::Xpn256, LINK_60_256),
     ] {
-        let link = link_frame(suite, 0, true, FRAME_60, 48)?;
-        assert_eq!(&rt; link, octets_of(wanted));
+        let link = link_frame(suite, 0, true, frame, 48)?;
+        assert_eq!(&rt; link, padded(&wanted));
         let (is_genuine, opened) = validated_frame(suite, true, link, 48)?;
-        assert_eq!(&rt;
-            (is_genuine, with_zeros_from(opened, 76)),
-            (true, octets_of(FRAME_60))
-        );
+        assert_eq!(&rt; (is_genuine, with_zeros_from(opened, 76)), (true, frame));
     }
-    let mut altered = octets_of(LINK_60_128);
+    let mut altered = padded(&LINK_60);
     altered[28] = 0x71;
     assert_eq!(&rt;
         validated_frame(Suite::Gcm128, true, altered, 48)?,
@@ -293,7 +229,7 @@ fn confidentiality(rt: HostRuntime) -> Result<(), Fail> {
 /// The first octets of the data stay clear: as many as the offset says, or all of fewer.
 #[test]
 fn clear_octets(rt: HostRuntime) -> Result<(), Fail> {
-    let client = octets_of(FRAME_60);
+    let client = tagged(&CLIENT_60, &LINK_60);
     for (offset, length, clear) in [
         (30, 29, 29),
         (30, 30, 30),
@@ -303,7 +239,7 @@ fn clear_octets(rt: HostRuntime) -> Result<(), Fail> {
         (50, 51, 50),
     ] {
         assert!(&rt; clear <= length && length <= 52);
-        let frame = link_frame(Suite::Gcm128, offset, true, FRAME_60, length)?;
+        let frame = link_frame(Suite::Gcm128, offset, true, client, length)?;
         assert_eq!(&rt; frame[..28 + clear], client[..28 + clear]);
         let is_encrypted = frame[28 + clear..28 + length] != client[28 + clear..28 + length];
         assert_eq!(&rt;

@@ -3,16 +3,14 @@
 
 use macsec_aes::Key;
 use macsec_suite::{KeyTable, NewKey, Refusal, Suite};
+use macsec_vectors::KEY_128;
 use std::test::Fail;
-
-/// The key of 128 bits of the test frames of IEEE 802.1AE, Annex C.
-const KEY_128: u128 = 0xad7a_2bd0_3eac_835a_6f62_0fdc_b506_b345;
 
 /// A call that changes a table.
 #[derive(Clone, Copy, Debug)]
 enum Call {
-    /// Installs a key of this number and these bits under GCM-AES-128.
-    Install(u8, u128),
+    /// Installs a key of this number and these bytes under GCM-AES-128.
+    Install(u8, [u8; 16]),
     /// Retires the key of this number, of which this says whether it is in use.
     Retire(u8, bool),
     /// Notes that a packet number was used under the key of this number, where it is there.
@@ -20,10 +18,10 @@ enum Call {
 }
 
 /// A key of these 128 bits, with an offset.
-fn key_of(number: u8, bits: u128, offset: u8) -> NewKey {
+fn key_of(number: u8, bytes: [u8; 16], offset: u8) -> NewKey {
     NewKey {
         number,
-        bytes: Key::K128(bits.to_be_bytes()),
+        bytes: Key::K128(bytes),
         salt: [0; 12],
         ssci: 0,
         offset,
@@ -33,7 +31,7 @@ fn key_of(number: u8, bits: u128, offset: u8) -> NewKey {
 /// What a table answers to a call.
 fn answer_to(table: &mut KeyTable, call: Call) -> Result<(), Refusal> {
     match call {
-        Call::Install(number, bits) => table.install(Suite::Gcm128, &key_of(number, bits, 0)),
+        Call::Install(number, bytes) => table.install(Suite::Gcm128, &key_of(number, bytes, 0)),
         Call::Retire(number, in_use) => table.retire(number, in_use),
         Call::Note(number, pn) => {
             if table.key(number).is_some() {
@@ -54,68 +52,57 @@ fn first_unused(table: &KeyTable, number: u8) -> Option<u128> {
     table.first_unused(number)
 }
 
-#[test]
-fn calls_in_a_row(rt: HostRuntime) -> Result<(), Fail> {
-    let mut table = KeyTable::new(rt.alloc())?;
-    for (call, answer, retired, unused) in [
-        (Call::Retire(9, false), Err(Refusal::NoKey), None, None),
-        (Call::Install(0, KEY_128), Ok(()), Some(false), Some(1)),
+/// Whether key 0 is retired, and its first unused packet number, where it is there.
+fn key_0(table: &KeyTable) -> (Option<bool>, Option<u128>) {
+    (is_retired(table, 0), first_unused(table, 0))
+}
+
+/// Calls, with what a table answers to them one after another, and what becomes of key 0.
+fn calls() -> [(Call, Result<(), Refusal>, (Option<bool>, Option<u128>)); 14] {
+    let none = (None, None);
+    let unused = (Some(false), Some(1));
+    let used = (Some(false), Some(6));
+    let retired = (Some(true), Some(6));
+    [
+        (Call::Retire(9, false), Err(Refusal::NoKey), none),
+        (Call::Install(0, KEY_128), Ok(()), unused),
         (
-            Call::Install(0, 1),
+            Call::Install(0, [1; 16]),
             Err(Refusal::KeyNumberUsed),
-            Some(false),
-            Some(1),
+            unused,
         ),
         (
             Call::Install(0, KEY_128),
             Err(Refusal::KeyNumberUsed),
-            Some(false),
-            Some(1),
+            unused,
         ),
+        (Call::Install(1, KEY_128), Err(Refusal::KeyRepeated), unused),
+        (Call::Note(0, 5), Ok(()), used),
+        (Call::Install(1, [1; 16]), Ok(()), used),
+        (Call::Note(1, 8), Ok(()), used),
+        (Call::Retire(0, true), Err(Refusal::KeyInUse), used),
+        (Call::Retire(0, false), Ok(()), retired),
+        (Call::Retire(0, true), Err(Refusal::KeyRetired), retired),
         (
-            Call::Install(1, KEY_128),
-            Err(Refusal::KeyRepeated),
-            Some(false),
-            Some(1),
-        ),
-        (Call::Note(0, 5), Ok(()), Some(false), Some(6)),
-        (Call::Install(1, 1), Ok(()), Some(false), Some(6)),
-        (Call::Note(1, 8), Ok(()), Some(false), Some(6)),
-        (
-            Call::Retire(0, true),
-            Err(Refusal::KeyInUse),
-            Some(false),
-            Some(6),
-        ),
-        (Call::Retire(0, false), Ok(()), Some(true), Some(6)),
-        (
-            Call::Retire(0, true),
-            Err(Refusal::KeyRetired),
-            Some(true),
-            Some(6),
-        ),
-        (
-            Call::Install(0, 2),
+            Call::Install(0, [2; 16]),
             Err(Refusal::KeyNumberUsed),
-            Some(true),
-            Some(6),
+            retired,
         ),
         (
             Call::Install(2, KEY_128),
             Err(Refusal::KeyRepeated),
-            Some(true),
-            Some(6),
+            retired,
         ),
-        (
-            Call::Retire(9, true),
-            Err(Refusal::NoKey),
-            Some(true),
-            Some(6),
-        ),
-    ] {
+        (Call::Retire(9, true), Err(Refusal::NoKey), retired),
+    ]
+}
+
+#[test]
+fn calls_in_a_row(rt: HostRuntime) -> Result<(), Fail> {
+    let mut table = KeyTable::new(rt.alloc())?;
+    for (call, answer, after) in calls() {
         assert_eq!(&rt; answer_to(&mut table, call), answer, "{call:?}");
-        assert_eq!(&rt; is_retired(&table, 0), retired, "after {call:?}");
-        assert_eq!(&rt; first_unused(&table, 0), unused, "after {call:?}");
+        assert_eq!(&rt; key_0(&table), after, "after {call:?}");
     }
     assert_eq!(&rt; is_retired(&table, 1), Some(false));
     assert_eq!(&rt; first_unused(&table, 1), Some(9));
@@ -150,14 +137,14 @@ fn number_found(table: &KeyTable, number: u8) -> Option<u8> {
 fn room_for_every_number(rt: HostRuntime) -> Result<(), Fail> {
     let mut table = KeyTable::new(rt.alloc())?;
     for number in 0..=255 {
-        let install = Call::Install(number, u128::from(number));
+        let install = Call::Install(number, [number; 16]);
         assert_eq!(&rt; answer_to(&mut table, install), Ok(()), "at {number}");
     }
     for number in 0..=255 {
         assert_eq!(&rt; number_found(&table, number), Some(number));
     }
     assert_eq!(&rt;
-        answer_to(&mut table, Call::Install(7, 256)),
+        answer_to(&mut table, Call::Install(7, KEY_128)),
         Err(Refusal::KeyNumberUsed)
     );
     Ok(())
