@@ -2,21 +2,21 @@
 -- origin, that no tag is forged, holds of the frames that the law on acceptance speaks of.
 use Rattle.std.proofs.Common.{◌≡◌, inl, inr, ℕ, ◌^◌, ◌≤◌, List, [], ◌∷◌, ◌++◌, length, refl, ap, sym, subst, ◌∙◌, Contains, append-nil}
 use Rattle.std.specs.Prelude.{◌%◌, if◌then◌else◌, option_map, slice_get, Option, Some, None, IfSome}
-use Rattle.macsec_tag.specs.declared.Sci.{Sci}
+use Rattle.macsec_tag.specs.declared.identifiers.Sci.{Sci}
 use Rattle.macsec_tag.specs.Frame.{MpduParts, in_a_row}
 use Rattle.macsec_tag.specs.Table.{reading, tagged}
 use Rattle.macsec_pn.specs.Numbers.{recovered_number}
 use Rattle.macsec_suite.specs.Suites.{is_xpn, iv_of}
 use Rattle.macsec_suite.specs.KeyRows.{InstalledKey, the_key}
 use Rattle.macsec_tx.specs.declared.TxRow.{TxRow}
-use Rattle.macsec_tx.specs.Limits.{max_frame_len}
+use Rattle.macsec_tag.specs.Limits.{max_frame_len}
 use Rattle.macsec_tx.specs.Transmit.{parts_sent}
 use Rattle.macsec_rx.specs.declared.Mode.TheVariants.{Strict}
 use Rattle.macsec_rx.specs.declared.RxRow.{RxRow}
 use Rattle.macsec_rx.specs.declared.Verdict.{Verdict}
 use Rattle.macsec_rx.specs.declared.Verdict.TheVariants.{Passed}
 use Rattle.macsec_rx.specs.Judge.{in_use, place_of}
-use Rattle.macsec_secy.specs.declared.FrameFault.{FrameFault}
+use Rattle.macsec_secy.specs.declared.fault.FrameFault.{FrameFault}
 use Rattle.macsec_secy.specs.State.{State, tx_options}
 use Rattle.macsec_secy.specs.Sound as endpoint
 use Rattle.macsec_secy.specs.Accepts.{CanAccept}

@@ -6,17 +6,17 @@ use Rattle.std.specs.List.{list_any}
 use Rattle.std.proofs.lemmas.Bool.{or_parts}
 use Rattle.std.proofs.lemmas.List.{map-append}
 use Rattle.std.proofs.lemmas.List.Elements.{filter-append}
-use Rattle.macsec_tag.specs.declared.Sci.{Sci}
-use Rattle.macsec_suite.specs.declared.Refusal.{Refusal}
+use Rattle.macsec_tag.specs.declared.identifiers.Sci.{Sci}
+use Rattle.macsec_suite.specs.declared.refusal.Refusal.{Refusal}
 use Rattle.macsec_rx.specs.declared.RxRow.{RxRow}
 use Rattle.macsec_rx.specs.declared.Verdict.{Verdict}
 use Rattle.macsec_rx.specs.Channels.{at_place, is_at, rx_row, same_sci}
 use Rattle.macsec_rx.specs.Commands.{row_narrowed, row_raised, row_switched}
 use Rattle.macsec_rx.specs.Judge.{accepted_number, place_of, row_accepting, rows_accepting, rows_after}
 use Rattle.macsec_secy.specs.Agrees.{NoTwo, same_place}
-use Rattle.macsec_secy.specs.declared.Command.{Command}
-use Rattle.macsec_secy.specs.declared.Command.TheVariants.{Protect, Validate, Replay, Tag, Key, Retire, TxSa, TxOn, TxOff, TxDel, RxSc, RxScDel, RxSa, RxOn, RxOff, RxLow, RxDel}
-use Rattle.macsec_secy.specs.declared.FrameFault.{FrameFault}
+use Rattle.macsec_secy.specs.declared.command.Command.{Command}
+use Rattle.macsec_secy.specs.declared.command.Command.TheVariants.{Protect, Validate, Replay, Tag, Key, Retire, TxSa, TxOn, TxOff, TxDel, RxSc, RxScDel, RxSa, RxOn, RxOff, RxLow, RxDel}
+use Rattle.macsec_secy.specs.declared.fault.FrameFault.{FrameFault}
 use Rattle.macsec_secy.specs.State.{State}
 use Rattle.macsec_secy.specs.Sound as endpoint
 use Rattle.macsec_secy.specs.Commands.{effect, refusal, unless_refused}

@@ -1,0 +1,314 @@
+-- That the ends agree on the salt is needed for the order of deliveries: with another salt at B a packet number that B
+-- recovers is another one than A's, and the IV may fit all the same. A sends three frames, from ffffffff on; B takes the
+-- third as number 1, and then the first as 1ffffffff.
+use Rattle.std.proofs.Common.{◌≡◌, ◌≢◌, ℕ, get_or, zero, suc, ◌+◌, ◌-◌, ◌*◌, ◌^◌, ◌<◌, true, false, List, [], ◌∷◌, ◌++◌, refl, ap, sym, subst, ◌∙◌, arith}
+use Rattle.std.specs.Prelude.{replicate, slice_get, slice_set, IfSome, Some}
+use Rattle.macsec_gcm.specs.Gcm.{open_of}
+use Rattle.macsec_gcm.specs.Octets.{sum_with_stream}
+use Rattle.macsec_tag.specs.Table.{parts_at}
+use Rattle.macsec_suite.specs.declared.suite.Suite.TheVariants.{Xpn128}
+use Rattle.macsec_suite.specs.CipherUses.{CipherUse, cipher_use}
+use Rattle.macsec_suite.specs.KeyRows.{InstalledKey}
+use Rattle.macsec_suite.specs.Suites.{iv_of}
+use Rattle.macsec_tx.specs.Transmit.{tag_sent}
+use Rattle.macsec_rx.specs.declared.RxRow.{RxRow}
+use Rattle.macsec_rx.specs.declared.Verdict.TheVariants.{Passed}
+use Rattle.macsec_rx.specs.Judge.{at_row, judge_opened}
+use Rattle.macsec_secy.specs.declared.command.Command.TheVariants.{RxLow}
+use Rattle.macsec_secy.specs.declared.config.EndConfig.{EndConfig}
+use Rattle.macsec_secy.specs.declared.command.Options.{Options}
+use Rattle.macsec_secy.specs.Reception.{judgement_of}
+use Rattle.macsec_secy.specs.State.{State, first_options, no_counters, no_rx_counters, no_tx_counters, rx_options, start, tx_options}
+use Rattle.macsec_link.specs.declared.End.{End}
+use Rattle.macsec_link.specs.declared.End.TheVariants.{A, B}
+use Rattle.macsec_link.specs.declared.Event.{Event}
+use Rattle.macsec_link.specs.declared.Event.TheVariants.{Command, Deliver, Send}
+use Rattle.macsec_link.specs.Genuine.{IsGenuine, IsGenuineAt}
+use Rattle.macsec_link.specs.Logs.{no_sent_logs}
+use Rattle.macsec_link.specs.Origin.{HasStrictOrder, IsStrict, IsSubsequence, WasSentInOrder, WhileThere}
+use Rattle.macsec_link.specs.Step.{world_after}
+use Rattle.macsec_link.specs.Trace.{Mark, Trace, new_trace, trace_after, trace_step}
+use Rattle.macsec_link.specs.World.{WorldState, new_world}
+use Rattle.macsec_link.proofs.Exchange.{client, log, mark, rx_from, tx_from}
+use Rattle.macsec_link.proofs.IvPremises.{AgreeOnSuite, AgreeOnSuites}
+use Rattle.macsec_link.proofs.Moments.{world_of_trace}
+use Rattle.macsec_link.proofs.SealedFrames.{Sealed, aad_sent, frame_with, items, opens, parts_with, sealed, tag_of, with_tag}
+use Rattle.macsec_link.proofs.TracedSteps.{AtEach, after_both, at_moment, deliver_step, each_append, each_next, genuine_append, genuine_at, genuine_next, send_step, sent_by}
+use Rattle.macsec_link.proofs.WorkedEnds.{Fails, config, new_key, no_salt, of_two, receives_from, sci_a, sci_b, sends_from}
+
+abbrev xpn_a : EndConfig
+xpn_a = config Xpn128 sci_a
+
+abbrev xpn_b : EndConfig
+xpn_b = config Xpn128 sci_b
+
+-- B's salt turns the lowest bit of the upper half
+abbrev salt_b : List ℕ
+salt_b = replicate 7 0 ++ 1 ∷ replicate 4 0
+
+-- A's packet numbers: ffffffff, 100000000 and 100000001
+abbrev number : ℕ → ℕ
+number n = 2 ^ 32 - 1 + n
+
+abbrev commands : List Event
+commands = sends_from A (new_key no_salt 1) (number 0) false ++ receives_from B (new_key salt_b 2) sci_a 1 1
+
+abbrev last_delivery : List Event
+last_delivery = Deliver B 0 ∷ []
+
+abbrev from_raising : List Event
+from_raising = Command B (RxLow sci_a 0 (2 ^ 32)) ∷ last_delivery
+
+abbrev from_delivery : List Event
+from_delivery = Deliver B 2 ∷ from_raising
+
+abbrev exchange : List Event
+exchange = Send A (client 1) ∷ Send A (client 2) ∷ Send A (client 3) ∷ from_delivery
+
+abbrev pub events : List Event
+events = commands ++ exchange
+
+abbrev key_row : List ℕ → ℕ → ℕ → InstalledKey
+key_row salt ssci first_unused =
+    record { number = 0; suite = Xpn128; bytes = replicate 16 7; salt = salt; ssci = ssci; offset = 0; first_unused = first_unused; retired = false }
+
+-- A has sent n frames, of which the first unused number is told; B's association and what it has accepted
+abbrev trace_at : ℕ → ℕ → RxRow → ℕ → List (List ℕ) → List (List ℕ) → List (List ℕ) → List CipherUse → List Mark → Trace
+trace_at n unused row m sent delivered frames seals marks = record {
+  world = record {
+    a = record {
+      state = record (start xpn_a) {
+        keys = key_row no_salt 1 unused ∷ [];
+        tx = tx_from (number n) ∷ [];
+        tx_counters = record no_tx_counters { out_pkts_protected = n; out_octets_protected = 2 * n };
+      };
+      sent = slice_set no_sent_logs 0 sent;
+      delivered = [];
+    };
+    b = record {
+      state = record (start xpn_b) {
+        keys = key_row salt_b 2 1 ∷ [];
+        rx = record { scis = sci_a ∷ []; rows = row ∷ [] };
+        counters = record no_counters { in_octets_validated = 2 * m };
+        rx_counters = record { sci = sci_a; counters = record no_rx_counters { in_pkts_ok = m } } ∷ [];
+      };
+      sent = no_sent_logs;
+      delivered = log delivered ∷ [];
+    };
+    frames = frames;
+  };
+  seals = seals;
+  marks = marks;
+}
+
+abbrev ready : Trace
+ready = trace_at 0 1 (rx_from 1) 0 [] [] [] [] []
+
+is_ready : trace_after (new_trace xpn_a xpn_b) commands ≡ ready
+is_ready = refl
+
+-- ---- what A seals: its frames number 0, 1 and 2
+
+abbrev bytes : List ℕ
+bytes = replicate 16 7
+
+abbrev iv : ℕ → List ℕ
+iv n = iv_of Xpn128 sci_a 1 no_salt (number n)
+
+abbrev own : ℕ → List ℕ
+own n = client (n + 1)
+
+abbrev aad : ℕ → List ℕ
+aad n = aad_sent (tx_options (start xpn_a)) (key_row no_salt 1 1) (tx_from (number n)) (own n)
+
+abbrev frame_by : ℕ → Sealed → List ℕ
+frame_by n it = frame_with (tag_sent (tx_options (start xpn_a)) (tx_from (number n)) (own n)) (own n) it
+
+abbrev use_by : ℕ → Sealed → CipherUse
+use_by n it = cipher_use (key_row no_salt 1 1) (iv n) (parts_with (tag_sent (tx_options (start xpn_a)) (tx_from (number n)) (own n)) (own n) it)
+
+abbrev tag : ℕ → List ℕ
+tag n = tag_of bytes (iv n) (aad n)
+
+abbrev frame : ℕ → List ℕ → List ℕ
+frame n t = frame_by n (with_tag t)
+
+abbrev use_of : ℕ → List ℕ → CipherUse
+use_of n t = use_by n (with_tag t)
+
+abbrev sent_one : List ℕ → Trace
+sent_one t = trace_at 1 (number 1) (rx_from 1) 0 (own 0 ∷ []) [] (frame 0 t ∷ []) (use_of 0 t ∷ []) []
+
+abbrev sent_two : List ℕ → List ℕ → Trace
+sent_two t u = trace_at 2 (number 2) (rx_from 1) 0 (own 0 ∷ own 1 ∷ []) [] (frame 0 t ∷ frame 1 u ∷ []) (use_of 0 t ∷ use_of 1 u ∷ []) []
+
+first_sent : trace_step ready (Send A (client 1)) ≡ sent_one (tag 0)
+first_sent =
+    send_step ready (client 1) (tx_from (number 0)) (frame 0 (tag 0)) refl refl (ap (λ (it : Sealed). sent_by (tx_from (number 0)) (frame_by 0 it)) (sealed bytes (iv 0) (aad 0)))
+    ∙ ap (λ (it : Sealed). trace_at 1 (number 1) (rx_from 1) 0 (own 0 ∷ []) [] (frame 0 (tag 0) ∷ []) (use_by 0 it ∷ []) []) (sealed bytes (iv 0) (aad 0))
+
+second_sent : (t : List ℕ) → trace_step (sent_one t) (Send A (client 2)) ≡ sent_two t (tag 1)
+second_sent t =
+    send_step (sent_one t) (client 2) (tx_from (number 1)) (frame 1 (tag 1)) refl refl (ap (λ (it : Sealed). sent_by (tx_from (number 1)) (frame_by 1 it)) (sealed bytes (iv 1) (aad 1)))
+    ∙ ap (λ (it : Sealed). trace_at 2 (number 2) (rx_from 1) 0 (own 0 ∷ own 1 ∷ []) [] (frame 0 t ∷ frame 1 (tag 1) ∷ []) (use_of 0 t ∷ use_by 1 it ∷ []) []) (sealed bytes (iv 1) (aad 1))
+
+abbrev all_sent : List (List ℕ)
+all_sent = own 0 ∷ own 1 ∷ own 2 ∷ []
+
+abbrev three : List ℕ → List ℕ → List ℕ → RxRow → ℕ → List (List ℕ) → List Mark → Trace
+three t u v row m delivered marks =
+    trace_at 3 (number 3) row m all_sent delivered (frame 0 t ∷ frame 1 u ∷ frame 2 v ∷ []) (use_of 0 t ∷ use_of 1 u ∷ use_of 2 v ∷ []) marks
+
+third_sent : (t u : List ℕ) → trace_step (sent_two t u) (Send A (client 3)) ≡ three t u (tag 2) (rx_from 1) 0 [] []
+third_sent t u =
+    send_step (sent_two t u) (client 3) (tx_from (number 2)) (frame 2 (tag 2)) refl refl (ap (λ (it : Sealed). sent_by (tx_from (number 2)) (frame_by 2 it)) (sealed bytes (iv 2) (aad 2)))
+    ∙ ap (λ (it : Sealed).
+    trace_at 3 (number 3) (rx_from 1) 0 all_sent [] (frame 0 t ∷ frame 1 u ∷ frame 2 (tag 2) ∷ []) (use_of 0 t ∷ use_of 1 u ∷ use_by 2 it ∷ []) [])
+    (sealed bytes (iv 2) (aad 2))
+
+-- ---- what B recovers
+
+abbrev Opens : ℕ → List ℕ → Type 0
+Opens n t = open_of bytes (iv n) (aad n) [] (items 16 t) ≡ Some []
+
+iv_of_third : iv_of Xpn128 sci_a 1 salt_b 1 ≡ iv 2
+unfolding sum_with_stream
+iv_of_third = refl
+
+iv_of_first : iv_of Xpn128 sci_a 1 salt_b (2 ^ 33 - 1) ≡ iv 0
+unfolding sum_with_stream
+iv_of_first = refl
+
+abbrev before_delivery : List ℕ → List ℕ → List ℕ → Trace
+before_delivery t u v = three t u v (rx_from 1) 0 [] []
+
+abbrev after_third : List ℕ → List ℕ → List ℕ → Trace
+after_third t u v = three t u v (rx_from 2) 1 (own 2 ∷ []) (mark 1 ∷ [])
+
+abbrev after_raising : List ℕ → List ℕ → List ℕ → Trace
+after_raising t u v = three t u v (rx_from (2 ^ 32)) 1 (own 2 ∷ []) (mark 1 ∷ [])
+
+abbrev after_first : List ℕ → List ℕ → List ℕ → Trace
+after_first t u v = three t u v (rx_from (2 ^ 33)) 2 (own 2 ∷ own 0 ∷ []) (mark 1 ∷ mark (2 ^ 33 - 1) ∷ [])
+
+third_judged : (t u v : List ℕ) → Opens 2 v → judgement_of (before_delivery t u v).world.b.state (frame 2 v) ≡ at_row (rx_from 1) 1 13 Passed (Some (own 2))
+third_judged t u v is =
+    ap (judge_opened (rx_options (before_delivery t u v).world.b.state) (key_row salt_b 2 1) (rx_from 1) 1 (parts_at (frame 2 v)))
+    (ap (λ (i : List ℕ). open_of bytes i (aad 2) [] (items 16 v)) iv_of_third ∙ is)
+
+third_heard : (t u v : List ℕ) → Opens 2 v → trace_step (before_delivery t u v) (Deliver B 2) ≡ after_third t u v
+third_heard t u v is = deliver_step (before_delivery t u v) 2 (frame 2 v) (at_row (rx_from 1) 1 13 Passed (Some (own 2))) refl refl refl (third_judged t u v is)
+
+third_genuine : (t u v : List ℕ) → Opens 2 v → IsGenuineAt (before_delivery t u v) (Deliver B 2)
+third_genuine t u v is =
+    genuine_at (before_delivery t u v).world.b.state (frame 2 v) (at_row (rx_from 1) 1 13 Passed (Some (own 2))) (before_delivery t u v).seals (third_judged t u v is)
+    (2, omega arith, ap (λ (i : List ℕ). record (use_of 2 v) { iv = i }) (sym iv_of_third))
+
+is_raised : (t u v : List ℕ) → trace_step (after_third t u v) (Command B (RxLow sci_a 0 (2 ^ 32))) ≡ after_raising t u v
+is_raised t u v = refl
+
+first_judged : (t u v : List ℕ) → Opens 0 t → judgement_of (after_raising t u v).world.b.state (frame 0 t) ≡ at_row (rx_from (2 ^ 32)) (2 ^ 33 - 1) 13 Passed (Some (own 0))
+first_judged t u v is =
+    ap (judge_opened (rx_options (after_raising t u v).world.b.state) (key_row salt_b 2 1) (rx_from (2 ^ 32)) (2 ^ 33 - 1) (parts_at (frame 0 t)))
+    (ap (λ (i : List ℕ). open_of bytes i (aad 0) [] (items 16 t)) iv_of_first ∙ is)
+
+first_heard : (t u v : List ℕ) → Opens 0 t → trace_step (after_raising t u v) (Deliver B 0) ≡ after_first t u v
+first_heard t u v is = deliver_step (after_raising t u v) 0 (frame 0 t) (at_row (rx_from (2 ^ 32)) (2 ^ 33 - 1) 13 Passed (Some (own 0))) refl refl refl (first_judged t u v is)
+
+first_genuine : (t u v : List ℕ) → Opens 0 t → IsGenuineAt (after_raising t u v) (Deliver B 0)
+first_genuine t u v is =
+    genuine_at (after_raising t u v).world.b.state (frame 0 t) (at_row (rx_from (2 ^ 32)) (2 ^ 33 - 1) 13 Passed (Some (own 0))) (after_raising t u v).seals (first_judged t u v is)
+    (0, omega arith, ap (λ (i : List ℕ). record (use_of 0 t) { iv = i }) (sym iv_of_first))
+
+-- ---- the run
+
+abbrev t0 : List ℕ
+t0 = tag 0
+
+abbrev t1 : List ℕ
+t1 = tag 1
+
+abbrev t2 : List ℕ
+t2 = tag 2
+
+first_opens : Opens 0 t0
+first_opens = opens bytes (iv 0) (aad 0)
+
+third_opens : Opens 2 t2
+third_opens = opens bytes (iv 2) (aad 2)
+
+is_genuine : IsGenuine (new_trace xpn_a xpn_b) events
+is_genuine =
+    genuine_append (new_trace xpn_a xpn_b) ready commands exchange (tt, (tt, (tt, (tt, (tt, (tt, (tt, tt))))))) is_ready
+    (genuine_next ready (sent_one t0) (Send A (client 1)) (Send A (client 2) ∷ Send A (client 3) ∷ from_delivery) (tt {0}) first_sent
+    (genuine_next (sent_one t0) (sent_two t0 t1) (Send A (client 2)) (Send A (client 3) ∷ from_delivery) (tt {0}) (second_sent t0)
+    (genuine_next (sent_two t0 t1) (before_delivery t0 t1 t2) (Send A (client 3)) from_delivery (tt {0}) (third_sent t0 t1)
+    (genuine_next (before_delivery t0 t1 t2) (after_third t0 t1 t2) (Deliver B 2) from_raising (third_genuine t0 t1 t2 third_opens) (third_heard t0 t1 t2 third_opens)
+    (genuine_next (after_third t0 t1 t2) (after_raising t0 t1 t2) (Command B (RxLow sci_a 0 (2 ^ 32))) last_delivery (tt {0}) (is_raised t0 t1 t2)
+    (genuine_next (after_raising t0 t1 t2) (after_first t0 t1 t2) (Deliver B 0) [] (first_genuine t0 t1 t2 first_opens) (first_heard t0 t1 t2 first_opens) (tt {0})))))))
+
+abbrev world_of : Trace → WorldState
+world_of t = t.world
+
+last_is : world_after (new_world xpn_a xpn_b) events ≡ (after_first t0 t1 t2).world
+last_is =
+    sym (world_of_trace (new_trace xpn_a xpn_b) events)
+    ∙ ap world_of
+    (after_both (new_trace xpn_a xpn_b) ready commands exchange is_ready
+    ∙ ap (λ (t : Trace). trace_after t (Send A (client 2) ∷ Send A (client 3) ∷ from_delivery)) first_sent
+    ∙ ap (λ (t : Trace). trace_after t (Send A (client 3) ∷ from_delivery)) (second_sent t0)
+    ∙ ap (λ (t : Trace). trace_after t from_delivery) (third_sent t0 t1)
+    ∙ ap (λ (t : Trace). trace_after t from_raising) (third_heard t0 t1 t2 third_opens)
+    ∙ ap (λ (t : Trace). trace_after t last_delivery) (is_raised t0 t1 t2)
+    ∙ first_heard t0 t1 t2 first_opens)
+
+-- B's options are those of the making at each moment
+abbrev IsSo : (State → Type 0) → WorldState → Type 0
+IsSo P w = IfSome (slice_get w.b.delivered 0) (λ log. log.live ≡ true → P w.b.state)
+
+each_moment : (P : State → Type 0) → ((s : State) → s.options ≡ first_options xpn_b → P s) → AtEach (IsSo P) (new_world xpn_a xpn_b) events
+each_moment P so =
+    each_append (IsSo P) (new_world xpn_a xpn_b) ready.world commands exchange
+    (tt, (tt, (tt, (tt, (tt, (tt, (λ live. so _ refl, tt)))))))
+    (sym (world_of_trace (new_trace xpn_a xpn_b) commands) ∙ ap world_of is_ready)
+    (each_next (IsSo P) ready.world (sent_one t0).world (Send A (client 1)) (Send A (client 2) ∷ Send A (client 3) ∷ from_delivery) (λ live. so _ refl) (ap world_of first_sent)
+    (each_next (IsSo P) (sent_one t0).world (sent_two t0 t1).world (Send A (client 2)) (Send A (client 3) ∷ from_delivery) (λ live. so _ refl) (ap world_of (second_sent t0))
+    (each_next (IsSo P) (sent_two t0 t1).world (before_delivery t0 t1 t2).world (Send A (client 3)) from_delivery (λ live. so _ refl) (ap world_of (third_sent t0 t1))
+    (each_next (IsSo P) (before_delivery t0 t1 t2).world (after_third t0 t1 t2).world (Deliver B 2) from_raising (λ live. so _ refl) (ap world_of (third_heard t0 t1 t2 third_opens))
+    (each_next (IsSo P) (after_third t0 t1 t2).world (after_raising t0 t1 t2).world (Command B (RxLow sci_a 0 (2 ^ 32))) last_delivery (λ live. so _ refl) (ap world_of (is_raised t0 t1 t2))
+    (each_next (IsSo P) (after_raising t0 t1 t2).world (after_first t0 t1 t2).world (Deliver B 0) [] (λ live. so _ refl) (ap world_of (first_heard t0 t1 t2 first_opens)) (λ live. so _ refl)))))))
+
+while_there : (P : State → Type 0) → ((s : State) → s.options ≡ first_options xpn_b → P s) → WhileThere xpn_a xpn_b events B 0 P
+while_there P so k within = at_moment (IsSo P) (new_world xpn_a xpn_b) events (each_moment P so) k within
+
+-- the third and then the first are no subsequence
+no_subsequence : (x y z : List ℕ) → y ≢ x → z ≢ x → IsSubsequence (z ∷ x ∷ []) (x ∷ y ∷ z ∷ []) → ⊥
+no_subsequence x y z other other' ([], rising, found) = cc
+no_subsequence x y z other other' (p ∷ [], rising, found) = cc
+no_subsequence x y z other other' (p ∷ zero ∷ places, rising, found) = let less : p < 0 = rising 0 (omega arith) in omega (arith, less)
+no_subsequence x y z other other' (p ∷ suc zero ∷ places, rising, found) = let same : y ≡ x = cc in other same
+no_subsequence x y z other other' (p ∷ suc (suc zero) ∷ places, rising, found) = let same : z ≡ x = cc in other' same
+no_subsequence x y z other other' (p ∷ suc (suc (suc q)) ∷ places, rising, found) = cc
+
+differ : (n m : ℕ) → n ≢ m → client n ≢ client m
+differ n m other same = other (ap (λ (frame : List ℕ). get_or frame 12 0) same)
+
+-- the law on order, with the suite alone of what the keys are to agree on
+abbrev pub OrderForOtherSalts : EndConfig → EndConfig → List Event → Type 0
+OrderForOtherSalts a b events =
+    IsGenuine (new_trace a b) events → AgreeOnSuites (world_after (new_world a b) events) →
+    (e : End) (i : ℕ) → WhileThere a b events e i IsStrict → WhileThere a b events e i HasStrictOrder →
+    WasSentInOrder (world_after (new_world a b) events) e i
+
+pub same_salt_needed_for_order : Fails OrderForOtherSalts xpn_a xpn_b events
+same_salt_needed_for_order = (
+  refl,
+  λ law.
+      let in_order : WasSentInOrder (after_first t0 t1 t2).world B 0 =
+      subst (λ (w : WorldState). WasSentInOrder w B 0) last_is
+      (law is_genuine (subst AgreeOnSuites (sym last_is) (of_two AgreeOnSuite _ _ (λ same. refl))) B 0
+      (while_there IsStrict (λ s is. ap (λ (o : Options). o.mode) is))
+      (while_there HasStrictOrder (λ s is. record { replay = ap (λ (o : Options). o.replay) is; window = ap (λ (o : Options). o.window) is }))) in
+      no_subsequence (own 0) (own 1) (own 2) (differ 2 1 (λ same. omega (arith, same))) (differ 3 1 (λ same. omega (arith, same)))
+      (in_order (key_row no_salt 1 (number 3)) (0, omega arith, refl) refl),
+)

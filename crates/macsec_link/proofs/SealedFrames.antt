@@ -1,0 +1,101 @@
+-- Frames sealed for integrity alone, told octet by octet: what sealing gives of them is a tag of 16 octets, whatever
+-- they are, so that runs with such frames compute without the cipher.
+use Rattle.std.proofs.Common.{◌≡◌, ℕ, zero, suc, List, [], ◌∷◌, ◌++◌, length, take, drop, true, false, refl, ap, sym, ◌∙◌, arith, eq-eqb}
+use Rattle.std.specs.Prelude.{◌==◌, ◌&&◌, slice_range, if◌then◌else◌, Some, None}
+use Rattle.macsec_gcm.specs.Gcm.{authentication_tag, gctr, open_of, seal_of}
+use Rattle.macsec_gcm.specs.Octets.{same_octets}
+use Rattle.macsec_tag.specs.Frame.{MpduParts, in_a_row}
+use Rattle.macsec_tag.specs.Tag.{Tag}
+use Rattle.macsec_suite.specs.KeyRows.{InstalledKey}
+use Rattle.macsec_suite.specs.Parts.{aad_and_plaintext}
+use Rattle.macsec_tx.specs.declared.TxOptions.{TxOptions}
+use Rattle.macsec_tx.specs.declared.TxRow.{TxRow}
+use Rattle.macsec_tx.specs.Transmit.{tag_sent}
+
+-- ---- a list of a known length, element by element
+
+unfoldable pub first : List ℕ → ℕ
+first [] = 0
+first (x ∷ xs) = x
+
+pub rest : List ℕ → List ℕ
+rest [] = []
+rest (x ∷ xs) = xs
+
+abbrev pub items : ℕ → List ℕ → List ℕ
+items zero xs = []
+items (suc n) xs = first xs ∷ items n (rest xs)
+
+each_item : (n : ℕ) (xs : List ℕ) → length xs ≡ n → items n xs ≡ xs
+unfolding first rest
+each_item zero [] long = refl
+each_item zero (x ∷ xs) long = absurd (omega (arith, long))
+each_item (suc n) [] long = absurd (omega (arith, long))
+each_item (suc n) (x ∷ xs) long = ap (λ (ys : List ℕ). x ∷ ys) (each_item n xs (omega (arith, long)))
+
+-- ---- the cipher, of an empty plaintext
+
+-- ciphertext and tag, as sealing gives them
+abbrev pub Sealed : Type 0
+Sealed = List ℕ × List ℕ
+
+abbrev pub with_tag : List ℕ → Sealed
+with_tag tag = ([], items 16 tag)
+
+unfoldable pub tag_of : List ℕ → List ℕ → List ℕ → List ℕ
+tag_of key iv aad = (seal_of key iv aad []).1
+
+long_tag : (key iv aad : List ℕ) → length (tag_of key iv aad) ≡ 16
+unfolding tag_of seal_of authentication_tag gctr
+long_tag key iv aad = refl
+
+no_ciphertext : (key iv aad : List ℕ) → (seal_of key iv aad []).0 ≡ []
+unfolding seal_of gctr
+no_ciphertext key iv aad = refl
+
+pub sealed : (key iv aad : List ℕ) → seal_of key iv aad [] ≡ with_tag (tag_of key iv aad)
+unfolding tag_of
+sealed key iv aad = λ i. (no_ciphertext key iv aad i, sym (each_item 16 (tag_of key iv aad) (long_tag key iv aad)) i)
+
+same_refl : (xs : List ℕ) → same_octets xs xs ≡ true
+same_refl [] = refl
+same_refl (x ∷ xs) = rw (eq-eqb x x refl, same_refl xs) refl
+
+opens_tag : (key iv aad : List ℕ) → open_of key iv aad [] (tag_of key iv aad) ≡ Some []
+unfolding open_of seal_of gctr tag_of
+opens_tag key iv aad = ap (λ b. if b then Some [] else None) (same_refl (seal_of key iv aad []).1)
+
+-- what was sealed opens
+pub opens : (key iv aad : List ℕ) → open_of key iv aad [] (items 16 (tag_of key iv aad)) ≡ Some []
+opens key iv aad = ap (open_of key iv aad []) (each_item 16 (tag_of key iv aad) (long_tag key iv aad)) ∙ opens_tag key iv aad
+
+-- at most one tag opens: none that begins with another octet
+first_differs : (xs : List ℕ) (octet : ℕ) (others : List ℕ) → length xs ≡ 16 → (first xs == octet) ≡ false → same_octets xs (octet ∷ others) ≡ false
+unfolding first
+first_differs [] octet others long other = absurd (omega (arith, long))
+first_differs (x ∷ xs) octet others long other = ap (λ b. b && same_octets xs others) other
+
+pub closes : (key iv aad : List ℕ) (octet : ℕ) (others : List ℕ) → (first (tag_of key iv aad) == octet) ≡ false → open_of key iv aad [] (octet ∷ others) ≡ None
+unfolding open_of seal_of gctr tag_of
+closes key iv aad octet others other =
+    ap (λ b. if b then Some [] else None) (first_differs (seal_of key iv aad []).1 octet others (long_tag key iv aad) other)
+
+-- ---- frames
+
+-- the additional authenticated data of a client's frame that an association sends for integrity alone: all of it
+abbrev pub aad_sent : TxOptions → InstalledKey → TxRow → List ℕ → List ℕ
+aad_sent options key row frame = (aad_and_plaintext key.offset false (take 6 frame) (slice_range frame 6 12) (tag_sent options row frame) (drop 12 frame)).0
+
+-- the parts of such a frame, by what sealing gives
+abbrev pub parts_with : Tag → List ℕ → Sealed → MpduParts
+parts_with tag frame it = record {
+  da = take 6 frame;
+  sa = slice_range frame 6 12;
+  tag = tag;
+  secure_data = drop 12 frame ++ it.0;
+  icv = it.1;
+  padding = [];
+}
+
+abbrev pub frame_with : Tag → List ℕ → Sealed → List ℕ
+frame_with tag frame it = in_a_row (parts_with tag frame it)

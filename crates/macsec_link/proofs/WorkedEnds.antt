@@ -1,0 +1,63 @@
+-- The ends of worked runs: their configurations and keys, and the commands by which association 0 sends or receives.
+use Rattle.std.proofs.Common.{◌≡◌, ◌≢◌, ◌⊎◌, inl, inr, ℕ, List, [], ◌∷◌, ap, get_or, subst, Contains}
+use Rattle.std.specs.Prelude.{replicate, Bool, None}
+use Rattle.macsec_aes.specs.declared.Key.TheVariants.{K128}
+use Rattle.macsec_tag.specs.declared.identifiers.Sci.{Sci}
+use Rattle.macsec_suite.specs.declared.key_row.NewKey.{NewKey}
+use Rattle.macsec_suite.specs.declared.suite.Suite.{Suite}
+use Rattle.macsec_tx.specs.declared.TagForm.TheVariants as form
+use Rattle.macsec_secy.specs.declared.command.Command.TheVariants.{Key, RxOn, RxSa, RxSc, TxOn, TxSa}
+use Rattle.macsec_secy.specs.declared.config.EndConfig.{EndConfig}
+use Rattle.macsec_link.specs.declared.End.{End}
+use Rattle.macsec_link.specs.declared.Event.{Event}
+use Rattle.macsec_link.specs.declared.Event.TheVariants.{Command}
+use Rattle.macsec_link.specs.Answers.{make_fault}
+use Rattle.macsec_link.proofs.Members.{member}
+
+abbrev pub sci_a : Sci
+sci_a = record { 0 = 2 ∷ 0 ∷ 0 ∷ 0 ∷ 0 ∷ 1 ∷ 0 ∷ 1 ∷ [] }
+
+abbrev pub sci_b : Sci
+sci_b = record { 0 = 2 ∷ 0 ∷ 0 ∷ 0 ∷ 0 ∷ 2 ∷ 0 ∷ 1 ∷ [] }
+
+pub scis_differ : (s t : Sci) → get_or s.0 5 0 ≢ get_or t.0 5 0 → s ≢ t
+scis_differ s t differ same = differ (ap (λ (x : Sci). get_or x.0 5 0) same)
+
+-- a configuration by which each frame that is sent carries the SCI
+abbrev pub config : Suite → Sci → EndConfig
+config suite sci = record { suite = suite; sci = sci; max_frame = 1518; form = form.Sci }
+
+abbrev pub no_salt : List ℕ
+no_salt = replicate 12 0
+
+-- key 0, of the same bytes at both ends
+abbrev pub new_key : List ℕ → ℕ → NewKey
+new_key salt ssci = record { number = 0; bytes = K128 (replicate 16 7); salt = salt; ssci = ssci; offset = 0 }
+
+-- a client's frame of two octets of data
+abbrev pub client : List ℕ
+client = replicate 14 3
+
+-- a law is false of this run, whose ends can be made
+abbrev pub Fails : (EndConfig → EndConfig → List Event → Type 0) → EndConfig → EndConfig → List Event → Type 0
+Fails law a b events = (make_fault a b ≡ None) × (law a b events → ⊥)
+
+-- association 0 sends from this packet number on
+abbrev pub sends_from : End → NewKey → ℕ → Bool → List Event
+sends_from e key next conf = Command e (Key key) ∷ Command e (TxSa 0 0 next conf) ∷ Command e (TxOn 0) ∷ []
+
+-- association 0 of the only channel receives from this packet number on
+abbrev pub receives_from : End → NewKey → Sci → ℕ → ℕ → List Event
+receives_from e key sci ssci lowest =
+    Command e (Key key) ∷ Command e (RxSc sci) ∷ Command e (RxSa sci 0 0 ssci lowest) ∷ Command e (RxOn sci 0) ∷ []
+
+pub only : {X : Type 0} (key x : X) → Contains (key ∷ []) x → key ≡ x
+only key x there = by_place (member (key ∷ []) x there)
+  where
+    by_place : (key ≡ x) ⊎ ⊥ → key ≡ x
+    by_place (inl here) = here
+    by_place (inr none) = absurd none
+
+-- where each end has one key, what holds of these two holds of any two
+pub of_two : {X : Type 0} (R : X → X → Type 0) (a b : X) → R a b → (x y : X) → Contains (a ∷ []) x → Contains (b ∷ []) y → R x y
+of_two R a b holds x y there there' = subst (λ k. R k y) (only a x there) (subst (R a) (only b y there') holds)
