@@ -4,14 +4,16 @@ use Rattle.std.specs.Fmt.{digits}
 use Rattle.hex.proofs.OnLiterals.{hex_on_literals}
 use Rattle.macsec_aes.specs.declared.Key.TheVariants.{K128, K256}
 use Rattle.macsec_tx.specs.declared.TagForm.TheVariants as form
-use Rattle.macsec_secy.specs.declared.Command.TheVariants as by
+use Rattle.macsec_secy.specs.declared.command.Command.TheVariants as by
 use Rattle.macsec_rx.specs.declared.Mode.TheVariants.{Check}
-use Rattle.macsec_suite.specs.declared.Suite.TheVariants.{Gcm128, Gcm256, Xpn128, Xpn256}
-use Rattle.macsec_script.specs.declared.lines.End.TheVariants.{A, B}
+use Rattle.macsec_tag.specs.declared.identifiers.Sci.{Sci}
+use Rattle.macsec_suite.specs.declared.suite.Suite.TheVariants.{Gcm128, Gcm256, Xpn128, Xpn256}
+use Rattle.macsec_link.specs.declared.End.TheVariants.{A, B}
+use Rattle.macsec_link.specs.declared.Event.TheVariants as event
 use Rattle.macsec_script.specs.declared.lines.Line.TheVariants as line
-use Rattle.macsec_script.specs.declared.lines.LineFault.TheVariants.{Word, Count, Hex, Number, LineLong}
+use Rattle.macsec_script.specs.declared.lines.LineFault.TheVariants.{Word, Count, Hex, Number, Ends, LineLong}
 use Rattle.macsec_script.specs.declared.faults.ScriptFault.TheVariants as script
-use Rattle.macsec_script.specs.Kinds.{line_of}
+use Rattle.macsec_script.specs.Kinds.{line_of, tells}
 use Rattle.macsec_script.specs.Numbers.{packet_number_text, rx_text}
 use Rattle.macsec_script.specs.Printed.{printed_text}
 
@@ -28,8 +30,17 @@ comment = refl
 frob : line_of (codes "A frob") ≡ Err Word
 frob = refl
 
-of_b : line_of (codes "B send 00") ≡ Err Word
+of_b : line_of (codes "B frob") ≡ Err Word
 of_b = refl
+
+no_end_line_at_an_end : line_of (codes "A end gcm128 12153524c0895e81 1518 sci") ≡ Err Word
+no_end_line_at_an_end = refl
+
+deliver_at_no_end : line_of (codes "deliver 0") ≡ Err Word
+deliver_at_no_end = refl
+
+end_c : line_of (codes "end C gcm128 12153524c0895e81 1518 sci") ≡ Err Word
+end_c = refl
 
 other_end : line_of (codes "C send 00") ≡ Err Word
 other_end = refl
@@ -77,7 +88,31 @@ six_words = refl
 numbers_of : line_of (codes "A numbers 1") ≡ Err Count
 numbers_of = refl
 
+end_c_alone : line_of (codes "end C") ≡ Err Count
+end_c_alone = refl
+
+maybe_x : line_of (codes "A protect maybe x") ≡ Err Count
+maybe_x = refl
+
+counters_of : line_of (codes "B counters 1") ≡ Err Count
+counters_of = refl
+
+six_words_of_a_receive_association : line_of (codes "B rxsa 12153524c0895e81 2 0 1 00000001 int") ≡ Err Count
+six_words_of_a_receive_association = refl
+
 -- ---- words that are not hex
+
+receive_channel : line_of (codes "A rxsc 00") ≡ Err Hex
+unfolding hex_on_literals
+receive_channel = refl
+
+two_octets : line_of (codes "alter 0 0 100") ≡ Err Hex
+unfolding hex_on_literals
+two_octets = refl
+
+empty_pn : line_of (codes "B rxlow 12153524c0895e81 2 g") ≡ Err Hex
+unfolding hex_on_literals
+empty_pn = refl
 
 odd : line_of (codes "A send 0") ≡ Err Hex
 unfolding hex_on_literals
@@ -137,6 +172,29 @@ twenty_one_digits = refl
 wide_window : line_of (codes "A replay off 18446744073709551616") ≡ Err Number
 wide_window = refl
 
+key_4096 : line_of (codes "A key 4096 ad7a2bd03eac835a6f620fdcb506b345 0") ≡ Err Number
+key_4096 = refl
+
+frame_past_32_bits : line_of (codes "B deliver 4294967296") ≡ Err Number
+frame_past_32_bits = refl
+
+place_past_32_bits : line_of (codes "alter 0 4294967296 00") ≡ Err Number
+place_past_32_bits = refl
+
+-- the words from left to right
+frame_before_octet : line_of (codes "alter x 0 g") ≡ Err Number
+frame_before_octet = refl
+
+-- ---- forms that do not fit
+
+port_of_es : line_of (codes "end A gcm128 12153524c0895e81 1518 es") ≡ Err Ends
+unfolding hex_on_literals
+port_of_es = refl
+
+port_of_scb : line_of (codes "end B gcm128 0000000000000002 1518 scb") ≡ Err Ends
+unfolding hex_on_literals
+port_of_scb = refl
+
 -- ---- long lines
 
 longest : line_of (codes "A send " ++ replicate 19993 103) ≡ Err Hex
@@ -189,7 +247,7 @@ unfolding hex_on_literals
 end_of_xpn256 = refl
 
 key : line_of (codes "A key 7 000102030405060708090A0B0C0D0E0F 0") ≡
-    Ok (Some (line.Command (by.Key (record {
+    Ok (Some (tells A (by.Key (record {
       number = 7;
       bytes = K128 (0 ∷ 1 ∷ 2 ∷ 3 ∷ 4 ∷ 5 ∷ 6 ∷ 7 ∷ 8 ∷ 9 ∷ 10 ∷ 11 ∷ 12 ∷ 13 ∷ 14 ∷ 15 ∷ []);
       salt = replicate 12 0;
@@ -200,7 +258,7 @@ unfolding hex_on_literals
 key = refl
 
 key_of_32_octets : line_of (codes "A key 7 000102030405060708090a0b0c0d0e0f101112131415161718191a1b1c1d1e1f 0") ≡
-    Ok (Some (line.Command (by.Key (record {
+    Ok (Some (tells A (by.Key (record {
       number = 7;
       bytes = K256 (0 ∷ 1 ∷ 2 ∷ 3 ∷ 4 ∷ 5 ∷ 6 ∷ 7 ∷ 8 ∷ 9 ∷ 10 ∷ 11 ∷ 12 ∷ 13 ∷ 14 ∷ 15 ∷ 16 ∷ 17 ∷ 18 ∷ 19 ∷ 20 ∷ 21 ∷ 22 ∷ 23 ∷ 24 ∷ 25 ∷ 26 ∷ 27 ∷ 28 ∷ 29 ∷ 30 ∷ 31 ∷ []);
       salt = replicate 12 0;
@@ -211,7 +269,7 @@ unfolding hex_on_literals
 key_of_32_octets = refl
 
 offset_30 : line_of (codes "A key 7 000102030405060708090a0b0c0d0e0f 30") ≡
-    Ok (Some (line.Command (by.Key (record {
+    Ok (Some (tells A (by.Key (record {
       number = 7;
       bytes = K128 (0 ∷ 1 ∷ 2 ∷ 3 ∷ 4 ∷ 5 ∷ 6 ∷ 7 ∷ 8 ∷ 9 ∷ 10 ∷ 11 ∷ 12 ∷ 13 ∷ 14 ∷ 15 ∷ []);
       salt = replicate 12 0;
@@ -223,7 +281,7 @@ offset_30 = refl
 
 -- an SSCI has its most significant octet first
 ssci_and_salt : line_of (codes "A key 7 000102030405060708090a0b0c0d0e0f 0 0a0B0c0D 12153525c0895e8000000000") ≡
-    Ok (Some (line.Command (by.Key (record {
+    Ok (Some (tells A (by.Key (record {
       number = 7;
       bytes = K128 (0 ∷ 1 ∷ 2 ∷ 3 ∷ 4 ∷ 5 ∷ 6 ∷ 7 ∷ 8 ∷ 9 ∷ 10 ∷ 11 ∷ 12 ∷ 13 ∷ 14 ∷ 15 ∷ []);
       salt = 18 ∷ 21 ∷ 53 ∷ 37 ∷ 192 ∷ 137 ∷ 94 ∷ 128 ∷ 0 ∷ 0 ∷ 0 ∷ 0 ∷ [];
@@ -233,49 +291,101 @@ ssci_and_salt : line_of (codes "A key 7 000102030405060708090a0b0c0d0e0f 0 0a0B0
 unfolding hex_on_literals
 ssci_and_salt = refl
 
-tx_sa : line_of (codes "A  txsa\t2 00 b2C28465 int\r") ≡ Ok (Some (line.Command (by.TxSa 2 0 2999092325 false)))
+tx_sa : line_of (codes "A  txsa\t2 00 b2C28465 int\r") ≡ Ok (Some (tells A (by.TxSa 2 0 2999092325 false)))
 tx_sa = refl
 
-encrypts : line_of (codes "A txsa 2 0 b2c28465 conf") ≡ Ok (Some (line.Command (by.TxSa 2 0 2999092325 true)))
+encrypts : line_of (codes "A txsa 2 0 b2c28465 conf") ≡ Ok (Some (tells A (by.TxSa 2 0 2999092325 true)))
 encrypts = refl
 
-extended_number : line_of (codes "A txsa 2 0 1b2c28465 conf") ≡ Ok (Some (line.Command (by.TxSa 2 0 7294059621 true)))
+extended_number : line_of (codes "A txsa 2 0 1b2c28465 conf") ≡ Ok (Some (tells A (by.TxSa 2 0 7294059621 true)))
 extended_number = refl
 
-tx_on : line_of (codes "A txon 02") ≡ Ok (Some (line.Command (by.TxOn 2)))
+tx_on : line_of (codes "A txon 02") ≡ Ok (Some (tells A (by.TxOn 2)))
 tx_on = refl
 
-send : line_of (codes "A send 0aFf") ≡ Ok (Some (line.Send (10 ∷ 255 ∷ [])))
+send : line_of (codes "A send 0aFf") ≡ Ok (Some (line.Event (event.Send A (10 ∷ 255 ∷ []))))
 unfolding hex_on_literals
 send = refl
 
-protect : line_of (codes "A protect off") ≡ Ok (Some (line.Command (by.Protect false)))
+protect : line_of (codes "A protect off") ≡ Ok (Some (tells A (by.Protect false)))
 protect = refl
 
-validate : line_of (codes "A validate check") ≡ Ok (Some (line.Command (by.Validate Check)))
+validate : line_of (codes "A validate check") ≡ Ok (Some (tells A (by.Validate Check)))
 validate = refl
 
-replay : line_of (codes "A replay on 4294967296") ≡ Ok (Some (line.Command (by.Replay true 4294967296)))
+replay : line_of (codes "A replay on 4294967296") ≡ Ok (Some (tells A (by.Replay true 4294967296)))
 replay = refl
 
-tag : line_of (codes "A tag es") ≡ Ok (Some (line.Command (by.Tag form.Es)))
+tag : line_of (codes "A tag es") ≡ Ok (Some (tells A (by.Tag form.Es)))
 tag = refl
 
-retire : line_of (codes "A retire 7") ≡ Ok (Some (line.Command (by.Retire 7)))
+retire : line_of (codes "A retire 7") ≡ Ok (Some (tells A (by.Retire 7)))
 retire = refl
 
-tx_off : line_of (codes "A txoff 0") ≡ Ok (Some (line.Command (by.TxOff 0)))
+tx_off : line_of (codes "A txoff 0") ≡ Ok (Some (tells A (by.TxOff 0)))
 tx_off = refl
 
-tx_del : line_of (codes "A txdel 3") ≡ Ok (Some (line.Command (by.TxDel 3)))
+tx_del : line_of (codes "A txdel 3") ≡ Ok (Some (tells A (by.TxDel 3)))
 tx_del = refl
 
-uncontrolled : line_of (codes "A sendu 0aFf") ≡ Ok (Some (line.SendUncontrolled (10 ∷ 255 ∷ [])))
+uncontrolled : line_of (codes "A sendu 0aFf") ≡ Ok (Some (line.Event (event.SendUncontrolled A (10 ∷ 255 ∷ []))))
 unfolding hex_on_literals
 uncontrolled = refl
 
-numbers : line_of (codes "A numbers\r") ≡ Ok (Some line.Numbers)
+numbers : line_of (codes "A numbers\r") ≡ Ok (Some (line.Numbers A))
 numbers = refl
+
+counters : line_of (codes "B counters") ≡ Ok (Some (line.Counters B))
+counters = refl
+
+abbrev sender : Sci
+sender = record { 0 = 18 ∷ 21 ∷ 53 ∷ 36 ∷ 192 ∷ 137 ∷ 94 ∷ 129 ∷ [] }
+
+rx_sc : line_of (codes "B rxsc 12153524c0895e81") ≡ Ok (Some (tells B (by.RxSc sender)))
+unfolding hex_on_literals
+rx_sc = refl
+
+rx_sc_del : line_of (codes "B rxscdel 12153524c0895e81") ≡ Ok (Some (tells B (by.RxScDel sender)))
+unfolding hex_on_literals
+rx_sc_del = refl
+
+rx_sa : line_of (codes "B rxsa 12153524c0895e81 2 7 b2c28465") ≡ Ok (Some (tells B (by.RxSa sender 2 7 0 2999092325)))
+unfolding hex_on_literals
+rx_sa = refl
+
+rx_sa_with_ssci : line_of (codes "A rxsa 12153524c0895e81 2 7 1b2c28465 00000001") ≡ Ok (Some (tells A (by.RxSa sender 2 7 1 7294059621)))
+unfolding hex_on_literals
+rx_sa_with_ssci = refl
+
+rx_on : line_of (codes "B rxon 12153524c0895e81 2") ≡ Ok (Some (tells B (by.RxOn sender 2)))
+unfolding hex_on_literals
+rx_on = refl
+
+rx_off : line_of (codes "B rxoff 12153524c0895e81 2") ≡ Ok (Some (tells B (by.RxOff sender 2)))
+unfolding hex_on_literals
+rx_off = refl
+
+rx_low : line_of (codes "B rxlow 12153524c0895e81 2 10") ≡ Ok (Some (tells B (by.RxLow sender 2 16)))
+unfolding hex_on_literals
+rx_low = refl
+
+rx_del : line_of (codes "B rxdel 12153524c0895e81 2") ≡ Ok (Some (tells B (by.RxDel sender 2)))
+unfolding hex_on_literals
+rx_del = refl
+
+deliver : line_of (codes "B deliver 4294967295") ≡ Ok (Some (line.Event (event.Deliver B 4294967295)))
+deliver = refl
+
+alter : line_of (codes "alter 1 14 fF") ≡ Ok (Some (line.Event (event.Alter 1 14 255)))
+unfolding hex_on_literals
+alter = refl
+
+pad : line_of (codes "pad 0") ≡ Ok (Some (line.Event (event.Pad 0)))
+pad = refl
+
+inject : line_of (codes "inject 0aFf") ≡ Ok (Some (line.Event (event.Inject (10 ∷ 255 ∷ []))))
+unfolding hex_on_literals
+inject = refl
 
 -- ---- packet numbers that are shown
 
@@ -317,24 +427,32 @@ no_end_b : printed_text (codes "end A gcm128 12153524c0895e81 1518 sci\n") ≡ E
 unfolding hex_on_literals
 no_end_b = refl
 
--- the fault of a line of the script is Word
-few_words_for_a_key : printed_text (codes "end A gcm128 12153524c0895e81 1518 sci\nA key 256\n") ≡ Err (script.Word 2)
+-- a line in a wrong place that has a fault of its own has that one
+few_words_for_a_key : printed_text (codes "end A gcm128 12153524c0895e81 1518 sci\nA key 256\n") ≡ Err (script.Count 2)
 unfolding hex_on_literals
 few_words_for_a_key = refl
 
-ssci_without_salt : printed_text (both_ends ++ codes "A key 0 ad7a2bd03eac835a6f620fdcb506b345 0 00000001\n") ≡ Err (script.Word 3)
+ssci_without_salt : printed_text (both_ends ++ codes "A key 0 ad7a2bd03eac835a6f620fdcb506b345 0 00000001\n") ≡ Err (script.Count 3)
 unfolding hex_on_literals
 ssci_without_salt = refl
 
-other_port : printed_text (codes "end A gcm128 12153524c0895e81 1518 sci\nend B gcm128 0000000000000002 1518 es\n") ≡ Err (script.Word 2)
+other_port : printed_text (codes "end A gcm128 12153524c0895e81 1518 sci\nend B gcm128 0000000000000002 1518 es\n") ≡ Err (script.Ends 2)
 unfolding hex_on_literals
 other_port = refl
+
+no_second_end : printed_text (codes "end A gcm128 12153524c0895e81 1518 sci\nA txon 2\n") ≡ Err (script.Ends 2)
+unfolding hex_on_literals
+no_second_end = refl
+
+b_first : printed_text (codes "\nend B gcm128 12153524c0895e81 1518 sci\n") ≡ Err (script.Ends 2)
+unfolding hex_on_literals
+b_first = refl
 
 ends_alone : printed_text both_ends ≡ Ok []
 unfolding hex_on_literals
 ends_alone = refl
 
-third_end : printed_text (both_ends ++ codes "end A gcm128 12153524c0895e81 1518 sci\n") ≡ Err (script.Word 3)
+third_end : printed_text (both_ends ++ codes "end A gcm128 12153524c0895e81 1518 sci\n") ≡ Err (script.Ends 3)
 unfolding hex_on_literals
 third_end = refl
 
@@ -397,3 +515,15 @@ shown = refl
 three_lines : printed_text (codes "#\nend A gcm128 12153524c0895e81 1518 sci\nend B gcm128 0000000000000001 1518 es\nA send 00") ≡ Ok (codes "4 fault 5 Short\n")
 unfolding hex_on_literals digits
 three_lines = refl
+
+-- both ends, and what a hostile link does: frames that are altered, padded, injected, and come again
+two_ends : printed_text (both_ends ++ codes "A protect off\nB validate check\nA send 00112233445566778899aabb0800\nB deliver 0\nB deliver 0\nalter 0 13 01\npad 1\nA deliver 2\ninject 00\nB deliver 3\nB deliver 4\nalter 3 1 ff\n") ≡
+    Ok (codes "3 done\n4 done\n5 frame 0 00112233445566778899aabb0800\n6 Untagged 00112233445566778899aabb0800\n7 Untagged 00112233445566778899aabb0800\n8 frame 1 00112233445566778899aabb0801\n9 frame 2 00112233445566778899aabb080100000000000000000000000000000000000000000000000000000000000000000000000000000000000000000000\n10 NoTag\n11 frame 3 00\n12 fault 5 Short\n13 fault 2 NoFrame\n14 fault 4 AlterRange\n")
+unfolding hex_on_literals digits
+two_ends = refl
+
+-- the counters of an endpoint, and then of its receive channels in the order of their making
+counters_shown : printed_text (both_ends ++ codes "A protect off\nA send 00112233445566778899aabb0800\nA rxsc 0000000000000003\nA rxsc 0000000000000002\nA counters\n") ≡
+    Ok (codes "3 done\n4 frame 0 00112233445566778899aabb0800\n5 done\n6 done\n" ++ codes "7 InPktsUntagged 0\n7 InPktsNoTag 0\n7 InPktsBadTag 0\n7 InPktsReserved 0\n7 InPktsNoSA 0\n7 InPktsNoSAError 0\n7 InOctetsValidated 0\n7 InOctetsDecrypted 0\n7 OutPktsUntagged 1\n7 OutPktsTooLong 0\n7 OutPktsNoSA 0\n7 OutPktsProtected 0\n7 OutPktsEncrypted 0\n7 OutOctetsProtected 0\n7 OutOctetsEncrypted 0\n" ++ codes "7 0000000000000003 InPktsOK 0\n7 0000000000000003 InPktsUnchecked 0\n7 0000000000000003 InPktsDelayed 0\n7 0000000000000003 InPktsLate 0\n7 0000000000000003 InPktsInvalid 0\n7 0000000000000003 InPktsNotValid 0\n" ++ codes "7 0000000000000002 InPktsOK 0\n7 0000000000000002 InPktsUnchecked 0\n7 0000000000000002 InPktsDelayed 0\n7 0000000000000002 InPktsLate 0\n7 0000000000000002 InPktsInvalid 0\n7 0000000000000002 InPktsNotValid 0\n")
+unfolding hex_on_literals digits
+counters_shown = refl

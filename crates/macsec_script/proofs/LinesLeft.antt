@@ -9,7 +9,7 @@ use Rattle.macsec_script.specs.declared.lines.LineFault.TheVariants as fault
 use Rattle.macsec_script.specs.declared.script.Place.{Place}
 use Rattle.macsec_script.specs.declared.script.Place.TheVariants.{EndA}
 use Rattle.macsec_script.specs.declared.faults.ScriptFault.{ScriptFault}
-use Rattle.macsec_script.specs.declared.faults.ScriptFault.TheVariants.{Word}
+use Rattle.macsec_script.specs.declared.faults.ScriptFault.TheVariants.{Ends}
 use Rattle.macsec_script.specs.Fields.{map_ok}
 use Rattle.macsec_script.specs.Kinds.{line_of, and_then}
 use Rattle.macsec_script.specs.Scripts.{NumberedLine, at_line, result_at_line, place_after, next_place, line_before, lines_from}
@@ -33,7 +33,7 @@ wanted place next n text line more h after =
     ∙ ap (λ o. and_then (next_place n o) (λ next. map_ok (λ lines. (n, line) ∷ lines) (lines_from next (n + 1) more))) after
 
 unwanted : (place : Place) (n : ℕ) (text : List ℕ) (line : Line) (more : List (List ℕ)) → line_of text ≡ Ok (Some line) →
-    place_after place line ≡ None → lines_from place n (text ∷ more) ≡ Err (Word n)
+    place_after place line ≡ None → lines_from place n (text ∷ more) ≡ Err (Ends n)
 unwanted place n text line more h after =
     ap (λ r. and_then (result_at_line n r) (λ said. line_before place n said (λ next. lines_from next (n + 1) more))) h
     ∙ ap (λ o. and_then (next_place n o) (λ next. map_ok (λ lines. (n, line) ∷ lines) (lines_from next (n + 1) more))) after
@@ -77,7 +77,7 @@ on_after_line said place next i lines d line within way h placed after is_pushed
 
 pub stopped_unwanted : (said : List NumberedLine) (place : Place) (i : ℕ) (lines : List (Bor (List ℕ))) (d : Bor (List ℕ)) (line : Line) →
     i < length lines → IsOnTheWay said place i (seen lines) → line_of (get_or lines i d).now ≡ Ok (Some line) →
-    place_after place line ≡ None → lines_from EndA 1 (seen lines) ≡ Err (Word (i + 1))
+    place_after place line ≡ None → lines_from EndA 1 (seen lines) ≡ Err (Ends (i + 1))
 stopped_unwanted said place i lines d line within way h placed =
     sym way ∙ ap (λ left. map_ok (λ more. said ++ more) (lines_from place (i + 1) left)) (first_left lines i d within)
     ∙ ap (map_ok (λ more. said ++ more)) (unwanted place (i + 1) (get_or lines i d).now line (drop (i + 1) (seen lines)) h placed)

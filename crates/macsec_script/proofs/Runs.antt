@@ -4,7 +4,7 @@ use Rattle.std.proofs.lemmas.List.{drop_more}
 use Rattle.std.specs.Prelude.{Option, Err}
 use Rattle.std.specs.Io.KnownBytes.{Appends}
 use Rattle.std.proofs.KnownBytes.{Appends-trans}
-use Rattle.macsec_script.specs.declared.running.Run.{Run}
+use Rattle.macsec_link.specs.World.{WorldState}
 use Rattle.macsec_script.specs.declared.faults.ScriptFault.{ScriptFault}
 use Rattle.macsec_script.specs.declared.faults.ScriptFault.TheVariants.{Word, Count, Hex, Number, Ends, LineLong, ScriptLong, Memory, Read, Write}
 use Rattle.macsec_script.specs.Scripts.{NumberedLine}
@@ -12,7 +12,7 @@ use Rattle.macsec_script.specs.Printed.{line_step, text_from}
 use Rattle.macsec_script.specs.Runs.{Prints}
 
 -- written so far, with what is still to come, is the whole
-abbrev pub IsOnTheWay : List ℕ → Option (List ℕ) → Option (List ℕ) → Run → List NumberedLine → Type 0
+abbrev pub IsOnTheWay : List ℕ → Option (List ℕ) → Option (List ℕ) → WorldState → List NumberedLine → Type 0
 IsOnTheWay whole old mid w lines = (text : List ℕ) × Appends old mid text × (text ++ text_from w lines ≡ whole)
 
 -- the front of the lines that are left
@@ -20,7 +20,7 @@ first_left : (lines : List NumberedLine) (i : ℕ) (entry : NumberedLine) → en
 first_left lines i entry item within = drop_more lines i entry within ∙ ap (λ e. e ∷ drop (i + 1) lines) (sym item)
 
 -- one more line was printed
-pub one_more : (whole : List ℕ) (old mid new : Option (List ℕ)) (w after : Run) (lines : List NumberedLine) (i : ℕ) (entry : NumberedLine) →
+pub one_more : (whole : List ℕ) (old mid new : Option (List ℕ)) (w after : WorldState) (lines : List NumberedLine) (i : ℕ) (entry : NumberedLine) →
     entry ≡ get_or lines i entry → i < length lines → IsOnTheWay whole old mid w (drop i lines) →
     Appends mid new (line_step w entry.0 entry.1).0 → after ≡ (line_step w entry.0 entry.1).1 → IsOnTheWay whole old new after (drop (i + 1) lines)
 one_more whole old mid new w after lines i entry item within way adds same =
@@ -33,7 +33,7 @@ one_more whole old mid new w after lines i entry item within way adds same =
     )
 
 -- the last line was not printed to its end
-pub given_up : (whole : List ℕ) (old mid new : Option (List ℕ)) (w : Run) (lines : List NumberedLine) (i : ℕ) (entry : NumberedLine) →
+pub given_up : (whole : List ℕ) (old mid new : Option (List ℕ)) (w : WorldState) (lines : List NumberedLine) (i : ℕ) (entry : NumberedLine) →
     entry ≡ get_or lines i entry → i < length lines → IsOnTheWay whole old mid w (drop i lines) →
     (f : ScriptFault) → Prints (line_step w entry.0 entry.1).0 mid new (Err f) → Prints whole old new (Err f)
 given_up whole old mid new w lines i entry item within way Memory h =

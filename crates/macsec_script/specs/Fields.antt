@@ -1,23 +1,24 @@
 -- What a word of a line can be, the value that it then has, and how it is read.
-use Rattle.std.specs.Prelude.{ℕ, List, [], ◌∷◌, Bool, true, false, bytes_eq, codes, Result, Ok, Err}
+use Rattle.std.specs.Prelude.{ℕ, List, [], ◌∷◌, Bool, true, false, bytes_eq, slice_index, codes, Result, Ok, Err}
 use Rattle.std.specs.Int.{w32, from_be_bytes}
 use Rattle.macsec_aes.specs.declared.Key.{Key}
 use Rattle.macsec_aes.specs.declared.Key.TheVariants.{K128, K256}
-use Rattle.macsec_tag.specs.declared.Sci.{Sci}
+use Rattle.macsec_tag.specs.declared.identifiers.Sci.{Sci}
 use Rattle.macsec_tx.specs.declared.TagForm.{TagForm}
 use Rattle.macsec_tx.specs.declared.TagForm.TheVariants as form
 use Rattle.macsec_rx.specs.declared.Mode.{Mode}
 use Rattle.macsec_rx.specs.declared.Mode.TheVariants as mode
-use Rattle.macsec_suite.specs.declared.Suite.{Suite}
-use Rattle.macsec_suite.specs.declared.Suite.TheVariants.{Gcm128, Gcm256, Xpn128, Xpn256}
-use Rattle.macsec_script.specs.declared.lines.End.{End}
-use Rattle.macsec_script.specs.declared.lines.End.TheVariants.{A, B}
+use Rattle.macsec_suite.specs.declared.suite.Suite.{Suite}
+use Rattle.macsec_suite.specs.declared.suite.Suite.TheVariants.{Gcm128, Gcm256, Xpn128, Xpn256}
+use Rattle.macsec_link.specs.declared.End.{End}
+use Rattle.macsec_link.specs.declared.End.TheVariants.{A, B}
 use Rattle.macsec_script.specs.declared.lines.LineFault.{LineFault}
 use Rattle.macsec_script.specs.declared.lines.LineFault.TheVariants.{Word}
 use Rattle.macsec_script.specs.Numerals.{decimal_in, packet_number, octets_of, some_octets}
 
 pub data Field : Type 0 where
   number : (low : ℕ) → (high : ℕ) → Field
+  octet : Field
   sci : Field
   key : Field
   ssci : Field
@@ -33,6 +34,7 @@ pub data Field : Type 0 where
 
 abbrev pub Value : Field → Type 0
 Value (number low high) = ℕ
+Value octet = ℕ
 Value sci = Sci
 Value key = Key
 Value ssci = ℕ
@@ -81,6 +83,9 @@ abbrev pub map_ok : {A B E : Type 0} → (A → B) → Result A E → Result B E
 map_ok f (Ok x) = Ok (f x)
 map_ok f (Err fault) = Err fault
 
+abbrev pub as_octet : List ℕ → ℕ
+as_octet octets = slice_index octets 0
+
 abbrev pub as_sci : List ℕ → Sci
 as_sci octets = record { 0 = octets }
 
@@ -99,6 +104,7 @@ key_of_word word = or_else (map_ok K128 (octets_of 16 word)) (map_ok K256 (octet
 
 abbrev pub read_word : (f : Field) → List ℕ → Result (Value f) LineFault
 read_word (number low high) word = decimal_in low high word
+read_word octet word = map_ok as_octet (octets_of 1 word)
 read_word sci word = map_ok as_sci (octets_of 8 word)
 read_word key word = key_of_word word
 read_word ssci word = map_ok as_ssci (octets_of 4 word)

@@ -1,18 +1,21 @@
 -- The kinds of lines, each by its keyword, the words after it, and what it says.
-use Rattle.std.specs.Prelude.{ℕ, ◌-◌, ◌^◌, ◌==◌, replicate, List, [], ◌∷◌, ◌++◌, length, filter, find, nat_lt, bytes_eq, codes, if◌then◌else◌, Option, Some, None, Result, Ok, Err}
+use Rattle.std.specs.Prelude.{ℕ, ◌-◌, ◌^◌, ◌==◌, replicate, List, [], ◌∷◌, ◌++◌, length, filter, find, nat_lt, bytes_eq, codes, Bool, true, not, is_some, if◌then◌else◌, Option, Some, None, Result, Ok, Err}
 use Rattle.macsec_aes.specs.declared.Key.{Key}
-use Rattle.macsec_tx.specs.Limits.{max_frame_len}
-use Rattle.macsec_suite.specs.declared.NewKey.{NewKey}
-use Rattle.macsec_secy.specs.declared.Command.TheVariants as by
+use Rattle.macsec_tag.specs.Limits.{max_frame_len}
+use Rattle.macsec_suite.specs.declared.key_row.NewKey.{NewKey}
+use Rattle.macsec_secy.specs.declared.command.Command.{Command}
+use Rattle.macsec_secy.specs.declared.command.Command.TheVariants as by
 use Rattle.macsec_secy.specs.Limits.{min_max_frame}
-use Rattle.macsec_script.specs.declared.lines.End.{End}
-use Rattle.macsec_script.specs.declared.lines.End.TheVariants.{A, B}
+use Rattle.macsec_secy.specs.declared.config.EndConfig.{EndConfig}
+use Rattle.macsec_secy.specs.Configs.{config_fault}
+use Rattle.macsec_link.specs.declared.End.{End}
+use Rattle.macsec_link.specs.declared.Event.TheVariants as event
 use Rattle.macsec_script.specs.declared.lines.Line.{Line}
 use Rattle.macsec_script.specs.declared.lines.Line.TheVariants as line
 use Rattle.macsec_script.specs.declared.lines.LineFault.{LineFault}
-use Rattle.macsec_script.specs.declared.lines.LineFault.TheVariants.{Word, Count, LineLong}
+use Rattle.macsec_script.specs.declared.lines.LineFault.TheVariants.{Word, Count, Ends, LineLong}
 use Rattle.macsec_script.specs.Words.{words_of}
-use Rattle.macsec_script.specs.Fields.{Field, Value, read_word, value_of_keyword, ends, number, sci, key, ssci, salt, frame, pn, at_end, suite, tag_form, protection, switch, validation}
+use Rattle.macsec_script.specs.Fields.{Field, Value, read_word, value_of_keyword, ends, number, octet, sci, key, ssci, salt, frame, pn, at_end, suite, tag_form, protection, switch, validation}
 use Rattle.macsec_script.specs.Limits.{max_line_len}
 
 -- what makes a line of the values of its words
@@ -40,6 +43,12 @@ offset = number 0 255
 abbrev pub window : Field
 window = number 0 (2 ^ 64 - 1)
 
+abbrev pub frame_number : Field
+frame_number = number 0 (2 ^ 32 - 1)
+
+abbrev pub place_in_frame : Field
+place_in_frame = number 0 (2 ^ 32 - 1)
+
 abbrev pub max_frame : Field
 max_frame = number min_max_frame max_frame_len
 
@@ -47,55 +56,92 @@ max_frame = number min_max_frame max_frame_len
 abbrev pub key_from : ℕ → Key → ℕ → ℕ → List ℕ → NewKey
 key_from = λ n bytes offset ssci salt. record { number = n; bytes = bytes; salt = salt; ssci = ssci; offset = offset }
 
+-- a command at an end
+abbrev pub tells : End → Command → Line
+tells e c = line.Event (event.Command e c)
+
 -- the lines that set whether frames are protected, and how they are validated
-abbrev pub protection_kinds : List Kind
-protection_kinds =
-    kind (codes "protect") (switch ∷ []) (λ on. line.Command (by.Protect on)) ∷
-    kind (codes "validate") (validation ∷ []) (λ mode. line.Command (by.Validate mode)) ∷ []
+abbrev pub protection_kinds : End → List Kind
+protection_kinds e =
+    kind (codes "protect") (switch ∷ []) (λ on. tells e (by.Protect on)) ∷
+    kind (codes "validate") (validation ∷ []) (λ mode. tells e (by.Validate mode)) ∷ []
 
 -- the lines of the other options
-abbrev pub option_kinds : List Kind
-option_kinds =
-    kind (codes "replay") (switch ∷ window ∷ []) (λ on window. line.Command (by.Replay on window)) ∷
-    kind (codes "tag") (tag_form ∷ []) (λ form. line.Command (by.Tag form)) ∷ []
+abbrev pub option_kinds : End → List Kind
+option_kinds e =
+    kind (codes "replay") (switch ∷ window ∷ []) (λ on window. tells e (by.Replay on window)) ∷
+    kind (codes "tag") (tag_form ∷ []) (λ form. tells e (by.Tag form)) ∷ []
 
 -- the lines of keys; an SSCI and a salt that are left out are zeros
-abbrev pub key_kinds : List Kind
-key_kinds =
+abbrev pub key_kinds : End → List Kind
+key_kinds e =
     kind (codes "key") (key_number ∷ key ∷ offset ∷ [])
-    (λ n bytes offset. line.Command (by.Key (key_from n bytes offset 0 (replicate 12 0)))) ∷
+    (λ n bytes offset. tells e (by.Key (key_from n bytes offset 0 (replicate 12 0)))) ∷
     kind (codes "key") (key_number ∷ key ∷ offset ∷ ssci ∷ salt ∷ [])
-    (λ n bytes offset ssci salt. line.Command (by.Key (key_from n bytes offset ssci salt))) ∷
-    kind (codes "retire") (key_number ∷ []) (λ n. line.Command (by.Retire n)) ∷ []
+    (λ n bytes offset ssci salt. tells e (by.Key (key_from n bytes offset ssci salt))) ∷
+    kind (codes "retire") (key_number ∷ []) (λ n. tells e (by.Retire n)) ∷ []
 
 -- the lines of transmit associations
-abbrev pub transmit_kinds : List Kind
-transmit_kinds =
-    kind (codes "txsa") (an ∷ key_number ∷ pn ∷ protection ∷ []) (λ an n pn conf. line.Command (by.TxSa an n pn conf)) ∷
-    kind (codes "txon") (an ∷ []) (λ an. line.Command (by.TxOn an)) ∷
-    kind (codes "txoff") (an ∷ []) (λ an. line.Command (by.TxOff an)) ∷
-    kind (codes "txdel") (an ∷ []) (λ an. line.Command (by.TxDel an)) ∷ []
+abbrev pub transmit_kinds : End → List Kind
+transmit_kinds e =
+    kind (codes "txsa") (an ∷ key_number ∷ pn ∷ protection ∷ []) (λ an n pn conf. tells e (by.TxSa an n pn conf)) ∷
+    kind (codes "txon") (an ∷ []) (λ an. tells e (by.TxOn an)) ∷
+    kind (codes "txoff") (an ∷ []) (λ an. tells e (by.TxOff an)) ∷
+    kind (codes "txdel") (an ∷ []) (λ an. tells e (by.TxDel an)) ∷ []
+
+-- the lines of receive channels
+abbrev pub channel_kinds : End → List Kind
+channel_kinds e =
+    kind (codes "rxsc") (sci ∷ []) (λ sci. tells e (by.RxSc sci)) ∷
+    kind (codes "rxscdel") (sci ∷ []) (λ sci. tells e (by.RxScDel sci)) ∷ []
+
+-- the lines of receive associations; an SSCI that is left out is zero
+abbrev pub receive_kinds : End → List Kind
+receive_kinds e =
+    kind (codes "rxsa") (sci ∷ an ∷ key_number ∷ pn ∷ []) (λ sci an n pn. tells e (by.RxSa sci an n 0 pn)) ∷
+    kind (codes "rxsa") (sci ∷ an ∷ key_number ∷ pn ∷ ssci ∷ []) (λ sci an n pn ssci. tells e (by.RxSa sci an n ssci pn)) ∷
+    kind (codes "rxon") (sci ∷ an ∷ []) (λ sci an. tells e (by.RxOn sci an)) ∷
+    kind (codes "rxoff") (sci ∷ an ∷ []) (λ sci an. tells e (by.RxOff sci an)) ∷
+    kind (codes "rxlow") (sci ∷ an ∷ pn ∷ []) (λ sci an pn. tells e (by.RxLow sci an pn)) ∷
+    kind (codes "rxdel") (sci ∷ an ∷ []) (λ sci an. tells e (by.RxDel sci an)) ∷ []
+
+-- the lines of commands
+abbrev pub operator_kinds : End → List Kind
+operator_kinds e =
+    protection_kinds e ++ (option_kinds e ++ (key_kinds e ++ (transmit_kinds e ++ (channel_kinds e ++ receive_kinds e))))
 
 -- the lines of frames
-abbrev pub frame_kinds : List Kind
-frame_kinds =
-    kind (codes "send") (frame ∷ []) (λ frame. line.Send frame) ∷
-    kind (codes "sendu") (frame ∷ []) (λ frame. line.SendUncontrolled frame) ∷ []
+abbrev pub frame_kinds : End → List Kind
+frame_kinds e =
+    kind (codes "send") (frame ∷ []) (λ frame. line.Event (event.Send e frame)) ∷
+    kind (codes "sendu") (frame ∷ []) (λ frame. line.Event (event.SendUncontrolled e frame)) ∷
+    kind (codes "deliver") (frame_number ∷ []) (λ n. line.Event (event.Deliver e n)) ∷ []
 
--- the line that shows packet numbers
-abbrev pub show_kinds : List Kind
-show_kinds = kind (codes "numbers") [] line.Numbers ∷ []
+-- the lines that show counters and packet numbers
+abbrev pub show_kinds : End → List Kind
+show_kinds e = kind (codes "counters") [] (line.Counters e) ∷ kind (codes "numbers") [] (line.Numbers e) ∷ []
 
--- the lines that begin with an end's letter; they are A's alone
+-- the lines that begin with an end's letter
 abbrev pub kinds_at : End → List Kind
-kinds_at A = protection_kinds ++ (option_kinds ++ (key_kinds ++ (transmit_kinds ++ (frame_kinds ++ show_kinds))))
-kinds_at B = []
+kinds_at e = operator_kinds e ++ (frame_kinds e ++ show_kinds e)
 
--- the other lines
-abbrev pub kinds : List Kind
-kinds =
+-- the lines of the ends' configurations
+abbrev pub end_kinds : List Kind
+end_kinds =
     kind (codes "end") (at_end ∷ suite ∷ sci ∷ max_frame ∷ tag_form ∷ [])
     (λ e suite sci most form. line.End e (record { suite = suite; sci = sci; max_frame = most; form = form })) ∷ []
+
+-- the lines of the link
+abbrev pub link_kinds : List Kind
+link_kinds =
+    kind (codes "alter") (frame_number ∷ place_in_frame ∷ octet ∷ [])
+    (λ n place octet. line.Event (event.Alter n place octet)) ∷
+    kind (codes "pad") (frame_number ∷ []) (λ n. line.Event (event.Pad n)) ∷
+    kind (codes "inject") (frame ∷ []) (λ frame. line.Event (event.Inject frame)) ∷ []
+
+-- the lines that begin with no end's letter
+abbrev pub kinds : List Kind
+kinds = end_kinds ++ link_kinds
 
 -- the next step, where there is a value
 abbrev pub and_then : {X Y E : Type 0} → Result X E → (X → Result Y E) → Result Y E
@@ -132,13 +178,25 @@ read_at (Ok e) first [] = Err Count
 read_at (Ok e) first (keyword ∷ words) = read_line (kinds_at e) keyword words
 read_at (Err fault) first words = read_line kinds first words
 
+-- an endpoint can be made of the configuration
+abbrev pub is_good : EndConfig → Bool
+is_good config = not (is_some (config_fault config))
+
+-- an end's form fits its SCI, as MAX is in its range
+abbrev pub is_fit : Line → Bool
+is_fit (line.End e config) = is_good config
+is_fit other = true
+
+abbrev pub if_fit : Line → Result (Option Line) LineFault
+if_fit line = if is_fit line then Ok (Some line) else Err Ends
+
 -- a line of no words, or whose first word begins with '#', is skipped
 abbrev pub of_words : List (List ℕ) → Result (Option Line) LineFault
 of_words [] = Ok None
 of_words ([] ∷ words) = Ok None
 of_words ((letter ∷ letters) ∷ words) =
     if letter == 35 then Ok None
-    else and_then (read_at (value_of_keyword ends (letter ∷ letters)) (letter ∷ letters) words) (λ line. Ok (Some line))
+    else and_then (read_at (value_of_keyword ends (letter ∷ letters)) (letter ∷ letters) words) if_fit
 
 -- what a line says, without its line feed
 abbrev pub line_of : List ℕ → Result (Option Line) LineFault

@@ -5,6 +5,8 @@ pub mod Fields
 pub mod Kinds
 pub mod Scripts
 pub mod Refusals
+pub mod Outcomes
+pub mod Counters
 pub mod Numbers
 pub mod Printed
 pub mod Runs

@@ -1,7 +1,7 @@
 -- The numbers and the names by which refusals are printed.
 use Rattle.std.specs.Prelude.{ℕ, List, codes}
-use Rattle.macsec_suite.specs.declared.Refusal.{Refusal}
-use Rattle.macsec_suite.specs.declared.Refusal.TheVariants.{KeyLength, Offset, KeyNumberUsed, KeyRepeated, NoKey, KeyRetired, KeyInUse, OwnSci, ScTaken, ScFull, NoSc, AnTaken, NoSa, PnRange, PnLower, PnFloor, SsciOwn, Window, SciForm, Exhausted}
+use Rattle.macsec_suite.specs.declared.refusal.Refusal.{Refusal}
+use Rattle.macsec_suite.specs.declared.refusal.Refusal.TheVariants.{KeyLength, Offset, KeyNumberUsed, KeyRepeated, NoKey, KeyRetired, KeyInUse, OwnSci, ScTaken, ScFull, NoSc, AnTaken, NoSa, PnRange, PnLower, PnFloor, SsciOwn, Window, SciForm, Exhausted}
 
 -- a refusal as it is told
 abbrev pub refusal_text : Refusal → List ℕ

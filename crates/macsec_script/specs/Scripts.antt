@@ -1,8 +1,6 @@
 -- A script: its lines that are not skipped, with their numbers, or its first fault.
-use Rattle.std.specs.Prelude.{ℕ, ◌+◌, ◌-◌, ◌||◌, List, [], ◌∷◌, length, Bool, not, is_some, nat_lt, if◌then◌else◌, Option, Some, None, Result, Ok, Err}
-use Rattle.macsec_secy.specs.declared.EndConfig.{EndConfig}
-use Rattle.macsec_secy.specs.Configs.{config_fault}
-use Rattle.macsec_script.specs.declared.lines.End.TheVariants.{A, B}
+use Rattle.std.specs.Prelude.{ℕ, ◌+◌, ◌-◌, ◌||◌, List, [], ◌∷◌, length, Bool, nat_lt, if◌then◌else◌, Option, Some, None, Result, Ok, Err}
+use Rattle.macsec_link.specs.declared.End.TheVariants.{A, B}
 use Rattle.macsec_script.specs.declared.lines.Line.{Line}
 use Rattle.macsec_script.specs.declared.lines.Line.TheVariants as line
 use Rattle.macsec_script.specs.declared.lines.LineFault.{LineFault}
@@ -10,7 +8,7 @@ use Rattle.macsec_script.specs.declared.lines.LineFault.TheVariants as fault
 use Rattle.macsec_script.specs.declared.script.Place.{Place}
 use Rattle.macsec_script.specs.declared.script.Place.TheVariants.{EndA, EndB, Rest}
 use Rattle.macsec_script.specs.declared.faults.ScriptFault.{ScriptFault}
-use Rattle.macsec_script.specs.declared.faults.ScriptFault.TheVariants.{Word, Ends, LineLong, ScriptLong, Memory}
+use Rattle.macsec_script.specs.declared.faults.ScriptFault.TheVariants.{Word, Count, Hex, Number, Ends, LineLong, ScriptLong, Memory}
 use Rattle.macsec_script.specs.Words.{lines_of}
 use Rattle.macsec_script.specs.Fields.{map_ok}
 use Rattle.macsec_script.specs.Kinds.{line_of, and_then}
@@ -20,13 +18,13 @@ use Rattle.macsec_script.specs.Limits.{max_script_len, max_line_count}
 abbrev pub NumberedLine : Type 0
 NumberedLine = ℕ × Line
 
--- a line that the program does not take is at fault by Word, whatever is wrong with it
+-- the fault of a script at the fault of its line n
 abbrev pub at_line : ℕ → LineFault → ScriptFault
 at_line n fault.Word = Word n
-at_line n fault.Count = Word n
-at_line n fault.Hex = Word n
-at_line n fault.Number = Word n
-at_line n fault.Ends = Word n
+at_line n fault.Count = Count n
+at_line n fault.Hex = Hex n
+at_line n fault.Number = Number n
+at_line n fault.Ends = Ends n
 at_line n fault.LineLong = LineLong n
 at_line n fault.Memory = Memory
 
@@ -34,18 +32,11 @@ abbrev pub result_at_line : {X : Type 0} → ℕ → Result X LineFault → Resu
 result_at_line n (Ok x) = Ok x
 result_at_line n (Err fault) = Err (at_line n fault)
 
--- an endpoint can be made of the configuration
-abbrev pub is_good : EndConfig → Bool
-is_good config = not (is_some (config_fault config))
-
-abbrev pub only_if : Bool → Place → Option Place
-only_if b place = if b then Some place else None
-
--- what a script wants after a line that it wants: both ends, and then lines of A
+-- what a script wants after a line that it wants: both ends, and then lines of another kind
 abbrev pub place_after : Place → Line → Option Place
-place_after EndA (line.End A config) = only_if (is_good config) EndB
+place_after EndA (line.End A config) = Some EndB
 place_after EndA other = None
-place_after EndB (line.End B config) = only_if (is_good config) Rest
+place_after EndB (line.End B config) = Some Rest
 place_after EndB other = None
 place_after Rest (line.End e config) = None
 place_after Rest other = Some Rest
@@ -58,7 +49,7 @@ at_script_end Rest n = Ok []
 
 -- the place after line n, or the fault of a line that is not wanted there
 abbrev pub next_place : ℕ → Option Place → Result Place ScriptFault
-next_place n None = Err (Word n)
+next_place n None = Err (Ends n)
 next_place n (Some place) = Ok place
 
 -- a line, where it is not skipped, before the lines that follow it

@@ -1,8 +1,7 @@
 //! What goes wrong in a script or in its run, as a line on standard error and as the program's status.
 
-ghost use Rattle.std.specs.Prelude.{◌≡◌, OnOk, MatchResult, Ok, Err};
+ghost use Rattle.std.specs.Prelude.{◌≡◌, OnOk};
 ghost use Rattle.std.specs.Io.KnownBytes.{Appends};
-ghost use Rattle.macsec_script.specs.declared.faults.ScriptFault.TheVariants.{Write};
 ghost use Rattle.macsec_script.specs.Faults.{fault_line, fault_name, fault_status, fault_text, text_at};
 
 use std::io::{self, Write};
@@ -11,21 +10,22 @@ use thiserror::Error;
 /// Why a script is not run to its end. The first six are told with the number of their line, from 1.
 #[derive(Clone, Copy, Debug, Error)]
 pub enum ScriptFault {
-    /// A line that the program does not take at its place, whatever is wrong with it.
-    #[error("line {0} is none that can stand there")]
+    /// A line's keyword is unknown, or a word of it is none of those that can stand there.
+    #[error("line {0} has an unknown word")]
     Word(u32),
-    /// A line has too few words or too many. No script gets this fault yet: such a line is `Word`.
+    /// A line has too few words or too many.
     #[error("line {0} has too few words or too many")]
     Count(u32),
-    /// A word is not the hex text of as many octets as are wanted. Such a line is `Word` yet.
+    /// A word is not the hex text of as many octets as are wanted.
     #[error("line {0} has a word that is no such hex text")]
     Hex(u32),
-    /// A word is not a decimal number in its range. Such a line is `Word` yet.
+    /// A word is not a decimal number in its range.
     #[error("line {0} has a word that is no number in its range")]
     Number(u32),
-    /// The script ends after its first line and before its second, skipped ones aside; the number is its
-    /// last line's, skipped or not.
-    #[error("the script ends too early, at line {0}")]
+    /// A line stands in a wrong place, as the first two lines are those of end A and of end B and no other is an
+    /// `end` line, or the tag form of an end does not fit its SCI; or the script ends before the line of end B, and
+    /// the number is its last line's, skipped or not.
+    #[error("line {0} is not in its place, or makes no end")]
     Ends(u32),
     /// A line has more than 20,000 octets, without its line feed.
     #[error("line {0} is too long")]
@@ -106,15 +106,5 @@ fn tell_name<W: Write>(writer: &mut W, line: Option<u32>, name: &str) -> io::Res
     match line {
         Some(n) => writeln!(writer, "macsec: line {n}: {name}"),
         None => writeln!(writer, "macsec: {name}"),
-    }
-}
-
-/// A write that failed, as the fault of a script.
-pub fn write_fault(written: io::Result<()>) -> Result<(), ScriptFault>
-    ensures { MatchResult written (λ _. result ≡ Ok tt) (λ _. result ≡ Err Write) }
-{
-    match written {
-        Ok(()) => Ok(()),
-        Err(_) => Err(ScriptFault::Write),
     }
 }

@@ -6,8 +6,9 @@ ghost use Rattle.macsec_script.specs.Failures.{FailsAs, LeavesOutput, NamedGives
 ghost use Rattle.macsec_script.specs.Runs.{LeavesText, RunGives};
 
 use crate::failures::Failure;
-use crate::faults::{ScriptFault, write_fault};
+use crate::faults::ScriptFault;
 use crate::running::run_script;
+use crate::writing::write_fault;
 use std::alloc::Global;
 use std::fs;
 use std::io::{self, Read, Write};

@@ -2,20 +2,21 @@
 
 ghost use Rattle.std.specs.Prelude.{◌≡◌, flat_map, IfErr, OnOk, Some};
 ghost use Rattle.std.specs.Io.KnownBytes.{Appends};
-ghost use Rattle.hex.specs.Hex.{encode_lower};
 ghost use Rattle.macsec_tx.specs.Transmit.{tx_row};
 ghost use Rattle.macsec_rx.specs.Channels.{rx_row};
 ghost use Rattle.macsec_script.specs.declared.faults.ScriptFault.TheVariants.{Write};
 ghost use Rattle.macsec_script.specs.Numbers.{association_numbers, channel_text, mode_text, numbers_text, packet_number_text, rx_text, state_text, tx_text};
 ghost use Rattle.macsec_script.specs.Runs.{Prints};
 
-use crate::faults::{ScriptFault, write_fault};
-use macsec_secy::{An, RxRow, Sci, Secy, TxRow};
+use crate::faults::ScriptFault;
+use crate::writing::{write_fault, write_hex};
+use macsec_link::{An, Sci, Secy};
+use macsec_secy::{RxRow, TxRow};
 use std::fmt;
 use std::io::{self, Write};
 
 /// The most receive channels of an endpoint.
-const MAX_CHANNEL_COUNT: usize = 8;
+pub const MAX_CHANNEL_COUNT: usize = 8;
 
 /// A packet number, which prints itself in hex, with leading zeros up to 16 digits.
 #[derive(Clone, Copy)]
@@ -86,15 +87,6 @@ fn write_tx_rows<W: Write>(writer: &mut W, n: u32, endpoint: &Secy) -> io::Resul
     Ok(())
 }
 
-/// Writes an SCI in hex.
-fn write_sci<W: Write>(writer: &mut W, sci: Sci) -> io::Result<()>
-    ensures { OnOk result (Appends (W.contents writer.old) (W.contents writer.new) (encode_lower sci.0)) }
-{
-    let mut digits = [0; 16];
-    hex::encode_to_slice(sci.0, &mut digits).unwrap();
-    writer.write_all(&digits)
-}
-
 /// Writes the line of a receive association, where there is one.
 fn write_rx_row<W: Write>(writer: &mut W, n: u32, row: Option<RxRow>) -> io::Result<()>
     ensures { OnOk result (Appends (W.contents writer.old) (W.contents writer.new) (rx_text n row)) }
@@ -108,7 +100,7 @@ fn write_rx_row<W: Write>(writer: &mut W, n: u32, row: Option<RxRow>) -> io::Res
     let lowest = PacketNumber(row.lowest);
     let state = state_text(row.on);
     write!(writer, "{n} rx ")?;
-    write_sci(writer, row.sci)?;
+    write_hex(writer, &row.sci.0)?;
     writeln!(writer, " {an} {key} {next} {lowest} {state}")
 }
 

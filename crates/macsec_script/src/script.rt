@@ -1,15 +1,15 @@
-//! A script as its lines: those of the two ends, and then those of A.
+//! A script as its lines: those of the two ends, and then the others.
 
 ghost use Rattle.std.specs.Prelude.{◌≡◌, ◌≤◌, length, map};
 ghost use Rattle.macsec_script.specs.Limits.{max_line_count};
 ghost use Rattle.macsec_script.specs.Fields.{map_ok};
-ghost use Rattle.macsec_script.specs.Scripts.{place_after, is_good, at_line, lines_from, script_of};
+ghost use Rattle.macsec_script.specs.Scripts.{place_after, at_line, lines_from, script_of};
 ghost use Rattle.macsec_script.specs.Runs.{Parses};
 
 use crate::faults::ScriptFault;
-use crate::lines::{End, Line, LineFault, parse_line};
+use crate::lines::{Line, LineFault, parse_line};
 use crate::words::lines;
-use macsec_secy::EndConfig;
+use macsec_link::End;
 use std::alloc::Global;
 
 /// The octets of the longest script.
@@ -18,7 +18,7 @@ pub const MAX_SCRIPT_LEN: usize = 1_048_576;
 /// The lines of the longest script.
 const MAX_LINE_COUNT: usize = 65_536;
 
-/// What a script wants next: the line of end A, that of end B, or lines of A.
+/// What a script wants next: the line of end A, that of end B, or other lines.
 #[derive(Clone, Copy)]
 pub enum Place {
     EndA,
@@ -44,7 +44,7 @@ fn after_end_a(line: &Line) -> Option<Place>
     ensures { result ≡ place_after Place.EndA line.now }
 {
     match line {
-        Line::End(End::A, config) if is_good(config) => Some(Place::EndB),
+        Line::End(End::A, _) => Some(Place::EndB),
         _ => None,
     }
 }
@@ -54,12 +54,12 @@ fn after_end_b(line: &Line) -> Option<Place>
     ensures { result ≡ place_after Place.EndB line.now }
 {
     match line {
-        Line::End(End::B, config) if is_good(config) => Some(Place::Rest),
+        Line::End(End::B, _) => Some(Place::Rest),
         _ => None,
     }
 }
 
-/// The place after a line of A.
+/// The place after a line that is no `end` line.
 fn after_rest(line: &Line) -> Option<Place>
     ensures { result ≡ place_after Place.Rest line.now }
 {
@@ -69,21 +69,18 @@ fn after_rest(line: &Line) -> Option<Place>
     }
 }
 
-/// Can an endpoint be made of the configuration?
-fn is_good(config: &EndConfig) -> bool
-    ensures { result ≡ is_good config.now }
-{
-    config.fault().is_none()
-}
-
 /// The fault of a script at the fault of its line `n`.
 fn at_line(n: u32, fault: LineFault) -> ScriptFault
     ensures { result ≡ at_line n fault }
 {
     match fault {
+        LineFault::Word => ScriptFault::Word(n),
+        LineFault::Count => ScriptFault::Count(n),
+        LineFault::Hex => ScriptFault::Hex(n),
+        LineFault::Number => ScriptFault::Number(n),
+        LineFault::Ends => ScriptFault::Ends(n),
         LineFault::LineLong => ScriptFault::LineLong(n),
         LineFault::Memory => ScriptFault::Memory,
-        _ => ScriptFault::Word(n),
     }
 }
 
@@ -102,7 +99,7 @@ fn parse_lines(alloc: Global, lines: &[&[u8]]) -> Result<Vec<(u32, Line)>, Scrip
             Err(fault) => return Err(at_line(n, fault)),
         };
         let Some(next) = place.after(&line) else {
-            return Err(ScriptFault::Word(n));
+            return Err(ScriptFault::Ends(n));
         };
         place = next;
         if said.push((n, line)).is_err() {

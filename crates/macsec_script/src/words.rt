@@ -1,17 +1,16 @@
 //! Lines as words, and words as numbers, octets and keywords.
 
-ghost use Rattle.std.specs.Prelude.{◌≡◌, ◌==◌, ◌<◌, map, IfSome, IfOk};
+ghost use Rattle.std.specs.Prelude.{◌≡◌, ◌==◌, ◌<◌, ◌-◌, ◌^◌, map, IfSome, IfOk};
 ghost use Rattle.std.specs.List.{slice_split};
 ghost use Rattle.hex.specs.Hex.{hex_digit_value};
 ghost use Rattle.macsec_script.specs.Words.{lines_of, words_of, without_return};
 ghost use Rattle.macsec_script.specs.Numerals.{decimal_in, packet_number, octets_of, some_octets};
-ghost use Rattle.macsec_script.specs.Fields.{value_of_keyword, ends, suites, forms, protections, switches, modes, map_ok, as_sci, as_ssci, key_of_word};
+ghost use Rattle.macsec_script.specs.Fields.{value_of_keyword, ends, suites, forms, protections, switches, modes, map_ok, as_octet, as_sci, as_ssci, key_of_word};
 ghost use Rattle.macsec_script.specs.Runs.{Answers};
 
-use crate::lines::{End, Frame, LineFault};
+use crate::lines::LineFault;
 use hex::FromHexError;
-use macsec_aes::Key;
-use macsec_secy::{Mode, Sci, Suite, TagForm};
+use macsec_link::{An, End, Frame, Key, Mode, Sci, Suite, TagForm};
 use std::alloc::{AllocError, Global};
 
 /// The pieces of a text between its line feeds.
@@ -79,6 +78,30 @@ pub fn decimal(low: u64, high: u64, word: &[u8]) -> Result<u64, LineFault>
     Ok(number)
 }
 
+/// An association number.
+pub fn association(word: &[u8]) -> Result<An, LineFault>
+    ensures { result ≡ decimal_in 0 3 word.now }
+{
+    match An::new(decimal(0, 3, word)? as u8) {
+        Some(an) => Ok(an),
+        None => Err(LineFault::Number),
+    }
+}
+
+/// The number of a key.
+pub fn key_number(word: &[u8]) -> Result<u8, LineFault>
+    ensures { result ≡ decimal_in 0 255 word.now }
+{
+    Ok(decimal(0, 255, word)? as u8)
+}
+
+/// The number of a link frame, or a place in one.
+pub fn frame_number(word: &[u8]) -> Result<u32, LineFault>
+    ensures { result ≡ decimal_in 0 (2 ^ 32 - 1) word.now }
+{
+    Ok(decimal(0, u32::MAX as u64, word)? as u32)
+}
+
 /// The value of a hex digit.
 fn hex_digit(octet: u8) -> Option<u8>
     ensures value { result ≡ hex_digit_value octet }
@@ -118,6 +141,14 @@ pub fn fixed_octets<const N: usize>(word: &[u8]) -> Result<[u8; N], LineFault>
         Ok(()) => Ok(octets),
         Err(_) => Err(LineFault::Hex),
     }
+}
+
+/// An octet in hex.
+pub fn octet(word: &[u8]) -> Result<u8, LineFault>
+    ensures { result ≡ map_ok as_octet (octets_of 1 word.now) }
+{
+    let octets: [u8; 1] = fixed_octets(word)?;
+    Ok(octets[0])
 }
 
 /// An SCI in hex.

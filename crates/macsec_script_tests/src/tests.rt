@@ -1,12 +1,15 @@
 //! The rows of a test are scripts and what they print, as pieces of text that are joined. In what is
 //! wanted a question mark stands for any octet.
 
+mod channels;
 mod commands;
 mod devices;
 mod extended;
 mod failures;
 mod frames;
 mod numbers;
+mod receiving;
+mod replay;
 mod scripts;
 
 use macsec_script::{Failure, ScriptFault, run_script, tell};

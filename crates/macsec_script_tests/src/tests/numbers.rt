@@ -1,10 +1,10 @@
 //! The packet numbers of an endpoint, as they are shown.
 
 use super::{ANY_58, DONE, ENDS, KEY, KEY_256, Row, SEND, XPN_ENDS, assert_rows, joined};
-use macsec_script::{LineFault, parse_line, print_numbers};
-use macsec_secy::{
-    An, Command, EndConfig, Key, NewKey, Refusal, Sci, Secy, Sent, Suite, TagForm, Verdict,
+use macsec_script::{
+    An, Command, EndConfig, Key, NewKey, Refusal, Sci, Secy, Suite, TagForm, Verdict, print_numbers,
 };
+use macsec_secy::Sent;
 use std::alloc::Global;
 use std::process::Abort;
 use std::test::Fail;
@@ -109,15 +109,6 @@ const ROWS: &[Row] = &[
 #[test]
 fn numbers(rt: HostRuntime) -> Result<(), Fail> {
     Ok(assert_rows(&rt, ROWS)?)
-}
-
-/// The line has two words, and is A's.
-#[test]
-fn faults(rt: HostRuntime) -> Result<(), Fail> {
-    let alloc = rt.alloc();
-    assert!(&rt; matches!(parse_line(alloc, b"A numbers 1"), Err(LineFault::Count)));
-    assert!(&rt; matches!(parse_line(alloc, b"B numbers"), Err(LineFault::Word)));
-    Ok(())
 }
 
 fn an(rt: &impl Abort, number: u8) -> An {

@@ -34,55 +34,88 @@ fn scripts(rt: HostRuntime) -> Result<(), Fail> {
     Ok(assert_rows(&rt, ROWS)?)
 }
 
-/// A line that the program does not take is at fault by `Word`.
-const LINES_AT_FAULT: [&str; 16] = [
-    "A send 0g",
-    "A sendu",
-    "A protect maybe",
-    "A validate loose",
-    "A replay on",
-    "A replay off 18446744073709551616",
-    "A tag none",
-    "A key 0 ad7a2bd03eac835a6f620fdcb506b345 0 00000001",
-    "A retire 256",
-    "A txdel 4",
-    "B send 00",
-    "A numbers 1",
-    "A Numbers",
-    "A number",
-    "B numbers",
-    "numbers",
+/// A line behind the two ends, and its fault.
+type Faulty = (&'static str, &'static str);
+
+/// The first word, and after an end's letter the second, comes first, then the number of words, and then the words
+/// from left to right.
+const LINES_AT_FAULT: [Faulty; 32] = [
+    ("B frob", "Word"),
+    ("C send 00", "Word"),
+    ("send 00", "Word"),
+    ("deliver 0", "Word"),
+    ("numbers", "Word"),
+    ("A alter 0 0 00", "Word"),
+    ("A Numbers", "Word"),
+    ("A protect maybe", "Word"),
+    ("A validate loose", "Word"),
+    ("A tag none", "Word"),
+    ("A txsa 0 0 1 none", "Word"),
+    ("A", "Count"),
+    ("A send", "Count"),
+    ("A replay on", "Count"),
+    ("A protect maybe x", "Count"),
+    ("end C", "Count"),
+    ("B counters 1", "Count"),
+    (
+        "A key 0 ad7a2bd03eac835a6f620fdcb506b345 0 00000001",
+        "Count",
+    ),
+    ("A send 0", "Hex"),
+    ("A send 0g", "Hex"),
+    ("A rxsc 00", "Hex"),
+    ("alter 0 0 100", "Hex"),
+    ("A txsa 0 0 00000000000000001 int", "Hex"),
+    ("B rxsa 12153524c0895e8 4 256 0", "Hex"),
+    ("A key 4096 ad7a2bd03eac835a6f620fdcb506b345 0", "Number"),
+    ("A txon 4", "Number"),
+    ("A replay on 18446744073709551616", "Number"),
+    ("A retire 000000000000000000000", "Number"),
+    ("B deliver 4294967296", "Number"),
+    ("alter 0 4294967296 g", "Number"),
+    ("end A gcm128 12153524c0895e81 63 es", "Number"),
+    ("end A gcm128 12153524c0895e81 1518 sci", "Ends"),
 ];
 
 #[test]
 fn lines_at_fault(rt: HostRuntime) -> Result<(), Fail> {
-    for line in LINES_AT_FAULT {
+    for (line, fault) in LINES_AT_FAULT {
         let script = joined(rt.alloc(), &[ENDS, line, "\nfrob\n"])?;
-        assert_fails(&rt, script.as_str(), "macsec: line 3: Word\n");
+        let told = joined(rt.alloc(), &["macsec: line 3: ", fault, "\n"])?;
+        assert_fails(&rt, script.as_str(), told.as_str());
     }
     Ok(())
 }
 
-/// The first fault is told.
+/// The first fault is told, and a line in a wrong place by `Ends`.
 #[test]
 fn scripts_at_fault(rt: HostRuntime) -> Result<(), Fail> {
     for (pieces, told) in [
         (["frob\n", ""], "macsec: line 1: Word\n"),
         (
             ["end A gcm128 12153524c0895e81 1518 es\n", ""],
-            "macsec: line 1: Word\n",
+            "macsec: line 1: Ends\n",
+        ),
+        (
+            ["end A gcm128 12153524c0895e81 1518 sci\n", COMMANDS],
+            "macsec: line 2: Ends\n",
         ),
         (
             ["end A gcm128 12153524c0895e81 1518 sci\n", "# the end\n"],
             "macsec: line 2: Ends\n",
         ),
-        ([ENDS, ENDS], "macsec: line 3: Word\n"),
+        (
+            ["end B gcm128 12153524c0895e81 1518 sci\n", ""],
+            "macsec: line 1: Ends\n",
+        ),
+        (["A numbers\n", ENDS], "macsec: line 1: Ends\n"),
+        ([ENDS, ENDS], "macsec: line 3: Ends\n"),
     ] {
         let script = joined(rt.alloc(), &pieces)?;
         assert_fails(&rt, script.as_str(), told);
     }
     let script = joined(rt.alloc(), &[ENDS, COMMANDS, ENDS])?;
-    assert_fails(&rt, script.as_str(), "macsec: line 6: Word\n");
+    assert_fails(&rt, script.as_str(), "macsec: line 6: Ends\n");
     Ok(())
 }
 

@@ -12,6 +12,6 @@ joined n sci an key next lowest state = simp append_assoc refl
 
 pub returns : goal.returns
 returns g c =
-    let front = Appends-trans _ _ _ _ _ c.in_ok-write.ensures.bytes c.in_ok-write_sci.ensures in
+    let front = Appends-trans _ _ _ _ _ c.in_ok-write.ensures.bytes c.in_ok-write_hex.ensures in
     rw c.in-Some.is
     (end_of_text c.writeln.result _ _ _ _ _ _ front c.writeln.ensures.bytes (rw (c.number-an.ensures.value, c.state_text-state.ensures) (joined _ _ _ _ _ _ _)))

@@ -1,5 +1,6 @@
 use Rattle.std.proofs.KnownBytes.{Keeps-refl}
 use Rattle.std.proofs.lemmas.Result.{err_from_is_err_and}
+use Rattle.macsec_script.proofs.GoodEnds.{script_ends_good}
 use Rattle.macsec_script.proofs.Unwritten.{at_fault_read, after_running, left_alone, only_written}
 use Rattle.macsec_script.proofs.running.run_script.Goals as goal
 
@@ -21,3 +22,6 @@ returns-clause-run g c =
 
 pub returns-clause-unwritten : goal.returns-clause-unwritten
 returns-clause-unwritten g c = only_written _ _ _ c.print_script.result c.print_script.ensures
+
+pub print_script-requires : goal.print_script-requires
+print_script-requires g c = script_ends_good c.as_slice.result.now c.in_ok-lines.lines.items _ c.in_ok-lines.ensures c.as_slice-2.ensures.value
