@@ -1,4 +1,4 @@
-//! A full link of two ends: A sends its client's frames encrypted, and each is delivered to B.
+//! A full link of two ends: A sends client frames encrypted, and each is delivered to B.
 
 use macsec_link::{
     An, Command, End, EndConfig, Event, Frame, Key, NewKey, Outcome, Sci, Suite, TagForm, Verdict,
@@ -7,10 +7,10 @@ use macsec_link::{
 use std::alloc::Global;
 use std::time::Instant;
 
-/// The frames of a full link.
+/// The number of frames of a full link.
 const FRAME_COUNT: u32 = 65_536;
 
-/// The octets of a client's frame.
+/// The number of octets of a client frame.
 const FRAME_LENGTH: usize = 1518;
 
 const SENDER: Sci = Sci([2, 0, 0, 0, 0, 1, 0, 1]);
@@ -76,7 +76,7 @@ fn ready_world(alloc: Global) -> anyhow::Result<World> {
     Ok(world)
 }
 
-/// How many of the link's frames are passed when they come to B, in their order.
+/// The number of the link's frames that are passed when they come to B, in their order.
 fn passed_count(world: &mut World) -> anyhow::Result<u32> {
     let mut passed = 0;
     for n in 0..FRAME_COUNT {

@@ -1,5 +1,5 @@
-//! Octets per second of the plain cipher: AES block by block, GHASH, and sealing; and how long a full link
-//! of two ends takes. With no words it measures nothing and prints nothing.
+//! Octets per second of the plain cipher: AES block by block, GHASH, and sealing; and how long a full link of two ends
+//! takes. Without an argument it measures nothing and prints nothing.
 #![tactic(auto)]
 
 mod link;
@@ -12,14 +12,14 @@ use std::num::saturating_f64_to_u64;
 use std::time::{Duration, Instant};
 use std::{env, io};
 
-/// A text that is worked on again and again: its octets, and how often.
+/// A text that is processed again and again: its number of octets, and how often.
 #[derive(Clone, Copy)]
 struct Work {
     length: u16,
     turns: u32,
 }
 
-/// Short frames, usual ones and the longest: some four million octets of each.
+/// Short, usual and longest frames: some four million octets of each.
 const WORKS: [Work; 3] = [
     Work {
         length: 64,
@@ -37,7 +37,7 @@ const WORKS: [Work; 3] = [
 
 const KEY: Key = Key::K128([0x2b; 16]);
 
-/// How long a work took, and an octet of what it made, so that it is made.
+/// How long a measured function took, and an octet of its result, so that the result is computed.
 type Measured = (Duration, u8);
 
 fn main(rt: HostRuntime) -> anyhow::Result<()> {
@@ -61,7 +61,7 @@ fn report(rt: &HostRuntime, name: &str, work: Work, measured: Measured) -> io::R
     println!(rt; "{name} {length} {rate} octets per second, last octet {last:02x}")
 }
 
-/// Encrypts blocks one after another, each the last one's result.
+/// Encrypts blocks one after another, each the result of the one before.
 fn time_encrypt(rt: &HostRuntime, work: Work) -> io::Result<Measured> {
     let schedule = Schedule::expand(&KEY);
     let start = Instant::now(rt)?;

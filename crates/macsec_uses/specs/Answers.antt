@@ -1,13 +1,13 @@
--- What the callers answer, of the machine's outputs.
+-- What the callers return, of the machine's outputs.
 use Rattle.std.specs.Prelude.{ℕ, length, Bool, true, false, Option, Some, None, Result, Ok, Err}
-use Rattle.macsec_tag.specs.declared.Sci.{Sci}
+use Rattle.macsec_tag.specs.declared.identifiers.Sci.{Sci}
 use Rattle.macsec_tag.specs.Table.{Reading, untagged, bad, tagged}
 use Rattle.macsec_rx.specs.declared.Verdict.{Verdict}
 use Rattle.macsec_rx.specs.declared.Verdict.TheVariants.{Untagged, NoTag, BadTag, Reserved, NoSa, NoSaError, Late, NotValid, Unchecked, Delayed, Invalid, Passed}
-use Rattle.macsec_secy.specs.declared.FrameFault.{FrameFault}
+use Rattle.macsec_secy.specs.declared.fault.FrameFault.{FrameFault}
 use Rattle.macsec_secy.specs.Step.{Output, done, refused, dropped_no_sa, dropped_too_long, leaves, received, fault}
 
--- how many octets leave, or why the frame was not taken
+-- how many octets are sent, or the fault of the frame
 abbrev pub octets_leaving : Output → Result ℕ FrameFault
 octets_leaving done = Ok 0
 octets_leaving (refused r) = Ok 0
@@ -17,7 +17,7 @@ octets_leaving dropped_no_sa = Ok 0
 octets_leaving dropped_too_long = Ok 0
 octets_leaving (received verdict row shown delivered) = Ok 0
 
--- the verdict is that the frame is genuine and in time
+-- the verdict is that the frame is valid and not late
 abbrev pub is_passed : Verdict → Bool
 is_passed Untagged = false
 is_passed NoTag = false
@@ -32,7 +32,7 @@ is_passed Delayed = false
 is_passed Invalid = false
 is_passed Passed = true
 
--- a received frame was found genuine and in time, or why it was not taken
+-- a received frame was found valid and not late, or has a fault
 abbrev pub passes : Output → Result Bool FrameFault
 passes done = Ok false
 passes (refused r) = Ok false

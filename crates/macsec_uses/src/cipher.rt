@@ -8,7 +8,7 @@ ghost use Rattle.macsec_gcm.specs.Gcm.{open_of, seal_of};
 use macsec_aes::Key;
 use macsec_gcm::GcmKey;
 
-/// Encrypts a text of at most 1,500 octets in place under a key and an IV, and gives its tag. The caller uses no
+/// Encrypts a text of at most 1,500 octets in place under a key and an IV, and returns its tag. The caller must use no
 /// IV twice under a key.
 pub fn sealed(key: Key, iv: &[u8; 12], text: &mut [u8]) -> [u8; 16]
     requires { length text.old ≤ 1500 }
@@ -17,7 +17,7 @@ pub fn sealed(key: Key, iv: &[u8; 12], text: &mut [u8]) -> [u8; 16]
     GcmKey::new(key).seal(iv, &[], text)
 }
 
-/// Decrypts such a text in place where the tag is its own; else it is as it was.
+/// Decrypts such a text in place if the tag is valid; else leaves it as it is.
 pub fn opened(key: Key, iv: &[u8; 12], text: &mut [u8], tag: &[u8; 16]) -> bool
     requires { length text.old ≤ 1500 }
     ensures gives { open_of (key_bytes key) iv.now [] text.old tag.now ≡ (if result then Some text.new else None) }

@@ -1,10 +1,11 @@
-//! An endpoint is made, is given a key and associations, sends, receives, and shows its counters.
+//! Creates an endpoint, gives it a key and associations, sends, receives, and shows its counters.
 
 ghost use Rattle.std.specs.Prelude.{◌≡◌, IfOk, option_map};
 ghost use Rattle.macsec_secy.specs.Answers.{rx_counters_of};
 ghost use Rattle.macsec_secy.specs.Sound.{IsSound};
 ghost use Rattle.macsec_secy.specs.Step.{client_frame, link_frame, step};
 ghost use Rattle.macsec_uses.specs.Answers.{octets_leaving, passes};
+ghost use Rattle.macsec_uses.specs.Ready.{key_of, ready_receiver, ready_sender};
 
 use macsec_secy::{
     An, Command, EndConfig, FrameFault, Key, NewFault, NewKey, Refusal, Sci, Secy, Sent, Suite,
@@ -16,7 +17,7 @@ use thiserror::Error;
 /// Why an endpoint is not ready to send or to receive.
 #[derive(Clone, Copy, Debug, Error)]
 pub enum SetupFault {
-    /// It was not made.
+    /// It was not created.
     #[error(transparent)]
     New(#[from] NewFault),
     /// It refused a command.
@@ -26,7 +27,7 @@ pub enum SetupFault {
 
 /// A key of GCM-AES-128, of number 0, with the confidentiality offset 0.
 pub fn key_of(bytes: [u8; 16]) -> NewKey
-    ensures { result.number ≡ 0 }
+    ensures { result ≡ key_of bytes }
 {
     NewKey {
         number: 0,
@@ -44,9 +45,10 @@ pub fn association_number() -> An
     An::new(0).unwrap()
 }
 
-/// An endpoint of an SCI that protects its client's frames under a key, encrypted, from packet number 1 on.
+/// An endpoint of an SCI that protects client frames under a key, encrypted, from packet number 1 on.
 pub fn sender(alloc: Global, sci: Sci, bytes: [u8; 16]) -> Result<Secy, SetupFault>
-    ensures { IfOk result IsSound }
+    ensures ready { IfOk result (λ s. s ≡ ready_sender sci bytes) }
+    ensures sound { IfOk result IsSound }
 {
     let mut secy = Secy::new(
         alloc,
@@ -72,7 +74,8 @@ pub fn sender(alloc: Global, sci: Sci, bytes: [u8; 16]) -> Result<Secy, SetupFau
 /// An endpoint of an SCI that receives what that sender sends, in the mode Strict and at a replay window of 0,
 /// which are the first values of these options.
 pub fn receiver(alloc: Global, sci: Sci, sender: Sci, bytes: [u8; 16]) -> Result<Secy, SetupFault>
-    ensures { IfOk result IsSound }
+    ensures ready { IfOk result (λ s. s ≡ ready_receiver sci sender bytes) }
+    ensures sound { IfOk result IsSound }
 {
     let mut secy = Secy::new(
         alloc,
@@ -97,30 +100,30 @@ pub fn receiver(alloc: Global, sci: Sci, sender: Sci, bytes: [u8; 16]) -> Result
     Ok(secy)
 }
 
-/// How many octets go to the link for a client's frame: none where it is dropped.
+/// The number of octets sent to the link for a client frame: none if it is dropped.
 pub fn octets_sent(secy: &mut Secy, frame: &[u8]) -> Result<usize, FrameFault>
     ensures octets { result ≡ octets_leaving (step secy.old (client_frame frame.now)).0 }
     ensures after { secy.new ≡ (step secy.old (client_frame frame.now)).1 }
 {
     match secy.send(frame)? {
-        // `under` is the number of the key, or `None` where the frame leaves as it is.
+        // `under` is the key number, or `None` if the frame is sent as it is.
         Sent::Link { frame, under: _ } => Ok(frame.len()),
-        // A counter has counted the drop: no association is on, or the frame would be too long.
+        // A counter has counted the drop: no association can send, or the frame would be too long.
         Sent::Dropped(_) => Ok(0),
     }
 }
 
-/// Was a link frame found genuine and in time, and so delivered?
+/// Was a link frame found valid and not late, and so delivered?
 pub fn is_passed(secy: &mut Secy, frame: &[u8]) -> Result<bool, FrameFault>
     ensures passed { result ≡ passes (step secy.old (link_frame frame.now)).0 }
     ensures after { secy.new ≡ (step secy.old (link_frame frame.now)).1 }
 {
     let received = secy.receive(frame)?;
-    // `received.controlled` is the client's frame, lent until the next call.
+    // `received.controlled` is the client frame, borrowed until the next call.
     Ok(received.verdict == Verdict::Passed)
 }
 
-/// How many frames of a sender were found genuine and in time; `None` where it has no channel.
+/// The number of frames of a sender that were found valid and not late; `None` if it has no channel.
 pub fn passed_count(secy: &Secy, sender: Sci) -> Option<u64>
     ensures { result ≡ option_map (λ counters. counters.in_pkts_ok) (rx_counters_of secy.now.rx_counters sender) }
 {

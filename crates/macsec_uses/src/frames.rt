@@ -7,7 +7,7 @@ ghost use Rattle.macsec_uses.specs.Answers.{number_and_sci};
 use macsec_tag::reading::read;
 use macsec_tag::{Read, Sci};
 
-/// The packet number of a frame, 32 bits of it, and the SCI where its SecTAG carries one; `None` where it is
+/// The 32 bits of a frame's packet number in its SecTAG, and the SCI if the SecTAG carries one; `None` if the frame is
 /// untagged, or its SecTAG has a fault.
 pub fn number_and_sci(frame: &[u8]) -> Option<(u32, Option<Sci>)>
     ensures { result ≡ number_and_sci (reading frame.now) }
