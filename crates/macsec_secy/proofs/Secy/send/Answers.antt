@@ -27,14 +27,14 @@ invariant_of-self-in-Plain c =
 
 pub returns-in-Plain : goal.returns-in-Plain
 returns-in-Plain c = (
-      (refl, λ x. tt, search rules),
-      record {
-        after = tt;
-        output = search rules;
-        sum = client_frame_adds c.args.self.now c.args.frame.now;
-        sound = sound (goal.at.returns-in-Plain c).After-next_frame-result;
-      },
-    )
+  (refl, λ x. tt, search rules),
+  record {
+    after = tt;
+    output = search rules;
+    sum = client_frame_adds c.args.self.now c.args.frame.now;
+    sound = sound (goal.at.returns-in-Plain c).After-next_frame-result;
+  },
+)
 
 pub invariant_of-self-in-Made : goal.invariant_of-self-in-Made
 invariant_of-self-in-Made c =
@@ -69,14 +69,14 @@ invariant_of-self-in-NoSa c =
 
 pub returns-in-NoSa : goal.returns-in-NoSa
 returns-in-NoSa c = (
-      (refl, λ x. tt, search rules),
-      record {
-        after = tt;
-        output = search rules;
-        sum = client_frame_adds c.args.self.now c.args.frame.now;
-        sound = sound (goal.at.returns-in-NoSa c).After-next_frame-result;
-      },
-    )
+  (refl, λ x. tt, search rules),
+  record {
+    after = tt;
+    output = search rules;
+    sum = client_frame_adds c.args.self.now c.args.frame.now;
+    sound = sound (goal.at.returns-in-NoSa c).After-next_frame-result;
+  },
+)
 
 pub invariant_of-self-in-TooLong : goal.invariant_of-self-in-TooLong
 invariant_of-self-in-TooLong c =
@@ -86,11 +86,11 @@ invariant_of-self-in-TooLong c =
 
 pub returns-in-TooLong : goal.returns-in-TooLong
 returns-in-TooLong c = (
-      (refl, λ x. tt, search rules),
-      record {
-        after = tt;
-        output = search rules;
-        sum = client_frame_adds c.args.self.now c.args.frame.now;
-        sound = sound (goal.at.returns-in-TooLong c).After-next_frame-result;
-      },
-    )
+  (refl, λ x. tt, search rules),
+  record {
+    after = tt;
+    output = search rules;
+    sum = client_frame_adds c.args.self.now c.args.frame.now;
+    sound = sound (goal.at.returns-in-TooLong c).After-next_frame-result;
+  },
+)
