@@ -34,7 +34,7 @@ use Rattle.macsec_link.specs.Acceptance.{IsDeliveredAs, IsOnLink}
 use Rattle.macsec_link.specs.Step.{world_after, world_at, world_step}
 use Rattle.macsec_link.specs.World.{WorldState, end_of, new_world, other_end}
 use Rattle.macsec_link.specs.Faults.{fault_of}
-use Rattle.macsec_link.specs.Logs.{no_sent_logs}
+use Rattle.macsec_ends.specs.Logs.{no_sent_logs}
 use Rattle.macsec_link.specs.Trace.{Trace}
 use Rattle.macsec_link.proofs.SealedFrames.{Sealed, aad_sent, frame_with, sealed, tag_of, with_tag}
 use Rattle.macsec_link.proofs.TracedSteps.{send_step, sent_by, trace_sent}

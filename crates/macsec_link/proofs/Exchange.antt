@@ -27,7 +27,7 @@ use Rattle.macsec_link.specs.declared.Event.TheVariants.{Deliver, Send}
 use Rattle.macsec_link.specs.Genuine.{IsGenuine, IsGenuineAt}
 use Rattle.macsec_link.specs.Answers.{make_fault}
 use Rattle.macsec_link.specs.Keys.{AgreeOnKey, AgreeOnKeys}
-use Rattle.macsec_link.specs.Logs.{DeliveryLog, no_sent_logs, sent_under}
+use Rattle.macsec_ends.specs.Logs.{DeliveryLog, no_sent_logs, sent_under}
 use Rattle.macsec_link.specs.Origin.{HasStrictOrder, IsStrict, WhileThere}
 use Rattle.macsec_link.specs.Step.{world_after}
 use Rattle.macsec_link.specs.World.{WorldState, new_world}

@@ -29,7 +29,8 @@ use Rattle.macsec_link.specs.declared.End.{End}
 use Rattle.macsec_link.specs.declared.End.TheVariants.{A, B}
 use Rattle.macsec_link.specs.declared.WorldFault.{WorldFault}
 use Rattle.macsec_link.specs.declared.Event.TheVariants.{Deliver, Send}
-use Rattle.macsec_link.specs.World.{EndState, WorldState, end_after, end_of, frame_at, with_end}
+use Rattle.macsec_ends.specs.Ends.{EndState, end_after}
+use Rattle.macsec_link.specs.World.{WorldState, end_of, frame_at, with_end}
 use Rattle.macsec_link.specs.Step as link
 use Rattle.macsec_link.specs.Step.{world_step}
 use Rattle.macsec_link.specs.Faults.{fault_of}
@@ -45,7 +46,7 @@ use Rattle.macsec_link.proofs.Judged.{delivered_in_time, used_in}
 use Rattle.macsec_link.proofs.LinkFrames.{finds}
 use Rattle.macsec_link.proofs.Seals.{sound_end}
 use Rattle.macsec_link.proofs.Sends.{sent_as}
-use Rattle.macsec_link.proofs.SentLogs.{ReadAsSent}
+use Rattle.macsec_link.proofs.ClientFrames.{ReadAsSent}
 use Rattle.macsec_link.proofs.StrictOpenings.{IsOpened, strictly_opened}
 
 -- what a frame that is passed from an association tells of its judgement

@@ -21,7 +21,7 @@ use Rattle.macsec_link.specs.declared.End.TheVariants.{B}
 use Rattle.macsec_link.specs.declared.Event.{Event}
 use Rattle.macsec_link.specs.declared.Event.TheVariants.{Command, Deliver, Inject}
 use Rattle.macsec_link.specs.Genuine.{IsGenuine, IsGenuineAt}
-use Rattle.macsec_link.specs.Logs.{no_sent_logs, sent_under}
+use Rattle.macsec_ends.specs.Logs.{no_sent_logs, sent_under}
 use Rattle.macsec_link.specs.Origin.{IsStrict, WasSentByOther, WhileThere}
 use Rattle.macsec_link.specs.Step.{world_after, world_at}
 use Rattle.macsec_link.specs.Trace.{Trace, new_trace, trace_after, trace_step}

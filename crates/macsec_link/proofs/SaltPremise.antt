@@ -24,7 +24,7 @@ use Rattle.macsec_link.specs.declared.End.TheVariants.{A, B}
 use Rattle.macsec_link.specs.declared.Event.{Event}
 use Rattle.macsec_link.specs.declared.Event.TheVariants.{Command, Deliver, Send}
 use Rattle.macsec_link.specs.Genuine.{IsGenuine, IsGenuineAt}
-use Rattle.macsec_link.specs.Logs.{no_sent_logs}
+use Rattle.macsec_ends.specs.Logs.{no_sent_logs}
 use Rattle.macsec_link.specs.Origin.{HasStrictOrder, IsStrict, IsSubsequence, WasSentInOrder, WhileThere}
 use Rattle.macsec_link.specs.Step.{world_after}
 use Rattle.macsec_link.specs.Trace.{Mark, Trace, new_trace, trace_after, trace_step}

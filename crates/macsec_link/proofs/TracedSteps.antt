@@ -17,7 +17,8 @@ use Rattle.macsec_link.specs.Faults.{fault_of}
 use Rattle.macsec_link.specs.Genuine.{IsGenuine, IsGenuineAt, text_opened, text_opened_in}
 use Rattle.macsec_link.specs.Step.{world_after, world_step}
 use Rattle.macsec_link.specs.Trace.{Trace, marks_by, text_sealed_by, trace_after, trace_step}
-use Rattle.macsec_link.specs.World.{WorldState, end_after, frame_at}
+use Rattle.macsec_link.specs.World.{WorldState, frame_at}
+use Rattle.macsec_ends.specs.Ends.{end_after}
 
 -- ---- one event
 

@@ -1,0 +1,6 @@
+pub mod LivePlaces
+pub mod Heard
+pub mod Commanded
+pub mod SentLogs
+pub mod SentPlaces
+pub mod Logged

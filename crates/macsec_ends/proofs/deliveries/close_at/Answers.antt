@@ -1,0 +1,23 @@
+use Rattle.std.proofs.Common.{◌∙◌, ℕ, List, ap, arith, get_or, length-set, map, refl}
+use Rattle.macsec_ends.specs.Logs.{is_live_at, log_closing}
+use Rattle.macsec_ends.specs.Places.{logs_of}
+use Rattle.macsec_ends.proofs.LivePlaces.{all_within, each_closed, next_changed, with_each}
+use Rattle.macsec_ends.proofs.deliveries.close_at.Goals as goal
+
+pub loop-place-init : goal.loop-place-init
+loop-place-init c = (
+  ap (λ (places : List ℕ). with_each (log_closing (is_live_at c.args.sci c.args.an)) places (logs_of c.args.logs.now.items)) c.requires.live
+      ∙ each_closed (is_live_at c.args.sci c.args.an) (logs_of c.args.logs.now.items),
+  refl,
+)
+
+pub index_mut-requires : goal.index_mut-requires
+index_mut-requires c =
+    omega (arith, all_within c.args.logs.now.items c.args.live.now c.requires.live c.loop-place.place-index 0 c.loop-place-test.true, c.loop-place.invariant.1)
+
+pub loop-place-preserved : goal.loop-place-preserved
+loop-place-preserved c = (
+  next_changed (log_closing (is_live_at c.args.sci c.args.an)) c.loop-place.logs.items c.args.live.now c.loop-place.place-index c.index_mut.result.now c.close_at.new.self
+      (map (log_closing (is_live_at c.args.sci c.args.an)) (logs_of c.args.logs.now.items)) c.loop-place-test.true c.index_mut.ensures.value c.close_at.ensures c.loop-place.invariant.0,
+  length-set c.loop-place.logs.items (get_or c.args.live.now c.loop-place.place-index 0) c.close_at.new.self ∙ c.loop-place.invariant.1,
+)

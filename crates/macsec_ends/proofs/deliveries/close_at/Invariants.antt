@@ -1,0 +1,11 @@
+use Rattle.std.proofs.Common.{◌≡◌, drop, length, map}
+use Rattle.macsec_ends.specs.Logs.{is_live_at, log_closing}
+use Rattle.macsec_ends.specs.Places.{logs_of}
+use Rattle.macsec_ends.proofs.LivePlaces.{with_each}
+use Rattle.macsec_ends.proofs.deliveries.close_at.Given as goal
+
+-- once the logs at the places that are left are closed where that holds, all are
+abbrev pub invariant-loop-place : goal.invariant-loop-place
+invariant-loop-place l =
+    (with_each (log_closing (is_live_at l.sci l.an)) (drop l.place-index l.live) (logs_of l.logs.items) ≡ map (log_closing (is_live_at l.sci l.an)) (logs_of l.initial.logs.items)) ×
+    (length l.logs.items ≡ length l.initial.logs.items)

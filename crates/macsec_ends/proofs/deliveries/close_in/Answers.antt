@@ -1,0 +1,24 @@
+use Rattle.std.proofs.Common.{◌∙◌, ℕ, List, ap, arith, get_or, length-set, map, refl}
+use Rattle.macsec_rx.specs.Channels.{same_sci}
+use Rattle.macsec_ends.specs.Logs.{log_closing}
+use Rattle.macsec_ends.specs.Places.{logs_of}
+use Rattle.macsec_ends.proofs.LivePlaces.{all_within, each_closed, next_changed, with_each}
+use Rattle.macsec_ends.proofs.deliveries.close_in.Goals as goal
+
+pub loop-place-init : goal.loop-place-init
+loop-place-init c = (
+  ap (λ (places : List ℕ). with_each (log_closing (λ log. same_sci log.sci c.args.sci)) places (logs_of c.args.logs.now.items)) c.requires.live
+      ∙ each_closed (λ log. same_sci log.sci c.args.sci) (logs_of c.args.logs.now.items),
+  refl,
+)
+
+pub index_mut-requires : goal.index_mut-requires
+index_mut-requires c =
+    omega (arith, all_within c.args.logs.now.items c.args.live.now c.requires.live c.loop-place.place-index 0 c.loop-place-test.true, c.loop-place.invariant.1)
+
+pub loop-place-preserved : goal.loop-place-preserved
+loop-place-preserved c = (
+  next_changed (log_closing (λ log. same_sci log.sci c.args.sci)) c.loop-place.logs.items c.args.live.now c.loop-place.place-index c.index_mut.result.now c.close_in.new.self
+      (map (log_closing (λ log. same_sci log.sci c.args.sci)) (logs_of c.args.logs.now.items)) c.loop-place-test.true c.index_mut.ensures.value c.close_in.ensures c.loop-place.invariant.0,
+  length-set c.loop-place.logs.items (get_or c.args.live.now c.loop-place.place-index 0) c.close_in.new.self ∙ c.loop-place.invariant.1,
+)

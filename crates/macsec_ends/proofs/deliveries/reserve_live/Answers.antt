@@ -1,0 +1,23 @@
+use Rattle.std.proofs.Common.{◌∙◌, All, arith, get_or, length-set, subst}
+use Rattle.std.proofs.lemmas.List.{take_all}
+use Rattle.macsec_ends.specs.Places.{HasPlaceAt}
+use Rattle.macsec_ends.proofs.LivePlaces.{all_within, more_places, same_logs}
+use Rattle.macsec_ends.proofs.deliveries.reserve_live.Goals as goal
+
+pub index_mut-requires : goal.index_mut-requires
+index_mut-requires c =
+    omega (arith, all_within c.args.logs.now.items c.args.live.now c.requires.live c.loop-place.place-index 0 c.loop-place-test.true, c.loop-place.invariant.1)
+
+pub returns-in_err-reserve_place-clause-same : goal.returns-in_err-reserve_place-clause-same
+returns-in_err-reserve_place-clause-same c =
+    same_logs c.loop-place.logs.items (get_or c.args.live.now c.loop-place.place-index 0) c.index_mut.result.now c.reserve_place.new.self c.index_mut.ensures.value c.reserve_place.ensures.same ∙ c.loop-place.invariant.0
+
+pub loop-place-preserved : goal.loop-place-preserved
+loop-place-preserved c = (
+  same_logs c.loop-place.logs.items (get_or c.args.live.now c.loop-place.place-index 0) c.index_mut.result.now c.reserve_place.new.self c.index_mut.ensures.value c.reserve_place.ensures.same ∙ c.loop-place.invariant.0,
+  length-set c.loop-place.logs.items (get_or c.args.live.now c.loop-place.place-index 0) c.reserve_place.new.self ∙ c.loop-place.invariant.1,
+  more_places c.loop-place.logs.items c.args.live.now c.loop-place.place-index c.reserve_place.new.self c.loop-place-test.true c.in_ok-reserve_place.ensures.place c.loop-place.invariant.2,
+)
+
+pub returns-clause-places : goal.returns-clause-places
+returns-clause-places c = subst (All (HasPlaceAt c.loop-place.logs.items)) (take_all c.loop-place.place-index c.args.live.now c.loop-place-test.false) c.loop-place.invariant.2

@@ -1,0 +1,19 @@
+use Rattle.std.proofs.Common.{◌≡◌, ◌∙◌, ap, rules, subst}
+use Rattle.macsec_secy.specs.Step.{done, operator_command, step}
+use Rattle.macsec_ends.specs.contracts.end.EndLogs.{the_view}
+use Rattle.macsec_ends.specs.Logs.{logs_after_command}
+use Rattle.macsec_ends.specs.Sound.{IsSoundEnd}
+use Rattle.macsec_ends.proofs.Commanded.{done_with}
+use Rattle.macsec_ends.proofs.Logged.{sound_after}
+use Rattle.macsec_ends.proofs.end.EndLogs.command.Goals as goal
+
+pub returns-in-Ok-clause-sound : goal.returns-in-Ok-clause-sound
+returns-in-Ok-clause-sound c =
+    let after : c.command.new.self ≡ (step c.self.inside.secy (operator_command c.args.command.now)).1 = search rules in
+    let out : done ≡ (step c.self.inside.secy (operator_command c.args.command.now)).0 = search rules in
+    let happens = done_with (the_view c.self.inside) c.args.command.now c.command.new.self after c.args.self.now c.self.view_is out _
+    (c.follow_command.ensures.after ∙ ap (logs_after_command c.args.command.now) c.reserve_log.ensures.same) in
+    sound_after c.args.self.now (operator_command c.args.command.now) done _ happens (subst IsSoundEnd c.self.view_is c.self.invariant.sound) c.command.ensures.sound
+
+pub invariant_of-self-in-Ok : goal.invariant_of-self-in-Ok
+invariant_of-self-in-Ok c = record { sound = returns-in-Ok-clause-sound c; live = c.follow_command.ensures.live }

@@ -1,0 +1,8 @@
+use Rattle.std.proofs.Common.{rules}
+use Rattle.macsec_ends.proofs.frame.Frame.into_octets.Goals as goal
+
+pub returns-clause-octets : goal.returns-clause-octets
+returns-clause-octets c = search rules
+
+pub returns-clause-each : goal.returns-clause-each
+returns-clause-each c = search rules

@@ -1,0 +1,10 @@
+//! An end: an endpoint with the logs of what its clients sent and of what was delivered.
+#![tactic(auto)]
+
+mod deliveries;
+mod end;
+mod frame;
+mod sent;
+
+pub use end::{Departure, EndLogs, Hearing};
+pub use frame::Frame;
