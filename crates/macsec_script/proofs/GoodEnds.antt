@@ -5,18 +5,18 @@ use Rattle.macsec_secy.specs.declared.fault.NewFault.{NewFault}
 use Rattle.macsec_secy.specs.Configs.{config_fault}
 use Rattle.macsec_link.specs.declared.End.TheVariants.{A, B}
 use Rattle.macsec_link.specs.Answers.{make_fault, make_fault_of}
-use Rattle.macsec_script.specs.declared.lines.Line.{Line}
-use Rattle.macsec_script.specs.declared.lines.Line.TheVariants as line
-use Rattle.macsec_script.specs.declared.lines.LineFault.{LineFault}
-use Rattle.macsec_script.specs.declared.lines.LineFault.TheVariants.{Ends, LineLong}
-use Rattle.macsec_script.specs.declared.script.Place.{Place}
-use Rattle.macsec_script.specs.declared.script.Place.TheVariants.{EndA, EndB, Rest}
-use Rattle.macsec_script.specs.declared.faults.ScriptFault.{ScriptFault}
-use Rattle.macsec_script.specs.declared.faults.ScriptFault.TheVariants as script
-use Rattle.macsec_script.specs.Words.{words_of, lines_of}
-use Rattle.macsec_script.specs.Fields.{map_ok, value_of_keyword, ends}
-use Rattle.macsec_script.specs.Kinds.{and_then, if_fit, is_fit, line_of, of_words, read_at}
-use Rattle.macsec_script.specs.Scripts.{NumberedLine, at_script_end, is_too_long, line_before, lines_from, next_place, place_after, result_at_line, script_of}
+use Rattle.macsec_lines.specs.declared.lines.Line.{Line}
+use Rattle.macsec_lines.specs.declared.lines.Line.TheVariants as line
+use Rattle.macsec_lines.specs.declared.lines.LineFault.{LineFault}
+use Rattle.macsec_lines.specs.declared.lines.LineFault.TheVariants.{Ends, LineLong}
+use Rattle.macsec_lines.specs.declared.script.Place.{Place}
+use Rattle.macsec_lines.specs.declared.script.Place.TheVariants.{EndA, EndB, Rest}
+use Rattle.macsec_lines.specs.declared.faults.ScriptFault.{ScriptFault}
+use Rattle.macsec_lines.specs.declared.faults.ScriptFault.TheVariants as script
+use Rattle.macsec_lines.specs.Words.{words_of, lines_of}
+use Rattle.macsec_lines.specs.Fields.{map_ok, value_of_keyword, ends}
+use Rattle.macsec_lines.specs.Kinds.{and_then, if_fit, is_fit, line_of, of_words, read_at}
+use Rattle.macsec_lines.specs.Scripts.{NumberedLine, at_script_end, is_too_long, line_before, lines_from, next_place, place_after, result_at_line, script_of}
 use Rattle.macsec_script.specs.Printed.{begun, begun_by, a_config, b_config}
 
 abbrev AreFit : List NumberedLine → Type 0

@@ -1,13 +1,5 @@
-pub mod Decimals
 pub mod Examples
 pub mod GoodEnds
-pub mod HexDigits
-pub mod HexNumbers
-pub mod HexTexts
-pub mod Keywords
-pub mod LastLine
-pub mod LinesLeft
-pub mod Pieces
 pub mod Runs
-pub mod Unwritten
 pub mod Told
+pub mod Unwritten

@@ -5,11 +5,11 @@ use Rattle.std.specs.Prelude.{Option, Err}
 use Rattle.std.specs.Io.KnownBytes.{Appends}
 use Rattle.std.proofs.KnownBytes.{Appends-trans}
 use Rattle.macsec_link.specs.World.{WorldState}
-use Rattle.macsec_script.specs.declared.faults.ScriptFault.{ScriptFault}
-use Rattle.macsec_script.specs.declared.faults.ScriptFault.TheVariants.{Word, Count, Hex, Number, Ends, LineLong, ScriptLong, Memory, Read, Write}
-use Rattle.macsec_script.specs.Scripts.{NumberedLine}
+use Rattle.macsec_lines.specs.declared.faults.ScriptFault.{ScriptFault}
+use Rattle.macsec_lines.specs.declared.faults.ScriptFault.TheVariants.{Word, Count, Hex, Number, Ends, LineLong, ScriptLong, Memory, Read, Write}
+use Rattle.macsec_lines.specs.Scripts.{NumberedLine}
 use Rattle.macsec_script.specs.Printed.{line_step, text_from}
-use Rattle.macsec_script.specs.Runs.{Prints}
+use Rattle.macsec_print.specs.Printing.{Prints}
 
 -- written so far, with what is still to come, is the whole
 abbrev pub IsOnTheWay : List ℕ → Option (List ℕ) → Option (List ℕ) → WorldState → List NumberedLine → Type 0

@@ -10,7 +10,7 @@ use Rattle.macsec_link.specs.declared.WorldFault.{WorldFault}
 use Rattle.macsec_link.specs.World.{WorldState}
 use Rattle.macsec_link.specs.Faults.{FaultLine, fault_of, faults}
 use Rattle.macsec_link.specs.Step.{Answer, happening, put, reaction, unless_fault, world_step}
-use Rattle.macsec_script.specs.Outcomes.{is_made, is_told}
+use Rattle.macsec_print.specs.Outcomes.{is_made, is_told}
 use Rattle.macsec_script.specs.Printed.{frame_made}
 
 -- a line can tell the outcome, and there is a link frame where one was made

@@ -3,7 +3,7 @@ use Rattle.std.specs.Prelude.{◌≡◌, ℕ, List, [], ◌++◌, codes, Option,
 use Rattle.std.specs.Io.KnownBytes.{Keeps}
 use Rattle.macsec_script.specs.declared.failures.Failure.{Failure}
 use Rattle.macsec_script.specs.declared.failures.Failure.TheVariants.{Usage, CannotOpen, Script}
-use Rattle.macsec_script.specs.Faults.{fault_text, fault_status}
+use Rattle.macsec_lines.specs.Faults.{fault_text, fault_status}
 use Rattle.macsec_script.specs.Runs.{LeavesText, RunGives}
 
 abbrev pub failure_text : Failure → List ℕ

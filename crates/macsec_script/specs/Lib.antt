@@ -1,14 +1,3 @@
-pub mod Limits
-pub mod Words
-pub mod Numerals
-pub mod Fields
-pub mod Kinds
-pub mod Scripts
-pub mod Refusals
-pub mod Outcomes
-pub mod Counters
-pub mod Numbers
 pub mod Printed
 pub mod Runs
-pub mod Faults
 pub mod Failures

@@ -7,15 +7,15 @@ use Rattle.macsec_link.specs.declared.Outcome.TheVariants.{Made}
 use Rattle.macsec_link.specs.declared.WorldFault.{WorldFault}
 use Rattle.macsec_link.specs.World.{WorldState, new_world, end_of}
 use Rattle.macsec_link.specs.Step.{Answer, world_step}
-use Rattle.macsec_script.specs.declared.lines.Line.{Line}
-use Rattle.macsec_script.specs.declared.lines.Line.TheVariants as line
-use Rattle.macsec_script.specs.declared.counters.Label.TheVariants as label
-use Rattle.macsec_script.specs.declared.faults.ScriptFault.{ScriptFault}
-use Rattle.macsec_script.specs.Fields.{map_ok}
-use Rattle.macsec_script.specs.Outcomes.{outcome_text}
-use Rattle.macsec_script.specs.Counters.{counters_text}
-use Rattle.macsec_script.specs.Numbers.{numbers_text}
-use Rattle.macsec_script.specs.Scripts.{NumberedLine, script_of}
+use Rattle.macsec_lines.specs.declared.lines.Line.{Line}
+use Rattle.macsec_lines.specs.declared.lines.Line.TheVariants as line
+use Rattle.macsec_print.specs.declared.counters.Label.TheVariants as label
+use Rattle.macsec_lines.specs.declared.faults.ScriptFault.{ScriptFault}
+use Rattle.macsec_lines.specs.Fields.{map_ok}
+use Rattle.macsec_print.specs.Outcomes.{outcome_text}
+use Rattle.macsec_print.specs.Counters.{counters_text}
+use Rattle.macsec_print.specs.Numbers.{numbers_text}
+use Rattle.macsec_lines.specs.Scripts.{NumberedLine, script_of}
 
 -- the link frame that an event made, in the world after it
 abbrev pub frame_made : WorldState → Result Outcome WorldFault → Option (List ℕ)

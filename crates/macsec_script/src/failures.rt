@@ -5,10 +5,10 @@ ghost use Rattle.std.specs.IoError.{error_kind};
 ghost use Rattle.std.specs.declared.io.ErrorKind.TheVariants.{OutOfMemory};
 ghost use Rattle.std.specs.Io.KnownBytes.{Appends};
 ghost use Rattle.macsec_script.specs.declared.failures.Failure.TheVariants.{Script, Usage};
-ghost use Rattle.macsec_script.specs.declared.faults.ScriptFault.TheVariants.{Memory};
+ghost use Rattle.macsec_lines.specs.declared.faults.ScriptFault.TheVariants.{Memory};
 ghost use Rattle.macsec_script.specs.Failures.{failure_text, failure_status, told_text, told_status};
 
-use crate::faults::ScriptFault;
+use macsec_lines::ScriptFault;
 use std::io::{self, Write};
 use thiserror::Error;
 

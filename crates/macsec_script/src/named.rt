@@ -1,14 +1,14 @@
 //! A run of the script that a name names: standard input's, or a file's.
 
 ghost use Rattle.std.specs.Prelude.{◌≡◌, ◌≢◌, codes, IfSome, IfErr, MatchResult, Ok, Err};
-ghost use Rattle.macsec_script.specs.declared.faults.ScriptFault.TheVariants.{Write};
+ghost use Rattle.macsec_lines.specs.declared.faults.ScriptFault.TheVariants.{Write};
 ghost use Rattle.macsec_script.specs.Failures.{FailsAs, LeavesOutput, NamedGives};
 ghost use Rattle.macsec_script.specs.Runs.{LeavesText, RunGives};
 
 use crate::failures::Failure;
-use crate::faults::ScriptFault;
 use crate::running::run_script;
-use crate::writing::write_fault;
+use macsec_lines::ScriptFault;
+use macsec_print::write_fault;
 use std::alloc::Global;
 use std::fs;
 use std::io::{self, Read, Write};

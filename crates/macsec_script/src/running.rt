@@ -2,19 +2,15 @@
 
 ghost use Rattle.std.specs.Prelude.{◌≡◌, ◌≤◌, length, IfSome, IfErr, OnOk, MatchResult, None, option_copied, option_map};
 ghost use Rattle.macsec_link.specs.Answers.{make_fault};
-ghost use Rattle.macsec_script.specs.declared.lines.Line.TheVariants as line;
-ghost use Rattle.macsec_script.specs.Limits.{max_script_len};
+ghost use Rattle.macsec_lines.specs.declared.lines.Line.TheVariants as line;
+ghost use Rattle.macsec_lines.specs.Limits.{max_script_len};
 ghost use Rattle.macsec_script.specs.Printed.{a_config, b_config, begun, frame_made, line_step, text_from, text_of};
-ghost use Rattle.macsec_script.specs.Runs.{RunGives, LeavesText, IsInputFault, Prints};
+ghost use Rattle.macsec_script.specs.Runs.{RunGives, LeavesText, IsInputFault};
+ghost use Rattle.macsec_print.specs.Printing.{Prints};
 
-use crate::counters::{Label, print_counters};
-use crate::faults::ScriptFault;
-use crate::lines::Line;
-use crate::numbers::print_numbers;
-use crate::outcomes::print_outcome;
-use crate::script::{MAX_SCRIPT_LEN, parse_script};
-use crate::writing::write_fault;
+use macsec_lines::{Line, MAX_SCRIPT_LEN, ScriptFault, parse_script};
 use macsec_link::{End, EndConfig, Event, Outcome, World, WorldFault};
+use macsec_print::{Label, print_counters, print_numbers, print_outcome, write_fault};
 use std::alloc::Global;
 use std::io::{Read, Write};
 

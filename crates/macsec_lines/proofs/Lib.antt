@@ -1,0 +1,6 @@
+pub mod Decimals
+pub mod Examples
+pub mod HexDigits
+pub mod Keywords
+pub mod LastLine
+pub mod LinesLeft

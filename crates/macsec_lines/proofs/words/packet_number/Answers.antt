@@ -1,0 +1,12 @@
+use Rattle.std.proofs.Common.{rules, arith}
+use Rattle.macsec_lines.proofs.HexDigits.{digit_more}
+use Rattle.macsec_lines.proofs.words.packet_number.Goals as goal
+
+pub overflow_mul-number : goal.overflow_mul-number
+overflow_mul-number c = omega (arith, digit_more c.loop-digit.number 0 c.loop-digit.digit-index (omega arith) (omega arith) (omega arith))
+
+pub overflow_add-number : goal.overflow_add-number
+overflow_add-number c = omega (arith, digit_more c.loop-digit.number c.in-Some.value c.loop-digit.digit-index (omega arith) c.in-Some.ensures.below (omega arith))
+
+pub returns-then-is_empty : goal.returns-then-is_empty
+returns-then-is_empty c = search rules

@@ -1,0 +1,72 @@
+-- A script: its lines that are not skipped, with their numbers, or its first fault.
+use Rattle.std.specs.Prelude.{ℕ, ◌+◌, ◌-◌, ◌||◌, List, [], ◌∷◌, length, Bool, nat_lt, if◌then◌else◌, Option, Some, None, Result, Ok, Err}
+use Rattle.macsec_link.specs.declared.End.TheVariants.{A, B}
+use Rattle.macsec_lines.specs.declared.lines.Line.{Line}
+use Rattle.macsec_lines.specs.declared.lines.Line.TheVariants as line
+use Rattle.macsec_lines.specs.declared.lines.LineFault.{LineFault}
+use Rattle.macsec_lines.specs.declared.lines.LineFault.TheVariants as fault
+use Rattle.macsec_lines.specs.declared.script.Place.{Place}
+use Rattle.macsec_lines.specs.declared.script.Place.TheVariants.{EndA, EndB, Rest}
+use Rattle.macsec_lines.specs.declared.faults.ScriptFault.{ScriptFault}
+use Rattle.macsec_lines.specs.declared.faults.ScriptFault.TheVariants.{Word, Count, Hex, Number, Ends, LineLong, ScriptLong, Memory}
+use Rattle.macsec_lines.specs.Words.{lines_of}
+use Rattle.macsec_lines.specs.Fields.{map_ok}
+use Rattle.macsec_lines.specs.Kinds.{line_of, and_then}
+use Rattle.macsec_lines.specs.Limits.{max_script_len, max_line_count}
+
+-- a line with its number
+abbrev pub NumberedLine : Type 0
+NumberedLine = ℕ × Line
+
+-- the fault of a script at the fault of its line n
+abbrev pub at_line : ℕ → LineFault → ScriptFault
+at_line n fault.Word = Word n
+at_line n fault.Count = Count n
+at_line n fault.Hex = Hex n
+at_line n fault.Number = Number n
+at_line n fault.Ends = Ends n
+at_line n fault.LineLong = LineLong n
+at_line n fault.Memory = Memory
+
+abbrev pub result_at_line : {X : Type 0} → ℕ → Result X LineFault → Result X ScriptFault
+result_at_line n (Ok x) = Ok x
+result_at_line n (Err fault) = Err (at_line n fault)
+
+-- what a script wants after a line that it wants: both ends, and then lines of another kind
+abbrev pub place_after : Place → Line → Option Place
+place_after EndA (line.End A config) = Some EndB
+place_after EndA other = None
+place_after EndB (line.End B config) = Some Rest
+place_after EndB other = None
+place_after Rest (line.End e config) = None
+place_after Rest other = Some Rest
+
+-- a script may end where it has said nothing yet, or has both ends; n is its last line
+abbrev pub at_script_end : Place → ℕ → Result (List NumberedLine) ScriptFault
+at_script_end EndA n = Ok []
+at_script_end EndB n = Err (Ends n)
+at_script_end Rest n = Ok []
+
+-- the place after line n, or the fault of a line that is not wanted there
+abbrev pub next_place : ℕ → Option Place → Result Place ScriptFault
+next_place n None = Err (Ends n)
+next_place n (Some place) = Ok place
+
+-- a line, where it is not skipped, before the lines that follow it
+abbrev pub line_before : Place → ℕ → Option Line → (Place → Result (List NumberedLine) ScriptFault) → Result (List NumberedLine) ScriptFault
+line_before place n None more = more place
+line_before place n (Some said) more =
+    and_then (next_place n (place_after place said)) (λ next. map_ok (λ lines. (n, said) ∷ lines) (more next))
+
+-- the lines from number n on
+abbrev pub lines_from : Place → ℕ → List (List ℕ) → Result (List NumberedLine) ScriptFault
+lines_from place n [] = at_script_end place (n - 1)
+lines_from place n (text ∷ more) =
+    and_then (result_at_line n (line_of text)) (λ said. line_before place n said (λ next. lines_from next (n + 1) more))
+
+-- too many octets, or too many lines
+abbrev pub is_too_long : List ℕ → Bool
+is_too_long text = nat_lt max_script_len (length text) || nat_lt max_line_count (length (lines_of text))
+
+abbrev pub script_of : List ℕ → Result (List NumberedLine) ScriptFault
+script_of text = if is_too_long text then Err ScriptLong else lines_from EndA 1 (lines_of text)

@@ -1,0 +1,110 @@
+//! What goes wrong in a script or in its run, as a line on standard error and as the program's status.
+
+ghost use Rattle.std.specs.Prelude.{◌≡◌, OnOk};
+ghost use Rattle.std.specs.Io.KnownBytes.{Appends};
+ghost use Rattle.macsec_lines.specs.Faults.{fault_line, fault_name, fault_status, fault_text, text_at};
+
+use std::io::{self, Write};
+use thiserror::Error;
+
+/// Why a script is not run to its end. The first six are told with the number of their line, from 1.
+#[derive(Clone, Copy, Debug, Error)]
+pub enum ScriptFault {
+    /// A line's keyword is unknown, or a word of it is none of those that can stand there.
+    #[error("line {0} has an unknown word")]
+    Word(u32),
+    /// A line has too few words or too many.
+    #[error("line {0} has too few words or too many")]
+    Count(u32),
+    /// A word is not the hex text of as many octets as are wanted.
+    #[error("line {0} has a word that is no such hex text")]
+    Hex(u32),
+    /// A word is not a decimal number in its range.
+    #[error("line {0} has a word that is no number in its range")]
+    Number(u32),
+    /// A line stands in a wrong place, as the first two lines are those of end A and of end B and no other is an
+    /// `end` line, or the tag form of an end does not fit its SCI; or the script ends before the line of end B, and
+    /// the number is its last line's, skipped or not.
+    #[error("line {0} is not in its place, or makes no end")]
+    Ends(u32),
+    /// A line has more than 20,000 octets, without its line feed.
+    #[error("line {0} is too long")]
+    LineLong(u32),
+    /// The script has more than 1,048,576 octets or more than 65,536 lines.
+    #[error("the script is too long")]
+    ScriptLong,
+    /// Memory was wanting.
+    #[error("memory was wanting")]
+    Memory,
+    /// The reader failed.
+    #[error("the script can't be read")]
+    Read,
+    /// The writer failed.
+    #[error("the text can't be written")]
+    Write,
+}
+
+impl ScriptFault {
+    /// Writes the one line that tells the fault.
+    pub fn tell<W: Write>(self, writer: &mut W) -> io::Result<()>
+        ensures { OnOk result (Appends (W.contents writer.old) (W.contents writer.new) (fault_text self)) }
+    {
+        tell_name(writer, self.line(), self.name())
+    }
+
+    /// The name of the fault.
+    pub fn name(self) -> &'static str
+        ensures { result.now ≡ fault_name self }
+    {
+        match self {
+            ScriptFault::Word(_) => "Word",
+            ScriptFault::Count(_) => "Count",
+            ScriptFault::Hex(_) => "Hex",
+            ScriptFault::Number(_) => "Number",
+            ScriptFault::Ends(_) => "Ends",
+            ScriptFault::LineLong(_) => "LineLong",
+            ScriptFault::ScriptLong => "ScriptLong",
+            ScriptFault::Memory => "Memory",
+            ScriptFault::Read => "Read",
+            ScriptFault::Write => "Write",
+        }
+    }
+
+    /// The number of the line at fault, from 1, where the fault is a line's.
+    pub fn line(self) -> Option<u32>
+        ensures { result ≡ fault_line self }
+    {
+        match self {
+            ScriptFault::Word(n)
+            | ScriptFault::Count(n)
+            | ScriptFault::Hex(n)
+            | ScriptFault::Number(n)
+            | ScriptFault::Ends(n)
+            | ScriptFault::LineLong(n) => Some(n),
+            ScriptFault::ScriptLong
+            | ScriptFault::Memory
+            | ScriptFault::Read
+            | ScriptFault::Write => None,
+        }
+    }
+
+    /// The program's status: 2 where the script is at fault, else 1.
+    pub fn status(self) -> u8
+        ensures { result ≡ fault_status self }
+    {
+        match self {
+            ScriptFault::Memory | ScriptFault::Read | ScriptFault::Write => 1,
+            _ => 2,
+        }
+    }
+}
+
+/// Writes the name of a fault, and its line where it has one.
+fn tell_name<W: Write>(writer: &mut W, line: Option<u32>, name: &str) -> io::Result<()>
+    ensures { OnOk result (Appends (W.contents writer.old) (W.contents writer.new) (text_at line name.now)) }
+{
+    match line {
+        Some(n) => writeln!(writer, "macsec: line {n}: {name}"),
+        None => writeln!(writer, "macsec: {name}"),
+    }
+}

@@ -1,0 +1,77 @@
+//! The lines that set an end's options.
+
+ghost use Rattle.std.specs.Prelude.{◌≡◌, [], map, codes, IfSome, IfNone};
+ghost use Rattle.macsec_lines.specs.Kinds.{read_line, kinds_at, kinds_of, protection_kinds, option_kinds};
+
+use crate::lines::{Line, LineFault};
+use crate::words;
+use crate::words::decimal;
+use macsec_link::{Command, End, Event};
+
+/// Whether frames are protected, of the words after `protect`.
+fn protect(at: End, words: &[&[u8]]) -> Result<Line, LineFault>
+    ensures { result ≡ read_line (kinds_at at) (codes "protect") (map (λ w. w.now) words.now) }
+{
+    let [on] = words else {
+        return Err(LineFault::Count);
+    };
+    Ok(Line::Event(Event::Command(at, Command::Protect(words::switch(on)?))))
+}
+
+/// How received frames are validated, of the words after `validate`.
+fn validate(at: End, words: &[&[u8]]) -> Result<Line, LineFault>
+    ensures { result ≡ read_line (kinds_at at) (codes "validate") (map (λ w. w.now) words.now) }
+{
+    let [mode] = words else {
+        return Err(LineFault::Count);
+    };
+    Ok(Line::Event(Event::Command(at, Command::Validate(words::validation(mode)?))))
+}
+
+/// Whether late frames are dropped, and the window, of the words after `replay`.
+fn replay(at: End, words: &[&[u8]]) -> Result<Line, LineFault>
+    ensures { result ≡ read_line (kinds_at at) (codes "replay") (map (λ w. w.now) words.now) }
+{
+    let [on, window] = words else {
+        return Err(LineFault::Count);
+    };
+    let protect = words::switch(on)?;
+    let window = decimal(0, u64::MAX, window)?;
+    Ok(Line::Event(Event::Command(at, Command::Replay { protect, window })))
+}
+
+/// The tag form, of the words after `tag`.
+fn tag(at: End, words: &[&[u8]]) -> Result<Line, LineFault>
+    ensures { result ≡ read_line (kinds_at at) (codes "tag") (map (λ w. w.now) words.now) }
+{
+    let [form] = words else {
+        return Err(LineFault::Count);
+    };
+    Ok(Line::Event(Event::Command(at, Command::Tag(words::tag_form(form)?))))
+}
+
+/// A line that sets whether frames are protected, or how they are validated, of its keyword and the words after it; `None` where the
+/// keyword is none of those.
+pub fn protection_line(at: End, keyword: &[u8], words: &[&[u8]]) -> Option<Result<Line, LineFault>>
+    ensures some { IfSome result (λ line. line ≡ read_line (kinds_at at) keyword.now (map (λ w. w.now) words.now)) }
+    ensures none { IfNone result (kinds_of (protection_kinds at) keyword.now ≡ []) }
+{
+    match keyword {
+        b"protect" => Some(protect(at, words)),
+        b"validate" => Some(validate(at, words)),
+        _ => None,
+    }
+}
+
+/// A line that sets another option, of its keyword and the words after it; `None` where the
+/// keyword is none of those.
+pub fn option_line(at: End, keyword: &[u8], words: &[&[u8]]) -> Option<Result<Line, LineFault>>
+    ensures some { IfSome result (λ line. line ≡ read_line (kinds_at at) keyword.now (map (λ w. w.now) words.now)) }
+    ensures none { IfNone result (kinds_of (option_kinds at) keyword.now ≡ []) }
+{
+    match keyword {
+        b"replay" => Some(replay(at, words)),
+        b"tag" => Some(tag(at, words)),
+        _ => None,
+    }
+}

@@ -1,0 +1,4 @@
+pub mod Examples
+pub mod HexNumbers
+pub mod HexTexts
+pub mod Pieces

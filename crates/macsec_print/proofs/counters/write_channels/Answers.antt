@@ -1,0 +1,20 @@
+use Rattle.std.proofs.Common.{arith, sym}
+use Rattle.std.proofs.lemmas.Grind.{common_steps}
+use Rattle.std.proofs.lemmas.Option.{slice_get_within, get_or_from_slice_get}
+use Rattle.macsec_secy.specs.Answers.{rx_counters_of}
+use Rattle.macsec_print.specs.Counters.{rx_counters_text}
+use Rattle.macsec_print.proofs.Pieces.{one_more_piece}
+use Rattle.macsec_print.proofs.counters.write_channels.Goals as goal
+
+pub loop-place-preserved : goal.loop-place-preserved
+loop-place-preserved g c =
+    let scis = c.args.endpoint.now.rx.scis in let sci = c.in-Some.sci in let there = sym c.in-Some.ensures.sci in
+    record {
+      text =
+          one_more_piece (λ sci. rx_counters_text c.args.label sci (rx_counters_of c.args.endpoint.now.rx_counters sci)) scis c.loop-place.place sci _ _ _ (slice_get_within scis c.loop-place.place sci there)
+          c.loop-place.invariant.text (rw (get_or_from_slice_get scis c.loop-place.place sci sci there) (rw c.rx_counters.ensures at c.in_ok-write_channel.ensures));
+      count = λ some. c.in-Some.ensures.count;
+    }
+
+pub returns : goal.returns
+returns g c = grind (arith, common_steps)

@@ -1,0 +1,5 @@
+pub mod Refusals
+pub mod Outcomes
+pub mod Counters
+pub mod Numbers
+pub mod Printing

@@ -1,0 +1,173 @@
+//! The outcome of an event, as a script shows it.
+
+ghost use Rattle.std.specs.Prelude.{◌≡◌, option_copied, is_some, true, IfErr, OnOk};
+ghost use Rattle.std.specs.Io.KnownBytes.{Appends};
+ghost use Rattle.macsec_link.specs.declared.Outcome.TheVariants as outcome;
+ghost use Rattle.macsec_lines.specs.declared.faults.ScriptFault.TheVariants.{Write};
+ghost use Rattle.macsec_print.specs.Outcomes.{drop_text, end_text, is_made, is_told, outcome_text, verdict_text, world_fault_text};
+ghost use Rattle.macsec_print.specs.Refusals.{refusal_text};
+ghost use Rattle.macsec_print.specs.Printing.{Prints};
+
+use crate::writing::{write_fault, write_hex};
+use macsec_lines::ScriptFault;
+use macsec_link::{DropReason, Frame, Outcome, Refusal, Verdict, WorldFault};
+use std::io::{self, Write};
+
+/// A refusal as it is told: its number and its name.
+fn refusal_text(refusal: Refusal) -> &'static str
+    ensures { result.now ≡ refusal_text refusal }
+{
+    match refusal {
+        Refusal::KeyLength => "1 KeyLength",
+        Refusal::Offset => "2 Offset",
+        Refusal::KeyNumberUsed => "3 KeyNumberUsed",
+        Refusal::KeyRepeated => "4 KeyRepeated",
+        Refusal::NoKey => "5 NoKey",
+        Refusal::KeyRetired => "6 KeyRetired",
+        Refusal::KeyInUse => "7 KeyInUse",
+        Refusal::OwnSci => "8 OwnSci",
+        Refusal::ScTaken => "9 ScTaken",
+        Refusal::ScFull => "10 ScFull",
+        Refusal::NoSc => "11 NoSc",
+        Refusal::AnTaken => "12 AnTaken",
+        Refusal::NoSa => "13 NoSa",
+        Refusal::PnRange => "14 PnRange",
+        Refusal::PnLower => "15 PnLower",
+        Refusal::PnFloor => "16 PnFloor",
+        Refusal::SsciOwn => "17 SsciOwn",
+        Refusal::Window => "18 Window",
+        Refusal::SciForm => "19 SciForm",
+        Refusal::Exhausted => "20 Exhausted",
+    }
+}
+
+/// A verdict as it is told.
+fn verdict_text(verdict: Verdict) -> &'static str
+    ensures { result.now ≡ verdict_text verdict }
+{
+    match verdict {
+        Verdict::Untagged => "Untagged",
+        Verdict::NoTag => "NoTag",
+        Verdict::BadTag => "BadTag",
+        Verdict::Reserved => "Reserved",
+        Verdict::NoSaError => "NoSAError",
+        Verdict::NoSa => "NoSA",
+        Verdict::Late => "Late",
+        Verdict::NotValid => "NotValid",
+        Verdict::Unchecked => "Unchecked",
+        Verdict::Delayed => "Delayed",
+        Verdict::Invalid => "Invalid",
+        Verdict::Passed => "OK",
+    }
+}
+
+/// Why nothing leaves for a client's frame, as it is told.
+fn drop_text(reason: DropReason) -> &'static str
+    ensures { result.now ≡ drop_text reason }
+{
+    match reason {
+        DropReason::NoSa => "NoSA",
+        DropReason::TooLong => "TooLong",
+    }
+}
+
+/// A fault of an event as it is told: its number and its name.
+fn world_fault_text(fault: WorldFault) -> &'static str
+    ensures { result.now ≡ world_fault_text fault }
+{
+    match fault {
+        WorldFault::Memory => "1 Memory",
+        WorldFault::NoFrame => "2 NoFrame",
+        WorldFault::LinkFull => "3 LinkFull",
+        WorldFault::AlterRange => "4 AlterRange",
+        WorldFault::Short => "5 Short",
+        WorldFault::Long => "6 Long",
+        WorldFault::Make(_, _) => "7 Make",
+    }
+}
+
+/// Writes the octets of a frame, where there is one, and the end of the line.
+fn write_end<W: Write>(writer: &mut W, octets: Option<&[u8]>) -> io::Result<()>
+    ensures { OnOk result (Appends (W.contents writer.old) (W.contents writer.new) (end_text (option_copied octets.entry))) }
+{
+    let Some(octets) = octets else {
+        return writer.write_all(b"\n");
+    };
+    writer.write_all(b" ")?;
+    write_hex(writer, octets)?;
+    writer.write_all(b"\n")
+}
+
+/// Writes the line of a link frame that was made.
+fn write_made<W: Write>(writer: &mut W, line: u32, n: u32, frame: Option<&[u8]>) -> io::Result<()>
+    ensures { OnOk result (Appends (W.contents writer.old) (W.contents writer.new) (outcome_text line (option_copied frame.entry) (Ok (outcome.Made n)))) }
+{
+    write!(writer, "{line} frame {n}")?;
+    write_end(writer, frame)
+}
+
+/// Writes the line of a link frame that was heard.
+fn write_heard<W: Write>(
+    writer: &mut W,
+    line: u32,
+    verdict: Verdict,
+    controlled: &Option<Frame>,
+) -> io::Result<()>
+    ensures { OnOk result (Appends (W.contents writer.old) (W.contents writer.new) (outcome_text line None (Ok (outcome.Heard verdict controlled.now)))) }
+{
+    let name = verdict_text(verdict);
+    write!(writer, "{line} {name}")?;
+    match controlled {
+        Some(frame) => write_end(writer, Some(frame.octets())),
+        None => write_end(writer, None),
+    }
+}
+
+/// Writes the line of an outcome.
+fn write_outcome<W: Write>(
+    writer: &mut W,
+    line: u32,
+    frame: Option<&[u8]>,
+    outcome: &Result<Outcome, WorldFault>,
+) -> io::Result<()>
+    ensures { OnOk result (Appends (W.contents writer.old) (W.contents writer.new) (outcome_text line (option_copied frame.entry) outcome.now)) }
+{
+    match outcome {
+        Ok(Outcome::Done) => writeln!(writer, "{line} done"),
+        Ok(Outcome::Refused(refusal)) => {
+            let text = refusal_text(*refusal);
+            writeln!(writer, "{line} refused {text}")
+        }
+        Ok(Outcome::Made(n)) => write_made(writer, line, *n, frame),
+        Ok(Outcome::Dropped(reason)) => {
+            let text = drop_text(*reason);
+            writeln!(writer, "{line} dropped {text}")
+        }
+        Ok(
+            Outcome::Heard {
+                verdict,
+                controlled,
+            },
+        ) => write_heard(writer, line, *verdict, controlled),
+        Err(fault) => {
+            let text = world_fault_text(*fault);
+            writeln!(writer, "{line} fault {text}")
+        }
+    }
+}
+
+/// Prints the outcome of an event, as line `line` of a script shows it; `frame` is the link frame that was
+/// made, where one was. It takes no memory, and fails only where the writer does.
+pub fn print_outcome<W: Write>(
+    writer: &mut W,
+    line: u32,
+    frame: Option<&[u8]>,
+    outcome: &Result<Outcome, WorldFault>,
+) -> Result<(), ScriptFault>
+    requires told { is_told outcome.now ≡ true }
+    requires frame { is_some frame ≡ is_made outcome.now }
+    ensures text { Prints (outcome_text line (option_copied frame.entry) outcome.now) (W.contents writer.old) (W.contents writer.new) result }
+    ensures fault { IfErr result (λ fault. fault ≡ Write) }
+{
+    write_fault(write_outcome(writer, line, frame, outcome))
+}

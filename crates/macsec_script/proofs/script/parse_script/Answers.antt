@@ -1,9 +1,0 @@
-use Rattle.std.proofs.Common.{arith, rules}
-use Rattle.std.proofs.lemmas.Grind.{common_steps}
-use Rattle.macsec_script.proofs.script.parse_script.Goals as goal
-
-pub parse_lines-requires : goal.parse_lines-requires
-parse_lines-requires c = search rules
-
-pub returns : goal.returns
-returns c = grind (arith, common_steps)

@@ -1,5 +1,0 @@
-use Rattle.std.proofs.Common.{rules}
-use Rattle.macsec_script.proofs.words.ssci.Goals as goal
-
-pub returns : goal.returns
-returns c = search rules

@@ -1,5 +1,0 @@
-use Rattle.std.proofs.Common.{rules}
-use Rattle.macsec_script.proofs.words.suite.Goals as goal
-
-pub returns-in-gcm256 : goal.returns-in-gcm256
-returns-in-gcm256 c = search rules
