@@ -55,19 +55,19 @@ other_scis_needed = (
       0 1 no_use (omega arith) (omega arith) refl refl,
 )
 
--- ---- the suite: A has 32-bit packet numbers, and B extended ones with a salt by which its IV is A's
+-- ---- the suite: A has 32-bit packet numbers, and B extended ones; the salt, which is the same at both ends, makes B's IV
+-- that of A
 
--- keys of the same bytes at both ends have the same salt, where packet numbers are extended
-abbrev pub AgreeOnSalt : InstalledKey → InstalledKey → Type 0
-AgreeOnSalt x y = x.bytes ≡ y.bytes → is_xpn x.suite ≡ true → x.salt ≡ y.salt
+-- keys of the same bytes at both ends have the same salt, and different own SSCIs, whatever their suites
+abbrev pub AgreeButInSuite : InstalledKey → InstalledKey → Type 0
+AgreeButInSuite x y = x.bytes ≡ y.bytes → (x.salt ≡ y.salt) × (x.ssci ≢ y.ssci)
 
-abbrev pub AgreeOnSalts : WorldState → Type 0
-AgreeOnSalts w = (x y : InstalledKey) → Contains w.a.state.keys x → Contains w.b.state.keys y → AgreeOnSalt x y
+abbrev pub AgreeButInSuites : WorldState → Type 0
+AgreeButInSuites w = (x y : InstalledKey) → Contains w.a.state.keys x → Contains w.b.state.keys y → AgreeButInSuite x y
 
--- the law without the premise that the suites are the same
+-- the law without the premise that the suites are the same, and with the others of keys for all suites
 abbrev pub LawForOtherSuites : EndConfig → EndConfig → List Event → Type 0
-LawForOtherSuites a b events =
-    a.sci ≢ b.sci → AgreeOnSalts (world_after (new_world a b) events) → DifferAtEnd a b events → RepeatsNone a b events
+LawForOtherSuites a b events = a.sci ≢ b.sci → AgreeButInSuites (world_after (new_world a b) events) → RepeatsNone a b events
 
 abbrev sci_read : Sci
 sci_read = record { 0 = 0x12 ∷ 0x15 ∷ 0x35 ∷ 0x24 ∷ 0xc0 ∷ 0x89 ∷ 0x5e ∷ 0x81 ∷ [] }
@@ -75,15 +75,14 @@ sci_read = record { 0 = 0x12 ∷ 0x15 ∷ 0x35 ∷ 0x24 ∷ 0xc0 ∷ 0x89 ∷ 0x
 abbrev salt_read : List ℕ
 salt_read = 0x12 ∷ 0x15 ∷ 0x35 ∷ 0x26 ∷ 0xc0 ∷ 0x89 ∷ 0x5e ∷ 0x81 ∷ 0 ∷ 0 ∷ 0 ∷ 0 ∷ []
 
-pub same_suite_needed : Fails LawForOtherSuites (config Gcm128 sci_read) (config Xpn128 sci_b) (both_send (new_key no_salt 1) (new_key salt_read 2))
+pub same_suite_needed : Fails LawForOtherSuites (config Gcm128 sci_read) (config Xpn128 sci_b) (both_send (new_key salt_read 1) (new_key salt_read 2))
 unfolding sum_with_stream
 same_suite_needed = (
   refl,
   λ law.
       law
       (scis_differ sci_read sci_b (λ same. omega (arith, same)))
-      (of_two AgreeOnSalt _ _ (λ same xpn. cc))
-      (of_two HaveOtherSscis _ _ (λ same xpn. cc))
+      (of_two AgreeButInSuite _ _ (λ same. (refl, λ same_ssci. omega (arith, same_ssci))))
       0 1 no_use (omega arith) (omega arith) refl refl,
 )
 
