@@ -187,13 +187,13 @@ seals_so a next =
 
 -- what holds of each premise but one
 pub but : (P : Premise → Type 0) (left_out : Premise) → (Validates ≢ left_out → P Validates) → (ReadsSci ≢ left_out → P ReadsSci) → (IsOn ≢ left_out → P IsOn) →
-    P SameBytes → (SameSuite ≢ left_out → P SameSuite) → P SameOffset → (SameSalt ≢ left_out → P SameSalt) → (SameSsci ≢ left_out → P SameSsci) → (InTime ≢ left_out → P InTime) → (IsNear ≢ left_out → P IsNear) → (r : Premise) → r ≢ left_out → P r
+    (SameBytes ≢ left_out → P SameBytes) → (SameSuite ≢ left_out → P SameSuite) → (SameOffset ≢ left_out → P SameOffset) → (SameSalt ≢ left_out → P SameSalt) → (SameSsci ≢ left_out → P SameSsci) → (InTime ≢ left_out → P InTime) → (IsNear ≢ left_out → P IsNear) → (r : Premise) → r ≢ left_out → P r
 but P left_out a b c d e f g h i j Validates other = a other
 but P left_out a b c d e f g h i j ReadsSci other = b other
 but P left_out a b c d e f g h i j IsOn other = c other
-but P left_out a b c d e f g h i j SameBytes other = d
+but P left_out a b c d e f g h i j SameBytes other = d other
 but P left_out a b c d e f g h i j SameSuite other = e other
-but P left_out a b c d e f g h i j SameOffset other = f
+but P left_out a b c d e f g h i j SameOffset other = f other
 but P left_out a b c d e f g h i j SameSalt other = g other
 but P left_out a b c d e f g h i j SameSsci other = h other
 but P left_out a b c d e f g h i j InTime other = i other
@@ -203,10 +203,10 @@ abbrev pub HoldsIn : EndConfig → ℕ → State → RxRow → Premise → Type 
 HoldsIn a next b rx r =
     Holds (world_before a next b).a.state b (tx_from next) rx (parts_sent (tx_options (start a)) (key_row a.suite 1) (tx_from next) client) r
 
-abbrev gcm_a : EndConfig
+abbrev pub gcm_a : EndConfig
 gcm_a = config Gcm128 sci_a
 
-abbrev gcm_b : EndConfig
+abbrev pub gcm_b : EndConfig
 gcm_b = config Gcm128 sci_b
 
 -- ---- B is in mode Disabled
@@ -225,7 +225,7 @@ validation_needed = (
       (record {
         there = refl;
         holds = but (HoldsIn gcm_a 1 disabled (rx_from 1)) Validates (λ no. absurd (no refl)) (λ no. refl) (λ no. refl)
-            refl (λ no. refl) refl (λ no xpn. cc) (λ no xpn. cc) (λ no. omega arith) (λ no xpn. cc);
+            (λ no. refl) (λ no. refl) (λ no. refl) (λ no xpn. cc) (λ no xpn. cc) (λ no. omega arith) (λ no xpn. cc);
       })
       Unchecked (Some client) (λ same. cc) (is_unchecked (tag_from gcm_a 1)),
 )
@@ -256,7 +256,7 @@ sci_needed = (
       (record {
         there = refl;
         holds = but (HoldsIn without_sci 1 two_channels (rx_from 1)) ReadsSci (λ no same. cc) (λ no. absurd (no refl)) (λ no. refl)
-            refl (λ no. refl) refl (λ no xpn. cc) (λ no xpn. cc) (λ no. omega arith) (λ no xpn. cc);
+            (λ no. refl) (λ no. refl) (λ no. refl) (λ no xpn. cc) (λ no xpn. cc) (λ no. omega arith) (λ no xpn. cc);
       })
       NoSaError None (λ same. cc) (has_no_channel (tag_from without_sci 1)),
 )
@@ -277,7 +277,7 @@ on_needed = (
       (record {
         there = refl;
         holds = but (HoldsIn gcm_a 1 (state_b gcm_b rx_off) rx_off) IsOn (λ no same. cc) (λ no. refl) (λ no. absurd (no refl))
-            refl (λ no. refl) refl (λ no xpn. cc) (λ no xpn. cc) (λ no. omega arith) (λ no xpn. cc);
+            (λ no. refl) (λ no. refl) (λ no. refl) (λ no xpn. cc) (λ no xpn. cc) (λ no. omega arith) (λ no xpn. cc);
       })
       NoSaError None (λ same. cc) (is_off (tag_from gcm_a 1)),
 )
@@ -296,7 +296,7 @@ in_time_needed = (
       (record {
         there = refl;
         holds = but (HoldsIn gcm_a 1 (state_b gcm_b (rx_from 2)) (rx_from 2)) InTime (λ no same. cc) (λ no. refl) (λ no. refl)
-            refl (λ no. refl) refl (λ no xpn. cc) (λ no xpn. cc) (λ no. absurd (no refl)) (λ no xpn. cc);
+            (λ no. refl) (λ no. refl) (λ no. refl) (λ no xpn. cc) (λ no xpn. cc) (λ no. absurd (no refl)) (λ no xpn. cc);
       })
       Late None (λ same. cc) (is_late (tag_from gcm_a 1)),
 )
@@ -318,7 +318,7 @@ suite_needed = (
       (record {
         there = refl;
         holds = but (HoldsIn xpn_a (2 ^ 32) (state_b gcm_b (rx_from (2 ^ 32 - 1))) (rx_from (2 ^ 32 - 1))) SameSuite (λ no same. cc) (λ no. refl) (λ no. refl)
-            refl (λ no. absurd (no refl)) refl (λ no xpn. refl) (λ no xpn. refl) (λ no. omega arith) (λ no xpn. omega arith);
+            (λ no. refl) (λ no. absurd (no refl)) (λ no. refl) (λ no xpn. refl) (λ no xpn. refl) (λ no. omega arith) (λ no xpn. omega arith);
       })
       BadTag None (λ same. cc) (is_zero (tag_from xpn_a (2 ^ 32))),
 )
@@ -340,7 +340,7 @@ near_needed = (
       (record {
         there = refl;
         holds = but (HoldsIn xpn_a (2 ^ 32) (state_b xpn_b (rx_from 1)) (rx_from 1)) IsNear (λ no same. cc) (λ no. refl) (λ no. refl)
-            refl (λ no. refl) refl (λ no xpn. refl) (λ no xpn. refl) (λ no. omega arith) (λ no. absurd (no refl));
+            (λ no. refl) (λ no. refl) (λ no. refl) (λ no xpn. refl) (λ no xpn. refl) (λ no. omega arith) (λ no. absurd (no refl));
       })
       BadTag None (λ same. cc) (is_far (tag_from xpn_a (2 ^ 32))),
 )

@@ -38,7 +38,7 @@ xor_same a x y e = sym (back x) ∙ ap (bit_xor a) e ∙ back y
     back z = sym (xor_assoc a a z) ∙ ap (λ n. bit_xor n z) (xor_self a) ∙ xor_zero_l z
 
 -- the first octet of the block that covers the hash
-cover : List ℕ → List ℕ → ℕ
+unfoldable pub cover : List ℕ → List ℕ → ℕ
 cover key iv = slice_index (aes key (pre_counter_block iv)) 0
 
 same_cover : (key iv other aad : List ℕ) → first (tag_of key iv aad) ≡ first (tag_of key other aad) → cover key iv ≡ cover key other
@@ -80,7 +80,7 @@ sscis_differ = refl
 
 -- ---- the runs
 
-answered : (w : WorldState) (n : ℕ) (frame : List ℕ) (j : Judgement) → fault_of w (Deliver B n) ≡ None → frame_at w n ≡ frame → frame_fault frame ≡ None →
+pub answered : (w : WorldState) (n : ℕ) (frame : List ℕ) (j : Judgement) → fault_of w (Deliver B n) ≡ None → frame_at w n ≡ frame → frame_fault frame ≡ None →
     judgement_of w.b.state frame ≡ j → (world_step w (Deliver B n)).0 ≡ heard j.verdict j.delivered
 answered w n frame j none there fits judged = rw (none, there, fits, judged) refl
 
@@ -107,7 +107,7 @@ salt_needed = (
       (record {
         there = refl;
         holds = but (HoldsIn xpn_a 1 salted (rx_from 1)) SameSalt (λ no same. cc) (λ no. refl) (λ no. refl)
-            refl (λ no. refl) refl (λ no. absurd (no refl)) (λ no xpn. refl) (λ no. omega arith) (λ no xpn. omega arith);
+            (λ no. refl) (λ no. refl) (λ no. refl) (λ no. absurd (no refl)) (λ no xpn. refl) (λ no. omega arith) (λ no xpn. omega arith);
       })
       NotValid None (λ same. cc)
       (salt_answered (tag_from xpn_a 1) (stays_closed bytes iv_by_salt iv_a aad (eqb-false (cover bytes iv_by_salt) (cover bytes iv_a) salts_differ))),
@@ -133,7 +133,7 @@ ssci_needed = (
       (record {
         there = refl;
         holds = but (HoldsIn xpn_a 1 (state_b xpn_b rx_of_3) rx_of_3) SameSsci (λ no same. cc) (λ no. refl) (λ no. refl)
-            refl (λ no. refl) refl (λ no xpn. refl) (λ no. absurd (no refl)) (λ no. omega arith) (λ no xpn. omega arith);
+            (λ no. refl) (λ no. refl) (λ no. refl) (λ no xpn. refl) (λ no. absurd (no refl)) (λ no. omega arith) (λ no xpn. omega arith);
       })
       NotValid None (λ same. cc)
       (ssci_answered (tag_from xpn_a 1) (stays_closed bytes iv_by_ssci iv_a aad (eqb-false (cover bytes iv_by_ssci) (cover bytes iv_a) sscis_differ))),

@@ -70,7 +70,7 @@ pub opens : (key iv aad : List ℕ) → open_of key iv aad [] (items 16 (tag_of 
 opens key iv aad = ap (open_of key iv aad []) (each_item 16 (tag_of key iv aad) (long_tag key iv aad)) ∙ opens_tag key iv aad
 
 -- at most one tag opens: none that begins with another octet
-first_differs : (xs : List ℕ) (octet : ℕ) (others : List ℕ) → length xs ≡ 16 → (first xs == octet) ≡ false → same_octets xs (octet ∷ others) ≡ false
+pub first_differs : (xs : List ℕ) (octet : ℕ) (others : List ℕ) → length xs ≡ 16 → (first xs == octet) ≡ false → same_octets xs (octet ∷ others) ≡ false
 unfolding first
 first_differs [] octet others long other = absurd (omega (arith, long))
 first_differs (x ∷ xs) octet others long other = ap (λ b. b && same_octets xs others) other
