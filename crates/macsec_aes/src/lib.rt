@@ -10,6 +10,8 @@ use std::array;
 use std::marker::Model;
 
 pub mod laws;
+#[cfg(test)]
+mod tests;
 
 /// A key of 128 or 256 bits: its 16 or 32 bytes, in the order of FIPS 197, 3.3.
 #[derive(Clone, Copy, PartialEq, Eq)]
@@ -240,50 +242,4 @@ pub fn encrypt(schedule: &Schedule, block: [u8; 16]) -> [u8; 16]
         state = next;
     }
     last_round(state, schedule.round_key(rounds))
-}
-
-#[cfg(test)]
-mod tests {
-    use super::*;
-
-    // 00112233445566778899aabbccddeeff
-    const BLOCK: [u8; 16] = [
-        0x00, 0x11, 0x22, 0x33, 0x44, 0x55, 0x66, 0x77, 0x88, 0x99, 0xaa, 0xbb, 0xcc, 0xdd, 0xee,
-        0xff,
-    ];
-
-    #[test]
-    fn s_box(rt: HostRuntime) {
-        assert_eq!(rt; sub(0x00), 0x63);
-        assert_eq!(rt; sub(0x53), 0xed);
-    }
-
-    // FIPS 197, appendix C.1
-    #[test]
-    fn key_of_128_bits(rt: HostRuntime) {
-        let key = Key::K128([0, 1, 2, 3, 4, 5, 6, 7, 8, 9, 10, 11, 12, 13, 14, 15]);
-        assert_eq!(rt;
-            encrypt(&Schedule::expand(&key), BLOCK),
-            [
-                0x69, 0xc4, 0xe0, 0xd8, 0x6a, 0x7b, 0x04, 0x30, 0xd8, 0xcd, 0xb7, 0x80, 0x70, 0xb4,
-                0xc5, 0x5a,
-            ]
-        );
-    }
-
-    // FIPS 197, appendix C.3
-    #[test]
-    fn key_of_256_bits(rt: HostRuntime) {
-        let key = Key::K256([
-            0, 1, 2, 3, 4, 5, 6, 7, 8, 9, 10, 11, 12, 13, 14, 15, 16, 17, 18, 19, 20, 21, 22, 23,
-            24, 25, 26, 27, 28, 29, 30, 31,
-        ]);
-        assert_eq!(rt;
-            encrypt(&Schedule::expand(&key), BLOCK),
-            [
-                0x8e, 0xa2, 0xb7, 0xca, 0x51, 0x67, 0x45, 0xbf, 0xea, 0xfc, 0x49, 0x90, 0x4b, 0x49,
-                0x60, 0x89,
-            ]
-        );
-    }
 }

@@ -14,6 +14,8 @@ use macsec_ghash::{Hash128, PlainHash};
 use std::marker::Model;
 
 pub mod laws;
+#[cfg(test)]
+mod tests;
 
 /// A key of GCM. Contracts see it as the octets of the AES key.
 #[derive(Drop)]
@@ -162,115 +164,5 @@ fn add_octets(text: &mut [u8], stream: [u8; 16])
 {
     for (k, octet) in text.iter_mut().enumerate() {
         *octet ^= stream[k];
-    }
-}
-
-#[cfg(test)]
-mod tests {
-    use super::*;
-
-    fn tag_of_nothing(key: Key) -> [u8; 16] {
-        GcmKey::new(key).seal(&[0; 12], &[], &mut [])
-    }
-
-    #[test]
-    fn empty_plaintext(rt: HostRuntime) {
-        assert_eq!(rt;
-            tag_of_nothing(Key::K128([0; 16])),
-            0x58e2_fcce_fa7e_3061_367f_1d57_a4e7_455au128.to_be_bytes()
-        );
-        assert_eq!(rt;
-            tag_of_nothing(Key::K256([0; 32])),
-            0x530f_8afb_c745_36b9_a963_b4f1_c4cb_738bu128.to_be_bytes()
-        );
-    }
-
-    #[test]
-    fn one_block_under_128_bits(rt: HostRuntime) {
-        let key = GcmKey::new(Key::K128([0; 16]));
-        let mut text = [0; 16];
-        let tag = key.seal(&[0; 12], &[], &mut text);
-        assert_eq!(rt;
-            text,
-            0x0388_dace_60b6_a392_f328_c2b9_71b2_fe78u128.to_be_bytes()
-        );
-        assert_eq!(rt;
-            tag,
-            0xab6e_47d4_2cec_13bd_f53a_67b2_1257_bddfu128.to_be_bytes()
-        );
-        assert!(rt; key.open(&[0; 12], &[], &mut text, &tag));
-        assert_eq!(rt; text, [0; 16]);
-    }
-
-    #[test]
-    fn one_block_under_256_bits(rt: HostRuntime) {
-        let key = GcmKey::new(Key::K256([0; 32]));
-        let mut text = [0; 16];
-        let tag = key.seal(&[0; 12], &[], &mut text);
-        assert_eq!(rt;
-            text,
-            0xcea7_403d_4d60_6b6e_074e_c5d3_baf3_9d18u128.to_be_bytes()
-        );
-        assert_eq!(rt;
-            tag,
-            0xd0d1_c8a7_9999_6bf0_265b_98b5_d48a_b919u128.to_be_bytes()
-        );
-        assert!(rt; key.open(&[0; 12], &[], &mut text, &tag));
-        assert_eq!(rt; text, [0; 16]);
-    }
-
-    #[test]
-    fn changed_texts_and_tags(rt: HostRuntime) {
-        let key = GcmKey::new(Key::K128([0; 16]));
-        let ciphertext = 0x0388_dace_60b6_a392_f328_c2b9_71b2_fe78u128.to_be_bytes();
-        let tag = 0xab6e_47d4_2cec_13bd_f53a_67b2_1257_bddfu128.to_be_bytes();
-        let mut text = ciphertext;
-        let mut changed_tag = tag;
-        changed_tag[15] ^= 1;
-        assert!(rt; !key.open(&[0; 12], &[], &mut text, &changed_tag));
-        assert_eq!(rt; text, ciphertext);
-        assert!(rt; !key.open(&[0; 12], &[0], &mut text, &tag));
-        assert_eq!(rt; text, ciphertext);
-        let mut changed = ciphertext;
-        changed[0] ^= 1;
-        text = changed;
-        assert!(rt; !key.open(&[0; 12], &[], &mut text, &tag));
-        assert_eq!(rt; text, changed);
-    }
-
-    // Test case 4 of the GCM specification: 20 octets of additional authenticated data and a
-    // plaintext of 60.
-    #[test]
-    fn cut_blocks(rt: HostRuntime) {
-        let key = Key::K128(0xfeff_e992_8665_731c_6d6a_8f94_6730_8308u128.to_be_bytes());
-        let iv = [
-            0xca, 0xfe, 0xba, 0xbe, 0xfa, 0xce, 0xdb, 0xad, 0xde, 0xca, 0xf8, 0x88,
-        ];
-        let mut aad = [0; 20];
-        aad[..16].copy_from_slice(&0xfeed_face_dead_beef_feed_face_dead_beefu128.to_be_bytes());
-        aad[16..].copy_from_slice(&0xabad_dad2u32.to_be_bytes());
-        let mut text = [0; 64];
-        text[..16].copy_from_slice(&0xd931_3225_f884_06e5_a559_09c5_aff5_269au128.to_be_bytes());
-        text[16..32].copy_from_slice(&0x86a7_a953_1534_f7da_2e4c_303d_8a31_8a72u128.to_be_bytes());
-        text[32..48].copy_from_slice(&0x1c3c_0c95_9568_0953_2fcf_0e24_49a6_b525u128.to_be_bytes());
-        text[48..].copy_from_slice(&0xb16a_edf5_aa0d_e657_ba63_7b39_0000_0000u128.to_be_bytes());
-        let tag = GcmKey::new(key).seal(&iv, &aad, &mut text[..60]);
-        assert_eq!(rt;
-            text[..16],
-            0x4283_1ec2_2177_7424_4b72_21b7_84d0_d49cu128.to_be_bytes()[..]
-        );
-        assert_eq!(rt;
-            text[48..],
-            0x1ba3_0b39_6a0a_ac97_3d58_e091_0000_0000u128.to_be_bytes()[..]
-        );
-        assert_eq!(rt;
-            tag,
-            0x5bc9_4fbc_3221_a5db_94fa_e95a_e712_1a47u128.to_be_bytes()
-        );
-    }
-
-    #[test]
-    fn inc32_wraps(rt: HostRuntime) {
-        assert_eq!(rt; inc32([0xff; 16]), (u128::MAX << 32).to_be_bytes());
     }
 }
