@@ -1,6 +1,6 @@
 -- What holds of the rows still holds once one association is enabled and the others are disabled.
 -- By the lemma that a change that keeps the numbers keeps it (`ChangedRows`).
-use Rattle.std.proofs.Common.{refl, length, ap, ◌∙◌}
+use Rattle.std.proofs.Common.{refl, length, ap, ◌∙◌, rules}
 use Rattle.macsec_tx.specs.Commands.{switch_to}
 use Rattle.macsec_tx.proofs.ChangedRows.{AreTxRows-map, AreTxRows-refill, IsTxRow-switch_to}
 use Rattle.macsec_tx.proofs.channel.TxChannel.tx_on.Goals as goal
@@ -10,3 +10,6 @@ invariant_of-self c = AreTxRows-refill _ _ (c.switch_to.auto.rows ∙ ap length 
 
 pub returns-clause-rows : goal.returns-clause-rows
 returns-clause-rows c = invariant_of-self c
+
+pub returns-clause-refusal : goal.returns-clause-refusal
+returns-clause-refusal c = search rules
