@@ -28,7 +28,7 @@ use Rattle.macsec_secy.specs.State.{State, rx_options, start, tx_options}
 use Rattle.macsec_link.specs.declared.End.TheVariants.{A, B}
 use Rattle.macsec_link.specs.declared.Event.{Event}
 use Rattle.macsec_link.specs.declared.Event.TheVariants.{Deliver, Send}
-use Rattle.macsec_link.specs.Logs.{no_sent_logs}
+use Rattle.macsec_ends.specs.Logs.{no_sent_logs}
 use Rattle.macsec_link.specs.Step.{world_step}
 use Rattle.macsec_link.specs.World.{WorldState}
 use Rattle.macsec_link.proofs.AcceptancePremises.{Holds, HoldsIn, LawWithout, Premise, SameBytes, SameOffset, but, fails_by, frame_from, gcm_a, gcm_b, heard, key_row, rx_from, seals_so, state_b, tag_from, tx_from, world_before, world_sent}
