@@ -1,3 +1,4 @@
 pub mod ClearParts
 pub mod KeyLemmas
 pub mod KeyIndex
+pub mod EqualIvs

@@ -5,6 +5,7 @@ pub mod FaultNumbers
 pub mod Parts
 pub mod InPlace
 pub mod Laws
+pub mod IvLaws
 pub mod KeyRows
 pub mod CipherUses
 pub mod Refusals
