@@ -70,7 +70,7 @@ same_plaintext key other rx sci number p same of_sci =
 no_fault : (frame : List ℕ) → min_frame_len ≤ length frame → length frame ≤ max_frame_len → frame_fault frame ≡ None
 no_fault frame least most = rw (le-ltb (length frame) min_frame_len least, le-ltb max_frame_len (length frame) most) refl
 
-is_long : (frame : List ℕ) → frame_fault frame ≡ None → min_frame_len ≤ length frame
+pub is_long : (frame : List ℕ) → frame_fault frame ≡ None → min_frame_len ≤ length frame
 is_long frame none = by_test (nat_lt (length frame) min_frame_len) refl none
   where
     by_test : (b : Bool) → nat_lt (length frame) min_frame_len ≡ b → (if b then Some Short else if nat_lt max_frame_len (length frame) then Some Long else None) ≡ None → min_frame_len ≤ length frame

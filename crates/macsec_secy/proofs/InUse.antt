@@ -22,7 +22,7 @@ found test P (y ∷ ys) x all is = by_test (test y) refl (found test P ys x (λ 
     by_test true passes later is' = let it : y ≡ x = cc in subst (IsFound test P) it (record { passes = passes; holds = all 0 y (omega arith) })
     by_test false passes later is' = later is'
 
-one_sci : (s t : Sci) → same_sci s t ≡ true → s ≡ t
+pub one_sci : (s t : Sci) → same_sci s t ≡ true → s ≡ t
 one_sci s t same = ap {B = Sci} (λ octets. record { 0 = octets }) (same_text s.0 t.0 (sym same))
 
 pub record IsInUse (P : RxRow → Type 0) (of_sci : Sci) (of_an : ℕ) (row : RxRow) : Type 0 where

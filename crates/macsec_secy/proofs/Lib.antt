@@ -30,3 +30,12 @@ pub mod ProtectedBy
 pub mod InUse
 pub mod Passed
 pub mod Accepted
+pub mod Contained
+pub mod KeysApart
+pub mod KeysStay
+pub mod RxRowsStay
+pub mod Deliveries
+pub mod DeliveredFrom
+pub mod BehindTags
+pub mod OpenedAgain
+pub mod Protections

@@ -15,3 +15,6 @@ pub mod Laws
 pub mod Answers
 pub mod Rests
 pub mod Accepts
+pub mod Kept
+pub mod Protects
+pub mod Delivers

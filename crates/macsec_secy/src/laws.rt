@@ -1,6 +1,7 @@
 //! Laws of the machine, of the definitions alone: each is the contract of a function with an empty body.
 
 ghost use Rattle.std.specs.Prelude.{ℕ, List};
+ghost use Rattle.macsec_tag.specs.declared.identifiers.Sci.{Sci};
 ghost use Rattle.macsec_tx.specs.declared.TxRow.{TxRow};
 ghost use Rattle.macsec_rx.specs.declared.RxRow.{RxRow};
 ghost use Rattle.macsec_secy.specs.declared.config.EndConfig.{EndConfig};
@@ -11,8 +12,11 @@ ghost use Rattle.macsec_secy.specs.Step.{Input, client_frame, step};
 ghost use Rattle.macsec_secy.specs.Frames.{HasFrameLengths, HasLengthsFrom};
 ghost use Rattle.macsec_secy.specs.Laws.{UsesNoNumberTwice, UsesRisingNumbers};
 ghost use Rattle.macsec_secy.specs.Accepts.{AcceptsSent};
+ghost use Rattle.macsec_secy.specs.Kept.{KeysAreApart, KeysStay, RxRowStays, RxRowsAreApart};
+ghost use Rattle.macsec_secy.specs.Protects.{Protects};
+ghost use Rattle.macsec_secy.specs.Delivers.{DeliversFrom};
 
-use macsec_gcm::laws::{open_undoes_seal, sealed_lengths};
+use macsec_gcm::laws::{open_undoes_seal, sealed_lengths, sealing_is_injective};
 use macsec_tag::laws::read_again;
 use macsec_tx::laws::read_as_sent;
 
@@ -62,3 +66,40 @@ pub fn accepts_sent()
     read_again();
     read_as_sent();
 }
+
+/// In every state of which `IsSound` holds: keys are told apart by their numbers and by their bytes; and whatever comes
+/// in, the configuration is the same after it, and each key stays, with its number, suite, bytes, salt, own SSCI and offset, and
+/// with a first unused packet number that does not fall.
+pub fn keys_stay()
+    ensures apart { (s : State) → IsSound s → KeysAreApart s.keys }
+    ensures stay { (s : State) (input : Input) → IsSound s → KeysStay s (step s input).1 }
+{}
+
+/// In every state of which `IsSound` holds, a receive association is the one of its channel and its number. Whatever comes
+/// in, an association stays, and its next packet number does not fall, until a command deletes it or its channel.
+pub fn rx_rows_stay()
+    ensures apart { (s : State) → IsSound s → RxRowsAreApart s.rx.rows }
+    ensures stay { (s : State) (input : Input) (sci : Sci) (an n : ℕ) → RxRowStays s input sci an n }
+{}
+
+/// In every state of which `IsSound` holds, a packet number under which a client frame is protected was never used under
+/// the key, is at most the last of the suite, and is used afterwards. The protected frame is read as the parts that were
+/// sent, and what opens of it, under whatever offset, is the client frame.
+pub fn protects_frames()
+    ensures { (s : State) (frame : List ℕ) (row : TxRow) → Protects s frame row }
+{
+    // Laws that the proof cites.
+    open_undoes_seal();
+    sealing_is_injective();
+    sealed_lengths();
+    read_as_sent();
+}
+
+/// In every state of which `IsSound` holds, a frame that is delivered from a receive association is delivered from the
+/// one that is enabled for it, which is another sender's. If replay protection is enabled, its packet number is not late,
+/// and the association's next packet number is above the lowest acceptable one by the replay window at most. If step 13
+/// of reception decided, the next packet number is above the frame's afterwards; and in the mode Strict it did, and the
+/// cipher opened what is delivered (IEEE 802.1AE, 10.6).
+pub fn delivers_in_time()
+    ensures { (s : State) (frame : List ℕ) (row : RxRow) (delivered : List ℕ) → DeliversFrom s frame row delivered }
+{}

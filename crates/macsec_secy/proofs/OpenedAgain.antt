@@ -1,0 +1,111 @@
+-- What opens of the use of the cipher that a protected frame is, is the client frame, whoever opens it: additional
+-- authenticated data and ciphertext fix the frame, whatever the offset of the opening key.
+use Rattle.std.proofs.Common.{◌≡◌, ℕ, ◌≤◌, Bool, true, false, List, ◌++◌, length, take, drop, ap, sym, ◌∙◌, arith, length-append, append_assoc, length-drop}
+use Rattle.std.specs.Prelude.{slice_range, min, if◌then◌else◌, Some}
+use Rattle.std.proofs.lemmas.List.{drop_at, length-take-le, take-append-drop, take_at}
+use Rattle.std.proofs.Math.Seq.{take-add}
+use Rattle.macsec_gcm.specs.Gcm.{seal_of}
+use Rattle.macsec_gcm.specs.Laws.{OpenUndoesSeal, SealedLengths, SealingIsInjective}
+use Rattle.macsec_tag.specs.Tag.{IsTag, Tag, encoding}
+use Rattle.macsec_suite.specs.CipherUses.{CipherUse, cipher_use, plaintext_of_use}
+use Rattle.macsec_suite.specs.KeyRows.{InstalledKey, prepared_key}
+use Rattle.macsec_suite.specs.Parts.{clear_length}
+use Rattle.macsec_tx.specs.Transmit.{parts_under}
+use Rattle.macsec_secy.specs.Protects.{OpensAs}
+use Rattle.macsec_secy.proofs.BehindTags.{same_back, same_behind_tags, same_front}
+
+-- the laws of sealing and opening
+pub record CipherLaws : Type 0 where
+  pub undoes : OpenUndoesSeal
+  pub injective : SealingIsInjective
+  pub lengths : SealedLengths
+
+-- ---- what is sealed of a client's frame
+
+-- the octets that stay clear depend on the length alone
+clear_of_length : (offset : ℕ) (e : Bool) (xs ys : List ℕ) → length xs ≡ length ys → clear_length offset e xs ≡ clear_length offset e ys
+clear_of_length offset e xs ys same = ap (λ n. if e then min offset n else n) same
+
+clear_within : (offset : ℕ) (e : Bool) (xs : List ℕ) → clear_length offset e xs ≤ length xs
+clear_within offset true xs = omega arith
+clear_within offset false xs = omega arith
+
+module _ (laws : CipherLaws) (key : InstalledKey) (iv : List ℕ) (tag : Tag) (frame : List ℕ) where
+  abbrev da : List ℕ
+  da = take 6 frame
+
+  abbrev sa : List ℕ
+  sa = slice_range frame 6 12
+
+  abbrev user_data : List ℕ
+  user_data = drop 12 frame
+
+  abbrev clear : ℕ
+  clear = clear_length key.offset tag.e user_data
+
+  abbrev aad : List ℕ
+  aad = da ++ sa ++ encoding tag ++ take clear user_data
+
+  abbrev sealed : List ℕ × List ℕ
+  sealed = seal_of key.bytes iv aad (drop clear user_data)
+
+  abbrev data_sent : List ℕ
+  data_sent = take clear user_data ++ sealed.0
+
+  long_clear : length (take clear user_data) ≡ clear
+  long_clear = length-take-le clear user_data (clear_within key.offset tag.e user_data)
+
+  same_long : length data_sent ≡ length user_data
+  same_long =
+      omega (arith, length-append (take clear user_data) sealed.0, laws.lengths.ciphertext key.bytes iv aad (drop clear user_data), length-drop clear user_data, long_clear, clear_within key.offset tag.e user_data)
+
+  pub text_sent : cipher_use key iv (parts_under (prepared_key key) iv tag frame) ≡ record { key = key.bytes; iv = iv; aad = aad; ciphertext = sealed.0; tag = sealed.1 }
+  text_sent =
+      let same : clear_length key.offset tag.e data_sent ≡ clear = clear_of_length key.offset tag.e data_sent user_data same_long in
+      ap (λ n. record { key = key.bytes; iv = iv; aad = da ++ sa ++ encoding tag ++ take n data_sent; ciphertext = drop n data_sent; tag = sealed.1 }) same
+      ∙ ap (λ (xs : List ℕ). record { key = key.bytes; iv = iv; aad = da ++ sa ++ encoding tag ++ xs; ciphertext = drop clear data_sent; tag = sealed.1 }) (take_at (take clear user_data) sealed.0 clear long_clear)
+      ∙ ap (λ (xs : List ℕ). record { key = key.bytes; iv = iv; aad = aad; ciphertext = xs; tag = sealed.1 }) (drop_at (take clear user_data) sealed.0 clear long_clear)
+
+-- ---- what opens of it
+
+-- the frame is its addresses and its data
+cut_frame : (frame : List ℕ) → 12 ≤ length frame → (take 6 frame ++ slice_range frame 6 12) ++ drop 12 frame ≡ frame
+cut_frame frame long = ap (λ (xs : List ℕ). xs ++ drop 12 frame) (sym (take-add 6 6 frame)) ∙ take-append-drop 12 frame
+
+long_addresses : (frame : List ℕ) → 12 ≤ length frame → length (take 6 frame ++ slice_range frame 6 12) ≡ 12
+long_addresses frame long = ap length (sym (take-add 6 6 frame)) ∙ length-take-le 12 frame long
+
+-- additional authenticated data of the same octets have the same addresses and the same clear octets
+record HasSameClear (front front' clear clear' : List ℕ) : Type 0 where
+  fronts : front ≡ front'
+  clears : clear ≡ clear'
+
+same_clear : (front front' : List ℕ) (t t' : Tag) (clear clear' : List ℕ) → length front ≡ 12 → length front' ≡ 12 → IsTag t → IsTag t' →
+    (front ++ encoding t) ++ clear ≡ (front' ++ encoding t') ++ clear' → HasSameClear front front' clear clear'
+same_clear front front' t t' clear clear' long long' is is' e =
+    let whole : front ++ (encoding t ++ clear) ≡ front' ++ (encoding t' ++ clear') = sym (append_assoc front (encoding t) clear) ∙ e ∙ append_assoc front' (encoding t') clear' in
+    record {
+      fronts = same_front front front' (encoding t ++ clear) (encoding t' ++ clear') (long ∙ sym long') whole;
+      clears = same_behind_tags t t' clear clear' is is' (same_back front front' (encoding t ++ clear) (encoding t' ++ clear') (long ∙ sym long') whole);
+    }
+
+pub opens_as_sent : CipherLaws → (key : InstalledKey) (iv : List ℕ) (tag : Tag) (frame : List ℕ) → IsTag tag → 12 ≤ length frame →
+    OpensAs (cipher_use key iv (parts_under (prepared_key key) iv tag frame)) frame
+opens_as_sent laws key iv tag frame is long key' iv' p plaintext is' six_da six_sa asked opens =
+    let sent = text_sent laws key iv tag frame in
+    let n = clear_length key.offset tag.e (drop 12 frame) in
+    let aad = take 6 frame ++ slice_range frame 6 12 ++ encoding tag ++ take n (drop 12 frame) in
+    let sealed = seal_of key.bytes iv aad (drop n (drop 12 frame)) in
+    let text : CipherUse = record { key = key.bytes; iv = iv; aad = aad; ciphertext = sealed.0; tag = sealed.1 } in
+    let opened : plaintext_of_use text ≡ Some plaintext = ap plaintext_of_use (sym sent) ∙ opens in
+    let seals : seal_of key.bytes iv aad plaintext ≡ (sealed.0, sealed.1) = (laws.undoes key.bytes iv aad sealed.0 sealed.1 plaintext).0 opened in
+    let plain : plaintext ≡ drop n (drop 12 frame) = laws.injective key.bytes iv aad plaintext (drop n (drop 12 frame)) (ap (λ (pair : List ℕ × List ℕ). pair.0) seals) in
+    let m = clear_length key'.offset p.tag.e p.secure_data in
+    let same = same_clear (p.da ++ p.sa) (take 6 frame ++ slice_range frame 6 12) p.tag tag (take m p.secure_data) (take n (drop 12 frame))
+    (omega (arith, length-append p.da p.sa, six_da, six_sa)) (long_addresses frame long) is' is (ap (λ (x : CipherUse). x.aad) (asked ∙ sent)) in
+    ap (λ (xs : List ℕ). (xs ++ take m p.secure_data) ++ plaintext) same.fronts
+    ∙ ap (λ (xs : List ℕ). ((take 6 frame ++ slice_range frame 6 12) ++ xs) ++ plaintext) same.clears
+    ∙ ap (λ (xs : List ℕ). ((take 6 frame ++ slice_range frame 6 12) ++ take n (drop 12 frame)) ++ xs) plain
+    ∙ append_assoc (take 6 frame ++ slice_range frame 6 12) (take n (drop 12 frame)) (drop n (drop 12 frame))
+    ∙ ap (λ (xs : List ℕ). (take 6 frame ++ slice_range frame 6 12) ++ xs) (take-append-drop n (drop 12 frame))
+    ∙ cut_frame frame long
