@@ -49,17 +49,13 @@ use Rattle.macsec_link.specs.Trace as trace
 use Rattle.macsec_link.specs.World.{WorldState, end_of, frame_at, new_world, other_end}
 use Rattle.macsec_link.proofs.Accepted.{LawOfStep, StandsWith, stands_with}
 use Rattle.macsec_link.proofs.Deliveries.{Grammar}
-use Rattle.macsec_link.proofs.Ivs.{same_salt}
-use Rattle.macsec_link.proofs.Keys.{there_where_found}
+use Rattle.macsec_link.proofs.EndpointLaws.{EndpointLaws, key_row_facts}
 use Rattle.macsec_link.proofs.LinkFrames.{finds}
 use Rattle.macsec_link.proofs.Members.{IsMember, contained}
 use Rattle.macsec_link.proofs.Moments.{AreSound, world_of_trace}
-use Rattle.macsec_link.proofs.Protecting.{has_number_left, next_is_unused}
-use Rattle.macsec_link.proofs.RxRows.{one_sci}
-use Rattle.macsec_link.proofs.Seals.{fits, key_row_facts, sound_end}
-use Rattle.macsec_link.proofs.Sends.{sent_as}
-use Rattle.macsec_link.proofs.ClientFrames.{ReadAsSent}
+use Rattle.macsec_link.proofs.Seals.{fits, sound_end}
 use Rattle.macsec_link.proofs.SentStands.{stands_on_link, stays_on_link}
+use Rattle.macsec_link.proofs.WindowMarks.{one_sci}
 
 -- ---- the packet number that is recovered, and the IV
 
@@ -71,6 +67,12 @@ recovered Gcm128 lowest n least most from to = let it : n % 2 ^ 32 ≡ n = omega
 recovered Gcm256 lowest n least most from to = let it : n % 2 ^ 32 ≡ n = omega (arith, most) in ap Some it
 recovered Xpn128 lowest n least most from to = near lowest n least (omega (arith, most)) from (to refl)
 recovered Xpn256 lowest n least most from to = near lowest n least (omega (arith, most)) from (to refl)
+
+same_salt : (suite : Suite) (sci : Sci) (ssci : ℕ) (salt salt' : List ℕ) (n : ℕ) → (is_xpn suite ≡ true → salt' ≡ salt) → iv_of suite sci ssci salt n ≡ iv_of suite sci ssci salt' n
+same_salt Gcm128 sci ssci salt salt' n same = refl
+same_salt Gcm256 sci ssci salt salt' n same = refl
+same_salt Xpn128 sci ssci salt salt' n same = ap (λ z. extended_iv ssci z n) (sym (same refl))
+same_salt Xpn256 sci ssci salt salt' n same = ap (λ z. extended_iv ssci z n) (sym (same refl))
 
 same_ssci : (suite : Suite) (sci : Sci) (ssci ssci' : ℕ) (salt : List ℕ) (n : ℕ) → (is_xpn suite ≡ true → ssci ≡ ssci') → iv_of suite sci ssci salt n ≡ iv_of suite sci ssci' salt n
 same_ssci Gcm128 sci ssci ssci' salt n same = refl
@@ -173,7 +175,7 @@ verdict_of s frame client sci an passed = by_fault (frame_fault frame) passed
 abbrev padded_by : MpduParts → List ℕ → MpduParts
 padded_by p behind = record p { padding = behind }
 
-module _ (law_of_step : LawOfStep) (read_as_sent : ReadAsSent) (grammar : Grammar) (w : WorldState) (e : End) (n : ℕ) (sender : State) (client : List ℕ) (tx : TxRow) (rx : RxRow)
+module _ (law_of_step : LawOfStep) (laws : EndpointLaws) (grammar : Grammar) (w : WorldState) (e : End) (n : ℕ) (sender : State) (client : List ℕ) (tx : TxRow) (rx : RxRow)
     (sound : IsSound w) (sender_sound : endpoint.IsSound sender) (good : frame_fault client ≡ None) (by : (sending_of sender client).by ≡ Some tx)
     (can : CanAccept sender (end_of w e).state tx rx (parts_sent (tx_options sender) (the_key sender.keys tx.key) tx client))
     (on_link : IsOnLink w n (parts_sent (tx_options sender) (the_key sender.keys tx.key) tx client)) where
@@ -190,7 +192,7 @@ module _ (law_of_step : LawOfStep) (read_as_sent : ReadAsSent) (grammar : Gramma
   p = parts_sent (tx_options sender) key tx client
 
   is_sent : IsReadAsSent (tx_options sender) key tx client
-  is_sent = sent_as read_as_sent sender client tx sender_sound good by
+  is_sent = (laws.protects sender client tx sender_sound good by).read
 
   at : StandsWith w n p
   at = stands_with w n p sound is_sent.is_tagged.lengths on_link
@@ -223,11 +225,11 @@ module _ (law_of_step : LawOfStep) (read_as_sent : ReadAsSent) (grammar : Gramma
 
   recovers : recovered_number (is_xpn other.suite) rx.lowest (tx.next % 2 ^ 32) ≡ Some tx.next
   recovers =
-      let unused = next_is_unused sender client tx sender_sound.agrees by in
-      let facts = key_row_facts sender key sender_sound (there_where_found sender.keys tx.key unused.0).0 in
-      let above : key.first_unused ≤ tx.next = unused.1 in
+      let it = laws.protects sender client tx sender_sound good by in
+      let facts = key_row_facts laws sender key sender_sound ((laws.apart sender sender_sound).found tx.key it.there).there in
+      let above : key.first_unused ≤ tx.next = it.unused in
       ap (λ (u : Suite). recovered_number (is_xpn u) rx.lowest (tx.next % 2 ^ 32)) can.key.suite
-      ∙ recovered key.suite rx.lowest tx.next (omega (arith, facts.first_unused_least, above)) (has_number_left sender client tx by) can.not_late can.near
+      ∙ recovered key.suite rx.lowest tx.next (omega (arith, facts.first_unused_least, above)) it.most can.not_late can.near
 
   at_thirteen : IsAtThirteen (judgement_of s (frame_at w n)) rx tx.next
   at_thirteen = subst (λ (j : Judgement). IsAtThirteen j rx tx.next) (sym judged) (by_row (rx_options s) s.keys rx tx.next q recovers (ap (λ (j : Judgement). j.verdict) (sym judged) ∙ verdict))
@@ -318,14 +320,14 @@ IsGenuineInTime a b events = (e : End) (k m n : ℕ) (client : List ℕ) (tx : T
     CanAccept (end_of before (other_end e)).state (end_of w e).state tx rx (frame_sent before (other_end e) client tx) →
     IsOnLink w n (frame_sent before (other_end e) client tx) → IsGenuineAt (trace_of a b (take m events)) (Deliver e n)
 
-pub genuine_in_time : LawOfStep → ReadAsSent → Grammar → (a b : EndConfig) (events : List Event) → AreSound a b events → IsGenuineInTime a b events
-genuine_in_time law_of_step read_as_sent grammar a b events sounds e k m n client tx rx sends less can on_link =
+pub genuine_in_time : LawOfStep → EndpointLaws → Grammar → (a b : EndConfig) (events : List Event) → AreSound a b events → IsGenuineInTime a b events
+genuine_in_time law_of_step laws grammar a b events sounds e k m n client tx rx sends less can on_link =
     let before : WorldState = world_at a b events k in
     let w : WorldState = world_at a b events m in
     let seals : List CipherUse = (trace_of a b (take m events)).seals in
     let sealed : Contains seals (sealed_at before (other_end e) client tx) =
     sealed_later (new_trace a b) events k m (other_end e) client tx before sends.sends (world_of_trace (new_trace a b) (take k events)) (record { none = sends.none; by = sends.by }) less in
-    let opened = opened_in_time law_of_step read_as_sent grammar w e n (end_of before (other_end e)).state client tx rx (sounds m) (sound_end before (sounds k) (other_end e))
+    let opened = opened_in_time law_of_step laws grammar w e n (end_of before (other_end e)).state client tx rx (sounds m) (sound_end before (sounds k) (other_end e))
     (fits before (other_end e) client sends.none) sends.by can on_link in
     subst (λ (v : WorldState). IfSome (text_opened (end_of v e).state (frame_at v n)) (Contains seals)) (sym (world_of_trace (new_trace a b) (take m events)))
     (subst (λ o. IfSome o (Contains seals)) (sym opened) sealed)

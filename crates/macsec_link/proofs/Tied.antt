@@ -7,8 +7,8 @@ use Rattle.macsec_rx.specs.Channels.{rx_row}
 use Rattle.macsec_ends.specs.Ends.{EndState}
 use Rattle.macsec_ends.specs.Logs.{DeliveryLog, association_of_log, association_of_row, live_logs}
 use Rattle.macsec_ends.specs.Sound.{IsSoundEnd}
-use Rattle.macsec_link.proofs.Members.{IsMember, found_member, from_map, left_member, member_of_map}
-use Rattle.macsec_link.proofs.RxRows.{member_at_place}
+use Rattle.macsec_link.proofs.EndpointLaws.{EndpointLaws}
+use Rattle.macsec_link.proofs.Members.{IsMember, contained, found_member, from_map, left_member, member_of_map}
 
 pub record IsKeyed (rows : List RxRow) (sci : Sci) (an key : ℕ) : Type 0 where
   pub row : RxRow
@@ -18,12 +18,12 @@ pub record IsKeyed (rows : List RxRow) (sci : Sci) (an key : ℕ) : Type 0 where
 abbrev pub IsTied : List RxRow → DeliveryLog → Type 0
 IsTied rows log = log.live ≡ true → IsKeyed rows log.sci log.an log.key
 
-pub tied : (e : EndState) (i : ℕ) (log : DeliveryLog) → IsSoundEnd e → slice_get e.delivered i ≡ Some log → IsTied e.state.rx.rows log
-tied e i log sound found live =
+pub tied : EndpointLaws → (e : EndState) (i : ℕ) (log : DeliveryLog) → IsSoundEnd e → slice_get e.delivered i ≡ Some log → IsTied e.state.rx.rows log
+tied laws e i log sound found live =
     let there = left_member (λ (l : DeliveryLog). l.live) e.delivered log (found_member e.delivered i log found) live in
     let it = from_map association_of_row e.state.rx.rows (association_of_log log) (subst (λ (xs : List (Sci × ℕ × ℕ)). IsMember xs (association_of_log log)) sound.logged (member_of_map association_of_log (live_logs e.delivered) log there)) in
     let row = it.0 in
-    let place = member_at_place e.state.rx.rows row sound.endpoint.agrees.rx_places it.1 in
+    let place = laws.rx_apart e.state sound.endpoint row (contained e.state.rx.rows row it.1) in
     record {
       row = row;
       there = ap (λ s. rx_row e.state.rx.rows s log.an) (sym (ap (λ (x : Sci × ℕ × ℕ). x.0) it.2)) ∙ ap (λ n. rx_row e.state.rx.rows row.sci n) (sym (ap (λ (x : Sci × ℕ × ℕ). x.1) it.2)) ∙ place;

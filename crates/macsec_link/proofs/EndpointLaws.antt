@@ -1,0 +1,36 @@
+-- The laws of an endpoint, as their calls give them, and what follows of two keys whose IVs are equal.
+use Rattle.std.proofs.Common.{◌≡◌, ◌≢◌, ℕ, Bool, true, false, List, refl, Contains}
+use Rattle.std.proofs.lemmas.List.Elements.{All-contains}
+use Rattle.macsec_tag.specs.declared.identifiers.Sci.{Sci}
+use Rattle.macsec_suite.specs.declared.suite.Suite.{Suite}
+use Rattle.macsec_suite.specs.IvLaws.{EqualIvs, HaveSameSender, IvParts}
+use Rattle.macsec_suite.specs.KeyRows.{InstalledKey, IsKeyRow}
+use Rattle.macsec_suite.specs.Suites.{is_xpn}
+use Rattle.macsec_tx.specs.declared.TxRow.{TxRow}
+use Rattle.macsec_rx.specs.declared.RxRow.{RxRow}
+use Rattle.macsec_secy.specs.Delivers.{DeliversFrom}
+use Rattle.macsec_secy.specs.Kept.{KeysAreApart, KeysStay, RxRowStays, RxRowsAreApart}
+use Rattle.macsec_secy.specs.Protects.{Protects}
+use Rattle.macsec_secy.specs.Sound.{IsSound}
+use Rattle.macsec_secy.specs.State.{State}
+use Rattle.macsec_secy.specs.Step.{Input, step}
+
+pub record EndpointLaws : Type 0 where
+  pub equal_ivs : (suite : Suite) (p q : IvParts) → EqualIvs suite p q
+  pub apart : (s : State) → IsSound s → KeysAreApart s.keys
+  pub stay : (s : State) (input : Input) → IsSound s → KeysStay s (step s input).1
+  pub rx_apart : (s : State) → IsSound s → RxRowsAreApart s.rx.rows
+  pub rx_rows_stay : (s : State) (input : Input) (sci : Sci) (an n : ℕ) → RxRowStays s input sci an n
+  pub protects : (s : State) (frame : List ℕ) (row : TxRow) → Protects s frame row
+  pub delivers : (s : State) (frame : List ℕ) (row : RxRow) (delivered : List ℕ) → DeliversFrom s frame row delivered
+
+pub key_row_facts : EndpointLaws → (s : State) (key : InstalledKey) → IsSound s → Contains s.keys key → IsKeyRow key
+key_row_facts laws s key sound there = All-contains IsKeyRow s.keys key (laws.apart s sound).rows there
+
+-- two senders that differ do not have one IV
+pub differ : (suite : Suite) (p q : IvParts) → HaveSameSender suite p q → (is_xpn suite ≡ true → p.ssci ≢ q.ssci) → p.sci ≢ q.sci → ⊥
+differ suite p q same sscis scis = by_test (is_xpn suite) refl
+  where
+    by_test : (b : Bool) → is_xpn suite ≡ b → ⊥
+    by_test true xpn = sscis xpn (same.ssci xpn)
+    by_test false plain = scis (same.sci plain)
