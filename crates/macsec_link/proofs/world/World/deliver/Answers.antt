@@ -1,14 +1,34 @@
-use Rattle.std.proofs.Common.{rules}
+use Rattle.std.proofs.Common.{◌≡◌, ℕ, List, ap, rules, subst, sym}
+use Rattle.std.specs.Prelude.{None, Err}
+use Rattle.macsec_secy.specs.Step.{frame_fault}
+use Rattle.macsec_link.specs.World.{WorldState}
+use Rattle.macsec_link.proofs.LinkFrames.{at_place, heard}
+use Rattle.macsec_link.proofs.world.World.deliver.Goals.{in-A, in-B}
+use Rattle.macsec_link.specs.declared.Event.TheVariants as event
+use Rattle.macsec_link.proofs.Faulted.{passed_on}
 use Rattle.macsec_link.proofs.world.World.deliver.Goals as goal
 
-pub returns-clause-sound : goal.returns-clause-sound
-returns-clause-sound c = search rules
+pub returns-in_err-check_delivery-clause-steps : goal.returns-in_err-check_delivery-clause-steps
+returns-in_err-check_delivery-clause-steps c =
+    let passed : c.from_residual.result ≡ Err c.in_err-check_delivery.field-0.0 = search rules in
+    passed_on c.args.self.now (event.Deliver c.args.end c.args.n) c.from_residual.result c.in_err-check_delivery.field-0.0 passed (c.in_err-check_delivery.ensures.admits c.args.end)
 
-pub returns-in_default-hearing-clause-steps : goal.returns-in_default-hearing-clause-steps
-returns-in_default-hearing-clause-steps c = search rules
+-- the frame that the end receives is the link frame of the number
+pub receive-hearing-requires : goal.receive-hearing-requires
+receive-hearing-requires c =
+    let same = at_place c.args.self.now c.self.inside.frames.items c.args.n c.index.result.now c.as_slice-frame.result.now (ap (λ (w : WorldState). w.frames) c.self.view_is) c.in_ok-check_delivery.ensures.there
+    c.index.ensures c.as_slice-frame.ensures.value in
+    record { fits = subst (λ (f : List ℕ). frame_fault f ≡ None) (sym same) c.in_ok-check_delivery.ensures.fits }
 
-pub returns-in_default-hearing-clause-sound : goal.returns-in_default-hearing-clause-sound
-returns-in_default-hearing-clause-sound c = search rules
+pub receive-hearing-requires-in-B : goal.receive-hearing-requires-in-B
+receive-hearing-requires-in-B c =
+    let same = at_place c.args.self.now c.self.inside.frames.items c.args.n c.index.result.now c.as_slice-frame.result.now (ap (λ (w : WorldState). w.frames) c.self.view_is) c.in_ok-check_delivery.ensures.there
+    c.index.ensures c.as_slice-frame.ensures.value in
+    record { fits = subst (λ (f : List ℕ). frame_fault f ≡ None) (sym same) c.in_ok-check_delivery.ensures.fits }
 
-pub invariant_of-self : goal.invariant_of-self
-invariant_of-self c = search rules
+pub returns-clause-steps : goal.returns-clause-steps
+returns-clause-steps c =
+    let none = c.in_ok-check_delivery.ensures.admits c.args.end in
+    let same = at_place c.args.self.now c.self.inside.frames.items c.args.n c.index.result.now c.as_slice-frame.result.now (ap (λ (w : WorldState). w.frames) c.self.view_is) c.in_ok-check_delivery.ensures.there
+    c.index.ensures c.as_slice-frame.ensures.value in
+    elim c.match-end.branch [ in-A w ↦ search (rules, heard) | in-B w ↦ search (rules, heard) ]

@@ -1,6 +1,10 @@
-use Rattle.std.proofs.Common.{arith}
-use Rattle.std.proofs.lemmas.Grind.{common_steps}
+use Rattle.std.proofs.Common.{◌≡◌, rules}
+use Rattle.std.specs.Prelude.{Err}
+use Rattle.macsec_link.specs.declared.Event.TheVariants as event
+use Rattle.macsec_link.proofs.Faulted.{passed_on}
 use Rattle.macsec_link.proofs.world.World.inject.Goals as goal
 
-pub returns-then-count-ge-MAX_LINK_FRAMES-clause-steps : goal.returns-then-count-ge-MAX_LINK_FRAMES-clause-steps
-returns-then-count-ge-MAX_LINK_FRAMES-clause-steps c = grind (arith, common_steps)
+pub returns-in_err-check_injection-clause-steps : goal.returns-in_err-check_injection-clause-steps
+returns-in_err-check_injection-clause-steps c =
+    let passed : c.from_residual.result ≡ Err c.in_err-check_injection.field-0.0 = search rules in
+    passed_on c.args.self.now (event.Inject c.args.frame.now) c.from_residual.result c.in_err-check_injection.field-0.0 passed c.in_err-check_injection.ensures.admits

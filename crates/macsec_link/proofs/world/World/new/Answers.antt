@@ -1,8 +1,6 @@
-use Rattle.std.proofs.Common.{rules}
+use Rattle.std.proofs.Common.{◌∙◌, sym}
+use Rattle.macsec_link.proofs.Faulted.{refuses}
 use Rattle.macsec_link.proofs.world.World.new.Goals as goal
 
 pub returns-in-Some-clause-made : goal.returns-in-Some-clause-made
-returns-in-Some-clause-made c = search rules
-
-pub returns-in_default-new-clause-made : goal.returns-in_default-new-clause-made
-returns-in_default-new-clause-made c = search rules
+returns-in-Some-clause-made c = refuses c.args.a c.args.b c.in-Some.fault (sym c.make_fault.ensures ∙ c.in-Some.is)

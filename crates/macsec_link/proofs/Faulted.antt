@@ -1,0 +1,64 @@
+-- The first fault of an event, with which it leaves the world as it is, and that of two configurations. Neither is out of memory.
+use Rattle.std.proofs.Common.{◌≡◌, ◌∙◌, Bool, true, false, List, [], ◌∷◌, ap, refl, subst, sym}
+use Rattle.std.specs.Prelude.{Option, Some, None, Result, Err, MatchBool, if◌then◌else◌}
+use Rattle.macsec_suite.specs.FirstThatHolds.{first_that_holds}
+use Rattle.macsec_link.specs.declared.Event.{Event}
+use Rattle.macsec_link.specs.declared.Event.TheVariants.{Command, Send, SendUncontrolled, Deliver, Alter, Pad, Inject}
+use Rattle.macsec_link.specs.declared.Outcome.{Outcome}
+use Rattle.macsec_link.specs.declared.WorldFault.{WorldFault}
+use Rattle.macsec_link.specs.declared.WorldFault.TheVariants.{Memory, NoFrame, LinkFull, AlterRange, Short, Long, Make}
+use Rattle.macsec_secy.specs.declared.config.EndConfig.{EndConfig}
+use Rattle.macsec_secy.specs.declared.fault.NewFault.{NewFault}
+use Rattle.macsec_secy.specs.Configs.{config_fault}
+use Rattle.macsec_link.specs.Answers.{Happens, RefusesMaking, RunsOutOfMemory, Steps, is_memory, make_fault, make_fault_of}
+use Rattle.macsec_link.specs.Faults.{FaultLine, fault_of, faults}
+use Rattle.macsec_link.specs.Step.{Answer, unless_fault}
+use Rattle.macsec_link.specs.World.{WorldState}
+
+abbrev AreNotMemory : List FaultLine → Type 0
+AreNotMemory [] = Unit {0}
+AreNotMemory (line ∷ lines) = (is_memory (Err line.0) ≡ false) × AreNotMemory lines
+
+first_is_not_memory : (lines : List FaultLine) (fault : WorldFault) → AreNotMemory lines → first_that_holds lines ≡ Some fault → is_memory (Err fault) ≡ false
+first_is_not_memory [] fault none found = cc
+first_is_not_memory (line ∷ lines) fault none found = by_test line.1 (first_is_not_memory lines fault none.1) found
+  where
+    by_test : (b : Bool) → (first_that_holds lines ≡ Some fault → is_memory (Err fault) ≡ false) → (if b then Some line.0 else first_that_holds lines) ≡ Some fault → is_memory (Err fault) ≡ false
+    by_test true later found' = let it : line.0 ≡ fault = cc in subst (λ (f : WorldFault). is_memory (Err f) ≡ false) it none.0
+    by_test false later found' = later found'
+
+not_memory : (w : WorldState) (event : Event) → AreNotMemory (faults w event)
+not_memory w (Command e c) = tt
+not_memory w (Send e frame) = (refl, (refl, (refl, tt)))
+not_memory w (SendUncontrolled e frame) = (refl, (refl, (refl, tt)))
+not_memory w (Deliver e n) = (refl, (refl, tt))
+not_memory w (Alter n place octet) = (refl, (refl, (refl, tt)))
+not_memory w (Pad n) = (refl, (refl, tt))
+not_memory w (Inject frame) = (refl, (refl, (refl, tt)))
+
+faulted : (w : WorldState) (event : Event) (fault : WorldFault) → fault_of w event ≡ Some fault → Steps w event (Err fault) w
+faulted w event fault is =
+    subst (λ (b : Bool). MatchBool b (RunsOutOfMemory w event w) (Happens w event (Err fault) w)) (sym (first_is_not_memory (faults w event) fault (not_memory w event) is)) (record {
+      answer = ap (λ (o : Option WorldFault). (unless_fault o w event).0) (sym is);
+      world = ap (λ (o : Option WorldFault). (unless_fault o w event).1) (sym is);
+    })
+
+-- an event whose test returned a fault, which is passed on
+pub passed_on : (w : WorldState) (event : Event) (result : Result Outcome WorldFault) (fault : WorldFault) → result ≡ Err fault → fault_of w event ≡ Some fault → Steps w event result w
+passed_on w event result fault passed is = subst (λ (r : Result Outcome WorldFault). Steps w event r w) (sym passed) (faulted w event fault is)
+
+-- ---- making a world
+
+never_memory : (x y : Option NewFault) → make_fault_of x y ≡ Some Memory → ⊥
+never_memory (Some f) y is = cc
+never_memory None (Some f) is = cc
+never_memory None None is = cc
+
+pub refuses : (a b : EndConfig) (fault : WorldFault) → make_fault a b ≡ Some fault → RefusesMaking a b fault
+refuses a b Memory is = absurd (never_memory (config_fault a) (config_fault b) is)
+refuses a b NoFrame is = is
+refuses a b LinkFull is = is
+refuses a b AlterRange is = is
+refuses a b Short is = is
+refuses a b Long is = is
+refuses a b (Make e f) is = is

@@ -1,0 +1,10 @@
+use Rattle.std.proofs.Common.{◌≡◌, rules}
+use Rattle.std.specs.Prelude.{Err}
+use Rattle.macsec_link.specs.declared.Event.TheVariants as event
+use Rattle.macsec_link.proofs.Faulted.{passed_on}
+use Rattle.macsec_link.proofs.world.World.alter.Goals as goal
+
+pub returns-in_err-frame-clause-steps : goal.returns-in_err-frame-clause-steps
+returns-in_err-frame-clause-steps c =
+    let passed : c.from_residual.result ≡ Err c.in_err-frame.field-0.0 = search rules in
+    passed_on c.args.self.now (event.Alter c.args.n c.args.place c.args.octet) c.from_residual.result c.in_err-frame.field-0.0 passed (c.in_err-frame.ensures.admits c.args.octet)

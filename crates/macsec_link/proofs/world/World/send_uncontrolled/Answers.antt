@@ -1,0 +1,10 @@
+use Rattle.std.proofs.Common.{◌≡◌, rules}
+use Rattle.std.specs.Prelude.{Err}
+use Rattle.macsec_link.specs.declared.Event.TheVariants as event
+use Rattle.macsec_link.proofs.Faulted.{passed_on}
+use Rattle.macsec_link.proofs.world.World.send_uncontrolled.Goals as goal
+
+pub returns-in_err-check_client_frame-clause-steps : goal.returns-in_err-check_client_frame-clause-steps
+returns-in_err-check_client_frame-clause-steps c =
+    let passed : c.from_residual.result ≡ Err c.in_err-check_client_frame.field-0.0 = search rules in
+    passed_on c.args.self.now (event.SendUncontrolled c.args.end c.args.frame.now) c.from_residual.result c.in_err-check_client_frame.field-0.0 passed (c.in_err-check_client_frame.ensures.admits c.args.end)
