@@ -25,7 +25,7 @@ pub fn script_named<'a>(alloc: Global, words: &'a [String]) -> Result<&'a str, F
     }
 }
 
-/// Why words are not taken: memory was wanting, or they are not `run SCRIPT`.
+/// Why the arguments are not taken: the program is out of memory, or they are not `run SCRIPT`.
 fn failure_of_kind<'a>(kind: ErrorKind) -> Failure<'a>
     ensures { result ≡ kind_failure kind }
 {

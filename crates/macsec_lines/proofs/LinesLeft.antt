@@ -92,9 +92,4 @@ pub parses_fault : (said : List NumberedLine) (place : Place) (i : ℕ) (lines :
     i < length lines → IsOnTheWay said place i (seen lines) → Reads (line_of (get_or lines i d).now) (Err f) →
     Parses (lines_from EndA 1 (seen lines)) (Err (at_line (i + 1) f))
 parses_fault said place i lines d fault.Memory within way h = tt
-parses_fault said place i lines d fault.Word within way h = stopped said place i lines d fault.Word within way h
-parses_fault said place i lines d fault.Count within way h = stopped said place i lines d fault.Count within way h
-parses_fault said place i lines d fault.Hex within way h = stopped said place i lines d fault.Hex within way h
-parses_fault said place i lines d fault.Number within way h = stopped said place i lines d fault.Number within way h
-parses_fault said place i lines d fault.Ends within way h = stopped said place i lines d fault.Ends within way h
-parses_fault said place i lines d fault.LineLong within way h = stopped said place i lines d fault.LineLong within way h
+parses_fault said place i lines d f within way h = stopped said place i lines d f within way h

@@ -1,4 +1,4 @@
--- What is told of a script's fault, and the status that it gives the program.
+-- What is printed of a script's fault, and the status that it gives the program.
 use Rattle.std.specs.Prelude.{ℕ, List, ◌++◌, decimal, codes, Option, Some, None}
 use Rattle.macsec_lines.specs.declared.faults.ScriptFault.{ScriptFault}
 use Rattle.macsec_lines.specs.declared.faults.ScriptFault.TheVariants.{Word, Count, Hex, Number, Ends, LineLong, ScriptLong, Memory, Read, Write}
@@ -15,7 +15,7 @@ fault_name Memory = codes "Memory"
 fault_name Read = codes "Read"
 fault_name Write = codes "Write"
 
--- the line of a fault, where it is a line's
+-- the line of a fault, if it is a line's
 abbrev pub fault_line : ScriptFault → Option ℕ
 fault_line (Word n) = Some n
 fault_line (Count n) = Some n
@@ -23,10 +23,7 @@ fault_line (Hex n) = Some n
 fault_line (Number n) = Some n
 fault_line (Ends n) = Some n
 fault_line (LineLong n) = Some n
-fault_line ScriptLong = None
-fault_line Memory = None
-fault_line Read = None
-fault_line Write = None
+fault_line other = None
 
 abbrev pub text_at : Option ℕ → List ℕ → List ℕ
 text_at (Some n) name = codes "macsec: line " ++ (decimal n ++ (codes ": " ++ (name ++ codes "\n")))
@@ -35,15 +32,9 @@ text_at None name = codes "macsec: " ++ name ++ codes "\n"
 abbrev pub fault_text : ScriptFault → List ℕ
 fault_text fault = text_at (fault_line fault) (fault_name fault)
 
--- 2 where the script is at fault, 1 where memory, the reader or the writer is
+-- 2 if the script is at fault, 1 if memory, the reader or the writer is
 abbrev pub fault_status : ScriptFault → ℕ
-fault_status (Word n) = 2
-fault_status (Count n) = 2
-fault_status (Hex n) = 2
-fault_status (Number n) = 2
-fault_status (Ends n) = 2
-fault_status (LineLong n) = 2
-fault_status ScriptLong = 2
 fault_status Memory = 1
 fault_status Read = 1
 fault_status Write = 1
+fault_status other = 2

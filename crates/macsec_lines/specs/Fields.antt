@@ -67,7 +67,7 @@ suites =
 abbrev pub forms : List (List ℕ × TagForm)
 forms = (codes "auto", form.Auto) ∷ (codes "sci", form.Sci) ∷ (codes "es", form.Es) ∷ (codes "scb", form.Scb) ∷ []
 
--- are the client's data encrypted too?
+-- are the data of a client frame encrypted too?
 abbrev pub protections : List (List ℕ × Bool)
 protections = (codes "int", false) ∷ (codes "conf", true) ∷ []
 

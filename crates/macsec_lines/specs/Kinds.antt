@@ -178,7 +178,7 @@ read_at (Ok e) first [] = Err Count
 read_at (Ok e) first (keyword ∷ words) = read_line (kinds_at e) keyword words
 read_at (Err fault) first words = read_line kinds first words
 
--- an endpoint can be made of the configuration
+-- the configuration has no fault
 abbrev pub is_good : EndConfig → Bool
 is_good config = not (is_some (config_fault config))
 

@@ -32,7 +32,7 @@ abbrev pub result_at_line : {X : Type 0} → ℕ → Result X LineFault → Resu
 result_at_line n (Ok x) = Ok x
 result_at_line n (Err fault) = Err (at_line n fault)
 
--- what a script wants after a line that it wants: both ends, and then lines of another kind
+-- what comes after a line that is in its place: both ends, and then lines of another kind
 abbrev pub place_after : Place → Line → Option Place
 place_after EndA (line.End A config) = Some EndB
 place_after EndA other = None
@@ -47,7 +47,7 @@ at_script_end EndA n = Ok []
 at_script_end EndB n = Err (Ends n)
 at_script_end Rest n = Ok []
 
--- the place after line n, or the fault of a line that is not wanted there
+-- the place after line n, or the fault of a line in a wrong place
 abbrev pub next_place : ℕ → Option Place → Result Place ScriptFault
 next_place n None = Err (Ends n)
 next_place n (Some place) = Ok place

@@ -7,7 +7,7 @@ ghost use Rattle.macsec_lines.specs.Faults.{fault_line, fault_name, fault_status
 use std::io::{self, Write};
 use thiserror::Error;
 
-/// Why a script is not run to its end. The first six are told with the number of their line, from 1.
+/// Why a script is not run to its end. The first six have the number of their line, from 1.
 #[derive(Clone, Copy, Debug, Error)]
 pub enum ScriptFault {
     /// A line's keyword is unknown, or a word of it is none of those that can stand there.
@@ -16,16 +16,16 @@ pub enum ScriptFault {
     /// A line has too few words or too many.
     #[error("line {0} has too few words or too many")]
     Count(u32),
-    /// A word is not the hex text of as many octets as are wanted.
-    #[error("line {0} has a word that is no such hex text")]
+    /// A word is not hex text of as many octets as it must have.
+    #[error("line {0} has a word that is not hex text of the right length")]
     Hex(u32),
     /// A word is not a decimal number in its range.
-    #[error("line {0} has a word that is no number in its range")]
+    #[error("line {0} has a word that is not a number in its range")]
     Number(u32),
-    /// A line stands in a wrong place, as the first two lines are those of end A and of end B and no other is an
+    /// A line is in a wrong place, since the first two lines are those of end A and of end B and no other is an
     /// `end` line, or the tag form of an end does not fit its SCI; or the script ends before the line of end B, and
     /// the number is its last line's, skipped or not.
-    #[error("line {0} is not in its place, or makes no end")]
+    #[error("line {0} is in a wrong place, or its tag form does not fit its SCI")]
     Ends(u32),
     /// A line has more than 20,000 octets, without its line feed.
     #[error("line {0} is too long")]
@@ -33,8 +33,8 @@ pub enum ScriptFault {
     /// The script has more than 1,048,576 octets or more than 65,536 lines.
     #[error("the script is too long")]
     ScriptLong,
-    /// Memory was wanting.
-    #[error("memory was wanting")]
+    /// Out of memory.
+    #[error("out of memory")]
     Memory,
     /// The reader failed.
     #[error("the script can't be read")]
@@ -45,7 +45,7 @@ pub enum ScriptFault {
 }
 
 impl ScriptFault {
-    /// Writes the one line that tells the fault.
+    /// Writes the one line of the fault.
     pub fn tell<W: Write>(self, writer: &mut W) -> io::Result<()>
         ensures { OnOk result (Appends (W.contents writer.old) (W.contents writer.new) (fault_text self)) }
     {
@@ -70,7 +70,7 @@ impl ScriptFault {
         }
     }
 
-    /// The number of the line at fault, from 1, where the fault is a line's.
+    /// The number of the line at fault, from 1, if the fault is a line's.
     pub fn line(self) -> Option<u32>
         ensures { result ≡ fault_line self }
     {
@@ -88,7 +88,7 @@ impl ScriptFault {
         }
     }
 
-    /// The program's status: 2 where the script is at fault, else 1.
+    /// The program's status: 2 if the script is at fault, else 1.
     pub fn status(self) -> u8
         ensures { result ≡ fault_status self }
     {
@@ -99,7 +99,7 @@ impl ScriptFault {
     }
 }
 
-/// Writes the name of a fault, and its line where it has one.
+/// Writes the name of a fault, and its line if it has one.
 fn tell_name<W: Write>(writer: &mut W, line: Option<u32>, name: &str) -> io::Result<()>
     ensures { OnOk result (Appends (W.contents writer.old) (W.contents writer.new) (text_at line name.now)) }
 {

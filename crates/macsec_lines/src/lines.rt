@@ -46,7 +46,7 @@ pub enum LineFault {
     Word,
     /// It has too few words or too many.
     Count,
-    /// A word is not the hex text that is wanted.
+    /// A word is not hex text of as many octets as it must have.
     Hex,
     /// A word is not a decimal number in its range.
     Number,
@@ -54,15 +54,16 @@ pub enum LineFault {
     Ends,
     /// It has more than 20,000 octets.
     LineLong,
-    /// Memory was wanting.
+    /// Out of memory.
     Memory,
 }
 
 /// The octets of the longest line.
 const MAX_LINE_LEN: usize = 20_000;
 
-/// A line of an end that tells its endpoint something, of its keyword and the words after it; `None` where the
-/// keyword is none of those.
+/// A command at an end, from its keyword and the words after it; `None` if the keyword is none of those.
+// Options and lines of reception are in two groups each: of one `match` over the keywords of both, which goes by length
+// and then octet by octet, the prover does not find that the table has no other one.
 fn operator_line(at: End, keyword: &[u8], words: &[&[u8]]) -> Option<Result<Line, LineFault>>
     ensures some { IfSome result (λ line. line ≡ read_line (kinds_at at) keyword.now (map (λ w. w.now) words.now)) }
     ensures none { IfNone result (kinds_of (operator_kinds at) keyword.now ≡ []) }
@@ -85,7 +86,7 @@ fn operator_line(at: End, keyword: &[u8], words: &[&[u8]]) -> Option<Result<Line
     receive_line(at, keyword, words)
 }
 
-/// A line of an end, of its keyword and the words after it.
+/// A line of an end, from its keyword and the words after it.
 fn line_at(alloc: Global, at: End, keyword: &[u8], words: &[&[u8]]) -> Result<Line, LineFault>
     ensures { Reads (read_line (kinds_at at) keyword.now (map (λ w. w.now) words.now)) result }
 {
@@ -101,7 +102,7 @@ fn line_at(alloc: Global, at: End, keyword: &[u8], words: &[&[u8]]) -> Result<Li
     }
 }
 
-/// A line of no end, of its keyword and the words after it.
+/// A line of no end, from its keyword and the words after it.
 fn line_of_none(alloc: Global, keyword: &[u8], words: &[&[u8]]) -> Result<Line, LineFault>
     ensures { Reads (read_line kinds keyword.now (map (λ w. w.now) words.now)) result }
 {
@@ -114,7 +115,7 @@ fn line_of_none(alloc: Global, keyword: &[u8], words: &[&[u8]]) -> Result<Line, 
     }
 }
 
-/// A line of its first word and the words after it.
+/// A line, from its first word and the words after it.
 fn line_from(alloc: Global, first: &[u8], words: &[&[u8]]) -> Result<Line, LineFault>
     ensures { Reads (read_at (value_of_keyword ends first.now) first.now (map (λ w. w.now) words.now)) result }
 {
@@ -127,7 +128,7 @@ fn line_from(alloc: Global, first: &[u8], words: &[&[u8]]) -> Result<Line, LineF
     line_at(alloc, at, keyword, words)
 }
 
-/// Can an endpoint be made of what the line says, where it says one?
+/// Does the tag form fit the SCI, if the line is that of an end?
 fn is_fit(line: &Line) -> bool
     ensures { result ≡ is_fit line.now }
 {
@@ -137,7 +138,7 @@ fn is_fit(line: &Line) -> bool
     }
 }
 
-/// A line of its words; `None` where it is skipped.
+/// A line, from its words; `None` if it is skipped.
 fn line_of_words(alloc: Global, words: &[&[u8]]) -> Result<Option<Line>, LineFault>
     ensures { Reads (of_words (map (λ w. w.now) words.now)) result }
 {
@@ -154,9 +155,9 @@ fn line_of_words(alloc: Global, words: &[&[u8]]) -> Result<Option<Line>, LineFau
     Ok(Some(line))
 }
 
-/// What a line says, without its line feed, with its carriage return; `None` where it is skipped. Answers the first
-/// of its faults: `LineLong`; `Word` where the first word is unknown, or after an end's letter the second; `Count`; what
-/// is wrong with a word, from left to right; `Ends` where no endpoint can be made of an `end` line. Or `Memory`.
+/// What a line says, without its line feed, with its carriage return; `None` if it is skipped. Returns the first of
+/// its faults: `LineLong`; `Word` if the first word is unknown, or after an end's letter the second; `Count`; what is
+/// wrong with a word, from left to right; `Ends` if the tag form of an `end` line does not fit its SCI. Or `Memory`.
 pub fn parse_line(alloc: Global, text: &[u8]) -> Result<Option<Line>, LineFault>
     ensures { Reads (line_of text.now) result }
 {

@@ -18,7 +18,7 @@ pub const MAX_SCRIPT_LEN: usize = 1_048_576;
 /// The lines of the longest script.
 const MAX_LINE_COUNT: usize = 65_536;
 
-/// What a script wants next: the line of end A, that of end B, or other lines.
+/// What comes next in a script: the line of end A, that of end B, or other lines.
 #[derive(Clone, Copy)]
 pub enum Place {
     EndA,
@@ -27,7 +27,7 @@ pub enum Place {
 }
 
 impl Place {
-    /// The place after a line, or `None` for a line that isn't wanted here.
+    /// The place after a line, or `None` for a line that can't come here.
     fn after(self, line: &Line) -> Option<Place>
         ensures { result ≡ place_after self line.now }
     {
@@ -59,7 +59,7 @@ fn after_end_b(line: &Line) -> Option<Place>
     }
 }
 
-/// The place after a line that is no `end` line.
+/// The place after a line other than those.
 fn after_rest(line: &Line) -> Option<Place>
     ensures { result ≡ place_after Place.Rest line.now }
 {

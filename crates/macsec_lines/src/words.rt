@@ -233,7 +233,7 @@ pub fn tag_form(word: &[u8]) -> Result<TagForm, LineFault>
     }
 }
 
-/// Are the client's data encrypted too?
+/// Are the data of a client frame encrypted too?
 pub fn protection(word: &[u8]) -> Result<bool, LineFault>
     ensures { result ≡ value_of_keyword protections word.now }
 {
@@ -255,7 +255,7 @@ pub fn switch(word: &[u8]) -> Result<bool, LineFault>
     }
 }
 
-/// The keyword of a way of validation.
+/// The keyword of a mode of validation.
 pub fn validation(word: &[u8]) -> Result<Mode, LineFault>
     ensures { result ≡ value_of_keyword modes word.now }
 {

@@ -1,4 +1,4 @@
--- What a show line of counters prints.
+-- What a line of counters prints.
 use Rattle.std.specs.Prelude.{ℕ, List, [], ◌∷◌, ◌++◌, flat_map, decimal, codes, Option, Some, None}
 use Rattle.hex.specs.Hex.{encode_lower}
 use Rattle.macsec_tag.specs.declared.identifiers.Sci.{Sci}
@@ -10,7 +10,7 @@ use Rattle.macsec_secy.specs.State.{State}
 use Rattle.macsec_print.specs.declared.counters.Label.{Label}
 use Rattle.macsec_print.specs.declared.counters.Label.TheVariants.{Line, End}
 
--- the number of a script's line, or the word that stands in its place at the end of a run
+-- the number of a script's line, or the word in its place at the end of a run
 abbrev pub label_text : Label → List ℕ
 label_text (Line n) = decimal n
 label_text End = codes "end"
@@ -46,13 +46,13 @@ abbrev pub rx_counter_text : Label → Sci → NamedCounter → List ℕ
 rx_counter_text label sci counter =
     label_text label ++ codes " " ++ encode_lower sci.0 ++ codes " " ++ counter.0 ++ codes " " ++ decimal counter.1 ++ codes "\n"
 
--- the lines of a receive channel, where there are its counters
+-- the lines of a receive channel, if it has counters
 abbrev pub rx_counters_text : Label → Sci → Option RxCounters → List ℕ
 rx_counters_text label sci None = []
 rx_counters_text label sci (Some counters) = flat_map (rx_counter_text label sci) (channel_counters counters)
 
 -- a line for each counter of the endpoint and of its transmit channel, and then for each one of the receive
--- channels in the order of their making
+-- channels in the order of their creation
 abbrev pub counters_text : Label → State → List ℕ
 counters_text label s =
     flat_map (counter_text label) (own_counters s.counters s.tx_counters) ++

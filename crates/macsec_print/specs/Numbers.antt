@@ -1,4 +1,4 @@
--- What a show line of packet numbers prints.
+-- What a line of packet numbers prints.
 use Rattle.std.specs.Prelude.{ℕ, ◌-◌, List, [], ◌∷◌, ◌++◌, length, replicate, flat_map, decimal, codes, Bool, false, if◌then◌else◌, Option, Some, None}
 use Rattle.std.specs.Fmt.{digits}
 use Rattle.hex.specs.Hex.{encode_lower}
@@ -25,14 +25,14 @@ state_text on = if on then codes "on" else codes "off"
 abbrev pub mode_text : Bool → List ℕ
 mode_text conf = if conf then codes "conf" else codes "int"
 
--- the line of a transmit association, where there is one
+-- the line of a transmit association, if there is one
 abbrev pub tx_text : ℕ → Option TxRow → List ℕ
 tx_text n None = []
 tx_text n (Some row) =
     decimal n ++ codes " tx " ++ decimal row.an ++ codes " " ++ decimal row.key ++ codes " " ++ packet_number_text row.next
     ++ codes " " ++ state_text row.on ++ codes " " ++ mode_text row.conf ++ codes "\n"
 
--- the line of a receive association, where there is one
+-- the line of a receive association, if there is one
 abbrev pub rx_text : ℕ → Option RxRow → List ℕ
 rx_text n None = []
 rx_text n (Some row) =
@@ -48,6 +48,6 @@ abbrev pub channel_text : ℕ → State → Sci → List ℕ
 channel_text n s sci = flat_map (λ an. rx_text n (rx_row s.rx.rows sci an)) association_numbers
 
 -- line n prints the transmit associations by their numbers, and then the receive channels in the order of
--- their making
+-- their creation
 abbrev pub numbers_text : ℕ → State → List ℕ
 numbers_text n s = flat_map (λ an. tx_text n (tx_row s.tx an)) association_numbers ++ flat_map (channel_text n s) s.rx.scis

@@ -1,8 +1,7 @@
 -- What is printed of an event's outcome.
 use Rattle.std.specs.Prelude.{ℕ, List, ◌++◌, decimal, codes, Bool, true, false, Option, Some, None, Result, Ok, Err}
 use Rattle.hex.specs.Hex.{encode_lower}
-use Rattle.macsec_rx.specs.declared.Verdict.{Verdict}
-use Rattle.macsec_rx.specs.declared.Verdict.TheVariants as verdict
+use Rattle.macsec_rx.specs.Verdicts.{verdict_name}
 use Rattle.macsec_secy.specs.declared.answers.DropReason.{DropReason}
 use Rattle.macsec_secy.specs.declared.answers.DropReason.TheVariants as reason
 use Rattle.macsec_link.specs.declared.Outcome.{Outcome}
@@ -11,27 +10,12 @@ use Rattle.macsec_link.specs.declared.WorldFault.{WorldFault}
 use Rattle.macsec_link.specs.declared.WorldFault.TheVariants as world
 use Rattle.macsec_print.specs.Refusals.{refusal_text}
 
--- a verdict as it is told: the name of its counter without InPkts
-abbrev pub verdict_text : Verdict → List ℕ
-verdict_text verdict.Untagged = codes "Untagged"
-verdict_text verdict.NoTag = codes "NoTag"
-verdict_text verdict.BadTag = codes "BadTag"
-verdict_text verdict.Reserved = codes "Reserved"
-verdict_text verdict.NoSaError = codes "NoSAError"
-verdict_text verdict.NoSa = codes "NoSA"
-verdict_text verdict.Late = codes "Late"
-verdict_text verdict.NotValid = codes "NotValid"
-verdict_text verdict.Unchecked = codes "Unchecked"
-verdict_text verdict.Delayed = codes "Delayed"
-verdict_text verdict.Invalid = codes "Invalid"
-verdict_text verdict.Passed = codes "OK"
-
--- why nothing leaves for a client's frame
+-- why nothing is sent for a client frame
 abbrev pub drop_text : DropReason → List ℕ
 drop_text reason.NoSa = codes "NoSA"
 drop_text reason.TooLong = codes "TooLong"
 
--- a fault of an event by its number and its name; the first and the last one no line tells
+-- a fault of an event by its number and its name; no line prints the first and the last
 abbrev pub world_fault_text : WorldFault → List ℕ
 world_fault_text world.Memory = codes "1 Memory"
 world_fault_text world.NoFrame = codes "2 NoFrame"
@@ -41,27 +25,27 @@ world_fault_text world.Short = codes "5 Short"
 world_fault_text world.Long = codes "6 Long"
 world_fault_text (world.Make e fault) = codes "7 Make"
 
--- the octets of a frame, where there is one, and the line's end
+-- the octets of a frame, if there is one, and the line's end
 abbrev pub end_text : Option (List ℕ) → List ℕ
 end_text None = codes "\n"
 end_text (Some octets) = codes " " ++ encode_lower octets ++ codes "\n"
 
--- what line n prints of an outcome; the frame is the link frame that was made, where one was
+-- what line n prints of an outcome; the frame is the link frame that was created, if one was
 abbrev pub outcome_text : ℕ → Option (List ℕ) → Result Outcome WorldFault → List ℕ
 outcome_text n frame (Ok Done) = decimal n ++ codes " done\n"
 outcome_text n frame (Ok (Refused refusal)) = decimal n ++ codes " refused " ++ refusal_text refusal ++ codes "\n"
 outcome_text n frame (Ok (Made k)) = decimal n ++ codes " frame " ++ decimal k ++ end_text frame
 outcome_text n frame (Ok (Dropped reason)) = decimal n ++ codes " dropped " ++ drop_text reason ++ codes "\n"
-outcome_text n frame (Ok (Heard verdict controlled)) = decimal n ++ codes " " ++ verdict_text verdict ++ end_text controlled
+outcome_text n frame (Ok (Heard verdict controlled)) = decimal n ++ codes " " ++ verdict_name verdict ++ end_text controlled
 outcome_text n frame (Err fault) = decimal n ++ codes " fault " ++ world_fault_text fault ++ codes "\n"
 
--- it is told on a line: want of memory ends the run, and no event answers that a world can't be made
+-- a line prints it: out of memory ends the run, and no event returns that a world can't be created
 abbrev pub is_told : Result Outcome WorldFault → Bool
 is_told (Err world.Memory) = false
 is_told (Err (world.Make e fault)) = false
 is_told other = true
 
--- a link frame was made
+-- a link frame was created
 abbrev pub is_made : Result Outcome WorldFault → Bool
 is_made (Ok (Made k)) = true
 is_made other = false

@@ -2,7 +2,7 @@
 use Rattle.std.specs.Prelude.{◌≡◌, ℕ, List, ◌++◌, Option, Result, Ok, Err}
 use Rattle.std.specs.Io.KnownBytes.{Appends}
 use Rattle.macsec_lines.specs.declared.faults.ScriptFault.{ScriptFault}
-use Rattle.macsec_lines.specs.declared.faults.ScriptFault.TheVariants.{Word, Count, Hex, Number, Ends, LineLong, ScriptLong, Memory, Read, Write}
+use Rattle.macsec_lines.specs.declared.faults.ScriptFault.TheVariants.{Memory, Write}
 
 -- the text is the front of the whole
 abbrev pub Begins : List ℕ → List ℕ → Type 0
@@ -13,11 +13,4 @@ abbrev pub Prints : List ℕ → Option (List ℕ) → Option (List ℕ) → Res
 Prints whole old new (Ok done) = Appends old new whole
 Prints whole old new (Err Memory) = (text : List ℕ) × Begins text whole × Appends old new text
 Prints whole old new (Err Write) = Unit {0}
-Prints whole old new (Err Read) = ⊥
-Prints whole old new (Err ScriptLong) = ⊥
-Prints whole old new (Err (Word n)) = ⊥
-Prints whole old new (Err (Count n)) = ⊥
-Prints whole old new (Err (Hex n)) = ⊥
-Prints whole old new (Err (Number n)) = ⊥
-Prints whole old new (Err (Ends n)) = ⊥
-Prints whole old new (Err (LineLong n)) = ⊥
+Prints whole old new (Err other) = ⊥

@@ -15,7 +15,7 @@ use macsec_secy::{Counters, RxCounters, TxCounters};
 use std::fmt;
 use std::io::{self, Write};
 
-/// What stands at the beginning of a line of counters: the number of a script's line, or the word `end`.
+/// The beginning of a line of counters: the number of a script's line, or the word `end`.
 #[derive(Clone, Copy, PartialEq, Eq, Debug)]
 pub enum Label {
     Line(u32),
@@ -122,7 +122,7 @@ fn write_rx<W: Write>(
     Ok(())
 }
 
-/// Writes the lines of a receive channel, where there are its counters.
+/// Writes the lines of a receive channel, if it has counters.
 fn write_channel<W: Write>(
     writer: &mut W,
     label: Label,
@@ -137,7 +137,7 @@ fn write_channel<W: Write>(
     }
 }
 
-/// Writes the lines of the receive channels, in the order of their making.
+/// Writes the lines of the receive channels, in the order of their creation.
 fn write_channels<W: Write>(writer: &mut W, label: Label, endpoint: &Secy) -> io::Result<()>
     ensures { OnOk result (Appends (W.contents writer.old) (W.contents writer.new) (flat_map (λ sci. rx_counters_text label sci (rx_counters_of endpoint.now.rx_counters sci)) endpoint.now.rx.scis)) }
 {
@@ -160,8 +160,8 @@ fn write_counters<W: Write>(writer: &mut W, label: Label, endpoint: &Secy) -> io
 }
 
 /// Prints the counters of an endpoint behind a label: a line for each of its own, then for each of its transmit
-/// channel, and then for each of the receive channels in the order of their making. It takes no memory, and fails
-/// only where the writer does.
+/// channel, and then for each of the receive channels in the order of their creation. It takes no memory, and fails
+/// only if the writer does.
 pub fn print_counters<W: Write>(
     writer: &mut W,
     label: Label,

@@ -62,7 +62,7 @@ fn association_numbers() -> [An; 4]
     ]
 }
 
-/// Writes the line of a transmit association, where there is one.
+/// Writes the line of a transmit association, if there is one.
 fn write_tx_row<W: Write>(writer: &mut W, n: u32, row: Option<TxRow>) -> io::Result<()>
     ensures { OnOk result (Appends (W.contents writer.old) (W.contents writer.new) (tx_text n row)) }
 {
@@ -87,7 +87,7 @@ fn write_tx_rows<W: Write>(writer: &mut W, n: u32, endpoint: &Secy) -> io::Resul
     Ok(())
 }
 
-/// Writes the line of a receive association, where there is one.
+/// Writes the line of a receive association, if there is one.
 fn write_rx_row<W: Write>(writer: &mut W, n: u32, row: Option<RxRow>) -> io::Result<()>
     ensures { OnOk result (Appends (W.contents writer.old) (W.contents writer.new) (rx_text n row)) }
 {
@@ -114,7 +114,7 @@ fn write_rx_rows<W: Write>(writer: &mut W, n: u32, endpoint: &Secy, sci: Sci) ->
     Ok(())
 }
 
-/// Writes the lines of the receive channels, in the order of their making.
+/// Writes the lines of the receive channels, in the order of their creation.
 fn write_rx_channels<W: Write>(writer: &mut W, n: u32, endpoint: &Secy) -> io::Result<()>
     ensures { OnOk result (Appends (W.contents writer.old) (W.contents writer.new) (flat_map (channel_text n endpoint.now) endpoint.now.rx.scis)) }
 {
@@ -137,7 +137,7 @@ fn write_numbers<W: Write>(writer: &mut W, n: u32, endpoint: &Secy) -> io::Resul
 
 /// Prints the packet numbers of an endpoint, as line `n` of a script shows them: a line for each transmit
 /// association by its number, and then for each receive association, by channels in the order of their
-/// making and in a channel by its number. It fails only where the writer does.
+/// creation and in a channel by its number. It fails only if the writer does.
 pub fn print_numbers<W: Write>(writer: &mut W, n: u32, endpoint: &Secy) -> Result<(), ScriptFault>
     ensures text { Prints (numbers_text n endpoint.now) (W.contents writer.old) (W.contents writer.new) result }
     ensures fault { IfErr result (λ fault. fault ≡ Write) }

@@ -4,7 +4,7 @@ ghost use Rattle.std.specs.Prelude.{◌≡◌, option_copied, is_some, true, IfE
 ghost use Rattle.std.specs.Io.KnownBytes.{Appends};
 ghost use Rattle.macsec_link.specs.declared.Outcome.TheVariants as outcome;
 ghost use Rattle.macsec_lines.specs.declared.faults.ScriptFault.TheVariants.{Write};
-ghost use Rattle.macsec_print.specs.Outcomes.{drop_text, end_text, is_made, is_told, outcome_text, verdict_text, world_fault_text};
+ghost use Rattle.macsec_print.specs.Outcomes.{drop_text, end_text, is_made, is_told, outcome_text, world_fault_text};
 ghost use Rattle.macsec_print.specs.Refusals.{refusal_text};
 ghost use Rattle.macsec_print.specs.Printing.{Prints};
 
@@ -13,7 +13,7 @@ use macsec_lines::ScriptFault;
 use macsec_link::{DropReason, Frame, Outcome, Refusal, Verdict, WorldFault};
 use std::io::{self, Write};
 
-/// A refusal as it is told: its number and its name.
+/// A refusal as it is printed: its number and its name.
 fn refusal_text(refusal: Refusal) -> &'static str
     ensures { result.now ≡ refusal_text refusal }
 {
@@ -41,27 +41,7 @@ fn refusal_text(refusal: Refusal) -> &'static str
     }
 }
 
-/// A verdict as it is told.
-fn verdict_text(verdict: Verdict) -> &'static str
-    ensures { result.now ≡ verdict_text verdict }
-{
-    match verdict {
-        Verdict::Untagged => "Untagged",
-        Verdict::NoTag => "NoTag",
-        Verdict::BadTag => "BadTag",
-        Verdict::Reserved => "Reserved",
-        Verdict::NoSaError => "NoSAError",
-        Verdict::NoSa => "NoSA",
-        Verdict::Late => "Late",
-        Verdict::NotValid => "NotValid",
-        Verdict::Unchecked => "Unchecked",
-        Verdict::Delayed => "Delayed",
-        Verdict::Invalid => "Invalid",
-        Verdict::Passed => "OK",
-    }
-}
-
-/// Why nothing leaves for a client's frame, as it is told.
+/// Why nothing is sent for a client frame, as it is printed.
 fn drop_text(reason: DropReason) -> &'static str
     ensures { result.now ≡ drop_text reason }
 {
@@ -71,7 +51,7 @@ fn drop_text(reason: DropReason) -> &'static str
     }
 }
 
-/// A fault of an event as it is told: its number and its name.
+/// A fault of an event as it is printed: its number and its name.
 fn world_fault_text(fault: WorldFault) -> &'static str
     ensures { result.now ≡ world_fault_text fault }
 {
@@ -86,7 +66,7 @@ fn world_fault_text(fault: WorldFault) -> &'static str
     }
 }
 
-/// Writes the octets of a frame, where there is one, and the end of the line.
+/// Writes the octets of a frame, if there is one, and the end of the line.
 fn write_end<W: Write>(writer: &mut W, octets: Option<&[u8]>) -> io::Result<()>
     ensures { OnOk result (Appends (W.contents writer.old) (W.contents writer.new) (end_text (option_copied octets.entry))) }
 {
@@ -98,7 +78,7 @@ fn write_end<W: Write>(writer: &mut W, octets: Option<&[u8]>) -> io::Result<()>
     writer.write_all(b"\n")
 }
 
-/// Writes the line of a link frame that was made.
+/// Writes the line of a link frame that was created.
 fn write_made<W: Write>(writer: &mut W, line: u32, n: u32, frame: Option<&[u8]>) -> io::Result<()>
     ensures { OnOk result (Appends (W.contents writer.old) (W.contents writer.new) (outcome_text line (option_copied frame.entry) (Ok (outcome.Made n)))) }
 {
@@ -106,7 +86,7 @@ fn write_made<W: Write>(writer: &mut W, line: u32, n: u32, frame: Option<&[u8]>)
     write_end(writer, frame)
 }
 
-/// Writes the line of a link frame that was heard.
+/// Writes the line of a link frame that was received: its verdict, and what was delivered.
 fn write_heard<W: Write>(
     writer: &mut W,
     line: u32,
@@ -115,7 +95,7 @@ fn write_heard<W: Write>(
 ) -> io::Result<()>
     ensures { OnOk result (Appends (W.contents writer.old) (W.contents writer.new) (outcome_text line None (Ok (outcome.Heard verdict controlled.now)))) }
 {
-    let name = verdict_text(verdict);
+    let name = verdict.name();
     write!(writer, "{line} {name}")?;
     match controlled {
         Some(frame) => write_end(writer, Some(frame.octets())),
@@ -157,7 +137,7 @@ fn write_outcome<W: Write>(
 }
 
 /// Prints the outcome of an event, as line `line` of a script shows it; `frame` is the link frame that was
-/// made, where one was. It takes no memory, and fails only where the writer does.
+/// created, if one was. It takes no memory, and fails only if the writer does.
 pub fn print_outcome<W: Write>(
     writer: &mut W,
     line: u32,

@@ -6,7 +6,7 @@ use Rattle.std.specs.Io.KnownBytes.{Appends}
 use Rattle.std.proofs.KnownBytes.{Appends-trans}
 use Rattle.macsec_link.specs.World.{WorldState}
 use Rattle.macsec_lines.specs.declared.faults.ScriptFault.{ScriptFault}
-use Rattle.macsec_lines.specs.declared.faults.ScriptFault.TheVariants.{Word, Count, Hex, Number, Ends, LineLong, ScriptLong, Memory, Read, Write}
+use Rattle.macsec_lines.specs.declared.faults.ScriptFault.TheVariants.{Memory, Write}
 use Rattle.macsec_lines.specs.Scripts.{NumberedLine}
 use Rattle.macsec_script.specs.Printed.{line_step, text_from}
 use Rattle.macsec_print.specs.Printing.{Prints}
@@ -48,11 +48,4 @@ given_up whole old mid new w lines i entry item within way Memory h =
       Appends-trans old mid new way.0 h.0 way.1 h.2,
     )
 given_up whole old mid new w lines i entry item within way Write h = tt
-given_up whole old mid new w lines i entry item within way Read h = h
-given_up whole old mid new w lines i entry item within way ScriptLong h = h
-given_up whole old mid new w lines i entry item within way (Word n) h = h
-given_up whole old mid new w lines i entry item within way (Count n) h = h
-given_up whole old mid new w lines i entry item within way (Hex n) h = h
-given_up whole old mid new w lines i entry item within way (Number n) h = h
-given_up whole old mid new w lines i entry item within way (Ends n) h = h
-given_up whole old mid new w lines i entry item within way (LineLong n) h = h
+given_up whole old mid new w lines i entry item within way other h = h

@@ -4,7 +4,7 @@ use Rattle.std.specs.Prelude.{Option, Some, None, Result, Ok, Err, IfSome, IfErr
 use Rattle.std.specs.Io.KnownBytes.{Keeps}
 use Rattle.std.proofs.KnownBytes.{Appends-nil, Appends-kept, Keeps-refl}
 use Rattle.macsec_lines.specs.declared.faults.ScriptFault.{ScriptFault}
-use Rattle.macsec_lines.specs.declared.faults.ScriptFault.TheVariants.{Word, Count, Hex, Number, Ends, LineLong, ScriptLong, Memory, Read, Write}
+use Rattle.macsec_lines.specs.declared.faults.ScriptFault.TheVariants.{Memory, Read, Write}
 use Rattle.macsec_lines.specs.Fields.{map_ok}
 use Rattle.macsec_lines.specs.Scripts.{NumberedLine, script_of}
 use Rattle.macsec_script.specs.Printed.{printed_text, text_of}
@@ -28,13 +28,7 @@ pub at_fault : (script : List ℕ) (old new : Option (List ℕ)) → Keeps old n
 at_fault script old new kept Memory h = out_of_memory script old new kept
 at_fault script old new kept Read h = kept
 at_fault script old new kept Write h = absurd h
-at_fault script old new kept ScriptLong h = (printed_fault script ScriptLong h, kept)
-at_fault script old new kept (Word n) h = (printed_fault script (Word n) h, kept)
-at_fault script old new kept (Count n) h = (printed_fault script (Count n) h, kept)
-at_fault script old new kept (Hex n) h = (printed_fault script (Hex n) h, kept)
-at_fault script old new kept (Number n) h = (printed_fault script (Number n) h, kept)
-at_fault script old new kept (Ends n) h = (printed_fault script (Ends n) h, kept)
-at_fault script old new kept (LineLong n) h = (printed_fault script (LineLong n) h, kept)
+at_fault script old new kept f h = (printed_fault script f h, kept)
 
 -- a script that was parsed and printed
 pub after_parsing : (script : List ℕ) (lines : List NumberedLine) (old new : Option (List ℕ)) → script_of script ≡ Ok lines →
@@ -43,14 +37,7 @@ after_parsing script lines old new parsed (Ok done) h = (text_of lines, ap (map_
 after_parsing script lines old new parsed (Err Memory) h =
     (h.0, let P : Result (List ℕ) ScriptFault → Type 0 = λ answer. IsBegun answer h.0 in subst P (sym (ap (map_ok text_of) parsed)) h.1, h.2)
 after_parsing script lines old new parsed (Err Write) h = (text_of lines, ap (map_ok text_of) parsed)
-after_parsing script lines old new parsed (Err Read) h = absurd h
-after_parsing script lines old new parsed (Err ScriptLong) h = absurd h
-after_parsing script lines old new parsed (Err (Word n)) h = absurd h
-after_parsing script lines old new parsed (Err (Count n)) h = absurd h
-after_parsing script lines old new parsed (Err (Hex n)) h = absurd h
-after_parsing script lines old new parsed (Err (Number n)) h = absurd h
-after_parsing script lines old new parsed (Err (Ends n)) h = absurd h
-after_parsing script lines old new parsed (Err (LineLong n)) h = absurd h
+after_parsing script lines old new parsed (Err other) h = absurd h
 
 -- the same for a reader that tells its octets, and for one that doesn't
 pub at_fault_read : (known : Option (List ℕ)) (text lent : List ℕ) (old new : Option (List ℕ)) →
@@ -79,14 +66,7 @@ after_running known text lent lines given old new read same parsed value_of_keyw
 pub left_alone : (text : Option (List ℕ)) (f : ScriptFault) → LeavesText text text f
 left_alone text Memory = tt
 left_alone text Write = tt
-left_alone text Read = Keeps-refl text
-left_alone text ScriptLong = Keeps-refl text
-left_alone text (Word n) = Keeps-refl text
-left_alone text (Count n) = Keeps-refl text
-left_alone text (Hex n) = Keeps-refl text
-left_alone text (Number n) = Keeps-refl text
-left_alone text (Ends n) = Keeps-refl text
-left_alone text (LineLong n) = Keeps-refl text
+left_alone text other = Keeps-refl text
 
 -- printing fails by want of memory or by a write
 pub only_written : (whole : List ℕ) (old new : Option (List ℕ)) (answer : Result (Unit {0}) ScriptFault) →
@@ -94,11 +74,4 @@ pub only_written : (whole : List ℕ) (old new : Option (List ℕ)) (answer : Re
 only_written whole old new (Ok done) h = tt
 only_written whole old new (Err Memory) h = tt
 only_written whole old new (Err Write) h = tt
-only_written whole old new (Err Read) h = absurd h
-only_written whole old new (Err ScriptLong) h = absurd h
-only_written whole old new (Err (Word n)) h = absurd h
-only_written whole old new (Err (Count n)) h = absurd h
-only_written whole old new (Err (Hex n)) h = absurd h
-only_written whole old new (Err (Number n)) h = absurd h
-only_written whole old new (Err (Ends n)) h = absurd h
-only_written whole old new (Err (LineLong n)) h = absurd h
+only_written whole old new (Err other) h = absurd h

@@ -25,20 +25,20 @@ abbrev pub told_text : Result (Unit {0}) Failure → List ℕ
 told_text (Ok done) = []
 told_text (Err failure) = failure_text failure
 
--- what a run from standard input answers is what a run of its script does
+-- what a run from standard input returns is what a run of its script does
 abbrev pub NamedGives : List ℕ → Option (List ℕ) → Option (List ℕ) → Result (Unit {0}) Failure → Type 0
 NamedGives script old new (Ok done) = RunGives script old new (Ok done)
 NamedGives script old new (Err (Script fault)) = RunGives script old new (Err fault)
 NamedGives script old new (Err Usage) = ⊥
 NamedGives script old new (Err (CannotOpen path)) = ⊥
 
--- a run of a named script can't be at fault by the words, and only the named file can't be opened
+-- a run of a named script never says that the arguments are invalid, and only the named file can't be opened
 abbrev pub FailsAs : List ℕ → Failure → Type 0
 FailsAs name Usage = ⊥
 FailsAs name (CannotOpen path) = path.now ≡ name
 FailsAs name (Script fault) = Unit {0}
 
--- nothing is written where the file can't be opened
+-- nothing is written if the file can't be opened
 abbrev pub LeavesOutput : Option (List ℕ) → Option (List ℕ) → Failure → Type 0
 LeavesOutput old new Usage = Keeps old new
 LeavesOutput old new (CannotOpen path) = Keeps old new

@@ -17,7 +17,7 @@ use Rattle.macsec_print.specs.Counters.{counters_text}
 use Rattle.macsec_print.specs.Numbers.{numbers_text}
 use Rattle.macsec_lines.specs.Scripts.{NumberedLine, script_of}
 
--- the link frame that an event made, in the world after it
+-- the link frame that an event created, in the world after it
 abbrev pub frame_made : WorldState → Result Outcome WorldFault → Option (List ℕ)
 frame_made w (Ok (Made k)) = slice_get w.frames k
 frame_made w other = None
@@ -69,6 +69,6 @@ text_of_run (Some run) = text_from (new_world run.0 run.1) run.2
 abbrev pub text_of : List NumberedLine → List ℕ
 text_of lines = text_of_run (begun lines)
 
--- what a script without fault prints, or its fault
+-- what a script without a fault prints, or its fault
 abbrev pub printed_text : List ℕ → Result (List ℕ) ScriptFault
 printed_text text = map_ok text_of (script_of text)

@@ -1,54 +1,35 @@
--- What a run of a script answers and writes.
+-- What a run of a script returns and writes.
 use Rattle.std.specs.Prelude.{◌≡◌, ◌<◌, ℕ, List, [], length, Option, Result, Ok, Err}
 use Rattle.std.specs.Io.KnownBytes.{Appends, Keeps}
 use Rattle.macsec_lines.specs.declared.faults.ScriptFault.{ScriptFault}
-use Rattle.macsec_lines.specs.declared.faults.ScriptFault.TheVariants.{Word, Count, Hex, Number, Ends, LineLong, ScriptLong, Memory, Read, Write}
+use Rattle.macsec_lines.specs.declared.faults.ScriptFault.TheVariants.{ScriptLong, Memory, Read, Write}
 use Rattle.macsec_lines.specs.Limits.{max_script_len}
 use Rattle.macsec_print.specs.Printing.{Begins}
 use Rattle.macsec_script.specs.Printed.{printed_text}
 
--- the text begins what is printed; nothing does where the script is at fault
+-- the text begins what is printed; nothing does if the script is at fault
 abbrev pub IsBegun : Result (List ℕ) ScriptFault → List ℕ → Type 0
 IsBegun (Ok whole) text = Begins text whole
 IsBegun (Err fault) text = text ≡ []
 
--- what a run of a script answers, with the known octets of the writer before it and after it: a fault of
--- the script is told unless Memory or Read comes first, and Write says nothing of what was written
+-- what a run of a script returns, with the known octets of the writer before it and after it: a fault of
+-- the script, unless Memory or Read comes first, and Write says nothing of what was written
 abbrev pub RunGives : List ℕ → Option (List ℕ) → Option (List ℕ) → Result (Unit {0}) ScriptFault → Type 0
 RunGives script old new (Ok done) = (text : List ℕ) × (printed_text script ≡ Ok text) × Appends old new text
 RunGives script old new (Err Memory) = (text : List ℕ) × IsBegun (printed_text script) text × Appends old new text
 RunGives script old new (Err Read) = Keeps old new
 RunGives script old new (Err Write) = (text : List ℕ) × (printed_text script ≡ Ok text)
-RunGives script old new (Err (Word n)) = (printed_text script ≡ Err (Word n)) × Keeps old new
-RunGives script old new (Err (Count n)) = (printed_text script ≡ Err (Count n)) × Keeps old new
-RunGives script old new (Err (Hex n)) = (printed_text script ≡ Err (Hex n)) × Keeps old new
-RunGives script old new (Err (Number n)) = (printed_text script ≡ Err (Number n)) × Keeps old new
-RunGives script old new (Err (Ends n)) = (printed_text script ≡ Err (Ends n)) × Keeps old new
-RunGives script old new (Err (LineLong n)) = (printed_text script ≡ Err (LineLong n)) × Keeps old new
-RunGives script old new (Err ScriptLong) = (printed_text script ≡ Err ScriptLong) × Keeps old new
+RunGives script old new (Err fault) = (printed_text script ≡ Err fault) × Keeps old new
 
 -- every fault but Memory and Write comes before anything is written
 abbrev pub LeavesText : Option (List ℕ) → Option (List ℕ) → ScriptFault → Type 0
 LeavesText old new Memory = Unit {0}
 LeavesText old new Write = Unit {0}
-LeavesText old new Read = Keeps old new
-LeavesText old new ScriptLong = Keeps old new
-LeavesText old new (Word n) = Keeps old new
-LeavesText old new (Count n) = Keeps old new
-LeavesText old new (Hex n) = Keeps old new
-LeavesText old new (Number n) = Keeps old new
-LeavesText old new (Ends n) = Keeps old new
-LeavesText old new (LineLong n) = Keeps old new
+LeavesText old new other = Keeps old new
 
 -- why a reader's input was not taken whole
 abbrev pub IsInputFault : List ℕ → ScriptFault → Type 0
 IsInputFault input ScriptLong = max_script_len < length input
 IsInputFault input Memory = Unit {0}
 IsInputFault input Read = Unit {0}
-IsInputFault input Write = ⊥
-IsInputFault input (Word n) = ⊥
-IsInputFault input (Count n) = ⊥
-IsInputFault input (Hex n) = ⊥
-IsInputFault input (Number n) = ⊥
-IsInputFault input (Ends n) = ⊥
-IsInputFault input (LineLong n) = ⊥
+IsInputFault input other = ⊥

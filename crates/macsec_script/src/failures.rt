@@ -15,19 +15,19 @@ use thiserror::Error;
 /// Why a program that runs a script does not end well.
 #[derive(Clone, Copy, Debug, Error)]
 pub enum Failure<'a> {
-    /// The words are not `run SCRIPT`.
-    #[error("the words are none that the program takes")]
+    /// The arguments are not `run SCRIPT`.
+    #[error("the arguments are invalid")]
     Usage,
     /// The file of this path can't be opened.
     #[error("{0} can't be opened")]
     CannotOpen(&'a str),
-    /// The script is at fault, or its run is, or memory was wanting before it.
+    /// The script or its run has a fault, or the program was out of memory before it.
     #[error(transparent)]
     Script(#[from] ScriptFault),
 }
 
 impl Failure<'_> {
-    /// Writes the one line that tells the failure.
+    /// Writes the one line of the failure.
     fn tell<W: Write>(self, writer: &mut W) -> io::Result<()>
         ensures { OnOk result (Appends (W.contents writer.old) (W.contents writer.new) (failure_text self.entry)) }
     {
@@ -38,7 +38,7 @@ impl Failure<'_> {
         }
     }
 
-    /// The program's status: 2 where the words or the script are at fault, else 1.
+    /// The program's status: 2 if the arguments or the script are at fault, else 1.
     fn status(self) -> u8
         ensures { result ≡ failure_status self.entry }
     {
@@ -50,7 +50,7 @@ impl Failure<'_> {
     }
 }
 
-/// Why the words of a program can't be had: memory was wanting, or one of them is no text.
+/// Why the arguments of a program can't be had: it is out of memory, or one of them is no text.
 pub fn failure_of_words<'a>(error: &io::Error) -> Failure<'a>
     ensures memory { error_kind error.now ≡ OutOfMemory → result ≡ Script Memory }
     ensures usage { error_kind error.now ≢ OutOfMemory → result ≡ Usage }
@@ -62,8 +62,8 @@ pub fn failure_of_words<'a>(error: &io::Error) -> Failure<'a>
     }
 }
 
-/// Tells how a program ends: writes the one line of its failure, where it fails. Answers its status, 0 where
-/// it ends well, and whether the writer took the line.
+/// Reports how a program ends: writes the one line of its failure, if it fails. Returns its status, 0 if it ends
+/// well, and whether the writer took the line.
 pub fn tell<W: Write>(writer: &mut W, ended: Result<(), Failure<'_>>) -> (u8, io::Result<()>)
     ensures status { result.0 ≡ told_status ended.entry }
     ensures line { OnOk result.1 (Appends (W.contents writer.old) (W.contents writer.new) (told_text ended.entry)) }

@@ -1,4 +1,4 @@
-//! A run of the script that a name names: standard input's, or a file's.
+//! A run of the script of a name: that of standard input, or of a file.
 
 ghost use Rattle.std.specs.Prelude.{◌≡◌, ◌≢◌, codes, IfSome, IfErr, MatchResult, Ok, Err};
 ghost use Rattle.macsec_lines.specs.declared.faults.ScriptFault.TheVariants.{Write};
@@ -14,8 +14,8 @@ use std::fs;
 use std::io::{self, Read, Write};
 use std::rt::Files;
 
-/// How a run ends whose output was flushed: by its own fault, where it has one, else by that of the flush.
-fn ended(done: Result<(), ScriptFault>, flushed: io::Result<()>) -> Result<(), ScriptFault>
+/// How a run ends whose output was flushed: by its own fault, if it has one, else by that of the flush.
+fn run_end(done: Result<(), ScriptFault>, flushed: io::Result<()>) -> Result<(), ScriptFault>
     ensures { MatchResult done (λ _. MatchResult flushed (λ _. result ≡ Ok tt) (λ _. result ≡ Err Write)) (λ fault. result ≡ Err fault) }
 {
     done?;
@@ -33,11 +33,11 @@ fn run_and_flush<R: Read, W: Write>(
 {
     let done = run_script(alloc, reader, writer);
     let flushed = writer.flush();
-    ended(done, flushed)
+    run_end(done, flushed)
 }
 
-/// Runs the script of this name, standard input where the name is `-` and else the file of this path, and
-/// flushes what it printed. Where a file is named, standard input is not read.
+/// Runs the script of this name, standard input if the name is `-` and else the file of this path, and flushes
+/// what it printed. If a file is named, standard input is not read.
 pub fn run_named<'a, H: Files, R: Read, W: Write>(
     rt: &H,
     alloc: Global,

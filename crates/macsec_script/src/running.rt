@@ -14,7 +14,7 @@ use macsec_print::{Label, print_counters, print_numbers, print_outcome, write_fa
 use std::alloc::Global;
 use std::io::{Read, Write};
 
-/// Runs a script: reads and parses it whole, and then prints what its lines say. Answers the script's
+/// Runs a script: reads and parses it whole, and then prints what its lines say. Returns the script's
 /// first fault, having written nothing, or `Memory`, `Read` or `Write`.
 pub fn run_script<R: Read, W: Write>(
     alloc: Global,
@@ -54,7 +54,7 @@ fn input<R: Read>(alloc: Global, reader: &mut R) -> Result<Vec<u8>, ScriptFault>
     unreachable!()
 }
 
-/// Prints what the lines of a script say: the first two make the ends.
+/// Prints what the lines of a script say: the first two configure the ends.
 fn print_script<W: Write>(
     alloc: Global,
     writer: &mut W,
@@ -122,7 +122,7 @@ fn print_lines<W: Write>(
     Ok(())
 }
 
-/// Prints what one line says, and takes its step: its text is made whole in the room, and then written at once.
+/// Prints what one line says, and takes its step: its text is put together in `room`, and then written at once.
 fn print_line<W: Write>(
     room: &mut Vec<u8>,
     world: &mut World,
@@ -171,7 +171,7 @@ fn print_event<W: Write>(
     print_outcome(writer, n, frame, &outcome)
 }
 
-/// The link frame that an event made, where it made one.
+/// The link frame that an event created, if it created one.
 fn frame_made<'a>(world: &'a World, outcome: &Result<Outcome, WorldFault>) -> Option<&'a [u8]>
     ensures { option_copied result ≡ frame_made world.now outcome.now }
 {

@@ -9,7 +9,7 @@ use crate::words::decimal;
 use macsec_link::EndConfig;
 use macsec_secy::{MAX_FRAME_LEN, MIN_MAX_FRAME};
 
-/// An end's configuration, of the words after `end`.
+/// An end's configuration, from the words after `end`.
 fn configured_end(words: &[&[u8]]) -> Result<Line, LineFault>
     ensures { result ≡ read_line kinds (codes "end") (map (λ w. w.now) words.now) }
 {
@@ -32,8 +32,7 @@ fn configured_end(words: &[&[u8]]) -> Result<Line, LineFault>
     ))
 }
 
-/// A line of an end's configuration, of its keyword and the words after it; `None` where the keyword is none of
-/// those.
+/// A line of an end's configuration, from its keyword and the words after it; `None` if the keyword is none of those.
 pub fn end_line(keyword: &[u8], words: &[&[u8]]) -> Option<Result<Line, LineFault>>
     ensures some { IfSome result (λ line. line ≡ read_line kinds keyword.now (map (λ w. w.now) words.now)) }
     ensures none { IfNone result (kinds_of end_kinds keyword.now ≡ []) }

@@ -8,7 +8,7 @@ use crate::words;
 use crate::words::{decimal, key_number};
 use macsec_link::{Command, End, Event, NewKey};
 
-/// The installation of a key, of the words after `key`. The last two, SSCI and salt, can be left out and
+/// The installation of a key, from the words after `key`. The last two, SSCI and salt, can be left out and
 /// are zeros then.
 fn new_key(at: End, words: &[&[u8]]) -> Result<Line, LineFault>
     ensures { result ≡ read_line (kinds_at at) (codes "key") (map (λ w. w.now) words.now) }
@@ -37,7 +37,7 @@ fn new_key(at: End, words: &[&[u8]]) -> Result<Line, LineFault>
     )))
 }
 
-/// The retirement of a key, of the words after `retire`.
+/// The retirement of a key, from the words after `retire`.
 fn retire(at: End, words: &[&[u8]]) -> Result<Line, LineFault>
     ensures { result ≡ read_line (kinds_at at) (codes "retire") (map (λ w. w.now) words.now) }
 {
@@ -47,8 +47,7 @@ fn retire(at: End, words: &[&[u8]]) -> Result<Line, LineFault>
     Ok(Line::Event(Event::Command(at, Command::Retire(key_number(number)?))))
 }
 
-/// A line of a key, of its keyword and the words after it; `None` where the
-/// keyword is none of those.
+/// A line of a key, from its keyword and the words after it; `None` if the keyword is none of those.
 pub fn key_line(at: End, keyword: &[u8], words: &[&[u8]]) -> Option<Result<Line, LineFault>>
     ensures some { IfSome result (λ line. line ≡ read_line (kinds_at at) keyword.now (map (λ w. w.now) words.now)) }
     ensures none { IfNone result (kinds_of (key_kinds at) keyword.now ≡ []) }

@@ -10,7 +10,7 @@ use crate::words::frame_number;
 use macsec_link::Event;
 use std::alloc::Global;
 
-/// A link frame with one octet set, of the words after `alter`.
+/// A link frame with one octet set, from the words after `alter`.
 fn alter(words: &[&[u8]]) -> Result<Line, LineFault>
     ensures { result ≡ read_line kinds (codes "alter") (map (λ w. w.now) words.now) }
 {
@@ -23,7 +23,7 @@ fn alter(words: &[&[u8]]) -> Result<Line, LineFault>
     Ok(Line::Event(Event::Alter(n, place, octet)))
 }
 
-/// A link frame with zeros up to 60 octets, of the words after `pad`.
+/// A link frame with zeros up to 60 octets, from the words after `pad`.
 fn pad(words: &[&[u8]]) -> Result<Line, LineFault>
     ensures { result ≡ read_line kinds (codes "pad") (map (λ w. w.now) words.now) }
 {
@@ -33,7 +33,7 @@ fn pad(words: &[&[u8]]) -> Result<Line, LineFault>
     Ok(Line::Event(Event::Pad(frame_number(n)?)))
 }
 
-/// A link frame of these octets, of the words after `inject`.
+/// A link frame of these octets, from the words after `inject`.
 fn inject(alloc: Global, words: &[&[u8]]) -> Result<Line, LineFault>
     ensures { Reads (read_line kinds (codes "inject") (map (λ w. w.now) words.now)) result }
 {
@@ -43,7 +43,7 @@ fn inject(alloc: Global, words: &[&[u8]]) -> Result<Line, LineFault>
     Ok(Line::Event(Event::Inject(words::frame(alloc, octets)?)))
 }
 
-/// A line of the link, of its keyword and the words after it; `None` where the keyword is none of those.
+/// A line of the link, from its keyword and the words after it; `None` if the keyword is none of those.
 pub fn link_line(alloc: Global, keyword: &[u8], words: &[&[u8]]) -> Option<Result<Line, LineFault>>
     ensures some { IfSome result (λ line. Reads (read_line kinds keyword.now (map (λ w. w.now) words.now)) line) }
     ensures none { IfNone result (kinds_of link_kinds keyword.now ≡ []) }

@@ -8,7 +8,7 @@ use crate::words;
 use crate::words::{association, key_number};
 use macsec_link::{Command, End, Event};
 
-/// A receive channel, of the words after `rxsc`.
+/// The creation of a receive channel, from the words after `rxsc`.
 fn rx_sc(at: End, words: &[&[u8]]) -> Result<Line, LineFault>
     ensures { result ≡ read_line (kinds_at at) (codes "rxsc") (map (λ w. w.now) words.now) }
 {
@@ -18,7 +18,7 @@ fn rx_sc(at: End, words: &[&[u8]]) -> Result<Line, LineFault>
     Ok(Line::Event(Event::Command(at, Command::RxSc(words::sci(sci)?))))
 }
 
-/// The removal of a receive channel, of the words after `rxscdel`.
+/// The deletion of a receive channel, from the words after `rxscdel`.
 fn rx_sc_del(at: End, words: &[&[u8]]) -> Result<Line, LineFault>
     ensures { result ≡ read_line (kinds_at at) (codes "rxscdel") (map (λ w. w.now) words.now) }
 {
@@ -28,8 +28,8 @@ fn rx_sc_del(at: End, words: &[&[u8]]) -> Result<Line, LineFault>
     Ok(Line::Event(Event::Command(at, Command::RxScDel(words::sci(sci)?))))
 }
 
-/// A receive association, of the words after `rxsa`. The last one, the SSCI of its sender, can be left out
-/// and is zero then.
+/// The creation of a receive association, from the words after `rxsa`. The last one, the SSCI of its sender, can be
+/// left out and is zero then.
 fn rx_sa(at: End, words: &[&[u8]]) -> Result<Line, LineFault>
     ensures { result ≡ read_line (kinds_at at) (codes "rxsa") (map (λ w. w.now) words.now) }
 {
@@ -58,7 +58,7 @@ fn rx_sa(at: End, words: &[&[u8]]) -> Result<Line, LineFault>
     )))
 }
 
-/// The switching on of a receive association, of the words after `rxon`.
+/// The enabling of a receive association, from the words after `rxon`.
 fn rx_on(at: End, words: &[&[u8]]) -> Result<Line, LineFault>
     ensures { result ≡ read_line (kinds_at at) (codes "rxon") (map (λ w. w.now) words.now) }
 {
@@ -70,7 +70,7 @@ fn rx_on(at: End, words: &[&[u8]]) -> Result<Line, LineFault>
     Ok(Line::Event(Event::Command(at, Command::RxOn(sci, an))))
 }
 
-/// The switching off of a receive association, of the words after `rxoff`.
+/// The disabling of a receive association, from the words after `rxoff`.
 fn rx_off(at: End, words: &[&[u8]]) -> Result<Line, LineFault>
     ensures { result ≡ read_line (kinds_at at) (codes "rxoff") (map (λ w. w.now) words.now) }
 {
@@ -82,7 +82,7 @@ fn rx_off(at: End, words: &[&[u8]]) -> Result<Line, LineFault>
     Ok(Line::Event(Event::Command(at, Command::RxOff(sci, an))))
 }
 
-/// The lowest acceptable packet number of a receive association, of the words after `rxlow`.
+/// The lowest acceptable packet number of a receive association, from the words after `rxlow`.
 fn rx_low(at: End, words: &[&[u8]]) -> Result<Line, LineFault>
     ensures { result ≡ read_line (kinds_at at) (codes "rxlow") (map (λ w. w.now) words.now) }
 {
@@ -95,7 +95,7 @@ fn rx_low(at: End, words: &[&[u8]]) -> Result<Line, LineFault>
     Ok(Line::Event(Event::Command(at, Command::RxLow { sci, an, pn })))
 }
 
-/// The removal of a receive association, of the words after `rxdel`.
+/// The deletion of a receive association, from the words after `rxdel`.
 fn rx_del(at: End, words: &[&[u8]]) -> Result<Line, LineFault>
     ensures { result ≡ read_line (kinds_at at) (codes "rxdel") (map (λ w. w.now) words.now) }
 {
@@ -107,8 +107,7 @@ fn rx_del(at: End, words: &[&[u8]]) -> Result<Line, LineFault>
     Ok(Line::Event(Event::Command(at, Command::RxDel(sci, an))))
 }
 
-/// A line of a receive channel, of its keyword and the words after it; `None` where the
-/// keyword is none of those.
+/// A line of a receive channel, from its keyword and the words after it; `None` if the keyword is none of those.
 pub fn channel_line(at: End, keyword: &[u8], words: &[&[u8]]) -> Option<Result<Line, LineFault>>
     ensures some { IfSome result (λ line. line ≡ read_line (kinds_at at) keyword.now (map (λ w. w.now) words.now)) }
     ensures none { IfNone result (kinds_of (channel_kinds at) keyword.now ≡ []) }
@@ -120,8 +119,7 @@ pub fn channel_line(at: End, keyword: &[u8], words: &[&[u8]]) -> Option<Result<L
     }
 }
 
-/// A line of a receive association, of its keyword and the words after it; `None` where the
-/// keyword is none of those.
+/// A line of a receive association, from its keyword and the words after it; `None` if the keyword is none of those.
 pub fn receive_line(at: End, keyword: &[u8], words: &[&[u8]]) -> Option<Result<Line, LineFault>>
     ensures some { IfSome result (λ line. line ≡ read_line (kinds_at at) keyword.now (map (λ w. w.now) words.now)) }
     ensures none { IfNone result (kinds_of (receive_kinds at) keyword.now ≡ []) }

@@ -6,7 +6,7 @@ ghost use Rattle.macsec_lines.specs.Kinds.{read_line, kinds_at, kinds_of, show_k
 use crate::lines::{Line, LineFault};
 use macsec_link::End;
 
-/// The showing of counters, of the words after `counters`.
+/// The showing of counters, from the words after `counters`.
 fn counters(at: End, words: &[&[u8]]) -> Result<Line, LineFault>
     ensures { result ≡ read_line (kinds_at at) (codes "counters") (map (λ w. w.now) words.now) }
 {
@@ -16,7 +16,7 @@ fn counters(at: End, words: &[&[u8]]) -> Result<Line, LineFault>
     Ok(Line::Counters(at))
 }
 
-/// The showing of packet numbers, of the words after `numbers`.
+/// The showing of packet numbers, from the words after `numbers`.
 fn numbers(at: End, words: &[&[u8]]) -> Result<Line, LineFault>
     ensures { result ≡ read_line (kinds_at at) (codes "numbers") (map (λ w. w.now) words.now) }
 {
@@ -26,8 +26,7 @@ fn numbers(at: End, words: &[&[u8]]) -> Result<Line, LineFault>
     Ok(Line::Numbers(at))
 }
 
-/// A line that shows something, of its keyword and the words after it; `None` where the
-/// keyword is none of those.
+/// A line that shows something, from its keyword and the words after it; `None` if the keyword is none of those.
 pub fn show_line(at: End, keyword: &[u8], words: &[&[u8]]) -> Option<Result<Line, LineFault>>
     ensures some { IfSome result (λ line. line ≡ read_line (kinds_at at) keyword.now (map (λ w. w.now) words.now)) }
     ensures none { IfNone result (kinds_of (show_kinds at) keyword.now ≡ []) }

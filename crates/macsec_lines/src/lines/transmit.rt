@@ -8,7 +8,7 @@ use crate::words;
 use crate::words::{association, key_number};
 use macsec_link::{Command, End, Event};
 
-/// A transmit association, of the words after `txsa`.
+/// The creation of a transmit association, from the words after `txsa`.
 fn tx_sa(at: End, words: &[&[u8]]) -> Result<Line, LineFault>
     ensures { result ≡ read_line (kinds_at at) (codes "txsa") (map (λ w. w.now) words.now) }
 {
@@ -30,7 +30,7 @@ fn tx_sa(at: End, words: &[&[u8]]) -> Result<Line, LineFault>
     )))
 }
 
-/// The switching on of a transmit association, of the words after `txon`.
+/// The enabling of a transmit association, from the words after `txon`.
 fn tx_on(at: End, words: &[&[u8]]) -> Result<Line, LineFault>
     ensures { result ≡ read_line (kinds_at at) (codes "txon") (map (λ w. w.now) words.now) }
 {
@@ -40,7 +40,7 @@ fn tx_on(at: End, words: &[&[u8]]) -> Result<Line, LineFault>
     Ok(Line::Event(Event::Command(at, Command::TxOn(association(an)?))))
 }
 
-/// The switching off of a transmit association, of the words after `txoff`.
+/// The disabling of a transmit association, from the words after `txoff`.
 fn tx_off(at: End, words: &[&[u8]]) -> Result<Line, LineFault>
     ensures { result ≡ read_line (kinds_at at) (codes "txoff") (map (λ w. w.now) words.now) }
 {
@@ -50,7 +50,7 @@ fn tx_off(at: End, words: &[&[u8]]) -> Result<Line, LineFault>
     Ok(Line::Event(Event::Command(at, Command::TxOff(association(an)?))))
 }
 
-/// The removal of a transmit association, of the words after `txdel`.
+/// The deletion of a transmit association, from the words after `txdel`.
 fn tx_del(at: End, words: &[&[u8]]) -> Result<Line, LineFault>
     ensures { result ≡ read_line (kinds_at at) (codes "txdel") (map (λ w. w.now) words.now) }
 {
@@ -60,8 +60,7 @@ fn tx_del(at: End, words: &[&[u8]]) -> Result<Line, LineFault>
     Ok(Line::Event(Event::Command(at, Command::TxDel(association(an)?))))
 }
 
-/// A line of a transmit association, of its keyword and the words after it; `None` where the
-/// keyword is none of those.
+/// A line of a transmit association, from its keyword and the words after it; `None` if the keyword is none of those.
 pub fn transmit_line(at: End, keyword: &[u8], words: &[&[u8]]) -> Option<Result<Line, LineFault>>
     ensures some { IfSome result (λ line. line ≡ read_line (kinds_at at) keyword.now (map (λ w. w.now) words.now)) }
     ensures none { IfNone result (kinds_of (transmit_kinds at) keyword.now ≡ []) }

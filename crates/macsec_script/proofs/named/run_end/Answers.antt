@@ -1,5 +1,5 @@
 use Rattle.std.proofs.Common.{rules}
-use Rattle.macsec_script.proofs.named.ended.Goals as goal
+use Rattle.macsec_script.proofs.named.run_end.Goals as goal
 
 pub returns : goal.returns
 returns c = search rules
