@@ -1,6 +1,6 @@
--- Two premises of the law on origin are needed. Where a tag is forged, B delivers a frame that A never sent. In mode Check
--- it does so without any forged tag: of two frames that differ in the ICV alone at most one opens, and the other one is
--- delivered as Invalid.
+-- Two premises of the laws on origin and order are needed. Where a tag is forged, B delivers a frame that A never sent. In
+-- mode Check it does so without any forged tag, and stays deceived in mode Strict: of two frames that differ in the ICV
+-- alone at most one opens, and the other one is delivered as Invalid.
 use Rattle.std.proofs.Common.{◌≡◌, ◌⊎◌, inl, inr, ℕ, zero, suc, ◌≤◌, true, false, List, [], ◌∷◌, ◌++◌, length, refl, ap, sym, subst, ◌∙◌, arith, Contains}
 use Rattle.std.specs.Prelude.{◌==◌, replicate, slice_get, IfSome, Some}
 use Rattle.std.proofs.lemmas.Bool.{ne_eqb}
@@ -8,35 +8,48 @@ use Rattle.std.proofs.lemmas.List.{take_all}
 use Rattle.macsec_gcm.specs.Gcm.{open_of}
 use Rattle.macsec_tag.specs.Table.{parts_at}
 use Rattle.macsec_suite.specs.KeyRows.{InstalledKey}
-use Rattle.macsec_rx.specs.declared.Mode.TheVariants.{Check}
+use Rattle.macsec_rx.specs.declared.Mode.TheVariants.{Check, Strict}
 use Rattle.macsec_rx.specs.declared.Verdict.TheVariants.{Invalid, Passed}
 use Rattle.macsec_rx.specs.Judge.{at_row, judge_opened}
 use Rattle.macsec_secy.specs.declared.command.Command.TheVariants.{Validate}
 use Rattle.macsec_secy.specs.declared.config.EndConfig.{EndConfig}
 use Rattle.macsec_secy.specs.declared.command.Options.{Options}
 use Rattle.macsec_secy.specs.Reception.{judgement_of}
-use Rattle.macsec_secy.specs.State.{first_options, no_rx_counters, rx_options}
+use Rattle.macsec_secy.specs.State.{State, first_options, no_rx_counters, rx_options}
 use Rattle.macsec_link.specs.declared.End.{End}
 use Rattle.macsec_link.specs.declared.End.TheVariants.{B}
 use Rattle.macsec_link.specs.declared.Event.{Event}
 use Rattle.macsec_link.specs.declared.Event.TheVariants.{Command, Deliver, Inject}
 use Rattle.macsec_link.specs.Genuine.{IsGenuine, IsGenuineAt}
+use Rattle.macsec_link.specs.Keys.{AgreeOnKey, AgreeOnKeys}
 use Rattle.macsec_ends.specs.Logs.{no_sent_logs, sent_under}
-use Rattle.macsec_link.specs.Origin.{IsStrict, WasSentByOther, WhileThere}
+use Rattle.macsec_link.specs.Origin.{HasStrictOrder, IsStrict, IsSubsequence, WasSentByOther, WasSentInOrder, WhileThere}
 use Rattle.macsec_link.specs.Step.{world_after, world_at}
 use Rattle.macsec_link.specs.Trace.{Trace, new_trace, trace_after, trace_step}
-use Rattle.macsec_link.specs.World.{WorldState, new_world}
+use Rattle.macsec_link.specs.World.{WorldState, end_of, new_world}
 use Rattle.macsec_link.proofs.Exchange.{aad, at_numbers, bytes, client, commands, config_a, config_b, first_judged, is_ready, iv, key_row, link_frame_of, link_frame_with, mark, ready, rx_from, tag, trace_at}
 use Rattle.macsec_link.proofs.Moments.{world_of_trace}
 use Rattle.macsec_link.proofs.SealedFrames.{closes, first, items, opens, tag_of}
 use Rattle.macsec_link.proofs.TracedSteps.{AtEach, after_both, at_moment, deliver_step, each_append, each_next, genuine_append, genuine_at, genuine_next}
-use Rattle.macsec_link.proofs.WorkedEnds.{Fails, only}
+use Rattle.macsec_link.proofs.WorkedEnds.{Fails, of_two, only}
 
 -- A has sent nothing
 sent_none : (y : InstalledKey) → Contains (key_row 1 1 ∷ []) y → Contains (sent_under no_sent_logs y.number) (client 1) → ⊥
 sent_none y there sent =
     let none : Contains [] (client 1) = subst (λ (k : InstalledKey). Contains (sent_under no_sent_logs k.number) (client 1)) (sym (only (key_row 1 1) y there)) sent in
     omega (arith, none.1)
+
+-- no frame is among none
+no_subsequence_of_none : (x : List ℕ) → IsSubsequence (x ∷ []) [] → ⊥
+no_subsequence_of_none x ([], rising, found) = cc
+no_subsequence_of_none x (place ∷ places, rising, found) = cc
+
+-- a fact of B at a moment, while its association is there
+abbrev IsSo : (State → Type 0) → WorldState → Type 0
+IsSo P w = IfSome (slice_get w.b.delivered 0) (λ log. log.live ≡ true → P w.b.state)
+
+abbrev world_of : Trace → WorldState
+world_of t = t.world
 
 -- ---- a frame is injected that fits B's key
 
@@ -73,21 +86,19 @@ ends_so =
     ∙ ap (λ (t : Trace). trace_after t (Deliver B 0 ∷ [])) (is_injected t1)
     ∙ is_deceived t1 is_open
 
-last_is : world_at config_a config_b forged (length forged) ≡ (deceived t1).world
-last_is =
-    ap (world_after (new_world config_a config_b)) (take_all (length forged) forged (omega arith))
-    ∙ sym (world_of_trace (new_trace config_a config_b) forged) ∙ ap (λ (t : Trace). t.world) ends_so
+last_is : world_after (new_world config_a config_b) forged ≡ (deceived t1).world
+last_is = sym (world_of_trace (new_trace config_a config_b) forged) ∙ ap world_of ends_so
 
-abbrev IsSo : WorldState → Type 0
-IsSo w = IfSome (slice_get w.b.delivered 0) (λ log. log.live ≡ true → IsStrict w.b.state)
+each_moment : (P : State → Type 0) → ((s : State) → s.options ≡ first_options config_b → P s) → AtEach (IsSo P) (new_world config_a config_b) forged
+each_moment P so =
+    each_append (IsSo P) (new_world config_a config_b) ready.world commands (forging t1)
+    (tt, (tt, (tt, (tt, (tt, (tt, (λ live. so _ refl, tt)))))))
+    (sym (world_of_trace (new_trace config_a config_b) commands) ∙ ap world_of is_ready)
+    (each_next (IsSo P) ready.world (injected t1).world (Inject (link_frame_of 1 (client 1) t1)) (Deliver B 0 ∷ []) (λ live. so _ refl) (ap world_of (is_injected t1))
+    (each_next (IsSo P) (injected t1).world (deceived t1).world (Deliver B 0) [] (λ live. so _ refl) (ap world_of (is_deceived t1 is_open)) (λ live. so _ refl)))
 
-each_moment : AtEach IsSo (new_world config_a config_b) forged
-each_moment =
-    each_append IsSo (new_world config_a config_b) ready.world commands (forging t1)
-    (tt, (tt, (tt, (tt, (tt, (tt, (λ live. refl, tt)))))))
-    (sym (world_of_trace (new_trace config_a config_b) commands) ∙ ap (λ (t : Trace). t.world) is_ready)
-    (each_next IsSo ready.world (injected t1).world (Inject (link_frame_of 1 (client 1) t1)) (Deliver B 0 ∷ []) (λ live. refl) (ap (λ (t : Trace). t.world) (is_injected t1))
-    (each_next IsSo (injected t1).world (deceived t1).world (Deliver B 0) [] (λ live. refl) (ap (λ (t : Trace). t.world) (is_deceived t1 is_open)) (λ live. refl)))
+while_there : (P : State → Type 0) → ((s : State) → s.options ≡ first_options config_b → P s) → WhileThere config_a config_b forged B 0 P
+while_there P so k within = at_moment (IsSo P) (new_world config_a config_b) forged (each_moment P so) k within
 
 -- the law on origin without the premise that no tag is forged
 abbrev pub OriginWhereForged : EndConfig → EndConfig → List Event → Type 0
@@ -98,10 +109,29 @@ genuineness_needed = (
   refl,
   λ law.
       let sent : WasSentByOther (deceived t1).world B 0 =
-      subst (λ (w : WorldState). WasSentByOther w B 0) last_is
-      (law B 0 (length forged) (λ k within. at_moment IsSo (new_world config_a config_b) forged each_moment k within) (omega arith)) in
+      subst (λ (w : WorldState). WasSentByOther w B 0) (ap (world_after (new_world config_a config_b)) (take_all (length forged) forged (omega arith)) ∙ last_is)
+      (law B 0 (length forged) (while_there IsStrict (λ s is. ap (λ (o : Options). o.mode) is)) (omega arith)) in
       let it = sent 0 [] (omega arith) in
       sent_none it.0 it.1 it.3,
+)
+
+-- the law on order without it
+abbrev pub OrderWhereForged : EndConfig → EndConfig → List Event → Type 0
+OrderWhereForged a b events =
+    AgreeOnKeys (world_after (new_world a b) events) →
+    (e : End) (i : ℕ) → WhileThere a b events e i IsStrict → WhileThere a b events e i HasStrictOrder →
+    WasSentInOrder (world_after (new_world a b) events) e i
+
+pub genuineness_needed_for_order : Fails OrderWhereForged config_a config_b forged
+genuineness_needed_for_order = (
+  refl,
+  λ law.
+      let in_order : WasSentInOrder (deceived t1).world B 0 =
+      subst (λ (w : WorldState). WasSentInOrder w B 0) last_is
+      (law (subst AgreeOnKeys (sym last_is) (of_two (λ x y. x.bytes ≡ y.bytes → AgreeOnKey x y) _ _ (λ same. record { suite = refl; salt = λ xpn. refl }))) B 0
+      (while_there IsStrict (λ s is. ap (λ (o : Options). o.mode) is))
+      (while_there HasStrictOrder (λ s is. record { replay = ap (λ (o : Options). o.replay) is; window = ap (λ (o : Options). o.window) is }))) in
+      no_subsequence_of_none (client 1) (in_order (key_row 1 1) (0, omega arith, refl) refl),
 )
 
 -- ---- in mode Check
@@ -125,8 +155,12 @@ icv_of octet = octet ∷ replicate 15 0
 abbrev guessed : ℕ → List ℕ
 guessed octet = link_frame_with 1 (client 1) ([], icv_of octet)
 
+-- then B is strict again
+abbrev back : List Event
+back = Command B (Validate Strict) ∷ []
+
 abbrev guessing : ℕ → List Event
-guessing octet = Inject (guessed octet) ∷ Deliver B 0 ∷ []
+guessing octet = Inject (guessed octet) ∷ Deliver B 0 ∷ back
 
 abbrev guess : ℕ → List Event
 guess octet = commands_check ++ guessing octet
@@ -137,6 +171,9 @@ on_link octet = trace_at options_check 0 (rx_from 1) 0 no_rx_counters [] [] (gue
 abbrev unvalidated : ℕ → Trace
 unvalidated octet =
     trace_at options_check 0 (rx_from 1) 2 (record no_rx_counters { in_pkts_invalid = 1 }) [] (client 1 ∷ []) (guessed octet ∷ []) [] (record (mark 1) { validated = false } ∷ [])
+
+abbrev strict_again : ℕ → Trace
+strict_again octet = record (unvalidated octet) { world = record (unvalidated octet).world { b = record (unvalidated octet).world.b { state = record (unvalidated octet).world.b.state { options = first_options config_b } } } }
 
 abbrev IsOther : ℕ → Type 0
 IsOther octet = (first (tag_of bytes (iv 1) (aad 1 (client 1))) == octet) ≡ false
@@ -151,36 +188,72 @@ is_on_link octet = refl
 is_unvalidated : (octet : ℕ) → IsOther octet → trace_step (on_link octet) (Deliver B 0) ≡ unvalidated octet
 is_unvalidated octet other = deliver_step (on_link octet) 0 (guessed octet) (at_row (rx_from 1) 1 12 Invalid (Some (client 1))) refl refl refl (guess_judged octet other)
 
+is_strict_again : (octet : ℕ) → trace_step (unvalidated octet) (Command B (Validate Strict)) ≡ strict_again octet
+is_strict_again octet = refl
+
 nothing_opens : (octet : ℕ) → IsOther octet → IsGenuineAt (on_link octet) (Deliver B 0)
 nothing_opens octet other = genuine_at in_check.world.b.state (guessed octet) (at_row (rx_from 1) 1 12 Invalid (Some (client 1))) [] (guess_judged octet other) tt
 
 guess_genuine : (octet : ℕ) → IsOther octet → IsGenuine (new_trace config_a config_b) (guess octet)
 guess_genuine octet other =
     genuine_append (new_trace config_a config_b) in_check commands_check (guessing octet) (tt, (tt, (tt, (tt, (tt, (tt, (tt, (tt, tt)))))))) is_in_check
-    (genuine_next in_check (on_link octet) (Inject (guessed octet)) (Deliver B 0 ∷ []) (tt {0}) (is_on_link octet)
-    (genuine_next (on_link octet) (unvalidated octet) (Deliver B 0) [] (nothing_opens octet other) (is_unvalidated octet other) (tt {0})))
+    (genuine_next in_check (on_link octet) (Inject (guessed octet)) (Deliver B 0 ∷ back) (tt {0}) (is_on_link octet)
+    (genuine_next (on_link octet) (unvalidated octet) (Deliver B 0) back (nothing_opens octet other) (is_unvalidated octet other)
+    (genuine_next (unvalidated octet) (strict_again octet) (Command B (Validate Strict)) [] (tt {0}) (is_strict_again octet) (tt {0}))))
 
-guess_ends : (octet : ℕ) → IsOther octet → world_at config_a config_b (guess octet) (length (guess octet)) ≡ (unvalidated octet).world
+guess_ends : (octet : ℕ) → IsOther octet → world_after (new_world config_a config_b) (guess octet) ≡ (strict_again octet).world
 guess_ends octet other =
-    ap (world_after (new_world config_a config_b)) (take_all (length (guess octet)) (guess octet) (omega arith))
-    ∙ sym (world_of_trace (new_trace config_a config_b) (guess octet))
-    ∙ ap (λ (t : Trace). t.world)
+    sym (world_of_trace (new_trace config_a config_b) (guess octet))
+    ∙ ap world_of
     (after_both (new_trace config_a config_b) in_check commands_check (guessing octet) is_in_check
-    ∙ ap (λ (t : Trace). trace_after t (Deliver B 0 ∷ [])) (is_on_link octet)
-    ∙ is_unvalidated octet other)
+    ∙ ap (λ (t : Trace). trace_after t (Deliver B 0 ∷ back)) (is_on_link octet)
+    ∙ ap (λ (t : Trace). trace_after t back) (is_unvalidated octet other)
+    ∙ is_strict_again octet)
 
--- the law on origin without the premise that the end validates strictly
-abbrev pub OriginInAnyMode : EndConfig → EndConfig → List Event → Type 0
-OriginInAnyMode a b events = IsGenuine (new_trace a b) events → (e : End) (i k : ℕ) → k ≤ length events → WasSentByOther (world_at a b events k) e i
+each_in_check : (octet : ℕ) → IsOther octet → AtEach (IsSo HasStrictOrder) (new_world config_a config_b) (guess octet)
+each_in_check octet other =
+    each_append (IsSo HasStrictOrder) (new_world config_a config_b) in_check.world commands_check (guessing octet)
+    (tt, (tt, (tt, (tt, (tt, (tt, (λ live. record { replay = refl; window = refl }, (λ live. record { replay = refl; window = refl }, tt))))))))
+    (sym (world_of_trace (new_trace config_a config_b) commands_check) ∙ ap world_of is_in_check)
+    (each_next (IsSo HasStrictOrder) in_check.world (on_link octet).world (Inject (guessed octet)) (Deliver B 0 ∷ back) (λ live. record { replay = refl; window = refl }) (ap world_of (is_on_link octet))
+    (each_next (IsSo HasStrictOrder) (on_link octet).world (unvalidated octet).world (Deliver B 0) back (λ live. record { replay = refl; window = refl }) (ap world_of (is_unvalidated octet other))
+    (each_next (IsSo HasStrictOrder) (unvalidated octet).world (strict_again octet).world (Command B (Validate Strict)) [] (λ live. record { replay = refl; window = refl }) (ap world_of (is_strict_again octet))
+    (λ live. record { replay = refl; window = refl }))))
 
-fails_in_check : (octet : ℕ) → IsOther octet → Fails OriginInAnyMode config_a config_b (guess octet)
-fails_in_check octet other = (
+-- the law on origin where the end is strict after the last event, whatever it was before
+abbrev pub OriginWhereStrictAtEnd : EndConfig → EndConfig → List Event → Type 0
+OriginWhereStrictAtEnd a b events =
+    IsGenuine (new_trace a b) events → (e : End) (i : ℕ) → IsStrict (end_of (world_after (new_world a b) events) e).state → WasSentByOther (world_after (new_world a b) events) e i
+
+origin_fails : (octet : ℕ) → IsOther octet → Fails OriginWhereStrictAtEnd config_a config_b (guess octet)
+origin_fails octet other = (
   refl,
   λ law.
-      let sent : WasSentByOther (unvalidated octet).world B 0 =
-      subst (λ (w : WorldState). WasSentByOther w B 0) (guess_ends octet other) (law (guess_genuine octet other) B 0 (length (guess octet)) (omega arith)) in
+      let sent : WasSentByOther (strict_again octet).world B 0 =
+      subst (λ (w : WorldState). WasSentByOther w B 0) (guess_ends octet other)
+      (law (guess_genuine octet other) B 0 (subst (λ (w : WorldState). IsStrict w.b.state) (sym (guess_ends octet other)) refl)) in
       let it = sent 0 [] (omega arith) in
       sent_none it.0 it.1 it.3,
+)
+
+-- and the law on order, with the other premises at each moment
+abbrev pub OrderWhereStrictAtEnd : EndConfig → EndConfig → List Event → Type 0
+OrderWhereStrictAtEnd a b events =
+    IsGenuine (new_trace a b) events → AgreeOnKeys (world_after (new_world a b) events) →
+    (e : End) (i : ℕ) → IsStrict (end_of (world_after (new_world a b) events) e).state → WhileThere a b events e i HasStrictOrder →
+    WasSentInOrder (world_after (new_world a b) events) e i
+
+order_fails : (octet : ℕ) → IsOther octet → Fails OrderWhereStrictAtEnd config_a config_b (guess octet)
+order_fails octet other = (
+  refl,
+  λ law.
+      let ends = guess_ends octet other in
+      let in_order : WasSentInOrder (strict_again octet).world B 0 =
+      subst (λ (w : WorldState). WasSentInOrder w B 0) ends
+      (law (guess_genuine octet other) (subst AgreeOnKeys (sym ends) (of_two (λ x y. x.bytes ≡ y.bytes → AgreeOnKey x y) _ _ (λ same. record { suite = refl; salt = λ xpn. refl }))) B 0
+      (subst (λ (w : WorldState). IsStrict w.b.state) (sym ends) refl)
+      (λ k within. at_moment (IsSo HasStrictOrder) (new_world config_a config_b) (guess octet) (each_in_check octet other) k within)) in
+      no_subsequence_of_none (client 1) (in_order (key_row 1 1) (0, omega arith, refl) refl),
 )
 
 -- no number is both 0 and 1
@@ -189,9 +262,15 @@ zero_or_one zero = inr refl
 zero_or_one (suc n) = inl (ne_eqb (suc n) 0 (λ same. omega (arith, same)))
 
 -- of the frames whose ICVs are 0 and 1 with zeros behind, one at least is delivered as Invalid
-pub strictness_needed : Fails OriginInAnyMode config_a config_b (guess 0) ⊎ Fails OriginInAnyMode config_a config_b (guess 1)
-strictness_needed = by_octet (zero_or_one (first (tag_of bytes (iv 1) (aad 1 (client 1)))))
+of_one : (P : ℕ → Type 0) → ((octet : ℕ) → IsOther octet → P octet) → P 0 ⊎ P 1
+of_one P goes = by_octet (zero_or_one (first (tag_of bytes (iv 1) (aad 1 (client 1)))))
   where
-    by_octet : IsOther 0 ⊎ IsOther 1 → Fails OriginInAnyMode config_a config_b (guess 0) ⊎ Fails OriginInAnyMode config_a config_b (guess 1)
-    by_octet (inl other) = inl (fails_in_check 0 other)
-    by_octet (inr other) = inr (fails_in_check 1 other)
+    by_octet : IsOther 0 ⊎ IsOther 1 → P 0 ⊎ P 1
+    by_octet (inl other) = inl (goes 0 other)
+    by_octet (inr other) = inr (goes 1 other)
+
+pub strictness_needed : Fails OriginWhereStrictAtEnd config_a config_b (guess 0) ⊎ Fails OriginWhereStrictAtEnd config_a config_b (guess 1)
+strictness_needed = of_one (λ octet. Fails OriginWhereStrictAtEnd config_a config_b (guess octet)) origin_fails
+
+pub strictness_needed_for_order : Fails OrderWhereStrictAtEnd config_a config_b (guess 0) ⊎ Fails OrderWhereStrictAtEnd config_a config_b (guess 1)
+strictness_needed_for_order = of_one (λ octet. Fails OrderWhereStrictAtEnd config_a config_b (guess octet)) order_fails

@@ -1,6 +1,6 @@
--- Replay protection, and its window of 0, are needed for the order of deliveries: with it off, or with a window of 1, one
--- frame is delivered twice, though no tag is forged and B validates strictly. With it off the later packet number is not
--- above the earlier one either.
+-- Replay protection, and its window of 0, are needed for the order of deliveries, and at every moment: with it off, or with
+-- a window of 1, one frame is delivered twice, though no tag is forged and B validates strictly, and though B has both
+-- afterwards. With it off the later packet number is not above the earlier one either.
 use Rattle.std.proofs.Common.{◌≡◌, ℕ, zero, suc, ◌+◌, ◌<◌, Bool, true, false, List, [], ◌∷◌, ◌++◌, refl, ap, sym, subst, ◌∙◌, arith, AllPairs}
 use Rattle.std.specs.Prelude.{slice_get, IfSome, Some}
 use Rattle.macsec_gcm.specs.Gcm.{open_of}
@@ -22,10 +22,10 @@ use Rattle.macsec_link.specs.declared.Event.{Event}
 use Rattle.macsec_link.specs.declared.Event.TheVariants.{Command, Deliver, Send}
 use Rattle.macsec_link.specs.Genuine.{IsGenuine, IsGenuineAt}
 use Rattle.macsec_link.specs.Keys.{AgreeOnKey, AgreeOnKeys}
-use Rattle.macsec_link.specs.Origin.{IsStrict, IsSubsequence, WasSentInOrder, WhileThere}
+use Rattle.macsec_link.specs.Origin.{HasStrictOrder, IsStrict, IsSubsequence, WasSentInOrder, WhileThere}
 use Rattle.macsec_link.specs.Step.{world_after}
 use Rattle.macsec_link.specs.Trace.{Mark, Trace, marks_of, new_trace, trace_after, trace_of, trace_step}
-use Rattle.macsec_link.specs.World.{WorldState, new_world}
+use Rattle.macsec_link.specs.World.{WorldState, end_of, new_world}
 use Rattle.macsec_link.proofs.Exchange.{aad, bytes, client, config_a, config_b, iv, key_row, link_frame_of, link_frame_with, log, rx_from, tag, trace_at, tx_from, use_of, use_with}
 use Rattle.macsec_link.proofs.Exchange as exchange
 use Rattle.macsec_link.proofs.Moments.{world_of_trace}
@@ -41,8 +41,12 @@ window false = 0
 abbrev commands : Bool → List Event
 commands replay = exchange.commands ++ Command B (Replay replay (window replay)) ∷ []
 
+-- then replay protection is on, and its window 0
+abbrev back : List Event
+back = Command B (Replay true 0) ∷ []
+
 abbrev twice : List Event
-twice = Deliver B 0 ∷ Deliver B 0 ∷ []
+twice = Deliver B 0 ∷ Deliver B 0 ∷ back
 
 abbrev pub events : Bool → List Event
 events replay = commands replay ++ Send A (client 1) ∷ twice
@@ -94,6 +98,10 @@ after_once replay t = one_sent replay (heard_row replay) 2 (record no_rx_counter
 abbrev after_twice : Bool → List ℕ → Trace
 after_twice replay t = one_sent replay (heard_row replay) 4 (counted_again replay) (client 1 ∷ client 1 ∷ []) t (mark replay ∷ mark replay ∷ [])
 
+abbrev at_end : Bool → List ℕ → Trace
+at_end replay t =
+    trace_at (first_options config_b) 1 (rx_from 2) 4 (counted_again replay) (client 1 ∷ []) (client 1 ∷ client 1 ∷ []) (frame t ∷ []) (use_of 1 (client 1) t ∷ []) (mark replay ∷ mark replay ∷ [])
+
 -- ---- the steps
 
 abbrev t1 : List ℕ
@@ -137,6 +145,10 @@ again_genuine replay t is =
     genuine_at (after_once replay t).world.b.state (frame t) (at_row (heard_row replay) 1 13 (again replay) (Some (client 1))) (after_once replay t).seals (again_judged replay t is)
     (0, omega arith, refl)
 
+is_back : (replay : Bool) (t : List ℕ) → trace_step (after_twice replay t) (Command B (Replay true 0)) ≡ at_end replay t
+is_back true t = refl
+is_back false t = refl
+
 -- ---- the run
 
 is_open : Opens t1
@@ -146,17 +158,19 @@ is_genuine : (replay : Bool) → IsGenuine (new_trace config_a config_b) (events
 is_genuine replay =
     genuine_append (new_trace config_a config_b) (ready replay) (commands replay) (Send A (client 1) ∷ twice) (tt, (tt, (tt, (tt, (tt, (tt, (tt, (tt, tt)))))))) (is_ready replay)
     (genuine_next (ready replay) (after_sending replay t1) (Send A (client 1)) twice (tt {0}) (is_sent replay)
-    (genuine_next (after_sending replay t1) (after_once replay t1) (Deliver B 0) (Deliver B 0 ∷ []) (once_genuine replay t1 is_open) (once_heard replay t1 is_open)
-    (genuine_next (after_once replay t1) (after_twice replay t1) (Deliver B 0) [] (again_genuine replay t1 is_open) (again_heard replay t1 is_open) (tt {0}))))
+    (genuine_next (after_sending replay t1) (after_once replay t1) (Deliver B 0) (Deliver B 0 ∷ back) (once_genuine replay t1 is_open) (once_heard replay t1 is_open)
+    (genuine_next (after_once replay t1) (after_twice replay t1) (Deliver B 0) back (again_genuine replay t1 is_open) (again_heard replay t1 is_open)
+    (genuine_next (after_twice replay t1) (at_end replay t1) (Command B (Replay true 0)) [] (tt {0}) (is_back replay t1) (tt {0})))))
 
-ends_so : (replay : Bool) → trace_of config_a config_b (events replay) ≡ after_twice replay t1
+ends_so : (replay : Bool) → trace_of config_a config_b (events replay) ≡ at_end replay t1
 ends_so replay =
     after_both (new_trace config_a config_b) (ready replay) (commands replay) (Send A (client 1) ∷ twice) (is_ready replay)
     ∙ ap (λ (t : Trace). trace_after t twice) (is_sent replay)
-    ∙ ap (λ (t : Trace). trace_after t (Deliver B 0 ∷ [])) (once_heard replay t1 is_open)
-    ∙ again_heard replay t1 is_open
+    ∙ ap (λ (t : Trace). trace_after t (Deliver B 0 ∷ back)) (once_heard replay t1 is_open)
+    ∙ ap (λ (t : Trace). trace_after t back) (again_heard replay t1 is_open)
+    ∙ is_back replay t1
 
-last_is : (replay : Bool) → world_after (new_world config_a config_b) (events replay) ≡ (after_twice replay t1).world
+last_is : (replay : Bool) → world_after (new_world config_a config_b) (events replay) ≡ (at_end replay t1).world
 last_is replay = sym (world_of_trace (new_trace config_a config_b) (events replay)) ∙ ap (λ (t : Trace). t.world) (ends_so replay)
 
 -- B is strict all the while, and its options are these from its association's making on, but for replay and window
@@ -170,8 +184,9 @@ each_moment replay P first so =
     (tt, (tt, (tt, (tt, (tt, (tt, (λ live. first _ refl, (λ live. first _ refl, tt))))))))
     (sym (world_of_trace (new_trace config_a config_b) (commands replay)) ∙ ap (λ (t : Trace). t.world) (is_ready replay))
     (each_next (IsSo P) (ready replay).world (after_sending replay t1).world (Send A (client 1)) twice (λ live. so _ refl) (ap (λ (t : Trace). t.world) (is_sent replay))
-    (each_next (IsSo P) (after_sending replay t1).world (after_once replay t1).world (Deliver B 0) (Deliver B 0 ∷ []) (λ live. so _ refl) (ap (λ (t : Trace). t.world) (once_heard replay t1 is_open))
-    (each_next (IsSo P) (after_once replay t1).world (after_twice replay t1).world (Deliver B 0) [] (λ live. so _ refl) (ap (λ (t : Trace). t.world) (again_heard replay t1 is_open)) (λ live. so _ refl))))
+    (each_next (IsSo P) (after_sending replay t1).world (after_once replay t1).world (Deliver B 0) (Deliver B 0 ∷ back) (λ live. so _ refl) (ap (λ (t : Trace). t.world) (once_heard replay t1 is_open))
+    (each_next (IsSo P) (after_once replay t1).world (after_twice replay t1).world (Deliver B 0) back (λ live. so _ refl) (ap (λ (t : Trace). t.world) (again_heard replay t1 is_open))
+    (each_next (IsSo P) (after_twice replay t1).world (at_end replay t1).world (Command B (Replay true 0)) [] (λ live. so _ refl) (ap (λ (t : Trace). t.world) (is_back replay t1)) (λ live. first _ refl)))))
 
 while_there : (replay : Bool) (P : State → Type 0) → ((s : State) → s.options ≡ first_options config_b → P s) → ((s : State) → s.options ≡ options_of replay → P s) →
     WhileThere config_a config_b (events replay) B 0 P
@@ -191,14 +206,14 @@ abbrev pub HasRest : Bool → State → Type 0
 HasRest true s = s.options.replay ≡ true
 HasRest false s = s.options.window ≡ 0
 
--- the law on order, with that alone
+-- the law on order, with that alone at each moment, and with both after the last event
 abbrev pub OrderWithRest : Bool → EndConfig → EndConfig → List Event → Type 0
 OrderWithRest replay a b events =
     IsGenuine (new_trace a b) events → AgreeOnKeys (world_after (new_world a b) events) →
-    (e : End) (i : ℕ) → WhileThere a b events e i IsStrict → WhileThere a b events e i (HasRest replay) →
+    (e : End) (i : ℕ) → WhileThere a b events e i IsStrict → WhileThere a b events e i (HasRest replay) → HasStrictOrder (end_of (world_after (new_world a b) events) e).state →
     WasSentInOrder (world_after (new_world a b) events) e i
 
-keys_agree : (replay : Bool) → AgreeOnKeys (after_twice replay t1).world
+keys_agree : (replay : Bool) → AgreeOnKeys (at_end replay t1).world
 keys_agree replay = of_two (λ x y. x.bytes ≡ y.bytes → AgreeOnKey x y) _ _ (λ same. record { suite = refl; salt = λ xpn. refl })
 
 has_rest : (replay : Bool) → WhileThere config_a config_b (events replay) B 0 (HasRest replay)
@@ -207,10 +222,11 @@ has_rest false = while_there false (HasRest false) (λ s is. ap (λ (o : Options
 
 order_fails : (replay : Bool) → OrderWithRest replay config_a config_b (events replay) → ⊥
 order_fails replay law =
-    let in_order : WasSentInOrder (after_twice replay t1).world B 0 =
+    let in_order : WasSentInOrder (at_end replay t1).world B 0 =
     subst (λ (w : WorldState). WasSentInOrder w B 0) (last_is replay)
     (law (is_genuine replay) (subst AgreeOnKeys (sym (last_is replay)) (keys_agree replay)) B 0
-    (while_there replay IsStrict (λ s is. ap (λ (o : Options). o.mode) is) (λ s is. ap (λ (o : Options). o.mode) is)) (has_rest replay)) in
+    (while_there replay IsStrict (λ s is. ap (λ (o : Options). o.mode) is) (λ s is. ap (λ (o : Options). o.mode) is)) (has_rest replay)
+    (subst (λ (w : WorldState). HasStrictOrder w.b.state) (sym (last_is replay)) (record { replay = refl; window = refl }))) in
     no_subsequence (client 1) (in_order (key_row 1 2) (0, omega arith, refl) refl)
 
 -- a window of 1 is too wide
@@ -233,7 +249,7 @@ pub protection_needed_for_window : Fails WindowWhereOff config_a config_b (event
 protection_needed_for_window = (
   refl,
   λ law.
-      let pairs : AllPairs IsWithinWindowOff (marks_of (after_twice false t1) B 0) =
+      let pairs : AllPairs IsWithinWindowOff (marks_of (at_end false t1) B 0) =
       subst (λ (t : Trace). AllPairs IsWithinWindowOff (marks_of t B 0)) (ends_so false) (law B 0) in
       let less : 1 < 1 + 0 = pairs 0 1 (mark false) (omega arith) (omega arith) refl in
       omega (arith, less),
