@@ -1,0 +1,155 @@
+-- A record is read from its own octets.
+use Rattle.std.proofs.Common.{◌≡◌, ℕ, zero, suc, ◌+◌, ◌<◌, ◌≤◌, List, ◌++◌, length, take, drop, refl, sym, ap, subst, ◌∙◌, arith, length-append, take-append-drop}
+use Rattle.std.specs.Prelude.{Option, Some, None, IfSome, Result, Ok, Err, Bool, false, true, nat_lt, ◌==◌, if◌then◌else◌}
+use Rattle.std.proofs.lemmas.Bool.{le-ltb, lt-ltb}
+use Rattle.std.proofs.lemmas.Bool.Decides.{nat_tests}
+use Rattle.std.proofs.lemmas.List.{drop_at}
+use Rattle.std.proofs.Math.Seq.{drop-append-add}
+use Rattle.macsec_pcap.specs.declared.fault.PcapFault.{PcapFault}
+use Rattle.macsec_pcap.specs.declared.fault.PcapFault.TheVariants.{Magic, Version, LinkType, CutHeader, CutRecord, RecordLength, Read, Write, Memory, RecordCount}
+use Rattle.macsec_pcap.specs.declared.form.Order.{Order}
+use Rattle.macsec_pcap.specs.declared.records.Head.{Head}
+use Rattle.macsec_pcap.specs.Filled.{IsFilled}
+use Rattle.macsec_pcap.specs.Limits.{max_record_length}
+use Rattle.macsec_pcap.specs.Records.{CaptureRecord, captured_length, original_length, record_at, record_length, record_of}
+use Rattle.macsec_pcap.specs.Captures.{record_within}
+use Rattle.macsec_pcap.specs.Answers.{TakesCaptured, TakesRecord, UnlessRead, head_of, record_in}
+use Rattle.macsec_pcap.proofs.FilledRooms.{IsFullOf, filled_whole, filled_short}
+use Rattle.macsec_pcap.proofs.Headers.{UnlessRead-same}
+use Rattle.macsec_pcap.proofs.NumbersAt.{number-append, number-drop-append}
+
+-- the numbers before the captured octets are those of the first 16 octets
+head_of-append : (order : Order) (head rest : List ℕ) → length head ≡ 16 → head_of order (head ++ rest) ≡ head_of order head
+head_of-append order head rest long =
+    rw (
+      number-append order 4 head rest (omega (arith, long)),
+      number-drop-append order 4 4 head rest (omega (arith, long)),
+      number-drop-append order 4 8 head rest (omega (arith, long)),
+      number-drop-append order 4 12 head rest (omega (arith, long)),
+    ) refl
+
+-- what is at a record's place, by how many octets are left there, the numbers that they begin with, the octets behind
+-- these, and those after the record
+abbrev by_tests : ℕ → Head → List ℕ → List ℕ → Result (Option (CaptureRecord × List ℕ)) PcapFault
+by_tests n head behind after =
+    if n == 0 then Ok None
+    else if nat_lt n 16 then Err CutRecord
+    else if nat_lt max_record_length head.captured then Err RecordLength
+    else if nat_lt n (16 + head.captured) then Err CutRecord
+    else Ok (Some (record_in head behind, after))
+
+-- the same, if the numbers are there
+abbrev at_head : Head → List ℕ → List ℕ → Result (Option (CaptureRecord × List ℕ)) PcapFault
+at_head head behind after =
+    if nat_lt max_record_length head.captured then Err RecordLength
+    else if nat_lt (length behind) head.captured then Err CutRecord
+    else Ok (Some (record_in head behind, after))
+
+lt-more : (m c : ℕ) → nat_lt (16 + m) (16 + c) ≡ nat_lt m c
+lt-more m c = grind (arith, nat_tests)
+
+by_tests-more : (head : Head) (behind after : List ℕ) → by_tests (16 + length behind) head behind after ≡ at_head head behind after
+by_tests-more head behind after =
+    let some : (16 + length behind == 0) ≡ false = grind (arith, nat_tests) in
+    let enough : nat_lt (16 + length behind) 16 ≡ false = le-ltb (16 + length behind) 16 (omega arith) in
+    rw (some, enough, lt-more (length behind) head.captured) refl
+
+drop-more : (head rest : List ℕ) (n : ℕ) → length head ≡ 16 → drop (16 + n) (head ++ rest) ≡ drop n rest
+drop-more head rest n long = subst (λ k. drop (k + n) (head ++ rest) ≡ drop n rest) long (drop-append-add head rest n)
+
+-- what is at a record's place that begins with 16 octets
+pub record_at-append : (order : Order) (head rest : List ℕ) → length head ≡ 16 →
+    record_at order (head ++ rest) ≡ at_head (head_of order head) rest (drop (captured_length order head) rest)
+record_at-append order head rest long =
+    let numbers = head_of-append order head rest long in
+    let all : length (head ++ rest) ≡ 16 + length rest = omega (arith, length-append head rest) in
+    let behind : drop 16 (head ++ rest) ≡ rest = drop_at head rest 16 long in
+    let after : drop (16 + captured_length order (head ++ rest)) (head ++ rest) ≡ drop (captured_length order head) rest =
+    ap (λ (h : Head). drop (16 + h.captured) (head ++ rest)) numbers ∙ drop-more head rest (captured_length order head) long in
+    ap (λ n. by_tests n (head_of order (head ++ rest)) (drop 16 (head ++ rest)) (drop (16 + captured_length order (head ++ rest)) (head ++ rest))) all
+    ∙ ap (λ h. by_tests (16 + length rest) h (drop 16 (head ++ rest)) (drop (16 + captured_length order (head ++ rest)) (head ++ rest))) numbers
+    ∙ ap (λ octets. by_tests (16 + length rest) (head_of order head) octets (drop (16 + captured_length order (head ++ rest)) (head ++ rest))) behind
+    ∙ ap (λ octets. by_tests (16 + length rest) (head_of order head) rest octets) after
+    ∙ by_tests-more (head_of order head) rest (drop (captured_length order head) rest)
+
+-- there is a place for the record
+record_within-place : (order : Order) (places : ℕ) (octets : List ℕ) → 1 ≤ places → record_within order places octets ≡ record_at order octets
+record_within-place order zero octets h = absurd (omega (arith, h))
+record_within-place order (suc places) octets h = refl
+
+within : (order : Order) (places : ℕ) (octets : List ℕ) (mid : Option (List ℕ)) (head : List ℕ) (numbers : Head) →
+    numbers ≡ head_of order head → 1 ≤ places → length head ≡ 16 → IsFullOf octets mid head →
+    record_within order places octets ≡ at_head numbers (drop 16 octets) (drop numbers.captured (drop 16 octets))
+within order places octets mid head numbers same place long full =
+    let joined : octets ≡ head ++ drop 16 octets =
+    sym (take-append-drop (length head) octets) ∙ ap (λ xs. xs ++ drop (length head) octets) full.front ∙ ap (λ n. head ++ drop n octets) long in
+    record_within-place order places octets place ∙ ap (record_at order) joined ∙ record_at-append order head (drop 16 octets) long
+    ∙ ap (λ (h : Head). at_head h (drop 16 octets) (drop h.captured (drop 16 octets))) (sym same)
+
+left_of : (octets : List ℕ) (mid : Option (List ℕ)) (head : List ℕ) → length head ≡ 16 → IsFullOf octets mid head → mid ≡ Some (drop 16 octets)
+left_of octets mid head long full = full.left ∙ ap (λ n. Some (drop n octets)) long
+
+at_head-long : (head : Head) (behind after : List ℕ) → max_record_length < head.captured → at_head head behind after ≡ Err RecordLength
+at_head-long head behind after long =
+    let test : nat_lt max_record_length head.captured ≡ true = lt-ltb max_record_length head.captured long in rw test refl
+
+at_head-cut : (head : Head) (behind after : List ℕ) → head.captured ≤ max_record_length → length behind < head.captured → at_head head behind after ≡ Err CutRecord
+at_head-cut head behind after fits cut =
+    let test : nat_lt max_record_length head.captured ≡ false = le-ltb max_record_length head.captured fits in
+    let short : nat_lt (length behind) head.captured ≡ true = lt-ltb (length behind) head.captured cut in
+    rw (test, short) refl
+
+at_head-whole : (head : Head) (behind after : List ℕ) → head.captured ≤ max_record_length → head.captured ≤ length behind →
+    at_head head behind after ≡ Ok (Some (record_in head behind, after))
+at_head-whole head behind after fits enough =
+    let test : nat_lt max_record_length head.captured ≡ false = le-ltb max_record_length head.captured fits in
+    let long : nat_lt (length behind) head.captured ≡ false = le-ltb (length behind) head.captured enough in
+    rw (test, long) refl
+
+fails : (head : Head) (behind after : List ℕ) (new : Option (List ℕ)) (room : List ℕ) (fault : PcapFault) →
+    TakesCaptured head.captured behind new room (Err fault) → UnlessRead (at_head head behind after) (Err fault)
+fails head behind after new room RecordLength h = sym (at_head-long head behind after h)
+fails head behind after new room CutRecord h = sym (at_head-cut head behind after h.0 h.1)
+fails head behind after new room Read h = tt
+fails head behind after new room Magic h = cc
+fails head behind after new room Version h = cc
+fails head behind after new room LinkType h = cc
+fails head behind after new room CutHeader h = cc
+fails head behind after new room Write h = cc
+fails head behind after new room Memory h = cc
+fails head behind after new room RecordCount h = cc
+
+-- a read of a record's captured octets failed
+pub takes_fault : (order : Order) (places : ℕ) (old mid new : Option (List ℕ)) (head room : List ℕ) (n : ℕ) (numbers : Head) (fault : PcapFault) →
+    numbers ≡ head_of order head → 1 ≤ places → length head ≡ 16 → 16 ≤ n → IsFilled old mid head n →
+    IfSome mid (λ rest. TakesCaptured numbers.captured rest new room (Err fault)) →
+    IfSome old (λ octets. UnlessRead (record_within order places octets) (Err fault))
+takes_fault order places None mid new head room n numbers fault same place long whole filled taken = tt
+takes_fault order places (Some octets) mid new head room n numbers fault same place long whole filled taken =
+    let full = filled_whole octets mid head n filled (omega (arith, long, whole)) in
+    let behind = drop 16 octets in
+    let rest : TakesCaptured numbers.captured behind new room (Err fault) =
+    subst (λ m. IfSome m (λ xs. TakesCaptured numbers.captured xs new room (Err fault))) (left_of octets mid head long full) taken in
+    subst (λ meant. UnlessRead meant (Err fault)) (sym (within order places octets mid head numbers same place long full))
+    (fails numbers behind (drop numbers.captured behind) new room fault rest)
+
+same_record : (head : Head) (room behind : List ℕ) → take head.captured room ≡ take head.captured behind → record_in head behind ≡ record_in head room
+same_record head room behind same = rw (← same) refl
+
+-- a record was read whole
+pub takes_record : (order : Order) (places : ℕ) (old mid new : Option (List ℕ)) (head room : List ℕ) (n : ℕ) (numbers : Head) →
+    numbers ≡ head_of order head → 1 ≤ places → length head ≡ 16 → 16 ≤ n → IsFilled old mid head n →
+    IfSome mid (λ rest. TakesCaptured numbers.captured rest new room (Ok tt)) →
+    IfSome old (λ octets. TakesRecord order places octets new room (Ok (Some numbers)))
+takes_record order places None mid new head room n numbers same place long whole filled taken = tt
+takes_record order places (Some octets) mid new head room n numbers same place long whole filled taken =
+    let full = filled_whole octets mid head n filled (omega (arith, long, whole)) in
+    let behind = drop 16 octets in
+    let rest : TakesCaptured numbers.captured behind new room (Ok tt) =
+    subst (λ m. IfSome m (λ xs. TakesCaptured numbers.captured xs new room (Ok tt))) (left_of octets mid head long full) taken in (
+      drop numbers.captured behind,
+      within order places octets mid head numbers same place long full
+          ∙ at_head-whole numbers behind (drop numbers.captured behind) rest.0 rest.1
+          ∙ ap (λ r. Ok (Some (r, drop numbers.captured behind))) (same_record numbers room behind rest.2),
+      rest.3,
+    )

@@ -1,0 +1,11 @@
+pub mod Limits
+pub mod Numbers
+pub mod FaultNumbers
+pub mod Header
+pub mod Records
+pub mod Captures
+pub mod Filled
+pub mod Answers
+pub mod Reading
+pub mod Written
+pub mod Writing

@@ -1,0 +1,68 @@
+//! Why a capture file is not read or written.
+
+ghost use Rattle.std.specs.Prelude.{◌≡◌};
+ghost use Rattle.macsec_pcap.specs.FaultNumbers.{name_of_fault, number_of_fault};
+
+use thiserror::Error;
+
+/// Why a capture file is not read or written. Reader and writer return it for good from then on.
+#[derive(Clone, Copy, PartialEq, Eq, Debug, Error)]
+pub enum PcapFault {
+    /// The file begins with none of the format's magic numbers, in either order of octets.
+    #[error("the file begins with no magic number of the format")]
+    Magic = 1,
+    /// The version of the format is not 2.4.
+    #[error("the version of the format is not 2.4")]
+    Version = 2,
+    /// The link type is not that of Ethernet.
+    #[error("the link type is not that of Ethernet")]
+    LinkType = 3,
+    /// The file has fewer octets than its header.
+    #[error("the file ends within its header")]
+    CutHeader = 4,
+    /// The file ends within a record.
+    #[error("the file ends within a record")]
+    CutRecord = 5,
+    /// A record has more than 262,144 captured octets.
+    #[error("a record is too long")]
+    RecordLength = 6,
+    /// The reader failed.
+    #[error("the file can't be read")]
+    Read = 7,
+    /// The writer failed.
+    #[error("the file can't be written")]
+    Write = 8,
+    /// Out of memory.
+    #[error("out of memory")]
+    Memory = 9,
+    /// The file goes on after 16,777,216 records.
+    #[error("the file has too many records")]
+    RecordCount = 10,
+}
+
+impl PcapFault {
+    /// The number of the fault, 1 to 10.
+    pub fn number(self) -> u8
+        ensures { result ≡ number_of_fault self }
+    {
+        self as u8
+    }
+
+    /// The name of the fault, as the program prints it.
+    pub fn name(self) -> &'static str
+        ensures { result.now ≡ name_of_fault self }
+    {
+        match self {
+            PcapFault::Magic => "Magic",
+            PcapFault::Version => "Version",
+            PcapFault::LinkType => "LinkType",
+            PcapFault::CutHeader => "CutHeader",
+            PcapFault::CutRecord => "CutRecord",
+            PcapFault::RecordLength => "RecordLength",
+            PcapFault::Read => "Read",
+            PcapFault::Write => "Write",
+            PcapFault::Memory => "Memory",
+            PcapFault::RecordCount => "RecordCount",
+        }
+    }
+}

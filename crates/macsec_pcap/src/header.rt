@@ -1,0 +1,48 @@
+//! The header of a capture file.
+
+ghost use Rattle.std.specs.Prelude.{◌≡◌, ◌≤◌, IfSome, length};
+ghost use Rattle.macsec_pcap.specs.Header.{header_of};
+ghost use Rattle.macsec_pcap.specs.Answers.{ReadsHeader};
+
+use crate::PcapFault;
+use crate::filling::fill;
+use crate::form::Form;
+use std::io::Read;
+
+/// How many octets the header has.
+pub(crate) const HEADER_LEN: usize = 24;
+
+/// The version of the format, 2.4.
+pub(crate) const VERSION: (u16, u16) = (2, 4);
+
+/// The link type of Ethernet.
+pub(crate) const ETHERNET: u32 = 1;
+
+/// Reads the header.
+pub(crate) fn read_header<R: Read>(source: &mut R) -> Result<Form, PcapFault>
+    ensures { IfSome (R.remaining source.old) (λ file. ReadsHeader file (R.remaining source.new) result) }
+{
+    let mut header = [0; HEADER_LEN];
+    if fill(source, &mut header)? < HEADER_LEN {
+        return Err(PcapFault::CutHeader);
+    }
+    form_of_header(&header)
+}
+
+/// The form of a file with this header.
+fn form_of_header(header: &[u8]) -> Result<Form, PcapFault>
+    requires { 24 ≤ length header.now }
+    ensures { result ≡ header_of header.now }
+{
+    let Some(form) = Form::of(header) else {
+        return Err(PcapFault::Magic);
+    };
+    let version = (form.order.u16(&header[4..]), form.order.u16(&header[6..]));
+    if version != VERSION {
+        return Err(PcapFault::Version);
+    }
+    if form.order.u32(&header[20..]) != ETHERNET {
+        return Err(PcapFault::LinkType);
+    }
+    Ok(form)
+}

@@ -1,0 +1,107 @@
+//! The reader of capture files.
+
+ghost use Rattle.std.specs.Prelude.{◌≡◌, IfSome};
+ghost use Rattle.std.specs.Borrow.{sem};
+ghost use Rattle.std.specs.Io.BufRead.{Rests};
+ghost use Rattle.macsec_pcap.specs.contracts.reader.PcapReader.{the_row};
+ghost use Rattle.macsec_pcap.specs.Answers.{answer_of};
+ghost use Rattle.macsec_pcap.specs.Reading.{Answers, IsAfter, Opens};
+
+use crate::PcapFault;
+use crate::form::{Form, Resolution};
+use crate::header::read_header;
+use crate::records::{MAX_RECORD_LEN, MAX_RECORDS, Record, take_record};
+use std::alloc::Global;
+use std::io::Read;
+use std::marker::Model;
+
+/// How far a reader has come.
+#[derive(Clone, Copy)]
+pub(crate) enum Course {
+    /// It is at a record's place.
+    Going,
+    /// It has returned that the file has ended.
+    Ended,
+    /// It has returned this fault.
+    Failed(PcapFault),
+}
+
+/// Reads a capture file, record by record. It takes memory when it is created, for one record, and none afterwards.
+#[derive(Drop)]
+pub struct PcapReader<R: Read> {
+    source: R,
+    form: Form,
+    course: Course,
+    // For how many records there are places after those that were read.
+    places: u32,
+    // The captured octets of the last record are at its front.
+    room: Vec<u8>,
+}
+
+impl<R: Read> Model for PcapReader<R> {
+    ghost use Rattle.std.specs.Prelude.{◌≡◌, length};
+    ghost use Rattle.macsec_pcap.specs.Reading.{Reading, ahead_of};
+
+    ghost Value = { Reading };
+
+    ghost view = { λ r. record { resolution = r.form.resolution; ahead = ahead_of r.course r.form.order r.places (R.remaining r.source) } };
+
+    ghost invariant = { λ r. length r.room.items ≡ 262144 };
+}
+
+impl<R: Read + Drop> PcapReader<R> {
+    /// Reads the header of a file from its source, in either order of octets. Returns the first fault of the header,
+    /// `Read` if a read fails first, or `Memory`.
+    pub fn new(alloc: Global, mut source: R) -> Result<PcapReader<R>, PcapFault>
+        ensures { IfSome (R.remaining source) (λ file. Opens file result) }
+    {
+        let form = read_header(&mut source)?;
+        let Ok(room) = vec![in alloc; 0; MAX_RECORD_LEN] else {
+            return Err(PcapFault::Memory);
+        };
+        Ok(PcapReader {
+            source,
+            form,
+            course: Course::Going,
+            places: MAX_RECORDS,
+            room,
+        })
+    }
+}
+
+impl<R: Read> PcapReader<R> {
+    /// The unit of the file's times.
+    pub fn resolution(&self) -> Resolution
+        ensures { result ≡ self.now.resolution }
+    {
+        self.form.resolution
+    }
+
+    /// The next record, or `None` if the file has ended, and from then on. Returns the fault of the format at the
+    /// record's place, or `Read` if a read fails first; either is returned by each later call too.
+    pub fn next(&mut self) -> Result<Option<Record<'_>>, PcapFault>
+        ensures* after { sem 𝓛 (Rests (the_row R.row R.Read) self.entry (IsAfter self.old (answer_of result))) }
+        ensures answer { Answers self.old.ahead (answer_of result) }
+    {
+        match self.course {
+            Course::Going => {}
+            Course::Ended => return Ok(None),
+            Course::Failed(fault) => return Err(fault),
+        }
+        let room = self.room.as_mut_slice();
+        match take_record(&mut self.source, self.form.order, self.places, room) {
+            Ok(Some(head)) => {
+                self.places -= 1;
+                Ok(Some(head.record(self.room.as_slice())))
+            }
+            Ok(None) => {
+                self.course = Course::Ended;
+                Ok(None)
+            }
+            Err(fault) => {
+                self.course = Course::Failed(fault);
+                Err(fault)
+            }
+        }
+    }
+}
