@@ -54,7 +54,7 @@ impl Schedule {
     }
 
     /// How many rounds the cipher has: 10 or 14.
-    fn rounds(&self) -> usize
+    pub fn rounds(&self) -> usize
         ensures { result ≡ rounds_of self.now }
     {
         self.rounds
@@ -62,7 +62,7 @@ impl Schedule {
 
     /// The round key of a round from 1, or at 0 the one that is added before the first round: four
     /// words, as the columns of a state.
-    fn round_key(&self, round: usize) -> [u8; 16]
+    pub fn round_key(&self, round: usize) -> [u8; 16]
         requires { round ≤ rounds_of self.now }
         ensures { result ≡ round_key (schedule_of self.now) round }
     {
