@@ -1,0 +1,44 @@
+-- What holds of each number below a numeral.
+use Rattle.std.proofs.Common.{◌≡◌, ℕ, zero, suc, ◌+◌, ◌*◌, ◌/◌, ◌%◌, ◌<◌, map, get_or, refl, sym, ap, ◌∙◌, subst, arith, rules, List, [], ◌∷◌}
+use Rattle.std.specs.List.{range_with_len}
+use Rattle.std.proofs.lemmas.List.FromFn.{get_or-map-range_with_len}
+
+pub below_two : (P : ℕ → Type 0) → P 0 → P 1 → (k : ℕ) → k < 2 → P k
+below_two P p0 p1 zero h = p0
+below_two P p0 p1 (suc zero) h = p1
+below_two P p0 p1 (suc (suc n)) h = absurd (omega arith)
+
+pub below_four : (P : ℕ → Type 0) → P 0 → P 1 → P 2 → P 3 → (k : ℕ) → k < 4 → P k
+below_four P p0 p1 p2 p3 zero h = p0
+below_four P p0 p1 p2 p3 (suc zero) h = p1
+below_four P p0 p1 p2 p3 (suc (suc zero)) h = p2
+below_four P p0 p1 p2 p3 (suc (suc (suc zero))) h = p3
+below_four P p0 p1 p2 p3 (suc (suc (suc (suc n)))) h = absurd (omega arith)
+
+pub below_eight : (P : ℕ → Type 0) → P 0 → P 1 → P 2 → P 3 → P 4 → P 5 → P 6 → P 7 → (k : ℕ) → k < 8 → P k
+below_eight P p0 p1 p2 p3 p4 p5 p6 p7 k h =
+    let place : 4 * (k / 4) + k % 4 ≡ k = omega arith in
+    subst P place (below_two (λ q. (r : ℕ) → r < 4 → P (4 * q + r))
+    (below_four _ p0 p1 p2 p3) (below_four _ p4 p5 p6 p7) (k / 4) (omega arith) (k % 4) (omega arith))
+
+pub below_sixteen : (P : ℕ → Type 0) → P 0 → P 1 → P 2 → P 3 → P 4 → P 5 → P 6 → P 7
+    → P 8 → P 9 → P 10 → P 11 → P 12 → P 13 → P 14 → P 15 → (k : ℕ) → k < 16 → P k
+below_sixteen P p0 p1 p2 p3 p4 p5 p6 p7 p8 p9 p10 p11 p12 p13 p14 p15 k h =
+    let place : 8 * (k / 8) + k % 8 ≡ k = omega arith in
+    subst P place (below_two (λ q. (r : ℕ) → r < 8 → P (8 * q + r))
+    (below_eight _ p0 p1 p2 p3 p4 p5 p6 p7) (below_eight _ p8 p9 p10 p11 p12 p13 p14 p15) (k / 8) (omega arith) (k % 8) (omega arith))
+
+-- two functions that agree on a table agree below its length
+pub same_below : (f g : ℕ → ℕ) (n : ℕ) → map f (range_with_len 0 n) ≡ map g (range_with_len 0 n) → (a : ℕ) → a < n → f a ≡ g a
+same_below f g n e a lt =
+    sym (get_or-map-range_with_len f 0 n a a 0 lt (search rules))
+    ∙ ap (λ (t : List ℕ). get_or t a 0) e ∙ get_or-map-range_with_len g 0 n a a 0 lt (search rules)
+
+-- lists of sixteen with equal elements
+pub same_sixteen : {a0 a1 a2 a3 a4 a5 a6 a7 a8 a9 a10 a11 a12 a13 a14 a15 b0 b1 b2 b3 b4 b5 b6 b7 b8 b9 b10 b11 b12 b13 b14 b15 : ℕ}
+    → a0 ≡ b0 → a1 ≡ b1 → a2 ≡ b2 → a3 ≡ b3 → a4 ≡ b4 → a5 ≡ b5 → a6 ≡ b6 → a7 ≡ b7
+    → a8 ≡ b8 → a9 ≡ b9 → a10 ≡ b10 → a11 ≡ b11 → a12 ≡ b12 → a13 ≡ b13 → a14 ≡ b14 → a15 ≡ b15
+    → a0 ∷ a1 ∷ a2 ∷ a3 ∷ a4 ∷ a5 ∷ a6 ∷ a7 ∷ a8 ∷ a9 ∷ a10 ∷ a11 ∷ a12 ∷ a13 ∷ a14 ∷ a15 ∷ []
+    ≡ b0 ∷ b1 ∷ b2 ∷ b3 ∷ b4 ∷ b5 ∷ b6 ∷ b7 ∷ b8 ∷ b9 ∷ b10 ∷ b11 ∷ b12 ∷ b13 ∷ b14 ∷ b15 ∷ []
+same_sixteen e0 e1 e2 e3 e4 e5 e6 e7 e8 e9 e10 e11 e12 e13 e14 e15 =
+    rw (e0, e1, e2, e3, e4, e5, e6, e7, e8, e9, e10, e11, e12, e13, e14, e15) refl

@@ -1,0 +1,124 @@
+-- Circuits of sums and products of bits. One that computes f of a number, from its bits, computes f of the element at
+-- each place of planes, from the planes.
+use Rattle.std.proofs.Common.{◌≡◌, ℕ, zero, suc, ◌+◌, ◌*◌, ◌/◌, ◌%◌, ◌^◌, ◌<◌, List, [], ◌∷◌, ◌++◌, length, map, slice_index, bit_and, bit_xor, min, refl, sym, ap, ap₂, ◌∙◌, arith}
+use Rattle.std.specs.Int.{bit_at}
+use Rattle.std.specs.List.{range_with_len}
+use Rattle.std.proofs.lemmas.Nat.Bits.{bit_at-lt, bit_at-zero, bit_at_and, bit_at_xor, bit_at_ones}
+use Rattle.std.proofs.Math.Nat.{pow-suc}
+use Rattle.macsec_aes_lanes.specs.Lanes.{lane_at}
+use Rattle.macsec_aes_lanes.specs.Planes.{number}
+use Rattle.macsec_aes_lanes.proofs.Below.{same_below}
+
+pub data Gate : Type 0 where
+  Input : ℕ → Gate
+  Add : Gate → Gate → Gate
+  And : Gate → Gate → Gate
+  Ones : Gate
+
+-- what a gate computes of these inputs, where `ones` has all bits
+abbrev pub value : ℕ → List ℕ → Gate → ℕ
+value ones xs (Input i) = slice_index xs i
+value ones xs (Add g h) = bit_xor (value ones xs g) (value ones xs h)
+value ones xs (And g h) = bit_and (value ones xs g) (value ones xs h)
+value ones xs Ones = ones
+
+-- ---- one bit of what a gate computes
+
+sum_of_bits : (x y : ℕ) → x < 2 → y < 2 → (x + y) % 2 ≡ bit_xor x y
+sum_of_bits zero zero p q = refl
+sum_of_bits zero (suc zero) p q = refl
+sum_of_bits (suc zero) zero p q = refl
+sum_of_bits (suc zero) (suc zero) p q = refl
+sum_of_bits (suc (suc x)) y p q = absurd (omega arith)
+sum_of_bits x (suc (suc y)) p q = absurd (omega arith)
+
+product_of_bits : (x y : ℕ) → x < 2 → y < 2 → min x y ≡ bit_and x y
+product_of_bits zero zero p q = refl
+product_of_bits zero (suc zero) p q = refl
+product_of_bits (suc zero) zero p q = refl
+product_of_bits (suc zero) (suc zero) p q = refl
+product_of_bits (suc (suc x)) y p q = absurd (omega arith)
+product_of_bits x (suc (suc y)) p q = absurd (omega arith)
+
+-- the bits at place k
+abbrev pub bits_at : ℕ → List ℕ → List ℕ
+bits_at k xs = map (λ x. bit_at x k) xs
+
+input_at : (xs : List ℕ) (i k : ℕ) → bit_at (slice_index xs i) k ≡ slice_index (bits_at k xs) i
+input_at [] i k = bit_at-zero k
+input_at (x ∷ xs) zero k = refl
+input_at (x ∷ xs) (suc i) k = input_at xs i k
+
+value_at : (xs : List ℕ) (k : ℕ) → k < 8 → (g : Gate) → bit_at (value 0xff xs g) k ≡ value 1 (bits_at k xs) g
+value_at xs k lt (Input i) = input_at xs i k
+value_at xs k lt (Add g h) =
+    let x = value 0xff xs g in
+    let y = value 0xff xs h in
+    bit_at_xor x y k ∙ sum_of_bits (bit_at x k) (bit_at y k) (bit_at-lt x k) (bit_at-lt y k)
+    ∙ ap₂ bit_xor (value_at xs k lt g) (value_at xs k lt h)
+value_at xs k lt (And g h) =
+    let x = value 0xff xs g in
+    let y = value 0xff xs h in
+    bit_at_and x y k ∙ product_of_bits (bit_at x k) (bit_at y k) (bit_at-lt x k) (bit_at-lt y k)
+    ∙ ap₂ bit_and (value_at xs k lt g) (value_at xs k lt h)
+value_at xs k lt Ones = bit_at_ones 8 k lt
+
+values_at : (xs : List ℕ) (k : ℕ) → k < 8 → (gs : List Gate) → map (λ g. bit_at (value 0xff xs g) k) gs ≡ map (value 1 (bits_at k xs)) gs
+values_at xs k lt [] = refl
+values_at xs k lt (g ∷ gs) = ap₂ (λ (b : ℕ) (bs : List ℕ). b ∷ bs) (value_at xs k lt g) (values_at xs k lt gs)
+
+-- ---- a number and its bits
+
+-- the n lowest bits of x
+abbrev pub bits_of : ℕ → ℕ → List ℕ
+bits_of zero x = []
+bits_of (suc n) x = x % 2 ∷ bits_of n (x / 2)
+
+pub number-lt : (xs : List ℕ) (k : ℕ) → number (bits_at k xs) < 2 ^ length xs
+unfolding number
+number-lt [] k = omega arith
+number-lt (x ∷ xs) k = omega (arith, number-lt xs k, bit_at-lt x k, pow-suc 2 (length xs))
+
+bits_of-number : (xs : List ℕ) (k : ℕ) → bits_of (length xs) (number (bits_at k xs)) ≡ bits_at k xs
+unfolding number
+bits_of-number [] k = refl
+bits_of-number (x ∷ xs) k =
+    let b = bit_at x k in
+    let m = number (bits_at k xs) in
+    let small : b < 2 = bit_at-lt x k in
+    let lowest : (b + 2 * m) % 2 ≡ b = omega arith in
+    let others : (b + 2 * m) / 2 ≡ m = omega arith in
+    rw (lowest, others) (ap (λ (bs : List ℕ). b ∷ bs) (bits_of-number xs k))
+
+-- ---- circuits
+
+-- the numbers whose bits the gates compute of all n inputs
+abbrev pub table : ℕ → List Gate → List ℕ
+table n gs = map (λ x. number (map (value 1 (bits_of n x)) gs)) (range_with_len 0 (2 ^ n))
+
+pub circuit : (n : ℕ) (gs : List Gate) (f : ℕ → ℕ) → table n gs ≡ map f (range_with_len 0 (2 ^ n)) → (xs : List ℕ) → length xs ≡ n → (k : ℕ) → k < 8
+    → number (map (λ g. bit_at (value 0xff xs g) k) gs) ≡ f (number (bits_at k xs))
+circuit n gs f same xs long k lt =
+    let x = number (bits_at k xs) in
+    let bits : bits_of n x ≡ bits_at k xs = rw long at (bits_of-number xs k) in
+    let small : x < 2 ^ n = rw long at (number-lt xs k) in
+    ap number (values_at xs k lt gs ∙ ap (λ (bs : List ℕ). map (value 1 bs) gs) (sym bits))
+    ∙ same_below (λ x. number (map (value 1 (bits_of n x)) gs)) f (2 ^ n) same x small
+
+-- the lanes of n planes
+abbrev pub lanes : ℕ → List (List ℕ) → ℕ → List ℕ
+lanes n p j = map (λ i. lane_at p i j) (range_with_len 0 n)
+
+number-joined : (b0 b1 b2 b3 m : ℕ) → b0 < 2 → b1 < 2 → b2 < 2 → b3 < 2
+    → (let low = b0 + 2 * (b1 + 2 * (b2 + 2 * (b3 + 2 * 0))) in
+    let whole = b0 + 2 * (b1 + 2 * (b2 + 2 * (b3 + 2 * m))) in (whole % 16 ≡ low) × (whole / 16 ≡ m))
+number-joined b0 b1 b2 b3 m h0 h1 h2 h3 = (omega arith, omega arith)
+
+-- the same of two numbers of four bits
+pub circuit_of_two : (gs : List Gate) (f : ℕ → ℕ → ℕ) → table 8 gs ≡ map (λ x. f (x % 16) (x / 16)) (range_with_len 0 256) → (p q : List (List ℕ)) (j k : ℕ) → k < 8
+    → number (map (λ g. bit_at (value 0xff (lanes 4 p j ++ lanes 4 q j) g) k) gs) ≡ f (number (bits_at k (lanes 4 p j))) (number (bits_at k (lanes 4 q j)))
+unfolding number
+circuit_of_two gs f same p q j k lt =
+    let joined = number-joined (bit_at (lane_at p 0 j) k) (bit_at (lane_at p 1 j) k) (bit_at (lane_at p 2 j) k) (bit_at (lane_at p 3 j) k) (number (bits_at k (lanes 4 q j)))
+    (bit_at-lt (lane_at p 0 j) k) (bit_at-lt (lane_at p 1 j) k) (bit_at-lt (lane_at p 2 j) k) (bit_at-lt (lane_at p 3 j) k) in
+    circuit 8 gs (λ x. f (x % 16) (x / 16)) same (lanes 4 p j ++ lanes 4 q j) refl k lt ∙ ap₂ f joined.0 joined.1
