@@ -1,7 +1,7 @@
 -- What was sealed and comes in time is genuine where an end opens it: so the premise of the laws on origin and order, that
 -- no tag is forged, holds of each frame that the law on acceptance speaks of, at both ends, padded or not.
-use Rattle.std.proofs.Common.{◌≡◌, inl, inr, ℕ, zero, suc, ◌+◌, ◌-◌, ◌^◌, ◌<◌, ◌≤◌, Bool, true, false, List, [], ◌∷◌, ◌++◌, length, take, refl, ap, sym, subst, ◌∙◌, arith, Contains, append-nil}
-use Rattle.std.specs.Prelude.{◌%◌, ◌==◌, ◌&&◌, ◌||◌, not, find, if◌then◌else◌, option_map, slice_get, Option, Some, None, IfSome}
+use Rattle.std.proofs.Common.{◌≡◌, inl, inr, ℕ, zero, suc, ◌+◌, ◌^◌, ◌<◌, ◌≤◌, Bool, true, false, List, [], ◌∷◌, ◌++◌, length, take, refl, ap, sym, subst, ◌∙◌, arith, Contains, append-nil}
+use Rattle.std.specs.Prelude.{◌%◌, ◌==◌, ◌&&◌, ◌||◌, not, find, if◌then◌else◌, slice_get, Option, Some, None, IfSome}
 use Rattle.std.proofs.lemmas.Bool.{and_parts}
 use Rattle.std.proofs.lemmas.Bool.Decides.{nat_tests}
 use Rattle.std.proofs.lemmas.List.Elements.{Contains-append_left}
@@ -22,10 +22,9 @@ use Rattle.macsec_tx.specs.Laws.{IsReadAsSent}
 use Rattle.macsec_tx.specs.Transmit.{iv_sent, parts_sent}
 use Rattle.macsec_rx.specs.declared.RxOptions.{RxOptions}
 use Rattle.macsec_rx.specs.declared.RxRow.{RxRow}
-use Rattle.macsec_rx.specs.declared.Verdict.{Verdict}
 use Rattle.macsec_rx.specs.declared.Verdict.TheVariants.{BadTag, Delayed, Invalid, Late, NotValid, Passed, Reserved, Unchecked}
 use Rattle.macsec_rx.specs.Channels.{is_at, same_sci}
-use Rattle.macsec_rx.specs.Judge.{Judgement, at_row, bare_frame, in_use, is_bad_number, is_disabled, is_strict, judge_number, judge_opened, judge_row, judge_tagged_row, place_of, plaintext_of, sci_of, without_row}
+use Rattle.macsec_rx.specs.Judge.{Judgement, at_row, bare_frame, in_use, is_bad_number, is_disabled, is_strict, judge_number, judge_opened, judge_row, judge_tagged_row, plaintext_of, without_row}
 use Rattle.macsec_secy.specs.declared.config.EndConfig.{EndConfig}
 use Rattle.macsec_secy.specs.declared.fault.FrameFault.{FrameFault}
 use Rattle.macsec_secy.specs.Accepts.{CanAccept, HasSameKey}
@@ -38,7 +37,6 @@ use Rattle.macsec_secy.specs.Step as machine
 use Rattle.macsec_link.specs.declared.End.{End}
 use Rattle.macsec_link.specs.declared.Event.{Event}
 use Rattle.macsec_link.specs.declared.Event.TheVariants.{Deliver, Send}
-use Rattle.macsec_link.specs.declared.WorldFault.{WorldFault}
 use Rattle.macsec_link.specs.Acceptance.{IsOnLink}
 use Rattle.macsec_link.specs.Faults.{fault_of}
 use Rattle.macsec_link.specs.Genuine.{IsGenuineAt, text_opened, text_opened_in}
