@@ -31,7 +31,7 @@ use Rattle.macsec_link.proofs.WorkedEnds.{Fails, client, new_key, no_salt, recei
 
 -- ---- tags under two IVs
 
-xor_same : (a x y : ℕ) → bit_xor a x ≡ bit_xor a y → x ≡ y
+pub xor_same : (a x y : ℕ) → bit_xor a x ≡ bit_xor a y → x ≡ y
 xor_same a x y e = sym (back x) ∙ ap (bit_xor a) e ∙ back y
   where
     back : (z : ℕ) → bit_xor a (bit_xor a z) ≡ z

@@ -1,0 +1,48 @@
+-- Why the law on order would hold without its premise on the suite: where one end's packet numbers are extended and the
+-- other's have 32 bits, an IV of both has one upper half of the extended packet number alone, since salt and SCI stay. So the
+-- packet numbers, of which the SecTAG has the lower halves, rise at both ends together.
+use Rattle.std.proofs.Common.{◌≡◌, ℕ, ◌+◌, ◌^◌, ◌<◌, List, [], ◌∷◌, ◌++◌, length, take, get_or, bit_xor, refl, ap, sym, ◌∙◌, arith}
+use Rattle.std.specs.Prelude.{◌/◌, ◌%◌}
+use Rattle.std.specs.Int.{w32, w64, from_be_bytes, to_be_bytes}
+use Rattle.std.proofs.lemmas.List.{get_or_append_left}
+use Rattle.std.proofs.lemmas.List.FromFn.{get_or-map-range_with_len}
+use Rattle.std.proofs.lemmas.Nat.{from_be_bytes-to_be_bytes_4, shr-shr}
+use Rattle.macsec_gcm.specs.Octets.{sum_with_stream}
+use Rattle.macsec_suite.specs.Suites.{extended_iv}
+use Rattle.macsec_link.proofs.KeyPremises.{xor_same}
+
+get_or-sum : (xs stream : List ℕ) (k : ℕ) → k < length xs → get_or (sum_with_stream xs stream) k 0 ≡ bit_xor (get_or xs k 0) (get_or stream k 0)
+unfolding sum_with_stream
+get_or-sum xs stream k lt = get_or-map-range_with_len (λ k. bit_xor (get_or xs k 0) (get_or stream k 0)) 0 (length xs) k k 0 lt (omega arith)
+
+same_of_4 : (n m : ℕ) → n < 2 ^ 32 → m < 2 ^ 32 → to_be_bytes w32 n ≡ to_be_bytes w32 m → n ≡ m
+same_of_4 n m fits fits' e = sym (from_be_bytes-to_be_bytes_4 n fits) ∙ ap (from_be_bytes w32) e ∙ from_be_bytes-to_be_bytes_4 m fits'
+
+-- the first four octets of an extended packet number are those of its upper half
+upper_octets : (n : ℕ) → take 4 (to_be_bytes w64 n) ≡ to_be_bytes w32 (n / 2 ^ 32)
+upper_octets n = λ i. sym (shr-shr n 32 24) i % 256 ∷ sym (shr-shr n 32 16) i % 256 ∷ sym (shr-shr n 32 8) i % 256 ∷ n / 2 ^ 32 % 256 ∷ []
+
+-- octets of two IVs of one salt
+same_octet : (ssci ssci' n n' k : ℕ) (salt : List ℕ) → k < length salt → get_or (extended_iv ssci salt n) k 0 ≡ get_or (extended_iv ssci' salt n') k 0 →
+    get_or (to_be_bytes w32 ssci ++ to_be_bytes w64 n) k 0 ≡ get_or (to_be_bytes w32 ssci' ++ to_be_bytes w64 n') k 0
+same_octet ssci ssci' n n' k salt within same =
+    xor_same (get_or salt k 0) (get_or (to_be_bytes w32 ssci ++ to_be_bytes w64 n) k 0) (get_or (to_be_bytes w32 ssci' ++ to_be_bytes w64 n') k 0)
+    (sym (get_or-sum salt (to_be_bytes w32 ssci ++ to_be_bytes w64 n) k within) ∙ same ∙ get_or-sum salt (to_be_bytes w32 ssci' ++ to_be_bytes w64 n') k within)
+
+module _ (ssci ssci' n n' m m' : ℕ) (salt sci : List ℕ) (long : length salt ≡ 12) (count : length sci ≡ 8) (fits : n < 2 ^ 64) (fits' : n' < 2 ^ 64)
+    (iv : extended_iv ssci salt n ≡ sci ++ to_be_bytes w32 m) (iv' : extended_iv ssci' salt n' ≡ sci ++ to_be_bytes w32 m') where
+  of_sci : (k : ℕ) → k < 8 → get_or (to_be_bytes w32 ssci ++ to_be_bytes w64 n) k 0 ≡ get_or (to_be_bytes w32 ssci' ++ to_be_bytes w64 n') k 0
+  of_sci k within =
+      let inside : k < length sci = omega (arith, within, count) in
+      same_octet ssci ssci' n n' k salt (omega (arith, within, long))
+      (ap (λ (xs : List ℕ). get_or xs k 0) iv ∙ get_or_append_left sci (to_be_bytes w32 m) 0 k inside
+      ∙ sym (get_or_append_left sci (to_be_bytes w32 m') 0 k inside) ∙ ap (λ (xs : List ℕ). get_or xs k 0) (sym iv'))
+
+  same_upper : n / 2 ^ 32 ≡ n' / 2 ^ 32
+  same_upper =
+      let four : take 4 (to_be_bytes w64 n) ≡ take 4 (to_be_bytes w64 n') =
+      λ i. of_sci 4 (omega arith) i ∷ of_sci 5 (omega arith) i ∷ of_sci 6 (omega arith) i ∷ of_sci 7 (omega arith) i ∷ [] in
+      same_of_4 (n / 2 ^ 32) (n' / 2 ^ 32) (omega (arith, fits)) (omega (arith, fits')) (sym (upper_octets n) ∙ four ∙ upper_octets n')
+
+  pub rises_together : m ≡ n % 2 ^ 32 → m' ≡ n' % 2 ^ 32 → (m < m' → n < n') × (n < n' → m < m')
+  rises_together low low' = (λ less. omega (arith, less, low, low', same_upper), λ less. omega (arith, less, low, low', same_upper))
