@@ -3,6 +3,7 @@
 
 mod channels;
 mod commands;
+mod counters;
 mod devices;
 mod extended;
 mod failures;

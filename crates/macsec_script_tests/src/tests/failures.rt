@@ -3,6 +3,7 @@
 use super::devices::FailingWriter;
 use super::{COMMANDS, DONE, ENDS, PROTECTED, SEND, assert_told, joined};
 use macsec_script::{Failure, ScriptFault, failure_of_words, run_named, tell};
+use std::fs;
 use std::io::{self, Write};
 use std::test::Fail;
 
@@ -44,6 +45,12 @@ fn words_that_cannot_be_had(rt: HostRuntime) {
     }
 }
 
+/// A script that sends a frame without an association, and its text.
+const DROPPED: (&str, &str) = (
+    "end A gcm128 12153524c0895e81 1518 sci\nend B gcm128 0000000000000002 1518 auto\nA send ffffffffffff0200000000010800\n",
+    "3 dropped NoSA\n",
+);
+
 /// How the run of a named script ends, where standard input has the script `script`; what it printed, and how
 /// many octets of standard input it left.
 fn ended<W: Write>(
@@ -61,15 +68,17 @@ fn ended<W: Write>(
     (status, told, input.len())
 }
 
-/// A script is read from the file that is named, and from standard input only where that is named. A file that
-/// can't be opened is told by its path, a directory can't be read.
+/// A script is read from the file that is named, and from standard input only if that is named. A file that can't be
+/// opened is reported by its path, a directory can't be read.
 #[test]
 fn named_scripts(rt: HostRuntime) -> Result<(), Fail> {
     let script = joined(rt.alloc(), &[ENDS, COMMANDS, SEND])?;
     let text = joined(rt.alloc(), &[DONE, "6 frame 0 ", PROTECTED, "\n"])?;
     let (script, text) = (script.as_str(), text.as_str());
+    fs::write(&rt, "drops", DROPPED.0)?;
     for (name, status, told, printed, left) in [
         ("-", 0, "", text, 0),
+        ("drops", 0, "", DROPPED.1, script.len()),
         ("/dev/null", 0, "", "", script.len()),
         (
             "no/such",
@@ -87,6 +96,7 @@ fn named_scripts(rt: HostRuntime) -> Result<(), Fail> {
         assert_eq!(rt; output.as_slice(), printed.as_bytes());
         assert_eq!(rt; rest, left);
     }
+    fs::remove_file(&rt, "drops")?;
     Ok(())
 }
 
