@@ -1,5 +1,5 @@
--- Lines of the script language and what they say.
-use Rattle.std.specs.Prelude.{◌≡◌, ◌++◌, [], ◌∷◌, replicate, codes, Some, None, Ok, Err, true, false, refl}
+-- Lines of the script language and what they say, and configurations of one end.
+use Rattle.std.specs.Prelude.{◌≡◌, ℕ, List, ◌++◌, [], ◌∷◌, replicate, codes, Some, None, Ok, Err, true, false, refl}
 use Rattle.hex.proofs.OnLiterals.{hex_on_literals}
 use Rattle.macsec_aes.specs.declared.Key.TheVariants.{K128, K256}
 use Rattle.macsec_tx.specs.declared.TagForm.TheVariants as form
@@ -9,9 +9,12 @@ use Rattle.macsec_tag.specs.declared.identifiers.Sci.{Sci}
 use Rattle.macsec_suite.specs.declared.suite.Suite.TheVariants.{Gcm128, Gcm256, Xpn128, Xpn256}
 use Rattle.macsec_link.specs.declared.End.TheVariants.{A, B}
 use Rattle.macsec_link.specs.declared.Event.TheVariants as event
+use Rattle.macsec_lines.specs.declared.lines.Line.{Line}
 use Rattle.macsec_lines.specs.declared.lines.Line.TheVariants as line
 use Rattle.macsec_lines.specs.declared.lines.LineFault.TheVariants.{Word, Count, Hex, Number, Ends, LineLong}
+use Rattle.macsec_lines.specs.declared.faults.ScriptFault.TheVariants as script
 use Rattle.macsec_lines.specs.Kinds.{line_of, tells}
+use Rattle.macsec_lines.specs.Scripts.{config_of}
 
 -- ---- lines that are skipped
 
@@ -382,3 +385,52 @@ pad = refl
 inject : line_of (codes "inject 0aFf") ≡ Ok (Some (line.Event (event.Inject (10 ∷ 255 ∷ []))))
 unfolding hex_on_literals
 inject = refl
+
+-- ---- the configuration of one end
+
+abbrev only_end : List ℕ
+only_end = codes "end A gcm128 0200000000010001 1518 sci\n"
+
+abbrev its_end : Line
+its_end = line.End A (record { suite = Gcm128; sci = record { 0 = 2 ∷ 0 ∷ 0 ∷ 0 ∷ 0 ∷ 1 ∷ 0 ∷ 1 ∷ [] }; max_frame = 1518; form = form.Sci })
+
+commands : config_of (only_end ++ codes "\n# on\nA txon 0\nA replay off 2\n") ≡
+    Ok ((1, its_end) ∷ (4, tells A (by.TxOn 0)) ∷ (5, tells A (by.Replay false 2)) ∷ [])
+unfolding hex_on_literals
+commands = refl
+
+-- it has the line of its end
+no_line : config_of [] ≡ Err (script.Ends 0)
+no_line = refl
+
+lines_that_are_skipped : config_of (codes "# nothing\n\n") ≡ Err (script.Ends 0)
+lines_that_are_skipped = refl
+
+end_b_alone : config_of (codes "\nend B gcm128 0200000000010001 1518 sci\n") ≡ Err (script.Ends 2)
+unfolding hex_on_literals
+end_b_alone = refl
+
+command_before_its_end : config_of (codes "A txon 0\n" ++ only_end) ≡ Err (script.Ends 1)
+command_before_its_end = refl
+
+-- it has no second end, no command at B, no frame and no line that shows something
+second_end : config_of (only_end ++ codes "end B gcm128 0000000000000002 1518 auto\n") ≡ Err (script.Ends 2)
+unfolding hex_on_literals
+second_end = refl
+
+command_at_b : config_of (only_end ++ codes "B txon 0\n") ≡ Err (script.Ends 2)
+unfolding hex_on_literals
+command_at_b = refl
+
+frame_of_a : config_of (only_end ++ codes "A txon 0\nA send 00\n") ≡ Err (script.Ends 3)
+unfolding hex_on_literals
+frame_of_a = refl
+
+counters_of_a : config_of (only_end ++ codes "A counters\n") ≡ Err (script.Ends 2)
+unfolding hex_on_literals
+counters_of_a = refl
+
+-- a line in a wrong place that has a fault of its own has that one, and the first line at fault is it
+own_fault : config_of (only_end ++ codes "B txon 4\nA send 00\n") ≡ Err (script.Number 2)
+unfolding hex_on_literals
+own_fault = refl

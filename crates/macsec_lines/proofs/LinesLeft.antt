@@ -7,7 +7,6 @@ use Rattle.macsec_lines.specs.declared.lines.Line.{Line}
 use Rattle.macsec_lines.specs.declared.lines.LineFault.{LineFault}
 use Rattle.macsec_lines.specs.declared.lines.LineFault.TheVariants as fault
 use Rattle.macsec_lines.specs.declared.script.Place.{Place}
-use Rattle.macsec_lines.specs.declared.script.Place.TheVariants.{EndA}
 use Rattle.macsec_lines.specs.declared.faults.ScriptFault.{ScriptFault}
 use Rattle.macsec_lines.specs.declared.faults.ScriptFault.TheVariants.{Ends}
 use Rattle.macsec_lines.specs.Fields.{map_ok}
@@ -16,8 +15,8 @@ use Rattle.macsec_lines.specs.Scripts.{NumberedLine, at_line, result_at_line, pl
 use Rattle.macsec_lines.specs.Readings.{Reads, Parses}
 
 -- what was said so far, with the lines that are left, is the whole
-abbrev pub IsOnTheWay : List NumberedLine → Place → ℕ → List (List ℕ) → Type 0
-IsOnTheWay said place i all = map_ok (λ more. said ++ more) (lines_from place (i + 1) (drop i all)) ≡ lines_from EndA 1 all
+abbrev pub IsOnTheWay : Place → List NumberedLine → Place → ℕ → List (List ℕ) → Type 0
+IsOnTheWay first said place i all = map_ok (λ more. said ++ more) (lines_from place (i + 1) (drop i all)) ≡ lines_from first 1 all
 
 -- ---- one line more
 
@@ -58,38 +57,38 @@ first_left lines i d within =
     let v : Bor (List ℕ) → List ℕ = λ line. line.now in
     drop-map v i lines ∙ ap (map v) (drop_more lines i d within) ∙ sym (ap (λ more. (get_or lines i d).now ∷ more) (drop-map v (i + 1) lines))
 
-pub on_after_skipped : (said : List NumberedLine) (place : Place) (i : ℕ) (lines : List (Bor (List ℕ))) (d : Bor (List ℕ)) →
-    i < length lines → IsOnTheWay said place i (seen lines) → line_of (get_or lines i d).now ≡ Ok None → IsOnTheWay said place (i + 1) (seen lines)
-on_after_skipped said place i lines d within way h =
+pub on_after_skipped : (first : Place) (said : List NumberedLine) (place : Place) (i : ℕ) (lines : List (Bor (List ℕ))) (d : Bor (List ℕ)) →
+    i < length lines → IsOnTheWay first said place i (seen lines) → line_of (get_or lines i d).now ≡ Ok None → IsOnTheWay first said place (i + 1) (seen lines)
+on_after_skipped first said place i lines d within way h =
     sym (ap (λ left. map_ok (λ more. said ++ more) (lines_from place (i + 1) left)) (first_left lines i d within)
     ∙ ap (map_ok (λ more. said ++ more)) (skipped place (i + 1) (get_or lines i d).now (drop (i + 1) (seen lines)) h)) ∙ way
 
-pub on_after_line : (said : List NumberedLine) (place next : Place) (i : ℕ) (lines : List (Bor (List ℕ))) (d : Bor (List ℕ)) (line : Line) →
-    i < length lines → IsOnTheWay said place i (seen lines) → line_of (get_or lines i d).now ≡ Ok (Some line) →
+pub on_after_line : (first : Place) (said : List NumberedLine) (place next : Place) (i : ℕ) (lines : List (Bor (List ℕ))) (d : Bor (List ℕ)) (line : Line) →
+    i < length lines → IsOnTheWay first said place i (seen lines) → line_of (get_or lines i d).now ≡ Ok (Some line) →
     place_after place line ≡ Some next → (after : List NumberedLine) (is_pushed : Bool) → is_pushed ≡ true →
-    after ≡ cond is_pushed (said ++ ((i + 1, line) ∷ [])) said → IsOnTheWay after next (i + 1) (seen lines)
-on_after_line said place next i lines d line within way h placed after is_pushed pushes adds =
-    let P : List NumberedLine → Type 0 = λ ls. IsOnTheWay ls next (i + 1) (seen lines) in
+    after ≡ cond is_pushed (said ++ ((i + 1, line) ∷ [])) said → IsOnTheWay first after next (i + 1) (seen lines)
+on_after_line first said place next i lines d line within way h placed after is_pushed pushes adds =
+    let P : List NumberedLine → Type 0 = λ ls. IsOnTheWay first ls next (i + 1) (seen lines) in
     subst P (sym (adds ∙ ap (λ b. cond b (said ++ ((i + 1, line) ∷ [])) said) pushes))
     (sym (ap (λ left. map_ok (λ more. said ++ more) (lines_from place (i + 1) left)) (first_left lines i d within)
     ∙ ap (map_ok (λ more. said ++ more)) (wanted place next (i + 1) (get_or lines i d).now line (drop (i + 1) (seen lines)) h placed)
     ∙ pushed said (i + 1, line) (lines_from next (i + 1 + 1) (drop (i + 1) (seen lines)))) ∙ way)
 
-pub stopped_unwanted : (said : List NumberedLine) (place : Place) (i : ℕ) (lines : List (Bor (List ℕ))) (d : Bor (List ℕ)) (line : Line) →
-    i < length lines → IsOnTheWay said place i (seen lines) → line_of (get_or lines i d).now ≡ Ok (Some line) →
-    place_after place line ≡ None → lines_from EndA 1 (seen lines) ≡ Err (Ends (i + 1))
-stopped_unwanted said place i lines d line within way h placed =
+pub stopped_unwanted : (first : Place) (said : List NumberedLine) (place : Place) (i : ℕ) (lines : List (Bor (List ℕ))) (d : Bor (List ℕ)) (line : Line) →
+    i < length lines → IsOnTheWay first said place i (seen lines) → line_of (get_or lines i d).now ≡ Ok (Some line) →
+    place_after place line ≡ None → lines_from first 1 (seen lines) ≡ Err (Ends (i + 1))
+stopped_unwanted first said place i lines d line within way h placed =
     sym way ∙ ap (λ left. map_ok (λ more. said ++ more) (lines_from place (i + 1) left)) (first_left lines i d within)
     ∙ ap (map_ok (λ more. said ++ more)) (unwanted place (i + 1) (get_or lines i d).now line (drop (i + 1) (seen lines)) h placed)
 
-stopped : (said : List NumberedLine) (place : Place) (i : ℕ) (lines : List (Bor (List ℕ))) (d : Bor (List ℕ)) (f : LineFault) →
-    i < length lines → IsOnTheWay said place i (seen lines) → line_of (get_or lines i d).now ≡ Err f → lines_from EndA 1 (seen lines) ≡ Err (at_line (i + 1) f)
-stopped said place i lines d f within way h =
+stopped : (first : Place) (said : List NumberedLine) (place : Place) (i : ℕ) (lines : List (Bor (List ℕ))) (d : Bor (List ℕ)) (f : LineFault) →
+    i < length lines → IsOnTheWay first said place i (seen lines) → line_of (get_or lines i d).now ≡ Err f → lines_from first 1 (seen lines) ≡ Err (at_line (i + 1) f)
+stopped first said place i lines d f within way h =
     sym way ∙ ap (λ left. map_ok (λ more. said ++ more) (lines_from place (i + 1) left)) (first_left lines i d within)
     ∙ ap (map_ok (λ more. said ++ more)) (faulty place (i + 1) (get_or lines i d).now f (drop (i + 1) (seen lines)) h)
 
-pub parses_fault : (said : List NumberedLine) (place : Place) (i : ℕ) (lines : List (Bor (List ℕ))) (d : Bor (List ℕ)) (f : LineFault) →
-    i < length lines → IsOnTheWay said place i (seen lines) → Reads (line_of (get_or lines i d).now) (Err f) →
-    Parses (lines_from EndA 1 (seen lines)) (Err (at_line (i + 1) f))
-parses_fault said place i lines d fault.Memory within way h = tt
-parses_fault said place i lines d f within way h = stopped said place i lines d f within way h
+pub parses_fault : (first : Place) (said : List NumberedLine) (place : Place) (i : ℕ) (lines : List (Bor (List ℕ))) (d : Bor (List ℕ)) (f : LineFault) →
+    i < length lines → IsOnTheWay first said place i (seen lines) → Reads (line_of (get_or lines i d).now) (Err f) →
+    Parses (lines_from first 1 (seen lines)) (Err (at_line (i + 1) f))
+parses_fault first said place i lines d fault.Memory within way h = tt
+parses_fault first said place i lines d f within way h = stopped first said place i lines d f within way h

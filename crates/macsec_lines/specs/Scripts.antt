@@ -1,12 +1,13 @@
--- A script: its lines that are not skipped, with their numbers, or its first fault.
+-- A script, and the configuration of one end: the lines that are not skipped, with their numbers, or the first fault.
 use Rattle.std.specs.Prelude.{ℕ, ◌+◌, ◌-◌, ◌||◌, List, [], ◌∷◌, length, Bool, nat_lt, if◌then◌else◌, Option, Some, None, Result, Ok, Err}
 use Rattle.macsec_link.specs.declared.End.TheVariants.{A, B}
+use Rattle.macsec_link.specs.declared.Event.TheVariants as event
 use Rattle.macsec_lines.specs.declared.lines.Line.{Line}
 use Rattle.macsec_lines.specs.declared.lines.Line.TheVariants as line
 use Rattle.macsec_lines.specs.declared.lines.LineFault.{LineFault}
 use Rattle.macsec_lines.specs.declared.lines.LineFault.TheVariants as fault
 use Rattle.macsec_lines.specs.declared.script.Place.{Place}
-use Rattle.macsec_lines.specs.declared.script.Place.TheVariants.{EndA, EndB, Rest}
+use Rattle.macsec_lines.specs.declared.script.Place.TheVariants.{EndA, EndB, Rest, OnlyEnd, Commands}
 use Rattle.macsec_lines.specs.declared.faults.ScriptFault.{ScriptFault}
 use Rattle.macsec_lines.specs.declared.faults.ScriptFault.TheVariants.{Word, Count, Hex, Number, Ends, LineLong, ScriptLong, Memory}
 use Rattle.macsec_lines.specs.Words.{lines_of}
@@ -32,7 +33,8 @@ abbrev pub result_at_line : {X : Type 0} → ℕ → Result X LineFault → Resu
 result_at_line n (Ok x) = Ok x
 result_at_line n (Err fault) = Err (at_line n fault)
 
--- what comes after a line that is in its place: both ends, and then lines of another kind
+-- what comes after a line that is in its place: in a script both ends, and then lines of another kind; in a
+-- configuration end A, and then commands at A
 abbrev pub place_after : Place → Line → Option Place
 place_after EndA (line.End A config) = Some EndB
 place_after EndA other = None
@@ -40,12 +42,18 @@ place_after EndB (line.End B config) = Some Rest
 place_after EndB other = None
 place_after Rest (line.End e config) = None
 place_after Rest other = Some Rest
+place_after OnlyEnd (line.End A config) = Some Commands
+place_after OnlyEnd other = None
+place_after Commands (line.Event (event.Command A command)) = Some Commands
+place_after Commands other = None
 
--- a script may end where it has said nothing yet, or has both ends; n is its last line
+-- a script may end before its first line or after both ends, a configuration after its end; n is the last line
 abbrev pub at_script_end : Place → ℕ → Result (List NumberedLine) ScriptFault
 at_script_end EndA n = Ok []
 at_script_end EndB n = Err (Ends n)
 at_script_end Rest n = Ok []
+at_script_end OnlyEnd n = Err (Ends 0)
+at_script_end Commands n = Ok []
 
 -- the place after line n, or the fault of a line in a wrong place
 abbrev pub next_place : ℕ → Option Place → Result Place ScriptFault
@@ -68,5 +76,12 @@ lines_from place n (text ∷ more) =
 abbrev pub is_too_long : List ℕ → Bool
 is_too_long text = nat_lt max_script_len (length text) || nat_lt max_line_count (length (lines_of text))
 
+-- the lines of a text, the first of them in this place
+abbrev pub lines_or_fault : Place → List ℕ → Result (List NumberedLine) ScriptFault
+lines_or_fault first text = if is_too_long text then Err ScriptLong else lines_from first 1 (lines_of text)
+
 abbrev pub script_of : List ℕ → Result (List NumberedLine) ScriptFault
-script_of text = if is_too_long text then Err ScriptLong else lines_from EndA 1 (lines_of text)
+script_of text = lines_or_fault EndA text
+
+abbrev pub config_of : List ℕ → Result (List NumberedLine) ScriptFault
+config_of text = lines_or_fault OnlyEnd text

@@ -1,4 +1,5 @@
-//! The lines of a script of two endpoints and of the link between them: reads a line, and a whole script.
+//! The lines of a script of two endpoints and of the link between them: reads a line, a whole script, and the
+//! configuration of one end.
 #![tactic(auto)]
 
 mod faults;
@@ -8,4 +9,4 @@ mod words;
 
 pub use faults::ScriptFault;
 pub use lines::{Line, LineFault, parse_line};
-pub use script::{MAX_SCRIPT_LEN, parse_script};
+pub use script::{MAX_SCRIPT_LEN, parse_config, parse_script};

@@ -1,15 +1,16 @@
-//! A script as its lines: those of the two ends, and then the others.
+//! A script as its lines, those of the two ends and then the others; and the configuration of one end, as a script of
+//! its line and of commands at it.
 
 ghost use Rattle.std.specs.Prelude.{◌≡◌, ◌≤◌, length, map};
 ghost use Rattle.macsec_lines.specs.Limits.{max_line_count};
 ghost use Rattle.macsec_lines.specs.Fields.{map_ok};
-ghost use Rattle.macsec_lines.specs.Scripts.{place_after, at_line, lines_from, script_of};
+ghost use Rattle.macsec_lines.specs.Scripts.{place_after, at_line, config_of, lines_from, lines_or_fault, script_of};
 ghost use Rattle.macsec_lines.specs.Readings.{Parses};
 
 use crate::faults::ScriptFault;
 use crate::lines::{Line, LineFault, parse_line};
 use crate::words::lines;
-use macsec_link::End;
+use macsec_link::{End, Event};
 use std::alloc::Global;
 
 /// The octets of the longest script.
@@ -18,12 +19,19 @@ pub const MAX_SCRIPT_LEN: usize = 1_048_576;
 /// The lines of the longest script.
 const MAX_LINE_COUNT: usize = 65_536;
 
-/// What comes next in a script: the line of end A, that of end B, or other lines.
+/// What comes next.
 #[derive(Clone, Copy)]
 pub enum Place {
+    /// In a script, the line of end A.
     EndA,
+    /// In a script, the line of end B.
     EndB,
+    /// In a script, a line that is no `end` line.
     Rest,
+    /// In a configuration, the line of end A, its only end.
+    OnlyEnd,
+    /// In a configuration, a command at that end.
+    Commands,
 }
 
 impl Place {
@@ -35,6 +43,8 @@ impl Place {
             Place::EndA => after_end_a(line),
             Place::EndB => after_end_b(line),
             Place::Rest => after_rest(line),
+            Place::OnlyEnd => after_only_end(line),
+            Place::Commands => after_command(line),
         }
     }
 }
@@ -69,6 +79,26 @@ fn after_rest(line: &Line) -> Option<Place>
     }
 }
 
+/// The place after the line of the only end.
+fn after_only_end(line: &Line) -> Option<Place>
+    ensures { result ≡ place_after Place.OnlyEnd line.now }
+{
+    match line {
+        Line::End(End::A, _) => Some(Place::Commands),
+        _ => None,
+    }
+}
+
+/// The place after a command at the only end.
+fn after_command(line: &Line) -> Option<Place>
+    ensures { result ≡ place_after Place.Commands line.now }
+{
+    match line {
+        Line::Event(Event::Command(End::A, _)) => Some(Place::Commands),
+        _ => None,
+    }
+}
+
 /// The fault of a script at the fault of its line `n`.
 fn at_line(n: u32, fault: LineFault) -> ScriptFault
     ensures { result ≡ at_line n fault }
@@ -84,13 +114,17 @@ fn at_line(n: u32, fault: LineFault) -> ScriptFault
     }
 }
 
-/// The lines that are not skipped, with their numbers from 1, or the first fault.
-fn parse_lines(alloc: Global, lines: &[&[u8]]) -> Result<Vec<(u32, Line)>, ScriptFault>
+/// The lines that are not skipped, the first of them in this place, with their numbers from 1, or the first fault.
+fn parse_lines(
+    alloc: Global,
+    first: Place,
+    lines: &[&[u8]],
+) -> Result<Vec<(u32, Line)>, ScriptFault>
     requires { length lines.now ≤ max_line_count }
-    ensures { Parses (lines_from Place.EndA 1 (map (λ line. line.now) lines.now)) (map_ok (λ said. said.items) result) }
+    ensures { Parses (lines_from first 1 (map (λ line. line.now) lines.now)) (map_ok (λ said. said.items) result) }
 {
     let mut said = Vec::new(alloc);
-    let mut place = Place::EndA;
+    let mut place = first;
     for (i, text) in lines.iter().enumerate() {
         let n = i as u32 + 1;
         let line = match parse_line(alloc, text) {
@@ -107,23 +141,41 @@ fn parse_lines(alloc: Global, lines: &[&[u8]]) -> Result<Vec<(u32, Line)>, Scrip
         }
     }
     match place {
-        Place::EndA | Place::Rest => Ok(said),
+        Place::EndA | Place::Rest | Place::Commands => Ok(said),
         Place::EndB => Err(ScriptFault::Ends(lines.len() as u32)),
+        Place::OnlyEnd => Err(ScriptFault::Ends(0)),
     }
+}
+
+/// The lines of a text that are not skipped, the first of them in this place, with their numbers from 1, or the first
+/// fault.
+fn parse_text(alloc: Global, first: Place, text: &[u8]) -> Result<Vec<(u32, Line)>, ScriptFault>
+    ensures { Parses (lines_or_fault first text.now) (map_ok (λ lines. lines.items) result) }
+{
+    if text.len() > MAX_SCRIPT_LEN {
+        return Err(ScriptFault::ScriptLong);
+    }
+    let Ok(lines) = lines(alloc, text) else {
+        return Err(ScriptFault::Memory);
+    };
+    if lines.len() > MAX_LINE_COUNT {
+        return Err(ScriptFault::ScriptLong);
+    }
+    parse_lines(alloc, first, lines.as_slice())
 }
 
 /// The lines of a script that are not skipped, with their numbers from 1, or its first fault.
 pub fn parse_script(alloc: Global, script: &[u8]) -> Result<Vec<(u32, Line)>, ScriptFault>
     ensures { Parses (script_of script.now) (map_ok (λ lines. lines.items) result) }
 {
-    if script.len() > MAX_SCRIPT_LEN {
-        return Err(ScriptFault::ScriptLong);
-    }
-    let Ok(lines) = lines(alloc, script) else {
-        return Err(ScriptFault::Memory);
-    };
-    if lines.len() > MAX_LINE_COUNT {
-        return Err(ScriptFault::ScriptLong);
-    }
-    parse_lines(alloc, lines.as_slice())
+    parse_text(alloc, Place::EndA, script)
+}
+
+/// The lines of the configuration of one end that are not skipped, with their numbers from 1, or its first fault. The
+/// first is the `end` line of A, and the others are commands at A: `Ends` at the first line for which that is not so,
+/// and in line 0 if all lines are skipped. The other faults are those of a script.
+pub fn parse_config(alloc: Global, config: &[u8]) -> Result<Vec<(u32, Line)>, ScriptFault>
+    ensures { Parses (config_of config.now) (map_ok (λ lines. lines.items) result) }
+{
+    parse_text(alloc, Place::OnlyEnd, config)
 }

@@ -10,7 +10,7 @@ use Rattle.macsec_lines.specs.declared.lines.Line.TheVariants as line
 use Rattle.macsec_lines.specs.declared.lines.LineFault.{LineFault}
 use Rattle.macsec_lines.specs.declared.lines.LineFault.TheVariants.{Ends, LineLong}
 use Rattle.macsec_lines.specs.declared.script.Place.{Place}
-use Rattle.macsec_lines.specs.declared.script.Place.TheVariants.{EndA, EndB, Rest}
+use Rattle.macsec_lines.specs.declared.script.Place.TheVariants.{EndA, EndB, Rest, OnlyEnd, Commands}
 use Rattle.macsec_lines.specs.declared.faults.ScriptFault.{ScriptFault}
 use Rattle.macsec_lines.specs.declared.faults.ScriptFault.TheVariants as script
 use Rattle.macsec_lines.specs.Words.{words_of, lines_of}
@@ -77,6 +77,8 @@ at_end_fit : (place : Place) (n : ℕ) → GiveFit (at_script_end place n)
 at_end_fit EndA n lines h = let same : [] ≡ lines = cc in subst AreFit same tt
 at_end_fit EndB n lines h = cc
 at_end_fit Rest n lines h = let same : [] ≡ lines = cc in subst AreFit same tt
+at_end_fit OnlyEnd n lines h = cc
+at_end_fit Commands n lines h = let same : [] ≡ lines = cc in subst AreFit same tt
 
 lines_fit : (place : Place) (n : ℕ) (texts : List (List ℕ)) → GiveFit (lines_from place n texts)
 lines_fit place n [] = at_end_fit place _

@@ -6,7 +6,7 @@ mod named;
 mod running;
 
 pub use failures::{Failure, failure_of_words, tell};
-pub use macsec_lines::{Line, LineFault, ScriptFault, parse_line, parse_script};
+pub use macsec_lines::{Line, LineFault, ScriptFault, parse_config, parse_line, parse_script};
 pub use macsec_link::{
     An, Command, DropReason, End, EndConfig, Event, Frame, Key, Mode, NewFault, NewKey, Outcome,
     Refusal, Sci, Secy, Suite, TagForm, Verdict, WorldFault,

@@ -1,6 +1,6 @@
 use Rattle.std.proofs.Common.{arith, rules}
 use Rattle.std.proofs.lemmas.Grind.{common_steps}
-use Rattle.macsec_lines.proofs.script.parse_script.Goals as goal
+use Rattle.macsec_lines.proofs.script.parse_text.Goals as goal
 
 pub parse_lines-requires : goal.parse_lines-requires
 parse_lines-requires c = search rules
