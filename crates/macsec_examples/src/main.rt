@@ -1,0 +1,54 @@
+//! Runs each script of `data/`, and compares what it prints with the text that stands beside it.
+#![tactic(auto)]
+
+mod comparison;
+
+use anyhow::Context;
+use comparison::differing_line;
+use macsec_script::run_script;
+use std::fs;
+use std::process::ExitCode;
+
+/// The names of the scripts.
+const EXAMPLES: [&str; 16] = [
+    "tour",
+    "first-frame",
+    "talk-gcm128",
+    "talk-gcm256",
+    "talk-xpn128",
+    "talk-xpn256",
+    "replay-and-alteration",
+    "short-length",
+    "window",
+    "rollover",
+    "padding",
+    "exhaustion",
+    "extended-numbers",
+    "reflection",
+    "refusals",
+    "link-faults",
+];
+
+fn main(rt: HostRuntime) -> anyhow::Result<ExitCode> {
+    let mut status = ExitCode::SUCCESS;
+    for name in EXAMPLES {
+        match differing_line_of(&rt, name).context(name)? {
+            None => println!(rt; "{name}: as written")?,
+            Some(line) => {
+                println!(rt; "{name}: differs at line {line}")?;
+                status = ExitCode::FAILURE;
+            }
+        }
+    }
+    Ok(status)
+}
+
+/// The first line in which what a script prints is not what stands beside it, if there is one.
+fn differing_line_of(rt: &HostRuntime, name: &str) -> anyhow::Result<Option<usize>> {
+    let script = format!(in rt.alloc(); "{name}.macsec")?;
+    let text = format!(in rt.alloc(); "{name}.txt")?;
+    let mut printed = Vec::new(rt.alloc());
+    run_script(rt.alloc(), &mut fs::open(rt, script)?, &mut printed)?;
+    let written = fs::read(rt, text)?;
+    Ok(differing_line(printed.as_slice(), written.as_slice()))
+}
