@@ -117,7 +117,8 @@ const ROWS: &[Row] = &[
             "\n15 NotValid\n16 rx 12153524c0895e81 2 0 00000000b2c28465 00000000b2c28465 on\n",
         ],
     ),
-    // Bits of the SecTAG that no frame may have, a packet number of 0, and a frame cut in its SecTAG.
+    // Bits of the SecTAG that no frame may have, a packet number of 0, and a frame cut in its SecTAG: each is
+    // counted, and nothing else moves.
     (
         &[
             ENDS,
@@ -128,7 +129,7 @@ const ROWS: &[Row] = &[
             "alter 0 16 00\nalter 4 17 00\nalter 5 18 00\nalter 6 19 00\n",
             "inject d609b1f056637a0d46df998d88e522\n",
             "B deliver 1\nB deliver 2\nB deliver 3\nB deliver 7\nB deliver 8\n",
-            "B numbers\n",
+            "B numbers\nB counters\n",
         ],
         &[
             HEARING,
@@ -151,6 +152,14 @@ const ROWS: &[Row] = &[
             "\n15 frame 8 d609b1f056637a0d46df998d88e522\n",
             "16 BadTag\n17 BadTag\n18 Reserved\n19 BadTag\n20 BadTag\n",
             "21 rx 12153524c0895e81 2 0 00000000b2c28465 00000000b2c28465 on\n",
+            "22 InPktsUntagged 0\n22 InPktsNoTag 0\n22 InPktsBadTag 4\n22 InPktsReserved 1\n",
+            "22 InPktsNoSA 0\n22 InPktsNoSAError 0\n22 InOctetsValidated 0\n22 InOctetsDecrypted 0\n",
+            "22 OutPktsUntagged 0\n22 OutPktsTooLong 0\n22 OutPktsNoSA 0\n",
+            "22 OutPktsProtected 0\n22 OutPktsEncrypted 0\n",
+            "22 OutOctetsProtected 0\n22 OutOctetsEncrypted 0\n",
+            "22 12153524c0895e81 InPktsOK 0\n22 12153524c0895e81 InPktsUnchecked 0\n",
+            "22 12153524c0895e81 InPktsDelayed 0\n22 12153524c0895e81 InPktsLate 0\n",
+            "22 12153524c0895e81 InPktsInvalid 0\n22 12153524c0895e81 InPktsNotValid 0\n",
         ],
     ),
     // Where B has no channel of the frame's; and A's own frame comes back to A.

@@ -97,10 +97,6 @@ fn scripts_at_fault(rt: HostRuntime) -> Result<(), Fail> {
             "macsec: line 1: Ends\n",
         ),
         (
-            ["end A gcm128 12153524c0895e81 1518 sci\n", COMMANDS],
-            "macsec: line 2: Ends\n",
-        ),
-        (
             ["end A gcm128 12153524c0895e81 1518 sci\n", "# the end\n"],
             "macsec: line 2: Ends\n",
         ),
@@ -116,6 +112,9 @@ fn scripts_at_fault(rt: HostRuntime) -> Result<(), Fail> {
     }
     let script = joined(rt.alloc(), &[ENDS, COMMANDS, ENDS])?;
     assert_fails(&rt, script.as_str(), "macsec: line 6: Ends\n");
+    let end_a = "end A gcm128 12153524c0895e81 1518 sci\n";
+    let script = joined(rt.alloc(), &[end_a, COMMANDS, SEND])?;
+    assert_fails(&rt, script.as_str(), "macsec: line 2: Ends\n");
     Ok(())
 }
 
