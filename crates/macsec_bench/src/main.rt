@@ -1,8 +1,9 @@
 //! Octets per second of the plain cipher: AES block by block, GHASH, and sealing; and how long a full link of two ends
-//! takes. Without an argument it measures nothing and prints nothing.
+//! and the longest scripts take. Without an argument it measures nothing and prints nothing.
 #![tactic(auto)]
 
 mod link;
+mod scripts;
 
 use macsec_aes::{Key, Schedule, encrypt};
 use macsec_field128::Block;
@@ -49,7 +50,8 @@ fn main(rt: HostRuntime) -> anyhow::Result<()> {
         report(&rt, "ghash", work, time_ghash(&rt, work)?)?;
         report(&rt, "seal", work, time_seal(&rt, work)?)?;
     }
-    link::report(&rt)
+    link::report(&rt)?;
+    scripts::report(&rt)
 }
 
 /// Prints a line of what was measured.
