@@ -1,8 +1,7 @@
 -- For acceptance the salt and the SSCI are needed, where packet numbers are extended: with others at B its IV is another
 -- one, and the tag does not open. Two blocks of AES are computed for each.
 use Rattle.std.proofs.Common.{◌≡◌, ◌≢◌, ℕ, false, List, [], ◌∷◌, ◌++◌, refl, ap, sym, ◌∙◌, arith}
-use Rattle.std.specs.Prelude.{◌==◌, bit_xor, replicate, slice_index, None}
-use Rattle.std.specs.Int.Bits.{xor_assoc, xor_self, xor_zero_l}
+use Rattle.std.specs.Prelude.{◌==◌, replicate, slice_index, None}
 use Rattle.std.proofs.lemmas.Bool.{eqb-false, ne_eqb}
 use Rattle.macsec_aes.specs.Aes.{add_round_key, added_word, aes, after_rounds, key_expansion, key_words, mix_columns, rot_word, round_key, shift_rows, sub_bytes, sub_word, sum_of_words}
 use Rattle.macsec_aes.specs.Field.{affine_transformation, byte_product, inverse, polynomial_product, remainder, s_box, sum_below}
@@ -25,17 +24,12 @@ use Rattle.macsec_link.specs.Faults.{fault_of}
 use Rattle.macsec_link.specs.Step.{world_step}
 use Rattle.macsec_link.specs.World.{WorldState, frame_at}
 use Rattle.macsec_link.proofs.AcceptancePremises.{HoldsIn, LawWithout, SameSalt, SameSsci, but, fails_by, frame_from, heard, key_row, rx_from, seals_so, state_b, tag_from, tx_from, world_before, world_sent, xpn_a, xpn_b}
+use Rattle.macsec_link.proofs.Ivs.{xor_same}
 use Rattle.macsec_link.proofs.SealedFrames.{aad_sent, closes, first, items, rest, tag_of}
 use Rattle.macsec_link.proofs.TracedSteps.{sent_by}
 use Rattle.macsec_link.proofs.WorkedEnds.{Fails, client, new_key, no_salt, receives_from, sci_a, sends_from}
 
 -- ---- tags under two IVs
-
-pub xor_same : (a x y : ℕ) → bit_xor a x ≡ bit_xor a y → x ≡ y
-xor_same a x y e = sym (back x) ∙ ap (bit_xor a) e ∙ back y
-  where
-    back : (z : ℕ) → bit_xor a (bit_xor a z) ≡ z
-    back z = sym (xor_assoc a a z) ∙ ap (λ n. bit_xor n z) (xor_self a) ∙ xor_zero_l z
 
 -- the first octet of the block that covers the hash
 unfoldable pub cover : List ℕ → List ℕ → ℕ

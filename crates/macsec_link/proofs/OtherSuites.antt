@@ -1,22 +1,13 @@
 -- Why the law on order would hold without its premise on the suite: where one end's packet numbers are extended and the
 -- other's have 32 bits, an IV of both has one upper half of the extended packet number alone, since salt and SCI stay. So the
 -- packet numbers, of which the SecTAG has the lower halves, rise at both ends together.
-use Rattle.std.proofs.Common.{◌≡◌, ℕ, ◌+◌, ◌^◌, ◌<◌, List, [], ◌∷◌, ◌++◌, length, take, get_or, bit_xor, refl, ap, sym, ◌∙◌, arith}
+use Rattle.std.proofs.Common.{◌≡◌, ℕ, ◌+◌, ◌^◌, ◌<◌, List, [], ◌∷◌, ◌++◌, length, take, get_or, refl, ap, sym, ◌∙◌, arith}
 use Rattle.std.specs.Prelude.{◌/◌, ◌%◌}
-use Rattle.std.specs.Int.{w32, w64, from_be_bytes, to_be_bytes}
+use Rattle.std.specs.Int.{w32, w64, to_be_bytes}
 use Rattle.std.proofs.lemmas.List.{get_or_append_left}
-use Rattle.std.proofs.lemmas.List.FromFn.{get_or-map-range_with_len}
-use Rattle.std.proofs.lemmas.Nat.{from_be_bytes-to_be_bytes_4, shr-shr}
-use Rattle.macsec_gcm.specs.Octets.{sum_with_stream}
+use Rattle.std.proofs.lemmas.Nat.{shr-shr}
 use Rattle.macsec_suite.specs.Suites.{extended_iv}
-use Rattle.macsec_link.proofs.KeyPremises.{xor_same}
-
-get_or-sum : (xs stream : List ℕ) (k : ℕ) → k < length xs → get_or (sum_with_stream xs stream) k 0 ≡ bit_xor (get_or xs k 0) (get_or stream k 0)
-unfolding sum_with_stream
-get_or-sum xs stream k lt = get_or-map-range_with_len (λ k. bit_xor (get_or xs k 0) (get_or stream k 0)) 0 (length xs) k k 0 lt (omega arith)
-
-same_of_4 : (n m : ℕ) → n < 2 ^ 32 → m < 2 ^ 32 → to_be_bytes w32 n ≡ to_be_bytes w32 m → n ≡ m
-same_of_4 n m fits fits' e = sym (from_be_bytes-to_be_bytes_4 n fits) ∙ ap (from_be_bytes w32) e ∙ from_be_bytes-to_be_bytes_4 m fits'
+use Rattle.macsec_link.proofs.Ivs.{get_or-sum, same_of_4, xor_same}
 
 -- the first four octets of an extended packet number are those of its upper half
 upper_octets : (n : ℕ) → take 4 (to_be_bytes w64 n) ≡ to_be_bytes w32 (n / 2 ^ 32)

@@ -13,22 +13,24 @@ use Rattle.macsec_pn.specs.Numbers.{recovered_number}
 use Rattle.macsec_suite.specs.declared.suite.Suite.{Suite}
 use Rattle.macsec_suite.specs.Suites.{extended_iv, is_xpn, iv_of}
 use Rattle.macsec_suite.specs.Parts.{aad_and_plaintext, clear_length}
+use Rattle.macsec_suite.specs.CipherUses.{cipher_use, plaintext_of_use}
 use Rattle.macsec_suite.specs.KeyRows.{InstalledKey, key_row, prepared_key, the_key}
 use Rattle.macsec_tx.specs.declared.TxOptions.{TxOptions}
 use Rattle.macsec_tx.specs.declared.TxRow.{TxRow}
 use Rattle.macsec_tx.specs.Laws.{CanBeSent, IsReadAsSent}
 use Rattle.macsec_tag.specs.Limits.{max_frame_len, min_frame_len}
-use Rattle.macsec_tx.specs.Transmit.{parts_sent, tag_sent}
+use Rattle.macsec_tx.specs.Transmit.{parts_sent, tag_sent, use_sent}
 use Rattle.macsec_rx.specs.declared.RxRow.{RxRow}
 use Rattle.macsec_rx.specs.declared.Verdict.TheVariants.{Passed}
-use Rattle.macsec_rx.specs.Judge.{at_row, is_bad_number, judge_tagged, opened_frame, plaintext_of, in_use}
+use Rattle.macsec_rx.specs.Judge.{at_row, in_use, is_bad_number, opened_frame, use_to_open}
 use Rattle.macsec_secy.specs.declared.fault.FrameFault.TheVariants.{Short, Long}
-use Rattle.macsec_secy.specs.Accepts.{AcceptsSent, HasSameKey}
+use Rattle.macsec_secy.specs.Accepts.{AcceptsSent, HasSameKey, padded_by}
+use Rattle.macsec_secy.specs.Reception.{judge_reading, judgement_of}
 use Rattle.macsec_secy.specs.State.{State, rx_options, tx_options}
 use Rattle.macsec_secy.specs.Step.{frame_fault, link_frame, received, step}
 use Rattle.macsec_secy.proofs.InUse.{in_use_is, the_key_holds}
 use Rattle.macsec_secy.proofs.NearNumbers.{not_bad, recovered}
-use Rattle.macsec_secy.proofs.OctetsBehind.{read_with, with_behind}
+use Rattle.macsec_secy.proofs.OctetsBehind.{read_with}
 use Rattle.macsec_secy.proofs.Passed.{is_enabled, passed}
 use Rattle.macsec_secy.proofs.ProtectedBy.{is_row, protected_by}
 use Rattle.macsec_secy.proofs.SealedParts.{gives_frame, sealed_of, sealed_opens}
@@ -51,19 +53,15 @@ same_iv suite sci a b salt other number same_salt same_ssci = by_test (is_xpn su
     by_test true plain s c = rw (s refl, c refl) refl
     by_test false plain s c = refl
 
-abbrev opened_by : List ℕ → ℕ → List ℕ → MpduParts → Option (List ℕ)
-opened_by bytes offset iv p = let ac = aad_and_plaintext offset p.tag.e p.da p.sa p.tag p.secure_data in open_of bytes iv ac.0 ac.1 p.icv
-
-same_plaintext : (key other : InstalledKey) (rx : RxRow) (sci : Sci) (number : ℕ) (p : MpduParts) → HasSameKey key other rx.ssci → rx.sci ≡ sci →
-    plaintext_of other rx number p ≡ opened_by key.bytes key.offset (iv_of key.suite sci key.ssci key.salt number) p
-same_plaintext key other rx sci number p same of_sci =
+-- so what is opened is the use of the cipher that was sealed
+same_use : (key other : InstalledKey) (rx : RxRow) (sci : Sci) (number : ℕ) (p : MpduParts) → HasSameKey key other rx.ssci → rx.sci ≡ sci →
+    use_to_open other rx number p ≡ cipher_use key (iv_of key.suite sci key.ssci key.salt number) p
+same_use key other rx sci number p same of_sci =
     let iv : iv_of other.suite rx.sci rx.ssci other.salt number ≡ iv_of key.suite sci key.ssci key.salt number =
     ap (λ (suite : Suite). iv_of suite rx.sci rx.ssci other.salt number) same.suite
     ∙ ap (λ (s : Sci). iv_of key.suite s rx.ssci other.salt number) of_sci
     ∙ same_iv key.suite sci rx.ssci key.ssci other.salt key.salt number same.salt same.ssci in
-    ap (λ (x : List ℕ). opened_by other.bytes other.offset x p) iv
-    ∙ ap (λ (bytes : List ℕ). opened_by bytes other.offset (iv_of key.suite sci key.ssci key.salt number) p) same.bytes
-    ∙ ap (λ (offset : ℕ). opened_by key.bytes offset (iv_of key.suite sci key.ssci key.salt number) p) same.offset
+    rw (same.bytes, same.offset, iv) refl
 
 -- ---- the lengths of frames
 
@@ -79,10 +77,9 @@ is_long frame none = by_test (nat_lt (length frame) min_frame_len) refl none
 
 -- ---- the output
 
-answered : (receiver : State) (frame : List ℕ) (p : MpduParts) (rx : RxRow) (number : ℕ) (delivered : List ℕ) → frame_fault frame ≡ None → reading frame ≡ tagged p →
-    judge_tagged (rx_options receiver) receiver.keys receiver.rx p ≡ at_row rx number 13 Passed (Some delivered) →
-    (step receiver (link_frame frame)).0 ≡ received Passed (Some (rx.sci, rx.an)) frame (Some delivered)
-answered receiver frame p rx number delivered fits reads judged = rw (fits, reads, judged) refl
+answered : (receiver : State) (frame : List ℕ) (rx : RxRow) (number : ℕ) (delivered : List ℕ) → frame_fault frame ≡ None →
+    judgement_of receiver frame ≡ at_row rx number 13 Passed (Some delivered) → (step receiver (link_frame frame)).0 ≡ received Passed (Some (rx.sci, rx.an)) frame (Some delivered)
+answered receiver frame rx number delivered fits judged = rw (fits, judged) refl
 
 pub accepts_sent : LowerLaws → (sender receiver : State) (client : List ℕ) (tx : TxRow) (rx : RxRow) (behind : List ℕ) → AcceptsSent sender receiver client tx rx behind
 accepts_sent laws sender receiver client tx rx behind sender_sound receiver_sound fits by can may =
@@ -92,7 +89,7 @@ accepts_sent laws sender receiver client tx rx behind sender_sound receiver_soun
     let iv : List ℕ = iv_of key.suite options.sci key.ssci key.salt tx.next in
     let tag = tag_sent options tx client in
     let p : MpduParts = parts_sent options key tx client in
-    let q : MpduParts = with_behind p behind in
+    let q : MpduParts = padded_by p behind in
     let frame : List ℕ = in_a_row p ++ behind in
     let plaintext : List ℕ = (sealed_of key.offset tag client).1 in
     let sent = protected_by options sender.keys sender.tx client tx by in
@@ -107,17 +104,24 @@ accepts_sent laws sender receiver client tx rx behind sender_sound receiver_soun
     let delivers : opened_frame other q plaintext ≡ client =
     ap (λ (offset : ℕ). p.da ++ p.sa ++ take (clear_length offset tag.e p.secure_data) p.secure_data ++ plaintext) can.key.offset
     ∙ gives_frame laws.lengths (prepared_key key) iv tag client in
-    let judged = passed (rx_options receiver) receiver.keys receiver.rx q rx tx.next plaintext (record {
+    let opens : use_to_open other rx tx.next q ≡ use_sent options key tx client = same_use key other rx sender.config.sci tx.next q can.key used.sci in
+    let passes = passed (rx_options receiver) receiver.keys receiver.rx q rx tx.next plaintext (record {
       number_sent = ap (λ (s : Suite). is_bad_number s q.tag) suite ∙ not_bad (is_xpn key.suite) tx.next row.next_least sent.next;
       not_reserved = same_bits tx.conf;
       used = ap (in_use receiver.rx.rows tx.an) can.sci ∙ can.on;
       recovered = ap (λ (s : Suite). recovered_number_of s) can.key.suite ∙ recovered (is_xpn key.suite) rx.lowest tx.next row.next_least sent.next can.not_late can.near;
       in_time = le-ltb tx.next rx.lowest can.not_late;
       enabled = is_enabled receiver.options.mode can.not_disabled;
-      opens = same_plaintext key other rx sender.config.sci tx.next q can.key used.sci ∙ sealed_opens laws.undoes laws.lengths (prepared_key key) iv tag client;
+      opens = ap plaintext_of_use opens ∙ sealed_opens laws.undoes laws.lengths (prepared_key key) iv tag client;
     }) in
-    answered receiver frame q rx tx.next (opened_frame other q plaintext) good reads judged
-    ∙ told used.sci used.an delivers
+    let judged : judgement_of receiver frame ≡ at_row rx tx.next 13 Passed (Some client) =
+    ap (judge_reading receiver frame) reads ∙ passes ∙ ap (λ (xs : List ℕ). at_row rx tx.next 13 Passed (Some xs)) delivers in
+    record {
+      passed = answered receiver frame rx tx.next client good judged ∙ told used.sci used.an;
+      reads = reads;
+      judged = judged;
+      opens = opens;
+    }
   where
     same_bits : (c : Bool) → (c && not c) ≡ false
     same_bits true = refl
@@ -126,6 +130,6 @@ accepts_sent laws sender receiver client tx rx behind sender_sound receiver_soun
     recovered_number_of : Suite → Option ℕ
     recovered_number_of s = recovered_number (is_xpn s) rx.lowest (tx.next % 2 ^ 32)
 
-    told : {sci : Sci} {an : ℕ} {frame delivered : List ℕ} → rx.sci ≡ sci → rx.an ≡ an → delivered ≡ client →
-        received Passed (Some (rx.sci, rx.an)) frame (Some delivered) ≡ received Passed (Some (sci, an)) frame (Some client)
-    told s a d = rw (s, a, d) refl
+    told : {sci : Sci} {an : ℕ} {frame : List ℕ} → rx.sci ≡ sci → rx.an ≡ an →
+        received Passed (Some (rx.sci, rx.an)) frame (Some client) ≡ received Passed (Some (sci, an)) frame (Some client)
+    told s a = rw (s, a) refl

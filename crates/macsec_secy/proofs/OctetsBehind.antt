@@ -4,18 +4,16 @@ use Rattle.macsec_tag.specs.Tag.{IsTag, encoding}
 use Rattle.macsec_tag.specs.Frame.{HasLengths, MpduParts, in_a_row}
 use Rattle.macsec_tag.specs.Table.{reading, tagged}
 use Rattle.macsec_tag.specs.Laws.{ReadAgain}
+use Rattle.macsec_secy.specs.Accepts.{padded_by}
 
-abbrev pub with_behind : MpduParts → List ℕ → MpduParts
-with_behind p behind = record p { padding = behind }
-
-row_with : (p : MpduParts) → p.padding ≡ [] → (behind : List ℕ) → in_a_row p ++ behind ≡ in_a_row (with_behind p behind)
+row_with : (p : MpduParts) → p.padding ≡ [] → (behind : List ℕ) → in_a_row p ++ behind ≡ in_a_row (padded_by p behind)
 row_with p none behind =
     let front : List ℕ = p.da ++ p.sa ++ encoding p.tag ++ p.secure_data ++ p.icv in
     ap (λ (xs : List ℕ). front ++ xs ++ behind) none ∙ ap (λ (xs : List ℕ). xs ++ behind) (append-nil front)
 
 pub read_with : ((p : MpduParts) → ReadAgain p) → (p : MpduParts) → IsTag p.tag → HasLengths p → p.padding ≡ [] → (behind : List ℕ) → (p.tag.sl ≡ 0 → behind ≡ []) →
-    reading (in_a_row p ++ behind) ≡ tagged (with_behind p behind)
+    reading (in_a_row p ++ behind) ≡ tagged (padded_by p behind)
 read_with read_again p tag lengths none behind may =
     ap reading (row_with p none behind)
-    ∙ read_again (with_behind p behind) tag
+    ∙ read_again (padded_by p behind) tag
     (record { da = lengths.da; sa = lengths.sa; icv = lengths.icv; short = lengths.short; long = lengths.long; no_padding = may })

@@ -3,15 +3,17 @@
 use Rattle.std.specs.Prelude.{◌≡◌, ◌≢◌, ◌≤◌, ◌<◌, ◌+◌, ◌^◌, ℕ, List, [], ◌++◌, length, true, Some, None}
 use Rattle.macsec_tag.specs.declared.identifiers.Sci.{Sci}
 use Rattle.macsec_tag.specs.Frame.{MpduParts, in_a_row}
+use Rattle.macsec_tag.specs.Table.{reading, tagged}
 use Rattle.macsec_suite.specs.Suites.{is_xpn}
 use Rattle.macsec_suite.specs.KeyRows.{InstalledKey, the_key}
 use Rattle.macsec_tx.specs.declared.TxRow.{TxRow}
 use Rattle.macsec_tag.specs.Limits.{max_frame_len}
-use Rattle.macsec_tx.specs.Transmit.{parts_sent}
+use Rattle.macsec_tx.specs.Transmit.{parts_sent, use_sent}
 use Rattle.macsec_rx.specs.declared.RxRow.{RxRow}
 use Rattle.macsec_rx.specs.declared.Mode.TheVariants.{Disabled}
 use Rattle.macsec_rx.specs.declared.Verdict.TheVariants.{Passed}
-use Rattle.macsec_rx.specs.Judge.{sci_of, in_use}
+use Rattle.macsec_rx.specs.Judge.{at_row, in_use, sci_of, use_to_open}
+use Rattle.macsec_secy.specs.Reception.{judgement_of}
 use Rattle.macsec_secy.specs.State.{State, tx_options}
 use Rattle.macsec_secy.specs.Step.{frame_fault, link_frame, received, sending_of, step}
 use Rattle.macsec_secy.specs.Sound.{IsSound}
@@ -47,8 +49,25 @@ pub record CanComeBehind (p : MpduParts) (behind : List ℕ) : Type 0 where
 abbrev pub IsPassed : State → Sci → ℕ → List ℕ → List ℕ → Type 0
 IsPassed receiver sci an frame client = (step receiver (link_frame frame)).0 ≡ received Passed (Some (sci, an)) frame (Some client)
 
+-- the parts of the frame that the sender's association makes of a client frame
+abbrev pub parts_of : State → List ℕ → TxRow → MpduParts
+parts_of sender client tx = parts_sent (tx_options sender) (the_key sender.keys tx.key) tx client
+
+-- octets behind a frame are its padding
+abbrev pub padded_by : MpduParts → List ℕ → MpduParts
+padded_by p behind = record p { padding = behind }
+
+-- the frame, with the octets behind it, is passed; it is read as its parts; step 13 decides, for this association and with
+-- the sender's packet number; and the use of the cipher that is opened is the one that was sealed
+pub record IsAccepted (sender receiver : State) (client : List ℕ) (tx : TxRow) (rx : RxRow) (behind : List ℕ) : Type 0 where
+  pub passed : IsPassed receiver sender.config.sci tx.an (in_a_row (parts_of sender client tx) ++ behind) client
+  pub reads : reading (in_a_row (parts_of sender client tx) ++ behind) ≡ tagged (padded_by (parts_of sender client tx) behind)
+  pub judged : judgement_of receiver (in_a_row (parts_of sender client tx) ++ behind) ≡ at_row rx tx.next 13 Passed (Some client)
+  pub opens : use_to_open (the_key receiver.keys rx.key) rx tx.next (padded_by (parts_of sender client tx) behind) ≡
+      use_sent (tx_options sender) (the_key sender.keys tx.key) tx client
+
 abbrev pub AcceptsSent : State → State → List ℕ → TxRow → RxRow → List ℕ → Type 0
 AcceptsSent sender receiver client tx rx behind =
-    let p = parts_sent (tx_options sender) (the_key sender.keys tx.key) tx client in
     IsSound sender → IsSound receiver → frame_fault client ≡ None → (sending_of sender client).by ≡ Some tx →
-    CanAccept sender receiver tx rx p → CanComeBehind p behind → IsPassed receiver sender.config.sci tx.an (in_a_row p ++ behind) client
+    CanAccept sender receiver tx rx (parts_of sender client tx) → CanComeBehind (parts_of sender client tx) behind →
+    IsAccepted sender receiver client tx rx behind

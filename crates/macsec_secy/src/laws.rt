@@ -56,7 +56,8 @@ pub fn lengths_of_protected_frames()
 /// A protected frame that one endpoint sends is passed by another endpoint, and gives the client frame; also with
 /// octets after it if its SL is not 0. The premises: the other endpoint validates frames; it has an association for the
 /// frame, enabled, whose key matches the sender's; and the packet number is not late, nor, if it is extended, too high
-/// to be recovered.
+/// to be recovered. Step 13 of reception decides, with the sender's packet number, and opens the use of the cipher that was
+/// sealed.
 pub fn accepts_sent()
     ensures { (sender receiver : State) (client : List ℕ) (tx : TxRow) (rx : RxRow) (behind : List ℕ) → AcceptsSent sender receiver client tx rx behind }
 {
