@@ -14,18 +14,18 @@ use Rattle.macsec_rx.specs.Rows.{AreRxRows, IsRxRow}
 use Rattle.macsec_rx.proofs.Room.{cond_none}
 use Rattle.macsec_rx.proofs.Scis.{one_sci, same_sci-refl}
 
-pub none_of : {A : Type 0} (o : Option A) → is_some o ≡ false → o ≡ None
-none_of None h = refl
-none_of (Some x) h = cc
+pub none_from_is_some : {A : Type 0} (o : Option A) → is_some o ≡ false → o ≡ None
+none_from_is_some None h = refl
+none_from_is_some (Some x) h = cc
 
 -- a look-up that says where it finds nothing has found what there is
-pub found : {A B : Type 0} (o : Option A) (there : Option B) (P : A → Type 0) → MatchOption o (there ≡ None) P → IsSome there → IsSome o
-found {B = B} None there P none some = absurd (let no : IsSome {T = B} None = subst IsSome none some in cc)
-found (Some x) there P one some = refl
+pub found_if_there : {A B : Type 0} (o : Option A) (there : Option B) (P : A → Type 0) → MatchOption o (there ≡ None) P → IsSome there → IsSome o
+found_if_there {B = B} None there P none some = absurd (let no : IsSome {T = B} None = subst IsSome none some in cc)
+found_if_there (Some x) there P one some = refl
 
 -- one association is not at the place of the other, nor is that at the place of the one
-other_place : (row new : RxRow) → is_at new.sci new.an row ≡ false → is_at row.sci row.an new ≡ false
-other_place row new other = by_test (is_at row.sci row.an new) refl
+is_at-swapped : (row new : RxRow) → is_at new.sci new.an row ≡ false → is_at row.sci row.an new ≡ false
+is_at-swapped row new other = by_test (is_at row.sci row.an new) refl
   where
     by_test : (b : Bool) → is_at row.sci row.an new ≡ b → b ≡ false
     by_test true same =
@@ -35,57 +35,57 @@ other_place row new other = by_test (is_at row.sci row.an new) refl
     by_test false same = refl
 
 -- a place stays free where an association joins at another
-not_among : (rows : List RxRow) (new : RxRow) (sci : Sci) (an : ℕ) → rx_row rows sci an ≡ None → is_at sci an new ≡ false → rx_row (rows ++ new ∷ []) sci an ≡ None
-not_among [] new sci an free other = rw other refl
-not_among (row ∷ rows) new sci an free other =
+rx_row-append : (rows : List RxRow) (new : RxRow) (sci : Sci) (an : ℕ) → rx_row rows sci an ≡ None → is_at sci an new ≡ false → rx_row (rows ++ new ∷ []) sci an ≡ None
+rx_row-append [] new sci an free other = rw other refl
+rx_row-append (row ∷ rows) new sci an free other =
     let parts = cond_none (is_at sci an row) row (rx_row rows sci an) free in
-    rw parts.0 (not_among rows new sci an parts.1 other)
+    rw parts.0 (rx_row-append rows new sci an parts.1 other)
 
 -- an association may join at a free place
-pub joined : (scis : List Sci) (rows : List RxRow) (new : RxRow) → AreRxRows scis rows → rx_row rows new.sci new.an ≡ None → IsRxRow scis new → AreRxRows scis (rows ++ new ∷ [])
-joined scis [] new h free good = (good, refl, tt)
-joined scis (row ∷ rows) new h free good =
+pub AreRxRows-append : (scis : List Sci) (rows : List RxRow) (new : RxRow) → AreRxRows scis rows → rx_row rows new.sci new.an ≡ None → IsRxRow scis new → AreRxRows scis (rows ++ new ∷ [])
+AreRxRows-append scis [] new h free good = (good, refl, tt)
+AreRxRows-append scis (row ∷ rows) new h free good =
     let parts = cond_none (is_at new.sci new.an row) row (rx_row rows new.sci new.an) free in
-    (h.0, not_among rows new row.sci row.an h.1 (other_place row new parts.0), joined scis rows new h.2 parts.1 good)
+    (h.0, rx_row-append rows new row.sci row.an h.1 (is_at-swapped row new parts.0), AreRxRows-append scis rows new h.2 parts.1 good)
 
 -- the associations of more channels
-pub of_more : (scis more : List Sci) → ((s : Sci) → has_channel scis s ≡ true → has_channel more s ≡ true) → (rows : List RxRow) → AreRxRows scis rows → AreRxRows more rows
-of_more scis more still [] h = tt
-of_more scis more still (row ∷ rows) h =
-    (record { channel = still row.sci h.0.channel; an = h.0.an; key = h.0.key; ssci = h.0.ssci; next = h.0.next; lowest_least = h.0.lowest_least; lowest = h.0.lowest }, h.1, of_more scis more still rows h.2)
+pub AreRxRows-more_channels : (scis more : List Sci) → ((s : Sci) → has_channel scis s ≡ true → has_channel more s ≡ true) → (rows : List RxRow) → AreRxRows scis rows → AreRxRows more rows
+AreRxRows-more_channels scis more still [] h = tt
+AreRxRows-more_channels scis more still (row ∷ rows) h =
+    (record { channel = still row.sci h.0.channel; an = h.0.an; key = h.0.key; ssci = h.0.ssci; next = h.0.next; lowest_least = h.0.lowest_least; lowest = h.0.lowest }, h.1, AreRxRows-more_channels scis more still rows h.2)
 
 -- a change of numbers, or enabling and disabling, which leaves the association at its place
 pub record KeepsPlace (f : RxRow → RxRow) : Type 0 where
   pub sci : (row : RxRow) → (f row).sci ≡ row.sci
   pub an : (row : RxRow) → (f row).an ≡ row.an
 
-not_among_map : (f : RxRow → RxRow) → KeepsPlace f → (rows : List RxRow) (sci : Sci) (an : ℕ) → rx_row rows sci an ≡ None → rx_row (map f rows) sci an ≡ None
-not_among_map f same [] sci an free = refl
-not_among_map f same (row ∷ rows) sci an free =
+rx_row-map : (f : RxRow → RxRow) → KeepsPlace f → (rows : List RxRow) (sci : Sci) (an : ℕ) → rx_row rows sci an ≡ None → rx_row (map f rows) sci an ≡ None
+rx_row-map f same [] sci an free = refl
+rx_row-map f same (row ∷ rows) sci an free =
     let parts = cond_none (is_at sci an row) row (rx_row rows sci an) free in
-    rw (same.sci row, same.an row, parts.0) (not_among_map f same rows sci an parts.1)
+    rw (same.sci row, same.an row, parts.0) (rx_row-map f same rows sci an parts.1)
 
-pub mapped : (scis : List Sci) (f : RxRow → RxRow) → KeepsPlace f → ((row : RxRow) → IsRxRow scis row → IsRxRow scis (f row)) → (rows : List RxRow) → AreRxRows scis rows → AreRxRows scis (map f rows)
-mapped scis f same good [] h = tt
-mapped scis f same good (row ∷ rows) h =
-    (good row h.0, rw (same.sci row, same.an row) (not_among_map f same rows row.sci row.an h.1), mapped scis f same good rows h.2)
+pub AreRxRows-map : (scis : List Sci) (f : RxRow → RxRow) → KeepsPlace f → ((row : RxRow) → IsRxRow scis row → IsRxRow scis (f row)) → (rows : List RxRow) → AreRxRows scis rows → AreRxRows scis (map f rows)
+AreRxRows-map scis f same good [] h = tt
+AreRxRows-map scis f same good (row ∷ rows) h =
+    (good row h.0, rw (same.sci row, same.an row) (rx_row-map f same rows row.sci row.an h.1), AreRxRows-map scis f same good rows h.2)
 
-not_among_filter : (p : RxRow → Bool) (rows : List RxRow) (sci : Sci) (an : ℕ) → rx_row rows sci an ≡ None → rx_row (filter p rows) sci an ≡ None
-not_among_filter p [] sci an free = refl
-not_among_filter p (row ∷ rows) sci an free =
+rx_row-filter : (p : RxRow → Bool) (rows : List RxRow) (sci : Sci) (an : ℕ) → rx_row rows sci an ≡ None → rx_row (filter p rows) sci an ≡ None
+rx_row-filter p [] sci an free = refl
+rx_row-filter p (row ∷ rows) sci an free =
     let parts = cond_none (is_at sci an row) row (rx_row rows sci an) free in
-    by_test (p row) (filter p rows) parts.0 (not_among_filter p rows sci an parts.1)
+    by_test (p row) (filter p rows) parts.0 (rx_row-filter p rows sci an parts.1)
   where
-    by_test : (b : Bool) (kept : List RxRow) → is_at sci an row ≡ false → rx_row kept sci an ≡ None → rx_row (cond b (row ∷ kept) kept) sci an ≡ None
-    by_test true kept other rest = rw other rest
-    by_test false kept other rest = rest
+    by_test : (b : Bool) (others : List RxRow) → is_at sci an row ≡ false → rx_row others sci an ≡ None → rx_row (cond b (row ∷ others) others) sci an ≡ None
+    by_test true others other rest = rw other rest
+    by_test false others other rest = rest
 
 -- deletion of associations, if the channels of the others stay
-pub kept : (scis left : List Sci) (p : RxRow → Bool) → ((row : RxRow) → p row ≡ true → has_channel scis row.sci ≡ true → has_channel left row.sci ≡ true) →
+pub AreRxRows-filter : (scis left : List Sci) (p : RxRow → Bool) → ((row : RxRow) → p row ≡ true → has_channel scis row.sci ≡ true → has_channel left row.sci ≡ true) →
     (rows : List RxRow) → AreRxRows scis rows → AreRxRows left (filter p rows)
-kept scis left p still [] h = tt
-kept scis left p still (row ∷ rows) h =
-    by_test (p row) refl (filter p rows) (not_among_filter p rows row.sci row.an h.1) (kept scis left p still rows h.2)
+AreRxRows-filter scis left p still [] h = tt
+AreRxRows-filter scis left p still (row ∷ rows) h =
+    by_test (p row) refl (filter p rows) (rx_row-filter p rows row.sci row.an h.1) (AreRxRows-filter scis left p still rows h.2)
   where
     by_test : (b : Bool) → p row ≡ b → (others : List RxRow) → rx_row others row.sci row.an ≡ None → AreRxRows left others → AreRxRows left (cond b (row ∷ others) others)
     by_test true is others free h' =
@@ -93,8 +93,8 @@ kept scis left p still (row ∷ rows) h =
     by_test false is others free h' = h'
 
 -- what a change keeps everywhere, it keeps at one place
-pub at_place-place : (f : RxRow → RxRow) → KeepsPlace f → (sci : Sci) (an : ℕ) → KeepsPlace (at_place f sci an)
-at_place-place f same sci an = record { sci = λ row. sci_by row (is_at sci an row); an = λ row. an_by row (is_at sci an row) }
+pub KeepsPlace-at_place : (f : RxRow → RxRow) → KeepsPlace f → (sci : Sci) (an : ℕ) → KeepsPlace (at_place f sci an)
+KeepsPlace-at_place f same sci an = record { sci = λ row. sci_by row (is_at sci an row); an = λ row. an_by row (is_at sci an row) }
   where
     sci_by : (row : RxRow) (b : Bool) → (if b then f row else row).sci ≡ row.sci
     sci_by row true = same.sci row
@@ -104,62 +104,62 @@ at_place-place f same sci an = record { sci = λ row. sci_by row (is_at sci an r
     an_by row true = same.an row
     an_by row false = refl
 
-pub at_place-keeps : (scis : List Sci) (f : RxRow → RxRow) → ((row : RxRow) → IsRxRow scis row → IsRxRow scis (f row)) →
+pub IsRxRow-at_place : (scis : List Sci) (f : RxRow → RxRow) → ((row : RxRow) → IsRxRow scis row → IsRxRow scis (f row)) →
     (sci : Sci) (an : ℕ) (row : RxRow) → IsRxRow scis row → IsRxRow scis (at_place f sci an row)
-at_place-keeps scis f good sci an row h = by_test (is_at sci an row)
+IsRxRow-at_place scis f good sci an row h = by_test (is_at sci an row)
   where
     by_test : (b : Bool) → IsRxRow scis (if b then f row else row)
     by_test true = good row h
     by_test false = h
 
-pub switched_rows : (scis : List Sci) (on : Bool) (sci : Sci) (an : ℕ) (rows : List RxRow) → AreRxRows scis rows → AreRxRows scis (map (at_place (row_switched on) sci an) rows)
-switched_rows scis on sci an =
-    mapped scis _ (at_place-place (row_switched on) (record { sci = λ row. refl; an = λ row. refl }) sci an)
-    (at_place-keeps scis (row_switched on) (λ row h. record { channel = h.channel; an = h.an; key = h.key; ssci = h.ssci; next = h.next; lowest_least = h.lowest_least; lowest = h.lowest }) sci an)
+pub AreRxRows-switched : (scis : List Sci) (on : Bool) (sci : Sci) (an : ℕ) (rows : List RxRow) → AreRxRows scis rows → AreRxRows scis (map (at_place (row_switched on) sci an) rows)
+AreRxRows-switched scis on sci an =
+    AreRxRows-map scis _ (KeepsPlace-at_place (row_switched on) (record { sci = λ row. refl; an = λ row. refl }) sci an)
+    (IsRxRow-at_place scis (row_switched on) (λ row h. record { channel = h.channel; an = h.an; key = h.key; ssci = h.ssci; next = h.next; lowest_least = h.lowest_least; lowest = h.lowest }) sci an)
 
-pub raised_rows : (scis : List Sci) (pn : ℕ) (sci : Sci) (an : ℕ) → 1 ≤ pn → pn ≤ 2 ^ 64 → (rows : List RxRow) → AreRxRows scis rows → AreRxRows scis (map (at_place (row_raised pn) sci an) rows)
-raised_rows scis pn sci an some small =
-    mapped scis _ (at_place-place (row_raised pn) (record { sci = λ row. refl; an = λ row. refl }) sci an)
-    (at_place-keeps scis (row_raised pn) (λ row h. record { channel = h.channel; an = h.an; key = h.key; ssci = h.ssci; next = omega (arith, h.next, small); lowest_least = some; lowest = omega arith }) sci an)
+pub AreRxRows-raised : (scis : List Sci) (pn : ℕ) (sci : Sci) (an : ℕ) → 1 ≤ pn → pn ≤ 2 ^ 64 → (rows : List RxRow) → AreRxRows scis rows → AreRxRows scis (map (at_place (row_raised pn) sci an) rows)
+AreRxRows-raised scis pn sci an some small =
+    AreRxRows-map scis _ (KeepsPlace-at_place (row_raised pn) (record { sci = λ row. refl; an = λ row. refl }) sci an)
+    (IsRxRow-at_place scis (row_raised pn) (λ row h. record { channel = h.channel; an = h.an; key = h.key; ssci = h.ssci; next = omega (arith, h.next, small); lowest_least = some; lowest = omega arith }) sci an)
 
-pub narrowed_rows : (scis : List Sci) (window : ℕ) (rows : List RxRow) → AreRxRows scis rows → AreRxRows scis (map (row_narrowed window) rows)
-narrowed_rows scis window =
-    mapped scis _ (record { sci = λ row. refl; an = λ row. refl })
+pub AreRxRows-narrowed : (scis : List Sci) (window : ℕ) (rows : List RxRow) → AreRxRows scis rows → AreRxRows scis (map (row_narrowed window) rows)
+AreRxRows-narrowed scis window =
+    AreRxRows-map scis _ (record { sci = λ row. refl; an = λ row. refl })
     (λ row h. record { channel = h.channel; an = h.an; key = h.key; ssci = h.ssci; next = h.next; lowest_least = omega (arith, h.lowest_least); lowest = omega (arith, h.lowest) })
 
-pub accepting_rows : (scis : List Sci) (window number : ℕ) (sci : Sci) (an : ℕ) → number < 2 ^ 64 → (rows : List RxRow) → AreRxRows scis rows → AreRxRows scis (map (at_place (row_accepting window number) sci an) rows)
-accepting_rows scis window number sci an small =
-    mapped scis _ (at_place-place (row_accepting window number) (record { sci = λ row. refl; an = λ row. refl }) sci an)
-    (at_place-keeps scis (row_accepting window number) (λ row h. record { channel = h.channel; an = h.an; key = h.key; ssci = h.ssci; next = omega (arith, h.next, small); lowest_least = omega (arith, h.lowest_least); lowest = omega (arith, h.lowest) }) sci an)
+pub AreRxRows-accepting : (scis : List Sci) (window number : ℕ) (sci : Sci) (an : ℕ) → number < 2 ^ 64 → (rows : List RxRow) → AreRxRows scis rows → AreRxRows scis (map (at_place (row_accepting window number) sci an) rows)
+AreRxRows-accepting scis window number sci an small =
+    AreRxRows-map scis _ (KeepsPlace-at_place (row_accepting window number) (record { sci = λ row. refl; an = λ row. refl }) sci an)
+    (IsRxRow-at_place scis (row_accepting window number) (λ row h. record { channel = h.channel; an = h.an; key = h.key; ssci = h.ssci; next = omega (arith, h.next, small); lowest_least = omega (arith, h.lowest_least); lowest = omega (arith, h.lowest) }) sci an)
 
-take_all : {X : Type 0} (ws : List X) → take (length ws) ws ≡ ws
-take_all [] = refl
-take_all (w ∷ ws) = ap (λ rest. w ∷ rest) (take_all ws)
+take-length : {X : Type 0} (ws : List X) → take (length ws) ws ≡ ws
+take-length [] = refl
+take-length (w ∷ ws) = ap (λ rest. w ∷ rest) (take-length ws)
 
-refill_same : {X : Type 0} (xs ws : List X) → length ws ≡ length xs → refill (length xs) xs ws ≡ ws
-refill_same xs ws same =
+refill-same_length : {X : Type 0} (xs ws : List X) → length ws ≡ length xs → refill (length xs) xs ws ≡ ws
+refill-same_length xs ws same =
     let fits : length xs ≤ length ws = omega arith in
-    rw (← same) (take-append-le (length ws) ws (drop (length ws) xs) (omega arith) ∙ take_all ws)
+    rw (← same) (take-append-le (length ws) ws (drop (length ws) xs) (omega arith) ∙ take-length ws)
 
 -- what was borrowed as a slice is afterwards as the borrower left it
-pub refilled : (scis : List Sci) (xs ws : List RxRow) → length ws ≡ length xs → AreRxRows scis ws → AreRxRows scis (refill (length xs) xs ws)
-refilled scis xs ws same h = rw (refill_same xs ws same) h
+pub AreRxRows-refill : (scis : List Sci) (xs ws : List RxRow) → length ws ≡ length xs → AreRxRows scis ws → AreRxRows scis (refill (length xs) xs ws)
+AreRxRows-refill scis xs ws same h = rw (refill-same_length xs ws same) h
 
 -- what holds of every association holds of the one that is found
-pub of_row : (P : RxRow → Type 0) (rows : List RxRow) (sci : Sci) (an : ℕ) (row : RxRow) → All P rows → rx_row rows sci an ≡ Some row → P row
-of_row P [] sci an row h e = cc
-of_row P (first ∷ rows) sci an row h e = by_test (is_at sci an first) (of_row P rows sci an row (All-tail P first rows h)) e
+pub holds_of_row : (P : RxRow → Type 0) (rows : List RxRow) (sci : Sci) (an : ℕ) (row : RxRow) → All P rows → rx_row rows sci an ≡ Some row → P row
+holds_of_row P [] sci an row h e = cc
+holds_of_row P (first ∷ rows) sci an row h e = by_test (is_at sci an first) (holds_of_row P rows sci an row (All-tail P first rows h)) e
   where
     by_test : (b : Bool) → (rx_row rows sci an ≡ Some row → P row) → cond b (Some first) (rx_row rows sci an) ≡ Some row → P row
     by_test true later e' = let same : first ≡ row = cc in rw (← same) (All-head P first rows h)
     by_test false later e' = later e'
 
 -- and of the one that is enabled for a frame
-pub of_in_use : (P : RxRow → Type 0) (rows : List RxRow) (an : ℕ) (sci : Option Sci) → All P rows → IfSome (in_use rows an sci) P
-of_in_use P rows an None h = tt
-of_in_use P [] an (Some sci) h = tt
-of_in_use P (first ∷ rows) an (Some sci) h =
-    by_test (is_at sci an first && first.on) (All-head P first rows h) (of_in_use P rows an (Some sci) (All-tail P first rows h))
+pub IfSome-in_use : (P : RxRow → Type 0) (rows : List RxRow) (an : ℕ) (sci : Option Sci) → All P rows → IfSome (in_use rows an sci) P
+IfSome-in_use P rows an None h = tt
+IfSome-in_use P [] an (Some sci) h = tt
+IfSome-in_use P (first ∷ rows) an (Some sci) h =
+    by_test (is_at sci an first && first.on) (All-head P first rows h) (IfSome-in_use P rows an (Some sci) (All-tail P first rows h))
   where
     by_test : (b : Bool) → P first → IfSome (in_use rows an (Some sci)) P → IfSome (cond b (Some first) (in_use rows an (Some sci))) P
     by_test true here later = here

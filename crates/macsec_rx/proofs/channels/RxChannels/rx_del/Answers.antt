@@ -5,7 +5,7 @@ use Rattle.std.specs.Prelude.{filter, not}
 use Rattle.arrayvec.proofs.ArrayVecLemmas.{filter-from_retain}
 use Rattle.macsec_rx.specs.Channels.{is_at}
 use Rattle.macsec_rx.specs.Commands.{without_rx}
-use Rattle.macsec_rx.proofs.RxRows.{kept}
+use Rattle.macsec_rx.proofs.RxRows.{AreRxRows-filter}
 use Rattle.macsec_rx.proofs.channels.RxChannels.rx_del.Goals as goal
 
 kept_rows : (c : goal.After-retain) → c.retain.new.self.items ≡ filter (λ row. not (is_at c.args.sci c.args.an row)) c.self.inside.rows.items
@@ -15,7 +15,7 @@ pub invariant_of-self : goal.invariant_of-self
 invariant_of-self c = rw (kept_rows c) (record {
   count = c.self.invariant.count;
   scis = c.self.invariant.scis;
-  rows = kept _ _ _ (λ row left there. there) _ c.self.invariant.rows;
+  rows = AreRxRows-filter _ _ _ (λ row left there. there) _ c.self.invariant.rows;
 })
 
 pub returns-clause-done : goal.returns-clause-done

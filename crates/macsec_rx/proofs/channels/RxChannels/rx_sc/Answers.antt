@@ -2,7 +2,7 @@
 -- By the lemmas on a channel that joins (`Scis`, `RxRows`).
 use Rattle.std.proofs.Common.{◌≡◌, ◌∙◌, ap, sym, false, rules}
 use Rattle.macsec_rx.specs.Commands.{has_channel}
-use Rattle.macsec_rx.proofs.RxRows.{of_more}
+use Rattle.macsec_rx.proofs.RxRows.{AreRxRows-more_channels}
 use Rattle.macsec_rx.proofs.Scis.{joined_scis, still_channel}
 use Rattle.macsec_rx.proofs.channels.RxChannels.rx_sc.Goals as goal
 
@@ -14,7 +14,7 @@ invariant_of-self c =
     rw c.push.ensures.items (record {
       count = search rules;
       scis = joined_scis scis c.args.sci c.self.invariant.scis c.has_channel.ensures.sci free;
-      rows = of_more scis _ (still_channel scis c.args.sci) _ c.self.invariant.rows;
+      rows = AreRxRows-more_channels scis _ (still_channel scis c.args.sci) _ c.self.invariant.rows;
     })
 
 pub returns-clause-channels : goal.returns-clause-channels

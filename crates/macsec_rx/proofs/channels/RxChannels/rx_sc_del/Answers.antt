@@ -6,7 +6,7 @@ use Rattle.arrayvec.proofs.ArrayVecLemmas.{filter-from_retain}
 use Rattle.std.proofs.lemmas.List.Sums.{count_by-le-length, length-filter}
 use Rattle.macsec_rx.specs.Channels.{same_sci}
 use Rattle.macsec_rx.specs.Commands.{without_channel}
-use Rattle.macsec_rx.proofs.RxRows.{kept}
+use Rattle.macsec_rx.proofs.RxRows.{AreRxRows-filter}
 use Rattle.macsec_rx.proofs.Scis.{kept_scis, other_channel}
 use Rattle.macsec_rx.proofs.channels.RxChannels.rx_sc_del.Goals as goal
 
@@ -25,7 +25,7 @@ invariant_of-self c =
     rw (kept_channels c, kept_rows c) (record {
       count = omega (arith, fewer, c.self.invariant.count);
       scis = kept_scis _ scis c.self.invariant.scis;
-      rows = kept scis _ _ (λ row other there. other_channel scis sci row.sci there other) _ c.self.invariant.rows;
+      rows = AreRxRows-filter scis _ _ (λ row other there. other_channel scis sci row.sci there other) _ c.self.invariant.rows;
     })
 
 pub returns-clause-done : goal.returns-clause-done
