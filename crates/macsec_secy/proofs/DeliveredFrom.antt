@@ -22,7 +22,8 @@ use Rattle.macsec_secy.specs.Sound.{IsSound}
 use Rattle.macsec_secy.specs.State.{State}
 use Rattle.macsec_secy.proofs.Contained.{first_or_behind, none_there}
 use Rattle.macsec_secy.proofs.Deliveries.{delivery_tells}
-use Rattle.macsec_secy.proofs.InUse.{found, one_sci}
+use Rattle.macsec_secy.proofs.InUse.{found}
+use Rattle.macsec_secy.proofs.Sums.{one_sci}
 use Rattle.macsec_secy.proofs.KeysApart.{the_key_found}
 use Rattle.macsec_secy.proofs.RxRowsStay.{accepts, at_one_place, rx_row-map}
 

@@ -33,7 +33,7 @@ use Rattle.macsec_secy.specs.Commands.{effect, refusal, unless_refused}
 use Rattle.macsec_secy.specs.Step.{Output, operator_command, client_frame, link_frame, frame_fault, received_output, sending_of, sent_output, state_after_sending, unless_fault}
 use Rattle.macsec_secy.specs.Sound.{IsSound, sci_of_counters}
 use Rattle.macsec_secy.specs.Sums.{AddsFrames, frames_counted, packets_of, removes_channel}
-use Rattle.macsec_secy.proofs.Sums.{IsOneMore, RaisesOne, channels_packets, counted_once, delayed_raises, invalid_raises, late_raises, not_raised, not_valid_raises, passed_raises, raised, unchecked_raises, with_part}
+use Rattle.macsec_secy.proofs.Sums.{IsOneMore, IsOneMore-add_left, IsOneMore-channels_packets, IsOneMore-raised_part, RaisesOne, RaisesOne-Delayed, RaisesOne-Invalid, RaisesOne-Late, RaisesOne-NotValid, RaisesOne-Passed, RaisesOne-Unchecked, channels_packets, mod-as_plus_0}
 
 -- ---- what the judgement raises
 
@@ -50,24 +50,24 @@ record HasCounters (rows : List ChannelCounters) (sci : Sci) : Type 0 where
 -- its channel counts it
 in_channel : (rows : List ChannelCounters) (sci : Sci) → HasCounters rows sci → (verdict : Verdict) → RaisesOne verdict → (packets : ℕ) →
     IsOneMore (packets + channels_packets (map (count_at verdict sci) rows)) (packets + channels_packets rows)
-in_channel rows sci has verdict raises packets = with_part packets _ _ (counted_once verdict raises sci rows has.distinct has.there)
+in_channel rows sci has verdict raises packets = IsOneMore-add_left packets _ _ (IsOneMore-channels_packets verdict raises sci rows has.distinct has.there)
 
 once_opened : (rows : List ChannelCounters) (options : RxOptions) (key : InstalledKey) (row : RxRow) (number : ℕ) (p : MpduParts) (o : Option (List ℕ)) →
     HasCounters rows row.sci → IsCountedOnce rows (judge_opened options key row number p o)
 once_opened rows options key row number p None has = by_test (p.tag.c || is_strict options.mode)
   where
     by_test : (b : Bool) → IsCountedOnce rows (if b then at_row row number 11 NotValid None else at_row row number 12 Invalid (Some (bare_frame p)))
-    by_test true c = in_channel rows row.sci has NotValid not_valid_raises (packets_of c)
-    by_test false c = in_channel rows row.sci has Invalid invalid_raises (packets_of c)
+    by_test true c = in_channel rows row.sci has NotValid RaisesOne-NotValid (packets_of c)
+    by_test false c = in_channel rows row.sci has Invalid RaisesOne-Invalid (packets_of c)
 once_opened rows options key row number p (Some plaintext) has = by_test (is_late row.lowest number)
   where
     by_test : (b : Bool) → IsCountedOnce rows (at_row row number 13 (if b then Delayed else Passed) (Some (opened_frame key p plaintext)))
-    by_test true c = in_channel rows row.sci has Delayed delayed_raises (packets_of c)
-    by_test false c = in_channel rows row.sci has Passed passed_raises (packets_of c)
+    by_test true c = in_channel rows row.sci has Delayed RaisesOne-Delayed (packets_of c)
+    by_test false c = in_channel rows row.sci has Passed RaisesOne-Passed (packets_of c)
 
 once_numbered : (rows : List ChannelCounters) (options : RxOptions) (key : InstalledKey) (row : RxRow) (p : MpduParts) (number : Option ℕ) →
     HasCounters rows row.sci → IsCountedOnce rows (judge_number options key row p number)
-once_numbered rows options key row p None has = λ c. raised _ _ c.in_pkts_bad_tag (omega arith)
+once_numbered rows options key row p None has = λ c. IsOneMore-raised_part _ _ c.in_pkts_bad_tag (omega arith)
 once_numbered rows options key row p (Some number) has =
     by_tests (options.replay && is_late row.lowest number) (is_disabled options.mode && p.tag.c) (is_disabled options.mode) (is_late row.lowest number)
   where
@@ -76,10 +76,10 @@ once_numbered rows options key row p (Some number) has =
         else if unusable then at_row row number 9 NotValid None
         else if disabled then at_row row number 10 (if late then Delayed else Unchecked) (Some (bare_frame p))
         else judge_opened options key row number p (plaintext_of key row number p))
-    by_tests true unusable disabled late c = in_channel rows row.sci has Late late_raises (packets_of c)
-    by_tests false true disabled late c = in_channel rows row.sci has NotValid not_valid_raises (packets_of c)
-    by_tests false false true true c = in_channel rows row.sci has Delayed delayed_raises (packets_of c)
-    by_tests false false true false c = in_channel rows row.sci has Unchecked unchecked_raises (packets_of c)
+    by_tests true unusable disabled late c = in_channel rows row.sci has Late RaisesOne-Late (packets_of c)
+    by_tests false true disabled late c = in_channel rows row.sci has NotValid RaisesOne-NotValid (packets_of c)
+    by_tests false false true true c = in_channel rows row.sci has Delayed RaisesOne-Delayed (packets_of c)
+    by_tests false false true false c = in_channel rows row.sci has Unchecked RaisesOne-Unchecked (packets_of c)
     by_tests false false false late c = once_opened rows options key row number p (plaintext_of key row number p) has c
 
 once_of_row : (rows : List ChannelCounters) (options : RxOptions) (keys : List InstalledKey) (p : MpduParts) (row : Option RxRow) →
@@ -87,8 +87,8 @@ once_of_row : (rows : List ChannelCounters) (options : RxOptions) (keys : List I
 once_of_row rows options keys p None has = by_test (is_strict options.mode || p.tag.c)
   where
     by_test : (b : Bool) → IsCountedOnce rows (if b then without_row 5 NoSaError None else without_row 6 NoSa (Some (bare_frame p)))
-    by_test true c = raised _ _ c.in_pkts_no_sa_error (omega arith)
-    by_test false c = raised _ _ c.in_pkts_no_sa (omega arith)
+    by_test true c = IsOneMore-raised_part _ _ c.in_pkts_no_sa_error (omega arith)
+    by_test false c = IsOneMore-raised_part _ _ c.in_pkts_no_sa (omega arith)
 once_of_row rows options keys p (Some row) has =
     once_numbered rows options (the_key keys row.key) row p (recovered_number (is_xpn (the_key keys row.key).suite) row.lowest p.tag.pn) has
 
@@ -98,8 +98,8 @@ once_tagged rows options keys p row has = by_tests (is_bad_number options.suite 
   where
     by_tests : (bad_number reserved : Bool) → IsCountedOnce rows (
         if bad_number then without_row 3 BadTag None else if reserved then without_row 4 Reserved None else judge_row options keys p row)
-    by_tests true reserved c = raised _ _ c.in_pkts_bad_tag (omega arith)
-    by_tests false true c = raised _ _ c.in_pkts_reserved (omega arith)
+    by_tests true reserved c = IsOneMore-raised_part _ _ c.in_pkts_bad_tag (omega arith)
+    by_tests false true c = IsOneMore-raised_part _ _ c.in_pkts_reserved (omega arith)
     by_tests false false c = once_of_row rows options keys p row has c
 
 -- ---- the association enabled for a frame is of a channel, which has its counters once
@@ -130,9 +130,9 @@ once_judged : (s : State) → IsSound s → (frame : List ℕ) (r : Reading) →
 once_judged s sound frame untagged = by_test (is_strict s.options.mode)
   where
     by_test : (b : Bool) → IsCountedOnce s.rx_counters (if b then without_row 1 NoTag None else without_row 2 Untagged (Some frame))
-    by_test true c = raised _ _ c.in_pkts_no_tag (omega arith)
-    by_test false c = raised _ _ c.in_pkts_untagged (omega arith)
-once_judged s sound frame (bad fault) = λ c. raised _ _ c.in_pkts_bad_tag (omega arith)
+    by_test true c = IsOneMore-raised_part _ _ c.in_pkts_no_tag (omega arith)
+    by_test false c = IsOneMore-raised_part _ _ c.in_pkts_untagged (omega arith)
+once_judged s sound frame (bad fault) = λ c. IsOneMore-raised_part _ _ c.in_pkts_bad_tag (omega arith)
 once_judged s sound frame (tagged p) =
     once_tagged s.rx_counters (rx_options s) s.keys p (in_use s.rx.rows p.tag.an (sci_of s.rx.scis p)) (in_use_counted s sound p.tag.an (sci_of s.rx.scis p))
 
@@ -158,7 +158,7 @@ after_link_frame s sound frame output None =
     let j = judgement_of s frame in
     ap (λ n. (n + channels_packets (rx_packet_counted j s.rx_counters)) % 2 ^ 64) (octets_apart j (reading frame) (packet_counted j s.counters)) ∙
     once_judged s sound frame (reading frame) s.counters
-after_link_frame s sound frame output (Some fault) = not_raised _
+after_link_frame s sound frame output (Some fault) = mod-as_plus_0 _
 
 -- a frame that is sent or dropped is no received packet
 leaving_apart : (leaving : Leaving) (c : Counters) → packets_of (count_leaving leaving c) ≡ packets_of c
@@ -170,8 +170,8 @@ leaving_apart too_long c = refl
 after_client_frame : (s : State) (frame : List ℕ) (output : Output) (fault : Option FrameFault) →
     frames_counted (unless_fault fault s (output, state_after_sending s frame (sending_of s frame))).1 ≡ plus (frames_counted s) 0
 after_client_frame s frame output None =
-    ap (λ n. (n + channels_packets s.rx_counters) % 2 ^ 64) (leaving_apart (sending_of s frame).leaving s.counters) ∙ not_raised _
-after_client_frame s frame output (Some fault) = not_raised _
+    ap (λ n. (n + channels_packets s.rx_counters) % 2 ^ 64) (leaving_apart (sending_of s frame).leaving s.counters) ∙ mod-as_plus_0 _
+after_client_frame s frame output (Some fault) = mod-as_plus_0 _
 
 -- ---- commands
 
@@ -180,8 +180,8 @@ keeps : (s : State) (c : Command) → frames_counted (effect s c) ≡ frames_cou
 keeps s c same = by_refusal (refusal s c)
   where
     by_refusal : (r : Option Refusal) → frames_counted (unless_refused r s c) ≡ plus (frames_counted s) 0
-    by_refusal None = same ∙ not_raised _
-    by_refusal (Some r) = not_raised _
+    by_refusal None = same ∙ mod-as_plus_0 _
+    by_refusal (Some r) = mod-as_plus_0 _
 
 after_command : (s : State) (c : Command) → removes_channel s (operator_command c) ≡ false → frames_counted (unless_refused (refusal s c) s c) ≡ plus (frames_counted s) 0
 after_command s (Protect on) allowed = keeps s (Protect on) refl
@@ -199,7 +199,7 @@ after_command s (RxScDel sci) allowed = by_refusal (refusal s (RxScDel sci)) all
   where
     by_refusal : (r : Option Refusal) → not (is_some r) ≡ false → frames_counted (unless_refused r s (RxScDel sci)) ≡ plus (frames_counted s) 0
     by_refusal None allowed' = cc
-    by_refusal (Some r) allowed' = not_raised _
+    by_refusal (Some r) allowed' = mod-as_plus_0 _
 after_command s (RxSa sci an key ssci lowest) allowed = keeps s (RxSa sci an key ssci lowest) refl
 after_command s (RxOn sci an) allowed = keeps s (RxOn sci an) refl
 after_command s (RxOff sci an) allowed = keeps s (RxOff sci an) refl

@@ -1,13 +1,13 @@
 -- The association enabled for a frame: it is at the frame's place, and its key is in the table.
 use Rattle.std.proofs.Common.{◌≡◌, ℕ, suc, Bool, true, false, List, [], ◌∷◌, refl, sym, ap, subst, arith, All}
 use Rattle.std.specs.Prelude.{◌==◌, ◌&&◌, find, if◌then◌else◌, Option, Some, None, IsSome, unwrap_or}
-use Rattle.std.specs.Cmp.Lexicographic.{same_text}
 use Rattle.std.proofs.lemmas.Bool.{and_parts, eqb-true}
 use Rattle.macsec_tag.specs.declared.identifiers.Sci.{Sci}
 use Rattle.macsec_suite.specs.KeyRows.{InstalledKey, key_row, no_key, the_key}
 use Rattle.macsec_rx.specs.declared.RxRow.{RxRow}
 use Rattle.macsec_rx.specs.Channels.{is_at, same_sci}
 use Rattle.macsec_rx.specs.Judge.{in_use}
+use Rattle.macsec_secy.proofs.Sums.{one_sci}
 
 -- what is found passes the test, and what holds of each element holds of it
 pub record IsFound {A : Type 0} (test : A → Bool) (P : A → Type 0) (x : A) : Type 0 where
@@ -21,9 +21,6 @@ found test P (y ∷ ys) x all is = by_test (test y) refl (found test P ys x (λ 
     by_test : (b : Bool) → test y ≡ b → (find test ys ≡ Some x → IsFound test P x) → (if b then Some y else find test ys) ≡ Some x → IsFound test P x
     by_test true passes later is' = let it : y ≡ x = cc in subst (IsFound test P) it (record { passes = passes; holds = all 0 y (omega arith) })
     by_test false passes later is' = later is'
-
-pub one_sci : (s t : Sci) → same_sci s t ≡ true → s ≡ t
-one_sci s t same = ap {B = Sci} (λ octets. record { 0 = octets }) (same_text s.0 t.0 (sym same))
 
 pub record IsInUse (P : RxRow → Type 0) (of_sci : Sci) (of_an : ℕ) (row : RxRow) : Type 0 where
   pub sci : row.sci ≡ of_sci

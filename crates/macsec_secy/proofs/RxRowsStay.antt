@@ -16,7 +16,7 @@ use Rattle.macsec_secy.specs.Kept.{IsAbove, RxRowStays, deletes}
 use Rattle.macsec_secy.specs.Reception.{judgement_of, state_after_receiving}
 use Rattle.macsec_secy.specs.State.{State}
 use Rattle.macsec_secy.specs.Step.{Input, Output, operator_command, client_frame, uncontrolled_frame, link_frame, frame_fault, leaves, received_output, sending_of, sent_output, state_after_sending, unless_fault}
-use Rattle.macsec_secy.proofs.InUse.{one_sci}
+use Rattle.macsec_secy.proofs.Sums.{one_sci}
 use Rattle.macsec_secy.proofs.KeysKept.{field_kept}
 
 -- ---- changes of associations

@@ -28,29 +28,29 @@ abbrev pub IsOneMore : ℕ → ℕ → Type 0
 IsOneMore new old = new % 2 ^ 64 ≡ plus (old % 2 ^ 64) 1
 
 -- a sum is one more where one part of it is raised by one
-pub raised : (old new part : ℕ) → new + part ≡ old + plus part 1 → IsOneMore new old
-raised old new part e =
+pub IsOneMore-raised_part : (old new part : ℕ) → new + part ≡ old + plus part 1 → IsOneMore new old
+IsOneMore-raised_part old new part e =
     let q = (part + 1) / 2 ^ 64 in
     let all = mod-add-div (part + 1) (2 ^ 64) in
     let more : new + 2 ^ 64 * q ≡ old + 1 = omega (arith, e, all) in
     sym (add-mul-mod_self_left new (2 ^ 64) q) ∙ ap (λ n. n % 2 ^ 64) more ∙ sym (mod-add-mod old (2 ^ 64) 1)
 
 -- and where one part of it is one more
-pub with_part : (other new old : ℕ) → IsOneMore new old → IsOneMore (other + new) (other + old)
-with_part other new old one =
+pub IsOneMore-add_left : (other new old : ℕ) → IsOneMore new old → IsOneMore (other + new) (other + old)
+IsOneMore-add_left other new old one =
     let more : other + (old + 1) ≡ other + old + 1 = omega arith in
     sym (add-mod-mod other new (2 ^ 64)) ∙ ap (λ n. (other + n) % 2 ^ 64) (one ∙ mod-add-mod old (2 ^ 64) 1) ∙ add-mod-mod other (old + 1) (2 ^ 64)
     ∙ ap (λ n. n % 2 ^ 64) more ∙ sym (mod-add-mod (other + old) (2 ^ 64) 1)
 
-pub with_rest : (new old rest : ℕ) → IsOneMore new old → IsOneMore (new + rest) (old + rest)
-with_rest new old rest one =
+pub IsOneMore-add_right : (new old rest : ℕ) → IsOneMore new old → IsOneMore (new + rest) (old + rest)
+IsOneMore-add_right new old rest one =
     let left : new + rest ≡ rest + new = omega arith in
     let right : old + rest ≡ rest + old = omega arith in
-    rw (left, right) (with_part rest new old one)
+    rw (left, right) (IsOneMore-add_left rest new old one)
 
 -- the same
-pub not_raised : (n : ℕ) → n % 2 ^ 64 ≡ plus (n % 2 ^ 64) 0
-not_raised n = omega arith
+pub mod-as_plus_0 : (n : ℕ) → n % 2 ^ 64 ≡ plus (n % 2 ^ 64) 0
+mod-as_plus_0 n = omega arith
 
 -- ---- channels
 
@@ -58,43 +58,43 @@ not_raised n = omega arith
 abbrev pub RaisesOne : Verdict → Type 0
 RaisesOne verdict = (c : RxCounters) → IsOneMore (channel_packets_of (count_in_channel verdict c)) (channel_packets_of c)
 
-pub late_raises : RaisesOne Late
-late_raises c = raised _ _ c.in_pkts_late (omega arith)
+pub RaisesOne-Late : RaisesOne Late
+RaisesOne-Late c = IsOneMore-raised_part _ _ c.in_pkts_late (omega arith)
 
-pub not_valid_raises : RaisesOne NotValid
-not_valid_raises c = raised _ _ c.in_pkts_not_valid (omega arith)
+pub RaisesOne-NotValid : RaisesOne NotValid
+RaisesOne-NotValid c = IsOneMore-raised_part _ _ c.in_pkts_not_valid (omega arith)
 
-pub unchecked_raises : RaisesOne Unchecked
-unchecked_raises c = raised _ _ c.in_pkts_unchecked (omega arith)
+pub RaisesOne-Unchecked : RaisesOne Unchecked
+RaisesOne-Unchecked c = IsOneMore-raised_part _ _ c.in_pkts_unchecked (omega arith)
 
-pub delayed_raises : RaisesOne Delayed
-delayed_raises c = raised _ _ c.in_pkts_delayed (omega arith)
+pub RaisesOne-Delayed : RaisesOne Delayed
+RaisesOne-Delayed c = IsOneMore-raised_part _ _ c.in_pkts_delayed (omega arith)
 
-pub invalid_raises : RaisesOne Invalid
-invalid_raises c = raised _ _ c.in_pkts_invalid (omega arith)
+pub RaisesOne-Invalid : RaisesOne Invalid
+RaisesOne-Invalid c = IsOneMore-raised_part _ _ c.in_pkts_invalid (omega arith)
 
-pub passed_raises : RaisesOne Passed
-passed_raises c = raised _ _ c.in_pkts_ok (omega arith)
+pub RaisesOne-Passed : RaisesOne Passed
+RaisesOne-Passed c = IsOneMore-raised_part _ _ c.in_pkts_ok (omega arith)
 
 -- the sum over the channels
 abbrev pub channels_packets : List ChannelCounters → ℕ
 channels_packets rows = sum_by (λ row. channel_packets_of row.counters) rows
 
 -- where no channel has the SCI nothing is counted
-none_counted : (verdict : Verdict) (sci : Sci) (rows : List ChannelCounters) → has_channel (map sci_of_counters rows) sci ≡ false → map (count_at verdict sci) rows ≡ rows
-none_counted verdict sci [] none = refl
-none_counted verdict sci (row ∷ rows) none =
+map-count_at_elsewhere : (verdict : Verdict) (sci : Sci) (rows : List ChannelCounters) → has_channel (map sci_of_counters rows) sci ≡ false → map (count_at verdict sci) rows ≡ rows
+map-count_at_elsewhere verdict sci [] none = refl
+map-count_at_elsewhere verdict sci (row ∷ rows) none =
     let parts = or_parts (same_sci row.sci sci) (has_channel (map sci_of_counters rows) sci) none in
     ap (λ b. (if b then record row { counters = count_in_channel verdict row.counters } else row) ∷ map (count_at verdict sci) rows) parts.0
-    ∙ ap (λ rs. row ∷ rs) (none_counted verdict sci rows parts.1)
+    ∙ ap (λ rs. row ∷ rs) (map-count_at_elsewhere verdict sci rows parts.1)
 
 -- where one channel has it, it alone counts the frame
-pub counted_once : (verdict : Verdict) → RaisesOne verdict → (sci : Sci) (rows : List ChannelCounters) → AreScis (map sci_of_counters rows) →
+pub IsOneMore-channels_packets : (verdict : Verdict) → RaisesOne verdict → (sci : Sci) (rows : List ChannelCounters) → AreScis (map sci_of_counters rows) →
     has_channel (map sci_of_counters rows) sci ≡ true → IsOneMore (channels_packets (map (count_at verdict sci) rows)) (channels_packets rows)
-counted_once verdict raises sci [] distinct there = cc
-counted_once verdict raises sci (row ∷ rows) distinct there =
+IsOneMore-channels_packets verdict raises sci [] distinct there = cc
+IsOneMore-channels_packets verdict raises sci (row ∷ rows) distinct there =
     rw (sum_by-cons counted (count_at verdict sci row) (map (count_at verdict sci) rows), sum_by-cons counted row rows)
-    (by_test (same_sci row.sci sci) refl (counted_once verdict raises sci rows distinct.2) there)
+    (by_test (same_sci row.sci sci) refl (IsOneMore-channels_packets verdict raises sci rows distinct.2) there)
   where
     counted : ChannelCounters → ℕ
     counted r = channel_packets_of r.counters
@@ -105,5 +105,5 @@ counted_once verdict raises sci (row ∷ rows) distinct there =
         (channel_packets_of row.counters + channels_packets rows)
     by_test true same later there' =
         let none : has_channel (map sci_of_counters rows) sci ≡ false = ap (has_channel (map sci_of_counters rows)) (sym (one_sci row.sci sci same)) ∙ distinct.1 in
-        rw (none_counted verdict sci rows none) (with_rest _ (channel_packets_of row.counters) (channels_packets rows) (raises row.counters))
-    by_test false other later there' = with_part (channel_packets_of row.counters) _ _ (later there')
+        rw (map-count_at_elsewhere verdict sci rows none) (IsOneMore-add_right _ (channel_packets_of row.counters) (channels_packets rows) (raises row.counters))
+    by_test false other later there' = IsOneMore-add_left (channel_packets_of row.counters) _ _ (later there')
