@@ -161,7 +161,7 @@ impl Secy {
                 key,
                 ssci,
                 lowest,
-            } => self.rx.rx_sa(&self.keys, sci, an, key, ssci, lowest),
+            } => self.rx_sa(sci, an, key, ssci, lowest),
             Command::RxOn(sci, an) => self.rx.rx_on(sci, an),
             Command::RxOff(sci, an) => self.rx.rx_off(sci, an),
             Command::RxLow { sci, an, pn } => self.rx.rx_low(&self.keys, sci, an, pn),

@@ -39,6 +39,22 @@ impl Secy {
         Ok(())
     }
 
+    /// Creates a receive association, disabled.
+    pub(crate) fn rx_sa(
+        &mut self,
+        sci: Sci,
+        an: An,
+        key: u8,
+        ssci: u32,
+        lowest: u64,
+    ) -> Result<(), Refusal>
+        ensures refusal { refusal_of result ≡ refusal self.old (by.RxSa sci an key ssci lowest) }
+        ensures after { self.new ≡ state_after_command self.old (by.RxSa sci an key ssci lowest) }
+        ensures sound { IsSound self.new }
+    {
+        self.rx.rx_sa(&self.keys, sci, an, key, ssci, lowest)
+    }
+
     /// What reception depends on.
     pub(crate) fn rx_options(&self) -> RxOptions
         ensures { result ≡ rx_options self.now }

@@ -80,18 +80,6 @@ invariant_of-self-in-TxDel c =
 pub returns-in-TxDel-clause-sound : goal.returns-in-TxDel-clause-sound
 returns-in-TxDel-clause-sound c = (invariant_of-self-in-TxDel c).sound
 
-pub invariant_of-self-in-RxSa : goal.invariant_of-self-in-RxSa
-invariant_of-self-in-RxSa c =
-    let s = c.self-in-RxSa in
-    record {
-      sound = by_rx (the_view s.inside) (by.RxSa c.in-RxSa.sci c.in-RxSa.an c.in-RxSa.key c.in-RxSa.ssci c.in-RxSa.lowest) c.rx_sa.new.self _ c.rx_sa.result c.rx_sa.ensures.refusal c.rx_sa.ensures.done c.rx_sa.ensures.unchanged refl
-          c.rx_sa.ensures.channels s.invariant.sound;
-      room = s.invariant.room;
-    }
-
-pub returns-in-RxSa-clause-sound : goal.returns-in-RxSa-clause-sound
-returns-in-RxSa-clause-sound c = (invariant_of-self-in-RxSa c).sound
-
 pub invariant_of-self-in-RxOn : goal.invariant_of-self-in-RxOn
 invariant_of-self-in-RxOn c =
     let s = c.self-in-RxOn in
@@ -145,3 +133,9 @@ returns-in-TxOn-clause-sum c = command_adds c.args.self.now c.args.command.now
 
 pub returns-in-RxLow-clause-sum : goal.returns-in-RxLow-clause-sum
 returns-in-RxLow-clause-sum c = command_adds c.args.self.now c.args.command.now
+
+pub returns-in-Protect-clause-output : goal.returns-in-Protect-clause-output
+returns-in-Protect-clause-output c = search rules
+
+pub returns-in-Protect-clause-after : goal.returns-in-Protect-clause-after
+returns-in-Protect-clause-after c = search rules

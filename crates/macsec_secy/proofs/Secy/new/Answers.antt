@@ -17,3 +17,6 @@ invariant_of-result c =
 
 pub returns-clause-sound : goal.returns-clause-sound
 returns-clause-sound c = (invariant_of-result c).sound
+
+pub returns-clause-result : goal.returns-clause-result
+returns-clause-result c = search rules

@@ -81,3 +81,6 @@ returns-in-Tagged c =
         sound = sound_after (the_view s.inside) c.args.self.now c.args.frame.now s.view_is s.invariant.sound tables;
       },
     )
+
+pub returns-in-Bad : goal.returns-in-Bad
+returns-in-Bad c = search rules

@@ -20,3 +20,6 @@ invariant_of-self c =
 
 pub returns-clause-sound : goal.returns-clause-sound
 returns-clause-sound c = (invariant_of-self c).sound
+
+pub returns-clause-after : goal.returns-clause-after
+returns-clause-after c = search rules

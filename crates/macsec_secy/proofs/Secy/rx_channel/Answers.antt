@@ -1,0 +1,6 @@
+-- By search; these proofs are here for speed.
+use Rattle.std.proofs.Common.{rules}
+use Rattle.macsec_secy.proofs.Secy.rx_channel.Goals as goal
+
+pub returns-clause-sci : goal.returns-clause-sci
+returns-clause-sci c = search rules

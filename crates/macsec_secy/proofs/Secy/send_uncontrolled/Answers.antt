@@ -1,0 +1,6 @@
+-- By search; these proofs are here for speed.
+use Rattle.std.proofs.Common.{rules}
+use Rattle.macsec_secy.proofs.Secy.send_uncontrolled.Goals as goal
+
+pub returns-clause-output : goal.returns-clause-output
+returns-clause-output c = search rules

@@ -1,0 +1,9 @@
+-- By search; these proofs are here for speed.
+use Rattle.std.proofs.Common.{rules}
+use Rattle.macsec_secy.proofs.config.EndConfig.fault.Goals as goal
+
+pub returns-then-is_unfit-clause-fault : goal.returns-then-is_unfit-clause-fault
+returns-then-is_unfit-clause-fault c = search rules
+
+pub returns-clause-fault : goal.returns-clause-fault
+returns-clause-fault c = search rules
