@@ -1,9 +1,10 @@
-use Rattle.std.proofs.Common.{◌≡◌, ◌∙◌, ap, rules, subst}
-use Rattle.macsec_secy.specs.Step.{done, operator_command, step}
+use Rattle.std.proofs.Common.{◌≡◌, ◌∙◌, ap, rules, subst, sym}
+use Rattle.macsec_secy.specs.Step.{done, operator_command, refused, step}
 use Rattle.macsec_ends.specs.contracts.end.EndLogs.{the_view}
 use Rattle.macsec_ends.specs.Logs.{logs_after_command}
+use Rattle.macsec_ends.specs.Places.{live_places}
 use Rattle.macsec_ends.specs.Sound.{IsSoundEnd}
-use Rattle.macsec_ends.proofs.Commanded.{done_with}
+use Rattle.macsec_ends.proofs.Commanded.{done_with, refused_with}
 use Rattle.macsec_ends.proofs.Logged.{sound_after}
 use Rattle.macsec_ends.proofs.end.EndLogs.command.Goals as goal
 
@@ -17,3 +18,19 @@ returns-in-Ok-clause-sound c =
 
 pub invariant_of-self-in-Ok : goal.invariant_of-self-in-Ok
 invariant_of-self-in-Ok c = record { sound = returns-in-Ok-clause-sound c; live = c.follow_command.ensures.live }
+
+pub returns-in-Err-clause-happens : goal.returns-in-Err-clause-happens
+returns-in-Err-clause-happens c =
+    let after : c.command.new.self ≡ (step c.self.inside.secy (operator_command c.args.command.now)).1 = search rules in
+    let out : refused c.in-Err.refusal ≡ (step c.self.inside.secy (operator_command c.args.command.now)).0 = search rules in
+    refused_with (the_view c.self.inside) c.args.command.now c.command.new.self after c.args.self.now c.self.view_is c.in-Err.refusal out _ c.reserve_log.ensures.same
+
+pub returns-in-Err-clause-sound : goal.returns-in-Err-clause-sound
+returns-in-Err-clause-sound c =
+    sound_after c.args.self.now (operator_command c.args.command.now) (refused c.in-Err.refusal) _ (returns-in-Err-clause-happens c) (subst IsSoundEnd c.self.view_is c.self.invariant.sound) c.command.ensures.sound
+
+pub invariant_of-self-in-Err : goal.invariant_of-self-in-Err
+invariant_of-self-in-Err c = record {
+  sound = returns-in-Err-clause-sound c;
+  live = c.reserve_log.ensures.live ∙ c.self.invariant.live ∙ ap live_places (sym c.reserve_log.ensures.same);
+}

@@ -101,3 +101,8 @@ returns-in-Ok-Dropped-clause-happens c =
     let after : c.send.follows.lender-at-none ≡ (step c.self.inside.secy (client_frame c.args.frame.now)).1 = search rules in
     let kept = kept_same c.reserve_places.new.logs.items c.self.inside.sent.items c.reserve_places.ensures.same in
     drops (the_view c.self.inside) c.args.frame.now c.send.follows.lender-at-none after c.args.self.now c.self.view_is it.reason _ kept out
+
+pub returns-in-Ok-Dropped-clause-sound : goal.returns-in-Ok-Dropped-clause-sound
+returns-in-Ok-Dropped-clause-sound c =
+    let after : c.send.follows.lender-at-none ≡ (step c.self.inside.secy (client_frame c.args.frame.now)).1 = search rules in
+    sound_after c.args.self.now (client_frame c.args.frame.now) _ _ (returns-in-Ok-Dropped-clause-happens c) (subst IsSoundEnd c.self.view_is c.self.invariant.sound) (subst IsSound (sym after) c.in-Ok-Dropped.ensures.sound)
