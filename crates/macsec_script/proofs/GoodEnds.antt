@@ -17,7 +17,7 @@ use Rattle.macsec_lines.specs.Words.{words_of, lines_of}
 use Rattle.macsec_lines.specs.Fields.{map_ok, value_of_keyword, ends}
 use Rattle.macsec_lines.specs.Kinds.{and_then, if_fit, is_fit, line_of, of_words, read_at}
 use Rattle.macsec_lines.specs.Scripts.{NumberedLine, at_script_end, is_too_long, line_before, lines_from, next_place, place_after, result_at_line, script_of}
-use Rattle.macsec_script.specs.Printed.{begun, begun_by, a_config, b_config}
+use Rattle.macsec_script.specs.Printed.{two_ends, two_ends_of, a_config, b_config}
 
 abbrev AreFit : List NumberedLine → Type 0
 AreFit [] = Unit {0}
@@ -96,26 +96,26 @@ no_fault None None p q = refl
 no_fault (Some fault) b p q = cc
 no_fault None (Some fault) p q = cc
 
-begun_good : (first second : Line) (said : List NumberedLine) → is_fit first ≡ true → is_fit second ≡ true →
-    IfSome (begun_by (a_config first) (b_config second) said) (λ run. make_fault run.0 run.1 ≡ None)
-begun_good (line.End A a) (line.End B b) said p q = no_fault (config_fault a) (config_fault b) p q
-begun_good (line.End A a) (line.End A b) said p q = tt
-begun_good (line.End A a) (line.Event event) said p q = tt
-begun_good (line.End A a) (line.Counters e) said p q = tt
-begun_good (line.End A a) (line.Numbers e) said p q = tt
-begun_good (line.End B a) second said p q = tt
-begun_good (line.Event event) second said p q = tt
-begun_good (line.Counters e) second said p q = tt
-begun_good (line.Numbers e) second said p q = tt
+two_ends_good : (first second : Line) (said : List NumberedLine) → is_fit first ≡ true → is_fit second ≡ true →
+    IfSome (two_ends_of (a_config first) (b_config second) said) (λ run. make_fault run.0 run.1 ≡ None)
+two_ends_good (line.End A a) (line.End B b) said p q = no_fault (config_fault a) (config_fault b) p q
+two_ends_good (line.End A a) (line.End A b) said p q = tt
+two_ends_good (line.End A a) (line.Event event) said p q = tt
+two_ends_good (line.End A a) (line.Counters e) said p q = tt
+two_ends_good (line.End A a) (line.Numbers e) said p q = tt
+two_ends_good (line.End B a) second said p q = tt
+two_ends_good (line.Event event) second said p q = tt
+two_ends_good (line.Counters e) second said p q = tt
+two_ends_good (line.Numbers e) second said p q = tt
 
-ends_good : (lines : List NumberedLine) → AreFit lines → IfSome (begun lines) (λ run. make_fault run.0 run.1 ≡ None)
+ends_good : (lines : List NumberedLine) → AreFit lines → IfSome (two_ends lines) (λ run. make_fault run.0 run.1 ≡ None)
 ends_good [] fit = tt
 ends_good (first ∷ []) fit = tt
-ends_good (first ∷ second ∷ said) fit = begun_good first.1 second.1 said fit.0 fit.1.0
+ends_good (first ∷ second ∷ said) fit = two_ends_good first.1 second.1 said fit.0 fit.1.0
 
 -- no script without fault has a configuration of which no world can be made
 pub script_ends_good : (text : List ℕ) (lines given : List NumberedLine) → script_of text ≡ Ok lines → given ≡ lines →
-    IfSome (begun given) (λ run. make_fault run.0 run.1 ≡ None)
+    IfSome (two_ends given) (λ run. make_fault run.0 run.1 ≡ None)
 script_ends_good text lines given parsed same =
     let fit = unless_too_long (is_too_long text) (lines_from EndA 1 (lines_of text)) (lines_fit EndA 1 (lines_of text)) lines parsed in
-    subst (λ ls. IfSome (begun ls) (λ run. make_fault run.0 run.1 ≡ None)) (sym same) (ends_good lines fit)
+    subst (λ ls. IfSome (two_ends ls) (λ run. make_fault run.0 run.1 ≡ None)) (sym same) (ends_good lines fit)

@@ -47,27 +47,27 @@ b_config (line.End B config) = Some config
 b_config other = None
 
 -- the two ends, and the lines after theirs
-abbrev pub Begun : Type 0
-Begun = EndConfig × EndConfig × List NumberedLine
+abbrev pub TwoEnds : Type 0
+TwoEnds = EndConfig × EndConfig × List NumberedLine
 
-abbrev pub begun_by : Option EndConfig → Option EndConfig → List NumberedLine → Option Begun
-begun_by (Some a) (Some b) said = Some (a, b, said)
-begun_by (Some a) None said = None
-begun_by None other said = None
+abbrev pub two_ends_of : Option EndConfig → Option EndConfig → List NumberedLine → Option TwoEnds
+two_ends_of (Some a) (Some b) said = Some (a, b, said)
+two_ends_of (Some a) None said = None
+two_ends_of None other said = None
 
 -- the ends are those of the first two lines
-abbrev pub begun : List NumberedLine → Option Begun
-begun [] = None
-begun (first ∷ []) = None
-begun (first ∷ second ∷ said) = begun_by (a_config first.1) (b_config second.1) said
+abbrev pub two_ends : List NumberedLine → Option TwoEnds
+two_ends [] = None
+two_ends (first ∷ []) = None
+two_ends (first ∷ second ∷ said) = two_ends_of (a_config first.1) (b_config second.1) said
 
-abbrev pub text_of_run : Option Begun → List ℕ
+abbrev pub text_of_run : Option TwoEnds → List ℕ
 text_of_run None = []
 text_of_run (Some run) = text_from (new_world run.0 run.1) run.2
 
 -- what the lines of a script print
 abbrev pub text_of : List NumberedLine → List ℕ
-text_of lines = text_of_run (begun lines)
+text_of lines = text_of_run (two_ends lines)
 
 -- what a script without a fault prints, or its fault
 abbrev pub printed_text : List ℕ → Result (List ℕ) ScriptFault

@@ -4,7 +4,7 @@ ghost use Rattle.std.specs.Prelude.{◌≡◌, ◌≤◌, length, IfSome, IfErr,
 ghost use Rattle.macsec_link.specs.Answers.{make_fault};
 ghost use Rattle.macsec_lines.specs.declared.lines.Line.TheVariants as line;
 ghost use Rattle.macsec_lines.specs.Limits.{max_script_len};
-ghost use Rattle.macsec_script.specs.Printed.{a_config, b_config, begun, frame_made, line_step, text_from, text_of};
+ghost use Rattle.macsec_script.specs.Printed.{a_config, b_config, two_ends, frame_made, line_step, text_from, text_of};
 ghost use Rattle.macsec_script.specs.Runs.{RunGives, LeavesText, IsInputFault};
 ghost use Rattle.macsec_print.specs.Printing.{Prints};
 
@@ -60,7 +60,7 @@ fn print_script<W: Write>(
     writer: &mut W,
     lines: &[(u32, Line)],
 ) -> Result<(), ScriptFault>
-    requires { IfSome (begun lines.now) (λ run. make_fault run.0 run.1 ≡ None) }
+    requires { IfSome (two_ends lines.now) (λ run. make_fault run.0 run.1 ≡ None) }
     ensures { Prints (text_of lines.now) (W.contents writer.old) (W.contents writer.new) result }
 {
     let Some((a, b, said)) = two_ends(lines) else {
@@ -76,7 +76,7 @@ fn print_script<W: Write>(
 
 /// The configurations of the first two lines, and the lines after them.
 fn two_ends(lines: &[(u32, Line)]) -> Option<(EndConfig, EndConfig, &[(u32, Line)])>
-    ensures { begun lines.now ≡ option_map (λ run. (run.0, run.1, run.2.now)) result }
+    ensures { two_ends lines.now ≡ option_map (λ run. (run.0, run.1, run.2.now)) result }
 {
     let (first, more) = lines.split_first()?;
     let (second, said) = more.split_first()?;
