@@ -1,6 +1,6 @@
 -- For acceptance the key's bytes are needed, and for encrypted frames its confidentiality offset: with others at B another
 -- tag is valid, and that of A's frame is not. The first octets of both tags are computed, by AES and GHASH.
-use Rattle.std.proofs.Common.{◌≡◌, ◌≢◌, ℕ, Bool, true, false, List, [], ◌∷◌, ◌++◌, length, refl, ap, sym, ◌∙◌, arith}
+use Rattle.std.proofs.Common.{◌≡◌, ℕ, Bool, true, false, List, [], ◌∷◌, ◌++◌, length, refl, ap, sym, ◌∙◌, arith}
 use Rattle.std.specs.Prelude.{◌==◌, ◌&&◌, bit_xor, drop, replicate, slice_index, slice_range, take, if◌then◌else◌, Some, None}
 use Rattle.std.specs.Cmp.Lexicographic.{same_text}
 use Rattle.std.specs.Int.{w128, to_be_bytes}

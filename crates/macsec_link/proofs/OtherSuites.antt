@@ -1,7 +1,7 @@
 -- Why the law on order would hold without its premise on the suite: where one end's packet numbers are extended and the
 -- other's have 32 bits, an IV of both has one upper half of the extended packet number alone, since salt and SCI stay. So the
 -- packet numbers, of which the SecTAG has the lower halves, rise at both ends together.
-use Rattle.std.proofs.Common.{◌≡◌, ℕ, ◌+◌, ◌^◌, ◌<◌, List, [], ◌∷◌, ◌++◌, length, take, get_or, refl, ap, sym, ◌∙◌, arith}
+use Rattle.std.proofs.Common.{◌≡◌, ℕ, ◌^◌, ◌<◌, List, [], ◌∷◌, ◌++◌, length, take, get_or, ap, sym, ◌∙◌, arith}
 use Rattle.std.specs.Prelude.{◌/◌, ◌%◌}
 use Rattle.std.specs.Int.{w32, w64, to_be_bytes}
 use Rattle.std.proofs.lemmas.List.{get_or_append_left}
