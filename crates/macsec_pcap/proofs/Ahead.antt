@@ -9,11 +9,10 @@ use Rattle.macsec_pcap.specs.declared.reader.Course.{Course}
 use Rattle.macsec_pcap.specs.declared.reader.Course.TheVariants.{Going, Ended, Failed}
 use Rattle.macsec_pcap.specs.declared.records.Head.{Head}
 use Rattle.macsec_pcap.specs.Limits.{max_records}
-use Rattle.macsec_pcap.specs.Header.{header_of}
 use Rattle.macsec_pcap.specs.Records.{CaptureRecord}
-use Rattle.macsec_pcap.specs.Captures.{Capture, begun_by, file_in, file_of, followed_by, record_within, records_of}
+use Rattle.macsec_pcap.specs.Captures.{Capture, begun_by, file_in, followed_by, record_within, records_of}
 use Rattle.macsec_pcap.specs.Answers.{ReadsHeader, TakesRecord, UnlessRead, record_in}
-use Rattle.macsec_pcap.specs.Reading.{Ahead, holds, Answers, IsAfter, IsAhead, Opens, Reading, ahead_after, ahead_of, first_of, past_first, told}
+use Rattle.macsec_pcap.specs.Reading.{holds, Answers, IsAfter, IsAhead, Opens, Reading, ahead_after, ahead_of, first_of, past_first, told}
 
 -- what octets hold, by what begins at their first record's place
 records_of-begun : (order : Order) (places : ℕ) (octets : List ℕ) →
@@ -87,17 +86,17 @@ ahead_of_rest order (suc places) (Some octets) new room numbers first place take
 
 -- a reader at the first record
 pub opens : (old new : Option (List ℕ)) (form : Form) → IfSome old (λ file. ReadsHeader file new (Ok form)) →
-    IfSome old (λ file. Opens file (Ok (record { resolution = form.resolution; ahead = told form.order max_records new })))
+    IfSome old (λ file. Opens file (Ok (record { resolution = form.resolution; places = max_records; ahead = told form.order max_records new })))
 opens None new form read = tt
 opens (Some file) new form read = (
   record { resolution = form.resolution; capture = records_of form.order max_records (drop 24 file) },
   ap (λ header. file_in header file) read.0,
-  ap (λ octets. record { resolution = form.resolution; ahead = told form.order max_records octets }) read.1,
+  ap (λ octets. record { resolution = form.resolution; places = max_records; ahead = told form.order max_records octets }) read.1,
 )
 
 -- a reader of this form that has come so far
 abbrev pub standing : Form → Course → ℕ → Option (List ℕ) → Reading
-standing form course places octets = record { resolution = form.resolution; ahead = ahead_of course form.order places octets }
+standing form course places octets = record { resolution = form.resolution; places = places; ahead = ahead_of course form.order places octets }
 
 -- the call of `next` on a reader that was going
 abbrev pub Steps : Reading → Result (Option CaptureRecord) PcapFault → Reading → Type 0
@@ -115,7 +114,7 @@ pub steps_record : (now : Reading) (form : Form) (course : Course) (places : ℕ
 steps_record now form course places old new room numbers first is same place shown taken =
     subst (λ c. Steps now (Ok (Some first)) (standing form c (places - 1) new)) (sym is)
     (subst (λ r. Steps r (Ok (Some first)) (standing form Going (places - 1) new)) (going now form course places old is same) (
-      record { resolution = refl; ahead = ahead_of_rest form.order places old new room numbers first place taken },
+      record { resolution = refl; places = omega (arith, place); ahead = ahead_of_rest form.order places old new room numbers first place taken },
       answers_record form.order places old new room numbers first shown taken,
     ))
 
@@ -124,11 +123,11 @@ pub steps_end : (now : Reading) (form : Form) (course : Course) (places : ℕ) (
     IfSome old (λ octets. TakesRecord form.order places octets new room (Ok None)) → Steps now (Ok None) (standing form Ended places new)
 steps_end now form course places old new room is same taken =
     subst (λ r. Steps r (Ok None) (standing form Ended places new)) (going now form course places old is same)
-    (record { resolution = refl; ahead = refl }, answers_end form.order places old new room taken)
+    (record { resolution = refl; places = refl; ahead = refl }, answers_end form.order places old new room taken)
 
 pub steps_fault : (now : Reading) (form : Form) (course : Course) (places : ℕ) (old new : Option (List ℕ)) (room : List ℕ) (fault : PcapFault) →
     course ≡ Going → standing form course places old ≡ now →
     IfSome old (λ octets. TakesRecord form.order places octets new room (Err fault)) → Steps now (Err fault) (standing form (Failed fault) places new)
 steps_fault now form course places old new room fault is same taken =
     subst (λ r. Steps r (Err fault) (standing form (Failed fault) places new)) (going now form course places old is same)
-    (record { resolution = refl; ahead = refl }, answers_fault form.order places old new room fault taken)
+    (record { resolution = refl; places = refl; ahead = refl }, answers_fault form.order places old new room fault taken)

@@ -1,6 +1,6 @@
 -- A header is read from the first 24 octets.
-use Rattle.std.proofs.Common.{◌≡◌, ℕ, ◌+◌, ◌<◌, ◌≤◌, List, ◌++◌, length, take, drop, refl, sym, ap, subst, ◌∙◌, arith, length-append, take-append-drop}
-use Rattle.std.specs.Prelude.{Option, Some, None, IfSome, Result, Ok, Err, false, true, nat_lt}
+use Rattle.std.proofs.Common.{◌≡◌, ℕ, ◌≤◌, List, ◌++◌, length, take, drop, refl, sym, ap, ◌∙◌, arith, length-append, take-append-drop}
+use Rattle.std.specs.Prelude.{Option, Some, None, IfSome, Result, Ok, Err, false, nat_lt}
 use Rattle.std.proofs.lemmas.Bool.{le-ltb}
 use Rattle.macsec_pcap.specs.declared.fault.PcapFault.{PcapFault}
 use Rattle.macsec_pcap.specs.declared.fault.PcapFault.TheVariants.{Magic, Version, LinkType, CutHeader, CutRecord, RecordLength, Read, Write, Memory, RecordCount}
@@ -9,7 +9,7 @@ use Rattle.macsec_pcap.specs.declared.form.Order.TheVariants.{Big, Little}
 use Rattle.macsec_pcap.specs.Filled.{IsFilled}
 use Rattle.macsec_pcap.specs.Header.{form_of, header_in, header_of}
 use Rattle.macsec_pcap.specs.Answers.{ReadsHeader, UnlessRead}
-use Rattle.macsec_pcap.proofs.FilledRooms.{IsFullOf, filled_whole}
+use Rattle.macsec_pcap.proofs.FilledRooms.{filled_whole}
 use Rattle.macsec_pcap.proofs.NumbersAt.{number-append, number-drop-append}
 
 -- what is meant is returned

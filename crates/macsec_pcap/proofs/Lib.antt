@@ -4,3 +4,4 @@ pub mod Headers
 pub mod RecordsAt
 pub mod Ahead
 pub mod WrittenRecords
+pub mod ReadAgain

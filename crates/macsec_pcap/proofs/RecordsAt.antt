@@ -1,6 +1,6 @@
 -- A record is read from its own octets.
 use Rattle.std.proofs.Common.{◌≡◌, ℕ, zero, suc, ◌+◌, ◌<◌, ◌≤◌, List, ◌++◌, length, take, drop, refl, sym, ap, subst, ◌∙◌, arith, length-append, take-append-drop}
-use Rattle.std.specs.Prelude.{Option, Some, None, IfSome, Result, Ok, Err, Bool, false, true, nat_lt, ◌==◌, if◌then◌else◌}
+use Rattle.std.specs.Prelude.{Option, Some, None, IfSome, Result, Ok, Err, false, true, nat_lt, ◌==◌, if◌then◌else◌}
 use Rattle.std.proofs.lemmas.Bool.{le-ltb, lt-ltb}
 use Rattle.std.proofs.lemmas.Bool.Decides.{nat_tests}
 use Rattle.std.proofs.lemmas.List.{drop_at}
@@ -11,11 +11,10 @@ use Rattle.macsec_pcap.specs.declared.form.Order.{Order}
 use Rattle.macsec_pcap.specs.declared.records.Head.{Head}
 use Rattle.macsec_pcap.specs.Filled.{IsFilled}
 use Rattle.macsec_pcap.specs.Limits.{max_record_length}
-use Rattle.macsec_pcap.specs.Records.{CaptureRecord, captured_length, original_length, record_at, record_length, record_of}
+use Rattle.macsec_pcap.specs.Records.{CaptureRecord, captured_length, record_at}
 use Rattle.macsec_pcap.specs.Captures.{record_within}
 use Rattle.macsec_pcap.specs.Answers.{TakesCaptured, TakesRecord, UnlessRead, head_of, record_in}
-use Rattle.macsec_pcap.proofs.FilledRooms.{IsFullOf, filled_whole, filled_short}
-use Rattle.macsec_pcap.proofs.Headers.{UnlessRead-same}
+use Rattle.macsec_pcap.proofs.FilledRooms.{IsFullOf, filled_whole}
 use Rattle.macsec_pcap.proofs.NumbersAt.{number-append, number-drop-append}
 
 -- the numbers before the captured octets are those of the first 16 octets
@@ -39,7 +38,7 @@ by_tests n head behind after =
     else Ok (Some (record_in head behind, after))
 
 -- the same, if the numbers are there
-abbrev at_head : Head → List ℕ → List ℕ → Result (Option (CaptureRecord × List ℕ)) PcapFault
+abbrev pub at_head : Head → List ℕ → List ℕ → Result (Option (CaptureRecord × List ℕ)) PcapFault
 at_head head behind after =
     if nat_lt max_record_length head.captured then Err RecordLength
     else if nat_lt (length behind) head.captured then Err CutRecord
@@ -99,7 +98,7 @@ at_head-cut head behind after fits cut =
     let short : nat_lt (length behind) head.captured ≡ true = lt-ltb (length behind) head.captured cut in
     rw (test, short) refl
 
-at_head-whole : (head : Head) (behind after : List ℕ) → head.captured ≤ max_record_length → head.captured ≤ length behind →
+pub at_head-whole : (head : Head) (behind after : List ℕ) → head.captured ≤ max_record_length → head.captured ≤ length behind →
     at_head head behind after ≡ Ok (Some (record_in head behind, after))
 at_head-whole head behind after fits enough =
     let test : nat_lt max_record_length head.captured ≡ false = le-ltb max_record_length head.captured fits in

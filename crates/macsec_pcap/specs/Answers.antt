@@ -1,6 +1,5 @@
 -- What the calls of a reader return, and what it is after them.
 use Rattle.std.specs.Prelude.{ℕ, ◌≡◌, ◌≤◌, ◌<◌, List, length, take, drop, nat_lt, if◌then◌else◌, Option, Some, None, Result, Ok, Err}
-use Rattle.std.specs.Borrow.{Bor}
 use Rattle.macsec_pcap.specs.declared.fault.PcapFault.{PcapFault}
 use Rattle.macsec_pcap.specs.declared.fault.PcapFault.TheVariants.{CutRecord, RecordLength, Read}
 use Rattle.macsec_pcap.specs.declared.form.Form.{Form}

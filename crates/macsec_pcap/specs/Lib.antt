@@ -8,4 +8,5 @@ pub mod Filled
 pub mod Answers
 pub mod Reading
 pub mod Written
+pub mod Laws
 pub mod Writing

@@ -1,11 +1,12 @@
 -- A reader of a capture file: the unit of the file's times, and what lies ahead of it.
-use Rattle.std.specs.Prelude.{ℕ, ◌≡◌, List, [], ◌∷◌, drop, Option, Some, None, Result, Ok, Err}
+use Rattle.std.specs.Prelude.{ℕ, ◌+◌, ◌≡◌, List, [], ◌∷◌, drop, Option, Some, None, Result, Ok, Err}
 use Rattle.macsec_pcap.specs.declared.fault.PcapFault.{PcapFault}
 use Rattle.macsec_pcap.specs.declared.fault.PcapFault.TheVariants.{Memory}
 use Rattle.macsec_pcap.specs.declared.form.Order.{Order}
 use Rattle.macsec_pcap.specs.declared.form.Resolution.{Resolution}
 use Rattle.macsec_pcap.specs.declared.reader.Course.{Course}
 use Rattle.macsec_pcap.specs.declared.reader.Course.TheVariants.{Going, Ended, Failed}
+use Rattle.macsec_pcap.specs.Limits.{max_records}
 use Rattle.macsec_pcap.specs.Answers.{UnlessRead}
 use Rattle.macsec_pcap.specs.Records.{CaptureRecord}
 use Rattle.macsec_pcap.specs.Captures.{Capture, CaptureFile, records_of, file_of}
@@ -18,8 +19,10 @@ pub data Ahead : Type 0 where
   holds : Capture → Ahead
   untold : Ahead
 
+-- the places are those that are left for records
 pub record Reading : Type 0 where
   pub resolution : Resolution
+  pub places : ℕ
   pub ahead : Ahead
 
 -- what octets hold, if they are known
@@ -34,7 +37,7 @@ ahead_of (Failed fault) order places octets = failed fault
 
 -- a reader at the first record of a file
 abbrev pub opened : CaptureFile → Reading
-opened file = record { resolution = file.resolution; ahead = holds file.capture }
+opened file = record { resolution = file.resolution; places = max_records; ahead = holds file.capture }
 
 -- of `new`: a reader of the file, or the fault of its header, unless memory or a read was wanting first
 abbrev pub Opens : List ℕ → Result Reading PcapFault → Type 0
@@ -72,7 +75,13 @@ abbrev pub IsAhead : Ahead → Ahead → Type 0
 IsAhead untold ahead = Unit {0}
 IsAhead meant ahead = ahead ≡ meant
 
+-- a record takes a place
+abbrev pub Spends : Result (Option CaptureRecord) PcapFault → ℕ → ℕ → Type 0
+Spends (Ok (Some first)) old new = new + 1 ≡ old
+Spends answer old new = new ≡ old
+
 -- a reader before and after an answer of `next`
 pub record IsAfter (old : Reading) (answer : Result (Option CaptureRecord) PcapFault) (new : Reading) : Type 0 where
   pub resolution : new.resolution ≡ old.resolution
+  pub places : Spends answer old.places new.places
   pub ahead : IsAhead (ahead_after old.ahead answer) new.ahead

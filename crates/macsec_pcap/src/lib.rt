@@ -5,6 +5,7 @@ mod fault;
 mod filling;
 mod form;
 mod header;
+pub mod laws;
 mod reader;
 mod records;
 mod writer;

@@ -1,10 +1,11 @@
 //! The reader of capture files.
 
-ghost use Rattle.std.specs.Prelude.{◌≡◌, IfSome};
+ghost use Rattle.std.specs.Prelude.{◌≡◌, IfOk, IfSome};
 ghost use Rattle.std.specs.Borrow.{sem};
 ghost use Rattle.std.specs.Io.BufRead.{Rests};
 ghost use Rattle.macsec_pcap.specs.contracts.reader.PcapReader.{the_row};
 ghost use Rattle.macsec_pcap.specs.Answers.{answer_of};
+ghost use Rattle.macsec_pcap.specs.Limits.{max_records};
 ghost use Rattle.macsec_pcap.specs.Reading.{Answers, IsAfter, Opens};
 
 use crate::PcapFault;
@@ -44,7 +45,7 @@ impl<R: Read> Model for PcapReader<R> {
 
     ghost Value = { Reading };
 
-    ghost view = { λ r. record { resolution = r.form.resolution; ahead = ahead_of r.course r.form.order r.places (R.remaining r.source) } };
+    ghost view = { λ r. record { resolution = r.form.resolution; places = r.places; ahead = ahead_of r.course r.form.order r.places (R.remaining r.source) } };
 
     ghost invariant = { λ r. length r.room.items ≡ 262144 };
 }
@@ -53,7 +54,8 @@ impl<R: Read + Drop> PcapReader<R> {
     /// Reads the header of a file from its source, in either order of octets. Returns the first fault of the header,
     /// `Read` if a read fails first, or `Memory`.
     pub fn new(alloc: Global, mut source: R) -> Result<PcapReader<R>, PcapFault>
-        ensures { IfSome (R.remaining source) (λ file. Opens file result) }
+        ensures opened { IfSome (R.remaining source) (λ file. Opens file result) }
+        ensures places { IfOk result (λ reader. reader.places ≡ max_records) }
     {
         let form = read_header(&mut source)?;
         let Ok(room) = vec![in alloc; 0; MAX_RECORD_LEN] else {

@@ -1,0 +1,10 @@
+//! Laws of capture files, of their definitions alone: each is the contract of a function with an empty body.
+
+ghost use Rattle.std.specs.Prelude.{List};
+ghost use Rattle.macsec_pcap.specs.declared.form.Resolution.{Resolution};
+ghost use Rattle.macsec_pcap.specs.Laws.{ReadAgain, WholeRecord};
+
+/// A file that was written of records of at most 262,144 octets each is read as those records, in their order.
+pub fn read_again()
+    ensures { (unit : Resolution) (records : List WholeRecord) → ReadAgain unit records }
+{}
