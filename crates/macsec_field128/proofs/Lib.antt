@@ -1,2 +1,4 @@
 pub mod Iterations
 pub mod Sums
+pub mod Additive
+pub mod ProductLaws

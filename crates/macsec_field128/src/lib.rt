@@ -4,6 +4,7 @@
 ghost use Rattle.std.specs.Prelude.{◌≡◌, bit_xor};
 ghost use Rattle.macsec_field128.specs.Field.{block_product, times_x};
 
+pub mod laws;
 #[cfg(test)]
 mod tests;
 
