@@ -1,2 +1,3 @@
 pub mod Ghash
 pub mod Laws
+pub mod Powers
