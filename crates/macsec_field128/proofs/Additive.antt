@@ -108,15 +108,15 @@ times_x_adds = record {
   adds = λ a b.
       let half : bit_xor a b / 2 ≡ bit_xor (a / 2) (b / 2) = xor_shr a b 1 in
       let lowest : bit_xor a b % 2 ≡ (a % 2 + b % 2) % 2 =
-          sym (bit_at_lowest (bit_xor a b)) ∙ bit_at_xor a b 0 ∙ ap₂ (λ (x y : ℕ). (x + y) % 2) (bit_at_lowest a) (bit_at_lowest b) in
+      sym (bit_at_lowest (bit_xor a b)) ∙ bit_at_xor a b 0 ∙ ap₂ (λ (x y : ℕ). (x + y) % 2) (bit_at_lowest a) (bit_at_lowest b) in
       rw (half, lowest, sum_of_bits_times (a % 2) (b % 2) reduction (omega arith) (omega arith))
-      (xor_swap (a / 2) (b / 2) (a % 2 * reduction) (b % 2 * reduction))
+      (xor_swap (a / 2) (b / 2) (a % 2 * reduction) (b % 2 * reduction));
 }
 
 pub iterate_adds : (n : ℕ) → IsAdditive (iterate times_x n)
 iterate_adds zero = record { adds = λ a b. refl }
 iterate_adds (suc n) = record {
-  adds = λ a b. ap (iterate times_x n) (times_x_adds.adds a b) ∙ (iterate_adds n).adds (times_x a) (times_x b)
+  adds = λ a b. ap (iterate times_x n) (times_x_adds.adds a b) ∙ (iterate_adds n).adds (times_x a) (times_x b);
 }
 
 -- ---- functions that keep sums and agree at each block with one bit agree

@@ -1,5 +1,5 @@
 -- The product of blocks keeps sums in both places and associates.
-use Rattle.std.proofs.Common.{◌≡◌, ℕ, zero, suc, ◌+◌, ◌-◌, ◌*◌, ◌/◌, ◌%◌, ◌^◌, ◌<◌, ◌≢◌, List, map, bit_xor, refl, sym, ap, ap₂, ◌∙◌, arith, rules, get_or, inl, inr}
+use Rattle.std.proofs.Common.{◌≡◌, ℕ, zero, suc, ◌+◌, ◌-◌, ◌*◌, ◌/◌, ◌%◌, ◌^◌, ◌<◌, List, map, bit_xor, refl, sym, ap, ap₂, ◌∙◌, arith, rules, get_or, inl, inr}
 use Rattle.std.specs.Fn.{iterate}
 use Rattle.std.specs.Int.{bit_at}
 use Rattle.std.specs.List.{range_with_len}
