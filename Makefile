@@ -8,7 +8,7 @@ SOURCES := crates.txt $(shell find crates -name out -prune -o -type f \( -name '
 all: build/macsec
 
 run: build/macsec
-	@build/macsec run - < examples/tour.macsec
+	@build/macsec run - < crates/macsec_examples/data/tour.macsec
 
 check: toolchain
 	rt ci
