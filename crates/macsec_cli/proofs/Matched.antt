@@ -41,7 +41,7 @@ pub is_free : is_simple_and_free macsec_app ≡ true
 unfolding clap_on_literals
 is_free = refl
 
--- an error of clap's: want of memory, or a fault of the words
+-- an error of clap's: out of memory, or a fault of the words
 pub refused : (kind : ErrorKind) (kinds : Kinds) (script : Option Text) → (kind ≡ OutOfMemory) ⊎ IsAmong kind kinds →
     Names (without_fault kinds script) (Err (kind_failure kind))
 refused OutOfMemory kinds script why = refl

@@ -24,7 +24,7 @@ MakesEnd config (Ok e) = (config_fault config ≡ None) × (e ≡ new_end config
 MakesEnd config (Err new_fault.Memory) = config_fault config ≡ None
 MakesEnd config (Err fault) = config_fault config ≡ Some fault
 
--- of a client's frame, as the endpoint's output
+-- of a client frame, as the endpoint's output
 abbrev pub output_of_departure : Departure → Output
 output_of_departure (Link frame under) = leaves frame under
 output_of_departure (Dropped reason) = drop_output reason

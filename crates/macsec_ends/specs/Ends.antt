@@ -5,7 +5,7 @@ use Rattle.macsec_secy.specs.State.{State, start}
 use Rattle.macsec_secy.specs.Step.{Input, Output}
 use Rattle.macsec_ends.specs.Logs.{SentLogs, DeliveryLog, no_sent_logs, sent_after, delivered_after}
 
--- an endpoint; what its clients sent; and what was delivered, by the accepted commands that make a receive
+-- an endpoint; what its clients sent; and what was delivered, by the accepted commands that create a receive
 -- association, in their order
 pub record EndState : Type 0 where
   pub state : State

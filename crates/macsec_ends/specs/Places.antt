@@ -1,5 +1,5 @@
 -- Logs of deliveries as they are kept: the places that they have for more frames, and the table of those whose
--- association is there. Of these the private calls of an end speak.
+-- association exists. Of these the private calls of an end speak.
 use Rattle.std.specs.Prelude.{◌≡◌, ◌≤◌, ℕ, zero, suc, Bool, List, [], ◌∷◌, map, option_map, slice_get, unwrap_or, false, if◌then◌else◌, IfSome}
 use Rattle.macsec_ends.specs.Logs.{DeliveryLog}
 use Rattle.macsec_ends.specs.Sound.{IsSoundEnd}
@@ -24,7 +24,7 @@ HasPlaceAt logs place = IfSome (slice_get logs place) (λ k. 1 ≤ k.spare)
 abbrev pub passes_at : (DeliveryLog → Bool) → List DeliveryLog → ℕ → Bool
 passes_at test logs place = unwrap_or (option_map test (slice_get logs place)) false
 
--- the places of the logs whose association is there, in rising order
+-- the places of the logs whose association exists, in rising order
 abbrev pub live_places : List DeliveryLog → List ℕ
 live_places [] = []
 live_places (log ∷ logs) = if log.live then zero ∷ map suc (live_places logs) else map suc (live_places logs)

@@ -5,7 +5,7 @@ use Rattle.macsec_secy.specs.Sound as endpoint
 use Rattle.macsec_ends.specs.Logs.{AreLogged}
 use Rattle.macsec_ends.specs.Ends.{EndState}
 
--- the endpoint is sound, there is a log for each key's number, and each receive association that is there has its log
+-- the endpoint is sound, there is a log for each key's number, and each receive association has its log
 pub record IsSoundEnd (e : EndState) : Type 0 where
   pub endpoint : endpoint.IsSound e.state
   pub sent : length e.sent ≡ max_key_count

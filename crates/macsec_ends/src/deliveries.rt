@@ -97,7 +97,7 @@ impl Deliveries {
     }
 }
 
-/// Makes a place for one more frame in each log of an association that is there.
+/// Makes a place for one more frame in each live log.
 pub(crate) fn reserve_live(logs: &mut Vec<Deliveries>, live: &[usize]) -> Result<(), AllocError>
     requires live { live.now ≡ live_places (logs_of logs.old.items) }
     ensures same { logs_of logs.new.items ≡ logs_of logs.old.items }
@@ -180,7 +180,7 @@ fn close_in(logs: &mut Vec<Deliveries>, live: &[usize], sci: Sci)
     }
 }
 
-/// Is the association of the log at this place there?
+/// Is the log at this place live?
 fn is_live(logs: &[Deliveries], place: usize) -> bool
     ensures { result ≡ passes_at (λ log. log.live) (logs_of logs.now) place }
 {
@@ -190,14 +190,14 @@ fn is_live(logs: &[Deliveries], place: usize) -> bool
     }
 }
 
-/// Leaves out the places of logs whose associations are no longer there.
+/// Leaves out the places of logs that are no longer live.
 fn leave_live(live: &mut Vec<usize>, logs: &[Deliveries])
     ensures { live.new.items ≡ filter (passes_at (λ log. log.live) (logs_of logs.now)) live.old.items }
 {
     live.retain(|place| is_live(logs, *place));
 }
 
-/// Makes a place for the log of the receive association that a command makes, where it makes one.
+/// Makes a place for the log of the receive association that a command creates, if it creates one.
 pub(crate) fn reserve_log(
     logs: &mut Vec<Deliveries>,
     live: &mut Vec<usize>,
@@ -219,7 +219,7 @@ pub(crate) fn reserve_log(
 }
 
 /// The logs after a command that was done: that of a new association, which has a place, and without those of
-/// removed ones.
+/// deleted ones.
 pub(crate) fn follow_command(
     logs: &mut Vec<Deliveries>,
     live: &mut Vec<usize>,

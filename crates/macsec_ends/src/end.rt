@@ -28,7 +28,7 @@ const KEY_COUNT: usize = 256;
 const MOST_ADDED: usize = 32;
 
 /// An endpoint; the frames sent under each key, by its number; the frames delivered from each receive
-/// association, in the order of their making; and the places of those whose association is there.
+/// association, in the order of their creation; and the places of the live ones.
 #[derive(Drop)]
 pub struct EndLogs {
     secy: Secy,
@@ -37,7 +37,7 @@ pub struct EndLogs {
     live: Vec<usize>,
 }
 
-/// What becomes of a client's frame.
+/// What becomes of a client frame.
 #[derive(Drop)]
 pub enum Departure {
     /// This frame leaves, under the key of this number, or as it is.
@@ -110,7 +110,7 @@ impl EndLogs {
         }
     }
 
-    /// Sends a frame of the controlled port's client. A place for all that it makes is reserved first: an end that
+    /// Sends a client frame of the controlled port. A place for all that it adds is reserved first: an end that
     /// is out of memory stays as it is.
     pub fn send(&mut self, alloc: Global, frame: &[u8]) -> Result<Departure, AllocError>
         requires fits { frame_fault frame.now ≡ None }
@@ -211,15 +211,15 @@ impl EndLogs {
         &self.secy
     }
 
-    /// The client's frames that were protected under the key of this number, in their order.
+    /// The client frames that were protected under the key of this number, in their order.
     pub fn sent(&self, key: u8) -> &[Vec<u8>]
         ensures { frames_kept result.now ≡ sent_under self.now.sent key }
     {
         self.sent[key as usize].as_slice()
     }
 
-    /// The frames delivered from the receive association that the accepted command of this number made, from
-    /// 0, in their order.
+    /// The frames delivered from the receive association of this number, from 0 in the order of creation, in
+    /// their order.
     pub fn delivered(&self, number: usize) -> Option<&[Vec<u8>]>
         ensures { option_map (λ (fs : Bor (List (Vec ℕ))). frames_kept fs.now) result ≡ option_map (λ (log : DeliveryLog). log.frames) (slice_get self.now.delivered number) }
     {

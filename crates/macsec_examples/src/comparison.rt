@@ -5,7 +5,7 @@ ghost use Rattle.std.specs.List.{common_prefix_len};
 
 const LINE_FEED: u8 = b'\n';
 
-/// The number of the first line, from 1, in which a text is not the one that is wanted; `None` if they are the same.
+/// The number of the first line, from 1, in which a text is not the expected one; `None` if they are the same.
 pub fn differing_line(text: &[u8], wanted: &[u8]) -> Option<usize>
     ensures same { IsNone result ↔ (text.now ≡ wanted.now) }
     ensures first { IfSome result (λ line. line ≡ 1 + count_by (λ octet. octet == LINE_FEED) (take (common_prefix_len nat_eq text.now wanted.now) text.now)) }

@@ -7,7 +7,8 @@ ghost use Rattle.macsec_lines.specs.Faults.{fault_line, fault_name, fault_status
 use std::io::{self, Write};
 use thiserror::Error;
 
-/// Why a script is not run to its end. The first six have the number of their line, from 1.
+/// Why a script is not run to its end, or a configuration not read. The first six have the number of their line, from 1;
+/// `Ends` has 0 for a configuration of which all lines are skipped.
 #[derive(Clone, Copy, Debug, Error)]
 pub enum ScriptFault {
     /// A line's keyword is unknown, or a word of it is none of those that can stand there.
@@ -70,7 +71,7 @@ impl ScriptFault {
         }
     }
 
-    /// The number of the line at fault, from 1, if the fault is a line's.
+    /// The number of the line at fault, if the fault is a line's: from 1, or 0 for a configuration of skipped lines alone.
     pub fn line(self) -> Option<u32>
         ensures { result ≡ fault_line self }
     {

@@ -1,5 +1,5 @@
-//! Tests of two ends over a link: what no clause of `macsec_link` says, that worlds, steps and runs do not
-//! want memory where there is some, and that the written runs are those of worked cases.
+//! Tests of two ends over a link: what no clause of `macsec_link` says, that worlds, steps and runs don't return
+//! `Memory` if there is memory, and that the written runs are those of worked cases.
 #![tactic(auto)]
 
 #[cfg(test)]

@@ -39,7 +39,7 @@ ahead_of (Failed fault) order places octets = failed fault
 abbrev pub opened : CaptureFile → Reading
 opened file = record { resolution = file.resolution; places = max_records; ahead = holds file.capture }
 
--- of `new`: a reader of the file, or the fault of its header, unless memory or a read was wanting first
+-- of `new`: a reader of the file, or the fault of its header, unless it is out of memory or a read failed first
 abbrev pub Opens : List ℕ → Result Reading PcapFault → Type 0
 Opens file (Ok reading) = (whole : CaptureFile) × (file_of file ≡ Ok whole) × (reading ≡ opened whole)
 Opens file (Err Memory) = Unit {0}

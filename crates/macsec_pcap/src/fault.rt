@@ -5,7 +5,7 @@ ghost use Rattle.macsec_pcap.specs.FaultNumbers.{name_of_fault, number_of_fault}
 
 use thiserror::Error;
 
-/// Why a capture file is not read or written. Reader and writer return it for good from then on.
+/// Why a capture file is not read or written. A reader or writer that has returned one returns it at each later call.
 #[derive(Clone, Copy, PartialEq, Eq, Debug, Error)]
 pub enum PcapFault {
     /// The file begins with none of the format's magic numbers, in either order of octets.
@@ -48,7 +48,7 @@ impl PcapFault {
         self as u8
     }
 
-    /// The name of the fault, as the program prints it.
+    /// The name of the fault.
     pub fn name(self) -> &'static str
         ensures { result.now ≡ name_of_fault self }
     {

@@ -8,7 +8,7 @@ use Rattle.macsec_lines.specs.declared.faults.ScriptFault.TheVariants.{Memory, W
 abbrev pub Begins : List ℕ → List ℕ → Type 0
 Begins text whole = (rest : List ℕ) × (whole ≡ text ++ rest)
 
--- printing appends the whole text, or a part from its front where there is no memory for the rest
+-- printing appends the whole text, or a part from its front if it runs out of memory
 abbrev pub Prints : List ℕ → Option (List ℕ) → Option (List ℕ) → Result (Unit {0}) ScriptFault → Type 0
 Prints whole old new (Ok done) = Appends old new whole
 Prints whole old new (Err Memory) = (text : List ℕ) × Begins text whole × Appends old new text

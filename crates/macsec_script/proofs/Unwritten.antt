@@ -68,7 +68,7 @@ left_alone text Memory = tt
 left_alone text Write = tt
 left_alone text other = Keeps-refl text
 
--- printing fails by want of memory or by a write
+-- printing fails if it is out of memory or a write fails
 pub only_written : (whole : List ℕ) (old new : Option (List ℕ)) (answer : Result (Unit {0}) ScriptFault) →
     Prints whole old new answer → IfErr answer (λ f. LeavesText old new f)
 only_written whole old new (Ok done) h = tt

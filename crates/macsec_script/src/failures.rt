@@ -50,7 +50,7 @@ impl Failure<'_> {
     }
 }
 
-/// Why the arguments of a program can't be had: it is out of memory, or one of them is no text.
+/// Why the arguments of a program can't be read: it is out of memory, or one of them is not UTF-8.
 pub fn failure_of_words<'a>(error: &io::Error) -> Failure<'a>
     ensures memory { error_kind error.now ≡ OutOfMemory → result ≡ Script Memory }
     ensures usage { error_kind error.now ≢ OutOfMemory → result ≡ Usage }

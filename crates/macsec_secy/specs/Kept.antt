@@ -67,6 +67,6 @@ pub record IsAbove (rows : List RxRow) (sci : Sci) (an n : ℕ) : Type 0 where
   pub there : rx_row rows sci an ≡ Some row
   pub above : n ≤ row.next
 
--- an association stays until it is deleted, and its next packet number does not fall
+-- until it is deleted there is an association of its channel and number, whose next packet number is no lower
 abbrev pub RxRowStays : State → Input → Sci → ℕ → ℕ → Type 0
 RxRowStays s input sci an n = is_deleting sci an input ≡ false → IsAbove s.rx.rows sci an n → IsAbove (step s input).1.rx.rows sci an n

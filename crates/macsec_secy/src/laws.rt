@@ -1,4 +1,4 @@
-//! Laws of the machine, of the definitions alone: each is the contract of a function with an empty body.
+//! Laws of the machine, of the definitions alone: each is the contract of a function that does nothing.
 
 ghost use Rattle.std.specs.Prelude.{ℕ, List};
 ghost use Rattle.macsec_tag.specs.declared.identifiers.Sci.{Sci};
@@ -56,8 +56,8 @@ pub fn lengths_of_protected_frames()
 /// A protected frame that one endpoint sends is passed by another endpoint, and gives the client frame; also with
 /// octets after it if its SL is not 0. The premises: the other endpoint validates frames; it has an association for the
 /// frame, enabled, whose key matches the sender's; and the packet number is not late, nor, if it is extended, too high
-/// to be recovered. Step 13 of reception decides, with the sender's packet number, and opens the use of the cipher that was
-/// sealed.
+/// to be recovered. The frame is read as its parts, with what is behind as padding; step 13 of reception decides, with the
+/// sender's packet number, and opens the use of the cipher that was sealed.
 pub fn accepts_sent()
     ensures { (sender receiver : State) (client : List ℕ) (tx : TxRow) (rx : RxRow) (behind : List ℕ) → AcceptsSent sender receiver client tx rx behind }
 {
@@ -77,7 +77,8 @@ pub fn keys_stay()
 {}
 
 /// In every state of which `IsSound` holds, a receive association is the one of its channel and its number. Whatever comes
-/// in, an association stays, and its next packet number does not fall, until a command deletes it or its channel.
+/// in, there is still an association of that channel and number, and its next packet number is no lower, until a command
+/// deletes it or its channel.
 pub fn rx_rows_stay()
     ensures apart { (s : State) → IsSound s → RxRowsAreApart s.rx.rows }
     ensures stay { (s : State) (input : Input) (sci : Sci) (an n : ℕ) → RxRowStays s input sci an n }

@@ -1,4 +1,4 @@
-//! A law of frames that are sent protected, of the definitions alone: the contract of a function with an empty body.
+//! A law of frames that are sent protected, of the definitions alone: the contract of a function that does nothing.
 
 ghost use Rattle.std.specs.Prelude.{ℕ, List};
 ghost use Rattle.macsec_suite.specs.KeyRows.{InstalledKey};

@@ -33,7 +33,7 @@ fn failures_told(rt: HostRuntime) {
     assert_eq!(rt; status, 0);
 }
 
-/// Want of memory is not told as a fault of the words.
+/// Out of memory is not returned as invalid arguments.
 #[test]
 fn words_that_cannot_be_had(rt: HostRuntime) {
     for (kind, told, status) in [
