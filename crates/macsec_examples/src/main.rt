@@ -10,7 +10,7 @@ use std::fs;
 use std::process::ExitCode;
 
 /// The names of the scripts.
-const EXAMPLES: [&str; 16] = [
+const EXAMPLES: [&str; 28] = [
     "tour",
     "first-frame",
     "talk-gcm128",
@@ -27,6 +27,18 @@ const EXAMPLES: [&str; 16] = [
     "reflection",
     "refusals",
     "link-faults",
+    "offsets",
+    "drops",
+    "keys",
+    "tag-forms",
+    "channels",
+    "receive-commands",
+    "no-association",
+    "validation",
+    "replay-protection",
+    "bad-tags",
+    "tci-and-an",
+    "extended-limits",
 ];
 
 fn main(rt: HostRuntime) -> anyhow::Result<ExitCode> {

@@ -2,12 +2,4 @@
 #![tactic(auto)]
 
 #[cfg(test)]
-mod channels;
-#[cfg(test)]
-mod extended;
-#[cfg(test)]
-mod fixture;
-#[cfg(test)]
-mod receiving;
-#[cfg(test)]
-mod sending;
+mod tests;
