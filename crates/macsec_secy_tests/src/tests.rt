@@ -1,9 +1,9 @@
-//! What no clause says, and what no script shows: which configurations have a fault, the faults of frames at the calls of
-//! an endpoint, under which key a frame is sent, of which association a frame is, and what an endpoint shows of itself.
+//! What no clause says, and no script can show: the faults of configurations and of frames, the options, the key
+//! under which a frame is sent, and the association that a received frame is for.
 
 use macsec_secy::{
-    An, Command, DropReason, EndConfig, FrameFault, Key, Mode, NewFault, NewKey, Options,
-    RxCounters, RxRow, Sci, Secy, Sent, Suite, TagForm, TxCounters, TxRow, Verdict,
+    An, Command, DropReason, EndConfig, FrameFault, Key, Mode, NewFault, NewKey, Options, Sci,
+    Secy, Sent, Suite, TagForm, Verdict,
 };
 use macsec_vectors::{CLIENT_54, CLIENT_60, KEY_128, LINK_54, LINK_60, SCI};
 use std::alloc::Global;
@@ -17,8 +17,8 @@ const SENDER: EndConfig = EndConfig {
     form: TagForm::Sci,
 };
 
-/// The key of the test frames, at the sender. With this salt, its SSCI and `EXTENDED_NUMBER` the IV is that of the test
-/// frames.
+/// The key of the test frames, at the sender. With its salt, its SSCI and `EXTENDED_NUMBER` the IV is that of the
+/// test frames.
 const SENDERS_KEY: NewKey = NewKey {
     number: 5,
     bytes: Key::K128(KEY_128),
@@ -29,7 +29,7 @@ const SENDERS_KEY: NewKey = NewKey {
 
 const EXTENDED_NUMBER: u64 = 0x1_b2c2_8465;
 
-/// The associations that received frames are for.
+/// The associations 2 and 3 of the sender's channel.
 const OF_2: Option<(Sci, u8)> = Some((Sci(SCI), 2));
 
 const OF_3: Option<(Sci, u8)> = Some((Sci(SCI), 3));
@@ -59,7 +59,7 @@ fn endpoint(rt: &impl Abort, alloc: Global, config: EndConfig, commands: &[Comma
 
 /// Gives the endpoint a command that it does not refuse.
 fn carry_out(rt: &impl Abort, secy: &mut Secy, command: &Command) {
-    assert_eq!(rt; secy.command(command), Ok(()));
+    assert!(rt; secy.command(command).is_ok());
 }
 
 /// What becomes of a client frame, in short.
@@ -69,21 +69,6 @@ fn answer_to(secy: &mut Secy, client: &[u8]) -> Answer {
         Ok(Sent::Dropped(reason)) => Answer::Dropped(reason),
         Err(fault) => Answer::Fault(fault),
     }
-}
-
-/// The commands by which the sender sends the test frames, from this packet number on.
-fn sending(an: An, next: u64, conf: bool) -> [Command; 3] {
-    let key = SENDERS_KEY.number;
-    [
-        Command::Key(SENDERS_KEY),
-        Command::TxSa {
-            an,
-            key,
-            next,
-            conf,
-        },
-        Command::TxOn(an),
-    ]
 }
 
 #[test]
@@ -109,8 +94,12 @@ fn configurations(rt: HostRuntime) {
             form,
             ..SENDER
         };
-        assert_eq!(rt; config.fault(), wanted, "{config:?}");
-        assert_eq!(rt; Secy::new(rt.alloc(), config).err(), wanted, "{config:?}");
+        assert!(rt;
+            config.fault() == wanted,
+            "{max_frame} octets, port {port:x}"
+        );
+        let fault = Secy::new(rt.alloc(), config).err();
+        assert!(rt; fault == wanted, "{max_frame} octets, port {port:x}");
     }
 }
 
@@ -118,12 +107,12 @@ fn configurations(rt: HostRuntime) {
 fn assert_uncontrolled(rt: &impl Abort, secy: &mut Secy, frame: &[u8], fault: Option<FrameFault>) {
     match secy.send_uncontrolled(frame) {
         Ok(sent) => {
-            assert_eq!(rt; sent, frame);
-            assert_eq!(rt; fault, None);
+            assert!(rt; sent == frame);
+            assert!(rt; fault.is_none());
         }
-        Err(found) => assert_eq!(rt; Some(found), fault),
+        Err(found) => assert!(rt; fault == Some(found)),
     }
-    assert_eq!(rt; secy.receive(frame).err(), fault);
+    assert!(rt; secy.receive(frame).err() == fault);
 }
 
 #[test]
@@ -132,7 +121,18 @@ fn lengths_of_frames(rt: HostRuntime) {
         max_frame: 9248,
         ..SENDER
     };
-    let mut secy = endpoint(&rt, rt.alloc(), config, &sending(an(&rt, 0), 1, true));
+    let an = an(&rt, 0);
+    let commands = [
+        Command::Key(SENDERS_KEY),
+        Command::TxSa {
+            an,
+            key: 5,
+            next: 1,
+            conf: true,
+        },
+        Command::TxOn(an),
+    ];
+    let mut secy = endpoint(&rt, rt.alloc(), config, &commands);
     let octets = [0; 9249];
     for (protect, length, wanted) in [
         (true, 13, Answer::Fault(FrameFault::Short)),
@@ -155,13 +155,11 @@ fn lengths_of_frames(rt: HostRuntime) {
         };
         assert_uncontrolled(&rt, &mut secy, client, fault);
     }
+    assert!(rt; secy.tx_counters().out_octets_encrypted == 2 + 9204);
 }
 
 #[test]
-fn what_an_endpoint_shows(rt: HostRuntime) {
-    let (two, three) = (an(&rt, 2), an(&rt, 3));
-    let number = EXTENDED_NUMBER & 0xffff_ffff;
-    let mut secy = endpoint(&rt, rt.alloc(), SENDER, &sending(two, number, false));
+fn options(rt: HostRuntime) {
     let first = Options {
         protect: true,
         mode: Mode::Strict,
@@ -169,46 +167,28 @@ fn what_an_endpoint_shows(rt: HostRuntime) {
         window: 0,
         form: TagForm::Sci,
     };
-    assert_eq!(rt; secy.options(), first);
-    assert_sent(&rt, &mut secy, &CLIENT_54, &LINK_54);
-    let sent = TxCounters {
-        out_pkts_protected: 1,
-        out_pkts_encrypted: 0,
-        out_octets_protected: 42,
-        out_octets_encrypted: 0,
+    assert!(rt; endpoint(&rt, rt.alloc(), SENDER, &[]).options() == first);
+    let last = Options {
+        protect: false,
+        mode: Mode::Check,
+        replay: false,
+        window: 0xffff_ffff,
+        form: TagForm::Auto,
     };
-    assert_eq!(rt; secy.tx_counters(), sent);
-    let row = TxRow {
-        an: two,
-        key: 5,
-        next: 0xb2c2_8466,
-        conf: false,
-        on: true,
-    };
-    assert_eq!(rt; (secy.tx_row(two), secy.tx_row(three)), (Some(row), None));
+    let commands = [
+        Command::Protect(last.protect),
+        Command::Validate(last.mode),
+        Command::Replay {
+            protect: last.replay,
+            window: last.window,
+        },
+        Command::Tag(last.form),
+    ];
+    assert!(rt; endpoint(&rt, rt.alloc(), SENDER, &commands).options() == last);
 }
 
-/// Gives the endpoint a client frame, for which this frame is sent under key 5.
-fn assert_sent(rt: &impl Abort, secy: &mut Secy, client: &[u8], link: &[u8]) {
-    match secy.send(client) {
-        Ok(Sent::Link { frame, under }) => assert_eq!(rt; (frame, under), (link, Some(5))),
-        _ => panic!(rt; "nothing is sent"),
-    }
-}
-
-/// An association of the receiver for the sender.
-fn rx_sa(an: An, lowest: u64) -> Command {
-    Command::RxSa {
-        sci: SENDER.sci,
-        an,
-        key: SENDERS_KEY.number,
-        ssci: SENDERS_KEY.ssci,
-        lowest,
-    }
-}
-
-/// The receiver of the test frames: its association 2 is for them, and its association 3 begins with the last packet
-/// number.
+/// The receiver of the test frames: its association 2 is for them, and its association 3 begins with the last
+/// packet number.
 fn receiver(rt: &impl Abort, alloc: Global) -> Secy {
     let config = EndConfig {
         suite: Suite::Xpn128,
@@ -224,9 +204,21 @@ fn receiver(rt: &impl Abort, alloc: Global) -> Secy {
     let commands = [
         Command::Key(key),
         Command::RxSc(sci),
-        rx_sa(two, EXTENDED_NUMBER),
+        Command::RxSa {
+            sci,
+            an: two,
+            key: 5,
+            ssci: 1,
+            lowest: EXTENDED_NUMBER,
+        },
         Command::RxOn(sci, two),
-        rx_sa(three, u64::MAX),
+        Command::RxSa {
+            sci,
+            an: three,
+            key: 5,
+            ssci: 1,
+            lowest: u64::MAX,
+        },
         Command::RxOn(sci, three),
     ];
     endpoint(rt, alloc, config, &commands)
@@ -241,8 +233,7 @@ fn altered<const N: usize>(frame: [u8; N], place: usize, octet: u8) -> [u8; N] {
     altered
 }
 
-/// Gives the endpoint a link frame: this is the verdict, the number of the association that it is for, and what is
-/// delivered.
+/// Gives the endpoint a link frame: this is the verdict, the association that it is for, and what is delivered.
 fn assert_received(
     rt: &impl Abort,
     secy: &mut Secy,
@@ -252,10 +243,10 @@ fn assert_received(
     let (verdict, row, delivered) = wanted;
     match secy.receive(link) {
         Ok(received) => {
-            assert_eq!(rt; received.verdict, verdict);
-            assert_eq!(rt; received.row, row, "{verdict:?}");
-            assert_eq!(rt; received.controlled, delivered, "{verdict:?}");
-            assert_eq!(rt; received.uncontrolled, link, "{verdict:?}");
+            assert!(rt; received.verdict == verdict, "{verdict:?}");
+            assert!(rt; received.row == row, "{verdict:?}");
+            assert!(rt; received.controlled == delivered, "{verdict:?}");
+            assert!(rt; received.uncontrolled == link, "{verdict:?}");
         }
         Err(_) => panic!(rt; "the frame is at fault"),
     }
@@ -323,40 +314,4 @@ fn associations_of_frames(rt: HostRuntime) {
         carry_out(&rt, &mut secy, &command);
         assert_received(&rt, &mut secy, link, wanted);
     }
-}
-
-#[test]
-fn what_a_receiver_shows(rt: HostRuntime) {
-    let (one, two) = (an(&rt, 1), an(&rt, 2));
-    let sci = SENDER.sci;
-    let mut secy = receiver(&rt, rt.alloc());
-    assert_received(
-        &rt,
-        &mut secy,
-        &LINK_54,
-        (Verdict::Passed, OF_2, Some(&CLIENT_54)),
-    );
-    let row = RxRow {
-        sci,
-        an: two,
-        key: 5,
-        ssci: 1,
-        next: 0x1_b2c2_8466,
-        lowest: 0x1_b2c2_8466,
-        on: true,
-    };
-    assert_eq!(rt;
-        (secy.rx_row(sci, two), secy.rx_row(sci, one)),
-        (Some(row), None)
-    );
-    assert_eq!(rt; (secy.rx_channel(0), secy.rx_channel(1)), (Some(sci), None));
-    let heard = RxCounters {
-        in_pkts_ok: 1,
-        ..Default::default()
-    };
-    assert_eq!(rt;
-        (secy.rx_counters(sci), secy.rx_counters(Sci([0; 8]))),
-        (Some(heard), None)
-    );
-    assert_eq!(rt; secy.counters().in_octets_validated, 42);
 }
