@@ -7,6 +7,10 @@ use Rattle.macsec_field128.specs.Field.{block_product}
 abbrev pub hash_next : ℕ → ℕ → ℕ → ℕ
 hash_next h y x = block_product (bit_xor y x) h
 
+-- the hash y of some blocks, with some blocks more (6.4, step 3)
+abbrev pub hash_after : ℕ → ℕ → List ℕ → ℕ
+hash_after h y xs = fold (hash_next h) y xs
+
 -- the hash of blocks under h: from 0 on, each block is added and the sum multiplied by h (6.4)
 unfoldable pub ghash : ℕ → List ℕ → ℕ
 ghash h blocks = fold (hash_next h) 0 blocks

@@ -1,3 +1,4 @@
 pub mod Ghash
+pub mod Lanes
 pub mod Laws
 pub mod Powers

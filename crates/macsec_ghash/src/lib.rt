@@ -6,9 +6,13 @@ ghost use Rattle.macsec_ghash.specs.Ghash.{block_of, ghash, pad};
 
 use macsec_field128::{Block, add, mul};
 
+mod lane_hash;
+mod lanes;
 pub mod laws;
 #[cfg(test)]
 mod tests;
+
+pub use lane_hash::LaneHash;
 
 /// A hash of blocks under a key.
 pub trait Hash128 {
