@@ -10,7 +10,8 @@ use macsec_field128::laws::{product_adds, product_associates, product_is_block};
 use macsec_field128::{Block, mul};
 use std::simd::u64x8;
 
-/// The hash by eight powers of the key: eight blocks cost one sum of eight products.
+/// The hash by eight powers of the key: eight blocks cost one sum of eight products. To start one costs seven products, so
+/// a started hash is kept, and copied for each text under its key.
 #[derive(Clone, Copy)]
 pub struct LaneHash {
     /// The left halves of the powers, from the eighth down to the key itself.

@@ -1,10 +1,14 @@
 -- Each chunk adds its block to the hash, and at the end the blocks of all octets are hashed.
 -- By the loop's invariant and the lemmas on the blocks of a text (`Blocks`).
-use Rattle.std.proofs.Common.{◌≡◌, ℕ, length, take, ap, ◌∙◌, sym, min}
+use Rattle.std.proofs.Common.{rules, ◌≡◌, ℕ, length, take, ap, ◌∙◌, sym, min}
 use Rattle.macsec_ghash.specs.Ghash.{hash_after, hash_next, pad}
 use Rattle.macsec_ghash.specs.Lanes.{HasPowers}
 use Rattle.macsec_ghash.proofs.Blocks.{pad_chunk, pad_none, ghash-append}
 use Rattle.macsec_ghash.proofs.lane_hash.LaneHashHash128.absorb.Goals as goal
+
+-- For speed: of a wrong body the prover would otherwise try more.
+pub loop-chunk-init : goal.loop-chunk-init
+loop-chunk-init c = search rules
 
 pub loop-chunk-preserved : goal.loop-chunk-preserved
 loop-chunk-preserved c =
