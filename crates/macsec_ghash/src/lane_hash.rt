@@ -20,11 +20,11 @@ pub struct LaneHash {
     powers_low: u64x8,
     /// The hash of all blocks but the waiting ones.
     sum: Block,
-    /// The blocks that wait until there are eight, and then whatever was here before.
+    /// The blocks that wait until there are eight, and after them whatever was here before.
     waiting: [u128; 8],
     /// How many blocks wait.
     waiting_count: usize,
-    ghost some_place: { waiting_count < 8 },
+    ghost has_room: { waiting_count < 8 },
 }
 
 impl LaneHash {
@@ -34,6 +34,7 @@ impl LaneHash {
         ensures { (h : ℕ) → h < 2 ^ 128 → HasPowers h self.now.powers_high self.now.powers_low
             → result.0 ≡ hash_after h self.now.sum.0 blocks.now }
     {
+        // For the proof: by these laws the steps of the hash over these blocks are one sum of products.
         product_adds();
         product_associates();
         product_is_block();
