@@ -1,12 +1,12 @@
 //! The header of a capture file.
 
 ghost use Rattle.std.specs.Prelude.{◌≡◌, ◌≤◌, IfSome, length};
-ghost use Rattle.macsec_pcap.specs.Header.{header_of};
+ghost use Rattle.macsec_pcap.specs.Header.{header_of, is_ethernet, is_version};
 ghost use Rattle.macsec_pcap.specs.Answers.{ReadsHeader};
 
 use crate::PcapFault;
 use crate::filling::fill;
-use crate::form::Form;
+use crate::form::{Form, Order};
 use std::io::Read;
 
 /// How many octets the header has.
@@ -37,12 +37,27 @@ fn form_of_header(header: &[u8]) -> Result<Form, PcapFault>
     let Some(form) = Form::of(header) else {
         return Err(PcapFault::Magic);
     };
-    let version = (form.order.u16(&header[4..]), form.order.u16(&header[6..]));
-    if version != VERSION {
+    if !is_version(form.order, header) {
         return Err(PcapFault::Version);
     }
-    if form.order.u32(&header[20..]) != ETHERNET {
+    if !is_ethernet(form.order, header) {
         return Err(PcapFault::LinkType);
     }
     Ok(form)
+}
+
+/// Is the version of the format 2.4?
+fn is_version(order: Order, header: &[u8]) -> bool
+    requires { 24 ≤ length header.now }
+    ensures { result ≡ is_version order header.now }
+{
+    order.u16(&header[4..]) == VERSION.0 && order.u16(&header[6..]) == VERSION.1
+}
+
+/// Is the link type that of Ethernet?
+fn is_ethernet(order: Order, header: &[u8]) -> bool
+    requires { 24 ≤ length header.now }
+    ensures { result ≡ is_ethernet order header.now }
+{
+    order.u32(&header[20..]) == ETHERNET
 }

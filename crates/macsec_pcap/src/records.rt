@@ -1,7 +1,8 @@
 //! The records of a capture file.
 
-ghost use Rattle.std.specs.Prelude.{◌≡◌, ◌≤◌, IfOk, IfSome, OnOk, OnSome, length};
+ghost use Rattle.std.specs.Prelude.{◌≡◌, ◌≤◌, IfOk, IfSome, OnOk, OnSome, length, nat_lt};
 ghost use Rattle.macsec_pcap.specs.Answers.{TakesCaptured, TakesRecord, head_of, record_in, shown};
+ghost use Rattle.macsec_pcap.specs.Limits.{max_record_length};
 
 use crate::PcapFault;
 use crate::filling::fill;
@@ -113,11 +114,18 @@ fn take_captured<R: Read>(source: &mut R, captured: u32, room: &mut [u8]) -> Res
     ensures fits { OnOk result (captured ≤ 262144) }
 {
     let captured = captured as usize;
-    if captured > MAX_RECORD_LEN {
+    if is_too_long(captured) {
         return Err(PcapFault::RecordLength);
     }
     if fill(source, &mut room[..captured])? < captured {
         return Err(PcapFault::CutRecord);
     }
     Ok(())
+}
+
+/// Are these more captured octets than a record can have?
+fn is_too_long(captured: usize) -> bool
+    ensures { result ≡ nat_lt max_record_length captured }
+{
+    captured > MAX_RECORD_LEN
 }

@@ -1,3 +1,5 @@
+-- By these tactics alone: without these proofs the prover tries others before them, which takes longer, and on a
+-- mutant it tries all.
 use Rattle.std.proofs.Common.{arith}
 use Rattle.std.proofs.lemmas.Grind.{common_steps}
 use Rattle.macsec_lines.proofs.lines.keys.new_key.Goals as goal
@@ -7,3 +9,15 @@ returns-in_err-ssci-in-Some c = grind (arith, common_steps)
 
 pub returns : goal.returns
 returns c = grind (arith, common_steps)
+
+pub returns-in_err-number : goal.returns-in_err-number
+returns-in_err-number c = grind (arith, common_steps)
+
+pub returns-in_err-bytes : goal.returns-in_err-bytes
+returns-in_err-bytes c = grind (arith, common_steps)
+
+pub returns-in_err-offset : goal.returns-in_err-offset
+returns-in_err-offset c = grind (arith, common_steps)
+
+pub returns-in_err-salt-in-Some : goal.returns-in_err-salt-in-Some
+returns-in_err-salt-in-Some c = grind (arith, common_steps)
