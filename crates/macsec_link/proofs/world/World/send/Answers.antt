@@ -1,3 +1,5 @@
+-- By these tactics alone: without these proofs the prover tries others before them, which takes longer, and on a
+-- mutant it tries all.
 use Rattle.std.proofs.Common.{◌≡◌, ◌<◌, ℕ, ap, arith, length, rules}
 use Rattle.std.specs.Prelude.{Err}
 use Rattle.std.specs.Global.{Vec}
@@ -20,3 +22,15 @@ invariant_of-self-in-Ok-Link c =
 
 pub returns-in-Ok-Link-clause-sound : goal.returns-in-Ok-Link-clause-sound
 returns-in-Ok-Link-clause-sound c = invariant_of-self-in-Ok-Link c
+
+pub returns-then-is_err-clause-steps : goal.returns-then-is_err-clause-steps
+returns-then-is_err-clause-steps c = search rules
+
+pub returns-in-Err-clause-steps : goal.returns-in-Err-clause-steps
+returns-in-Err-clause-steps c = search rules
+
+pub returns-in-Ok-Dropped-clause-steps : goal.returns-in-Ok-Dropped-clause-steps
+returns-in-Ok-Dropped-clause-steps c = grind (arith, common_steps)
+
+pub returns-in-Ok-Link-clause-steps : goal.returns-in-Ok-Link-clause-steps
+returns-in-Ok-Link-clause-steps c = grind (arith, common_steps)

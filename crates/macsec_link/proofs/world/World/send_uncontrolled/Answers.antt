@@ -1,3 +1,5 @@
+-- By these tactics alone: without these proofs the prover tries others before them, which takes longer, and on a
+-- mutant it tries all.
 use Rattle.std.proofs.Common.{◌≡◌, rules}
 use Rattle.std.specs.Prelude.{Err}
 use Rattle.macsec_link.specs.declared.Event.TheVariants as event
@@ -8,3 +10,9 @@ pub returns-in_err-check_client_frame-clause-steps : goal.returns-in_err-check_c
 returns-in_err-check_client_frame-clause-steps c =
     let passed : c.from_residual.result ≡ Err c.in_err-check_client_frame.field-0.0 = search rules in
     passed_on c.args.self.now (event.SendUncontrolled c.args.end c.args.frame.now) c.from_residual.result c.in_err-check_client_frame.field-0.0 passed (c.in_err-check_client_frame.ensures.admits c.args.end)
+
+pub returns-in_default-clause-steps : goal.returns-in_default-clause-steps
+returns-in_default-clause-steps c = search rules
+
+pub returns-clause-steps : goal.returns-clause-steps
+returns-clause-steps c = search rules

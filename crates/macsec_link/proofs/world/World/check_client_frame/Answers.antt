@@ -1,0 +1,17 @@
+-- By these tactics alone: without these proofs the prover tries others before them, which takes longer, and on a
+-- mutant it tries all.
+use Rattle.std.proofs.Common.{rules, arith}
+use Rattle.std.proofs.lemmas.Grind.{common_steps}
+use Rattle.macsec_link.proofs.world.World.check_client_frame.Goals as goal
+
+pub returns-then-frame-lt-MIN_FRAME_LEN-clause-admits : goal.returns-then-frame-lt-MIN_FRAME_LEN-clause-admits
+returns-then-frame-lt-MIN_FRAME_LEN-clause-admits c = search rules
+
+pub returns-then-frame-gt-MAX_FRAME_LEN-clause-admits : goal.returns-then-frame-gt-MAX_FRAME_LEN-clause-admits
+returns-then-frame-gt-MAX_FRAME_LEN-clause-admits c = search rules
+
+pub returns-then-len-ge-MAX_LINK_FRAMES-clause-admits : goal.returns-then-len-ge-MAX_LINK_FRAMES-clause-admits
+returns-then-len-ge-MAX_LINK_FRAMES-clause-admits c = grind (arith, common_steps)
+
+pub returns-clause-admits : goal.returns-clause-admits
+returns-clause-admits c = grind (arith, common_steps)

@@ -1,0 +1,13 @@
+-- By these tactics alone: without these proofs the prover tries others before them, which takes longer, and on a
+-- mutant it tries all.
+use Rattle.std.proofs.Common.{rules}
+use Rattle.macsec_link.proofs.world.World.check_delivery.Goals as goal
+
+pub returns-in_default-clause-admits : goal.returns-in_default-clause-admits
+returns-in_default-clause-admits c = search rules
+
+pub returns-then-found-lt-MIN_FRAME_LEN-clause-admits : goal.returns-then-found-lt-MIN_FRAME_LEN-clause-admits
+returns-then-found-lt-MIN_FRAME_LEN-clause-admits c = search rules
+
+pub returns-clause-admits : goal.returns-clause-admits
+returns-clause-admits c = search rules

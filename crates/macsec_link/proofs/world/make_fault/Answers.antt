@@ -1,0 +1,13 @@
+-- By these tactics alone: without these proofs the prover tries others before them, which takes longer, and on a
+-- mutant it tries all.
+use Rattle.std.proofs.Common.{rules}
+use Rattle.macsec_link.proofs.world.make_fault.Goals as goal
+
+pub returns-in-Some : goal.returns-in-Some
+returns-in-Some c = search rules
+
+pub returns-in_err-fault : goal.returns-in_err-fault
+returns-in_err-fault c = search rules
+
+pub returns : goal.returns
+returns c = search rules
