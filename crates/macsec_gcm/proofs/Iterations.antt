@@ -1,5 +1,5 @@
 -- A function applied several times.
-use Rattle.std.proofs.Common.{◌≡◌, ℕ, zero, suc, ◌+◌, refl, add-one}
+use Rattle.std.proofs.Common.{◌≡◌, ℕ, zero, suc, ◌+◌, refl, add-one, arith}
 use Rattle.std.specs.Fn.{iterate}
 
 iterate-suc : {A : Type 0} (h : A → A) (n : ℕ) (x : A) → iterate h (suc n) x ≡ h (iterate h n x)
@@ -9,3 +9,12 @@ iterate-suc h (suc n) x = iterate-suc h n (h x)
 -- the last of n + 1 times
 pub iterate_more : {A : Type 0} (h : A → A) (n : ℕ) (x : A) → iterate h (n + 1) x ≡ h (iterate h n x)
 iterate_more h n x = rw add-one (iterate-suc h n x)
+
+-- m times, and then n times
+pub iterate_add : {A : Type 0} (h : A → A) (m n : ℕ) (x : A) → iterate h (m + n) x ≡ iterate h n (iterate h m x)
+iterate_add h zero n x =
+    let e : 0 + n ≡ n = omega arith in
+    rw e refl
+iterate_add h (suc m) n x =
+    let e : suc m + n ≡ suc (m + n) = omega arith in
+    rw e (iterate_add h m n (h x))

@@ -1,6 +1,10 @@
-//! Vectors of AES-GCM with keys of 128 and 256 bits, and changed texts and tags.
+//! Vectors of AES-GCM with keys of 128 and 256 bits, changed texts and tags, and texts of lengths about those of blocks
+//! and of batches, with what sealing block by block gives.
+
+ghost use Rattle.std.specs.Prelude.{◌≤◌, length};
 
 use super::*;
+use macsec_ghash::Hash128;
 
 fn tag_of_nothing(key: Key) -> [u8; 16] {
     GcmKey::new(key).seal(&[0; 12], &[], &mut [])
@@ -105,4 +109,55 @@ fn cut_blocks(rt: HostRuntime) {
 #[test]
 fn inc32_wraps(rt: HostRuntime) {
     assert_eq!(rt; inc32([0xff; 16]), (u128::MAX << 32).to_be_bytes());
+}
+
+/// Seals block by block, without lanes.
+fn seal_by_blocks(key: &Key, iv: &[u8; 12], aad: &[u8], text: &mut [u8]) -> [u8; 16] {
+    let schedule = Schedule::expand(key);
+    let j0 = pre_counter_block(iv);
+    let mut counter = j0;
+    for piece in text.chunks_mut(16) {
+        let next = inc32(counter);
+        counter = next;
+        let stream = encrypt(&schedule, counter);
+        for (octet, added) in piece.iter_mut().zip(&stream) {
+            *octet ^= *added;
+        }
+    }
+    let bits = ((aad.len() as u128) << 64 | text.len() as u128).wrapping_mul(8);
+    let mut hash = PlainHash::start(Block(u128::from_be_bytes(encrypt(&schedule, [0; 16]))));
+    hash.absorb(aad);
+    hash.absorb(text);
+    hash.absorb(&bits.to_be_bytes());
+    (hash.value().0 ^ u128::from_be_bytes(encrypt(&schedule, j0))).to_be_bytes()
+}
+
+/// Whether a text is sealed as block by block, and opened again.
+fn is_as_by_blocks(plaintext: &[u8], text: &mut [u8], expected: &mut [u8]) -> bool
+    requires { length text.old ≤ 9248 }
+{
+    let key = Key::K128(0xfeff_e992_8665_731c_6d6a_8f94_6730_8308u128.to_be_bytes());
+    let iv = [7; 12];
+    let aad = [0x5a; 28];
+    let tag = GcmKey::new(key).seal(&iv, &aad, text);
+    let is_sealed = tag == seal_by_blocks(&key, &iv, &aad, expected) && *text == *expected;
+    is_sealed && GcmKey::new(key).open(&iv, &aad, text, &tag) && *text == *plaintext
+}
+
+#[test]
+fn lengths_about_those_of_blocks_and_of_batches(rt: HostRuntime) {
+    let mut plaintext = [0; 9_248];
+    for (k, octet) in plaintext.iter_mut().enumerate() {
+        *octet = (k % 251) as u8;
+    }
+    for length in [0, 1, 15, 16, 17, 255, 256, 257, 9_248usize] {
+        let (mut text, mut expected) = (plaintext, plaintext);
+        assert!(rt;
+            is_as_by_blocks(
+                &plaintext[..length],
+                &mut text[..length],
+                &mut expected[..length],
+            )
+        );
+    }
 }

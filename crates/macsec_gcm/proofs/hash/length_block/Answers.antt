@@ -1,6 +1,6 @@
 use Rattle.std.proofs.Common.{refl}
 use Rattle.macsec_gcm.specs.Gcm.{length_block}
-use Rattle.macsec_gcm.proofs.length_block.Goals as goal
+use Rattle.macsec_gcm.proofs.hash.length_block.Goals as goal
 
 pub returns : goal.returns
 unfolding length_block

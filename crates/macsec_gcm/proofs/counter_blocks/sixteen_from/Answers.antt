@@ -1,0 +1,18 @@
+use Rattle.std.proofs.Common.{◌≡◌, ◌+◌, ◌-◌, ℕ, ap, ◌∙◌, sym, arith, rules, []}
+use Rattle.std.proofs.lemmas.List.Edits.{fill_by_more}
+use Rattle.std.specs.Fn.{iterate}
+use Rattle.macsec_gcm.specs.Gcm.{inc32}
+use Rattle.macsec_gcm.proofs.Iterations.{iterate_more}
+use Rattle.macsec_gcm.proofs.counter_blocks.sixteen_from.Goals as goal
+
+pub loop-i-preserved : goal.loop-i-preserved
+loop-i-preserved c =
+    let i : ℕ = c.loop-i.i in
+    let first = c.args.first in
+    let last : i - 1 + 1 ≡ i = omega arith in
+    let next : c.inc32.result ≡ iterate inc32 i first =
+    c.inc32.ensures ∙ ap inc32 (c.loop-i.invariant.made (i - 1) (omega arith)) ∙ sym (iterate_more inc32 (i - 1) first) ∙ ap (λ (n : ℕ). iterate inc32 n first) last in
+    record {
+      sixteen = search rules;
+      made = rw next (fill_by_more (λ k. iterate inc32 k first) _ i [] (omega arith) c.loop-i.invariant.made);
+    }
