@@ -1,20 +1,21 @@
 //! The hash that a tag is made of (SP 800-38D, 7.1, steps 4 and 5).
 
-ghost use Rattle.std.specs.Prelude.{◌≡◌, ◌*◌, ◌^◌, ◌<◌, ◌≤◌, ◌++◌, ℕ, List, length};
+ghost use Rattle.std.specs.Prelude.{◌≡◌, ◌*◌, ◌^◌, ◌<◌, ◌≤◌, ◌++◌, [], ℕ, List, length};
 ghost use Rattle.macsec_ghash.specs.Ghash.{ghash, pad};
 ghost use Rattle.macsec_gcm.specs.Gcm.{length_block, max_aad_len, max_plaintext_len};
 
 use macsec_field128::Block;
 use macsec_ghash::Hash128;
 
-/// The hash of the additional authenticated data, the ciphertext and their lengths.
-pub fn hash_of<H: Hash128 + Drop>(h: Block, aad: &[u8], ciphertext: &[u8]) -> Block
+/// The hash of the additional authenticated data, the ciphertext and their lengths, under the subkey of `start`, which has
+/// hashed nothing.
+pub fn hash_of<H: Hash128 + Drop>(start: H, aad: &[u8], ciphertext: &[u8]) -> Block
     requires text_length { length ciphertext.now ≤ max_plaintext_len }
     requires aad_length { length aad.now ≤ max_aad_len }
-    ensures { result.0 ≡
-        ghash h.0 (pad aad.now ++ (pad ciphertext.now ++ pad (length_block aad.now ciphertext.now))) }
+    ensures { (h : ℕ) → H.has_hashed start h [] → result.0 ≡
+        ghash h (pad aad.now ++ (pad ciphertext.now ++ pad (length_block aad.now ciphertext.now))) }
 {
-    let mut hash = H::start(h);
+    let mut hash = start;
     hash.absorb(aad);
     hash.absorb(ciphertext);
     hash.absorb(&length_block(aad.len() as u64, ciphertext.len() as u64));

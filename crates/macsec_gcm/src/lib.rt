@@ -8,7 +8,7 @@ ghost use Rattle.macsec_gcm.specs.Gcm.{authentication_tag, max_aad_len, max_plai
 
 use macsec_aes::{Key, Schedule, encrypt};
 use macsec_field128::Block;
-use macsec_ghash::PlainHash;
+use macsec_ghash::{Hash128, PlainHash};
 use std::marker::Model;
 
 mod counter_blocks;
@@ -23,22 +23,23 @@ use counter_blocks::pre_counter_block;
 use hash::hash_of;
 use key_stream::KeyStream;
 
-/// A key of GCM. Contracts see it as the octets of the AES key.
+/// A key of GCM: the schedule of the AES key, and the hash of nothing under the subkey. Contracts see it as the octets of
+/// the AES key.
 #[derive(Drop)]
 pub struct GcmKey {
     schedule: Schedule,
-    subkey: Block,
+    hash: PlainHash,
 }
 
 impl Model for GcmKey {
-    ghost use Rattle.std.specs.Prelude.{◌≡◌, List, ℕ};
+    ghost use Rattle.std.specs.Prelude.{[], List, ℕ};
     ghost use Rattle.macsec_gcm.specs.Gcm.{hash_subkey};
 
     ghost Value = { List ℕ };
 
     ghost view = { λ k. k.schedule };
 
-    ghost invariant = { λ k. k.subkey.0 ≡ hash_subkey k.schedule };
+    ghost invariant = { λ k. ⟦<PlainHash as Hash128>⟧.has_hashed k.hash (hash_subkey k.schedule) [] };
 }
 
 impl GcmKey {
@@ -48,7 +49,8 @@ impl GcmKey {
     {
         let schedule = Schedule::expand(&key);
         let subkey = Block(u128::from_be_bytes(encrypt(&schedule, [0; 16])));
-        GcmKey { schedule, subkey }
+        let hash = PlainHash::start(subkey);
+        GcmKey { schedule, hash }
     }
 
     /// Encrypts the plaintext `text` in place, at most 2^36 - 32 octets. Returns the authentication tag of the
@@ -98,7 +100,7 @@ impl GcmKey {
         ensures { stream.now.schedule.now ≡ self.now
             → result ≡ authentication_tag self.now stream.now.j0 aad.now ciphertext.now }
     {
-        let hash = hash_of::<PlainHash>(self.subkey, aad, ciphertext);
+        let hash = hash_of(self.hash, aad, ciphertext);
         stream.add_to_hash(hash.0.to_be_bytes())
     }
 }

@@ -4,7 +4,6 @@
 ghost use Rattle.std.specs.Prelude.{◌≤◌, length};
 
 use super::*;
-use macsec_ghash::Hash128;
 
 fn tag_of_nothing(key: Key) -> [u8; 16] {
     GcmKey::new(key).seal(&[0; 12], &[], &mut [])
