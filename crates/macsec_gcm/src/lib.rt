@@ -8,7 +8,7 @@ ghost use Rattle.macsec_gcm.specs.Gcm.{authentication_tag, max_aad_len, max_plai
 
 use macsec_aes::{Key, Schedule, encrypt};
 use macsec_field128::Block;
-use macsec_ghash::{Hash128, PlainHash};
+use macsec_ghash::{Hash128, LaneHash};
 use std::marker::Model;
 
 mod counter_blocks;
@@ -28,7 +28,7 @@ use key_stream::KeyStream;
 #[derive(Drop)]
 pub struct GcmKey {
     schedule: Schedule,
-    hash: PlainHash,
+    hash: LaneHash,
 }
 
 impl Model for GcmKey {
@@ -39,7 +39,7 @@ impl Model for GcmKey {
 
     ghost view = { λ k. k.schedule };
 
-    ghost invariant = { λ k. ⟦<PlainHash as Hash128>⟧.has_hashed k.hash (hash_subkey k.schedule) [] };
+    ghost invariant = { λ k. ⟦<LaneHash as Hash128>⟧.has_hashed k.hash (hash_subkey k.schedule) [] };
 }
 
 impl GcmKey {
@@ -49,7 +49,7 @@ impl GcmKey {
     {
         let schedule = Schedule::expand(&key);
         let subkey = Block(u128::from_be_bytes(encrypt(&schedule, [0; 16])));
-        let hash = PlainHash::start(subkey);
+        let hash = LaneHash::start(subkey);
         GcmKey { schedule, hash }
     }
 

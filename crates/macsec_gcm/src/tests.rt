@@ -4,6 +4,7 @@
 ghost use Rattle.std.specs.Prelude.{◌≤◌, length};
 
 use super::*;
+use macsec_ghash::PlainHash;
 
 fn tag_of_nothing(key: Key) -> [u8; 16] {
     GcmKey::new(key).seal(&[0; 12], &[], &mut [])
