@@ -10,8 +10,21 @@ use std::fs;
 use std::process::ExitCode;
 
 /// The names of the scripts.
-const EXAMPLES: [&str; 28] = [
+const EXAMPLES: [&str; 41] = [
     "tour",
+    "blanks-and-comments",
+    "first-frame-gcm256",
+    "uncontrolled-port",
+    "frame-lengths",
+    "ssci-and-salt",
+    "other-ssci-or-salt",
+    "unused-ssci-and-salt",
+    "key-lengths-and-offsets",
+    "extended-keys",
+    "ranges",
+    "transmit-commands",
+    "numbers-in-order",
+    "no-extended-number-twice",
     "first-frame",
     "talk-gcm128",
     "talk-gcm256",
