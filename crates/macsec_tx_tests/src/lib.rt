@@ -1,10 +1,7 @@
-//! Tests of the transmit channel: what no clause of `macsec_tx` says. They stand in a crate of their own, so that
-//! the channel is not proved a second time with its tests.
+//! Tests of the transmit channel: what no clause of `macsec_tx` says, that the definitions send the frames of the
+//! standard, and that each call succeeds. What becomes of other client frames is shown by the scripts of
+//! `macsec_examples`.
 #![tactic(auto)]
 
 #[cfg(test)]
-mod commands;
-#[cfg(test)]
-mod fixture;
-#[cfg(test)]
-mod frames;
+mod tests;

@@ -1,0 +1,153 @@
+//! One channel with one association, its commands and its frames.
+
+ghost use Rattle.std.specs.Prelude.{IfOk};
+ghost use Rattle.macsec_rx.specs.Commands.{HaveRxKeys};
+
+use macsec_aes::Key;
+use macsec_rx::{Judged, Mode, RxChannels, RxOptions, RxRow, Verdict};
+use macsec_suite::{KeyTable, NewKey, Refusal, Suite};
+use macsec_tag::reading::read;
+use macsec_tag::{An, Read, Sci};
+use macsec_vectors::{CLIENT_54, CLIENT_60, KEY_128, LINK_54, LINK_60, PACKET_NUMBER, SCI};
+use std::alloc::Global;
+use std::process::Abort;
+use std::test::Fail;
+
+/// The SCI of the test frames' sender.
+const SENDER: Sci = Sci(SCI);
+
+/// The own SCI.
+const OWN: Sci = Sci([0, 0, 0, 0, 0, 0, 0, 2]);
+
+/// The association number of the test frames.
+fn an() -> Result<An, Fail> {
+    Ok(An::new(2).ok_or("an association number is 0 to 3")?)
+}
+
+/// A table of the key of the test frames, of the number 0.
+fn key_table(alloc: Global) -> Result<KeyTable, Fail> {
+    let mut keys = KeyTable::new(alloc)?;
+    let key = NewKey {
+        number: 0,
+        bytes: Key::K128(KEY_128),
+        salt: [0; 12],
+        ssci: 0,
+        offset: 0,
+    };
+    keys.install(Suite::Gcm128, &key)?;
+    Ok(keys)
+}
+
+/// The sender's channel, whose association for the test frames is enabled.
+fn channel_on(keys: &KeyTable) -> Result<RxChannels, Fail>
+    ensures { IfOk result (λ channels. HaveRxKeys keys.now channels.rows) }
+{
+    let mut channels = RxChannels::new();
+    channels.rx_sc(OWN, SENDER)?;
+    channels.rx_sa(keys, SENDER, an()?, 0, 0, u64::from(PACKET_NUMBER))?;
+    channels.rx_on(SENDER, an()?)?;
+    Ok(channels)
+}
+
+/// The association of these packet numbers, next and lowest acceptable.
+fn row(next: u64, lowest: u64, on: bool) -> Result<RxRow, Fail> {
+    Ok(RxRow {
+        sci: SENDER,
+        an: an()?,
+        key: 0,
+        ssci: 0,
+        next: u128::from(next),
+        lowest: u128::from(lowest),
+        on,
+    })
+}
+
+/// The delivered frame, as it stands in the slice.
+fn delivered_octets(judged: Judged, out: &[u8]) -> Option<&[u8]> {
+    let (place, length) = judged.delivered?;
+    out.get(place..)?.get(..length)
+}
+
+/// A test frame gets this verdict from a new association and gives this client frame, and its packet number is
+/// accepted if it is valid.
+fn check_frame(
+    rt: &impl Abort,
+    keys: &KeyTable,
+    link: &[u8],
+    mode: Mode,
+    verdict: Verdict,
+    client: Option<&[u8]>,
+) -> Result<(), Fail> {
+    let options = RxOptions {
+        suite: Suite::Gcm128,
+        mode,
+        replay: true,
+        window: 1,
+    };
+    let Read::Tagged(mpdu) = read(link) else {
+        panic!(rt; "the frame isn't tagged");
+    };
+    let tag_length = mpdu.tag_bytes().len();
+    let data_length = mpdu.secure_data().len();
+    assert!(rt; tag_length <= 16 && data_length <= 9_204);
+    let mut channels = channel_on(keys)?;
+    let mut out = [0; 9_248];
+    let judged = channels.judge(keys, &options, &mpdu, &mut out);
+    assert_eq!(rt; judged.verdict, verdict);
+    assert_eq!(rt; judged.row, Some((SENDER, an()?)));
+    assert_eq!(rt; delivered_octets(judged, &out), client);
+    let lowest = u64::from(PACKET_NUMBER);
+    let next = lowest + u64::from(verdict == Verdict::Passed);
+    assert_eq!(rt; channels.row(SENDER, an()?), Some(row(next, lowest, true)?));
+    Ok(())
+}
+
+#[test]
+fn frames_of_the_standard(rt: HostRuntime) -> Result<(), Fail> {
+    let keys = key_table(rt.alloc())?;
+    let client_54 = Some(CLIENT_54.as_slice());
+    let client_60 = Some(CLIENT_60.as_slice());
+    for (link, mode, verdict, client) in [
+        (LINK_54.as_slice(), Mode::Strict, Verdict::Passed, client_54),
+        (LINK_60.as_slice(), Mode::Strict, Verdict::Passed, client_60),
+        (LINK_60.as_slice(), Mode::Check, Verdict::Passed, client_60),
+        (LINK_60.as_slice(), Mode::Disabled, Verdict::NotValid, None),
+    ] {
+        check_frame(&rt, &keys, link, mode, verdict, client)?;
+    }
+    Ok(())
+}
+
+/// The lowest acceptable packet number is raised, and then the next one with it; a window of 0 leaves both.
+#[test]
+fn commands(rt: HostRuntime) -> Result<(), Fail> {
+    let keys = key_table(rt.alloc())?;
+    let mut channels = channel_on(&keys)?;
+    let raised = u64::from(PACKET_NUMBER) + 1;
+    assert_eq!(&rt; channels.rx_low(&keys, SENDER, an()?, raised), Ok(()));
+    channels.narrow(0);
+    assert_eq!(&rt;
+        channels.row(SENDER, an()?),
+        Some(row(raised, raised, true)?)
+    );
+    assert_eq!(&rt; channels.rx_off(SENDER, an()?), Ok(()));
+    assert_eq!(&rt;
+        channels.row(SENDER, an()?),
+        Some(row(raised, raised, false)?)
+    );
+    assert!(&rt; channels.uses(0) && !channels.uses(1));
+    assert_eq!(&rt; channels.rx_del(SENDER, an()?), Ok(()));
+    assert_eq!(&rt; channels.rx_del(SENDER, an()?), Err(Refusal::NoSa));
+    assert!(&rt; !channels.uses(0));
+    assert_eq!(&rt; channels.channel(0), Some(SENDER));
+    assert_eq!(&rt; channels.rx_sc_del(SENDER), Ok(()));
+    assert_eq!(&rt; channels.channel(0), None);
+    Ok(())
+}
+
+#[test]
+fn printed_verdicts(rt: HostRuntime) -> Result<(), Fail> {
+    let told = format!(in rt.alloc(); "{} {}", Verdict::Passed, Verdict::NoSaError)?;
+    assert_eq!(&rt; told.as_str(), "OK NoSAError");
+    Ok(())
+}

@@ -1,0 +1,91 @@
+//! One association, its commands and its frames.
+
+ghost use Rattle.std.specs.Prelude.{IfOk};
+ghost use Rattle.macsec_tx.specs.Commands.{HaveKeys};
+
+use macsec_aes::Key;
+use macsec_suite::{KeyTable, NewKey, Refusal, Suite};
+use macsec_tag::{An, Sci};
+use macsec_tx::{TagForm, TxChannel, TxOptions, TxResult, TxRow};
+use macsec_vectors::{CLIENT_54, CLIENT_60, KEY_128, LINK_54, LINK_60, PACKET_NUMBER, SCI};
+use std::alloc::Global;
+use std::test::Fail;
+
+/// Protection with the SCI in each SecTAG, up to frames of 1,518 octets.
+const OPTIONS: TxOptions = TxOptions {
+    protect: true,
+    form: TagForm::Sci,
+    sci: Sci(SCI),
+    max_frame: 1518,
+    many: false,
+};
+
+/// The association number of the test frames.
+fn an() -> Result<An, Fail> {
+    Ok(An::new(2).ok_or("an association number is 0 to 3")?)
+}
+
+/// A table of the key of the test frames, of the number 0.
+fn key_table(alloc: Global) -> Result<KeyTable, Fail> {
+    let mut keys = KeyTable::new(alloc)?;
+    let key = NewKey {
+        number: 0,
+        bytes: Key::K128(KEY_128),
+        salt: [0; 12],
+        ssci: 0,
+        offset: 0,
+    };
+    keys.install(Suite::Gcm128, &key)?;
+    Ok(keys)
+}
+
+/// A channel whose association for the test frames is enabled, and encrypts if `conf` is true.
+fn channel_on(keys: &KeyTable, conf: bool) -> Result<TxChannel, Fail>
+    ensures { IfOk result (λ channel. HaveKeys keys.now channel) }
+{
+    let mut channel = TxChannel::new();
+    channel.tx_sa(keys, an()?, 0, u64::from(PACKET_NUMBER), conf)?;
+    channel.tx_on(keys, an()?)?;
+    Ok(channel)
+}
+
+#[test]
+fn frames_of_the_standard(rt: HostRuntime) -> Result<(), Fail> {
+    for (conf, client, link) in [
+        (false, CLIENT_54.as_slice(), LINK_54.as_slice()),
+        (true, CLIENT_60.as_slice(), LINK_60.as_slice()),
+    ] {
+        let mut keys = key_table(rt.alloc())?;
+        let mut channel = channel_on(&keys, conf)?;
+        let mut out = [0; 9248];
+        let sent = channel.next_frame(&mut keys, &OPTIONS, client, &mut out);
+        let len = link.len();
+        assert_eq!(&rt; sent, TxResult::Made { len, key: 0 });
+        assert_eq!(&rt; out.get(..len), Some(link));
+        let next = u128::from(PACKET_NUMBER) + 1;
+        assert_eq!(&rt; channel.row(an()?).map(|row| row.next), Some(next));
+        assert_eq!(&rt; keys.first_unused(0), Some(next));
+    }
+    Ok(())
+}
+
+#[test]
+fn commands(rt: HostRuntime) -> Result<(), Fail> {
+    let keys = key_table(rt.alloc())?;
+    let mut channel = channel_on(&keys, false)?;
+    let row = TxRow {
+        an: an()?,
+        key: 0,
+        next: u128::from(PACKET_NUMBER),
+        conf: false,
+        on: true,
+    };
+    assert_eq!(&rt; channel.row_on(), Some(row));
+    assert!(&rt; channel.uses(0) && !channel.uses(1));
+    assert_eq!(&rt; channel.tx_off(an()?), Ok(()));
+    assert_eq!(&rt; channel.row_on(), None);
+    assert_eq!(&rt; channel.tx_del(an()?), Ok(()));
+    assert_eq!(&rt; channel.tx_del(an()?), Err(Refusal::NoSa));
+    assert!(&rt; !channel.uses(0));
+    Ok(())
+}
