@@ -1,5 +1,5 @@
-//! Tests of two ends over a link: what no clause of `macsec_link` says, that worlds, steps and runs don't return
-//! `Memory` if there is memory, and that the written runs are those of worked cases.
+//! Tests of two ends over a link: what no clause of `macsec_link` says and no script shows, that worlds, steps and runs
+//! don't return `Memory` if there is memory, a full link, and the logs.
 #![tactic(auto)]
 
 #[cfg(test)]
@@ -8,5 +8,3 @@ mod fixture;
 mod limits;
 #[cfg(test)]
 mod logs;
-#[cfg(test)]
-mod windows;

@@ -1,139 +1,78 @@
-//! The limits of a link, the faults of events in their order, and the making of a world.
+//! A full link, and the creation of a world.
 
-use crate::fixture::{A, B, CLIENTS_14, NUMBER, Want, frame, inject, send, step, steps, two_ends};
-use macsec_link::{
-    Command, DropReason, End, EndConfig, Event, NewFault, Refusal, TagForm, Verdict, World,
-    WorldFault,
-};
-use macsec_vectors::{CLIENT_54, LINK_54};
+use crate::fixture::{A, B, client, frame, result_of};
+use macsec_link::{End, EndConfig, Event, NewFault, Outcome, TagForm, World, WorldFault};
 use std::alloc::Global;
 use std::process::Abort;
 use std::test::Fail;
 
-const NO_FRAME: Want = Want::Fault(WorldFault::NoFrame);
-
-const SHORT: Want = Want::Fault(WorldFault::Short);
-
-const ALTER_RANGE: Want = Want::Fault(WorldFault::AlterRange);
-
-const LINK_FULL: Want = Want::Fault(WorldFault::LinkFull);
-
 /// A's fault comes before B's.
 #[test]
-fn makings(rt: HostRuntime) {
+fn creations(rt: HostRuntime) {
     let small_a = EndConfig { max_frame: 63, ..A };
     let small_b = EndConfig { max_frame: 63, ..B };
     let form_a = EndConfig {
         form: TagForm::Es,
         ..A
     };
-    for (a, b, want) in [
-        (
-            small_a,
-            small_b,
-            WorldFault::Make(End::A, NewFault::MaxFrame),
-        ),
-        (form_a, small_b, WorldFault::Make(End::A, NewFault::SciForm)),
-        (A, small_b, WorldFault::Make(End::B, NewFault::MaxFrame)),
+    for (a, b, end, fault) in [
+        (small_a, small_b, End::A, NewFault::MaxFrame),
+        (form_a, small_b, End::A, NewFault::SciForm),
+        (A, small_b, End::B, NewFault::MaxFrame),
     ] {
-        assert_eq!(rt; World::new(rt.alloc(), a, b).err(), Some(want));
-        assert_eq!(rt; World::run(rt.alloc(), a, b, &[]).err(), Some(want));
+        let wanted = Some(WorldFault::Make(end, fault));
+        assert_eq!(rt; World::new(rt.alloc(), a, b).err(), wanted);
+        assert_eq!(rt; World::run(rt.alloc(), a, b, &[]).err(), wanted);
     }
-    assert!(rt; World::new(rt.alloc(), A, B).is_ok());
 }
 
-/// No frame, then one of a single octet.
-#[test]
-fn faults(rt: HostRuntime) -> Result<(), Fail> {
-    let mut world = World::new(rt.alloc(), A, B)?;
-    let of_no_frame = [
-        (Event::Deliver(End::B, 0), NO_FRAME),
-        (Event::Alter(0, 0, 0), NO_FRAME),
-        (Event::Pad(0), NO_FRAME),
-    ];
-    steps(&rt, &mut world, &of_no_frame);
-    inject(&rt, rt.alloc(), &mut world, &[0], Want::Made(0))?;
-    let of_one_octet = [
-        (Event::Deliver(End::B, 0), SHORT),
-        (Event::Alter(0, 1, 0xff), ALTER_RANGE),
-    ];
-    steps(&rt, &mut world, &of_one_octet);
-    let long = Want::Fault(WorldFault::Long);
-    inject(&rt, rt.alloc(), &mut world, &[0; 9249], long)?;
-    send(&rt, rt.alloc(), &mut world, &CLIENT_54[..13], SHORT)?;
-    let no_sa = Want::Dropped(DropReason::NoSa);
-    send(&rt, rt.alloc(), &mut world, &CLIENT_54, no_sa)?;
-    assert_eq!(rt; world.frame(0), Some([0].as_slice()));
-    assert_eq!(rt; world.frame(1), None);
-    Ok(())
+/// Is the link frame of this number created?
+fn is_made(got: &Result<Outcome, WorldFault>, n: u32) -> bool {
+    matches!(got, Ok(Outcome::Made(made)) if *made == n)
 }
 
 /// Two ends whose link has 65,536 frames of one octet.
 fn full_world(rt: &impl Abort, alloc: Global) -> Result<World, Fail> {
     let mut world = World::new(alloc, A, B)?;
     for n in 0..65536 {
-        inject(rt, alloc, &mut world, &[0], Want::Made(n))?;
+        let event = Event::Inject(frame(alloc, &[0])?);
+        let got = result_of(&mut world, &event);
+        assert!(rt; is_made(&got, n));
     }
     Ok(world)
 }
 
-/// Each fault in its order, and no counter moves.
+/// None of these events happens, for the reason beside it.
+fn assert_faults(rt: &impl Abort, world: &mut World, events: &[(Event, WorldFault)]) {
+    for (event, fault) in events {
+        assert_eq!(rt; result_of(world, event).err(), Some(*fault));
+    }
+}
+
+/// Each fault in its order, and no counter changes.
 #[test]
 fn full_link(rt: HostRuntime) -> Result<(), Fail> {
     let mut world = full_world(&rt, rt.alloc())?;
-    inject(&rt, rt.alloc(), &mut world, &[0], LINK_FULL)?;
-    inject(&rt, rt.alloc(), &mut world, &[], SHORT)?;
-    let of_other_frames = [
-        (Event::Deliver(End::B, 65536), NO_FRAME),
-        (Event::Deliver(End::B, 0), SHORT),
-        (Event::Alter(0, 1, 0), ALTER_RANGE),
-        (Event::Alter(0, 0, 1), LINK_FULL),
-        (Event::Pad(0), LINK_FULL),
-    ];
-    steps(&rt, &mut world, &of_other_frames);
     let counted = world.end(End::A).counters();
-    send(&rt, rt.alloc(), &mut world, &CLIENTS_14[0], LINK_FULL)?;
-    let uncontrolled = Event::SendUncontrolled(End::A, frame(rt.alloc(), &CLIENTS_14[0])?);
-    step(&rt, &mut world, uncontrolled, LINK_FULL);
+    let nothing = frame(rt.alloc(), &[])?;
+    let octet = frame(rt.alloc(), &[0])?;
+    let controlled = frame(rt.alloc(), &client(0))?;
+    let uncontrolled = frame(rt.alloc(), &client(0))?;
+    let events = [
+        (Event::Inject(octet), WorldFault::LinkFull),
+        (Event::Inject(nothing), WorldFault::Short),
+        (Event::Deliver(End::B, 65536), WorldFault::NoFrame),
+        (Event::Deliver(End::B, 0), WorldFault::Short),
+        (Event::Alter(0, 1, 0), WorldFault::AlterRange),
+        (Event::Alter(0, 0, 1), WorldFault::LinkFull),
+        (Event::Pad(0), WorldFault::LinkFull),
+        (Event::Send(End::A, controlled), WorldFault::LinkFull),
+        (
+            Event::SendUncontrolled(End::A, uncontrolled),
+            WorldFault::LinkFull,
+        ),
+    ];
+    assert_faults(&rt, &mut world, &events);
     assert_eq!(rt; world.end(End::A).counters(), counted);
-    Ok(())
-}
-
-/// A frame of 86 octets, padded, is the same once more; one of 46 gets 14 zeros, and is delivered without them.
-#[test]
-fn padding(rt: HostRuntime) -> Result<(), Fail> {
-    let mut world = two_ends(&rt, rt.alloc(), 2, NUMBER)?;
-    send(&rt, rt.alloc(), &mut world, &CLIENT_54, Want::Made(0))?;
-    step(&rt, &mut world, Event::Pad(0), Want::Made(1));
-    assert_eq!(rt; world.frame(0), Some(&LINK_54[..]));
-    assert_eq!(rt; world.frame(1), Some(&LINK_54[..]));
-    send(&rt, rt.alloc(), &mut world, &CLIENTS_14[0], Want::Made(2))?;
-    step(&rt, &mut world, Event::Pad(2), Want::Made(3));
-    assert_eq!(rt; world.frame(2).map(|f| f.len()), Some(46));
-    assert_eq!(rt; world.frame(3).map(|f| f.len()), Some(60));
-    let passed = Want::Heard(Verdict::Passed, Some(&CLIENTS_14[0]));
-    step(&rt, &mut world, Event::Deliver(End::B, 3), passed);
-    Ok(())
-}
-
-/// A frame comes back to its own sender.
-#[test]
-fn reflection(rt: HostRuntime) -> Result<(), Fail> {
-    let mut world = two_ends(&rt, rt.alloc(), 2, NUMBER)?;
-    send(&rt, rt.alloc(), &mut world, &CLIENT_54, Want::Made(0))?;
-    step(
-        &rt,
-        &mut world,
-        Event::Deliver(End::A, 0),
-        Want::Heard(Verdict::NoSaError, None),
-    );
-    let own = Event::Command(End::A, Command::RxSc(A.sci));
-    step(&rt, &mut world, own, Want::Refused(Refusal::OwnSci));
-    step(
-        &rt,
-        &mut world,
-        Event::Deliver(End::B, 0),
-        Want::Heard(Verdict::Passed, Some(&CLIENT_54[..])),
-    );
     Ok(())
 }

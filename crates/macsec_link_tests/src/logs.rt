@@ -1,111 +1,205 @@
-//! What was sent under each key, and what was delivered from each association.
+//! A whole run, and what was sent under each key and delivered from each association.
 
-use crate::fixture::{
-    A, CLIENTS_14, Want, an, commands, frame, key, rx_sa, send, step, two_ends, tx_sa,
+use crate::fixture::{A, B, client, frame};
+use macsec_link::{
+    An, Command, End, Event, Key, NewKey, Outcome, Report, Verdict, World, WorldFault,
 };
-use macsec_link::{Command, End, Event, Verdict, World};
+use macsec_vectors::KEY_128;
+use std::alloc::Global;
 use std::process::Abort;
 use std::test::Fail;
 
-/// A link frame is passed at B, and gives this client's frame.
-fn pass(rt: &impl Abort, world: &mut World, n: u32, client: &[u8]) {
-    step(
-        rt,
-        world,
-        Event::Deliver(End::B, n),
-        Want::Heard(Verdict::Passed, Some(client)),
-    );
+/// An event that is wanted, and its result. A client frame is told by its last octet.
+#[derive(Clone, Copy)]
+enum Wanted {
+    /// A command is carried out.
+    Done(End, Command),
+    /// A client of A sends a frame.
+    Sent(u8),
+    /// A frame leaves the uncontrolled port of A.
+    SentUncontrolled(u8),
+    /// A link frame is passed at B, and its client frame delivered.
+    Passed(u32, u8),
+    /// It comes late.
+    Late(u32),
 }
 
-/// Are these the frames of a log?
-fn is_log(log: &[Vec<u8>], clients: &[[u8; 14]]) -> bool {
-    log.len() == clients.len()
-        && log
-            .iter()
-            .zip(clients)
-            .all(|(kept, client)| kept.as_slice() == client.as_slice())
+/// The event.
+fn event_of(alloc: Global, wanted: Wanted) -> Result<Event, Fail> {
+    match wanted {
+        Wanted::Done(end, command) => Ok(Event::Command(end, command)),
+        Wanted::Sent(last) => Ok(Event::Send(End::A, frame(alloc, &client(last))?)),
+        Wanted::SentUncontrolled(last) => Ok(Event::SendUncontrolled(
+            End::A,
+            frame(alloc, &client(last))?,
+        )),
+        Wanted::Passed(n, _) | Wanted::Late(n) => Ok(Event::Deliver(End::B, n)),
+    }
 }
 
-/// The sender goes over to another association under another key, and its receiver with it.
+/// Is the result the one that is wanted?
+fn is_wanted(got: &Result<Outcome, WorldFault>, wanted: Wanted) -> bool {
+    match got {
+        Ok(Outcome::Done) => matches!(wanted, Wanted::Done(_, _)),
+        Ok(Outcome::Made(_)) => matches!(wanted, Wanted::Sent(_) | Wanted::SentUncontrolled(_)),
+        Ok(
+            Outcome::Heard {
+                verdict,
+                controlled,
+            },
+        ) => match (wanted, controlled) {
+            (Wanted::Passed(_, last), Some(frame)) => *verdict == Verdict::Passed
+                && frame.octets() == client(last).as_slice(),
+            (Wanted::Late(_), None) => *verdict == Verdict::Late,
+            _ => false,
+        },
+        _ => false,
+    }
+}
+
+fn an(rt: &impl Abort, number: u8) -> An {
+    An::new(number).expect(rt, "an association number")
+}
+
+/// A key for the suite of both ends is installed: that of the test frames, but for its last octet.
+fn key(end: End, number: u8) -> Wanted {
+    let mut bytes = KEY_128;
+    bytes[15] ^= number;
+    Wanted::Done(
+        end,
+        Command::Key(NewKey {
+            number,
+            bytes: Key::K128(bytes),
+            salt: [0; 12],
+            ssci: 0,
+            offset: 0,
+        }),
+    )
+}
+
+/// A transmit association is created at A, for integrity only.
+fn tx_sa(an: An, key: u8) -> Wanted {
+    Wanted::Done(
+        End::A,
+        Command::TxSa {
+            an,
+            key,
+            next: 1,
+            conf: false,
+        },
+    )
+}
+
+/// A receive association of frames from A is created at B.
+fn rx_sa(an: An, key: u8) -> Wanted {
+    Wanted::Done(
+        End::B,
+        Command::RxSa {
+            sci: A.sci,
+            an,
+            key,
+            ssci: 0,
+            lowest: 1,
+        },
+    )
+}
+
+/// The sender goes over to another association under another key, and its receiver with it. A receive association
+/// that is created again begins a new log. A late frame and a frame of the uncontrolled port's client are in none.
 #[test]
 fn rollover(rt: HostRuntime) -> Result<(), Fail> {
-    let mut world = two_ends(&rt, rt.alloc(), 0, 1)?;
-    let next = an(&rt, 1);
-    for (n, client) in (0..2).zip(&CLIENTS_14[..2]) {
-        send(&rt, rt.alloc(), &mut world, client, Want::Made(n))?;
-        pass(&rt, &mut world, n, client);
-    }
-    commands(
-        &rt,
-        &mut world,
-        End::A,
-        [key(1), tx_sa(next, 1, 1), Command::TxOn(next)],
-    );
-    commands(
-        &rt,
-        &mut world,
-        End::B,
-        [key(1), rx_sa(next, 1, 1), Command::RxOn(A.sci, next)],
-    );
-    for (n, client) in (2..4).zip(&CLIENTS_14[2..]) {
-        send(&rt, rt.alloc(), &mut world, client, Want::Made(n))?;
-        pass(&rt, &mut world, n, client);
-    }
-    for (key, clients) in [
-        (0, &CLIENTS_14[..2]),
-        (1, &CLIENTS_14[2..]),
-        (2, &CLIENTS_14[..0]),
-    ] {
-        assert!(rt;
-            is_log(world.sent(End::A, key), clients),
-            "sent under {key}"
-        );
-        assert!(rt; world.sent(End::B, key).is_empty());
-    }
-    for (number, clients) in [(0, &CLIENTS_14[..2]), (1, &CLIENTS_14[2..])] {
-        let log = world.delivered(End::B, number).ok_or("a log")?;
-        assert!(rt; is_log(log, clients), "delivered from {number}");
-    }
-    assert!(rt; world.delivered(End::A, 0).is_none());
+    let first = an(&rt, 0);
+    let second = an(&rt, 1);
+    let table = [
+        key(End::A, 0),
+        tx_sa(first, 0),
+        Wanted::Done(End::A, Command::TxOn(first)),
+        key(End::B, 0),
+        Wanted::Done(End::B, Command::RxSc(A.sci)),
+        rx_sa(first, 0),
+        Wanted::Done(End::B, Command::RxOn(A.sci, first)),
+        Wanted::Sent(0),
+        Wanted::Sent(1),
+        Wanted::Passed(0, 0),
+        Wanted::Passed(1, 1),
+        Wanted::Late(0),
+        key(End::A, 1),
+        tx_sa(second, 1),
+        Wanted::Done(End::A, Command::TxOn(second)),
+        key(End::B, 1),
+        rx_sa(second, 1),
+        Wanted::Done(End::B, Command::RxOn(A.sci, second)),
+        Wanted::Sent(2),
+        Wanted::Passed(2, 2),
+        Wanted::SentUncontrolled(3),
+        Wanted::Done(End::B, Command::RxDel(A.sci, second)),
+        rx_sa(second, 1),
+        Wanted::Done(End::B, Command::RxOn(A.sci, second)),
+        Wanted::Passed(2, 2),
+    ];
+    let world = world_after(&rt, rt.alloc(), &table)?;
+    assert_logs(&rt, &world);
     Ok(())
 }
 
-/// An association that is removed and made again begins a new log; a frame of the uncontrolled port's client
-/// and a frame that is not delivered are in none.
-#[test]
-fn associations_made_again(rt: HostRuntime) -> Result<(), Fail> {
-    let mut world = two_ends(&rt, rt.alloc(), 0, 1)?;
-    let an = an(&rt, 0);
-    for (n, client) in (0..4).zip(&CLIENTS_14) {
-        send(&rt, rt.alloc(), &mut world, client, Want::Made(n))?;
+/// The report of a run of these events.
+fn report_of(alloc: Global, all: &[Wanted]) -> Result<Report, Fail> {
+    let mut events = Vec::new(alloc);
+    for wanted in all {
+        events.push(event_of(alloc, *wanted)?)?;
     }
-    pass(&rt, &mut world, 0, &CLIENTS_14[0]);
-    step(
-        &rt,
-        &mut world,
-        Event::Deliver(End::B, 0),
-        Want::Heard(Verdict::Late, None),
-    );
-    commands(
-        &rt,
-        &mut world,
-        End::B,
-        [
-            Command::RxDel(A.sci, an),
-            rx_sa(an, 0, 2),
-            Command::RxOn(A.sci, an),
-        ],
-    );
-    pass(&rt, &mut world, 1, &CLIENTS_14[1]);
-    pass(&rt, &mut world, 2, &CLIENTS_14[2]);
-    let uncontrolled = Event::SendUncontrolled(End::A, frame(rt.alloc(), &CLIENTS_14[3])?);
-    step(&rt, &mut world, uncontrolled, Want::Made(4));
-    assert_eq!(rt; world.frame(4), Some(&CLIENTS_14[3][..]));
-    assert!(rt; is_log(world.sent(End::A, 0), &CLIENTS_14));
-    for (number, clients) in [(0, &CLIENTS_14[..1]), (1, &CLIENTS_14[1..3])] {
-        let log = world.delivered(End::B, number).ok_or("a log")?;
-        assert!(rt; is_log(log, clients), "delivered from {number}");
+    Ok(World::run(alloc, A, B, events.as_slice())?)
+}
+
+/// The world after a run of these events, each of which has the result that is wanted.
+fn world_after(rt: &impl Abort, alloc: Global, all: &[Wanted]) -> Result<World, Fail> {
+    let report = report_of(alloc, all)?;
+    assert_eq!(rt; report.results.len(), all.len());
+    for (got, wanted) in report.results.iter().zip(all) {
+        assert!(rt; is_wanted(got, *wanted));
     }
-    assert!(rt; world.delivered(End::B, 2).is_none());
-    Ok(())
+    Ok(report.world)
+}
+
+/// Are these the frames of a log, by their last octets?
+fn is_log(log: Option<&[Vec<u8>]>, clients: Option<&[u8]>) -> bool {
+    match (log, clients) {
+        (Some(log), Some(clients)) => log.len() == clients.len()
+            && log
+                .iter()
+                .zip(clients)
+                .all(|(kept, last)| kept.as_slice() == client(*last).as_slice()),
+        (None, None) => true,
+        _ => false,
+    }
+}
+
+/// The logs of both ends, and the link frame of the uncontrolled port's client.
+fn assert_logs(rt: &impl Abort, world: &World) {
+    let octets = [0, 1, 2];
+    for (end, key, clients) in [
+        (End::A, 0, &octets[..2]),
+        (End::A, 1, &octets[2..]),
+        (End::A, 2, &octets[..0]),
+        (End::B, 0, &octets[..0]),
+    ] {
+        assert!(rt;
+            is_log(Some(world.sent(end, key)), Some(clients)),
+            "sent under {key}"
+        );
+    }
+    for (end, number, clients) in [
+        (End::B, 0, Some(&octets[..2])),
+        (End::B, 1, Some(&octets[2..])),
+        (End::B, 2, Some(&octets[2..])),
+        (End::B, 3, None),
+        (End::A, 0, None),
+    ] {
+        assert!(rt;
+            is_log(world.delivered(end, number), clients),
+            "delivered from {number}"
+        );
+    }
+    assert_eq!(rt; world.frame(3), Some(client(3).as_slice()));
+    assert_eq!(rt; world.frame(4), None);
 }
