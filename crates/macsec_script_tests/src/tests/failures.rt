@@ -1,12 +1,13 @@
 //! How a program that runs a script ends, and what it tells of that.
 
 use super::devices::FailingWriter;
-use super::{COMMANDS, DONE, ENDS, PROTECTED, SEND, assert_told, joined};
+use super::{assert_told, script, text};
 use macsec_script::{Failure, ScriptFault, failure_of_words, run_named, tell};
 use std::fs;
 use std::io::{self, Write};
 use std::test::Fail;
 
+/// Out of memory is not returned as invalid arguments.
 #[test]
 fn failures_told(rt: HostRuntime) {
     for (failure, told, status) in [
@@ -24,6 +25,9 @@ fn failures_told(rt: HostRuntime) {
         (Failure::Script(ScriptFault::Memory), "macsec: Memory\n", 1),
         (Failure::Script(ScriptFault::Read), "macsec: Read\n", 1),
         (Failure::Script(ScriptFault::Write), "macsec: Write\n", 1),
+        (of_words(io::ErrorKind::OutOfMemory), "macsec: Memory\n", 1),
+        (of_words(io::ErrorKind::InvalidData), "macsec: usage\n", 2),
+        (of_words(io::ErrorKind::Other), "macsec: usage\n", 2),
     ] {
         assert_told(&rt, failure, told, status);
     }
@@ -33,16 +37,9 @@ fn failures_told(rt: HostRuntime) {
     assert_eq!(rt; status, 0);
 }
 
-/// Out of memory is not returned as invalid arguments.
-#[test]
-fn words_that_cannot_be_had(rt: HostRuntime) {
-    for (kind, told, status) in [
-        (io::ErrorKind::OutOfMemory, "macsec: Memory\n", 1),
-        (io::ErrorKind::InvalidData, "macsec: usage\n", 2),
-        (io::ErrorKind::Other, "macsec: usage\n", 2),
-    ] {
-        assert_told(&rt, failure_of_words(&io::Error::from(kind)), told, status);
-    }
+/// What an error of this kind makes of arguments that can't be read.
+fn of_words(kind: io::ErrorKind) -> Failure<'static> {
+    failure_of_words(&io::Error::from(kind))
 }
 
 /// A script that sends a frame without an association, and its text.
@@ -72,12 +69,10 @@ fn ended<W: Write>(
 /// opened is reported by its path, a directory can't be read.
 #[test]
 fn named_scripts(rt: HostRuntime) -> Result<(), Fail> {
-    let script = joined(rt.alloc(), &[ENDS, COMMANDS, SEND])?;
-    let text = joined(rt.alloc(), &[DONE, "6 frame 0 ", PROTECTED, "\n"])?;
-    let (script, text) = (script.as_str(), text.as_str());
+    let script = script();
     fs::write(&rt, "drops", DROPPED.0)?;
     for (name, status, told, printed, left) in [
-        ("-", 0, "", text, 0),
+        ("-", 0, "", text(), 0),
         ("drops", 0, "", DROPPED.1, script.len()),
         ("/dev/null", 0, "", "", script.len()),
         (
@@ -102,10 +97,9 @@ fn named_scripts(rt: HostRuntime) -> Result<(), Fail> {
 
 /// A flush that fails is told, but not in place of the run's own fault.
 #[test]
-fn flushes_that_fail(rt: HostRuntime) -> Result<(), Fail> {
-    let script = joined(rt.alloc(), &[ENDS, COMMANDS, SEND])?;
+fn flushes_that_fail(rt: HostRuntime) {
     for (script, status, told) in [
-        (script.as_str(), 1, "macsec: Write\n"),
+        (script(), 1, "macsec: Write\n"),
         ("frob\n", 2, "macsec: line 1: Word\n"),
     ] {
         let mut output = FailingWriter {
@@ -116,5 +110,4 @@ fn flushes_that_fail(rt: HostRuntime) -> Result<(), Fail> {
         assert_eq!(rt; found, status);
         assert_eq!(rt; line.as_slice(), told.as_bytes());
     }
-    Ok(())
 }

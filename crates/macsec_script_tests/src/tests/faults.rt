@@ -1,0 +1,123 @@
+//! Lines and scripts at fault.
+
+use super::assert_ends;
+use macsec_script::{LineFault, parse_line};
+use std::alloc::{AllocError, Global};
+
+/// A line, and its fault.
+type Faulty = (&'static str, LineFault);
+
+/// The first word, and after an end's letter the second, comes first, then the number of words, and then the words
+/// from left to right.
+const LINES_AT_FAULT: [Faulty; 31] = [
+    ("B frob", LineFault::Word),
+    ("C send 00", LineFault::Word),
+    ("send 00", LineFault::Word),
+    ("deliver 0", LineFault::Word),
+    ("numbers", LineFault::Word),
+    ("A alter 0 0 00", LineFault::Word),
+    ("A Numbers", LineFault::Word),
+    ("A protect maybe", LineFault::Word),
+    ("A validate loose", LineFault::Word),
+    ("A tag none", LineFault::Word),
+    ("A txsa 0 0 1 none", LineFault::Word),
+    ("A", LineFault::Count),
+    ("A send", LineFault::Count),
+    ("A replay on", LineFault::Count),
+    ("A protect maybe x", LineFault::Count),
+    ("end C", LineFault::Count),
+    ("B counters 1", LineFault::Count),
+    (
+        "A key 0 ad7a2bd03eac835a6f620fdcb506b345 0 00000001",
+        LineFault::Count,
+    ),
+    ("A send 0", LineFault::Hex),
+    ("A send 0g", LineFault::Hex),
+    ("A rxsc 00", LineFault::Hex),
+    ("alter 0 0 100", LineFault::Hex),
+    ("A txsa 0 0 00000000000000001 int", LineFault::Hex),
+    ("B rxsa 12153524c0895e8 4 256 0", LineFault::Hex),
+    (
+        "A key 4096 ad7a2bd03eac835a6f620fdcb506b345 0",
+        LineFault::Number,
+    ),
+    ("A txon 4", LineFault::Number),
+    ("A replay on 18446744073709551616", LineFault::Number),
+    ("A retire 000000000000000000000", LineFault::Number),
+    ("B deliver 4294967296", LineFault::Number),
+    ("alter 0 4294967296 g", LineFault::Number),
+    ("end A gcm128 12153524c0895e81 63 es", LineFault::Number),
+];
+
+/// The fault of a line.
+fn fault_of(alloc: Global, line: &str) -> Option<LineFault> {
+    parse_line(alloc, line.as_bytes()).err()
+}
+
+#[test]
+fn lines_at_fault(rt: HostRuntime) {
+    for (line, fault) in LINES_AT_FAULT {
+        assert_eq!(rt; fault_of(rt.alloc(), line), Some(fault), "{line}");
+    }
+}
+
+/// The first fault is told, and a line in a wrong place by `Ends`.
+#[test]
+fn scripts_at_fault(rt: HostRuntime) {
+    for (script, told) in [
+        ("frob\nend\n", "macsec: line 1: Word\n"),
+        ("#\nend\nfrob\n", "macsec: line 2: Count\n"),
+        ("\n\nalter 0 0 100", "macsec: line 3: Hex\n"),
+        ("pad 4294967296\r\n", "macsec: line 1: Number\n"),
+        (
+            "end A gcm128 12153524c0895e81 1518 es\n",
+            "macsec: line 1: Ends\n",
+        ),
+        (
+            "end A gcm128 12153524c0895e81 1518 sci\n# the end\n",
+            "macsec: line 2: Ends\n",
+        ),
+        (
+            "end B gcm128 12153524c0895e81 1518 sci\n",
+            "macsec: line 1: Ends\n",
+        ),
+        (
+            "A numbers\nend A gcm128 12153524c0895e81 1518 sci\n",
+            "macsec: line 1: Ends\n",
+        ),
+        (
+            "end A gcm128 12153524c0895e81 1518 sci\nA txon 2\nA send 00\n",
+            "macsec: line 2: Ends\n",
+        ),
+        (
+            "end A gcm128 12153524c0895e81 1518 sci\nend B gcm128 0000000000000002 1518 auto\nA txon 2\nend A gcm128 12153524c0895e81 1518 sci\n",
+            "macsec: line 4: Ends\n",
+        ),
+    ] {
+        assert_ends(&rt, script, Some(told));
+    }
+}
+
+/// A piece of a text, so often.
+fn repeated(alloc: Global, piece: &str, count: u32) -> Result<String, AllocError> {
+    let mut text = String::new(alloc);
+    for _ in 0..count {
+        text.push_str(piece)?;
+    }
+    Ok(text)
+}
+
+/// A line of 20,000 octets, or a script of 65,536 lines, is skipped, and a longer one is at fault.
+#[test]
+fn long_lines_and_scripts(rt: HostRuntime) -> Result<(), AllocError> {
+    for (piece, count, rest, fault) in [
+        ("#", 20_000, "\r", "macsec: line 1: LineLong\n"),
+        ("\n", 65_536, "\n", "macsec: ScriptLong\n"),
+    ] {
+        let mut script = repeated(rt.alloc(), piece, count)?;
+        assert_ends(&rt, script.as_str(), None);
+        script.push_str(rest)?;
+        assert_ends(&rt, script.as_str(), Some(fault));
+    }
+    Ok(())
+}
