@@ -1,5 +1,5 @@
 # `make` builds the proved program as build/macsec, `make run` runs it on the tour,
-# `make check` is the gate, and `make bench` measures the plain cipher and scripts.
+# `make check` is the gate, and `make bench` measures the cipher and scripts.
 RT := $(shell command -v rt 2>/dev/null)
 SOURCES := crates.txt $(shell find crates -name out -prune -o -type f \( -name '*.rt' -o -name '*.antt' \) -print)
 
