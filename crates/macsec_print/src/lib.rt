@@ -8,5 +8,5 @@ mod writing;
 
 pub use counters::{Label, print_counters};
 pub use numbers::print_numbers;
-pub use outcomes::print_outcome;
+pub use outcomes::{drop_text, print_outcome};
 pub use writing::write_fault;

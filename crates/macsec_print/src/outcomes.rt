@@ -42,7 +42,7 @@ fn refusal_text(refusal: Refusal) -> &'static str
 }
 
 /// Why nothing is sent for a client frame, as it is printed.
-fn drop_text(reason: DropReason) -> &'static str
+pub fn drop_text(reason: DropReason) -> &'static str
     ensures { result.now ≡ drop_text reason }
 {
     match reason {

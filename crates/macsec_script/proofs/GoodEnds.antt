@@ -18,10 +18,7 @@ use Rattle.macsec_lines.specs.Fields.{map_ok, value_of_keyword, ends}
 use Rattle.macsec_lines.specs.Kinds.{and_then, if_fit, is_fit, line_of, of_words, read_at}
 use Rattle.macsec_lines.specs.Scripts.{NumberedLine, at_script_end, is_too_long, line_before, lines_from, next_place, place_after, result_at_line, script_of}
 use Rattle.macsec_script.specs.Printed.{two_ends, two_ends_of, a_config, b_config}
-
-abbrev AreFit : List NumberedLine → Type 0
-AreFit [] = Unit {0}
-AreFit (line ∷ lines) = (is_fit line.1 ≡ true) × AreFit lines
+use Rattle.macsec_script.specs.Laws.{AreFit, ParsedFit}
 
 -- ---- a line
 
@@ -89,6 +86,10 @@ unless_too_long : (b : Bool) (r : Result (List NumberedLine) ScriptFault) → Gi
 unless_too_long true r rest lines h = cc
 unless_too_long false r rest lines h = rest lines h
 
+pub parsed_fit : (first : Place) (text : List ℕ) (lines : List NumberedLine) → ParsedFit first text lines
+parsed_fit first text lines parsed =
+    unless_too_long (is_too_long text) (lines_from first 1 (lines_of text)) (lines_fit first 1 (lines_of text)) lines parsed
+
 -- ---- the ends
 
 no_fault : (a b : Option NewFault) → not (is_some a) ≡ true → not (is_some b) ≡ true → make_fault_of a b ≡ None
@@ -117,5 +118,5 @@ ends_good (first ∷ second ∷ said) fit = two_ends_good first.1 second.1 said 
 pub script_ends_good : (text : List ℕ) (lines given : List NumberedLine) → script_of text ≡ Ok lines → given ≡ lines →
     IfSome (two_ends given) (λ run. make_fault run.0 run.1 ≡ None)
 script_ends_good text lines given parsed same =
-    let fit = unless_too_long (is_too_long text) (lines_from EndA 1 (lines_of text)) (lines_fit EndA 1 (lines_of text)) lines parsed in
+    let fit = parsed_fit EndA text lines parsed in
     subst (λ ls. IfSome (two_ends ls) (λ run. make_fault run.0 run.1 ≡ None)) (sym same) (ends_good lines fit)

@@ -1,3 +1,4 @@
 pub mod Printed
 pub mod Runs
 pub mod Failures
+pub mod Laws

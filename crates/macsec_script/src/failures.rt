@@ -1,4 +1,4 @@
-//! How a program that runs a script ends: what goes wrong, as a line on standard error and as its status.
+//! How a program that runs a script or a capture ends: what goes wrong, as a line on standard error and as its status.
 
 ghost use Rattle.std.specs.Prelude.{◌≡◌, ◌≢◌, OnOk};
 ghost use Rattle.std.specs.IoError.{error_kind};
@@ -9,13 +9,14 @@ ghost use Rattle.macsec_lines.specs.declared.faults.ScriptFault.TheVariants.{Mem
 ghost use Rattle.macsec_script.specs.Failures.{failure_text, failure_status, told_text, told_status};
 
 use macsec_lines::ScriptFault;
+use macsec_pcap::PcapFault;
 use std::io::{self, Write};
 use thiserror::Error;
 
-/// Why a program that runs a script does not end well.
+/// Why a program that runs a script or a capture does not end well.
 #[derive(Clone, Copy, Debug, Error)]
 pub enum Failure<'a> {
-    /// The arguments are not `run SCRIPT`.
+    /// The arguments are of none of the program's forms.
     #[error("the arguments are invalid")]
     Usage,
     /// The file of this path can't be opened.
@@ -24,6 +25,9 @@ pub enum Failure<'a> {
     /// The script or its run has a fault, or the program was out of memory before it.
     #[error(transparent)]
     Script(#[from] ScriptFault),
+    /// A capture file is not read or written.
+    #[error(transparent)]
+    Pcap(#[from] PcapFault),
 }
 
 impl Failure<'_> {
@@ -35,6 +39,10 @@ impl Failure<'_> {
             Failure::Usage => writeln!(writer, "macsec: usage"),
             Failure::CannotOpen(path) => writeln!(writer, "macsec: cannot open {path}"),
             Failure::Script(fault) => fault.tell(writer),
+            Failure::Pcap(fault) => {
+                let name = fault.name();
+                writeln!(writer, "macsec: pcap {name}")
+            }
         }
     }
 
@@ -44,7 +52,7 @@ impl Failure<'_> {
     {
         match self {
             Failure::Usage => 2,
-            Failure::CannotOpen(_) => 1,
+            Failure::CannotOpen(_) | Failure::Pcap(_) => 1,
             Failure::Script(fault) => fault.status(),
         }
     }

@@ -2,6 +2,7 @@
 #![tactic(auto)]
 
 mod failures;
+pub mod laws;
 mod named;
 mod running;
 
@@ -13,4 +14,4 @@ pub use macsec_link::{
 };
 pub use macsec_print::{Label, print_counters, print_numbers, print_outcome};
 pub use named::run_named;
-pub use running::run_script;
+pub use running::{read_text, run_script};

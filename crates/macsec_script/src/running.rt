@@ -24,13 +24,13 @@ pub fn run_script<R: Read, W: Write>(
     ensures run { IfSome (R.remaining reader.old) (λ script. RunGives script (W.contents writer.old) (W.contents writer.new) result) }
     ensures unwritten { IfErr result (λ fault. LeavesText (W.contents writer.old) (W.contents writer.new) fault) }
 {
-    let text = input(alloc, reader)?;
+    let text = read_text(alloc, reader)?;
     let lines = parse_script(alloc, text.as_slice())?;
     print_script(alloc, writer, lines.as_slice())
 }
 
-/// All that a reader has, up to the longest script.
-fn input<R: Read>(alloc: Global, reader: &mut R) -> Result<Vec<u8>, ScriptFault>
+/// All that a reader has, at most 1,048,576 octets. Returns `ScriptLong` if it has more, `Memory`, or `Read`.
+pub fn read_text<R: Read>(alloc: Global, reader: &mut R) -> Result<Vec<u8>, ScriptFault>
     ensures { IfSome (R.remaining reader.old) (λ all. MatchResult result
         (λ text. (text.items ≡ all) × (length all ≤ max_script_len)) (λ fault. IsInputFault all fault)) }
 {

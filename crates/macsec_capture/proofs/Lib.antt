@@ -1,0 +1,5 @@
+pub mod Carried
+pub mod Configured
+pub mod Lengths
+pub mod Taken
+pub mod Whole

@@ -1,0 +1,25 @@
+use Rattle.std.proofs.Common.{◌≡◌, ◌∙◌, arith, refl, rules, subst}
+use Rattle.std.specs.Prelude.{Ok, Some}
+use Rattle.macsec_pcap.specs.Answers.{answer_of}
+use Rattle.macsec_pcap.specs.Reading.{Answers, IsAfter}
+use Rattle.macsec_capture.proofs.Taken.{none_taken, taken_more}
+use Rattle.macsec_capture.proofs.records.run_records.Goals as goal
+
+pub loop-k-init : goal.loop-k-init
+loop-k-init g c = (none_taken _ _ _ _, omega (arith, c.requires.places), c.requires.sound, c.requires.no_fault, refl)
+
+pub loop-k-preserved : goal.loop-k-preserved
+loop-k-preserved g c =
+    let inv = c.loop-k.invariant in
+    let it = c.in_ok-run_record.ensures in
+    let got : c.next.result ≡ Ok (Some c.in-Some.record) = search rules in
+    let after : IsAfter c.loop-k.reader (answer_of c.next.result) c.next.follows.lender-at-none = search rules in
+    let later = subst (λ a. IsAfter c.loop-k.reader (answer_of a) c.next.follows.lender-at-none) got after in (
+      taken_more _ _ _ _ _ _ _ _ _ _ _ _ inv.0
+          (subst (λ a. Answers c.loop-k.reader.ahead (answer_of a)) got c.next.ensures.answer) later.ahead
+          (record { grows = record { output = it.output; text = it.text }; state = it.state }),
+      omega (arith, inv.1, later.places),
+      it.sound,
+      it.no_fault,
+      c.run_record.ensures.lent ∙ inv.4,
+    )

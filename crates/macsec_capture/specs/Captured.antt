@@ -1,0 +1,146 @@
+-- What a run over a capture file writes: the output file, and the text.
+use Rattle.std.specs.Prelude.{ℕ, ◌+◌, List, [], ◌∷◌, ◌++◌, Option, Some, None, Result, Ok, Err, option_map}
+use Rattle.macsec_suite.specs.declared.refusal.Refusal.{Refusal}
+use Rattle.macsec_secy.specs.declared.config.EndConfig.{EndConfig}
+use Rattle.macsec_secy.specs.State.{State, start}
+use Rattle.macsec_secy.specs.Step.{Input, client_frame, link_frame, operator_command, Output, done, refused, leaves, received, step}
+use Rattle.macsec_link.specs.declared.Outcome.{Outcome}
+use Rattle.macsec_link.specs.declared.Outcome.TheVariants.{Done, Refused}
+use Rattle.macsec_link.specs.declared.Event.TheVariants as event
+use Rattle.macsec_lines.specs.declared.lines.Line.{Line}
+use Rattle.macsec_lines.specs.declared.lines.Line.TheVariants as line
+use Rattle.macsec_lines.specs.declared.faults.ScriptFault.{ScriptFault}
+use Rattle.macsec_lines.specs.Scripts.{NumberedLine, config_of}
+use Rattle.macsec_print.specs.declared.counters.Label.TheVariants.{End}
+use Rattle.macsec_print.specs.Counters.{counters_text}
+use Rattle.macsec_print.specs.Outcomes.{outcome_text}
+use Rattle.macsec_script.specs.Printed.{a_config}
+use Rattle.macsec_pcap.specs.declared.fault.PcapFault.{PcapFault}
+use Rattle.macsec_pcap.specs.Records.{CaptureRecord}
+use Rattle.macsec_pcap.specs.Captures.{CaptureFile, file_of}
+use Rattle.macsec_pcap.specs.Written.{header_octets, record_octets}
+use Rattle.macsec_capture.specs.declared.Direction.{Direction}
+use Rattle.macsec_capture.specs.declared.Direction.TheVariants.{Protect, Validate}
+use Rattle.macsec_capture.specs.declared.fault.CaptureFault.{CaptureFault}
+use Rattle.macsec_capture.specs.declared.fault.CaptureFault.TheVariants.{Script, Pcap}
+use Rattle.macsec_capture.specs.Lines.{frame_line, partial_line}
+
+-- what a part of a run writes to the output file and to the text, and the endpoint after it
+pub record Part : Type 0 where
+  pub output : List ℕ
+  pub text : List ℕ
+  pub state : State
+
+abbrev pub nothing : State → Part
+nothing s = record { output = []; text = []; state = s }
+
+-- a part, and then another one from the endpoint after it
+abbrev pub and_after : Part → (State → Part) → Part
+and_after first next = record {
+  output = first.output ++ (next first.state).output;
+  text = first.text ++ (next first.state).text;
+  state = (next first.state).state;
+}
+
+-- ---- the configuration
+
+-- the outcome of a command, as a line of a script prints it
+abbrev pub command_outcome : Output → Outcome
+command_outcome (refused r) = Refused r
+command_outcome other = Done
+
+abbrev pub command_part : ℕ → Output × State → Part
+command_part n answer = record { output = []; text = outcome_text n None (Ok (command_outcome answer.0)); state = answer.1 }
+
+-- what line n of a configuration prints; all of its lines but the first are commands at its end
+abbrev pub line_part : State → NumberedLine → Part
+line_part s (n, line.Event (event.Command e command)) = command_part n (step s (operator_command command))
+line_part s other = nothing s
+
+abbrev pub commands_part : State → List NumberedLine → Part
+commands_part s [] = nothing s
+commands_part s (said ∷ more) = and_after (line_part s said) (λ after. commands_part after more)
+
+-- the configuration of the first line, and the lines after it
+abbrev pub one_end : List NumberedLine → Option (EndConfig × List NumberedLine)
+one_end [] = None
+one_end (first ∷ more) = option_map (λ config. (config, more)) (a_config first.1)
+
+-- ---- the records
+
+-- a frame is one of the client to be protected, or one of the link to be validated
+abbrev pub input_of : Direction → List ℕ → Input
+input_of Protect frame = client_frame frame
+input_of Validate frame = link_frame frame
+
+-- the frame for the output file: what is sent to the link, or what is delivered at the controlled port
+abbrev pub frame_of_output : Output → Option (List ℕ)
+frame_of_output (leaves frame under) = Some frame
+frame_of_output (received verdict row shown controlled) = controlled
+frame_of_output other = None
+
+-- a frame for the output file, with the time of the record that it came from
+abbrev pub record_of_frame : CaptureRecord → Option (List ℕ) → List ℕ
+record_of_frame r None = []
+record_of_frame r (Some frame) = record_octets r.seconds r.fraction frame
+
+abbrev pub frame_part : ℕ → CaptureRecord → Output × State → Part
+frame_part k r answer = record {
+  output = record_of_frame r (frame_of_output answer.0);
+  text = frame_line k answer.0;
+  state = answer.1;
+}
+
+-- record number k with this frame, or a partial one, which does not reach the endpoint
+abbrev pub body_part : Direction → State → ℕ → CaptureRecord → Option (List ℕ) → Part
+body_part direction s k r None = record { output = []; text = partial_line k; state = s }
+body_part direction s k r (Some frame) = frame_part k r (step s (input_of direction frame))
+
+abbrev pub record_part : Direction → State → ℕ → CaptureRecord → Part
+record_part direction s k r = body_part direction s k r r.frame
+
+-- records from number k on
+abbrev pub records_part : Direction → State → ℕ → List CaptureRecord → Part
+records_part direction s k [] = nothing s
+records_part direction s k (r ∷ more) = and_after (record_part direction s k r) (λ after. records_part direction after (k + 1) more)
+
+-- ---- the run
+
+-- what is written, and the fault that ends the run, if one does
+pub record Captured : Type 0 where
+  pub output : List ℕ
+  pub text : List ℕ
+  pub fault : Option CaptureFault
+
+-- the counters after the last record, unless the file has a fault
+abbrev pub last_lines : Option PcapFault → State → List ℕ
+last_lines None s = counters_text End s
+last_lines (Some fault) s = []
+
+-- of a file without a fault in its header: its header in the same unit of time, and a record for each frame
+abbrev pub captured_file : Direction → Part → CaptureFile → Part → Captured
+captured_file direction ready file records = record {
+  output = header_octets file.resolution ++ records.output;
+  text = ready.text ++ (records.text ++ last_lines file.capture.fault records.state);
+  fault = option_map Pcap file.capture.fault;
+}
+
+-- behind what the commands of the configuration printed
+abbrev pub captured_after : Direction → Part → Result CaptureFile PcapFault → Captured
+captured_after direction ready (Err fault) = record { output = []; text = ready.text; fault = Some (Pcap fault) }
+captured_after direction ready (Ok file) =
+    captured_file direction ready file (records_part direction ready.state 0 file.capture.records)
+
+-- no configuration without a fault has no end
+abbrev pub captured_at : Direction → Option (EndConfig × List NumberedLine) → List ℕ → Captured
+captured_at direction None file = record { output = []; text = []; fault = None }
+captured_at direction (Some (config, commands)) file =
+    captured_after direction (commands_part (start config) commands) (file_of file)
+
+abbrev pub captured_by : Direction → Result (List NumberedLine) ScriptFault → List ℕ → Captured
+captured_by direction (Err fault) file = record { output = []; text = []; fault = Some (Script fault) }
+captured_by direction (Ok lines) file = captured_at direction (one_end lines) file
+
+-- a run in this direction by a configuration over a capture file
+abbrev pub captured : Direction → List ℕ → List ℕ → Captured
+captured direction config file = captured_by direction (config_of config) file

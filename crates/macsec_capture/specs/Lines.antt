@@ -1,0 +1,34 @@
+-- What is printed of a record of a capture: its number, from 0, and what becomes of its frame.
+use Rattle.std.specs.Prelude.{ℕ, List, [], ◌++◌, length, decimal, codes, Option, Some, None}
+use Rattle.macsec_rx.specs.declared.Verdict.{Verdict}
+use Rattle.macsec_rx.specs.Verdicts.{verdict_name}
+use Rattle.macsec_secy.specs.declared.answers.DropReason.TheVariants.{NoSa, TooLong}
+use Rattle.macsec_secy.specs.declared.fault.FrameFault.{FrameFault}
+use Rattle.macsec_secy.specs.declared.fault.FrameFault.TheVariants.{Short, Long}
+use Rattle.macsec_secy.specs.Step.{Output, done, refused, leaves, dropped_no_sa, dropped_too_long, received, fault}
+use Rattle.macsec_print.specs.Outcomes.{drop_text}
+
+-- a fault of a frame by its number and its name
+abbrev pub frame_fault_text : FrameFault → List ℕ
+frame_fault_text Short = codes "1 Short"
+frame_fault_text Long = codes "2 Long"
+
+-- not all of the frame was captured
+abbrev pub partial_line : ℕ → List ℕ
+partial_line k = codes "record " ++ decimal k ++ codes " partial\n"
+
+-- the verdict on a link frame, and how many octets are delivered, if any are
+abbrev pub verdict_line : ℕ → Verdict → Option (List ℕ) → List ℕ
+verdict_line k verdict None = codes "record " ++ decimal k ++ codes " " ++ verdict_name verdict ++ codes "\n"
+verdict_line k verdict (Some frame) =
+    codes "record " ++ decimal k ++ codes " " ++ verdict_name verdict ++ codes " " ++ decimal (length frame) ++ codes "\n"
+
+-- a frame of record k; a frame is no command, so it is neither done nor refused
+abbrev pub frame_line : ℕ → Output → List ℕ
+frame_line k (leaves frame under) = codes "record " ++ decimal k ++ codes " link " ++ decimal (length frame) ++ codes "\n"
+frame_line k dropped_no_sa = codes "record " ++ decimal k ++ codes " dropped " ++ drop_text NoSa ++ codes "\n"
+frame_line k dropped_too_long = codes "record " ++ decimal k ++ codes " dropped " ++ drop_text TooLong ++ codes "\n"
+frame_line k (received verdict row shown controlled) = verdict_line k verdict controlled
+frame_line k (fault f) = codes "record " ++ decimal k ++ codes " fault " ++ frame_fault_text f ++ codes "\n"
+frame_line k done = []
+frame_line k (refused r) = []

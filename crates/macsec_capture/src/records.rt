@@ -1,0 +1,170 @@
+//! The records of a capture: their frames go through the endpoint, in order, and what comes of them to another file.
+
+ghost use Rattle.std.specs.Prelude.{◌≡◌, ◌≤◌, IfErr, IfSome, None, OnOk, Some, length, option_copied};
+ghost use Rattle.macsec_secy.specs.Answers.{output_of_received, output_of_sent};
+ghost use Rattle.macsec_secy.specs.Sound.{IsSound};
+ghost use Rattle.macsec_secy.specs.Step.{client_frame, link_frame, step};
+ghost use Rattle.std.specs.Io.KnownBytes.{Appends};
+ghost use Rattle.macsec_pcap.specs.Answers.{shown};
+ghost use Rattle.macsec_pcap.specs.Limits.{max_record_length, max_records};
+ghost use Rattle.macsec_pcap.specs.Writing.{contents, fault_of, lent};
+ghost use Rattle.macsec_capture.specs.Captured.{frame_of_output, frame_part, record_of_frame, record_part};
+ghost use Rattle.macsec_capture.specs.Runs.{IsLateFault, IsWriteFault, RunsRecords};
+
+use crate::lines::{write_partial, write_received, write_sent};
+use crate::{CaptureFault, Direction};
+use macsec_pcap::{Body, MAX_RECORDS, PcapReader, PcapWriter, Record};
+use macsec_print::write_fault;
+use macsec_secy::laws::lengths_of_frames;
+use macsec_secy::{FrameFault, Received, Secy, Sent};
+use std::io::{Read, Write};
+
+/// Takes the records of a file in order, up to its end or its fault.
+pub(crate) fn run_records<R: Read, W: Write, T: Write>(
+    direction: Direction,
+    endpoint: &mut Secy,
+    reader: &mut PcapReader<R>,
+    writer: &mut PcapWriter<'_, W>,
+    text: &mut T,
+) -> Result<(), CaptureFault>
+    requires sound { IsSound endpoint.old }
+    requires places { reader.old.places ≡ max_records }
+    requires no_fault { fault_of writer.old ≡ None }
+    ensures lent { (lent writer.new).ghost_name ≡ (lent writer.old).ghost_name }
+    ensures records { RunsRecords direction endpoint.old reader.old.ahead (record { output = contents W.contents writer.old; text = T.contents text.old })
+        (record { output = contents W.contents writer.new; text = T.contents text.new }) endpoint.new result }
+    ensures fault { IfErr result IsLateFault }
+{
+    for k in 0..MAX_RECORDS + 1 {
+        let Some(record) = reader.next()? else {
+            return Ok(());
+        };
+        run_record(direction, endpoint, k, &record, writer, text)?;
+    }
+    unreachable!()
+}
+
+/// Takes record number `k`: prints its line, and writes the frame that comes of it.
+fn run_record<W: Write, T: Write>(
+    direction: Direction,
+    endpoint: &mut Secy,
+    k: u32,
+    record: &Record<'_>,
+    writer: &mut PcapWriter<'_, W>,
+    text: &mut T,
+) -> Result<(), CaptureFault>
+    requires sound { IsSound endpoint.old }
+    requires no_fault { fault_of writer.old ≡ None }
+    ensures lent { (lent writer.new).ghost_name ≡ (lent writer.old).ghost_name }
+    ensures no_fault { OnOk result (fault_of writer.new ≡ None) }
+    ensures output { OnOk result (Appends (contents W.contents writer.old) (contents W.contents writer.new) (record_part direction endpoint.old k (shown «record».now)).output) }
+    ensures text { OnOk result (Appends (T.contents text.old) (T.contents text.new) (record_part direction endpoint.old k (shown «record».now)).text) }
+    ensures state { OnOk result (endpoint.new ≡ (record_part direction endpoint.old k (shown «record».now)).state) }
+    ensures sound { OnOk result (IsSound endpoint.new) }
+    ensures fault { IfErr result IsWriteFault }
+{
+    match (record.body, direction) {
+        (Body::Partial, _) => {
+            write_fault(write_partial(text, k))?;
+            Ok(())
+        }
+        (Body::Whole(frame), Direction::Protect) => {
+            protect_frame(endpoint, k, record, frame, writer, text)
+        }
+        (Body::Whole(frame), Direction::Validate) => {
+            validate_frame(endpoint, k, record, frame, writer, text)
+        }
+    }
+}
+
+/// Protects the frame of record number `k`: prints its line, and writes what is sent for it.
+fn protect_frame<W: Write, T: Write>(
+    endpoint: &mut Secy,
+    k: u32,
+    record: &Record<'_>,
+    frame: &[u8],
+    writer: &mut PcapWriter<'_, W>,
+    text: &mut T,
+) -> Result<(), CaptureFault>
+    requires sound { IsSound endpoint.old }
+    requires no_fault { fault_of writer.old ≡ None }
+    ensures lent { (lent writer.new).ghost_name ≡ (lent writer.old).ghost_name }
+    ensures no_fault { OnOk result (fault_of writer.new ≡ None) }
+    ensures output { OnOk result (Appends (contents W.contents writer.old) (contents W.contents writer.new) (frame_part k (shown «record».now) (step endpoint.old (client_frame frame.now))).output) }
+    ensures text { OnOk result (Appends (T.contents text.old) (T.contents text.new) (frame_part k (shown «record».now) (step endpoint.old (client_frame frame.now))).text) }
+    ensures state { OnOk result (endpoint.new ≡ (step endpoint.old (client_frame frame.now)).1) }
+    ensures sound { OnOk result (IsSound endpoint.new) }
+    ensures fault { IfErr result IsWriteFault }
+{
+    lengths_of_frames();
+    let sent = endpoint.send(frame);
+    write_fault(write_sent(text, k, &sent))?;
+    write_frame(writer, record, sent_frame(&sent))?;
+    Ok(())
+}
+
+/// Validates the frame of record number `k`: prints its line, and writes what is delivered of it.
+fn validate_frame<W: Write, T: Write>(
+    endpoint: &mut Secy,
+    k: u32,
+    record: &Record<'_>,
+    frame: &[u8],
+    writer: &mut PcapWriter<'_, W>,
+    text: &mut T,
+) -> Result<(), CaptureFault>
+    requires sound { IsSound endpoint.old }
+    requires no_fault { fault_of writer.old ≡ None }
+    ensures lent { (lent writer.new).ghost_name ≡ (lent writer.old).ghost_name }
+    ensures no_fault { OnOk result (fault_of writer.new ≡ None) }
+    ensures output { OnOk result (Appends (contents W.contents writer.old) (contents W.contents writer.new) (frame_part k (shown «record».now) (step endpoint.old (link_frame frame.now))).output) }
+    ensures text { OnOk result (Appends (T.contents text.old) (T.contents text.new) (frame_part k (shown «record».now) (step endpoint.old (link_frame frame.now))).text) }
+    ensures state { OnOk result (endpoint.new ≡ (step endpoint.old (link_frame frame.now)).1) }
+    ensures sound { OnOk result (IsSound endpoint.new) }
+    ensures fault { IfErr result IsWriteFault }
+{
+    lengths_of_frames();
+    let received = endpoint.receive(frame);
+    write_fault(write_received(text, k, &received))?;
+    write_frame(writer, record, delivered_frame(&received))?;
+    Ok(())
+}
+
+/// The frame that is sent for a client frame, if one is.
+fn sent_frame<'a>(sent: &Result<Sent<'a>, FrameFault>) -> Option<&'a [u8]>
+    ensures { option_copied result ≡ frame_of_output (output_of_sent sent.now) }
+{
+    match sent {
+        Ok(Sent::Link { frame, .. }) => Some(frame),
+        _ => None,
+    }
+}
+
+/// The frame that is delivered at the controlled port, if one is.
+fn delivered_frame<'a>(received: &Result<Received<'a>, FrameFault>) -> Option<&'a [u8]>
+    ensures { option_copied result ≡ frame_of_output (output_of_received received.now) }
+{
+    match received {
+        Ok(received) => received.controlled,
+        Err(_) => None,
+    }
+}
+
+/// Writes a frame at the time of the record that it came from, if there is one.
+fn write_frame<W: Write>(
+    writer: &mut PcapWriter<'_, W>,
+    record: &Record<'_>,
+    frame: Option<&[u8]>,
+) -> Result<(), CaptureFault>
+    requires fits { IfSome (option_copied frame) (λ f. length f ≤ max_record_length) }
+    requires no_fault { fault_of writer.old ≡ None }
+    ensures lent { (lent writer.new).ghost_name ≡ (lent writer.old).ghost_name }
+    ensures no_fault { OnOk result (fault_of writer.new ≡ None) }
+    ensures output { OnOk result (Appends (contents W.contents writer.old) (contents W.contents writer.new) (record_of_frame (shown «record».now) (option_copied frame.entry))) }
+    ensures fault { IfErr result IsWriteFault }
+{
+    let Some(frame) = frame else {
+        return Ok(());
+    };
+    writer.write(record.seconds, record.fraction, frame)?;
+    Ok(())
+}

@@ -1,0 +1,271 @@
+//! The rows of a test are runs: the configuration, the capture file in hex, and what is wanted: the output file in hex,
+//! in which a question mark is any digit, the text, and the name of the fault. All are in pieces that are joined.
+
+use macsec_capture::{CaptureFault, Direction, run_capture};
+use std::alloc::{AllocError, Global};
+use std::io::{Read, Write};
+use std::test::Fail;
+
+/// A run, in pieces: direction, configuration, input in hex, output in hex, text, fault.
+type Row = (
+    Direction,
+    &'static [&'static str],
+    &'static [&'static str],
+    &'static [&'static str],
+    &'static [&'static str],
+    &'static str,
+);
+
+/// The header of a file in microseconds, with the lowest octets first.
+pub const MICRO: &str = "d4c3b2a1020004000000000000000000ffff000001000000";
+
+/// A record of a client frame of 14 octets, with the lowest octets first.
+pub const RECORD: &str = "00000000000000000e0000000e000000ffffffffffff0200000000010800";
+
+/// An endpoint that protects client frames for integrity, from packet number 1 on, and what its commands print.
+pub const SENDER: &str =
+    "end A gcm128 0200000000010001 1518 sci\nA key 0 ad7a2bd03eac835a6f620fdcb506b345 0\nA txsa 0 0 1 int\nA txon 0\n";
+
+pub const SENDER_DONE: &str = "2 done\n3 done\n4 done\n";
+
+/// An endpoint that receives what that one sends, and what its commands print.
+const RECEIVER: &str =
+    "end A gcm128 0000000000000002 1518 auto\nA key 0 ad7a2bd03eac835a6f620fdcb506b345 0\nA rxsc 0200000000010001\nA rxsa 0200000000010001 0 0 1\nA rxon 0200000000010001 0\n";
+
+const RECEIVER_DONE: &str = "2 done\n3 done\n4 done\n5 done\n";
+
+/// The counters of the endpoint, up to those of transmission, where nothing was received.
+const NONE_IN: &str =
+    "end InPktsUntagged 0\nend InPktsNoTag 0\nend InPktsBadTag 0\nend InPktsReserved 0\nend InPktsNoSA 0\nend InPktsNoSAError 0\nend InOctetsValidated 0\nend InOctetsDecrypted 0\nend OutPktsUntagged 0\nend OutPktsTooLong 0\n";
+
+/// The rest of them where nothing was sent, and where two frames of 2 octets of data were.
+const NONE_OUT: &str =
+    "end OutPktsNoSA 0\nend OutPktsProtected 0\nend OutPktsEncrypted 0\nend OutOctetsProtected 0\nend OutOctetsEncrypted 0\n";
+
+const TWO_OUT: &str =
+    "end OutPktsNoSA 0\nend OutPktsProtected 2\nend OutPktsEncrypted 0\nend OutOctetsProtected 4\nend OutOctetsEncrypted 0\n";
+
+/// All of them where two such frames were received.
+const TWO_IN: &str =
+    "end InPktsUntagged 0\nend InPktsNoTag 0\nend InPktsBadTag 0\nend InPktsReserved 0\nend InPktsNoSA 0\nend InPktsNoSAError 0\nend InOctetsValidated 4\nend InOctetsDecrypted 0\nend OutPktsUntagged 0\nend OutPktsTooLong 0\n";
+
+const CHANNEL: &str =
+    "end 0200000000010001 InPktsOK 2\nend 0200000000010001 InPktsUnchecked 0\nend 0200000000010001 InPktsDelayed 0\nend 0200000000010001 InPktsLate 0\nend 0200000000010001 InPktsInvalid 0\nend 0200000000010001 InPktsNotValid 0\n";
+
+/// What is sent for the client frame of the record with packet numbers 1 and 2, in records, with any ICV.
+const SENT_1: &str =
+    "00000000000000002e0000002e000000ffffffffffff02000000000188e520020000000102000000000100010800????????????????????????????????";
+
+const SENT_2: &str =
+    "00000000000000002e0000002e000000ffffffffffff02000000000188e520020000000202000000000100010800????????????????????????????????";
+
+/// Pieces of text, one after another.
+pub fn joined(alloc: Global, pieces: &[&str]) -> Result<String, AllocError> {
+    let mut text = String::new(alloc);
+    for piece in pieces {
+        text.push_str(piece)?;
+    }
+    Ok(text)
+}
+
+/// The octets of pieces of hex, one after another.
+pub fn octets(alloc: Global, pieces: &[&str]) -> Result<Vec<u8>, Fail> {
+    let text = joined(alloc, pieces)?;
+    Ok(hex::decode(alloc, text.as_str())?)
+}
+
+/// How a run ends: the name of its fault, or nothing.
+pub fn ended<C: Read, R: Read, W: Write, T: Write>(
+    alloc: Global,
+    direction: Direction,
+    files: (&mut C, &mut R, &mut W),
+    text: &mut T,
+) -> &'static str {
+    let (config, input, output) = files;
+    match run_capture(alloc, direction, config, input, output, text) {
+        Ok(()) => "",
+        Err(CaptureFault::Script(fault)) => fault.name(),
+        Err(CaptureFault::Pcap(fault)) => fault.name(),
+    }
+}
+
+/// Is the text what is wanted, in which a question mark is any digit?
+fn is_as_wanted(text: &[u8], wanted: &[u8]) -> bool {
+    text.len() == wanted.len()
+        && text
+            .iter()
+            .zip(wanted)
+            .all(|(octet, other)| octet == other || *other == b'?')
+}
+
+/// What a run writes, prints, and how it ends.
+#[derive(Drop)]
+struct Run {
+    output: Vec<u8>,
+    text: Vec<u8>,
+    fault: &'static str,
+}
+
+/// Runs a capture.
+fn run(alloc: Global, direction: Direction, config: &str, input: &[u8]) -> Run {
+    let (mut output, mut text) = (Vec::new(alloc), Vec::new(alloc));
+    let files = (&mut config.as_bytes(), &mut &input[..], &mut output);
+    let fault = ended(alloc, direction, files, &mut text);
+    Run {
+        output,
+        text,
+        fault,
+    }
+}
+
+/// Captures that end well, that end with a fault of the input's format, and with one of the configuration: what was
+/// written before it stays, and there are no counters.
+#[test]
+fn captures(rt: HostRuntime) -> Result<(), Fail> {
+    let alloc = rt.alloc();
+    let rows: [Row; 11] = [
+        (
+            Direction::Protect,
+            &[SENDER],
+            &[MICRO, RECORD, RECORD],
+            &[MICRO, SENT_1, SENT_2],
+            &[
+                SENDER_DONE,
+                "record 0 link 46\nrecord 1 link 46\n",
+                NONE_IN,
+                TWO_OUT,
+            ],
+            "",
+        ),
+        // The second record is cut.
+        (
+            Direction::Protect,
+            &[SENDER],
+            &[
+                MICRO,
+                RECORD,
+                "00000000000000000e0000000e000000ffffffffffff02",
+            ],
+            &[MICRO, SENT_1],
+            &[SENDER_DONE, "record 0 link 46\n"],
+            "CutRecord",
+        ),
+        (
+            Direction::Protect,
+            &[SENDER],
+            &[],
+            &[],
+            &[SENDER_DONE],
+            "CutHeader",
+        ),
+        (
+            Direction::Protect,
+            &[SENDER],
+            &[MICRO],
+            &[MICRO],
+            &[SENDER_DONE, NONE_IN, NONE_OUT],
+            "",
+        ),
+        // A partial record has a number, and does not reach the endpoint.
+        (
+            Direction::Protect,
+            &[SENDER],
+            &[
+                MICRO,
+                "00000000000000000e0000000f000000ffffffffffff0200000000010800",
+                RECORD,
+                RECORD,
+            ],
+            &[MICRO, SENT_1, SENT_2],
+            &[
+                SENDER_DONE,
+                "record 0 partial\nrecord 1 link 46\nrecord 2 link 46\n",
+                NONE_IN,
+                TWO_OUT,
+            ],
+            "",
+        ),
+        // Nanoseconds, with the highest octets first; a frame of 13 octets, and one that is sent at its record's time.
+        (
+            Direction::Protect,
+            &["end A gcm128 0200000000010001 1518 sci\nA protect off\n"],
+            &[
+                "a1b23c4d0002000400000000000000000000ffff00000001",
+                "00000001000000020000000d0000000dffffffffffff02000000000108",
+                "00000003000000040000000e0000000effffffffffff0200000000010800",
+                "00",
+            ],
+            &[
+                "4d3cb2a1020004000000000000000000ffff000001000000",
+                "03000000040000000e0000000e000000ffffffffffff0200000000010800",
+            ],
+            &["2 done\nrecord 0 fault 1 Short\nrecord 1 link 14\n"],
+            "CutRecord",
+        ),
+        // No association: the frame is dropped, and no frame of it is written.
+        (
+            Direction::Protect,
+            &["end A gcm128 0200000000010001 1518 sci\n"],
+            &[MICRO, RECORD, "00"],
+            &[MICRO],
+            &["record 0 dropped NoSA\n"],
+            "CutRecord",
+        ),
+        // Verdicts that deliver nothing and the frame itself.
+        (
+            Direction::Validate,
+            &["end A gcm128 0200000000010001 1518 sci\n"],
+            &[MICRO, RECORD, "00"],
+            &[MICRO],
+            &["record 0 NoTag\n"],
+            "CutRecord",
+        ),
+        (
+            Direction::Validate,
+            &["end A gcm128 0200000000010001 1518 sci\nA validate check\nA key 0 00 0\n"],
+            &[MICRO, RECORD],
+            &[],
+            &[],
+            "Hex",
+        ),
+        (
+            Direction::Validate,
+            &["end A gcm128 0200000000010001 1518 sci\nA validate check\nA txon 0\n"],
+            &[MICRO, RECORD, "00"],
+            &[MICRO, RECORD],
+            &["2 done\n3 refused 13 NoSa\nrecord 0 Untagged 14\n"],
+            "CutRecord",
+        ),
+        (Direction::Validate, &["# no end\n"], &[], &[], &[], "Ends"),
+    ];
+    for (direction, config, input, output, text, fault) in rows {
+        let config = joined(alloc, config)?;
+        let input = octets(alloc, input)?;
+        let run = run(alloc, direction, config.as_str(), input.as_slice());
+        let wanted = joined(alloc, text)?;
+        assert_eq!(&rt; run.fault, fault);
+        assert_eq!(&rt; run.text.as_slice(), wanted.as_bytes());
+        let written = hex::encode(alloc, run.output.as_slice())?;
+        let wanted = joined(alloc, output)?;
+        assert!(&rt;
+            is_as_wanted(written.as_bytes(), wanted.as_bytes()),
+            "{written}"
+        );
+    }
+    Ok(())
+}
+
+/// What was protected is validated by the endpoint at the other end, and gives the client frames.
+#[test]
+fn there_and_back(rt: HostRuntime) -> Result<(), Fail> {
+    let alloc = rt.alloc();
+    let input = octets(alloc, &[MICRO, RECORD, RECORD])?;
+    let sent = run(alloc, Direction::Protect, SENDER, input.as_slice());
+    let back = run(alloc, Direction::Validate, RECEIVER, sent.output.as_slice());
+    let lines = "record 0 OK 14\nrecord 1 OK 14\n";
+    let wanted = joined(alloc, &[RECEIVER_DONE, lines, TWO_IN, NONE_OUT, CHANNEL])?;
+    assert_eq!(&rt; back.fault, "");
+    assert_eq!(&rt; back.text.as_slice(), wanted.as_bytes());
+    assert_eq!(&rt; back.output.as_slice(), input.as_slice());
+    Ok(())
+}
