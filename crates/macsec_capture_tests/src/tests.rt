@@ -107,7 +107,7 @@ struct Run {
 }
 
 /// Runs a capture.
-fn run(alloc: Global, direction: Direction, config: &str, input: &[u8]) -> Run {
+fn outcome(alloc: Global, direction: Direction, config: &str, input: &[u8]) -> Run {
     let (mut output, mut text) = (Vec::new(alloc), Vec::new(alloc));
     let files = (&mut config.as_bytes(), &mut &input[..], &mut output);
     let fault = ended(alloc, direction, files, &mut text);
@@ -241,7 +241,7 @@ fn captures(rt: HostRuntime) -> Result<(), Fail> {
     for (direction, config, input, output, text, fault) in rows {
         let config = joined(alloc, config)?;
         let input = octets(alloc, input)?;
-        let run = run(alloc, direction, config.as_str(), input.as_slice());
+        let run = outcome(alloc, direction, config.as_str(), input.as_slice());
         let wanted = joined(alloc, text)?;
         assert_eq!(&rt; run.fault, fault);
         assert_eq!(&rt; run.text.as_slice(), wanted.as_bytes());
@@ -260,8 +260,8 @@ fn captures(rt: HostRuntime) -> Result<(), Fail> {
 fn there_and_back(rt: HostRuntime) -> Result<(), Fail> {
     let alloc = rt.alloc();
     let input = octets(alloc, &[MICRO, RECORD, RECORD])?;
-    let sent = run(alloc, Direction::Protect, SENDER, input.as_slice());
-    let back = run(alloc, Direction::Validate, RECEIVER, sent.output.as_slice());
+    let sent = outcome(alloc, Direction::Protect, SENDER, input.as_slice());
+    let back = outcome(alloc, Direction::Validate, RECEIVER, sent.output.as_slice());
     let lines = "record 0 OK 14\nrecord 1 OK 14\n";
     let wanted = joined(alloc, &[RECEIVER_DONE, lines, TWO_IN, NONE_OUT, CHANNEL])?;
     assert_eq!(&rt; back.fault, "");
