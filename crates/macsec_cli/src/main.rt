@@ -1,16 +1,15 @@
-//! The program `macsec`: runs a script for a MACsec endpoint.
+//! The program `macsec`: runs a script for a MACsec endpoint, or protects or validates the frames of a capture file.
 #![tactic(auto)]
 
 ghost use Rattle.std.specs.Prelude.{map, string_bytes, IfErr};
-ghost use Rattle.macsec_cli.specs.Words.{FailsBy};
+ghost use Rattle.macsec_words.specs.Words.{FailsBy};
 
-mod words;
-
-use macsec_script::{Failure, ScriptFault, failure_of_words, run_named, tell};
+use macsec_program::{Failure, capture_named, failure_of_words, run_named, tell};
+use macsec_script::ScriptFault;
+use macsec_words::{Task, task_of_words};
 use std::io::BufWriter;
 use std::process::ExitCode;
 use std::{env, io};
-use words::script_named;
 
 fn main(rt: HostRuntime) -> ExitCode {
     let (status, _) = match own_words(&rt) {
@@ -25,13 +24,18 @@ fn own_words(rt: &HostRuntime) -> io::Result<Vec<String>> {
     Ok(env::args(rt)?.collect(rt.alloc())?)
 }
 
-/// Runs the script that the words name, to standard output.
+/// Does what the words ask for; what it prints goes to standard output.
 fn run<'a>(rt: &HostRuntime, words: &'a [String]) -> Result<(), Failure<'a>>
     ensures { IfErr result (FailsBy (map string_bytes words.now)) }
 {
-    let script = script_named(rt.alloc(), words)?;
-    let Ok(mut output) = BufWriter::new(rt.alloc(), rt.stdout()) else {
+    let task = task_of_words(rt.alloc(), words)?;
+    let Ok(mut text) = BufWriter::new(rt.alloc(), rt.stdout()) else {
         return Err(Failure::Script(ScriptFault::Memory));
     };
-    run_named(rt, rt.alloc(), script, &mut rt.stdin(), &mut output)
+    match task {
+        Task::Run(script) => run_named(rt, rt.alloc(), script, &mut rt.stdin(), &mut text),
+        Task::Capture(direction, paths) => {
+            capture_named(rt, rt.alloc(), direction, paths, &mut text)
+        }
+    }
 }

@@ -1,4 +1,3 @@
 pub mod Printed
 pub mod Runs
-pub mod Failures
 pub mod Laws

@@ -6,7 +6,8 @@ mod devices;
 mod failures;
 mod faults;
 
-use macsec_script::{Failure, ScriptFault, run_script, tell};
+use macsec_program::{Failure, tell};
+use macsec_script::{ScriptFault, run_script};
 use std::alloc::Global;
 use std::io::{Read, Write};
 use std::process::Abort;

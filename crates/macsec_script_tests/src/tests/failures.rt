@@ -2,7 +2,8 @@
 
 use super::devices::FailingWriter;
 use super::{assert_told, script, text};
-use macsec_script::{Failure, ScriptFault, failure_of_words, run_named, tell};
+use macsec_program::{Failure, failure_of_words, run_named, tell};
+use macsec_script::ScriptFault;
 use std::fs;
 use std::io::{self, Write};
 use std::test::Fail;

@@ -1,0 +1,11 @@
+//! The runs of the program `macsec` over files that are named by their paths, and how they end: a line on standard error
+//! and the program's status.
+#![tactic(auto)]
+
+mod captures;
+mod failures;
+mod scripts;
+
+pub use captures::{CapturePaths, capture_named};
+pub use failures::{Failure, failure_of_words, tell};
+pub use scripts::run_named;

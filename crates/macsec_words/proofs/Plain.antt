@@ -1,0 +1,8 @@
+-- What is read of a command says that none of its arguments is global.
+use Rattle.std.proofs.Common.{◌≡◌, ◌&&◌, not, Bool, true, false, refl}
+
+pub no_globals : (a b h r : Bool) → (a && (not b && (not h && r))) ≡ true → h ≡ false
+no_globals false b h r is = cc
+no_globals true true h r is = cc
+no_globals true false true r is = cc
+no_globals true false false r is = refl
