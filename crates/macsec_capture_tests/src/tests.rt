@@ -1,6 +1,9 @@
 //! The rows of a test are runs: the configuration, the capture file in hex, and what is wanted: the output file in hex,
 //! in which a question mark is any digit, the text, and the name of the fault. All are in pieces that are joined.
 
+mod devices;
+mod named;
+
 use macsec_capture::{CaptureFault, Direction, run_capture};
 use std::alloc::{AllocError, Global};
 use std::io::{Read, Write};
@@ -29,7 +32,7 @@ pub const SENDER: &str =
 pub const SENDER_DONE: &str = "2 done\n3 done\n4 done\n";
 
 /// An endpoint that receives what that one sends, and what its commands print.
-const RECEIVER: &str =
+pub const RECEIVER: &str =
     "end A gcm128 0000000000000002 1518 auto\nA key 0 ad7a2bd03eac835a6f620fdcb506b345 0\nA rxsc 0200000000010001\nA rxsa 0200000000010001 0 0 1\nA rxon 0200000000010001 0\n";
 
 const RECEIVER_DONE: &str = "2 done\n3 done\n4 done\n5 done\n";

@@ -22,6 +22,8 @@ enum Wanted {
     Passed(u32, u8),
     /// It comes late.
     Late(u32),
+    /// It comes late and is delivered, for want of replay protection.
+    Delayed(u32, u8),
 }
 
 /// The event.
@@ -33,7 +35,9 @@ fn event_of(alloc: Global, wanted: Wanted) -> Result<Event, Fail> {
             End::A,
             frame(alloc, &client(last))?,
         )),
-        Wanted::Passed(n, _) | Wanted::Late(n) => Ok(Event::Deliver(End::B, n)),
+        Wanted::Passed(n, _) | Wanted::Late(n) | Wanted::Delayed(n, _) => {
+            Ok(Event::Deliver(End::B, n))
+        }
     }
 }
 
@@ -49,6 +53,8 @@ fn is_wanted(got: &Result<Outcome, WorldFault>, wanted: Wanted) -> bool {
             },
         ) => match (wanted, controlled) {
             (Wanted::Passed(_, last), Some(frame)) => *verdict == Verdict::Passed
+                && frame.octets() == client(last).as_slice(),
+            (Wanted::Delayed(_, last), Some(frame)) => *verdict == Verdict::Delayed
                 && frame.octets() == client(last).as_slice(),
             (Wanted::Late(_), None) => *verdict == Verdict::Late,
             _ => false,
@@ -139,6 +145,72 @@ fn rollover(rt: HostRuntime) -> Result<(), Fail> {
     ];
     let world = world_after(&rt, rt.alloc(), &table)?;
     assert_logs(&rt, &world);
+    Ok(())
+}
+
+/// At a window of 0 a frame passes only if its packet number is above all before it, without replay protection late
+/// frames are delivered, and at a window of 1 a repeat inside it passes.
+#[test]
+fn orders(rt: HostRuntime) -> Result<(), Fail> {
+    let first = an(&rt, 0);
+    let rows = [
+        (
+            Command::Replay {
+                protect: true,
+                window: 0,
+            },
+            [
+                Wanted::Passed(0, 0),
+                Wanted::Passed(2, 2),
+                Wanted::Late(1),
+                Wanted::Late(2),
+            ],
+        ),
+        (
+            Command::Replay {
+                protect: false,
+                window: 0,
+            },
+            [
+                Wanted::Passed(0, 0),
+                Wanted::Passed(2, 2),
+                Wanted::Delayed(1, 1),
+                Wanted::Delayed(2, 2),
+            ],
+        ),
+        (
+            Command::Replay {
+                protect: true,
+                window: 1,
+            },
+            [
+                Wanted::Passed(0, 0),
+                Wanted::Passed(1, 1),
+                Wanted::Passed(1, 1),
+                Wanted::Late(0),
+            ],
+        ),
+    ];
+    for (replay, [one, two, three, four]) in rows {
+        let table = [
+            key(End::A, 0),
+            tx_sa(first, 0),
+            Wanted::Done(End::A, Command::TxOn(first)),
+            Wanted::Done(End::B, replay),
+            key(End::B, 0),
+            Wanted::Done(End::B, Command::RxSc(A.sci)),
+            rx_sa(first, 0),
+            Wanted::Done(End::B, Command::RxOn(A.sci, first)),
+            Wanted::Sent(0),
+            Wanted::Sent(1),
+            Wanted::Sent(2),
+            one,
+            two,
+            three,
+            four,
+        ];
+        let _world = world_after(&rt, rt.alloc(), &table)?;
+    }
     Ok(())
 }
 

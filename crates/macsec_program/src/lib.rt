@@ -8,4 +8,7 @@ mod scripts;
 
 pub use captures::{CapturePaths, capture_named};
 pub use failures::{Failure, failure_of_words, tell};
+pub use macsec_capture::Direction;
+pub use macsec_lines::ScriptFault;
+pub use macsec_pcap::PcapFault;
 pub use scripts::run_named;

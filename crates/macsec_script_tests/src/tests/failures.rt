@@ -2,7 +2,7 @@
 
 use super::devices::FailingWriter;
 use super::{assert_told, script, text};
-use macsec_program::{Failure, failure_of_words, run_named, tell};
+use macsec_program::{Failure, PcapFault, failure_of_words, run_named, tell};
 use macsec_script::ScriptFault;
 use std::fs;
 use std::io::{self, Write};
@@ -26,6 +26,11 @@ fn failures_told(rt: HostRuntime) {
         (Failure::Script(ScriptFault::Memory), "macsec: Memory\n", 1),
         (Failure::Script(ScriptFault::Read), "macsec: Read\n", 1),
         (Failure::Script(ScriptFault::Write), "macsec: Write\n", 1),
+        (
+            Failure::Pcap(PcapFault::CutRecord),
+            "macsec: pcap CutRecord\n",
+            1,
+        ),
         (of_words(io::ErrorKind::OutOfMemory), "macsec: Memory\n", 1),
         (of_words(io::ErrorKind::InvalidData), "macsec: usage\n", 2),
         (of_words(io::ErrorKind::Other), "macsec: usage\n", 2),

@@ -94,6 +94,14 @@ fn scripts_at_fault(rt: HostRuntime) {
             "end A gcm128 12153524c0895e81 1518 sci\nend B gcm128 0000000000000002 1518 auto\nA txon 2\nend A gcm128 12153524c0895e81 1518 sci\n",
             "macsec: line 4: Ends\n",
         ),
+        (
+            "end A gcm128 12153524c0895e81 1518 sci\nend B gcm128 0000000000000002 1518 auto\nA send 0g\nfrob\n",
+            "macsec: line 3: Hex\n",
+        ),
+        (
+            "end A gcm128 12153524c0895e81 1518 sci\nend B gcm128 0000000000000002 1518 auto\nend A gcm128 12153524c0895e81 1518 sci\n",
+            "macsec: line 3: Ends\n",
+        ),
     ] {
         assert_ends(&rt, script, Some(told));
     }
