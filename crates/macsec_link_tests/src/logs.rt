@@ -148,70 +148,68 @@ fn rollover(rt: HostRuntime) -> Result<(), Fail> {
     Ok(())
 }
 
+/// B takes up replay protection, or leaves it, with this window.
+fn replay(protect: bool, window: u64) -> Wanted {
+    Wanted::Done(End::B, Command::Replay { protect, window })
+}
+
+/// Frames 0 to 2 are sent, and delivered at B with these results under this option.
+fn assert_order(
+    rt: &impl Abort,
+    alloc: Global,
+    option: Wanted,
+    deliveries: &[Wanted],
+) -> Result<(), Fail> {
+    let first = an(rt, 0);
+    let before = [
+        key(End::A, 0),
+        tx_sa(first, 0),
+        Wanted::Done(End::A, Command::TxOn(first)),
+        option,
+        key(End::B, 0),
+        Wanted::Done(End::B, Command::RxSc(A.sci)),
+        rx_sa(first, 0),
+        Wanted::Done(End::B, Command::RxOn(A.sci, first)),
+        Wanted::Sent(0),
+        Wanted::Sent(1),
+        Wanted::Sent(2),
+    ];
+    let mut all = Vec::new(alloc);
+    for wanted in &before {
+        all.push(*wanted)?;
+    }
+    for wanted in deliveries {
+        all.push(*wanted)?;
+    }
+    let _world = world_after(rt, alloc, all.as_slice())?;
+    Ok(())
+}
+
 /// At a window of 0 a frame passes only if its packet number is above all before it, without replay protection late
 /// frames are delivered, and at a window of 1 a repeat inside it passes.
 #[test]
 fn orders(rt: HostRuntime) -> Result<(), Fail> {
-    let first = an(&rt, 0);
-    let rows = [
-        (
-            Command::Replay {
-                protect: true,
-                window: 0,
-            },
-            [
-                Wanted::Passed(0, 0),
-                Wanted::Passed(2, 2),
-                Wanted::Late(1),
-                Wanted::Late(2),
-            ],
-        ),
-        (
-            Command::Replay {
-                protect: false,
-                window: 0,
-            },
-            [
-                Wanted::Passed(0, 0),
-                Wanted::Passed(2, 2),
-                Wanted::Delayed(1, 1),
-                Wanted::Delayed(2, 2),
-            ],
-        ),
-        (
-            Command::Replay {
-                protect: true,
-                window: 1,
-            },
-            [
-                Wanted::Passed(0, 0),
-                Wanted::Passed(1, 1),
-                Wanted::Passed(1, 1),
-                Wanted::Late(0),
-            ],
-        ),
+    let in_order = [
+        Wanted::Passed(0, 0),
+        Wanted::Passed(2, 2),
+        Wanted::Late(1),
+        Wanted::Late(2),
     ];
-    for (replay, [one, two, three, four]) in rows {
-        let table = [
-            key(End::A, 0),
-            tx_sa(first, 0),
-            Wanted::Done(End::A, Command::TxOn(first)),
-            Wanted::Done(End::B, replay),
-            key(End::B, 0),
-            Wanted::Done(End::B, Command::RxSc(A.sci)),
-            rx_sa(first, 0),
-            Wanted::Done(End::B, Command::RxOn(A.sci, first)),
-            Wanted::Sent(0),
-            Wanted::Sent(1),
-            Wanted::Sent(2),
-            one,
-            two,
-            three,
-            four,
-        ];
-        let _world = world_after(&rt, rt.alloc(), &table)?;
-    }
-    Ok(())
+    assert_order(&rt, rt.alloc(), replay(true, 0), &in_order)?;
+    let unprotected = [
+        Wanted::Passed(0, 0),
+        Wanted::Passed(2, 2),
+        Wanted::Delayed(1, 1),
+        Wanted::Delayed(2, 2),
+    ];
+    assert_order(&rt, rt.alloc(), replay(false, 0), &unprotected)?;
+    let inside = [
+        Wanted::Passed(0, 0),
+        Wanted::Passed(1, 1),
+        Wanted::Passed(1, 1),
+        Wanted::Late(0),
+    ];
+    assert_order(&rt, rt.alloc(), replay(true, 1), &inside)
 }
 
 /// The report of a run of these events.
