@@ -1,6 +1,6 @@
 -- Circuits of sums and products of bits. One that computes f of a number, from its bits, computes f of the element at
 -- each place of planes, from the planes.
-use Rattle.std.proofs.Common.{◌≡◌, ℕ, zero, suc, ◌+◌, ◌*◌, ◌/◌, ◌%◌, ◌^◌, ◌<◌, List, [], ◌∷◌, ◌++◌, length, map, slice_index, bit_and, bit_xor, min, refl, sym, ap, ap₂, ◌∙◌, arith}
+use Rattle.std.proofs.Common.{◌≡◌, ℕ, zero, suc, ◌+◌, ◌*◌, ◌/◌, ◌%◌, ◌^◌, ◌<◌, List, [], ◌∷◌, length, map, slice_index, bit_and, bit_xor, min, refl, sym, ap, ap₂, ◌∙◌, arith}
 use Rattle.std.specs.Int.{bit_at}
 use Rattle.std.specs.List.{range_with_len}
 use Rattle.std.proofs.lemmas.Nat.Bits.{bit_at-lt, bit_at-zero, bit_at_and, bit_at_xor, bit_at_ones}
@@ -24,7 +24,7 @@ value ones xs Ones = ones
 
 -- ---- one bit of what a gate computes
 
-sum_of_bits : (x y : ℕ) → x < 2 → y < 2 → (x + y) % 2 ≡ bit_xor x y
+pub sum_of_bits : (x y : ℕ) → x < 2 → y < 2 → (x + y) % 2 ≡ bit_xor x y
 sum_of_bits zero zero p q = refl
 sum_of_bits zero (suc zero) p q = refl
 sum_of_bits (suc zero) zero p q = refl
@@ -90,9 +90,29 @@ bits_of-number (x ∷ xs) k =
     let others : (b + 2 * m) / 2 ≡ m = omega arith in
     rw (lowest, others) (ap (λ (bs : List ℕ). b ∷ bs) (bits_of-number xs k))
 
+pub cons : {x y : ℕ} {xs ys : List ℕ} → x ≡ y → xs ≡ ys → x ∷ xs ≡ y ∷ ys
+cons e es = ap₂ (λ (z : ℕ) (zs : List ℕ). z ∷ zs) e es
+
+pub no_more : ◌≡◌ {A = List ℕ} [] []
+no_more = refl
+
+-- the bits of the n numbers whose bits at place k are those of m
+pub bits_are : (n : ℕ) (xs : List ℕ) → length xs ≡ n → (k m : ℕ) → number (bits_at k xs) ≡ m → bits_at k xs ≡ bits_of n m
+bits_are n xs long k m e = sym (rw (long, e) at (bits_of-number xs k))
+
 -- ---- circuits
 
--- the numbers whose bits the gates compute of all n inputs
+-- the numbers whose bits the gates compute of these inputs, which go with the bytes
+abbrev pub table_from : (ℕ → List ℕ) → List Gate → List ℕ
+table_from inputs gs = map (λ x. number (map (value 1 (inputs x)) gs)) (range_with_len 0 256)
+
+pub circuit_from : (inputs : ℕ → List ℕ) (gs : List Gate) (f : ℕ → ℕ) → table_from inputs gs ≡ map f (range_with_len 0 256)
+    → (xs : List ℕ) (k : ℕ) → k < 8 → (x : ℕ) → x < 256 → bits_at k xs ≡ inputs x → number (map (λ g. bit_at (value 0xff xs g) k) gs) ≡ f x
+circuit_from inputs gs f same xs k lt x small bits =
+    ap number (values_at xs k lt gs ∙ ap (λ (bs : List ℕ). map (value 1 bs) gs) bits)
+    ∙ same_below (λ x. number (map (value 1 (inputs x)) gs)) f 256 same x small
+
+-- the same of all n inputs
 abbrev pub table : ℕ → List Gate → List ℕ
 table n gs = map (λ x. number (map (value 1 (bits_of n x)) gs)) (range_with_len 0 (2 ^ n))
 
@@ -108,17 +128,3 @@ circuit n gs f same xs long k lt =
 -- the lanes of n planes
 abbrev pub lanes : ℕ → List (List ℕ) → ℕ → List ℕ
 lanes n p j = map (λ i. lane_at p i j) (range_with_len 0 n)
-
-number-joined : (b0 b1 b2 b3 m : ℕ) → b0 < 2 → b1 < 2 → b2 < 2 → b3 < 2
-    → (let low = b0 + 2 * (b1 + 2 * (b2 + 2 * (b3 + 2 * 0))) in
-    let whole = b0 + 2 * (b1 + 2 * (b2 + 2 * (b3 + 2 * m))) in (whole % 16 ≡ low) × (whole / 16 ≡ m))
-number-joined b0 b1 b2 b3 m h0 h1 h2 h3 = (omega arith, omega arith)
-
--- the same of two numbers of four bits
-pub circuit_of_two : (gs : List Gate) (f : ℕ → ℕ → ℕ) → table 8 gs ≡ map (λ x. f (x % 16) (x / 16)) (range_with_len 0 256) → (p q : List (List ℕ)) (j k : ℕ) → k < 8
-    → number (map (λ g. bit_at (value 0xff (lanes 4 p j ++ lanes 4 q j) g) k) gs) ≡ f (number (bits_at k (lanes 4 p j))) (number (bits_at k (lanes 4 q j)))
-unfolding number
-circuit_of_two gs f same p q j k lt =
-    let joined = number-joined (bit_at (lane_at p 0 j) k) (bit_at (lane_at p 1 j) k) (bit_at (lane_at p 2 j) k) (bit_at (lane_at p 3 j) k) (number (bits_at k (lanes 4 q j)))
-    (bit_at-lt (lane_at p 0 j) k) (bit_at-lt (lane_at p 1 j) k) (bit_at-lt (lane_at p 2 j) k) (bit_at-lt (lane_at p 3 j) k) in
-    circuit 8 gs (λ x. f (x % 16) (x / 16)) same (lanes 4 p j ++ lanes 4 q j) refl k lt ∙ ap₂ f joined.0 joined.1

@@ -1,8 +1,10 @@
 pub mod Below
 pub mod Holds
-pub mod Doubles
+pub mod Everywhere
+pub mod Picked
 pub mod Exchanges
 pub mod Transposed
 pub mod Gates
 pub mod TowerGates
+pub mod Octets
 pub mod Rounds

@@ -1,17 +1,18 @@
--- The states of sixteen blocks along the rounds.
+-- The states of eight blocks along the rounds.
 use Rattle.std.proofs.Common.{◌≡◌, ℕ, suc, ◌+◌, ◌<◌, List, [], ◌∷◌, length, map, slice_index_or, refl, ap₂, arith, add-one}
 use Rattle.std.proofs.Math.Dec.{lit<}
 use Rattle.macsec_aes.specs.Aes.{add_round_key, after_rounds, mix_columns, round_key, shift_rows, sub_bytes}
-use Rattle.macsec_aes_lanes.specs.Lanes.{block_of, lane_at}
+use Rattle.macsec_aes_lanes.specs.Planes.{block_of, octet}
+use Rattle.macsec_aes_lanes.specs.Lanes.{lane_at}
 
 pub after_rounds_next : (ws : List (List ℕ)) (block : List ℕ) (r : ℕ) → after_rounds ws block (r + 1) ≡ add_round_key (mix_columns (shift_rows (sub_bytes (after_rounds ws block r)))) (round_key ws (r + 1))
 unfolding after_rounds
 after_rounds_next ws block r = rw add-one refl
 
 -- the sum of a state with a round key, from the block that the state is
-pub of_states : (v blocks : List (List ℕ)) (key : List ℕ) (j : ℕ) → ((i : ℕ) → i < 16 → lane_at v i j ≡ lane_at blocks j i) → add_round_key (block_of v j) key ≡ add_round_key (slice_index_or blocks j []) key
+pub of_states : (v blocks : List (List ℕ)) (key : List ℕ) (k : ℕ) → ((j : ℕ) → j < 16 → octet v j k ≡ lane_at blocks k j) → add_round_key (block_of v k) key ≡ add_round_key (slice_index_or blocks k []) key
 unfolding add_round_key
-of_states v blocks key j e =
+of_states v blocks key k e =
     rw (
       e 0 (lit< tt),
       e 1 (lit< tt),

@@ -41,7 +41,7 @@ transposed v v1 v2 v4 j e1 e2 e4 i li k lk =
     ∙ ap₂ (λ (m n : ℕ). bit_of v m j n) (all_digits_is i k li lk) (all_digits_is k i lk li)
 
 -- a byte is the number of its bits
-own_number : (x : ℕ) → x < 256 → number (map (bit_at x) (range_with_len 0 8)) ≡ x
+pub own_number : (x : ℕ) → x < 256 → number (map (bit_at x) (range_with_len 0 8)) ≡ x
 unfolding number
 own_number = same_below (λ x. number (map (bit_at x) (range_with_len 0 8))) (λ x. x) 256 refl
 

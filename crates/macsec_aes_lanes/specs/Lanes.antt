@@ -1,11 +1,14 @@
--- Sixteen blocks in sixteen vectors: lane j of vector i is byte i of block j.
-use Rattle.std.specs.Prelude.{ℕ, List, [], map, slice_index, slice_index_or}
-use Rattle.std.specs.List.{range_with_len}
+-- Vectors of sixteen lanes, which are the entries of a state: lane r + 4 * c is its entry at row r and column c.
+use Rattle.std.specs.Prelude.{ℕ, ◌+◌, ◌*◌, ◌/◌, ◌%◌, List, [], slice_index, slice_index_or}
 
 -- lane j of vector i
 abbrev pub lane_at : List (List ℕ) → ℕ → ℕ → ℕ
 lane_at v i j = slice_index (slice_index_or v i []) j
 
--- block j
-abbrev pub block_of : List (List ℕ) → ℕ → List ℕ
-block_of v j = map (λ i. lane_at v i j) (range_with_len 0 16)
+-- the lane of the entry n rows below that of lane j, in the same column
+abbrev pub rows_below : ℕ → ℕ → ℕ
+rows_below n j = (j % 4 + n) % 4 + 4 * (j / 4)
+
+-- the lane of the entry as many columns to the right of that of lane j as its row says, in the same row
+abbrev pub columns_right : ℕ → ℕ
+columns_right j = j % 4 + 4 * ((j / 4 + j % 4) % 4)

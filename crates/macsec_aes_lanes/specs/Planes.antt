@@ -24,6 +24,10 @@ octet = element 8
 abbrev pub nibble : List (List ℕ) → ℕ → ℕ → ℕ
 nibble = element 4
 
+-- block k: element k of each lane is one of its bytes
+abbrev pub block_of : List (List ℕ) → ℕ → List ℕ
+block_of p k = map (λ j. octet p j k) (range_with_len 0 16)
+
 -- the lanes of eight vectors are bytes
 abbrev pub AreBytes : List (List ℕ) → Type 0
 AreBytes v = (i : ℕ) → i < 8 → (j : ℕ) → j < 16 → lane_at v i j < 2 ^ 8

@@ -1,47 +1,44 @@
--- The field of bytes (FIPS 197, section 4) as a tower: each element is h * y + l, where h and l are of the field of 16
--- elements and y * y = y + 14. A nibble is an element of that field: bit i is the coefficient of x^i.
-use Rattle.std.specs.Prelude.{ℕ, zero, suc, ◌+◌, ◌*◌, ◌^◌, List, [], ◌∷◌, bit_xor, slice_index}
+-- The inverse of a byte (FIPS 197, 4.2) by way of the subfield of 16 elements. The power 17 of each byte is in it, and the
+-- inverse of x is x^16 times that of x^17. A nibble is the element of the subfield that is the sum of 0c, 51, b0 and ec
+-- hexadecimal where it has bits.
+use Rattle.std.specs.Prelude.{ℕ, ◌*◌, List, [], ◌∷◌, bit_and, slice_index}
 use Rattle.std.specs.Int.{bit_at}
-use Rattle.macsec_aes.specs.Field.{sum_below, polynomial_product}
+use Rattle.macsec_aes.specs.Field.{sum_below, byte_product}
 
--- what long division of p, of degree below 4 + n, by x^4 + x + 1 leaves
-unfoldable pub nibble_remainder : ℕ → ℕ → ℕ
-nibble_remainder zero p = p
-nibble_remainder (suc n) p = nibble_remainder n (bit_xor p (bit_at p (4 + n) * 0x13 * 2 ^ n))
-
--- the product of two nibbles
-unfoldable pub nibble_product : ℕ → ℕ → ℕ
-nibble_product a b = nibble_remainder 3 (polynomial_product a b)
-
-unfoldable pub nibble_square : ℕ → ℕ
-nibble_square a = nibble_product a a
-
--- the power 14, which is the inverse of a nibble, and 0 of 0
-unfoldable pub power_14 : ℕ → ℕ
-power_14 a =
-    let a2 = nibble_square a in
-    let a4 = nibble_square a2 in
-    nibble_product (nibble_product (nibble_square a4) a4) a2
-
--- the power 17 of h * y + l without its middle term: 14 * h^2 + l^2
-unfoldable pub norm_of_squares : ℕ → ℕ → ℕ
-norm_of_squares h l = bit_xor (nibble_product 14 (nibble_square h)) (nibble_square l)
-
--- the power 17 of h * y + l, which is a nibble
-unfoldable pub norm : ℕ → ℕ → ℕ
-norm h l = bit_xor (nibble_product h l) (norm_of_squares h l)
-
--- the linear map with these images of the powers of x, at a byte
+-- the linear map with these images of the bits of a byte
 unfoldable pub linear : List ℕ → ℕ → ℕ
 linear images a = sum_below 8 (λ i. bit_at a i * slice_index images i)
 
--- h and l of a byte: x itself is 3 * y + 9
-unfoldable pub tower_high : ℕ → ℕ
-tower_high = linear (0 ∷ 3 ∷ 5 ∷ 5 ∷ 2 ∷ 11 ∷ 2 ∷ 9 ∷ [])
+-- the element that a nibble is
+unfoldable pub element_of_nibble : ℕ → ℕ
+element_of_nibble = linear (0x0c ∷ 0x51 ∷ 0xb0 ∷ 0xec ∷ [])
 
-unfoldable pub tower_low : ℕ → ℕ
-tower_low = linear (1 ∷ 9 ∷ 14 ∷ 2 ∷ 4 ∷ 0 ∷ 11 ∷ 14 ∷ [])
+-- the nibble that an element is
+unfoldable pub nibble_of_element : ℕ → ℕ
+nibble_of_element = linear (15 ∷ 0 ∷ 1 ∷ 0 ∷ 4 ∷ 0 ∷ 9 ∷ 0 ∷ [])
 
--- the affine transformation (FIPS 197, 5.1.1) of the byte that h * y + l is
-unfoldable pub affine_of_tower : ℕ → ℕ → ℕ
-affine_of_tower h l = bit_xor 0x63 (linear (0x1f ∷ 0xad ∷ 0xb4 ∷ 0x30 ∷ 0x54 ∷ 0x45 ∷ 0x01 ∷ 0xf2 ∷ []) (l + 16 * h))
+unfoldable pub square : ℕ → ℕ
+square x = byte_product x x
+
+-- the power 17 of a byte, as a nibble
+unfoldable pub norm : ℕ → ℕ
+norm x = nibble_of_element (byte_product (square (square (square (square x)))) x)
+
+-- the inverse of a nibble, which is its power 14, and 0 of 0
+unfoldable pub nibble_inverse : ℕ → ℕ
+nibble_inverse n =
+    let a2 = square (element_of_nibble n) in
+    let a4 = square a2 in
+    nibble_of_element (byte_product (byte_product (square a4) a4) a2)
+
+-- 22 sums of bits of a byte: the factors 18 at first, and then what is added to products of them
+unfoldable pub sums : ℕ → ℕ
+sums = linear (0x6c36 ∷ 0x2c376b ∷ 0x3f06e8 ∷ 0x3c016b ∷ 0xd8b83 ∷ 0x386d98 ∷ 0xc6d70 ∷ 0x36d783 ∷ [])
+
+-- 18 sums of bits of a nibble
+unfoldable pub factors : ℕ → ℕ
+factors = linear (0x30783 ∷ 0x18ac5 ∷ 0x33198 ∷ 0x1d0e8 ∷ [])
+
+-- the products of the sums of a byte with those of the inverse of its power 17
+unfoldable pub products : ℕ → ℕ
+products x = bit_and (sums x) (factors (nibble_inverse (norm x)))

@@ -1,7 +1,9 @@
-//! Operations on vectors of sixteen bytes, lane by lane.
+//! Operations on vectors of sixteen bytes, lane by lane, and on the order of their lanes.
 
-ghost use Rattle.std.specs.Prelude.{◌≡◌, ℕ, ◌<◌, slice_index, bit_and, bit_xor};
-ghost use Rattle.macsec_aes.specs.Field.{byte_product};
+ghost use Rattle.std.specs.Prelude.{◌≡◌, ℕ, ◌^◌, ◌<◌, map, slice_index, bit_and, bit_xor};
+ghost use Rattle.std.specs.List.{range_with_len};
+ghost use Rattle.std.specs.Int.{bit_at};
+ghost use Rattle.macsec_aes_lanes.specs.Lanes.{rows_below, columns_right};
 
 use std::simd::u8x16;
 
@@ -21,27 +23,44 @@ pub fn and(a: u8x16, b: u8x16) -> u8x16
     a & b
 }
 
-/// The sum of the byte in each lane and one byte.
+/// Bit `i` of the byte in each lane, at each of the eight places of a byte.
 #[inline(always)]
-pub fn add_byte(a: u8x16, b: u8) -> u8x16
-    ensures { (j : ℕ) → j < 16 → slice_index result j ≡ bit_xor (slice_index a j) b }
+pub fn bit_everywhere(a: u8x16, i: u8) -> u8x16
+    requires { i < 8 }
+    ensures bits { (j : ℕ) → j < 16 → (k : ℕ) → k < 8 → bit_at (slice_index result j) k ≡ bit_at (slice_index a j) i }
+    ensures given { (j : ℕ) → j < 16 → slice_index a j < 2 ^ 8 }
 {
-    a ^ u8x16::splat(b)
+    u8x16::splat(0) - ((a >> u8x16::splat(i)) & u8x16::splat(1))
 }
 
-/// The byte in each lane times 02 (FIPS 197, 4.2): shifted left, and less the modulus where a bit has left the byte.
+/// The bytes in the lanes.
 #[inline(always)]
-pub fn double(a: u8x16) -> u8x16
-    ensures { (j : ℕ) → j < 16 → slice_index result j ≡ byte_product 2 (slice_index a j) }
+pub fn bytes_of(a: u8x16) -> [u8; 16]
+    ensures { result ≡ map (slice_index a) (range_with_len 0 16) }
 {
-    let all_ones_where_left = u8x16::splat(0) - (a >> u8x16::splat(7));
-    (a + a) ^ (all_ones_where_left & u8x16::splat(0x1b))
+    a.to_array()
 }
 
-/// The byte in each lane times 03 (FIPS 197, 4.2).
+/// For each entry of a state the one that is as many columns to the right as its row says, from which ShiftRows takes it.
 #[inline(always)]
-pub fn triple(a: u8x16) -> u8x16
-    ensures { (j : ℕ) → j < 16 → slice_index result j ≡ byte_product 3 (slice_index a j) }
+pub fn shifted(a: u8x16) -> u8x16
+    ensures { (j : ℕ) → j < 16 → slice_index result j ≡ slice_index a (columns_right j) }
 {
-    add(double(a), a)
+    a.swizzle([0, 5, 10, 15, 4, 9, 14, 3, 8, 13, 2, 7, 12, 1, 6, 11])
+}
+
+/// For each entry of a state the one in the next row.
+#[inline(always)]
+pub fn from_next_row(a: u8x16) -> u8x16
+    ensures { (j : ℕ) → j < 16 → slice_index result j ≡ slice_index a (rows_below 1 j) }
+{
+    a.swizzle([1, 2, 3, 0, 5, 6, 7, 4, 9, 10, 11, 8, 13, 14, 15, 12])
+}
+
+/// For each entry of a state the one in the second row from its own.
+#[inline(always)]
+pub fn from_second_row(a: u8x16) -> u8x16
+    ensures { (j : ℕ) → j < 16 → slice_index result j ≡ slice_index a (rows_below 2 j) }
+{
+    a.swizzle([2, 3, 0, 1, 6, 7, 4, 5, 10, 11, 8, 9, 14, 15, 12, 13])
 }

@@ -1,4 +1,4 @@
-//! The examples of FIPS 197, appendix C, in each of the sixteen places.
+//! The examples of FIPS 197, appendix C, in each of the sixteen places and in each of the eight.
 
 use super::*;
 use macsec_aes::Key;
@@ -26,6 +26,22 @@ fn encrypted_everywhere(key: &Key, expected: [u8; 16]) -> bool {
     true
 }
 
+/// The same in each of the eight places.
+fn encrypted_in_each_of_eight(key: &Key, expected: [u8; 16]) -> bool {
+    let schedule = Schedule::expand(key);
+    let mut zeros = [ZEROS; 8];
+    encrypt8(&schedule, &mut zeros);
+    for place in 0..8usize {
+        let mut blocks = [ZEROS; 8];
+        blocks[place] = BLOCK;
+        encrypt8(&schedule, &mut blocks);
+        if blocks[place] != expected || blocks[(place + 1) % 8] != zeros[0] {
+            return false;
+        }
+    }
+    true
+}
+
 #[test]
 fn appendix_c_in_each_place(rt: HostRuntime) {
     let key = Key::K128([0, 1, 2, 3, 4, 5, 6, 7, 8, 9, 10, 11, 12, 13, 14, 15]);
@@ -34,6 +50,7 @@ fn appendix_c_in_each_place(rt: HostRuntime) {
         0x5a,
     ];
     assert!(rt; encrypted_everywhere(&key, expected));
+    assert!(rt; encrypted_in_each_of_eight(&key, expected));
 
     let key = Key::K256([
         0, 1, 2, 3, 4, 5, 6, 7, 8, 9, 10, 11, 12, 13, 14, 15, 16, 17, 18, 19, 20, 21, 22, 23, 24,
@@ -44,4 +61,5 @@ fn appendix_c_in_each_place(rt: HostRuntime) {
         0x89,
     ];
     assert!(rt; encrypted_everywhere(&key, expected));
+    assert!(rt; encrypted_in_each_of_eight(&key, expected));
 }

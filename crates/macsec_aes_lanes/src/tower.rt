@@ -1,154 +1,181 @@
 //! The S-box on bit planes, with no table.
 //!
-//! The S-box needs the inverse of a byte in its field, which is its power 254. Written as h * y + l over the field of 16
-//! elements, x has the power 16 h * y + (h + l), and its power 17 lies in the field of 16 elements. So x^254, which is
-//! x^16 * (x^17)^14, needs three products of nibbles and one power of a nibble. All of these are sums and products of
-//! bits, and are done on planes: a nibble is in four of them.
+//! The S-box needs the inverse of a byte in its field. For each byte x the power 17 lies in the subfield of 16 elements, and
+//! the inverse of x is x^16 times the inverse of x^17. All of this is sums and products of bits, and is done on planes, by
+//! the circuit of Boyar and Peralta, of 32 products and 83 sums: the bits of x are first summed to the factors of its
+//! products, of which there are nine for x^17 and eighteen with the inverse of x^17. The names of planes are those of the
+//! circuit.
 
-ghost use Rattle.std.specs.Prelude.{◌≡◌, ℕ, ◌<◌, bit_and, bit_xor, slice_index};
-ghost use Rattle.macsec_aes_lanes.specs.Lanes.{lane_at};
+ghost use Rattle.std.specs.Prelude.{◌≡◌, ℕ, ◌^◌, ◌<◌};
 ghost use Rattle.macsec_aes.specs.Field.{s_box};
-ghost use Rattle.macsec_aes_lanes.specs.Planes.{nibble, octet};
-ghost use Rattle.macsec_aes_lanes.specs.Tower.{affine_of_tower, nibble_product, norm, norm_of_squares, power_14, tower_high, tower_low};
+ghost use Rattle.macsec_aes_lanes.specs.Planes.{element, nibble, octet};
+ghost use Rattle.macsec_aes_lanes.specs.Tower.{nibble_inverse, norm, products, sums};
 
 use crate::lanes::{add, and};
 use std::simd::u8x16;
 
-/// The factor h of each byte h * y + l.
+/// The sums of bits of each byte: the second factors of its nine products, the first ones, and four that are added to them.
 #[inline(always)]
-fn tower_high(x: [u8x16; 8]) -> [u8x16; 4]
-    ensures { (j : ℕ) → j < 16 → (k : ℕ) → k < 8 → nibble result j k ≡ tower_high (octet x j k) }
+fn sums(x: [u8x16; 8]) -> [u8x16; 22]
+    ensures { (j : ℕ) → j < 16 → (k : ℕ) → k < 8 → element 22 result j k ≡ sums (octet x j k) }
 {
-    let x1_x6 = add(x[1], x[6]);
-    let x2_x3 = add(x[2], x[3]);
-    let x5_x7 = add(x[5], x[7]);
-    let h0 = add(add(x[1], x2_x3), x5_x7);
-    let h1 = add(add(x1_x6, x[4]), x[5]);
-    [h0, h1, x2_x3, x5_x7]
-}
-
-/// The term l of each byte h * y + l.
-#[inline(always)]
-fn tower_low(x: [u8x16; 8]) -> [u8x16; 4]
-    ensures { (j : ℕ) → j < 16 → (k : ℕ) → k < 8 → nibble result j k ≡ tower_low (octet x j k) }
-{
-    let x1_x6 = add(x[1], x[6]);
-    let x2_x7 = add(x[2], x[7]);
-    let l0 = add(x1_x6, x[0]);
-    let l1 = add(add(x2_x7, x[3]), x[6]);
-    let l2 = add(x2_x7, x[4]);
-    let l3 = add(x2_x7, x1_x6);
-    [l0, l1, l2, l3]
-}
-
-/// The sum of the products of four planes with four.
-#[inline(always)]
-fn dot(a: [u8x16; 4], b0: u8x16, b1: u8x16, b2: u8x16, b3: u8x16) -> u8x16
-    ensures { (j : ℕ) → j < 16 → slice_index result j ≡ bit_xor
-        (bit_xor (bit_and (lane_at a 0 j) (slice_index b0 j)) (bit_and (lane_at a 1 j) (slice_index b1 j)))
-        (bit_xor (bit_and (lane_at a 2 j) (slice_index b2 j)) (bit_and (lane_at a 3 j) (slice_index b3 j))) }
-{
-    add(
-        add(and(a[0], b0), and(a[1], b1)),
-        add(and(a[2], b2), and(a[3], b3)),
-    )
-}
-
-/// The product of each nibble of `a` with that of `b`.
-#[inline(always)]
-fn product(a: [u8x16; 4], b: [u8x16; 4]) -> [u8x16; 4]
-    ensures { (j : ℕ) → j < 16 → (k : ℕ) → k < 8 → nibble result j k ≡ nibble_product (nibble a j k) (nibble b j k) }
-{
-    let b0_b3 = add(b[0], b[3]);
-    let b1_b2 = add(b[1], b[2]);
-    let b2_b3 = add(b[2], b[3]);
-    let p0 = dot(a, b[0], b[3], b[2], b[1]);
-    let p1 = dot(a, b[1], b0_b3, b2_b3, b1_b2);
-    let p2 = dot(a, b[2], b[1], b0_b3, b2_b3);
-    let p3 = dot(a, b[3], b[2], b[1], b0_b3);
-    [p0, p1, p2, p3]
-}
-
-/// The sum of each nibble of `a` and that of `b`.
-#[inline(always)]
-fn sum(a: [u8x16; 4], b: [u8x16; 4]) -> [u8x16; 4]
-    ensures { (j : ℕ) → j < 16 → (k : ℕ) → k < 8 → nibble result j k ≡ bit_xor (nibble a j k) (nibble b j k) }
-{
+    let y14 = add(x[4], x[2]);
+    let y13 = add(x[7], x[1]);
+    let y9 = add(x[7], x[4]);
+    let y8 = add(x[7], x[2]);
+    let t0 = add(x[6], x[5]);
+    let y1 = add(t0, x[0]);
+    let y4 = add(y1, x[4]);
+    let y12 = add(y13, y14);
+    let y2 = add(y1, x[7]);
+    let y5 = add(y1, x[1]);
+    let y3 = add(y5, y8);
+    let t1 = add(x[3], y12);
+    let y15 = add(t1, x[2]);
+    let y20 = add(t1, x[6]);
+    let y6 = add(y15, x[0]);
+    let y10 = add(y15, t0);
+    let y11 = add(y20, y9);
+    let y7 = add(x[0], y11);
+    let y17 = add(y10, y11);
+    let y19 = add(y10, y8);
+    let y16 = add(t0, y11);
+    let y21 = add(y13, y16);
+    let y18 = add(x[7], y16);
     [
-        add(a[0], b[0]),
-        add(a[1], b[1]),
-        add(a[2], b[2]),
-        add(a[3], b[3]),
+        y15, y6, x[0], y16, y1, y7, y11, y17, y10, y12, y3, y4, y13, y5, y2, y9, y14, y8, y20, y19,
+        y21, y18,
     ]
 }
 
-/// The power 17 of each h * y + l, without its term h * l. Squares are linear.
+/// The power 17 of each byte, from its sums.
 #[inline(always)]
-fn norm_of_squares(h: [u8x16; 4], l: [u8x16; 4]) -> [u8x16; 4]
-    ensures { (j : ℕ) → j < 16 → (k : ℕ) → k < 8 → nibble result j k ≡ norm_of_squares (nibble h j k) (nibble l j k) }
+fn norm(s: [u8x16; 22]) -> [u8x16; 4]
+    ensures { (j : ℕ) → j < 16 → (k : ℕ) → k < 8 → (x : ℕ) → x < 2 ^ 8 → element 22 s j k ≡ sums x
+        → nibble result j k ≡ norm x }
 {
-    let h0_h1 = add(h[0], h[1]);
-    let n0 = add(add(h[1], h[2]), add(l[0], l[2]));
-    let n1 = add(h[0], l[2]);
-    let n2 = add(add(h0_h1, h[3]), add(l[1], l[3]));
-    let n3 = add(h0_h1, l[3]);
-    [n0, n1, n2, n3]
+    let t2 = and(s[9], s[0]);
+    let t3 = and(s[10], s[1]);
+    let t4 = add(t3, t2);
+    let t5 = and(s[11], s[2]);
+    let t6 = add(t5, t2);
+    let t7 = and(s[12], s[3]);
+    let t8 = and(s[13], s[4]);
+    let t9 = add(t8, t7);
+    let t10 = and(s[14], s[5]);
+    let t11 = add(t10, t7);
+    let t12 = and(s[15], s[6]);
+    let t13 = and(s[16], s[7]);
+    let t14 = add(t13, t12);
+    let t15 = and(s[17], s[8]);
+    let t16 = add(t15, t12);
+    let t17 = add(t4, t14);
+    let t18 = add(t6, t16);
+    let t19 = add(t9, t14);
+    let t20 = add(t11, t16);
+    let t21 = add(t17, s[18]);
+    let t22 = add(t18, s[19]);
+    let t23 = add(t19, s[20]);
+    let t24 = add(t20, s[21]);
+    [t21, t22, t23, t24]
 }
 
-/// The power 17 of each h * y + l.
+/// The inverse of each nibble.
 #[inline(always)]
-fn norm(h: [u8x16; 4], l: [u8x16; 4]) -> [u8x16; 4]
-    ensures { (j : ℕ) → j < 16 → (k : ℕ) → k < 8 → nibble result j k ≡ norm (nibble h j k) (nibble l j k) }
+fn inverse(n: [u8x16; 4]) -> [u8x16; 4]
+    ensures { (j : ℕ) → j < 16 → (k : ℕ) → k < 8 → nibble result j k ≡ nibble_inverse (nibble n j k) }
 {
-    sum(product(h, l), norm_of_squares(h, l))
+    let t25 = add(n[0], n[1]);
+    let t26 = and(n[0], n[2]);
+    let t27 = add(n[3], t26);
+    let t28 = and(t25, t27);
+    let t29 = add(t28, n[1]);
+    let t30 = add(n[2], n[3]);
+    let t31 = add(n[1], t26);
+    let t32 = and(t31, t30);
+    let t33 = add(t32, n[3]);
+    let t34 = add(n[2], t33);
+    let t35 = add(t27, t33);
+    let t36 = and(n[3], t35);
+    let t37 = add(t36, t34);
+    let t38 = add(t27, t36);
+    let t39 = and(t29, t38);
+    let t40 = add(t25, t39);
+    [t37, t33, t40, t29]
 }
 
-/// The power 14 of each nibble.
+/// The products of the sums of each byte with those of the inverse of its power 17.
 #[inline(always)]
-fn power_14(a: [u8x16; 4]) -> [u8x16; 4]
-    ensures { (j : ℕ) → j < 16 → (k : ℕ) → k < 8 → nibble result j k ≡ power_14 (nibble a j k) }
+fn products(s: [u8x16; 22], n: [u8x16; 4]) -> [u8x16; 18]
+    ensures { (j : ℕ) → j < 16 → (k : ℕ) → k < 8 → (x : ℕ) → x < 2 ^ 8 → element 22 s j k ≡ sums x
+        → nibble n j k ≡ nibble_inverse (norm x) → element 18 result j k ≡ products x }
 {
-    let a0a1 = and(a[0], a[1]);
-    let a0a2 = and(a[0], a[2]);
-    let a1a2 = and(a[1], a[2]);
-    let a0a3 = and(a[0], a[3]);
-    let a1a3 = and(a[1], a[3]);
-    let a1a2a3 = and(a1a2, a[3]);
-    let high = add(a[2], a[3]);
-    let r0 = add(
-        add(add(a[0], a[1]), add(high, a0a2)),
-        add(add(a1a2, and(a0a1, a[2])), a1a2a3),
-    );
-    let r1 = add(
-        add(add(a0a1, a0a2), add(a1a2, a[3])),
-        add(a1a3, and(a0a1, a[3])),
-    );
-    let r2 = add(add(a0a1, a0a2), add(add(high, a0a3), and(a0a2, a[3])));
-    let r3 = add(
-        add(add(a[1], high), add(a0a3, a1a3)),
-        add(and(a[2], a[3]), a1a2a3),
-    );
-    [r0, r1, r2, r3]
+    let t41 = add(n[2], n[0]);
+    let t42 = add(n[3], n[1]);
+    let t43 = add(n[3], n[2]);
+    let t44 = add(n[1], n[0]);
+    let t45 = add(t42, t41);
+    let z0 = and(t44, s[0]);
+    let z1 = and(n[0], s[1]);
+    let z2 = and(n[1], s[2]);
+    let z3 = and(t43, s[3]);
+    let z4 = and(n[2], s[4]);
+    let z5 = and(n[3], s[5]);
+    let z6 = and(t42, s[6]);
+    let z7 = and(t45, s[7]);
+    let z8 = and(t41, s[8]);
+    let z9 = and(t44, s[9]);
+    let z10 = and(n[0], s[10]);
+    let z11 = and(n[1], s[11]);
+    let z12 = and(t43, s[12]);
+    let z13 = and(n[2], s[13]);
+    let z14 = and(n[3], s[14]);
+    let z15 = and(t42, s[15]);
+    let z16 = and(t45, s[16]);
+    let z17 = and(t41, s[17]);
+    [
+        z0, z1, z2, z3, z4, z5, z6, z7, z8, z9, z10, z11, z12, z13, z14, z15, z16, z17,
+    ]
 }
 
-/// The affine transformation (FIPS 197, 5.1.1) of each byte h * y + l.
+/// The affine transformation (FIPS 197, 5.1.1) of the inverse of each byte, from its products.
 #[inline(always)]
-fn affine_of_tower(h: [u8x16; 4], l: [u8x16; 4]) -> [u8x16; 8]
-    ensures { (j : ℕ) → j < 16 → (k : ℕ) → k < 8 → octet result j k ≡ affine_of_tower (nibble h j k) (nibble l j k) }
+fn affine_of_products(z: [u8x16; 18]) -> [u8x16; 8]
+    ensures { (j : ℕ) → j < 16 → (k : ℕ) → k < 8 → (x : ℕ) → x < 2 ^ 8 → element 18 z j k ≡ products x
+        → octet result j k ≡ s_box x }
 {
     let ones = u8x16::splat(0xff);
-    let l0_l1 = add(l[0], l[1]);
-    let h0_h1 = add(h[0], h[1]);
-    let l2_h3 = add(l[2], h[3]);
-    let l2_l3_h3 = add(l2_h3, l[3]);
-    let y0 = add(add(l0_l1, h[1]), add(h[2], ones));
-    let y1 = add(add(l[0], h[3]), ones);
-    let y2 = add(add(l0_l1, h0_h1), l[2]);
-    let y4 = add(add(l2_l3_h3, l[0]), h[0]);
-    let y5 = add(add(l2_l3_h3, l[1]), ones);
-    let y6 = add(add(h0_h1, h[3]), ones);
-    let y7 = add(l2_h3, l[1]);
-    [y0, y1, y2, l0_l1, y4, y5, y6, y7]
+    let t46 = add(z[15], z[16]);
+    let t47 = add(z[10], z[11]);
+    let t48 = add(z[5], z[13]);
+    let t49 = add(z[9], z[10]);
+    let t50 = add(z[2], z[12]);
+    let t51 = add(z[2], z[5]);
+    let t52 = add(z[7], z[8]);
+    let t53 = add(z[0], z[3]);
+    let t54 = add(z[6], z[7]);
+    let t55 = add(z[16], z[17]);
+    let t56 = add(z[12], t48);
+    let t57 = add(t50, t53);
+    let t58 = add(z[4], t46);
+    let t59 = add(z[3], t54);
+    let t60 = add(t46, t57);
+    let t61 = add(z[14], t57);
+    let t62 = add(t52, t58);
+    let t63 = add(t49, t58);
+    let t64 = add(z[4], t59);
+    let t65 = add(t61, t62);
+    let t66 = add(z[1], t63);
+    let r0 = add(t59, t63);
+    let r6 = add(t56, add(t62, ones));
+    let r7 = add(t48, add(t60, ones));
+    let t67 = add(t64, t65);
+    let r3 = add(t53, t66);
+    let r4 = add(t51, t66);
+    let r5 = add(t47, t65);
+    let r1 = add(t64, add(r3, ones));
+    let r2 = add(t55, add(t67, ones));
+    [r7, r6, r5, r4, r3, r2, r1, r0]
 }
 
 /// The S-box at each byte.
@@ -156,11 +183,7 @@ fn affine_of_tower(h: [u8x16; 4], l: [u8x16; 4]) -> [u8x16; 8]
 pub fn s_box(x: [u8x16; 8]) -> [u8x16; 8]
     ensures { (j : ℕ) → j < 16 → (k : ℕ) → k < 8 → octet result j k ≡ s_box (octet x j k) }
 {
-    let high = tower_high(x);
-    let low = tower_low(x);
-    let inverse_of_norm = power_14(norm(high, low));
-    affine_of_tower(
-        product(high, inverse_of_norm),
-        product(sum(high, low), inverse_of_norm),
-    )
+    let sums = sums(x);
+    let inverse_of_norm = inverse(norm(sums));
+    affine_of_products(products(sums, inverse_of_norm))
 }

@@ -1,31 +1,15 @@
--- The state of each block after each round is that of the definition, and the blocks after the last round are `aes` of
--- the blocks before. By the loop's invariant: one round more is one step more of `after_rounds`.
-use Rattle.std.proofs.Common.{◌≡◌, ◌<◌, ◌+◌, ◌-◌, ◌∙◌, arith, sym, refl, [], List, ℕ, slice_index_or}
-use Rattle.macsec_aes.specs.Aes.{aes, after_rounds, round_key, schedule_of}
-use Rattle.macsec_aes_lanes.proofs.Rounds.{after_rounds_next, of_states, same_elements}
+use Rattle.std.proofs.Common.{◌≡◌, List, ℕ, [], ◌∷◌, arith, refl, slice_index_or}
+use Rattle.macsec_aes.specs.Aes.{aes}
+use Rattle.macsec_aes_lanes.proofs.Below.{below_sixteen}
+use Rattle.macsec_aes_lanes.proofs.Rounds.{same_elements}
 use Rattle.macsec_aes_lanes.proofs.encrypt16.Goals as goal
 
-pub loop-round-init : goal.loop-round-init
-unfolding after_rounds
-loop-round-init c j h =
-    c.add_round_key-states.ensures j h ∙ rw c.round_key.ensures (of_states c.states_of.result c.args.blocks.now (round_key (schedule_of c.args.schedule.now) 0) j (λ i l. c.states_of.ensures i l j h))
-
-pub loop-round-preserved : goal.loop-round-preserved
-loop-round-preserved c j h =
-    let ws = schedule_of c.args.schedule.now in
-    let block : List ℕ = slice_index_or c.args.blocks.now j [] in
-    let at : c.loop-round.round - 1 + 1 ≡ c.loop-round.round = omega arith in
-    let next = rw at at (after_rounds_next ws block (c.loop-round.round - 1)) in
-    let now : c.loop-round.round + 1 - 1 ≡ c.loop-round.round = omega arith in
-    c.add_round_key-states-in-loop-round.ensures j h
-    ∙ rw (c.mix_columns.ensures j h, c.shift_rows-shifted.ensures j h, c.sub_bytes.ensures j h, c.loop-round.invariant j h, c.round_key-in-loop-round.ensures, now) (sym next)
-
 pub returns : goal.returns
-unfolding aes
 returns c =
-    let done : c.loop-round.round ≡ c.rounds-rounds.result = omega (arith, c.loop-round.auto.round-end (omega arith)) in
-    let s = c.args.schedule.now in
-    same_elements (aes s) c.blocks_of.result c.args.blocks.now (omega (arith, c.blocks_of.ensures.sixteen, c.told-blocks)) (λ j lt.
-    let h : j < 16 = omega (arith, c.told-blocks) in
-    c.blocks_of.ensures.blocks j h
-    ∙ rw (c.add_round_key.ensures j h, c.shift_rows-last.ensures j h, c.sub_bytes-2.ensures j h, c.round_key-2.ensures, c.loop-round.invariant j h, done, c.rounds-rounds.ensures) refl)
+    let f : List ℕ → List ℕ = aes c.args.schedule.now in
+    let block : ℕ → List ℕ = λ i. slice_index_or c.args.blocks.now i [] in
+    rw (c.encrypt8.ensures, c.encrypt8-2.ensures)
+    (same_elements f (f (block 0) ∷ f (block 1) ∷ f (block 2) ∷ f (block 3) ∷ f (block 4) ∷ f (block 5) ∷ f (block 6) ∷ f (block 7) ∷ f (block 8) ∷ f (block 9) ∷ f (block 10) ∷ f (block 11) ∷ f (block 12) ∷ f (block 13) ∷ f (block 14) ∷ f (block 15) ∷ [])
+    c.args.blocks.now (omega (arith, c.told-blocks)) (λ i lt.
+    below_sixteen (λ i. slice_index_or (f (block 0) ∷ f (block 1) ∷ f (block 2) ∷ f (block 3) ∷ f (block 4) ∷ f (block 5) ∷ f (block 6) ∷ f (block 7) ∷ f (block 8) ∷ f (block 9) ∷ f (block 10) ∷ f (block 11) ∷ f (block 12) ∷ f (block 13) ∷ f (block 14) ∷ f (block 15) ∷ []) i [] ≡ f (block i))
+    refl refl refl refl refl refl refl refl refl refl refl refl refl refl refl refl i (omega (arith, c.told-blocks))))

@@ -1,26 +1,13 @@
-use Rattle.std.proofs.Common.{refl}
-use Rattle.std.proofs.Math.Dec.{lit<}
+use Rattle.std.proofs.Common.{◌∙◌, ◌+◌, ◌*◌, ◌/◌, ◌%◌, refl, slice_index}
 use Rattle.macsec_aes.specs.Aes.{sub_bytes}
+use Rattle.macsec_aes.specs.Field.{s_box}
+use Rattle.macsec_aes.proofs.States.{place}
+use Rattle.macsec_aes_lanes.specs.Planes.{block_of, octet}
+use Rattle.macsec_aes_lanes.proofs.Octets.{byte_of_block, same_blocks}
 use Rattle.macsec_aes_lanes.proofs.state.sub_bytes.Goals as goal
 
 pub returns : goal.returns
 unfolding sub_bytes
-returns c j h =
-    rw (
-      c.sub_eight.ensures 0 (lit< tt) j h,
-      c.sub_eight.ensures 1 (lit< tt) j h,
-      c.sub_eight.ensures 2 (lit< tt) j h,
-      c.sub_eight.ensures 3 (lit< tt) j h,
-      c.sub_eight.ensures 4 (lit< tt) j h,
-      c.sub_eight.ensures 5 (lit< tt) j h,
-      c.sub_eight.ensures 6 (lit< tt) j h,
-      c.sub_eight.ensures 7 (lit< tt) j h,
-      c.sub_eight-2.ensures 0 (lit< tt) j h,
-      c.sub_eight-2.ensures 1 (lit< tt) j h,
-      c.sub_eight-2.ensures 2 (lit< tt) j h,
-      c.sub_eight-2.ensures 3 (lit< tt) j h,
-      c.sub_eight-2.ensures 4 (lit< tt) j h,
-      c.sub_eight-2.ensures 5 (lit< tt) j h,
-      c.sub_eight-2.ensures 6 (lit< tt) j h,
-      c.sub_eight-2.ensures 7 (lit< tt) j h,
-    ) refl
+returns c k l =
+    same_blocks (λ j. octet c.s_box.result j k) (λ j. s_box (slice_index (block_of c.args.v k) (j % 4 + 4 * (j / 4))))
+    (λ j h. c.s_box.ensures j h k l ∙ rw (place j, byte_of_block c.args.v k j h) refl)

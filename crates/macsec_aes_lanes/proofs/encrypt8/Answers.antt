@@ -1,0 +1,31 @@
+-- The state of each block after each round is that of the definition, and the blocks after the last round are `aes` of
+-- the blocks before. By the loop's invariant: one round more is one step more of `after_rounds`.
+use Rattle.std.proofs.Common.{◌≡◌, ◌<◌, ◌+◌, ◌-◌, ◌∙◌, arith, sym, refl, [], List, ℕ, slice_index_or}
+use Rattle.macsec_aes.specs.Aes.{aes, after_rounds, round_key, schedule_of}
+use Rattle.macsec_aes_lanes.proofs.Rounds.{after_rounds_next, of_states, same_elements}
+use Rattle.macsec_aes_lanes.proofs.encrypt8.Goals as goal
+
+pub loop-round-init : goal.loop-round-init
+unfolding after_rounds
+loop-round-init c k h =
+    c.add_round_key-states.ensures k h ∙ rw c.round_key.ensures (of_states c.states_of.result c.args.blocks.now (round_key (schedule_of c.args.schedule.now) 0) k (c.states_of.ensures k h))
+
+pub loop-round-preserved : goal.loop-round-preserved
+loop-round-preserved c k h =
+    let ws = schedule_of c.args.schedule.now in
+    let block : List ℕ = slice_index_or c.args.blocks.now k [] in
+    let at : c.loop-round.round - 1 + 1 ≡ c.loop-round.round = omega arith in
+    let next = rw at at (after_rounds_next ws block (c.loop-round.round - 1)) in
+    let now : c.loop-round.round + 1 - 1 ≡ c.loop-round.round = omega arith in
+    c.add_round_key-states-in-loop-round.ensures k h
+    ∙ rw (c.mix_columns.ensures k h, c.shift_rows-shifted.ensures k h, c.sub_bytes.ensures k h, c.loop-round.invariant k h, c.round_key-in-loop-round.ensures, now) (sym next)
+
+pub returns : goal.returns
+unfolding aes
+returns c =
+    let done : c.loop-round.round ≡ c.rounds-rounds.result = omega (arith, c.loop-round.auto.round-end (omega arith)) in
+    let s = c.args.schedule.now in
+    same_elements (aes s) c.blocks_of.result c.args.blocks.now (omega (arith, c.blocks_of.ensures.eight, c.told-blocks)) (λ k lt.
+    let h : k < 8 = omega (arith, c.told-blocks) in
+    c.blocks_of.ensures.blocks k h
+    ∙ rw (c.add_round_key.ensures k h, c.shift_rows-last.ensures k h, c.sub_bytes-2.ensures k h, c.round_key-2.ensures, c.loop-round.invariant k h, done, c.rounds-rounds.ensures) refl)

@@ -1,6 +1,0 @@
-use Rattle.std.proofs.Common.{bit_xor}
-use Rattle.macsec_aes_lanes.proofs.Holds.{holds, holds_splat, holds_zip}
-use Rattle.macsec_aes_lanes.proofs.lanes.add_byte.Goals as goal
-
-pub returns : goal.returns
-returns c = (holds_zip bit_xor (holds c.args.a c.fits-a.0) (holds_splat c.args.b)).at
