@@ -78,7 +78,7 @@ additive_sum f h zero g = additive_zero f h
 additive_sum f h (suc n) g = h.adds (sum_below n g) (g n) ∙ ap (λ (s : ℕ). bit_xor s (f (g n))) (additive_sum f h n g)
 
 -- a sum without terms that count, and one of which one term counts
-no_term : (n : ℕ) (f : ℕ → ℕ) → ((i : ℕ) → i < n → f i ≡ 0) → sum_below n f ≡ 0
+pub no_term : (n : ℕ) (f : ℕ → ℕ) → ((i : ℕ) → i < n → f i ≡ 0) → sum_below n f ≡ 0
 unfolding sum_below
 no_term zero f none = refl
 no_term (suc n) f none =

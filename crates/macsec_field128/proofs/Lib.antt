@@ -2,4 +2,4 @@ pub mod Iterations
 pub mod Sums
 pub mod Additive
 pub mod ProductLaws
-pub mod FromTheRight
+pub mod Carryless

@@ -14,7 +14,7 @@ use Rattle.macsec_field128.proofs.Iterations.{iterate_more}
 use Rattle.macsec_field128.proofs.Additive.{IsAdditive, additive_bit, additive_sum, bit_cases, bit_times_sum, iterate_adds, one_term, one_times, zero_times, same_from_ones, same_sums, sum_of_bits_times, sum_of_sums, times_x_adds, xor_swap}
 
 -- two functions that agree on a table agree below its length
-same_below : (f g : ℕ → ℕ) (n : ℕ) → map f (range_with_len 0 n) ≡ map g (range_with_len 0 n) → (a : ℕ) → a < n → f a ≡ g a
+pub same_below : (f g : ℕ → ℕ) (n : ℕ) → map f (range_with_len 0 n) ≡ map g (range_with_len 0 n) → (a : ℕ) → a < n → f a ≡ g a
 same_below f g n e a lt =
     sym (get_or-map-range_with_len f 0 n a a 0 lt (search rules))
     ∙ ap (λ (t : List ℕ). get_or t a 0) e ∙ get_or-map-range_with_len g 0 n a a 0 lt (search rules)
@@ -38,7 +38,7 @@ adds_in_second a b c =
     ∙ sum_of_sums 128 (term a b) (term a c)
 
 -- the product with a block that has one bit
-product_with_one : (k c : ℕ) → k < 128 → block_product (2 ^ k) c ≡ iterate times_x (127 - k) c
+pub product_with_one : (k c : ℕ) → k < 128 → block_product (2 ^ k) c ≡ iterate times_x (127 - k) c
 unfolding block_product
 product_with_one k c lt =
     let back : 127 - (127 - k) ≡ k = omega arith in
@@ -55,7 +55,7 @@ reduced_ones : map (λ k. iterate times_x 128 (2 ^ k)) (range_with_len 0 128) �
 unfolding times_x
 reduced_ones = refl
 
-sum_adds : (f g : ℕ → ℕ) → IsAdditive f → IsAdditive g → IsAdditive (λ a. bit_xor (f a) (g a))
+pub sum_adds : (f g : ℕ → ℕ) → IsAdditive f → IsAdditive g → IsAdditive (λ a. bit_xor (f a) (g a))
 sum_adds f g p q = record { adds = λ a b. ap₂ bit_xor (p.adds a b) (q.adds a b) ∙ xor_swap (f a) (f b) (g a) (g b) }
 
 x_128 : (c : ℕ) → c < 2 ^ 128 → iterate times_x 128 c ≡ by_reduction c
@@ -77,7 +77,7 @@ product_with_reduction c lt =
 
 -- ---- one more multiplication by x
 
-times_x_of_one : (k : ℕ) → times_x (2 ^ suc k) ≡ 2 ^ k
+pub times_x_of_one : (k : ℕ) → times_x (2 ^ suc k) ≡ 2 ^ k
 unfolding times_x
 times_x_of_one k =
     let twice = pow-suc 2 k in

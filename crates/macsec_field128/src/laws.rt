@@ -1,6 +1,8 @@
-//! Laws of the product of two blocks, of its definition alone: they are the contracts of functions with empty bodies.
+//! Laws of the product of two blocks and of its two steps, of their definitions alone: they are the contracts of functions
+//! with empty bodies.
 
-ghost use Rattle.macsec_field128.specs.Laws.{AddsInFirst, AddsInSecond, Associates, GoesFromTheRight, ProductIsBlock, TimesXAdds};
+ghost use Rattle.macsec_field128.specs.Carryless.{CarrylessAddsInFirst, CarrylessAddsInSecond, CarrylessMovesWithFirst, CarrylessMovesWithSecond, CarrylessOfOne, ProductIsResidue, ResidueAdds};
+ghost use Rattle.macsec_field128.specs.Laws.{AddsInFirst, AddsInSecond, Associates, ProductIsBlock};
 
 /// The product with a sum is the sum of the products, in either place.
 pub fn product_adds()
@@ -18,12 +20,25 @@ pub fn product_associates()
     ensures { Associates }
 {}
 
-/// A sum multiplied by x is the sum of both multiplied by x.
-pub fn times_x_adds()
-    ensures { TimesXAdds }
+/// The product without carries keeps sums in both places.
+pub fn carryless_adds()
+    ensures first { CarrylessAddsInFirst }
+    ensures second { CarrylessAddsInSecond }
 {}
 
-/// The product can be computed from the rightmost bit of its first place on.
-pub fn product_from_the_right()
-    ensures { GoesFromTheRight }
+/// The product without carries with 1, and those of numbers that are moved left.
+pub fn carryless_moves()
+    ensures one { CarrylessOfOne }
+    ensures first { CarrylessMovesWithFirst }
+    ensures second { CarrylessMovesWithSecond }
+{}
+
+/// The residue of a sum is the sum of the residues.
+pub fn residue_adds()
+    ensures { ResidueAdds }
+{}
+
+/// The product of two blocks is the residue of their product without carries.
+pub fn product_is_residue()
+    ensures { ProductIsResidue }
 {}

@@ -1,7 +1,8 @@
 //! The field of 2^128 elements in which GCM hashes (SP 800-38D, 6.3).
 #![tactic(auto)]
 
-ghost use Rattle.std.specs.Prelude.{◌≡◌, bit_xor};
+ghost use Rattle.std.specs.Prelude.{◌≡◌, ◌+◌, ◌*◌, ◌^◌, bit_xor};
+ghost use Rattle.macsec_field128.specs.Carryless.{residue};
 ghost use Rattle.macsec_field128.specs.Field.{block_product, times_x};
 
 pub mod laws;
@@ -47,4 +48,17 @@ pub fn mul(a: Block, b: Block) -> Block
         power = times_x(power);
     }
     sum
+}
+
+/// The element that a polynomial of 255 coefficients is, given in two halves of 128 bits: its residue modulo the polynomial
+/// of the field (SP 800-38D, 6.3). Bit 254 is the coefficient of x^0; bit 255 does not count.
+pub fn residue(left: u128, right: u128) -> Block
+    ensures { result.0 ≡ residue (left * 2 ^ 128 + right) }
+{
+    let first = (left << 1) | (right >> 127);
+    let others = right << 1;
+    // x^128 is 1 + x + x^2 + x^7, so that the other coefficients are added four times. Those that are moved out at the
+    // right on the way are once more coefficients from x^128 on.
+    let wrapped = others ^ (others << 127) ^ (others << 126) ^ (others << 121);
+    Block(first ^ (wrapped ^ (wrapped >> 1) ^ (wrapped >> 2) ^ (wrapped >> 7)))
 }

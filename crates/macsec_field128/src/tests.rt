@@ -26,6 +26,13 @@ fn times_x_of_the_rightmost_bit(rt: HostRuntime) {
     assert!(rt; times_x(Block(2)) == Block(1));
 }
 
+// x^0 stays, and x^128 is 1 + x + x^2 + x^7 (SP 800-38D, 6.3).
+#[test]
+fn residue_of_two_powers_of_x(rt: HostRuntime) {
+    assert!(rt; residue(1 << 126, 0) == ONE);
+    assert!(rt; residue(0, 1 << 126) == Block(0xe1 << 120));
+}
+
 // Test case 2 of the GCM specification: its ciphertext times its hash subkey.
 #[test]
 fn known_product(rt: HostRuntime) {

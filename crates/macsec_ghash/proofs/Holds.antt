@@ -1,5 +1,5 @@
 -- What a vector has in each lane, along the operations that made it.
-use Rattle.std.proofs.Common.{◌≡◌, ℕ, ◌^◌, ◌<◌, List, length, slice_index, replicate, refl, sym, ap₂, ◌∙◌, arith, w64, Fits}
+use Rattle.std.proofs.Common.{◌≡◌, ℕ, ◌*◌, ◌/◌, ◌%◌, ◌^◌, ◌<◌, List, length, slice_index, replicate, refl, sym, ap₂, ◌∙◌, arith, w64, Fits}
 use Rattle.std.proofs.lemmas.Simd.{get_or-zip2, length-zip2, get_or-replicate, length-replicate, Each1-get_or}
 use Rattle.std.specs.Simd.Lanes.{zip2, Each1}
 
@@ -16,6 +16,13 @@ holds_zip op {n} {xs} {ys} p q = record {
   long = length-zip2 op xs ys (p.long ∙ sym q.long) ∙ p.long;
   at = λ j h. get_or-zip2 op xs ys j 0 0 0 (omega (arith, p.long)) (omega (arith, q.long)) ∙ ap₂ op (p.at j h) (q.at j h);
 }
+
+-- what the operations on vectors do in a lane
+abbrev pub right : ℕ → ℕ → ℕ
+right a b = a / 2 ^ b
+
+abbrev pub wrapped_product : ℕ → ℕ → ℕ
+wrapped_product a b = a * b % 2 ^ 64
 
 -- n words of 64 bits
 abbrev pub AreWords : ℕ → List ℕ → Type 0

@@ -7,9 +7,9 @@ use Rattle.macsec_ghash.specs.Powers.{power}
 abbrev pub block_at : List ℕ → List ℕ → ℕ → ℕ
 block_at high low j = slice_index high j * 2 ^ 64 + slice_index low j
 
--- the sum of four of eight, every other one from k on
-abbrev pub sum_of_four : (ℕ → ℕ) → ℕ → ℕ
-sum_of_four f k = bit_xor (bit_xor (bit_xor (f k) (f (k + 2))) (f (k + 4))) (f (k + 6))
+-- the sum of four words
+abbrev pub sum_of_four : ℕ → ℕ → ℕ → ℕ → ℕ
+sum_of_four a b c d = bit_xor (bit_xor (bit_xor a b) c) d
 
 -- eight blocks are the powers of h, from the eighth down to h itself
 abbrev pub HasPowers : ℕ → List ℕ → List ℕ → Type 0

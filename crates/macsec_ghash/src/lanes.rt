@@ -1,12 +1,13 @@
 //! Blocks in lanes: in a pair of vectors, a lane of the first has the left half of a block, and that of the second its
 //! right half.
 
-ghost use Rattle.std.specs.Prelude.{◌≡◌, ℕ, ◌*◌, ◌/◌, ◌%◌, ◌^◌, ◌<◌, slice_index, bit_xor};
-ghost use Rattle.macsec_field128.specs.Field.{block_product, sum_below, times_x};
+ghost use Rattle.std.specs.Prelude.{◌≡◌, ℕ, ◌+◌, ◌*◌, ◌/◌, ◌%◌, ◌^◌, ◌<◌, slice_index, bit_and, bit_xor};
+ghost use Rattle.macsec_field128.specs.Field.{block_product, sum_below};
+ghost use Rattle.macsec_field128.specs.Carryless.{carryless};
 ghost use Rattle.macsec_ghash.specs.Lanes.{block_at, sum_of_four};
 
-use macsec_field128::Block;
-use macsec_field128::laws::{product_from_the_right, times_x_adds};
+use macsec_field128::laws::{carryless_adds, carryless_moves, product_is_residue, residue_adds};
+use macsec_field128::{Block, residue};
 use std::simd::{u64x2, u64x8};
 
 /// The left half of a block.
@@ -54,84 +55,164 @@ pub fn halves(blocks: &[u128; 8]) -> (u64x8, u64x8)
     )
 }
 
-/// Each of two blocks, multiplied by x (SP 800-38D, 6.3).
+/// The sum of the words of two vectors, lane by lane.
 #[inline(always)]
-fn times_x(high: u64x2, low: u64x2) -> (u64x2, u64x2)
-    ensures { (k : ℕ) → k < 2 → block_at result.0 result.1 k ≡ times_x (block_at high low k) }
+fn add(a: u64x8, b: u64x8) -> u64x8
+    ensures { (j : ℕ) → j < 8 → slice_index result j ≡ bit_xor (slice_index a j) (slice_index b j) }
 {
-    let all_ones_where_odd = u64x2::splat(0) - (low & u64x2::splat(1));
-    (
-        (high >> u64x2::splat(1)) ^ (all_ones_where_odd & u64x2::splat(0xe100_0000_0000_0000)),
-        (low >> u64x2::splat(1)) | (high << u64x2::splat(63)),
+    a ^ b
+}
+
+/// The left half of each word.
+#[inline(always)]
+fn left_halves(words: u64x8) -> u64x8
+    ensures { (j : ℕ) → j < 8 → slice_index result j ≡ slice_index words j / 2 ^ 32 }
+{
+    words >> u64x8::splat(32)
+}
+
+/// The bits of both words that the mask has.
+#[inline(always)]
+fn masked(words: u64x2, mask: u64) -> u64x2
+    ensures { (k : ℕ) → k < 2 → slice_index result k ≡ bit_and (slice_index words k) mask }
+{
+    words & u64x2::splat(mask)
+}
+
+/// The integer product of two words, in both lanes.
+#[inline(always)]
+fn product(a: u64x2, b: u64x2) -> u64x2
+    ensures { (k : ℕ) → k < 2 → slice_index result k ≡ slice_index a k * slice_index b k % 2 ^ 64 }
+{
+    a * b
+}
+
+/// The sum of four words, in both lanes.
+#[inline(always)]
+fn four_words(a: u64x2, b: u64x2, c: u64x2, d: u64x2) -> u64x2
+    ensures { (k : ℕ) → k < 2 → slice_index result k
+        ≡ sum_of_four (slice_index a k) (slice_index b k) (slice_index c k) (slice_index d k) }
+{
+    a ^ b ^ c ^ d
+}
+
+/// The products without carries of the right halves of words.
+///
+/// Each word is cut into four, of which each has every fourth bit. In an integer product of two of these, at most eight
+/// ones come together at any place. Their number has four bits, of which the last is their sum without carries. The
+/// others come to the three places on its left, where this product has no bits of its own.
+#[inline(always)]
+fn products(a: u64x2, b: u64x2) -> u64x2
+    ensures { (k : ℕ) → k < 2 → slice_index result k ≡ carryless (slice_index a k % 2 ^ 32) (slice_index b k % 2 ^ 32) }
+{
+    carryless_adds();
+    carryless_moves();
+    let a0 = masked(a, 0x1111_1111);
+    let a1 = masked(a, 0x2222_2222);
+    let a2 = masked(a, 0x4444_4444);
+    let a3 = masked(a, 0x8888_8888);
+    let b0 = masked(b, 0x1111_1111);
+    let b1 = masked(b, 0x2222_2222);
+    let b2 = masked(b, 0x4444_4444);
+    let b3 = masked(b, 0x8888_8888);
+    let c0 = four_words(
+        product(a0, b0),
+        product(a1, b3),
+        product(a2, b2),
+        product(a3, b1),
+    );
+    let c1 = four_words(
+        product(a0, b1),
+        product(a1, b0),
+        product(a2, b3),
+        product(a3, b2),
+    );
+    let c2 = four_words(
+        product(a0, b2),
+        product(a1, b1),
+        product(a2, b0),
+        product(a3, b3),
+    );
+    let c3 = four_words(
+        product(a0, b3),
+        product(a1, b2),
+        product(a2, b1),
+        product(a3, b0),
+    );
+    four_words(
+        masked(c0, 0x1111_1111_1111_1111),
+        masked(c1, 0x2222_2222_2222_2222),
+        masked(c2, 0x4444_4444_4444_4444),
+        masked(c3, 0x8888_8888_8888_8888),
     )
 }
 
-/// The sums of two blocks and two others.
+/// The words of a vector, two by two.
 #[inline(always)]
-fn add(a_high: u64x2, a_low: u64x2, b_high: u64x2, b_low: u64x2) -> (u64x2, u64x2)
-    ensures { (k : ℕ) → k < 2 → block_at result.0 result.1 k ≡ bit_xor (block_at a_high a_low k) (block_at b_high b_low k) }
+fn pairs(v: u64x8) -> (u64x2, u64x2, u64x2, u64x2)
+    ensures { (k : ℕ) → k < 2 → (slice_index result.0 k ≡ slice_index v k) × (slice_index result.1 k ≡ slice_index v (k + 2))
+        × (slice_index result.2 k ≡ slice_index v (k + 4)) × (slice_index result.3 k ≡ slice_index v (k + 6)) }
 {
-    (a_high ^ b_high, a_low ^ b_low)
-}
-
-/// The sum of the words with even index, and that of the others.
-#[inline(always)]
-fn folded(v: u64x8) -> u64x2
-    ensures { (k : ℕ) → k < 2 → slice_index result k ≡ sum_of_four (λ j. slice_index v j) k }
-{
-    v.extract::<0, 2>() ^ v.extract::<2, 2>() ^ v.extract::<4, 2>() ^ v.extract::<6, 2>()
-}
-
-/// The sum of the blocks with even index, and that of the others, of those at which a word of `bits` is odd.
-#[inline(always)]
-fn sums_where_odd(bits: u64x8, high: u64x8, low: u64x8) -> (u64x2, u64x2)
-    ensures { (k : ℕ) → k < 2 → block_at result.0 result.1 k ≡ sum_of_four (λ j. slice_index bits j % 2 * block_at high low j) k }
-{
-    let all_ones_where_odd = u64x8::splat(0) - (bits & u64x8::splat(1));
     (
-        folded(high & all_ones_where_odd),
-        folded(low & all_ones_where_odd),
+        v.extract::<0, 2>(),
+        v.extract::<2, 2>(),
+        v.extract::<4, 2>(),
+        v.extract::<6, 2>(),
     )
 }
 
-/// Each word without its last bit.
+/// The sum of two words.
 #[inline(always)]
-fn halved(bits: u64x8) -> u64x8
-    ensures { (j : ℕ) → j < 8 → slice_index result j ≡ slice_index bits j / 2 }
+fn sum(words: u64x2) -> u64
+    ensures { result ≡ bit_xor (slice_index words 0) (slice_index words 1) }
 {
-    bits >> u64x8::splat(1)
+    words.reduce_xor()
 }
 
-/// The sum of two blocks.
-#[inline(always)]
-fn joined(high: u64x2, low: u64x2) -> Block
-    ensures { result.0 ≡ bit_xor (block_at high low 0) (block_at high low 1) }
+/// The sum of the products without carries of the right halves of words. Two lanes at a time, since this many vectors
+/// of two words stay in registers.
+#[inline(never)]
+fn sum_of_half_products(a: u64x8, b: u64x8) -> u64
+    ensures { result ≡ sum_below 8 (λ j. carryless (slice_index a j % 2 ^ 32) (slice_index b j % 2 ^ 32)) }
 {
-    Block((u128::from(high.reduce_xor()) << 64) | u128::from(low.reduce_xor()))
+    let (a0, a1, a2, a3) = pairs(a);
+    let (b0, b1, b2, b3) = pairs(b);
+    sum(four_words(
+        products(a0, b0),
+        products(a1, b1),
+        products(a2, b2),
+        products(a3, b3),
+    ))
 }
 
-/// The sum of the products of eight blocks and eight others, bit by bit of the first from the rightmost one on.
+/// The sum of the products without carries of words: by three products of their halves (Karatsuba).
+fn sum_of_word_products(a: u64x8, b: u64x8) -> u128
+    ensures { result ≡ sum_below 8 (λ j. carryless (slice_index a j) (slice_index b j)) }
+{
+    carryless_adds();
+    carryless_moves();
+    let a_left = left_halves(a);
+    let b_left = left_halves(b);
+    let left = sum_of_half_products(a_left, b_left);
+    let right = sum_of_half_products(a, b);
+    let both = sum_of_half_products(add(a_left, a), add(b_left, b));
+    let middle = both ^ left ^ right;
+    (u128::from(left) << 64) ^ (u128::from(middle) << 32) ^ u128::from(right)
+}
+
+/// The sum of the products of eight blocks and eight others: by three products without carries of their halves, and one
+/// residue of all.
 pub fn sum_of_products(a_high: u64x8, a_low: u64x8, b_high: u64x8, b_low: u64x8) -> Block
     ensures { result.0 ≡ sum_below 8 (λ j. block_product (block_at a_high a_low j) (block_at b_high b_low j)) }
 {
-    // For the proof: the sums of products are multiplied by x product by product, and end as sums of whole products.
-    times_x_adds();
-    product_from_the_right();
-    let mut high = u64x2::splat(0);
-    let mut low = u64x2::splat(0);
-    let mut bits = a_low;
-    'right: for _bit in 0..64u32 {
-        let (moved_high, moved_low) = times_x(high, low);
-        let (added_high, added_low) = sums_where_odd(bits, b_high, b_low);
-        (high, low) = add(moved_high, moved_low, added_high, added_low);
-        bits = halved(bits);
-    }
-    bits = a_high;
-    'left: for _bit in 0..64u32 {
-        let (moved_high, moved_low) = times_x(high, low);
-        let (added_high, added_low) = sums_where_odd(bits, b_high, b_low);
-        (high, low) = add(moved_high, moved_low, added_high, added_low);
-        bits = halved(bits);
-    }
-    joined(high, low)
+    // For the proof: the residue of a sum is that of each product.
+    carryless_adds();
+    carryless_moves();
+    residue_adds();
+    product_is_residue();
+    let left = sum_of_word_products(a_high, b_high);
+    let right = sum_of_word_products(a_low, b_low);
+    let both = sum_of_word_products(add(a_high, a_low), add(b_high, b_low));
+    let middle = both ^ left ^ right;
+    residue(left ^ (middle >> 64), (middle << 64) ^ right)
 }

@@ -67,6 +67,9 @@ fn block_of(octets: &[u8]) -> Block
     requires { length octets.now ≤ 16 }
     ensures { result.0 ≡ block_of octets.now }
 {
+    if let Some(whole) = octets.as_array::<16>() {
+        return Block(u128::from_be_bytes(*whole));
+    }
     let mut filled = [0; 16];
     filled[..octets.len()].copy_from_slice(octets);
     Block(u128::from_be_bytes(filled))
