@@ -1,21 +1,18 @@
--- Texts to which a key stream is added, block by block.
-use Rattle.std.proofs.Common.{◌≡◌, ℕ, suc, ◌+◌, ◌-◌, ◌*◌, ◌/◌, ◌%◌, ◌<◌, ◌≤◌, List, [], ◌∷◌, length, get_or, take, drop, bit_xor, refl, sym, ap, ◌∙◌, arith, inl, inr, length-drop, length-append, ◌++◌, min}
-use Rattle.std.proofs.lemmas.List.{length-take-le, get_or_append_left, get_or-append_right, get_or-take, get_or-drop}
+-- Key streams, and the texts to which they are added.
+use Rattle.std.proofs.Common.{◌≡◌, ℕ, suc, ◌+◌, ◌-◌, ◌*◌, ◌/◌, ◌%◌, ◌<◌, ◌≤◌, List, [], ◌∷◌, length, get_or, take, drop, bit_xor, map, replicate, refl, sym, ap, ap₂, ◌∙◌, arith, inl, inr, length-drop, length-append, ◌++◌}
+use Rattle.std.proofs.lemmas.List.{length-map, length-replicate, length-take-le, get_or_append_left, get_or-append_right, get_or-map, get_or-take, get_or-drop}
 use Rattle.std.proofs.lemmas.List.FromFn.{length-map-range_with_len, get_or-map-range_with_len}
 use Rattle.std.proofs.lemmas.Bool.{cases_lt}
+use Rattle.std.proofs.lemmas.Simd.{get_or-replicate}
 use Rattle.std.specs.Fn.{iterate}
 use Rattle.std.specs.List.{flat_map}
-use borrow.Rule.Slice.PartMut.{put_mid}
 use Rattle.std.proofs.lemmas.Grind.{same_number_lists}
-use Rattle.std.specs.Int.Bits.{xor_assoc, xor_self, xor_zero_r}
-use Rattle.macsec_aes.specs.Aes.{aes}
+use Rattle.std.specs.Int.Bits.{xor_assoc, xor_self, xor_zero_l, xor_zero_r}
+use Rattle.macsec_aes.specs.Aes.{aes, add_round_key}
 use Rattle.macsec_gcm.specs.Gcm.{gctr, inc32}
 use Rattle.macsec_gcm.specs.Octets.{sum_with_stream}
+use Rattle.macsec_gcm.specs.Streams.{IsSumBelow, key_stream}
 use Rattle.macsec_gcm.proofs.Iterations.{iterate_add}
-
--- octet k of the key stream from icb on
-abbrev pub key_stream : List ℕ → List ℕ → ℕ → ℕ
-key_stream key icb k = get_or (aes key (iterate inc32 (k / 16) icb)) (k % 16) 0
 
 -- the key stream from the n-th counter block after icb on
 pub key_stream-later : (key icb : List ℕ) (n k : ℕ) → key_stream key (iterate inc32 n icb) k ≡ key_stream key icb (16 * n + k)
@@ -23,26 +20,6 @@ key_stream-later key icb n k =
     let block : (16 * n + k) / 16 ≡ n + k / 16 = omega arith in
     let place : (16 * n + k) % 16 ≡ k % 16 = omega arith in
     rw (block, place, iterate_add inc32 n (k / 16) icb) refl
-
--- ---- a text after a write to a part of it
-
-module _ (a m : ℕ) (xs ys : List ℕ) (long : length ys ≡ m) (fits : a + m ≤ length xs) where
-  put_below : (k : ℕ) → k < a → get_or (put_mid a m xs ys) k 0 ≡ get_or xs k 0
-  put_below k lt =
-      get_or_append_left (take a xs) (ys ++ drop m (drop a xs)) 0 k (omega (arith, length-take-le a xs (omega arith))) ∙ get_or-take a xs k 0 lt
-
-  put_inside : (k : ℕ) → a ≤ k → k < a + m → get_or (put_mid a m xs ys) k 0 ≡ get_or ys (k - a) 0
-  put_inside k low high =
-      get_or-append_right (take a xs) (ys ++ drop m (drop a xs)) a k 0 (length-take-le a xs (omega arith)) low
-      ∙ get_or_append_left ys (drop m (drop a xs)) 0 (k - a) (omega arith)
-
-  put_past : (k : ℕ) → a + m ≤ k → get_or (put_mid a m xs ys) k 0 ≡ get_or xs k 0
-  put_past k low =
-      let place : a + (m + (k - a - m)) ≡ k = omega arith in
-      get_or-append_right (take a xs) (ys ++ drop m (drop a xs)) a k 0 (length-take-le a xs (omega arith)) (omega arith)
-      ∙ get_or-append_right ys (drop m (drop a xs)) m (k - a) 0 long (omega arith)
-      ∙ get_or-drop m (drop a xs) (k - a - m) 0 ∙ get_or-drop a xs (m + (k - a - m)) 0
-      ∙ ap (λ (p : ℕ). get_or xs p 0) place
 
 -- ---- sums with a stream, and with the key stream
 
@@ -64,67 +41,83 @@ unfolding gctr
 get_or-gctr key icb text k lt =
     get_or-map-range_with_len (λ k. bit_xor (get_or text k 0) (key_stream key icb k)) 0 (length text) k k 0 lt (omega arith)
 
--- ---- the key stream added piece by piece
+-- ---- the key stream added part by part
 
--- the first n octets of text are those of old with f added, and the others are those of old
-pub record IsSumBelow (f : ℕ → ℕ) (old text : List ℕ) (n : ℕ) : Type 0 where
-  pub done : (k : ℕ) → k < n → k < length old → get_or text k 0 ≡ bit_xor (get_or old k 0) (f k)
-  pub left : (k : ℕ) → n ≤ k → get_or text k 0 ≡ get_or old k 0
-
--- a piece more: the key stream from a later counter block on is added to the octets from a on, w of them if there are so many
-pub sum_below_more : (key icb old text ys : List ℕ) (n a e w : ℕ) → IsSumBelow (key_stream key icb) old text a → length text ≡ length old → a < length old
-    → a ≡ 16 * n → e ≡ min (length old) (a + w) → ys ≡ gctr key (iterate inc32 n icb) (take (e - a) (drop a text))
-    → IsSumBelow (key_stream key icb) old (put_mid a (e - a) text ys) (a + w)
-sum_below_more key icb old text ys n a e w held same lt ea ee ey =
-    let m : ℕ = e - a in
-    let part : List ℕ = take m (drop a text) in
-    let part_long : length part ≡ m = length-take-le m (drop a text) (omega (arith, length-drop a text)) in
-    let long : length ys ≡ m = ap length ey ∙ length-gctr key (iterate inc32 n icb) part ∙ part_long in
-    let fits : a + m ≤ length text = omega arith in
+-- the first m octets of a stream are added
+pub sum_of_part : (f : ℕ → ℕ) (old stream : List ℕ) (m : ℕ) → m ≤ length old → ((k : ℕ) → k < m → get_or stream k 0 ≡ f k)
+    → IsSumBelow f old (sum_with_stream (take m old) stream ++ drop m old) m
+sum_of_part f old stream m le each =
+    let sum : List ℕ = sum_with_stream (take m old) stream in
+    let part_long : length (take m old) ≡ m = length-take-le m old le in
+    let long : length sum ≡ m = length-sum_with_stream (take m old) stream ∙ part_long in
     record {
-      done = λ k h inside. elim (cases_lt k a) [
-        | inl below ↦ put_below a m text ys long fits k below ∙ held.done k below inside
-        | inr here ↦
-            let place : a + (k - a) ≡ k = omega arith in
-            let later : 16 * n + (k - a) ≡ k = omega arith in
-            put_inside a m text ys long fits k here (omega arith)
-            ∙ ap (λ (zs : List ℕ). get_or zs (k - a) 0) ey
-            ∙ get_or-gctr key (iterate inc32 n icb) part (k - a) (omega arith)
-            ∙ ap (λ (x : ℕ). bit_xor x (key_stream key (iterate inc32 n icb) (k - a)))
-            (get_or-take m (drop a text) (k - a) 0 (omega arith) ∙ get_or-drop a text (k - a) 0 ∙ ap (λ (p : ℕ). get_or text p 0) place ∙ held.left k here)
-            ∙ ap (bit_xor (get_or old k 0)) (key_stream-later key icb n (k - a) ∙ ap (key_stream key icb) later)
-      ];
-      left = λ k h. elim (cases_lt k (length old)) [
-        | inl inside ↦ put_past a m text ys long fits k (omega arith) ∙ held.left k (omega arith)
-        | inr past ↦ put_past a m text ys long fits k (omega arith) ∙ held.left k (omega arith)
-      ];
+      done = λ k lt inside.
+          get_or_append_left sum (drop m old) 0 k (omega arith)
+          ∙ get_or-sum_with_stream (take m old) stream k (omega arith)
+          ∙ ap₂ bit_xor (get_or-take m old k 0 lt) (each k lt);
+      left = λ k ge.
+          let place : m + (k - m) ≡ k = omega arith in
+          get_or-append_right sum (drop m old) m k 0 long ge ∙ get_or-drop m old (k - m) 0 ∙ ap (λ (p : ℕ). get_or old p 0) place;
     }
 
--- ---- a text in two parts
+-- a part more
+pub sum_continues : (f g : ℕ → ℕ) (old text ys : List ℕ) (a m : ℕ) → IsSumBelow f old text a → length text ≡ length old → a ≤ length old
+    → IsSumBelow g (drop a text) ys m → ((k : ℕ) → g k ≡ f (a + k)) → IsSumBelow f old (take a text ++ ys) (a + m)
+sum_continues f g old text ys a m held same le more later =
+    let front_long : length (take a text) ≡ a = length-take-le a text (omega arith) in
+    record {
+      done = λ k lt inside. elim (cases_lt k a) [
+        | inl below ↦ get_or_append_left (take a text) ys 0 k (omega arith) ∙ get_or-take a text k 0 below ∙ held.done k below inside
+        | inr past ↦
+            let place : a + (k - a) ≡ k = omega arith in
+            get_or-append_right (take a text) ys a k 0 front_long past
+            ∙ more.done (k - a) (omega arith) (omega (arith, length-drop a text))
+            ∙ ap₂ bit_xor (get_or-drop a text (k - a) 0 ∙ ap (λ (p : ℕ). get_or text p 0) place ∙ held.left k past) (later (k - a) ∙ ap f place)
+      ];
+      left = λ k ge.
+          let place : a + (k - a) ≡ k = omega arith in
+          get_or-append_right (take a text) ys a k 0 front_long (omega arith)
+          ∙ more.left (k - a) (omega arith) ∙ get_or-drop a text (k - a) 0 ∙ ap (λ (p : ℕ). get_or text p 0) place ∙ held.left k (omega arith);
+    }
 
--- the second part goes on with the counter block after those of the first, which are whole blocks if there is a second part
-pub gctr-parts : (key icb text : List ℕ) (n m : ℕ) → m ≡ min (length text) (16 * n)
-    → gctr key icb text ≡ gctr key icb (take m text) ++ gctr key (iterate inc32 n icb) (drop m text)
-gctr-parts key icb text n m em =
-    let front : List ℕ = gctr key icb (take m text) in
-    let back : List ℕ = gctr key (iterate inc32 n icb) (drop m text) in
-    let whole = length-gctr key icb text in
-    let front_long : length front ≡ m = length-gctr key icb (take m text) ∙ length-take-le m text (omega arith) in
-    let back_long : length back ≡ length text - m = length-gctr key (iterate inc32 n icb) (drop m text) ∙ length-drop m text in
-    same_number_lists (gctr key icb text) (front ++ back) (omega (arith, length-append front back))
-    (λ k lt. get_or-gctr key icb text k (omega arith) ∙ elim (cases_lt k m) [
+-- ---- a text with a piece more
+
+pub gctr-append : (key icb p q r : List ℕ) → length r ≡ length q → IsSumBelow (λ k. key_stream key icb (length p + k)) q r (length q)
+    → gctr key icb (p ++ q) ≡ gctr key icb p ++ r
+gctr-append key icb p q r long sum =
+    let lp = length-gctr key icb p in
+    let lw = length-gctr key icb (p ++ q) in
+    let lpq = length-append p q in
+    let lr = length-append (gctr key icb p) r in
+    same_number_lists (gctr key icb (p ++ q)) (gctr key icb p ++ r) (omega arith)
+    (λ k lt. get_or-gctr key icb (p ++ q) k (omega arith) ∙ elim (cases_lt k (length p)) [
       | inl below ↦
-          ap (λ (x : ℕ). bit_xor x (key_stream key icb k)) (sym (get_or-take m text k 0 below))
-          ∙ sym (get_or-gctr key icb (take m text) k (omega (arith, length-take-le m text (omega arith))))
-          ∙ sym (get_or_append_left front back 0 k (omega arith))
+          ap (λ (x : ℕ). bit_xor x (key_stream key icb k)) (get_or_append_left p q 0 k below)
+          ∙ sym (get_or-gctr key icb p k below) ∙ sym (get_or_append_left (gctr key icb p) r 0 k (omega arith))
       | inr past ↦
-          let place : m + (k - m) ≡ k = omega arith in
-          let later : 16 * n + (k - m) ≡ k = omega arith in
-          ap (λ (x : ℕ). bit_xor x (key_stream key icb k)) (ap (λ (p : ℕ). get_or text p 0) (sym place) ∙ sym (get_or-drop m text (k - m) 0))
-          ∙ ap (bit_xor (get_or (drop m text) (k - m) 0)) (ap (key_stream key icb) (sym later) ∙ sym (key_stream-later key icb n (k - m)))
-          ∙ sym (get_or-gctr key (iterate inc32 n icb) (drop m text) (k - m) (omega (arith, length-drop m text)))
-          ∙ sym (get_or-append_right front back m k 0 front_long past)
+          let place : length p + (k - length p) ≡ k = omega arith in
+          ap (λ (x : ℕ). bit_xor x (key_stream key icb k)) (get_or-append_right p q (length p) k 0 refl past)
+          ∙ ap (λ (j : ℕ). bit_xor (get_or q (k - length p) 0) (key_stream key icb j)) (sym place)
+          ∙ sym (sum.done (k - length p) (omega arith) (omega arith))
+          ∙ sym (get_or-append_right (gctr key icb p) r (length p) k 0 lp past)
     ])
+
+-- a text of at most one block is added to the key stream of the first counter block, which is what zeros become
+pub sum_with_mask : (key icb text : List ℕ) → length text ≤ 16 → sum_with_stream text (gctr key icb (replicate 16 0)) ≡ gctr key icb text
+sum_with_mask key icb text le =
+    let mask : List ℕ = gctr key icb (replicate 16 0) in
+    let long = length-gctr key icb text in
+    let sum_long = length-sum_with_stream text mask in
+    same_number_lists (sum_with_stream text mask) (gctr key icb text) (sum_long ∙ sym long)
+    (λ k lt.
+    let inside : k < length text = omega arith in
+    let zeros : k < length {A = ℕ} (replicate 16 0) = omega (arith, length-replicate {A = ℕ} 16 0) in
+    get_or-sum_with_stream text mask k inside
+    ∙ ap (bit_xor (get_or text k 0))
+    (get_or-gctr key icb (replicate 16 0) k zeros
+    ∙ ap (λ (x : ℕ). bit_xor x (key_stream key icb k)) (get_or-replicate 16 k 0 0 (omega arith))
+    ∙ xor_zero_l (key_stream key icb k))
+    ∙ sym (get_or-gctr key icb text k inside))
 
 -- ---- blocks of a key stream, one after another
 
@@ -148,19 +141,20 @@ get_or-flat_map (x ∷ xs) k are lt = elim (cases_lt k 16) [
       ∙ get_or-flat_map xs (k - 16) (λ i h. are (suc i) (omega arith)) (omega arith))
 ]
 
--- a text with the octets of such blocks added
-pub sum_with_blocks : (key icb text : List ℕ) (blocks : List (List ℕ)) → AreBlocks blocks → ((i : ℕ) → i < length blocks → get_or blocks i [] ≡ aes key (iterate inc32 i icb))
-    → length text ≤ length blocks * 16 → sum_with_stream text (flat_map (λ x. x) blocks) ≡ gctr key icb text
-sum_with_blocks key icb text blocks are each le =
-    let long = length-gctr key icb text in
-    same_number_lists (sum_with_stream text (flat_map (λ x. x) blocks)) (gctr key icb text)
-    (length-sum_with_stream text (flat_map (λ x. x) blocks) ∙ sym long)
-    (λ k lt.
-    let inside : k < length text = omega (arith, length-sum_with_stream text (flat_map (λ x. x) blocks)) in
-    get_or-sum_with_stream text (flat_map (λ x. x) blocks) k inside
-    ∙ ap (bit_xor (get_or text k 0))
-    (get_or-flat_map blocks k are (omega arith) ∙ ap (λ (b : List ℕ). get_or b (k % 16) 0) (each (k / 16) (omega arith)))
-    ∙ sym (get_or-gctr key icb text k inside))
+-- a block of AES has 16 octets
+length-aes : (key block : List ℕ) → length (aes key block) ≡ 16
+unfolding aes add_round_key
+length-aes key block = refl
+
+-- AES of counter blocks is the key stream
+pub stream_of_blocks : (key icb : List ℕ) (n : ℕ) (blocks : List (List ℕ)) → length blocks ≡ n → ((i : ℕ) → i < n → get_or blocks i [] ≡ iterate inc32 i icb)
+    → (k : ℕ) → k < n * 16 → get_or (flat_map (λ x. x) (map (aes key) blocks)) k 0 ≡ key_stream key icb k
+stream_of_blocks key icb n blocks long each k lt =
+    let all = length-map blocks (aes key) in
+    let inside : k / 16 < length blocks = omega arith in
+    let block : (i : ℕ) → i < length blocks → get_or (map (aes key) blocks) i [] ≡ aes key (get_or blocks i []) = λ i h. get_or-map (aes key) blocks i [] [] h in
+    get_or-flat_map (map (aes key) blocks) k (λ i h. ap length (block i (omega arith)) ∙ length-aes key (get_or blocks i [])) (omega arith)
+    ∙ ap (λ (b : List ℕ). get_or b (k % 16) 0) (block (k / 16) inside ∙ ap (aes key) (each (k / 16) (omega arith)))
 
 -- ---- the key stream added twice
 
@@ -176,3 +170,7 @@ gctr-gctr key icb text =
     ∙ xor_assoc (get_or text k 0) (key_stream key icb k) (key_stream key icb k)
     ∙ ap (bit_xor (get_or text k 0)) (xor_self (key_stream key icb k))
     ∙ xor_zero_r (get_or text k 0))
+
+pub gctr-nil : (key icb : List ℕ) → gctr key icb [] ≡ []
+unfolding gctr
+gctr-nil key icb = refl

@@ -1,3 +1,4 @@
 pub mod Iterations
 pub mod KeyStreams
 pub mod Opening
+pub mod States

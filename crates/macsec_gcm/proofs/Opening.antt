@@ -68,8 +68,6 @@ sealed_by_test key iv aad ciphertext tag e =
 pub test_by_sealed : (key iv aad ciphertext tag plaintext : List ℕ) → seal_of key iv aad plaintext ≡ (ciphertext, tag) → same_octets (tag_of key iv aad ciphertext) tag ≡ true
 test_by_sealed key iv aad ciphertext tag plaintext e = rw (tag_from_sealed key iv aad ciphertext tag plaintext e) (same_octets-refl tag)
 
-pub ruleset tests_of_tags = (open_of-by_test, sealed_by_test, test_by_sealed)
-
 -- ---- opening undoes sealing
 
 seals_where_opens : (key iv aad ciphertext tag plaintext : List ℕ) → open_of key iv aad ciphertext tag ≡ Some plaintext → seal_of key iv aad plaintext ≡ (ciphertext, tag)

@@ -1,6 +1,6 @@
 //! The counter blocks of a text (SP 800-38D, 6.2 and 7.1).
 
-ghost use Rattle.std.specs.Prelude.{◌≡◌, ℕ, ◌<◌, [], slice_index_or};
+ghost use Rattle.std.specs.Prelude.{◌≡◌, ℕ, ◌<◌, [], length, slice_index_or};
 ghost use Rattle.std.specs.Fn.{iterate};
 ghost use Rattle.macsec_gcm.specs.Gcm.{inc32, pre_counter_block};
 
@@ -24,12 +24,14 @@ pub fn inc32(block: [u8; 16]) -> [u8; 16]
     next
 }
 
-/// Sixteen counter blocks, from `first` on.
-pub fn sixteen_from(first: [u8; 16]) -> [[u8; 16]; 16]
-    ensures { (i : ℕ) → i < 16 → slice_index_or result i [] ≡ iterate inc32 i first }
+/// Counter blocks, from `first` on.
+pub fn blocks_from<const N: usize>(first: [u8; 16]) -> [[u8; 16]; N]
+    requires { 0 < N }
+    ensures count { length result ≡ N }
+    ensures each { (i : ℕ) → i < N → slice_index_or result i [] ≡ iterate inc32 i first }
 {
-    let mut blocks = [first; 16];
-    for i in 1..16 {
+    let mut blocks = [first; N];
+    for i in 1..N {
         blocks[i] = inc32(blocks[i - 1]);
     }
     blocks

@@ -1,35 +1,105 @@
-//! The hash that a tag is made of (SP 800-38D, 7.1, steps 4 and 5).
+//! The hash of texts in pieces, each text padded with zeros to whole blocks (SP 800-38D, 7.1, step 5).
 
-ghost use Rattle.std.specs.Prelude.{◌≡◌, ◌*◌, ◌^◌, ◌<◌, ◌≤◌, ◌++◌, [], ℕ, List, length};
-ghost use Rattle.macsec_ghash.specs.Ghash.{ghash, pad};
-ghost use Rattle.macsec_gcm.specs.Gcm.{length_block, max_aad_len, max_plaintext_len};
+ghost use Rattle.std.specs.Prelude.{◌≡◌, ◌+◌, ◌%◌, ◌<◌, ◌++◌, [], ℕ, List, length};
 
 use macsec_field128::Block;
-use macsec_ghash::Hash128;
+use macsec_ghash::{Hash128, LaneHash};
 
-/// The hash of the additional authenticated data, the ciphertext and their lengths, under the subkey of `start`, which has
-/// hashed nothing.
-pub fn hash_of<H: Hash128 + Drop>(start: H, aad: &[u8], ciphertext: &[u8]) -> Block
-    requires text_length { length ciphertext.now ≤ max_plaintext_len }
-    requires aad_length { length aad.now ≤ max_aad_len }
-    ensures { (h : ℕ) → H.has_hashed start h [] → result.0 ≡
-        ghash h (pad aad.now ++ (pad ciphertext.now ++ pad (length_block aad.now ciphertext.now))) }
-{
-    let mut hash = start;
-    hash.absorb(aad);
-    hash.absorb(ciphertext);
-    hash.absorb(&length_block(aad.len() as u64, ciphertext.len() as u64));
-    hash.value()
+/// The hash of texts in pieces. The octets after the last whole block of a text wait until their block is whole or the
+/// text ends.
+#[derive(Clone, Copy)]
+pub struct PaddedHash {
+    hash: LaneHash,
+    /// The octets that wait, and after them whatever was here before.
+    waiting: [u8; 16],
+    /// How many octets wait.
+    waiting_count: usize,
+    ghost has_room: { waiting_count < 16 },
 }
 
-/// The bit lengths of `aad` and `ciphertext` octets.
-fn length_block(aad: u64, ciphertext: u64) -> [u8; 16]
-    requires aad_length { 8 * aad < 2 ^ 64 }
-    requires text_length { 8 * ciphertext < 2 ^ 64 }
-    ensures { (a c : List ℕ) → length a ≡ aad → length c ≡ ciphertext → result ≡ length_block a c }
-{
-    let mut block = [0; 16];
-    block[..8].copy_from_slice(&(8 * aad).to_be_bytes());
-    block[8..].copy_from_slice(&(8 * ciphertext).to_be_bytes());
-    block
+impl PaddedHash {
+    ghost use Rattle.macsec_ghash.specs.Ghash.{ghash, pad};
+    ghost use Rattle.macsec_gcm.specs.Pieces.{IsHashing};
+
+    /// The hash of nothing, from a hash that has hashed nothing.
+    pub fn start(hash: LaneHash) -> PaddedHash
+        ensures { (h : ℕ) → ⟦<LaneHash as Hash128>⟧.has_hashed hash h [] → IsHashing result h [] [] }
+    {
+        PaddedHash {
+            hash,
+            waiting: [0; 16],
+            waiting_count: 0,
+        }
+    }
+
+    /// Hashes the next piece of a text.
+    pub fn absorb(&mut self, piece: &[u8])
+        ensures { (h : ℕ) (blocks text : List ℕ) → IsHashing self.old h blocks text
+            → IsHashing self.new h blocks (text ++ piece.now) }
+    {
+        let missing = 16 - self.waiting_count;
+        if piece.len() < missing {
+            self.wait(piece);
+            return;
+        }
+        let (head, rest) = piece.split_at(missing);
+        self.complete(head);
+        let (whole, tail) = rest.split_at(rest.len() - rest.len() % 16);
+        self.absorb_whole(whole);
+        self.wait(tail);
+    }
+
+    /// Ends a text: the octets that wait are padded.
+    pub fn end_text(&mut self)
+        ensures { (h : ℕ) (blocks text : List ℕ) → IsHashing self.old h blocks text
+            → IsHashing self.new h (blocks ++ pad text) [] }
+    {
+        let waiting = self.waiting;
+        self.hash.absorb(&waiting[..self.waiting_count]);
+        self.waiting_count = 0;
+    }
+
+    /// The hash of all texts, the last of which ends here.
+    pub fn value(&self) -> Block
+        ensures { (h : ℕ) (blocks text : List ℕ) → IsHashing self.now h blocks text
+            → result.0 ≡ ghash h (blocks ++ pad text) }
+    {
+        let mut hash = self.hash;
+        hash.absorb(&self.waiting[..self.waiting_count]);
+        hash.value()
+    }
+
+    /// Lets octets wait that do not make a block whole.
+    fn wait(&mut self, octets: &[u8])
+        requires { self.old.waiting_count + length octets.now < 16 }
+        ensures { (h : ℕ) (blocks text : List ℕ) → IsHashing self.old h blocks text
+            → IsHashing self.new h blocks (text ++ octets.now) }
+    {
+        let end = self.waiting_count + octets.len();
+        self.waiting[self.waiting_count..end].copy_from_slice(octets);
+        self.waiting_count = end;
+    }
+
+    /// Hashes the block of the octets that wait and of those that make it whole.
+    fn complete(&mut self, octets: &[u8])
+        requires { self.old.waiting_count + length octets.now ≡ 16 }
+        ensures none { self.new.waiting_count ≡ 0 }
+        ensures hashes { (h : ℕ) (blocks text : List ℕ) → IsHashing self.old h blocks text
+            → IsHashing self.new h blocks (text ++ octets.now) }
+    {
+        self.waiting[self.waiting_count..].copy_from_slice(octets);
+        self.hash.absorb(&self.waiting);
+        self.waiting_count = 0;
+    }
+
+    /// Hashes whole blocks of octets, where none wait.
+    fn absorb_whole(&mut self, octets: &[u8])
+        requires none { self.old.waiting_count ≡ 0 }
+        requires whole { length octets.now % 16 ≡ 0 }
+        ensures none { self.new.waiting_count ≡ 0 }
+        ensures hashes { (h : ℕ) (blocks text : List ℕ) → IsHashing self.old h blocks text
+            → IsHashing self.new h blocks (text ++ octets.now) }
+    {
+        self.hash.absorb(octets);
+    }
 }

@@ -1,48 +1,43 @@
-//! Key streams (SP 800-38D, 6.5), sixteen blocks at a time.
+//! Key streams (SP 800-38D, 6.5), in batches of blocks.
 
-ghost use Rattle.std.specs.Prelude.{◌≡◌, ℕ, ◌*◌, ◌+◌, ◌<◌, ◌≤◌, List, [], length, slice_index_or};
+ghost use Rattle.std.specs.Prelude.{◌≡◌, ℕ, ◌+◌, ◌*◌, ◌<◌, ◌≤◌, List, [], length, slice_index};
 ghost use Rattle.std.specs.Fn.{iterate};
-ghost use Rattle.macsec_aes.specs.Aes.{aes};
-ghost use Rattle.macsec_gcm.specs.Gcm.{gctr, inc32};
+ghost use Rattle.macsec_gcm.specs.Gcm.{inc32};
 ghost use Rattle.macsec_gcm.specs.Octets.{sum_with_stream};
+ghost use Rattle.macsec_gcm.specs.Streams.{key_stream};
 
-use crate::counter_blocks::{inc32, sixteen_from};
+use crate::counter_blocks::{blocks_from, inc32};
 use macsec_aes::Schedule;
-use macsec_aes_lanes::encrypt16;
+use macsec_aes_lanes::{encrypt8, encrypt16};
 
-/// The key stream of sixteen counter blocks, and the counter block after them.
-#[derive(Drop)]
-struct Batch {
-    blocks: [[u8; 16]; 16],
-    next: [u8; 16],
-}
-
-impl Batch {
-    /// The key stream of sixteen counter blocks, from `first` on.
-    fn from_counter(schedule: &Schedule, first: [u8; 16]) -> Batch
-        ensures stream { (i : ℕ) → i < 16 → slice_index_or result.blocks i [] ≡ aes schedule.now (iterate inc32 i first) }
-        ensures sixteen { length result.blocks ≡ 16 }
-        ensures next { result.next ≡ iterate inc32 16 first }
-    {
-        let mut blocks = sixteen_from(first);
-        let next = inc32(blocks[15]);
-        encrypt16(schedule, &mut blocks);
-        Batch { blocks, next }
-    }
-}
-
-/// Adds blocks of a key stream to a text that is no longer than they are.
-fn add_blocks(text: &mut [u8], blocks: &[[u8; 16]])
-    requires { length text.old ≤ length blocks.now * 16 }
-    ensures { (key icb : List ℕ)
-        → ((i : ℕ) → i < length blocks.now → slice_index_or blocks.now i [] ≡ aes key (iterate inc32 i icb))
-        → text.new ≡ gctr key icb text.old }
+/// Writes the key stream of sixteen counter blocks, from `first` on, and returns the counter block after them.
+fn write_sixteen(schedule: &Schedule, first: [u8; 16], octets: &mut [u8]) -> [u8; 16]
+    requires { length octets.old ≡ 256 }
+    ensures stream { (k : ℕ) → k < 256 → slice_index octets.new k ≡ key_stream schedule.now first k }
+    ensures next { result ≡ iterate inc32 16 first }
 {
-    add_octets(text, blocks.as_flattened());
+    let mut blocks = blocks_from::<16>(first);
+    let next = inc32(blocks[15]);
+    encrypt16(schedule, &mut blocks);
+    octets.copy_from_slice(blocks.as_flattened());
+    next
+}
+
+/// Writes that of eight counter blocks.
+fn write_eight(schedule: &Schedule, first: [u8; 16], octets: &mut [u8]) -> [u8; 16]
+    requires { length octets.old ≡ 128 }
+    ensures stream { (k : ℕ) → k < 128 → slice_index octets.new k ≡ key_stream schedule.now first k }
+    ensures next { result ≡ iterate inc32 8 first }
+{
+    let mut blocks = blocks_from::<8>(first);
+    let next = inc32(blocks[7]);
+    encrypt8(schedule, &mut blocks);
+    octets.copy_from_slice(blocks.as_flattened());
+    next
 }
 
 /// Adds the first octets of `stream` to `text`.
-fn add_octets(text: &mut [u8], stream: &[u8])
+pub fn add_octets(text: &mut [u8], stream: &[u8])
     requires { length text.old ≤ length stream.now }
     ensures { text.new ≡ sum_with_stream text.old stream.now }
 {
@@ -51,59 +46,82 @@ fn add_octets(text: &mut [u8], stream: &[u8])
     }
 }
 
-/// Adds the key stream from the initial counter block on to a text.
-fn add_batches(schedule: &Schedule, icb: [u8; 16], text: &mut [u8])
-    ensures { text.new ≡ gctr schedule.now icb text.old }
-{
-    let mut counter = icb;
-    for i in 0..text.len().div_ceil(256) {
-        let end = text.len().min(256 * i + 256);
-        let stream = Batch::from_counter(schedule, counter);
-        add_blocks(&mut text[256 * i..end], &stream.blocks);
-        counter = stream.next;
-    }
-}
-
-/// The key stream of a text and its tag: that of the pre-counter block is added to the hash, and the rest to the text.
+/// A key stream from an initial counter block on, of which some octets are used. What a piece of a text leaves of a batch
+/// is kept for the next piece.
 #[derive(Drop)]
 pub struct KeyStream<'k> {
     schedule: &'k Schedule,
-    j0: [u8; 16],
-    first: Batch,
-    ghost blocks: { (i : ℕ) → i < 16 → slice_index_or first.blocks i [] ≡ aes schedule.now (iterate inc32 i j0) },
-    ghost sixteen: { length first.blocks ≡ 16 },
-    ghost next: { first.next ≡ iterate inc32 16 j0 },
+    /// The counter block of the next batch.
+    counter: [u8; 16],
+    /// The last batch, of which this is the end.
+    octets: [u8; 256],
+    /// Where the octets begin that are not used yet.
+    used: usize,
+    ghost in_range: { used ≤ 256 },
 }
 
 impl<'k> KeyStream<'k> {
-    /// The key stream from the pre-counter block on.
-    pub fn start(schedule: &'k Schedule, j0: [u8; 16]) -> KeyStream<'k>
-        ensures key { result.schedule.now ≡ schedule.now }
-        ensures j0 { result.j0 ≡ j0 }
+    ghost use Rattle.std.specs.Prelude.{◌++◌};
+    ghost use Rattle.macsec_gcm.specs.Gcm.{gctr};
+    ghost use Rattle.macsec_gcm.specs.Pieces.{IsStreamAt};
+    ghost use Rattle.macsec_gcm.specs.Streams.{IsSumBelow};
+
+    /// The key stream from `icb` on.
+    pub fn start(schedule: &'k Schedule, icb: [u8; 16]) -> KeyStream<'k>
+        ensures { IsStreamAt result schedule.now icb 0 }
     {
-        let first = Batch::from_counter(schedule, j0);
         KeyStream {
             schedule,
-            j0,
-            first,
+            counter: icb,
+            octets: [0; 256],
+            used: 256,
         }
     }
 
-    /// Adds the block of the pre-counter block to a hash.
-    pub fn add_to_hash(&self, hash: [u8; 16]) -> [u8; 16]
-        ensures { result ≡ gctr self.now.schedule.now self.now.j0 hash }
+    /// Adds the next octets of the key stream to the next piece of a text.
+    pub fn add_to(&mut self, piece: &mut [u8])
+        ensures moves { (key icb : List ℕ) (n : ℕ) → IsStreamAt self.old key icb n
+            → IsStreamAt self.new key icb (n + length piece.old) }
+        ensures adds { (key icb text : List ℕ) → IsStreamAt self.old key icb (length text)
+            → gctr key icb (text ++ piece.old) ≡ gctr key icb text ++ piece.new }
     {
-        let mut tag = hash;
-        add_blocks(&mut tag, &self.first.blocks[..1]);
-        tag
+        let mut done = 0;
+        while done < piece.len() {
+            done += self.add_to_part(&mut piece[done..]);
+        }
     }
 
-    /// Adds the blocks after it to a text.
-    pub fn add_to_text(&self, text: &mut [u8])
-        ensures { text.new ≡ gctr self.now.schedule.now (inc32 self.now.j0) text.old }
+    /// Adds the next octets of one batch, as many as there are, to the first ones of a text. Returns how many.
+    fn add_to_part(&mut self, text: &mut [u8]) -> usize
+        requires { 0 < length text.old }
+        ensures some { 0 < result }
+        ensures within { result ≤ length text.old }
+        ensures moves { (key icb : List ℕ) (n : ℕ) → IsStreamAt self.old key icb n
+            → IsStreamAt self.new key icb (n + result) }
+        ensures adds { (key icb : List ℕ) (n : ℕ) → IsStreamAt self.old key icb n
+            → IsSumBelow (λ k. key_stream key icb (n + k)) text.old text.new result }
     {
-        let (head, rest) = text.split_at_mut(text.len().min(240));
-        add_blocks(head, &self.first.blocks[1..]);
-        add_batches(self.schedule, self.first.next, rest);
+        self.refill(text.len());
+        let count = text.len().min(256 - self.used);
+        add_octets(&mut text[..count], &self.octets[self.used..]);
+        self.used += count;
+        count
+    }
+
+    /// Makes the next batch where all octets are used: of sixteen blocks where more than eight are `wanted`, else of eight.
+    fn refill(&mut self, wanted: usize)
+        ensures some { self.new.used < 256 }
+        ensures same { (key icb : List ℕ) (n : ℕ) → IsStreamAt self.old key icb n → IsStreamAt self.new key icb n }
+    {
+        if self.used < 256 {
+            return;
+        }
+        if wanted > 128 {
+            self.counter = write_sixteen(self.schedule, self.counter, &mut self.octets);
+            self.used = 0;
+        } else {
+            self.counter = write_eight(self.schedule, self.counter, &mut self.octets[128..]);
+            self.used = 128;
+        }
     }
 }

@@ -4,24 +4,24 @@
 ghost use Rattle.std.specs.Prelude.{◌≡◌, ◌≤◌, ℕ, List, length, if◌then◌else◌};
 ghost use Rattle.std.specs.Bool.{OnTrue, OnFalse};
 ghost use Rattle.macsec_aes.specs.Keys.{key_bytes};
-ghost use Rattle.macsec_gcm.specs.Gcm.{authentication_tag, max_aad_len, max_plaintext_len, open_of, seal_of};
+ghost use Rattle.macsec_gcm.specs.Gcm.{max_aad_len, max_plaintext_len, open_of, seal_of};
 
 use macsec_aes::{Key, Schedule, encrypt};
 use macsec_field128::Block;
 use macsec_ghash::{Hash128, LaneHash};
 use std::marker::Model;
 
+mod authenticator;
 mod counter_blocks;
 mod hash;
 mod key_stream;
 pub mod laws;
+mod pieces;
 #[cfg(test)]
 mod tests;
 
 pub use counter_blocks::inc32;
-use counter_blocks::pre_counter_block;
-use hash::hash_of;
-use key_stream::KeyStream;
+pub use pieces::{Opener, Sealer, Unlocked};
 
 /// A key of GCM: the schedule of the AES key, and the hash of nothing under the subkey. Contracts see it as the octets of
 /// the AES key.
@@ -56,20 +56,19 @@ impl GcmKey {
     /// Encrypts the plaintext `text` in place, at most 2^36 - 32 octets. Returns the authentication tag of the
     /// ciphertext and of the additional authenticated data, at most 2^61 - 1 octets (SP 800-38D, 7.1). No contract
     /// keeps a caller from using an IV twice under a key.
-    #[tactic(auto, unfolding(crate::specs::Gcm::seal_of))]
     pub fn seal(&self, iv: &[u8; 12], aad: &[u8], text: &mut [u8]) -> [u8; 16]
         requires text_length { length text.old ≤ max_plaintext_len }
         requires aad_length { length aad.now ≤ max_aad_len }
         ensures { (text.new, result) ≡ seal_of self.now iv.now aad.now text.old }
     {
-        let stream = KeyStream::start(&self.schedule, pre_counter_block(iv));
-        stream.add_to_text(text);
-        self.authentication_tag(&stream, aad, text)
+        let mut sealer = Sealer::start(self, iv);
+        sealer.aad(aad);
+        sealer.data(text);
+        sealer.finish()
     }
 
     /// Decrypts the ciphertext `text` in place and returns true if it and the additional authenticated data have this
     /// tag; else returns false and leaves the text as it is (SP 800-38D, 7.2). Lengths are those of `seal`.
-    #[tactic(auto, using(crate::proofs::Opening::tests_of_tags))]
     pub fn open(&self, iv: &[u8; 12], aad: &[u8], text: &mut [u8], tag: &[u8; 16]) -> bool
         requires text_length { length text.old ≤ max_plaintext_len }
         requires aad_length { length aad.now ≤ max_aad_len }
@@ -84,23 +83,15 @@ impl GcmKey {
         ensures gives { open_of self.now iv.now aad.now text.old tag.now
             ≡ (if result then Some text.new else None) }
     {
-        let stream = KeyStream::start(&self.schedule, pre_counter_block(iv));
-        let is_genuine = self.authentication_tag(&stream, aad, text) == *tag;
-        if is_genuine {
-            stream.add_to_text(text);
+        let mut opener = Opener::start(self, iv);
+        opener.aad(aad);
+        opener.check(text);
+        match opener.finish(tag) {
+            Some(mut unlocked) => {
+                unlocked.data(text);
+                true
+            }
+            None => false,
         }
-        is_genuine
-    }
-
-    /// The tag of the additional authenticated data and the ciphertext, under the key and from the pre-counter block of
-    /// a key stream.
-    fn authentication_tag(&self, stream: &KeyStream<'_>, aad: &[u8], ciphertext: &[u8]) -> [u8; 16]
-        requires text_length { length ciphertext.now ≤ max_plaintext_len }
-        requires aad_length { length aad.now ≤ max_aad_len }
-        ensures { stream.now.schedule.now ≡ self.now
-            → result ≡ authentication_tag self.now stream.now.j0 aad.now ciphertext.now }
-    {
-        let hash = hash_of(self.hash, aad, ciphertext);
-        stream.add_to_hash(hash.0.to_be_bytes())
     }
 }

@@ -1,9 +1,10 @@
 //! Vectors of AES-GCM with keys of 128 and 256 bits, changed texts and tags, and texts of lengths about those of blocks
-//! and of batches, with what sealing block by block gives.
+//! and of batches, with what sealing block by block gives; and texts that are cut.
 
 ghost use Rattle.std.specs.Prelude.{◌≤◌, length};
 
 use super::*;
+use crate::counter_blocks::pre_counter_block;
 use macsec_ghash::PlainHash;
 
 fn tag_of_nothing(key: Key) -> [u8; 16] {
@@ -160,4 +161,85 @@ fn lengths_about_those_of_blocks_and_of_batches(rt: HostRuntime) {
             )
         );
     }
+}
+
+/// Seals a text in three pieces, as the additional authenticated data, with an empty piece of the text among those.
+fn seal_cut(key: &GcmKey, aad: &[u8], text: &mut [u8], i: usize, j: usize) -> [u8; 16]
+    requires order { i ≤ j }
+    requires within { j ≤ length text.old }
+{
+    let (aad_i, aad_j) = (i.min(aad.len()), j.min(aad.len()));
+    let mut sealer = Sealer::start(key, &[7; 12]);
+    sealer.aad(&aad[..aad_i]);
+    sealer.data(&mut []);
+    sealer.aad(&aad[aad_i..aad_j]);
+    sealer.aad(&aad[aad_j..]);
+    sealer.data(&mut text[..i]);
+    sealer.data(&mut text[i..j]);
+    sealer.data(&mut text[j..]);
+    sealer.finish()
+}
+
+/// Checks a text in the same three pieces, and opens it in three others.
+fn open_cut(key: &GcmKey, aad: &[u8], text: &mut [u8], tag: &[u8; 16], i: usize, j: usize) -> bool
+    requires order { i ≤ j }
+    requires within { j ≤ length text.old }
+{
+    let (aad_i, aad_j) = (i.min(aad.len()), j.min(aad.len()));
+    let mut opener = Opener::start(key, &[7; 12]);
+    opener.aad(&aad[..aad_i]);
+    opener.check(&[]);
+    opener.aad(&aad[aad_i..aad_j]);
+    opener.aad(&aad[aad_j..]);
+    opener.check(&text[..i]);
+    opener.check(&text[i..j]);
+    opener.check(&text[j..]);
+    match opener.finish(tag) {
+        Some(mut unlocked) => {
+            unlocked.data(&mut text[..j - i]);
+            unlocked.data(&mut text[j - i..j]);
+            unlocked.data(&mut text[j..]);
+            true
+        }
+        None => false,
+    }
+}
+
+/// Whether a text that is cut at two places is sealed as in one piece, and opened again.
+fn is_as_in_one_piece(
+    key: &GcmKey,
+    plaintext: &[u8; 100],
+    tag: &[u8; 16],
+    sealed: &[u8; 100],
+    i: usize,
+    j: usize,
+) -> bool
+    requires order { i ≤ j }
+    requires within { j ≤ 100 }
+{
+    let aad = [0x5a; 28];
+    let mut text = *plaintext;
+    let is_sealed = seal_cut(key, &aad, &mut text, i, j) == *tag && text == *sealed;
+    is_sealed && open_cut(key, &aad, &mut text, tag, i, j) && text == *plaintext
+}
+
+#[test]
+fn a_text_cut_at_each_place_and_at_each_pair_of_places(rt: HostRuntime) {
+    let key = GcmKey::new(Key::K128([3; 16]));
+    let mut plaintext = [0; 100];
+    for (k, octet) in plaintext.iter_mut().enumerate() {
+        *octet = (k * k % 251) as u8;
+    }
+    let mut sealed = plaintext;
+    let tag = key.seal(&[7; 12], &[0x5a; 28], &mut sealed);
+    for i in 0..=100 {
+        for j in i..=100usize {
+            assert!(rt; is_as_in_one_piece(&key, &plaintext, &tag, &sealed, i, j));
+        }
+    }
+    let mut text = sealed;
+    let mut wrong_tag = tag;
+    wrong_tag[0] ^= 1;
+    assert!(rt; !open_cut(&key, &[0x5a; 28], &mut text, &wrong_tag, 33, 66));
+    assert_eq!(rt; text, sealed);
 }

@@ -1,0 +1,28 @@
+use Rattle.std.proofs.Common.{◌≡◌, ◌+◌, ◌-◌, ℕ, ap, ◌∙◌, sym, arith, rules, []}
+use Rattle.std.proofs.lemmas.List.Edits.{fill_by_more}
+use Rattle.std.proofs.lemmas.List.{length-replicate}
+use Rattle.std.proofs.lemmas.Simd.{get_or-replicate}
+use Rattle.std.specs.Fn.{iterate}
+use Rattle.macsec_gcm.specs.Gcm.{inc32}
+use Rattle.macsec_gcm.proofs.Iterations.{iterate_more}
+use Rattle.macsec_gcm.proofs.counter_blocks.blocks_from.Goals as goal
+
+pub loop-i-preserved : goal.loop-i-preserved
+loop-i-preserved g c =
+    let i : ℕ = c.loop-i.i in
+    let first = c.args.first in
+    let last : i - 1 + 1 ≡ i = omega arith in
+    let next : c.inc32.result ≡ iterate inc32 i first =
+    c.inc32.ensures ∙ ap inc32 (c.loop-i.invariant.made (i - 1) (omega arith)) ∙ sym (iterate_more inc32 (i - 1) first) ∙ ap (λ (n : ℕ). iterate inc32 n first) last in
+    record {
+      count = search rules;
+      made = rw next (fill_by_more (λ k. iterate inc32 k first) _ i [] (omega arith) c.loop-i.invariant.made);
+    }
+
+pub loop-i-init : goal.loop-i-init
+loop-i-init g c = record {
+  count = length-replicate g.row.N c.args.first;
+  made = λ k lt.
+      let none : k ≡ 0 = omega arith in
+      rw none (get_or-replicate g.row.N 0 c.args.first [] c.requires);
+}

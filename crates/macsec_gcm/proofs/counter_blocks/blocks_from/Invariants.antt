@@ -1,0 +1,11 @@
+use Rattle.std.proofs.Common.{◌≡◌, ℕ, ◌<◌, [], length, slice_index_or}
+use Rattle.std.specs.Fn.{iterate}
+use Rattle.macsec_gcm.specs.Gcm.{inc32}
+use Rattle.macsec_gcm.proofs.counter_blocks.blocks_from.Given as goal
+
+-- the first i of the N blocks are made
+abbrev pub invariant-loop-i : goal.invariant-loop-i
+invariant-loop-i g l = record {
+  count : length l.blocks ≡ g.row.N;
+  made : (k : ℕ) → k < l.i → slice_index_or l.blocks k [] ≡ iterate inc32 k l.fn.first;
+}

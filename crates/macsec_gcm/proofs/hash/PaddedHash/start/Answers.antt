@@ -1,0 +1,7 @@
+use Rattle.std.proofs.Common.{[], refl}
+use Rattle.macsec_ghash.specs.Ghash.{blocks_of, pad}
+use Rattle.macsec_gcm.proofs.hash.PaddedHash.start.Goals as goal
+
+pub returns : goal.returns
+unfolding pad blocks_of
+returns c = λ h held. record { whole = []; is_whole = refl; text_is = refl; hashed = held }

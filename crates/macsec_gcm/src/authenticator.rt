@@ -1,0 +1,98 @@
+//! The tag of additional authenticated data and a ciphertext in pieces (SP 800-38D, 7.1, steps 4 to 6).
+
+ghost use Rattle.std.specs.Prelude.{◌≡◌, ◌*◌, ◌^◌, ◌<◌, ◌≤◌, ◌++◌, [], ℕ, List, length, replicate};
+ghost use Rattle.macsec_gcm.specs.Gcm.{authentication_tag, gctr, hash_subkey, length_block, max_aad_len, max_plaintext_len};
+
+use crate::hash::PaddedHash;
+use crate::key_stream::add_octets;
+use macsec_ghash::{Hash128, LaneHash};
+
+/// The authentication of additional authenticated data and a ciphertext in pieces.
+#[derive(Drop)]
+pub struct Authenticator {
+    hash: PaddedHash,
+    /// The key stream of the pre-counter block, which is added to the hash.
+    mask: [u8; 16],
+    /// The octets so far, or 2^64 - 1 where there are more.
+    aad_len: u64,
+    ciphertext_len: u64,
+}
+
+impl Authenticator {
+    ghost use Rattle.macsec_ghash.specs.Ghash.{pad};
+    ghost use Rattle.macsec_gcm.specs.Pieces.{HasAuthenticated, IsHashing};
+
+    /// Nothing is authenticated yet. `hash` has hashed nothing, and `mask` is the key stream of the pre-counter block.
+    pub fn start(hash: LaneHash, mask: [u8; 16]) -> Authenticator
+        ensures { (key j0 : List ℕ) → ⟦<LaneHash as Hash128>⟧.has_hashed hash (hash_subkey key) []
+            → mask ≡ gctr key j0 (replicate 16 0) → HasAuthenticated result key j0 [] [] }
+    {
+        Authenticator {
+            hash: PaddedHash::start(hash),
+            mask,
+            aad_len: 0,
+            ciphertext_len: 0,
+        }
+    }
+
+    /// The next piece of the additional authenticated data.
+    pub fn aad(&mut self, piece: &[u8])
+        ensures { (key j0 aad : List ℕ) → HasAuthenticated self.old key j0 aad []
+            → HasAuthenticated self.new key j0 (aad ++ piece.now) [] }
+    {
+        self.hash.absorb(piece);
+        self.aad_len = self.aad_len.saturating_add(piece.len() as u64);
+    }
+
+    /// The next piece of the ciphertext.
+    pub fn ciphertext(&mut self, piece: &[u8])
+        ensures { (key j0 aad text : List ℕ) → HasAuthenticated self.old key j0 aad text
+            → HasAuthenticated self.new key j0 aad (text ++ piece.now) }
+    {
+        // The first octet of the ciphertext ends the additional authenticated data: an empty piece does not.
+        if piece.is_empty() {
+            return;
+        }
+        self.end_aad();
+        self.hash.absorb(piece);
+        self.ciphertext_len = self.ciphertext_len.saturating_add(piece.len() as u64);
+    }
+
+    /// The tag.
+    pub fn tag(&self) -> [u8; 16]
+        ensures { (key j0 aad text : List ℕ) → HasAuthenticated self.now key j0 aad text
+            → length aad ≤ max_aad_len → length text ≤ max_plaintext_len
+            → result ≡ authentication_tag key j0 aad text }
+    {
+        let mut hash = self.hash;
+        hash.end_text();
+        hash.absorb(&length_block(self.aad_len, self.ciphertext_len));
+        let mut tag = hash.value().0.to_be_bytes();
+        add_octets(&mut tag, &self.mask);
+        tag
+    }
+
+    /// Ends the additional authenticated data, unless they have ended.
+    fn end_aad(&mut self)
+        ensures mask { self.new.mask ≡ self.old.mask }
+        ensures aad_len { self.new.aad_len ≡ self.old.aad_len }
+        ensures ciphertext_len { self.new.ciphertext_len ≡ self.old.ciphertext_len }
+        ensures hash { (key j0 aad text : List ℕ) → HasAuthenticated self.old key j0 aad text
+            → IsHashing self.new.hash (hash_subkey key) (pad aad) text }
+    {
+        if self.ciphertext_len == 0 {
+            self.hash.end_text();
+        }
+    }
+}
+
+/// The bit lengths of `aad` and `ciphertext` octets.
+fn length_block(aad: u64, ciphertext: u64) -> [u8; 16]
+    ensures { (a c : List ℕ) → length a ≡ aad → length c ≡ ciphertext → 8 * aad < 2 ^ 64 → 8 * ciphertext < 2 ^ 64
+        → result ≡ length_block a c }
+{
+    let mut block = [0; 16];
+    block[..8].copy_from_slice(&aad.wrapping_mul(8).to_be_bytes());
+    block[8..].copy_from_slice(&ciphertext.wrapping_mul(8).to_be_bytes());
+    block
+}

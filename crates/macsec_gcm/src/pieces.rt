@@ -1,0 +1,143 @@
+//! Sealing and opening in pieces (SP 800-38D, 7): the texts may be cut at any place.
+
+ghost use Rattle.std.specs.Prelude.{◌≡◌, ◌≤◌, ◌++◌, [], ℕ, List, length, Some, None, IfSome, IfNone};
+ghost use Rattle.macsec_gcm.specs.Gcm.{inc32, max_aad_len, max_plaintext_len, open_of, pre_counter_block, seal_of};
+ghost use Rattle.macsec_gcm.specs.Pieces.{HasAuthenticated, HasChecked, HasOpened, HasSealed, IsStreamAt, decrypted};
+
+use crate::GcmKey;
+use crate::authenticator::Authenticator;
+use crate::counter_blocks::pre_counter_block;
+use crate::key_stream::KeyStream;
+
+/// The key stream of a text, and its authentication, before any piece.
+fn started<'k>(key: &'k GcmKey, iv: &[u8; 12]) -> (KeyStream<'k>, Authenticator)
+    ensures stream { IsStreamAt result.0 key.now (inc32 (pre_counter_block iv.now)) 0 }
+    ensures authenticator { HasAuthenticated result.1 key.now (pre_counter_block iv.now) [] [] }
+{
+    let mut stream = KeyStream::start(&key.schedule, pre_counter_block(iv));
+    let mut mask = [0; 16];
+    stream.add_to(&mut mask);
+    (stream, Authenticator::start(key.hash, mask))
+}
+
+/// Seals a text in pieces (SP 800-38D, 7.1): first the additional authenticated data, at most 2^61 - 1 octets, then the
+/// plaintext, at most 2^36 - 32 octets. Of lengths beyond these, and of additional authenticated data that come after an
+/// octet of the plaintext, no clause says what the tag is.
+#[derive(Drop)]
+pub struct Sealer<'k> {
+    stream: KeyStream<'k>,
+    authenticator: Authenticator,
+}
+
+impl<'k> Sealer<'k> {
+    /// Nothing is sealed yet under the key and the IV.
+    pub fn start(key: &'k GcmKey, iv: &[u8; 12]) -> Sealer<'k>
+        ensures { HasSealed result key.now iv.now [] [] }
+    {
+        let (stream, authenticator) = started(key, iv);
+        Sealer {
+            stream,
+            authenticator,
+        }
+    }
+
+    /// The next piece of the additional authenticated data, before any octet of the plaintext.
+    pub fn aad(&mut self, piece: &[u8])
+        ensures { (key iv aad : List ℕ) → HasSealed self.old key iv aad []
+            → HasSealed self.new key iv (aad ++ piece.now) [] }
+    {
+        self.authenticator.aad(piece);
+    }
+
+    /// Encrypts the next piece of the plaintext in place.
+    pub fn data(&mut self, piece: &mut [u8])
+        ensures { (key iv aad plaintext : List ℕ) → HasSealed self.old key iv aad plaintext
+            → HasSealed self.new key iv aad (plaintext ++ piece.old)
+            × ((seal_of key iv aad (plaintext ++ piece.old)).0 ≡ (seal_of key iv aad plaintext).0 ++ piece.new) }
+    {
+        self.stream.add_to(piece);
+        self.authenticator.ciphertext(piece);
+    }
+
+    /// The authentication tag of all pieces.
+    pub fn finish(self) -> [u8; 16]
+        ensures { (key iv aad plaintext : List ℕ) → HasSealed self.entry key iv aad plaintext
+            → length aad ≤ max_aad_len → length plaintext ≤ max_plaintext_len
+            → result ≡ (seal_of key iv aad plaintext).1 }
+    {
+        self.authenticator.tag()
+    }
+}
+
+/// Checks a text in pieces, without a change to any (SP 800-38D, 7.2): first the additional authenticated data, then the
+/// ciphertext, with the lengths and the order of `Sealer`.
+#[derive(Drop)]
+pub struct Opener<'k> {
+    stream: KeyStream<'k>,
+    authenticator: Authenticator,
+}
+
+impl<'k> Opener<'k> {
+    /// Nothing is checked yet under the key and the IV.
+    pub fn start(key: &'k GcmKey, iv: &[u8; 12]) -> Opener<'k>
+        ensures { HasChecked result key.now iv.now [] [] }
+    {
+        let (stream, authenticator) = started(key, iv);
+        Opener {
+            stream,
+            authenticator,
+        }
+    }
+
+    /// The next piece of the additional authenticated data, before any octet of the ciphertext.
+    pub fn aad(&mut self, piece: &[u8])
+        ensures { (key iv aad : List ℕ) → HasChecked self.old key iv aad []
+            → HasChecked self.new key iv (aad ++ piece.now) [] }
+    {
+        self.authenticator.aad(piece);
+    }
+
+    /// The next piece of the ciphertext.
+    pub fn check(&mut self, piece: &[u8])
+        ensures { (key iv aad ciphertext : List ℕ) → HasChecked self.old key iv aad ciphertext
+            → HasChecked self.new key iv aad (ciphertext ++ piece.now) }
+    {
+        self.authenticator.ciphertext(piece);
+    }
+
+    /// What decrypts the pieces of the ciphertext, if this is the tag of all pieces; else `None`: nothing seals to them.
+    pub fn finish(self, tag: &[u8; 16]) -> Option<Unlocked<'k>>
+        ensures opened { (key iv aad ciphertext : List ℕ) → HasChecked self.entry key iv aad ciphertext
+            → length aad ≤ max_aad_len → length ciphertext ≤ max_plaintext_len
+            → IfSome result (λ unlocked. HasOpened unlocked key iv []
+            × (open_of key iv aad ciphertext tag.now ≡ Some (decrypted key iv ciphertext))) }
+        ensures refused { (key iv aad ciphertext : List ℕ) → HasChecked self.entry key iv aad ciphertext
+            → length aad ≤ max_aad_len → length ciphertext ≤ max_plaintext_len
+            → IfNone result (open_of key iv aad ciphertext tag.now ≡ None) }
+    {
+        if self.authenticator.tag() == *tag {
+            Some(Unlocked { rest: self.stream })
+        } else {
+            None
+        }
+    }
+}
+
+/// Decrypts a ciphertext whose tag was right, in pieces, from its first octet on. The pieces need not be those that were
+/// checked, but their octets must be the same.
+#[derive(Drop)]
+pub struct Unlocked<'k> {
+    /// The key stream of the rest of the ciphertext.
+    rest: KeyStream<'k>,
+}
+
+impl<'k> Unlocked<'k> {
+    /// Decrypts the next piece of the ciphertext in place.
+    pub fn data(&mut self, piece: &mut [u8])
+        ensures { (key iv ciphertext : List ℕ) → HasOpened self.old key iv ciphertext
+            → HasOpened self.new key iv (ciphertext ++ piece.old)
+            × (decrypted key iv (ciphertext ++ piece.old) ≡ decrypted key iv ciphertext ++ piece.new) }
+    {
+        self.rest.add_to(piece);
+    }
+}
