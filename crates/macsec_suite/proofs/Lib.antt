@@ -2,3 +2,4 @@ pub mod ClearParts
 pub mod KeyLemmas
 pub mod KeyIndex
 pub mod EqualIvs
+pub mod Cuts

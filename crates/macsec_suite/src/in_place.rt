@@ -6,6 +6,7 @@ ghost use Rattle.macsec_gcm.specs.Gcm.{max_plaintext_len};
 ghost use Rattle.macsec_suite.specs.InPlace.{IsTagLength, protected_octets, validated_octets};
 
 use crate::SuiteKey;
+use crate::pieces::{open, seal};
 use macsec_tag::{ADDRESSES_LENGTH, ICV_LENGTH};
 
 /// Protects DA, SA, a SecTAG of `tag_len` octets, 8 or 16, and data in place, and puts the ICV into the 16 octets after
@@ -26,7 +27,7 @@ pub fn protect_in_place(key: &SuiteKey, iv: &[u8; 12], conf: bool, tag_len: usiz
     let clear = head + key.clear_length(conf, end - head);
     let (body, icv) = frame.split_at_mut(end);
     let (aad, text) = body.split_at_mut(clear);
-    let tag = key.key.seal(iv, aad, text);
+    let tag = seal(&key.key, iv, aad, text);
     icv.copy_from_slice(&tag);
 }
 
@@ -55,5 +56,5 @@ pub fn validate_in_place(
     let (aad, text) = body.split_at_mut(clear);
     let mut icv = [0; ICV_LENGTH];
     icv.copy_from_slice(&behind[..ICV_LENGTH]);
-    key.key.open(iv, aad, text, &icv)
+    open(&key.key, iv, aad, text, &icv)
 }

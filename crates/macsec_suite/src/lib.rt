@@ -7,6 +7,7 @@ mod iv;
 mod key_row;
 mod key_table;
 pub mod laws;
+mod pieces;
 mod refusal;
 mod suite;
 mod suite_key;

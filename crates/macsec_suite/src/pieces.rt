@@ -1,0 +1,100 @@
+//! Texts sealed, checked and decrypted piece by piece.
+
+ghost use Rattle.std.specs.Prelude.{◌≡◌, ◌≤◌, ℕ, List, [], length, if◌then◌else◌, Some, None};
+ghost use Rattle.std.specs.Bool.{OnFalse};
+ghost use Rattle.macsec_gcm.specs.Gcm.{max_aad_len, max_plaintext_len, open_of, seal_of};
+ghost use Rattle.macsec_gcm.specs.Pieces.{HasChecked, HasOpened, HasSealed, decrypted};
+
+use macsec_gcm::laws::sealed_lengths;
+use macsec_gcm::{GcmKey, Opener, Sealer, Unlocked};
+
+/// The most octets of a piece.
+const PIECE_LENGTH: usize = 256;
+
+/// Encrypts the plaintext `text` in place, piece by piece. Returns the authentication tag of the ciphertext and of the
+/// additional authenticated data. Lengths are those of `GcmKey::seal`.
+pub fn seal(key: &GcmKey, iv: &[u8; 12], aad: &[u8], text: &mut [u8]) -> [u8; 16]
+    requires text_length { length text.old ≤ max_plaintext_len }
+    requires aad_length { length aad.now ≤ max_aad_len }
+    ensures { (text.new, result) ≡ seal_of key.now iv.now aad.now text.old }
+{
+    let mut sealer = Sealer::start(key, iv);
+    seal_aad(&mut sealer, aad);
+    seal_text(&mut sealer, text);
+    sealer.finish()
+}
+
+/// Checks the ciphertext `text` and the additional authenticated data piece by piece. If they have this tag, decrypts
+/// the ciphertext in place, piece by piece, and returns true; else returns false and leaves it as it is. Lengths are
+/// those of `GcmKey::open`.
+pub fn open(key: &GcmKey, iv: &[u8; 12], aad: &[u8], text: &mut [u8], tag: &[u8; 16]) -> bool
+    requires text_length { length text.old ≤ max_plaintext_len }
+    requires aad_length { length aad.now ≤ max_aad_len }
+    ensures unchanged { OnFalse result (text.new ≡ text.old) }
+    ensures gives { open_of key.now iv.now aad.now text.old tag.now
+        ≡ (if result then Some text.new else None) }
+{
+    let mut opener = Opener::start(key, iv);
+    check_aad(&mut opener, aad);
+    check_text(&mut opener, text);
+    match opener.finish(tag) {
+        Some(mut unlocked) => {
+            decrypt(&mut unlocked, text);
+            true
+        }
+        None => false,
+    }
+}
+
+/// Authenticates additional data piece by piece.
+fn seal_aad(sealer: &mut Sealer<'_>, aad: &[u8])
+    ensures { (key iv : List ℕ) → HasSealed sealer.old key iv [] [] → HasSealed sealer.new key iv aad.now [] }
+{
+    for i in 0..aad.len().div_ceil(PIECE_LENGTH) {
+        let end = aad.len().min(PIECE_LENGTH * i + PIECE_LENGTH);
+        sealer.aad(&aad[PIECE_LENGTH * i..end]);
+    }
+}
+
+/// Encrypts a plaintext in place, piece by piece.
+fn seal_text(sealer: &mut Sealer<'_>, text: &mut [u8])
+    ensures { (key iv aad : List ℕ) → HasSealed sealer.old key iv aad []
+        → HasSealed sealer.new key iv aad text.old × (text.new ≡ (seal_of key iv aad text.old).0) }
+{
+    // A law that the proof cites; the call does nothing.
+    sealed_lengths();
+    for i in 0..text.len().div_ceil(PIECE_LENGTH) {
+        let end = text.len().min(PIECE_LENGTH * i + PIECE_LENGTH);
+        sealer.data(&mut text[PIECE_LENGTH * i..end]);
+    }
+}
+
+/// Authenticates the additional data of a ciphertext piece by piece.
+fn check_aad(opener: &mut Opener<'_>, aad: &[u8])
+    ensures { (key iv : List ℕ) → HasChecked opener.old key iv [] [] → HasChecked opener.new key iv aad.now [] }
+{
+    for i in 0..aad.len().div_ceil(PIECE_LENGTH) {
+        let end = aad.len().min(PIECE_LENGTH * i + PIECE_LENGTH);
+        opener.aad(&aad[PIECE_LENGTH * i..end]);
+    }
+}
+
+/// Checks a ciphertext piece by piece, and changes nothing.
+fn check_text(opener: &mut Opener<'_>, text: &[u8])
+    ensures { (key iv aad : List ℕ) → HasChecked opener.old key iv aad [] → HasChecked opener.new key iv aad text.now }
+{
+    for i in 0..text.len().div_ceil(PIECE_LENGTH) {
+        let end = text.len().min(PIECE_LENGTH * i + PIECE_LENGTH);
+        opener.check(&text[PIECE_LENGTH * i..end]);
+    }
+}
+
+/// Decrypts a ciphertext in place, piece by piece.
+fn decrypt(unlocked: &mut Unlocked<'_>, text: &mut [u8])
+    ensures { (key iv : List ℕ) → HasOpened unlocked.old key iv [] → text.new ≡ decrypted key iv text.old }
+{
+    for i in 0..text.len().div_ceil(PIECE_LENGTH) {
+        let end = text.len().min(PIECE_LENGTH * i + PIECE_LENGTH);
+        unlocked.data(&mut text[PIECE_LENGTH * i..end]);
+    }
+}
