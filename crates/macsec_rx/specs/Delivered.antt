@@ -1,6 +1,8 @@
--- What is delivered of a frame that is opened, by its prepared key and its IV.
-use Rattle.std.specs.Prelude.{◌≡◌, ℕ, List, ◌++◌, length, take, Option}
+-- What is delivered of a frame that is opened, by its prepared key and its IV, and the place of what is delivered of any
+-- frame.
+use Rattle.std.specs.Prelude.{◌≡◌, ℕ, ◌+◌, List, ◌++◌, length, take, Option, IfSome}
 use Rattle.macsec_gcm.specs.Gcm.{open_of}
+use Rattle.macsec_tag.specs.Tag.{encoding}
 use Rattle.macsec_tag.specs.Frame.{MpduParts}
 use Rattle.macsec_suite.specs.Keys.{PreparedKey}
 use Rattle.macsec_suite.specs.Parts.{aad_and_plaintext, clear_length}
@@ -21,3 +23,12 @@ opened_under key iv p =
 abbrev pub frame_with : PreparedKey → MpduParts → List ℕ → List ℕ
 frame_with key p plaintext =
     p.da ++ p.sa ++ take (clear_length key.offset p.tag.e p.secure_data) p.secure_data ++ plaintext
+
+-- where the delivered frame begins, after as many octets as the SecTAG has, and how many octets it has: those of DA, SA
+-- and data. So the data stay where they were behind the SecTAG, and the addresses come right before them
+abbrev pub delivered_place : MpduParts → ℕ × ℕ
+delivered_place p = (length (encoding p.tag), 12 + length p.secure_data)
+
+-- what is delivered of a frame, if anything is, is at that place
+abbrev pub IsInPlace : Option (ℕ × ℕ) → MpduParts → Type 0
+IsInPlace delivered p = IfSome delivered (λ at. at ≡ delivered_place p)

@@ -5,7 +5,7 @@ ghost use Rattle.macsec_gcm.specs.Gcm.{max_plaintext_len};
 ghost use Rattle.macsec_tag.specs.Tag.{encoding};
 ghost use Rattle.macsec_rx.specs.Limits.{unpadded_length};
 ghost use Rattle.macsec_rx.specs.Judge.{bare_frame, octets_at};
-ghost use Rattle.macsec_rx.specs.Delivered.{HasFixedLengths, frame_with, opened_under};
+ghost use Rattle.macsec_rx.specs.Delivered.{HasFixedLengths, IsInPlace, delivered_place, frame_with, opened_under};
 
 use macsec_gcm::laws::{open_undoes_seal, sealed_lengths};
 use macsec_suite::laws::parts_in_place;
@@ -45,6 +45,7 @@ fn deliver(mpdu: &Mpdu<'_>, out: &mut [u8]) -> (usize, usize)
     ensures octets { octets_at out.new result ≡ mpdu.now.da ++ mpdu.now.sa ++
         take (length mpdu.now.secure_data) (drop (12 + length (encoding mpdu.now.tag)) out.old) }
     ensures within { result.0 + result.1 ≤ length out.new }
+    ensures place { result ≡ delivered_place mpdu.now }
 {
     let tag_length = mpdu.tag_bytes().len();
     put(mpdu.addresses(), tag_length, out);
@@ -56,6 +57,7 @@ pub fn deliver_bare(mpdu: &Mpdu<'_>, out: &mut [u8]) -> (usize, usize)
     requires { 12 + length (encoding mpdu.now.tag) + length mpdu.now.secure_data ≤ length out.old }
     ensures octets { octets_at out.new result ≡ bare_frame mpdu.now }
     ensures within { result.0 + result.1 ≤ length out.new }
+    ensures place { result ≡ delivered_place mpdu.now }
 {
     let data = ADDRESSES_LENGTH + mpdu.tag_bytes().len();
     put(mpdu.secure_data(), data, out);
@@ -74,6 +76,7 @@ pub fn deliver_opened(
     ensures octets { option_map (octets_at out.new) result ≡
         option_map (frame_with key.now mpdu.now) (opened_under key.now iv.now mpdu.now) }
     ensures within { IfSome result (λ at. at.0 + at.1 ≤ length out.new) }
+    ensures place { IsInPlace result mpdu.now }
 {
     // Laws that the proof cites; the calls do nothing.
     parts_in_place();

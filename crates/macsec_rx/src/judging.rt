@@ -11,7 +11,7 @@ ghost use Rattle.macsec_rx.specs.Limits.{unpadded_length};
 ghost use Rattle.macsec_rx.specs.Channels.{with_rx};
 ghost use Rattle.macsec_rx.specs.Commands.{HaveRxKeys};
 ghost use Rattle.macsec_rx.specs.Judge.{is_bad_number, is_disabled, is_strict, judge_number, judge_opened, judge_row, judge_tagged, judge_tagged_row, octets_at, plaintext_of, rows_after};
-ghost use Rattle.macsec_rx.specs.Delivered.{frame_with, opened_under};
+ghost use Rattle.macsec_rx.specs.Delivered.{IsInPlace, frame_with, opened_under};
 ghost use Rattle.macsec_rx.specs.Rows.{AreChannels};
 ghost use Rattle.macsec_rx.specs.Judged.{ShowsJudgement, ShowsOutcome};
 
@@ -77,6 +77,7 @@ impl RxChannels {
         requires frame { unpadded_length mpdu.now ≤ max_frame_len }
         requires room { max_frame_len ≤ length out.old }
         ensures judged { ShowsJudgement result out.new (judge_tagged options.now keys.now self.old mpdu.now) }
+        ensures place { IsInPlace result.delivered mpdu.now }
         ensures numbers { self.new ≡ record self.old { rows = rows_after options.now.window (judge_tagged options.now keys.now self.old mpdu.now) self.old.rows } }
         ensures channels { AreChannels self.new }
     {
@@ -131,6 +132,7 @@ fn judge_tagged_row(
     requires room { max_frame_len ≤ length out.old }
     ensures outcome { ShowsOutcome result out.new (judge_tagged_row options.now keys.now mpdu.now row.now) }
     ensures row { IfSome result.accepted (λ n. (judge_tagged_row options.now keys.now mpdu.now row.now).row ≡ row.now) }
+    ensures place { IsInPlace result.judged.delivered mpdu.now }
 {
     if has_bad_number(options, mpdu) {
         return Outcome::without_row(Verdict::BadTag, None);
@@ -155,6 +157,7 @@ fn judge_row(
     requires room { max_frame_len ≤ length out.old }
     ensures outcome { ShowsOutcome result out.new (judge_row options.now keys.now mpdu.now row.now) }
     ensures row { IfSome result.accepted (λ n. (judge_row options.now keys.now mpdu.now row.now).row ≡ row.now) }
+    ensures place { IsInPlace result.judged.delivered mpdu.now }
 {
     match row {
         Some(row) => judge_known(keys, options, row, mpdu, out),
@@ -167,6 +170,7 @@ fn judge_unknown(options: &RxOptions, mpdu: &Mpdu<'_>, out: &mut [u8]) -> Outcom
     requires room { unpadded_length mpdu.now ≤ length out.old }
     ensures outcome { (keys : List InstalledKey) → ShowsOutcome result out.new (judge_row options.now keys mpdu.now None) }
     ensures row { result.accepted ≡ None }
+    ensures place { IsInPlace result.judged.delivered mpdu.now }
 {
     if is_strict(options.mode) || mpdu.tag().c() {
         return Outcome::without_row(Verdict::NoSaError, None);
@@ -187,6 +191,7 @@ fn judge_known(
     requires room { max_frame_len ≤ length out.old }
     ensures outcome { ShowsOutcome result out.new (judge_row options.now keys.now mpdu.now (Some row.now)) }
     ensures row { IfSome result.accepted (λ n. (judge_row options.now keys.now mpdu.now (Some row.now)).row ≡ Some row.now) }
+    ensures place { IsInPlace result.judged.delivered mpdu.now }
 {
     let key = keys.key(row.key).unwrap();
     let is_xpn = key.suite_key.suite().is_xpn();
@@ -225,6 +230,7 @@ fn judge_number(
     requires room { max_frame_len ≤ length out.old }
     ensures outcome { (first_unused : ℕ) → ShowsOutcome result out.new (judge_number options.now (row_shown key.now first_unused) row.now mpdu.now (Some number)) }
     ensures row { (first_unused : ℕ) → IfSome result.accepted (λ n. (judge_number options.now (row_shown key.now first_unused) row.now mpdu.now (Some number)).row ≡ Some row.now) }
+    ensures place { IsInPlace result.judged.delivered mpdu.now }
 {
     if is_dropped_late(options, row, number) {
         return Outcome::at_row(row, Verdict::Late, None, None);
@@ -258,6 +264,7 @@ fn judge_validated(
     requires room { max_frame_len ≤ length out.old }
     ensures outcome { (first_unused : ℕ) → ShowsOutcome result out.new (judge_opened options.now (row_shown key.now first_unused) row.now number mpdu.now (plaintext_of (row_shown key.now first_unused) row.now number mpdu.now)) }
     ensures row { (first_unused : ℕ) → IfSome result.accepted (λ n. (judge_opened options.now (row_shown key.now first_unused) row.now number mpdu.now (plaintext_of (row_shown key.now first_unused) row.now number mpdu.now)).row ≡ Some row.now) }
+    ensures place { IsInPlace result.judged.delivered mpdu.now }
 {
     match open(key, row, number, mpdu, out) {
         Some(delivered) => {
@@ -287,6 +294,7 @@ fn open(
         option_map (octets_at out.new) result ≡
         option_map (frame_with key.now.suite_key mpdu.now) (opened_under key.now.suite_key iv mpdu.now) }
     ensures within { IfSome result (λ at. at.0 + at.1 ≤ length out.new) }
+    ensures place { IsInPlace result mpdu.now }
 {
     let iv = iv_of(
         key.suite_key.suite(),
@@ -303,6 +311,7 @@ fn judge_invalid(options: &RxOptions, row: &RxRow, mpdu: &Mpdu<'_>, out: &mut [u
     requires room { unpadded_length mpdu.now ≤ length out.old }
     ensures outcome { (key : InstalledKey) (number : ℕ) → ShowsOutcome result out.new (judge_opened options.now key row.now number mpdu.now None) }
     ensures accepted { result.accepted ≡ None }
+    ensures place { IsInPlace result.judged.delivered mpdu.now }
 {
     if mpdu.tag().c() || is_strict(options.mode) {
         return Outcome::at_row(row, Verdict::NotValid, None, None);
