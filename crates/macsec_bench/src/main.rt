@@ -1,8 +1,10 @@
-//! Octets per second of AES, GHASH and sealing, block by block and in lanes; and how long a full link of two ends and the
-//! longest scripts take. Without an argument it measures nothing and prints nothing.
+//! Octets per second of AES, GHASH and sealing, block by block and in lanes, and of protecting and receiving frames; and
+//! how long a full link of two ends and the longest scripts take. Without an argument it measures nothing and prints
+//! nothing.
 #![tactic(auto)]
 
 mod cipher;
+mod frames;
 mod link;
 mod plain;
 mod scripts;
@@ -14,6 +16,7 @@ fn main(rt: HostRuntime) -> anyhow::Result<()> {
         return Ok(());
     }
     cipher::report(&rt)?;
+    frames::report(&rt)?;
     link::report(&rt)?;
     scripts::report(&rt)
 }
