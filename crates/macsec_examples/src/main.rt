@@ -10,7 +10,7 @@ use std::fs;
 use std::process::ExitCode;
 
 /// The names of the scripts.
-const EXAMPLES: [&str; 41] = [
+const EXAMPLES: [&str; 52] = [
     "tour",
     "blanks-and-comments",
     "first-frame-gcm256",
@@ -23,6 +23,7 @@ const EXAMPLES: [&str; 41] = [
     "extended-keys",
     "ranges",
     "transmit-commands",
+    "transmit-associations",
     "numbers-in-order",
     "no-extended-number-twice",
     "first-frame",
@@ -37,20 +38,30 @@ const EXAMPLES: [&str; 41] = [
     "padding",
     "exhaustion",
     "extended-numbers",
+    "recovery-limits",
     "reflection",
+    "reflection-without-sci",
+    "reflection-under-two-keys",
     "refusals",
     "link-faults",
     "offsets",
     "drops",
     "keys",
     "tag-forms",
+    "both-es-and-scb",
     "channels",
     "receive-commands",
+    "order-of-refusals",
+    "associations-of-two-channels",
     "no-association",
     "validation",
+    "c-without-e",
     "replay-protection",
+    "lowest-number-never-falls",
     "bad-tags",
+    "number-0",
     "tci-and-an",
+    "prefixes",
     "extended-limits",
 ];
 
