@@ -1,0 +1,785 @@
+"""What the program must print, write and return, by the rules of docs/: scripts, endpoints, links and captures.
+
+It is written in Python from the documents and the standards and not from the program, so that an answer of the
+program can be compared with it. Standard library alone. FIPS 197 and SP 800-38D are at the end of this file.
+"""
+
+import functools
+import struct
+
+MAX_SCRIPT, MAX_LINES, MAX_LINE = 1_048_576, 65_536, 20_000
+MAX_LINK_FRAMES, MIN_FRAME, MAX_FRAME, MAX_RECORD = 65_536, 14, 9_248, 262_144
+SUITES = {"gcm128": (16, False), "gcm256": (32, False), "xpn128": (16, True), "xpn256": (32, True)}
+FORMS, MODES = ("auto", "sci", "es", "scb"), ("disabled", "check", "strict")
+REFUSALS = (
+    "KeyLength Offset KeyNumberUsed KeyRepeated NoKey KeyRetired KeyInUse OwnSci ScTaken ScFull NoSc AnTaken NoSa "
+    "PnRange PnLower PnFloor SsciOwn Window SciForm Exhausted"
+).split()
+WORLD_FAULTS = {"NoFrame": 2, "LinkFull": 3, "AlterRange": 4, "Short": 5, "Long": 6}
+SECY_COUNTERS = (
+    "InPktsUntagged InPktsNoTag InPktsBadTag InPktsReserved InPktsNoSA InPktsNoSAError InOctetsValidated "
+    "InOctetsDecrypted OutPktsUntagged OutPktsTooLong OutPktsNoSA OutPktsProtected OutPktsEncrypted "
+    "OutOctetsProtected OutOctetsEncrypted"
+).split()
+CHANNEL_COUNTERS = ["InPkts" + it for it in "OK Unchecked Delayed Late Invalid NotValid".split()]
+
+
+class LineFault(Exception):
+    """The fault of a line."""
+
+
+class ScriptFault(Exception):
+    """The fault of a script or of a configuration: its name, and the number of the line or None."""
+
+    def __str__(self):
+        name, line = self.args
+        return name if line is None else f"line {line}: {name}"
+
+
+class WorldFault(Exception):
+    """Why an event does not happen."""
+
+
+class Refused(Exception):
+    """Why a command is refused."""
+
+
+# The words of a line.
+
+
+def one_of(*choices):
+    def read(word):
+        if word not in choices:
+            raise LineFault("Word")
+        return word
+
+    return read
+
+
+def decimal(low, high):
+    def read(word):
+        if not (1 <= len(word) <= 20 and all(it in "0123456789" for it in word) and low <= int(word) <= high):
+            raise LineFault("Number")
+        return int(word)
+
+    return read
+
+
+def hexadecimal(*lengths):
+    def read(word):
+        if not word or len(word) % 2 or not is_hex(word) or (lengths and len(word) // 2 not in lengths):
+            raise LineFault("Hex")
+        return bytes.fromhex(word)
+
+    return read
+
+
+def packet_number(word):
+    if not (1 <= len(word) <= 16 and is_hex(word)):
+        raise LineFault("Hex")
+    return int(word, 16)
+
+
+def is_hex(word):
+    return all(it in "0123456789abcdefABCDEF" for it in word)
+
+
+AN, NUMBER, LINK_NUMBER = decimal(0, 3), decimal(0, 255), decimal(0, 2**32 - 1)
+SCI, SSCI, SALT, FRAME, OCTET = hexadecimal(8), hexadecimal(4), hexadecimal(12), hexadecimal(), hexadecimal(1)
+WINDOW = decimal(0, 2**64 - 1)
+# The lines that do not begin with an end, and those that do: the words after the keyword, in each of their forms.
+PLAIN = {
+    "end": [(one_of("A", "B"), one_of(*SUITES), SCI, decimal(64, MAX_FRAME), one_of(*FORMS))],
+    "alter": [(LINK_NUMBER, LINK_NUMBER, OCTET)],
+    "pad": [(LINK_NUMBER,)],
+    "inject": [(FRAME,)],
+}
+COMMANDS = {
+    "protect": [(one_of("on", "off"),)],
+    "validate": [(one_of(*MODES),)],
+    "replay": [(one_of("on", "off"), WINDOW)],
+    "tag": [(one_of(*FORMS),)],
+    "key": [(NUMBER, hexadecimal(16, 32), NUMBER), (NUMBER, hexadecimal(16, 32), NUMBER, SSCI, SALT)],
+    "retire": [(NUMBER,)],
+    "txsa": [(AN, NUMBER, packet_number, one_of("int", "conf"))],
+    "txon": [(AN,)],
+    "txoff": [(AN,)],
+    "txdel": [(AN,)],
+    "rxsc": [(SCI,)],
+    "rxscdel": [(SCI,)],
+    "rxsa": [(SCI, AN, NUMBER, packet_number), (SCI, AN, NUMBER, packet_number, SSCI)],
+    "rxon": [(SCI, AN)],
+    "rxoff": [(SCI, AN)],
+    "rxlow": [(SCI, AN, packet_number)],
+    "rxdel": [(SCI, AN)],
+}
+AT_END = COMMANDS | {
+    "send": [(FRAME,)],
+    "sendu": [(FRAME,)],
+    "deliver": [(LINK_NUMBER,)],
+    "counters": [()],
+    "numbers": [()],
+}
+
+
+def parse_words(words):
+    """The keyword, the end if there is one, and the values of the other words."""
+    end = None
+    if words[0] in ("A", "B"):
+        end = words[0]
+        if len(words) == 1:
+            raise LineFault("Count")
+        words = words[1:]
+    forms = (AT_END if end else PLAIN).get(words[0])
+    if forms is None:
+        raise LineFault("Word")
+    fitting = [it for it in forms if len(it) == len(words) - 1]
+    if not fitting:
+        raise LineFault("Count")
+    values = [read(word) for read, word in zip(fitting[0], words[1:])]
+    if words[0] == "end" and not form_fits(values[4], values[2]):
+        raise LineFault("Ends")
+    return words[0], end, values
+
+
+def form_fits(form, sci):
+    return form not in ("es", "scb") or sci[6:] == {"es": b"\0\1", "scb": b"\0\0"}[form]
+
+
+def is_in_place(index, keyword, end, values, is_config):
+    if index < (1 if is_config else 2):
+        return keyword == "end" and values[0] == "AB"[index]
+    if is_config:
+        return end == "A" and keyword in COMMANDS
+    return keyword != "end"
+
+
+def parse(octets, is_config):
+    """The lines of a script, or of a configuration, that are not skipped, with their numbers."""
+    lines = octets.split(b"\n")
+    if not lines[-1]:
+        lines.pop()
+    if len(octets) > MAX_SCRIPT or len(lines) > MAX_LINES:
+        raise ScriptFault("ScriptLong", None)
+    parsed = []
+    for number, line in enumerate(lines, 1):
+        if len(line) > MAX_LINE:
+            raise ScriptFault("LineLong", number)
+        line = line.removesuffix(b"\r").decode("latin-1")
+        words = [it for it in line.replace("\t", " ").split(" ") if it]
+        if not words or words[0].startswith("#"):
+            continue
+        try:
+            keyword, end, values = parse_words(words)
+        except LineFault as fault:
+            raise ScriptFault(str(fault), number) from None
+        if not is_in_place(len(parsed), keyword, end, values, is_config):
+            raise ScriptFault("Ends", number)
+        parsed.append((number, keyword, end, values))
+    if is_config and not parsed:
+        raise ScriptFault("Ends", 0)
+    if not is_config and len(parsed) == 1:
+        raise ScriptFault("Ends", len(lines))
+    return parsed
+
+
+# An endpoint.
+
+
+class Sa:
+    """An association: a transmit association has no lowest packet number, and a receive association no mode."""
+
+    def __init__(self, key, next_pn, ssci=None, conf=None):
+        self.key, self.next, self.lowest, self.ssci, self.conf, self.on = key, next_pn, next_pn, ssci, conf, False
+
+
+class Key:
+    def __init__(self, octets, offset, ssci, salt):
+        self.octets, self.offset, self.ssci, self.salt = octets, offset, ssci, salt
+        self.retired, self.first_unused = False, 1
+
+
+class Channel:
+    def __init__(self, sci):
+        self.sci, self.sas, self.counters = sci, {}, dict.fromkeys(CHANNEL_COUNTERS, 0)
+
+
+class Endpoint:
+    def __init__(self, suite, sci, max_frame, form):
+        self.key_length, self.is_xpn = SUITES[suite]
+        self.last = 2**64 - 1 if self.is_xpn else 2**32 - 1
+        self.sci, self.max_frame, self.form = sci, max_frame, form
+        self.protects, self.mode, self.replay, self.window = True, "strict", True, 0
+        self.keys, self.tx, self.channels = {}, {}, []
+        self.counters = dict.fromkeys(SECY_COUNTERS, 0)
+
+    # Commands. The refusals of each are tested in the order of their numbers.
+
+    def command(self, keyword, values):
+        getattr(self, "do_" + keyword)(*values)
+
+    def do_protect(self, word):
+        self.protects = word == "on"
+
+    def do_validate(self, word):
+        self.mode = word
+
+    def do_replay(self, word, window):
+        refuse("Window", window > (2**30 - 1 if self.is_xpn else 2**32 - 1))
+        self.replay, self.window = word == "on", window
+        for channel in self.channels:
+            for sa in channel.sas.values():
+                sa.lowest = max(sa.lowest, sa.next - window)
+
+    def do_tag(self, form):
+        refuse("SciForm", not form_fits(form, self.sci))
+        self.form = form
+
+    def do_key(self, number, octets, offset, ssci=bytes(4), salt=bytes(12)):
+        refuse("KeyLength", len(octets) != self.key_length)
+        refuse("Offset", offset not in ((0,) if self.is_xpn else (0, 30, 50)))
+        refuse("KeyNumberUsed", number in self.keys)
+        refuse("KeyRepeated", any(it.octets == octets for it in self.keys.values()))
+        self.keys[number] = Key(octets, offset, ssci, salt)
+
+    def usable_key(self, number):
+        refuse("NoKey", number not in self.keys)
+        refuse("KeyRetired", self.keys[number].retired)
+        return self.keys[number]
+
+    def do_retire(self, number):
+        key = self.usable_key(number)
+        rows = list(self.tx.values()) + [sa for it in self.channels for sa in it.sas.values()]
+        refuse("KeyInUse", any(sa.key == number for sa in rows))
+        key.retired = True
+
+    def do_txsa(self, an, number, pn, conf):
+        key = self.usable_key(number)
+        refuse("KeyInUse", any(sa.key == number for sa in self.tx.values()))
+        refuse("AnTaken", an in self.tx)
+        refuse("PnRange", not 1 <= pn <= self.last)
+        refuse("PnFloor", pn < key.first_unused)
+        self.tx[an] = Sa(number, pn, conf=conf == "conf")
+
+    def do_txon(self, an):
+        refuse("NoSa", an not in self.tx)
+        refuse("Exhausted", self.tx[an].next > self.last)
+        for number, sa in self.tx.items():
+            sa.on = number == an
+
+    def do_txoff(self, an):
+        refuse("NoSa", an not in self.tx)
+        self.tx[an].on = False
+
+    def do_txdel(self, an):
+        refuse("NoSa", an not in self.tx)
+        del self.tx[an]
+
+    def channel(self, sci):
+        return next((it for it in self.channels if it.sci == sci), None)
+
+    def do_rxsc(self, sci):
+        refuse("OwnSci", sci == self.sci)
+        refuse("ScTaken", self.channel(sci) is not None)
+        refuse("ScFull", len(self.channels) >= 8)
+        self.channels.append(Channel(sci))
+
+    def do_rxscdel(self, sci):
+        refuse("NoSc", self.channel(sci) is None)
+        self.channels.remove(self.channel(sci))
+
+    def do_rxsa(self, sci, an, number, pn, ssci=bytes(4)):
+        key = self.usable_key(number)
+        channel = self.channel(sci)
+        refuse("NoSc", channel is None)
+        refuse("AnTaken", an in channel.sas)
+        refuse("PnRange", not 1 <= pn <= self.last)
+        refuse("SsciOwn", self.is_xpn and ssci == key.ssci)
+        channel.sas[an] = Sa(number, pn, ssci=ssci)
+
+    def rx_sa(self, sci, an):
+        refuse("NoSc", self.channel(sci) is None)
+        refuse("NoSa", an not in self.channel(sci).sas)
+        return self.channel(sci).sas[an]
+
+    def do_rxon(self, sci, an):
+        self.rx_sa(sci, an).on = True
+
+    def do_rxoff(self, sci, an):
+        self.rx_sa(sci, an).on = False
+
+    def do_rxlow(self, sci, an, pn):
+        sa = self.rx_sa(sci, an)
+        refuse("PnRange", not 1 <= pn <= self.last)
+        refuse("PnLower", pn < sa.lowest)
+        sa.lowest, sa.next = pn, max(sa.next, pn)
+
+    def do_rxdel(self, sci, an):
+        self.rx_sa(sci, an)
+        del self.channel(sci).sas[an]
+
+    # Frames.
+
+    def count(self, name, by=1):
+        self.counters[name] = (self.counters[name] + by) % 2**64
+
+    def iv(self, key, sci, ssci, pn):
+        if not self.is_xpn:
+            return sci + struct.pack(">I", pn)
+        return bytes(a ^ b for a, b in zip(key.salt, ssci + struct.pack(">Q", pn)))
+
+    def tag_bits(self, source):
+        """The bits of the SecTAG that say whose frame it is: SC, ES, SCB or none."""
+        if self.form == "auto":
+            return 0x20 if len(self.channels) > 1 else 0
+        if self.form != "sci" and source == self.sci[:6]:
+            return {"es": 0x40, "scb": 0x10}[self.form]
+        return 0x20
+
+    def send(self, frame):
+        """The link frame, or why there is none."""
+        if not self.protects:
+            if len(frame) > self.max_frame:
+                self.count("OutPktsTooLong")
+                return None, "TooLong"
+            self.count("OutPktsUntagged")
+            return frame, None
+        an = next((it for it, sa in self.tx.items() if sa.on and sa.next <= self.last), None)
+        if an is None:
+            self.count("OutPktsNoSA")
+            return None, "NoSA"
+        bits, data = self.tag_bits(frame[6:12]), frame[12:]
+        if len(frame) + (32 if bits & 0x20 else 24) > self.max_frame:
+            self.count("OutPktsTooLong")
+            return None, "TooLong"
+        return self.protected(frame, bits, an, self.tx[an], data), None
+
+    def protected(self, frame, bits, an, sa, data):
+        key, pn = self.keys[sa.key], sa.next
+        tci = bits | (0x0C if sa.conf else 0) | an
+        tag = b"\x88\xe5" + bytes([tci, len(data) if len(data) < 48 else 0]) + struct.pack(">I", pn % 2**32)
+        if bits & 0x20:
+            tag += self.sci
+        clear = min(key.offset, len(data)) if sa.conf else len(data)
+        head = frame[:12] + tag + data[:clear]
+        sealed = seal(key.octets, self.iv(key, self.sci, key.ssci, pn), head, data[clear:])
+        name = "Encrypted" if sa.conf else "Protected"
+        self.count("OutPkts" + name)
+        self.count("OutOctets" + name, len(data))
+        sa.next, key.first_unused = pn + 1, pn + 1
+        return head + sealed
+
+    def receive(self, frame):
+        """The verdict on a link frame, and what is delivered at the controlled port or None."""
+        verdict, delivered, channel = self.judged(frame)
+        if channel is not None:
+            channel.counters["InPkts" + verdict] = (channel.counters["InPkts" + verdict] + 1) % 2**64
+        else:
+            self.count("InPkts" + verdict)
+        return verdict, delivered
+
+    def judged(self, frame):
+        """The verdict, what is delivered, and the channel that counts it or None."""
+        read = read_frame(frame)
+        if read == "Untagged":
+            return ("NoTag", None, None) if self.mode == "strict" else ("Untagged", frame, None)
+        if read == "Bad" or (read["pn"] == 0 and not self.is_xpn):
+            return "BadTag", None, None
+        e, c = read["tci"] & 8, read["tci"] & 4
+        if e and not c:
+            return "Reserved", None, None
+        plain = frame[:12] + read["data"]
+        channel = self.channel_of(read, frame)
+        sa = channel.sas.get(read["tci"] & 3) if channel else None
+        if sa is None or not sa.on:
+            if self.mode == "strict" or c:
+                return "NoSAError", None, None
+            return "NoSA", plain, None
+        pn = self.recovered(sa, read["pn"])
+        if pn is None:
+            return "BadTag", None, None
+        is_late = pn < sa.lowest
+        if self.replay and is_late:
+            return "Late", None, channel
+        if self.mode == "disabled":
+            if c:
+                return "NotValid", None, channel
+            return "Delayed" if is_late else "Unchecked", plain, channel
+        opened = self.opened(read, frame, channel.sci, sa, pn)
+        if opened is None:
+            return ("NotValid", None, channel) if c or self.mode == "strict" else ("Invalid", plain, channel)
+        sa.next = max(sa.next, pn + 1)
+        sa.lowest = max(sa.lowest, sa.next - self.window)
+        return "Delayed" if is_late else "OK", frame[:12] + opened, channel
+
+    def channel_of(self, read, frame):
+        if read["sci"] is not None:
+            return self.channel(read["sci"])
+        if read["tci"] & 0x10:
+            return self.channel(frame[6:12] + b"\0\0")
+        if read["tci"] & 0x40:
+            return self.channel(frame[6:12] + b"\0\1")
+        return self.channels[0] if len(self.channels) == 1 else None
+
+    def recovered(self, sa, low):
+        if not self.is_xpn:
+            return low
+        upper, lowest_low = divmod(sa.lowest, 2**32)
+        if low < 2**31 <= lowest_low:
+            upper += 1
+        pn = upper * 2**32 + low
+        return pn if 0 < pn < 2**64 else None
+
+    def opened(self, read, frame, sci, sa, pn):
+        key, data, is_encrypted = self.keys[sa.key], read["data"], read["tci"] & 8
+        self.count("InOctetsDecrypted" if is_encrypted else "InOctetsValidated", len(data))
+        clear = min(key.offset, len(data)) if is_encrypted else len(data)
+        head = frame[: 12 + read["tag_length"] + clear]
+        text = open_sealed(key.octets, self.iv(key, sci, sa.ssci, pn), head, data[clear:], read["icv"])
+        return None if text is None else data[:clear] + text
+
+    # What the lines `counters` and `numbers` print.
+
+    def counter_lines(self, label):
+        lines = [f"{label} {name} {self.counters[name]}" for name in SECY_COUNTERS]
+        for channel in self.channels:
+            lines += [f"{label} {channel.sci.hex()} {name} {channel.counters[name]}" for name in CHANNEL_COUNTERS]
+        return lines
+
+    def number_lines(self, label):
+        state = {True: "on", False: "off"}
+        lines = []
+        for an, sa in sorted(self.tx.items()):
+            mode = "conf" if sa.conf else "int"
+            lines.append(f"{label} tx {an} {sa.key} {sa.next:016x} {state[sa.on]} {mode}")
+        for channel in self.channels:
+            for an, sa in sorted(channel.sas.items()):
+                numbers = f"{sa.next:016x} {sa.lowest:016x} {state[sa.on]}"
+                lines.append(f"{label} rx {channel.sci.hex()} {an} {sa.key} {numbers}")
+        return lines
+
+
+def refuse(name, applies):
+    if applies:
+        raise Refused(name)
+
+
+def read_frame(frame):
+    """`Untagged`, `Bad`, or the parts of a tagged frame."""
+    if len(frame) < 14:
+        return "Bad"
+    if frame[12:14] != b"\x88\xe5":
+        return "Untagged"
+    if len(frame) < 20 or (frame[14] & 0x20 and len(frame) < 28):
+        return "Bad"
+    tci, short = frame[14], frame[15]
+    if tci & 0x80 or (tci & 0x20 and tci & 0x50) or short >= 48:
+        return "Bad"
+    length = 16 if tci & 0x20 else 8
+    rest = frame[12 + length :]
+    if len(rest) < (short + 16 if short else 64):
+        return "Bad"
+    size = short or len(rest) - 16
+    return {
+        "tci": tci,
+        "pn": int.from_bytes(frame[16:20], "big"),
+        "sci": frame[20:28] if length == 16 else None,
+        "tag_length": length,
+        "data": rest[:size],
+        "icv": rest[size : size + 16],
+    }
+
+
+# Two ends and the link.
+
+
+class World:
+    def __init__(self, ends):
+        self.ends, self.link = ends, []
+
+    def frame(self, number):
+        if number >= len(self.link):
+            raise WorldFault("NoFrame")
+        return self.link[number]
+
+    def add(self, frame):
+        self.link.append(frame)
+        return f"frame {len(self.link) - 1} {frame.hex()}"
+
+    def event(self, keyword, end, values):
+        """What an event prints."""
+        if keyword in ("send", "sendu", "inject"):
+            return self.sending(keyword, end, *values)
+        if keyword == "deliver":
+            frame = self.frame(*values)
+            if len(frame) < MIN_FRAME:
+                raise WorldFault("Short")
+            verdict, delivered = self.ends[end].receive(frame)
+            return verdict if delivered is None else f"{verdict} {delivered.hex()}"
+        frame = self.frame(values[0])
+        if keyword == "alter" and values[1] >= len(frame):
+            raise WorldFault("AlterRange")
+        self.test_room()
+        if keyword == "pad":
+            return self.add(frame.ljust(60, b"\0"))
+        return self.add(frame[: values[1]] + values[2] + frame[values[1] + 1 :])
+
+    def test_room(self):
+        if len(self.link) >= MAX_LINK_FRAMES:
+            raise WorldFault("LinkFull")
+
+    def sending(self, keyword, end, frame):
+        if len(frame) < MIN_FRAME and keyword != "inject":
+            raise WorldFault("Short")
+        if len(frame) > MAX_FRAME:
+            raise WorldFault("Long")
+        self.test_room()
+        if keyword != "send":
+            return self.add(frame)
+        made, reason = self.ends[end].send(frame)
+        return f"dropped {reason}" if made is None else self.add(made)
+
+    def result(self, keyword, end, values):
+        """What a command or an event prints."""
+        if keyword not in COMMANDS:
+            try:
+                return self.event(keyword, end, values)
+            except WorldFault as fault:
+                return f"fault {WORLD_FAULTS[str(fault)]} {fault}"
+        return command_result(self.ends[end], keyword, values)
+
+
+def command_result(endpoint, keyword, values):
+    try:
+        endpoint.command(keyword, values)
+        return "done"
+    except Refused as refusal:
+        return f"refused {REFUSALS.index(str(refusal)) + 1} {refusal}"
+
+
+def text_of(lines):
+    return "".join(it + "\n" for it in lines).encode()
+
+
+def run_script(script):
+    """Status, text and the line on standard error."""
+    try:
+        lines = parse(script, is_config=False)
+    except ScriptFault as fault:
+        return 2, b"", f"macsec: {fault}\n".encode()
+    ends = {values[0]: Endpoint(*values[1:]) for _, keyword, _, values in lines if keyword == "end"}
+    world, text = World(ends), []
+    for number, keyword, end, values in lines[2:]:
+        if keyword == "counters":
+            text += ends[end].counter_lines(number)
+        elif keyword == "numbers":
+            text += ends[end].number_lines(number)
+        else:
+            text.append(f"{number} {world.result(keyword, end, values)}")
+    return 0, text_of(text), b""
+
+
+# Captures.
+
+
+class PcapFault(Exception):
+    """The fault of a capture file."""
+
+
+def read_header(file):
+    """The order of octets, and whether the unit is a nanosecond."""
+    if len(file) < 24:
+        raise PcapFault("CutHeader")
+    for order in "<>":
+        magic, major, minor = struct.unpack_from(order + "IHH", file)
+        if magic in (0xA1B2C3D4, 0xA1B23C4D):
+            if (major, minor) != (2, 4):
+                raise PcapFault("Version")
+            if struct.unpack_from(order + "I", file, 20) != (1,):
+                raise PcapFault("LinkType")
+            return order, magic == 0xA1B23C4D
+    raise PcapFault("Magic")
+
+
+def read_records(file, order):
+    """The records: seconds, fraction, and the frame, or None where it is partial."""
+    place = 24
+    while place < len(file):
+        if len(file) - place < 16:
+            raise PcapFault("CutRecord")
+        seconds, fraction, captured, original = struct.unpack_from(order + "IIII", file, place)
+        place += 16
+        if captured > MAX_RECORD:
+            raise PcapFault("RecordLength")
+        if len(file) - place < captured:
+            raise PcapFault("CutRecord")
+        yield seconds, fraction, file[place : place + captured] if captured >= original else None
+        place += captured
+
+
+def write_header(is_nano):
+    return struct.pack("<IHHIIII", 0xA1B23C4D if is_nano else 0xA1B2C3D4, 2, 4, 0, 0, 65_535, 1)
+
+
+def write_record(seconds, fraction, frame):
+    return struct.pack("<IIII", seconds, fraction, len(frame), len(frame)) + frame
+
+
+def run_capture(direction, config, file):
+    """Status, text, the line on standard error, and the output file."""
+    try:
+        lines = parse(config, is_config=True)
+    except ScriptFault as fault:
+        return 2, b"", f"macsec: {fault}\n".encode(), b""
+    endpoint = Endpoint(*lines[0][3][1:])
+    text = [f"{number} {command_result(endpoint, keyword, values)}" for number, keyword, _, values in lines[1:]]
+    output = b""
+    try:
+        order, is_nano = read_header(file)
+        output = write_header(is_nano)
+        for number, (seconds, fraction, frame) in enumerate(read_records(file, order)):
+            told, sent = record_result(endpoint, direction, frame)
+            text.append(f"record {number} {told}")
+            if sent is not None:
+                output += write_record(seconds, fraction, sent)
+    except PcapFault as fault:
+        return 1, text_of(text), f"macsec: pcap {fault}\n".encode(), output
+    return 0, text_of(text + endpoint.counter_lines("end")), b"", output
+
+
+def record_result(endpoint, direction, frame):
+    """What is printed of a record, and the frame that is written or None."""
+    if frame is None:
+        return "partial", None
+    if len(frame) < MIN_FRAME:
+        return "fault 1 Short", None
+    if len(frame) > MAX_FRAME:
+        return "fault 2 Long", None
+    if direction == "protect":
+        sent, reason = endpoint.send(frame)
+        return (f"dropped {reason}" if sent is None else f"link {len(sent)}"), sent
+    verdict, delivered = endpoint.receive(frame)
+    return (verdict if delivered is None else f"{verdict} {len(delivered)}"), delivered
+
+
+# AES of FIPS 197, forward alone, and GCM of SP 800-38D with IVs of 12 octets and tags of 16.
+
+
+def xtime(a):
+    return (a << 1) ^ (0x11B if a & 0x80 else 0)
+
+
+def product(a, b):
+    result = 0
+    while b:
+        if b & 1:
+            result ^= a
+        a, b = xtime(a), b >> 1
+    return result
+
+
+def s_box_of(a):
+    inverse = next((it for it in range(256) if product(a, it) == 1), 0)
+    rotations = (((inverse << it) | (inverse >> (8 - it))) & 0xFF for it in range(5))
+    return functools.reduce(lambda x, y: x ^ y, rotations, 0x63)
+
+
+S_BOX = [s_box_of(it) for it in range(256)]
+# SubBytes and MixColumns of one octet, for each of the four rows, as a word.
+MIXED = [
+    [
+        int.from_bytes(bytes(product(S_BOX[it], factor) for factor in (2, 1, 1, 3)[-row:] + (2, 1, 1, 3)[:-row]), "big")
+        for it in range(256)
+    ]
+    for row in range(4)
+]
+
+
+def sub_word(word):
+    return int.from_bytes(bytes(S_BOX[it] for it in word.to_bytes(4, "big")), "big")
+
+
+@functools.lru_cache(64)
+def expanded(key):
+    """The words of the key schedule."""
+    length, rcon = len(key) // 4, 1
+    words = list(struct.unpack(f">{length}I", key))
+    for i in range(length, 4 * (length + 7)):
+        word = words[i - 1]
+        if i % length == 0:
+            word = sub_word((word << 8 | word >> 24) & 0xFFFFFFFF) ^ (rcon << 24)
+            rcon = xtime(rcon)
+        elif length == 8 and i % 8 == 4:
+            word = sub_word(word)
+        words.append(words[i - length] ^ word)
+    return words
+
+
+def encrypt(key, block):
+    words = expanded(key)
+    columns = [a ^ b for a, b in zip(struct.unpack(">4I", block), words)]
+    m0, m1, m2, m3 = MIXED
+    for first in range(4, len(words) - 4, 4):
+        c0, c1, c2, c3 = columns
+        k0, k1, k2, k3 = words[first : first + 4]
+        columns = [
+            m0[c0 >> 24] ^ m1[c1 >> 16 & 255] ^ m2[c2 >> 8 & 255] ^ m3[c3 & 255] ^ k0,
+            m0[c1 >> 24] ^ m1[c2 >> 16 & 255] ^ m2[c3 >> 8 & 255] ^ m3[c0 & 255] ^ k1,
+            m0[c2 >> 24] ^ m1[c3 >> 16 & 255] ^ m2[c0 >> 8 & 255] ^ m3[c1 & 255] ^ k2,
+            m0[c3 >> 24] ^ m1[c0 >> 16 & 255] ^ m2[c1 >> 8 & 255] ^ m3[c2 & 255] ^ k3,
+        ]
+    state = struct.pack(">4I", *columns)
+    shifted = bytes(S_BOX[state[(it + 4 * (it % 4)) % 16]] for it in range(16))
+    return (int.from_bytes(shifted, "big") ^ int.from_bytes(struct.pack(">4I", *words[-4:]), "big")).to_bytes(16, "big")
+
+
+@functools.lru_cache(64)
+def products_of(hash_key):
+    """The product of the hash key with each value of each octet of a block."""
+    shifted, tables = int.from_bytes(hash_key, "big"), []
+    for _ in range(16):
+        table = [0] * 256
+        for bit in (128, 64, 32, 16, 8, 4, 2, 1):
+            table[bit] = shifted
+            shifted = (shifted >> 1) ^ (0xE1 << 120 if shifted & 1 else 0)
+        for value in range(256):
+            lowest = value & -value
+            table[value] = table[lowest] ^ table[value ^ lowest] if value ^ lowest else table[value]
+        tables.append(table)
+    return tables
+
+
+def ghash(hash_key, octets):
+    tables, y = products_of(hash_key), 0
+    for place in range(0, len(octets), 16):
+        y ^= int.from_bytes(octets[place : place + 16], "big")
+        total = 0
+        for table, octet in zip(tables, y.to_bytes(16, "big")):
+            total ^= table[octet]
+        y = total
+    return y
+
+
+def padded(octets):
+    return octets + bytes(-len(octets) % 16)
+
+
+def key_stream(key, iv, octets):
+    blocks = range(2, 2 + (len(octets) + 15) // 16)
+    stream = b"".join(encrypt(key, iv + struct.pack(">I", it)) for it in blocks)
+    return bytes(a ^ b for a, b in zip(octets, stream))
+
+
+def tag_of(key, iv, aad, ciphertext):
+    lengths = struct.pack(">QQ", 8 * len(aad), 8 * len(ciphertext))
+    hashed = ghash(encrypt(key, bytes(16)), padded(aad) + padded(ciphertext) + lengths)
+    return (hashed ^ int.from_bytes(encrypt(key, iv + b"\0\0\0\1"), "big")).to_bytes(16, "big")
+
+
+def seal(key, iv, aad, plaintext):
+    ciphertext = key_stream(key, iv, plaintext)
+    return ciphertext + tag_of(key, iv, aad, ciphertext)
+
+
+def open_sealed(key, iv, aad, ciphertext, tag):
+    return key_stream(key, iv, ciphertext) if tag == tag_of(key, iv, aad, ciphertext) else None
