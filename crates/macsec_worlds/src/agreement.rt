@@ -1,0 +1,113 @@
+//! Whether the ends of the code do what the plain rule says.
+
+use crate::plain_end::PlainEnd;
+use crate::plain_world::{Answer, PlainWorld};
+use crate::scenario::{SCI_A, SCI_B};
+use crate::sending::Seal;
+use macsec_link::{An, End, Outcome, Secy, World, WorldFault};
+
+/// Do the code and the plain rule say the same of an event, after which these are the worlds?
+pub fn agrees(
+    world: &World,
+    plain: &PlainWorld,
+    got: &Result<Outcome, WorldFault>,
+    answer: &Answer,
+) -> bool {
+    answers_agree(world, plain, got, answer)
+        && rows_agree(world.end(End::A), &plain.a)
+        && rows_agree(world.end(End::B), &plain.b)
+}
+
+fn answers_agree(
+    world: &World,
+    plain: &PlainWorld,
+    got: &Result<Outcome, WorldFault>,
+    answer: &Answer,
+) -> bool {
+    match (got, answer) {
+        (Ok(Outcome::Done), Answer::Done) => true,
+        (Ok(Outcome::Refused(refusal)), Answer::Refused(other)) => refusal == other,
+        (Ok(Outcome::Dropped(reason)), Answer::Dropped(other)) => reason == other,
+        (Ok(Outcome::Made(n)), Answer::Made) => frames_agree(world, plain, *n),
+        (
+            Ok(
+                Outcome::Heard {
+                    verdict,
+                    controlled,
+                },
+            ),
+            Answer::Heard(other, wanted),
+        ) => {
+            verdict == other
+                && match (controlled, wanted) {
+                    (None, None) => true,
+                    (Some(frame), Some(octets)) => frame.octets() == octets.as_slice(),
+                    _ => false,
+                }
+        }
+        (Err(fault), Answer::Fault(other)) => fault == other,
+        _ => false,
+    }
+}
+
+/// Is this the last link frame in both, of as many octets, with the same ones up to the data?
+fn frames_agree(world: &World, plain: &PlainWorld, n: u32) -> bool {
+    let (Some(frame), Some(wanted)) = (world.frame(n), plain.frames.last()) else {
+        return false;
+    };
+    let head = wanted.len().min(20);
+    n as usize + 1 == plain.frames.len()
+        && frame.len() == wanted.len()
+        && frame.get(..head) == wanted.as_slice().get(..head)
+}
+
+/// Are the options and the packet numbers of an end's associations 0 and 1 the same?
+fn rows_agree(end: &Secy, plain: &PlainEnd) -> bool {
+    for an in [An::new(0).unwrap(), An::new(1).unwrap()] {
+        if end.tx_row(an) != plain.tx_row(an) {
+            return false;
+        }
+        for sci in [SCI_A, SCI_B] {
+            let row = match plain.rx_row(sci, an) {
+                Some((_, made)) => Some(made.row),
+                None => None,
+            };
+            if end.rx_row(sci, an) != row {
+                return false;
+            }
+        }
+    }
+    end.options() == plain.options
+}
+
+/// Are the logs of both ends the same: what was sent under the keys 0 to 2, and what was delivered from each association?
+pub fn logs_agree(world: &World, plain: &PlainWorld) -> bool {
+    for end in [End::A, End::B] {
+        let own = plain.end(end);
+        for key in 0..3 {
+            if !is_log(world.sent(end, key), own.sealed.as_slice(), key) {
+                return false;
+            }
+        }
+        for (number, made) in own.rx.iter().enumerate() {
+            if world.delivered(end, number) != Some(made.delivered.as_slice()) {
+                return false;
+            }
+        }
+    }
+    true
+}
+
+/// Are these the client frames of the seals under a key, in their order?
+fn is_log(log: &[Vec<u8>], sealed: &[Seal], key: u8) -> bool {
+    let mut kept = log.iter();
+    for seal in sealed {
+        if seal.key.key.number == key {
+            match kept.next() {
+                Some(frame) if frame.as_slice() == seal.client.as_slice() => (),
+                _ => return false,
+            }
+        }
+    }
+    kept.next().is_none()
+}

@@ -1,0 +1,242 @@
+//! An end by the plain rule: its keys, its channels and associations, and its management commands.
+
+use crate::Plant;
+use crate::association::Association;
+use crate::sending::Seal;
+use macsec_link::{Command, EndConfig, Mode, NewKey, Refusal, Sci};
+use macsec_secy::{An, Options, TxRow};
+use std::alloc::{AllocError, Global};
+
+/// A key: what was installed, whether it is retired, and its first unused packet number.
+#[derive(Clone, Copy)]
+pub struct PlainKey {
+    pub key: NewKey,
+    pub retired: bool,
+    pub first_unused: u128,
+}
+
+/// An end as lists of rows, and what it sealed. Its receive associations stay in their list when they are deleted.
+#[derive(Drop)]
+pub struct PlainEnd {
+    pub config: EndConfig,
+    pub options: Options,
+    pub keys: Vec<PlainKey>,
+    pub tx: [Option<TxRow>; 4],
+    pub channels: Vec<Sci>,
+    pub rx: Vec<Association>,
+    pub sealed: Vec<Seal>,
+}
+
+impl PlainEnd {
+    /// A new end.
+    pub fn new(alloc: Global, config: EndConfig) -> PlainEnd {
+        PlainEnd {
+            config,
+            options: Options {
+                protect: true,
+                mode: Mode::Strict,
+                replay: true,
+                window: 0,
+                form: config.form,
+            },
+            keys: Vec::new(alloc),
+            tx: [None; 4],
+            channels: Vec::new(alloc),
+            rx: Vec::new(alloc),
+            sealed: Vec::new(alloc),
+        }
+    }
+
+    /// The key of this number.
+    pub fn key(&self, number: u8) -> Option<PlainKey> {
+        for row in self.keys.iter() {
+            if row.key.number == number {
+                return Some(*row);
+            }
+        }
+        None
+    }
+
+    /// The transmit association of this number.
+    pub fn tx_row(&self, an: An) -> Option<TxRow> {
+        self.tx[usize::from(an.number())]
+    }
+
+    /// The receive association of this channel and number, and its place among those ever created.
+    pub fn rx_row(&self, sci: Sci, an: An) -> Option<(usize, &Association)> {
+        for (place, made) in self.rx.iter().enumerate() {
+            if made.live && made.row.sci == sci && made.row.an == an {
+                return Some((place, made));
+            }
+        }
+        None
+    }
+
+    /// A command, or its first refusal by number.
+    pub fn command(
+        &mut self,
+        alloc: Global,
+        plant: Option<Plant>,
+        command: &Command,
+    ) -> Result<Result<(), Refusal>, AllocError> {
+        if let Some(refusal) = self.refusal(plant, command) {
+            return Ok(Err(refusal));
+        }
+        self.change(alloc, plant, command)?;
+        let strict = self.options.mode == Mode::Strict;
+        let ordered = self.options.replay && self.options.window == 0;
+        for made in self.rx.iter_mut() {
+            made.strict &= strict;
+            made.ordered &= ordered;
+        }
+        Ok(Ok(()))
+    }
+
+    /// What a command changes.
+    fn change(
+        &mut self,
+        alloc: Global,
+        plant: Option<Plant>,
+        command: &Command,
+    ) -> Result<(), AllocError> {
+        match *command {
+            Command::Protect(on) => self.options.protect = on,
+            Command::Validate(mode) => self.options.mode = mode,
+            Command::Replay { protect, window } => self.set_replay(plant, protect, window),
+            Command::Tag(form) => self.options.form = form,
+            Command::Key(key) => self.keys.push(PlainKey {
+                key,
+                retired: false,
+                first_unused: 1,
+            })?,
+            Command::Retire(number) => self.retire(number),
+            Command::TxSa {
+                an,
+                key,
+                next,
+                conf,
+            } => {
+                self.tx[usize::from(an.number())] = Some(TxRow {
+                    an,
+                    key,
+                    next: u128::from(next),
+                    conf,
+                    on: false,
+                })
+            }
+            Command::TxOn(an) => self.switch_tx(an, true),
+            Command::TxOff(an) => self.switch_tx(an, false),
+            Command::TxDel(an) => self.tx[usize::from(an.number())] = None,
+            Command::RxSc(sci) => self.channels.push(sci)?,
+            Command::RxScDel(sci) => self.delete_channel(alloc, sci)?,
+            Command::RxSa {
+                sci,
+                an,
+                key,
+                ssci,
+                lowest,
+            } => self
+                .rx
+                .push(Association::new(alloc, sci, an, key, ssci, lowest))?,
+            Command::RxOn(sci, an) => self.switch_rx(sci, an, true),
+            Command::RxOff(sci, an) => self.switch_rx(sci, an, false),
+            Command::RxLow { sci, an, pn } => self.raise(sci, an, pn),
+            Command::RxDel(sci, an) => self.delete(sci, an),
+        }
+        Ok(())
+    }
+
+    /// Sets replay protection, and narrows each association to the window.
+    fn set_replay(&mut self, plant: Option<Plant>, protect: bool, window: u64) {
+        self.options.replay = protect;
+        self.options.window = window;
+        for made in self.rx.iter_mut() {
+            made.set_window(plant, window);
+        }
+    }
+
+    fn retire(&mut self, number: u8) {
+        for row in self.keys.iter_mut() {
+            row.retired |= row.key.number == number;
+        }
+    }
+
+    /// Switches a transmit association; at most one is enabled.
+    fn switch_tx(&mut self, an: An, on: bool) {
+        for row in self.tx.iter_mut().flatten() {
+            if row.an == an {
+                row.on = on;
+            } else if on {
+                row.on = false;
+            }
+        }
+    }
+
+    /// Switches a receive association.
+    fn switch_rx(&mut self, sci: Sci, an: An, on: bool) {
+        for made in self.rx.iter_mut() {
+            if made.is(sci, an) {
+                made.row.on = on;
+            }
+        }
+    }
+
+    /// Raises the lowest acceptable packet number.
+    fn raise(&mut self, sci: Sci, an: An, pn: u64) {
+        for made in self.rx.iter_mut() {
+            if made.is(sci, an) {
+                made.row.lowest = u128::from(pn);
+                made.row.next = made.row.next.max(u128::from(pn));
+            }
+        }
+    }
+
+    fn delete(&mut self, sci: Sci, an: An) {
+        for made in self.rx.iter_mut() {
+            if made.is(sci, an) {
+                made.live = false;
+            }
+        }
+    }
+
+    /// Deletes a channel and its associations.
+    fn delete_channel(&mut self, alloc: Global, sci: Sci) -> Result<(), AllocError> {
+        let mut kept = Vec::new(alloc);
+        for other in self.channels.iter() {
+            if *other != sci {
+                kept.push(*other)?;
+            }
+        }
+        self.channels = kept;
+        for made in self.rx.iter_mut() {
+            if made.row.sci == sci {
+                made.live = false;
+            }
+        }
+        Ok(())
+    }
+
+    /// This packet number of a transmit association and of its key was used.
+    pub fn note_used(&mut self, an: An, key: u8, pn: u64) {
+        let next = u128::from(pn) + 1;
+        if let Some(row) = &mut self.tx[usize::from(an.number())] {
+            row.next = next;
+        }
+        for row in self.keys.iter_mut() {
+            if row.key.number == key {
+                row.first_unused = next;
+            }
+        }
+    }
+
+    /// Has a lowest acceptable packet number fallen since this was asked before?
+    pub fn has_fallen(&mut self) -> bool {
+        let mut fallen = false;
+        for made in self.rx.iter_mut() {
+            if made.has_fallen() && made.live {
+                fallen = true;
+            }
+        }
+        fallen
+    }
+}

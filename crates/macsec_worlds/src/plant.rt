@@ -1,0 +1,84 @@
+//! Mistakes that can be planted in the plain rule, so that the search is seen to find what is there.
+
+/// A mistake in the plain rule of an end.
+#[derive(Clone, Copy, PartialEq, Eq)]
+pub enum Plant {
+    /// A transmit association is created below its key's first unused packet number.
+    NumberAgain,
+    /// The bytes of a retired key are installed again.
+    KeyAgain,
+    /// A receive channel has the end's own SCI.
+    OwnChannel,
+    /// A receive association has its key's own SSCI.
+    OwnSsci,
+    /// With a window of 0 an accepted packet number stays acceptable.
+    Repeat,
+    /// A window above 0 is wider by one.
+    WiderWindow,
+    /// The lowest acceptable packet number is late.
+    LateAtLowest,
+    /// The lowest acceptable packet number falls when the window grows.
+    LowestFalls,
+    /// A frame that is not valid moves the packet numbers on.
+    InvalidMoves,
+    /// An encrypted frame that is not valid is delivered in mode Check.
+    CiphertextDelivered,
+    /// An extended packet number always has the upper half of the lowest acceptable one.
+    SameUpperHalf,
+    /// An extended packet number is recovered by the next one.
+    ByNext,
+    /// The IV has the lower 32 bits of the packet number only.
+    ShortIv,
+    /// No frame is ever delivered to an end.
+    NoDelivery,
+}
+
+impl Plant {
+    /// All of them.
+    pub const ALL: [Plant; 14] = [
+        Plant::NumberAgain,
+        Plant::KeyAgain,
+        Plant::OwnChannel,
+        Plant::OwnSsci,
+        Plant::Repeat,
+        Plant::WiderWindow,
+        Plant::LateAtLowest,
+        Plant::LowestFalls,
+        Plant::InvalidMoves,
+        Plant::CiphertextDelivered,
+        Plant::SameUpperHalf,
+        Plant::ByNext,
+        Plant::ShortIv,
+        Plant::NoDelivery,
+    ];
+
+    /// Its name on the command line.
+    pub fn name(self) -> &'static str {
+        match self {
+            Plant::NumberAgain => "number-again",
+            Plant::KeyAgain => "key-again",
+            Plant::OwnChannel => "own-channel",
+            Plant::OwnSsci => "own-ssci",
+            Plant::Repeat => "repeat",
+            Plant::WiderWindow => "wider-window",
+            Plant::LateAtLowest => "late-at-lowest",
+            Plant::LowestFalls => "lowest-falls",
+            Plant::InvalidMoves => "invalid-moves",
+            Plant::CiphertextDelivered => "ciphertext-delivered",
+            Plant::SameUpperHalf => "same-upper-half",
+            Plant::ByNext => "by-next",
+            Plant::ShortIv => "short-iv",
+            Plant::NoDelivery => "no-delivery",
+        }
+    }
+
+    /// The mistake of this name.
+    pub fn named(name: &str) -> Option<Plant> {
+        for plant in Plant::ALL {
+            if plant.name() == name {
+                return Some(plant);
+            }
+        }
+        None
+    }
+}

@@ -1,0 +1,159 @@
+//! What the program's words ask for, and what it prints.
+
+use crate::coverage::Coverage;
+use crate::script::script;
+use crate::search::{By, Finding, search_all, search_random};
+use crate::{Plant, Scenario};
+use anyhow::{Context, bail};
+use rand_pcg::Pcg32;
+use std::alloc::Global;
+
+/// The length of the lists that are tried without words: a second's work.
+const SHORT_DEPTH: u32 = 2;
+
+/// The greatest length of the lists in which a planted mistake is looked for.
+const PLANT_DEPTH: u32 = 5;
+
+/// The length of random lists.
+const RANDOM_LENGTH: u32 = 24;
+
+/// Does what the words behind the program's name ask for, and prints what was gone through and what was found. Returns whether
+/// nothing is wrong.
+pub fn report(rt: &impl Print, alloc: Global, words: &[&str]) -> anyhow::Result<bool> {
+    match words {
+        [] => Ok(report_lists(rt, alloc, SHORT_DEPTH)? & report_plants(rt, alloc)?),
+        ["--plant", name] => report_plant(rt, alloc, name),
+        ["--random", lists, "--seed", seed] => {
+            report_random(rt, alloc, number_in(lists)?, number_in(seed)?)
+        }
+        [depth] => report_lists(rt, alloc, number_in(depth)?),
+        _ => bail!("the words are DEPTH, or --random N --seed S, or --plant NAME"),
+    }
+}
+
+/// The number in a word.
+fn number_in(word: &str) -> anyhow::Result<u32> {
+    word.parse::<u32>()
+        .context(format_args!("the number {word}"))
+}
+
+/// Carries out all lists of this length in each world.
+fn report_lists(rt: &impl Print, alloc: Global, depth: u32) -> anyhow::Result<bool> {
+    println!(rt; "all lists of {depth} moves")?;
+    let mut good = true;
+    for scenario in Scenario::ALL {
+        let mut coverage = Coverage::new();
+        let found = search_all(alloc, By::Code, scenario, depth, &mut coverage)?;
+        good &= found.is_none();
+        print_world(rt, alloc, scenario, &coverage, found)?;
+    }
+    Ok(good)
+}
+
+/// Carries out so many random lists in each world.
+fn report_random(rt: &impl Print, alloc: Global, lists: u32, seed: u32) -> anyhow::Result<bool> {
+    println!(rt; "{lists} random lists of {RANDOM_LENGTH} moves in each world, from seed {seed}")?;
+    let mut good = true;
+    let mut random = Pcg32::new(u64::from(seed), 0);
+    for scenario in Scenario::ALL {
+        let mut coverage = Coverage::new();
+        let found = search_random(
+            alloc,
+            By::Code,
+            scenario,
+            lists,
+            RANDOM_LENGTH,
+            &mut random,
+            &mut coverage,
+        )?;
+        good &= found.is_none();
+        print_world(rt, alloc, scenario, &coverage, found)?;
+    }
+    Ok(good)
+}
+
+/// Prints what was gone through in a world, and what was found.
+fn print_world(
+    rt: &impl Print,
+    alloc: Global,
+    scenario: Scenario,
+    coverage: &Coverage,
+    found: Option<Finding>,
+) -> anyhow::Result<()> {
+    let name = scenario.name();
+    let letters = scenario.alphabet(alloc)?.len();
+    println!(rt; "world {name}, {letters} moves")?;
+    let text = coverage.text(alloc)?;
+    print!(rt; "{text}")?;
+    match found {
+        None => println!(rt; "no counter-example")?,
+        Some(found) => print_finding(rt, alloc, &found)?,
+    }
+    Ok(())
+}
+
+/// Prints a counter-example, its script included.
+fn print_finding(rt: &impl Print, alloc: Global, found: &Finding) -> anyhow::Result<()> {
+    let breach = found.breach.name();
+    let name = found.scenario.name();
+    let text = script(alloc, found.scenario, found.moves.as_slice())?;
+    println!(rt; "counter-example in world {name}: {breach}")?;
+    print!(rt; "{text}")?;
+    Ok(())
+}
+
+/// Looks for what a planted mistake brings about, in shorter lists first. Returns it, and after how many lists it was found.
+fn find_plant(alloc: Global, plant: Plant) -> anyhow::Result<(Option<Finding>, u64)> {
+    let mut coverage = Coverage::new();
+    for depth in 1..PLANT_DEPTH + 1 {
+        for scenario in Scenario::ALL {
+            let by = By::Planted(plant);
+            let found = search_all(alloc, by, scenario, depth, &mut coverage)?;
+            if found.is_some() {
+                return Ok((found, coverage.lists));
+            }
+        }
+    }
+    Ok((None, coverage.lists))
+}
+
+/// Looks for each planted mistake.
+fn report_plants(rt: &impl Print, alloc: Global) -> anyhow::Result<bool> {
+    println!(rt; "planted mistakes")?;
+    let mut good = true;
+    for plant in Plant::ALL {
+        let (found, lists) = find_plant(alloc, plant)?;
+        let name = plant.name();
+        match found {
+            None => {
+                good = false;
+                println!(rt; "{name}: not found in {lists} lists")?;
+            }
+            Some(found) => {
+                let breach = found.breach.name();
+                let world = found.scenario.name();
+                println!(rt; "{name}: found after {lists} lists, in world {world}: {breach}")?;
+            }
+        }
+    }
+    Ok(good)
+}
+
+/// Looks for one planted mistake, and prints the counter-example.
+fn report_plant(rt: &impl Print, alloc: Global, name: &str) -> anyhow::Result<bool> {
+    let Some(plant) = Plant::named(name) else {
+        bail!("no mistake has the name {name}");
+    };
+    let (found, lists) = find_plant(alloc, plant)?;
+    match found {
+        None => {
+            println!(rt; "{name}: not found in {lists} lists")?;
+            Ok(false)
+        }
+        Some(found) => {
+            println!(rt; "{name}: found after {lists} lists")?;
+            print_finding(rt, alloc, &found)?;
+            Ok(true)
+        }
+    }
+}

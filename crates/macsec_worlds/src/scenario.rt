@@ -1,0 +1,487 @@
+//! The small worlds: from each, lists of the moves of an alphabet are tried.
+
+use crate::Move;
+use macsec_link::{An, Command, End, EndConfig, Key, Mode, NewKey, Sci, Suite, TagForm};
+use std::alloc::{AllocError, Global};
+
+/// The SCI of end A.
+pub const SCI_A: Sci = Sci([2, 0, 0, 0, 0, 1, 0, 1]);
+
+/// The SCI of end B.
+pub const SCI_B: Sci = Sci([2, 0, 0, 0, 0, 2, 0, 1]);
+
+/// The bytes of two keys.
+const BYTES: [u8; 2] = [0x2b, 0x3c];
+
+/// The last packet number of 32 bits.
+const LAST_32: u64 = 0xffff_ffff;
+
+/// A small world.
+#[derive(Clone, Copy)]
+pub enum Scenario {
+    /// Associations of both ends under two keys.
+    Numbers,
+    /// A retired key, and others with its bytes.
+    Keys,
+    /// Extended packet numbers with equal lower halves.
+    ExtendedNumbers,
+    /// Repeats, order and the window.
+    Replay,
+    /// Encrypted frames and the modes of validation.
+    Modes,
+    /// Frames that come back to their sender.
+    Reflection,
+    /// The same with extended packet numbers and without an SCI in the SecTAG.
+    ExtendedReflection,
+    /// Extended packet numbers about 2^32.
+    Recovery,
+    /// The last packet numbers of 32 bits.
+    Last,
+    /// The last extended packet numbers.
+    ExtendedLast,
+    /// The change from one association and key to the next.
+    Rollover,
+}
+
+impl Scenario {
+    /// All of them.
+    pub const ALL: [Scenario; 11] = [
+        Scenario::Numbers,
+        Scenario::Keys,
+        Scenario::ExtendedNumbers,
+        Scenario::Replay,
+        Scenario::Modes,
+        Scenario::Reflection,
+        Scenario::ExtendedReflection,
+        Scenario::Recovery,
+        Scenario::Last,
+        Scenario::ExtendedLast,
+        Scenario::Rollover,
+    ];
+
+    /// Its name.
+    pub fn name(self) -> &'static str {
+        match self {
+            Scenario::Numbers => "numbers",
+            Scenario::Keys => "keys",
+            Scenario::ExtendedNumbers => "extended-numbers",
+            Scenario::Replay => "replay",
+            Scenario::Modes => "modes",
+            Scenario::Reflection => "reflection",
+            Scenario::ExtendedReflection => "extended-reflection",
+            Scenario::Recovery => "recovery",
+            Scenario::Last => "last",
+            Scenario::ExtendedLast => "extended-last",
+            Scenario::Rollover => "rollover",
+        }
+    }
+
+    /// The suite of both ends.
+    pub fn suite(self) -> Suite {
+        match self {
+            Scenario::ExtendedNumbers
+            | Scenario::ExtendedReflection
+            | Scenario::Recovery
+            | Scenario::ExtendedLast => Suite::Xpn128,
+            _ => Suite::Gcm128,
+        }
+    }
+
+    /// The configuration of an end.
+    pub fn config(self, end: End) -> EndConfig {
+        let form = match self {
+            Scenario::ExtendedReflection => TagForm::Auto,
+            _ => TagForm::Sci,
+        };
+        EndConfig {
+            suite: self.suite(),
+            sci: sci_of(end),
+            max_frame: 1518,
+            form,
+        }
+    }
+
+    /// The packet number from which both ends of the world begin.
+    fn first(self) -> u64 {
+        match self {
+            Scenario::Recovery => LAST_32,
+            Scenario::Last => LAST_32 - 1,
+            Scenario::ExtendedLast => u64::MAX - 1,
+            _ => 1,
+        }
+    }
+
+    /// The moves before each list.
+    pub fn base(self, alloc: Global) -> Result<Vec<Move>, AllocError> {
+        let conf = matches!(self, Scenario::Modes);
+        let mut base = self.later_base(alloc)?;
+        let [tx_sa, tx_on] = sending(End::A, self.first(), conf);
+        for first in [tx_on, tx_sa, key(End::B, 0, 0), key(End::A, 0, 0)] {
+            base.insert(0, first)?;
+        }
+        Ok(base)
+    }
+
+    /// The moves before each list after those that make A a sender.
+    fn later_base(self, alloc: Global) -> Result<Vec<Move>, AllocError> {
+        match self {
+            Scenario::Numbers | Scenario::ExtendedNumbers => both_sending().to_vec(alloc),
+            Scenario::Keys => key_retired().to_vec(alloc),
+            Scenario::Reflection => both_sent().to_vec(alloc),
+            Scenario::ExtendedReflection => both_sent_to_a().to_vec(alloc),
+            Scenario::Rollover => two_associations(self.first()).to_vec(alloc),
+            _ => two_sent(self.first()).to_vec(alloc),
+        }
+    }
+
+    /// The alphabet of the lists.
+    pub fn alphabet(self, alloc: Global) -> Result<Vec<Move>, AllocError> {
+        match self {
+            Scenario::Numbers => numbers().to_vec(alloc),
+            Scenario::Keys => keys().to_vec(alloc),
+            Scenario::ExtendedNumbers => extended_numbers().to_vec(alloc),
+            Scenario::Replay => replay().to_vec(alloc),
+            Scenario::Modes => modes().to_vec(alloc),
+            Scenario::Reflection => reflection().to_vec(alloc),
+            Scenario::ExtendedReflection => extended_reflection().to_vec(alloc),
+            Scenario::Recovery => recovery().to_vec(alloc),
+            Scenario::Last => last(LAST_32).to_vec(alloc),
+            Scenario::ExtendedLast => last(u64::MAX).to_vec(alloc),
+            Scenario::Rollover => rollover().to_vec(alloc),
+        }
+    }
+}
+
+/// The SCI of an end.
+pub fn sci_of(end: End) -> Sci {
+    match end {
+        End::A => SCI_A,
+        End::B => SCI_B,
+    }
+}
+
+/// Association number 0, or 1 for the second.
+fn an(second: bool) -> An {
+    if second {
+        An::new(1).unwrap()
+    } else {
+        An::new(0).unwrap()
+    }
+}
+
+fn at_a(command: Command) -> Move {
+    Move::Command(End::A, command)
+}
+
+fn at_b(command: Command) -> Move {
+    Move::Command(End::B, command)
+}
+
+/// A key of this number at an end, with the first or the second bytes. The own SSCI of A is 1, that of B 2.
+fn key(end: End, number: u8, bytes: usize) -> Move {
+    let ssci = match end {
+        End::A => 1,
+        End::B => 2,
+    };
+    let octet = BYTES.get(bytes).copied().unwrap_or(0);
+    Move::Command(
+        end,
+        Command::Key(NewKey {
+            number,
+            bytes: Key::K128([octet; 16]),
+            salt: [0x5a; 12],
+            ssci,
+            offset: 0,
+        }),
+    )
+}
+
+/// A transmit association of A for integrity only.
+fn tx_sa(second: bool, key: u8, next: u64) -> Move {
+    at_a(Command::TxSa {
+        an: an(second),
+        key,
+        next,
+        conf: false,
+    })
+}
+
+/// An end sends under association and key 0 from this packet number on.
+fn sending(end: End, next: u64, conf: bool) -> [Move; 2] {
+    let an = an(false);
+    [
+        Move::Command(
+            end,
+            Command::TxSa {
+                an,
+                key: 0,
+                next,
+                conf,
+            },
+        ),
+        Move::Command(end, Command::TxOn(an)),
+    ]
+}
+
+/// A receive association of an end for a channel.
+fn rx_sa(end: End, sci: Sci, second: bool, key: u8, ssci: u32, lowest: u64) -> Move {
+    Move::Command(
+        end,
+        Command::RxSa {
+            sci,
+            an: an(second),
+            key,
+            ssci,
+            lowest,
+        },
+    )
+}
+
+/// Both ends send under key 0, and A has sent a frame.
+fn both_sending() -> [Move; 3] {
+    let [tx_sa, tx_on] = sending(End::B, 1, false);
+    [tx_sa, tx_on, Move::Send(End::A)]
+}
+
+/// A has sent a frame under a key that it then retires.
+fn key_retired() -> [Move; 3] {
+    [
+        Move::Send(End::A),
+        at_a(Command::TxDel(an(false))),
+        at_a(Command::Retire(0)),
+    ]
+}
+
+/// Each end has sent a frame.
+fn both_sent() -> [Move; 4] {
+    let [tx_sa, tx_on] = sending(End::B, 1, false);
+    [tx_sa, tx_on, Move::Send(End::A), Move::Send(End::B)]
+}
+
+/// The same, and A has a receive channel for B.
+fn both_sent_to_a() -> [Move; 5] {
+    let [tx_sa, tx_on, first, second] = both_sent();
+    [tx_sa, tx_on, at_a(Command::RxSc(SCI_B)), first, second]
+}
+
+/// B receives from A under association and key 0 from this packet number on, and A has sent two frames.
+fn two_sent(lowest: u64) -> [Move; 5] {
+    [
+        at_b(Command::RxSc(SCI_A)),
+        rx_sa(End::B, SCI_A, false, 0, 1, lowest),
+        at_b(Command::RxOn(SCI_A, an(false))),
+        Move::Send(End::A),
+        Move::Send(End::A),
+    ]
+}
+
+/// B receives from A under two associations and keys, of which A does not use the second yet.
+fn two_associations(lowest: u64) -> [Move; 8] {
+    [
+        at_b(Command::RxSc(SCI_A)),
+        rx_sa(End::B, SCI_A, false, 0, 1, lowest),
+        at_b(Command::RxOn(SCI_A, an(false))),
+        key(End::A, 1, 1),
+        key(End::B, 1, 1),
+        tx_sa(true, 1, 1),
+        rx_sa(End::B, SCI_A, true, 1, 1, 1),
+        at_b(Command::RxOn(SCI_A, an(true))),
+    ]
+}
+
+/// B sets its replay protection and window.
+fn window(protect: bool, window: u64) -> Move {
+    at_b(Command::Replay { protect, window })
+}
+
+fn numbers() -> [Move; 13] {
+    [
+        Move::Send(End::A),
+        Move::Send(End::B),
+        at_a(Command::TxDel(an(false))),
+        tx_sa(false, 0, 1),
+        tx_sa(true, 0, 2),
+        tx_sa(true, 1, 1),
+        tx_sa(false, 0, LAST_32),
+        at_a(Command::TxOn(an(false))),
+        at_a(Command::TxOn(an(true))),
+        at_a(Command::TxOff(an(false))),
+        key(End::A, 1, 1),
+        key(End::A, 1, 0),
+        at_a(Command::Retire(0)),
+    ]
+}
+
+fn keys() -> [Move; 10] {
+    [
+        Move::Send(End::A),
+        key(End::A, 1, 0),
+        key(End::A, 1, 1),
+        key(End::A, 2, 0),
+        tx_sa(false, 0, 2),
+        tx_sa(false, 1, 1),
+        tx_sa(true, 2, 1),
+        at_a(Command::TxOn(an(false))),
+        at_a(Command::TxOn(an(true))),
+        at_a(Command::Retire(1)),
+    ]
+}
+
+fn extended_numbers() -> [Move; 11] {
+    [
+        Move::Send(End::A),
+        Move::Send(End::B),
+        at_a(Command::TxDel(an(false))),
+        at_a(Command::TxDel(an(true))),
+        tx_sa(false, 0, 1),
+        tx_sa(true, 0, 1 << 32),
+        tx_sa(false, 0, (1 << 32) + 1),
+        tx_sa(true, 0, LAST_32),
+        tx_sa(true, 0, u64::MAX),
+        at_a(Command::TxOn(an(false))),
+        at_a(Command::TxOn(an(true))),
+    ]
+}
+
+fn replay() -> [Move; 14] {
+    [
+        Move::Deliver(End::B, 0),
+        Move::Deliver(End::B, 1),
+        Move::Deliver(End::B, 2),
+        Move::Send(End::A),
+        window(true, 0),
+        window(true, 1),
+        window(false, 0),
+        at_b(Command::RxLow {
+            sci: SCI_A,
+            an: an(false),
+            pn: 2,
+        }),
+        at_b(Command::RxDel(SCI_A, an(false))),
+        rx_sa(End::B, SCI_A, false, 0, 1, 1),
+        at_b(Command::RxOn(SCI_A, an(false))),
+        // The packet number of the first frame becomes 9.
+        Move::Alter(0, 19, 9),
+        Move::Pad(1),
+        at_b(Command::Validate(Mode::Check)),
+    ]
+}
+
+fn modes() -> [Move; 13] {
+    [
+        Move::Deliver(End::B, 0),
+        Move::Deliver(End::B, 1),
+        Move::Deliver(End::B, 2),
+        Move::Send(End::A),
+        at_b(Command::Validate(Mode::Disabled)),
+        at_b(Command::Validate(Mode::Check)),
+        at_b(Command::Validate(Mode::Strict)),
+        at_a(Command::Protect(false)),
+        at_b(Command::RxOff(SCI_A, an(false))),
+        // The destination address; the octet of TCI and AN, with C alone and with E alone; and SL.
+        Move::Alter(0, 0, 0),
+        Move::Alter(0, 14, 0x24),
+        Move::Alter(0, 14, 0x28),
+        Move::Alter(1, 15, 0x30),
+    ]
+}
+
+fn reflection() -> [Move; 13] {
+    [
+        Move::Deliver(End::A, 0),
+        Move::Deliver(End::A, 1),
+        Move::Deliver(End::B, 0),
+        Move::Send(End::A),
+        at_a(Command::RxSc(SCI_A)),
+        at_a(Command::RxSc(SCI_B)),
+        rx_sa(End::A, SCI_A, false, 0, 1, 1),
+        rx_sa(End::A, SCI_B, false, 0, 2, 1),
+        at_a(Command::RxOn(SCI_A, an(false))),
+        at_a(Command::RxOn(SCI_B, an(false))),
+        at_a(Command::RxScDel(SCI_B)),
+        at_a(Command::Validate(Mode::Check)),
+        // The SCI of the first frame becomes that of B.
+        Move::Alter(0, 25, 2),
+    ]
+}
+
+fn extended_reflection() -> [Move; 12] {
+    [
+        Move::Deliver(End::A, 0),
+        Move::Deliver(End::A, 1),
+        Move::Deliver(End::A, 2),
+        Move::Deliver(End::B, 0),
+        Move::Send(End::B),
+        rx_sa(End::A, SCI_B, false, 0, 1, 1),
+        rx_sa(End::A, SCI_B, false, 0, 2, 1),
+        at_a(Command::RxOn(SCI_B, an(false))),
+        at_a(Command::RxDel(SCI_B, an(false))),
+        at_b(Command::RxSc(SCI_A)),
+        rx_sa(End::B, SCI_A, false, 0, 1, 1),
+        at_b(Command::RxOn(SCI_A, an(false))),
+    ]
+}
+
+fn recovery() -> [Move; 13] {
+    [
+        Move::Deliver(End::B, 0),
+        Move::Deliver(End::B, 1),
+        Move::Deliver(End::B, 2),
+        Move::Send(End::A),
+        window(true, 0),
+        window(true, 1),
+        window(false, 1),
+        at_b(Command::RxLow {
+            sci: SCI_A,
+            an: an(false),
+            pn: 1 << 32,
+        }),
+        at_b(Command::RxDel(SCI_A, an(false))),
+        rx_sa(End::B, SCI_A, false, 0, 1, (1 << 31) + 1),
+        at_b(Command::RxOn(SCI_A, an(false))),
+        // The packet number of the second frame becomes 1.
+        Move::Alter(1, 19, 1),
+        at_b(Command::Validate(Mode::Check)),
+    ]
+}
+
+fn last(last: u64) -> [Move; 13] {
+    [
+        Move::Deliver(End::B, 0),
+        Move::Deliver(End::B, 1),
+        Move::Send(End::A),
+        window(true, 0),
+        window(true, 1),
+        window(false, 0),
+        at_b(Command::RxLow {
+            sci: SCI_A,
+            an: an(false),
+            pn: last,
+        }),
+        at_a(Command::TxOff(an(false))),
+        at_a(Command::TxOn(an(false))),
+        at_a(Command::TxDel(an(false))),
+        tx_sa(false, 0, last),
+        at_b(Command::RxDel(SCI_A, an(false))),
+        rx_sa(End::B, SCI_A, false, 0, 1, last),
+    ]
+}
+
+fn rollover() -> [Move; 13] {
+    [
+        Move::Send(End::A),
+        Move::Deliver(End::B, 0),
+        Move::Deliver(End::B, 1),
+        at_a(Command::TxOn(an(true))),
+        at_a(Command::TxOn(an(false))),
+        at_a(Command::TxDel(an(false))),
+        at_a(Command::Retire(0)),
+        at_b(Command::RxOff(SCI_A, an(false))),
+        at_b(Command::RxDel(SCI_A, an(true))),
+        rx_sa(End::B, SCI_A, true, 1, 1, 1),
+        at_b(Command::RxOn(SCI_A, an(true))),
+        at_b(Command::RxScDel(SCI_A)),
+        // The association number of the first frame becomes 1.
+        Move::Alter(0, 14, 0x21),
+    ]
+}

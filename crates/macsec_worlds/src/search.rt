@@ -1,0 +1,258 @@
+//! Lists of moves: all of them to a depth, and random ones past it.
+
+use crate::agreement::{agrees, logs_agree};
+use crate::coverage::Coverage;
+use crate::plain_world::{Answer, PlainWorld};
+use crate::scenario::sci_of;
+use crate::{Breach, Move, Plant, Scenario};
+use macsec_link::{End, Event, Outcome, World, WorldFault};
+use rand_core::utils::NextWord;
+use rand_pcg::Pcg32;
+use std::alloc::{AllocError, Global};
+
+/// By what lists are carried out: by the code and by the plain rule beside it, or by the plain rule alone, in which a mistake
+/// was planted.
+#[derive(Clone, Copy)]
+pub enum By {
+    Code,
+    Planted(Plant),
+}
+
+/// What was found: a breach, in which world, and the moves up to it, those of the world's beginning among them.
+#[derive(Drop)]
+pub struct Finding {
+    pub breach: Breach,
+    pub scenario: Scenario,
+    pub moves: Vec<Move>,
+}
+
+/// Both worlds as they are carried out. There is none of the code if a mistake was planted.
+#[derive(Drop)]
+struct Run {
+    alloc: Global,
+    plain: PlainWorld,
+    world: Option<World>,
+    sent: u8,
+}
+
+/// How a move went: what is wrong, and whether it changed nothing.
+#[derive(Clone, Copy)]
+struct Went {
+    breach: Option<Breach>,
+    is_idle: bool,
+}
+
+impl Run {
+    /// The beginning of a world.
+    fn new(alloc: Global, by: By, scenario: Scenario) -> anyhow::Result<Run> {
+        let a = scenario.config(End::A);
+        let b = scenario.config(End::B);
+        let (plant, world) = match by {
+            By::Code => (None, Some(World::new(alloc, a, b)?)),
+            By::Planted(plant) => (Some(plant), None),
+        };
+        Ok(Run {
+            alloc,
+            plain: PlainWorld::new(alloc, plant, a, b),
+            world,
+            sent: 0,
+        })
+    }
+
+    /// Carries out a move.
+    fn step(&mut self, done: Move, coverage: &mut Coverage) -> anyhow::Result<Went> {
+        let sender = match done {
+            Move::Send(end) => {
+                self.sent = self.sent.wrapping_add(1);
+                sci_of(end)
+            }
+            _ => sci_of(End::A),
+        };
+        let event = done.event(self.alloc, sender, self.sent.wrapping_sub(1))?;
+        let step = self.plain.step(&event)?;
+        coverage.count(&step);
+        let is_idle = matches!(step.answer, Answer::Refused(_) | Answer::Fault(_));
+        let breach = if self.agrees(&event, &step.answer) {
+            step.breach
+        } else {
+            Some(Breach::Disagreement)
+        };
+        Ok(Went { breach, is_idle })
+    }
+
+    /// Does the code say the same of an event?
+    fn agrees(&mut self, event: &Event, answer: &Answer) -> bool {
+        match &mut self.world {
+            None => true,
+            Some(world) => {
+                let result = result_of(world, event);
+                agrees(world, &self.plain, &result, answer)
+            }
+        }
+    }
+
+    /// Are the logs the same?
+    fn ends_well(&self) -> bool {
+        match &self.world {
+            None => true,
+            Some(world) => logs_agree(world, &self.plain),
+        }
+    }
+}
+
+/// What comes of an event.
+fn result_of(world: &mut World, event: &Event) -> Result<Outcome, WorldFault> {
+    world.step(event)
+}
+
+/// How a list went: the breach, or the move that changed nothing and after which it was left, with its place.
+#[derive(Clone, Copy)]
+enum Ended {
+    Well,
+    Breach(Breach, usize),
+    Idle(usize),
+}
+
+/// Carries out moves. Where idle moves are left out, a list is left at its first one: the shorter list without it is another
+/// one.
+fn run_list(
+    alloc: Global,
+    by: By,
+    scenario: Scenario,
+    moves: &[Move],
+    leaves_idle: bool,
+    coverage: &mut Coverage,
+) -> anyhow::Result<Ended> {
+    let mut run = Run::new(alloc, by, scenario)?;
+    for (place, done) in moves.iter().enumerate() {
+        let went = run.step(*done, coverage)?;
+        if let Some(breach) = went.breach {
+            return Ok(Ended::Breach(breach, place));
+        }
+        if went.is_idle && leaves_idle {
+            return Ok(Ended::Idle(place));
+        }
+    }
+    if run.ends_well() {
+        Ok(Ended::Well)
+    } else {
+        Ok(Ended::Breach(Breach::Disagreement, moves.len()))
+    }
+}
+
+/// What was found after these of the moves.
+fn found_after(
+    breach: Breach,
+    scenario: Scenario,
+    mut moves: Vec<Move>,
+    place: usize,
+) -> Option<Finding> {
+    moves.truncate(place.saturating_add(1));
+    Some(Finding {
+        breach,
+        scenario,
+        moves,
+    })
+}
+
+/// Carries out all lists of a world's alphabet of this length, and with them all shorter ones. Returns what was found first.
+pub fn search_all(
+    alloc: Global,
+    by: By,
+    scenario: Scenario,
+    depth: u32,
+    coverage: &mut Coverage,
+) -> anyhow::Result<Option<Finding>> {
+    let alphabet = scenario.alphabet(alloc)?;
+    let letters = alphabet.len() as u64;
+    let mut moves = scenario.base(alloc)?;
+    let base = moves.len();
+    let mut next = 0;
+    for number in 0..power(letters, depth) {
+        if number < next {
+            continue;
+        }
+        moves.truncate(base);
+        push_list(&mut moves, alphabet.as_slice(), depth, number)?;
+        let ended = run_list(alloc, by, scenario, moves.as_slice(), true, coverage)?;
+        let left = match ended {
+            Ended::Well => 0,
+            Ended::Idle(place) => moves.len().saturating_sub(place).saturating_sub(1),
+            Ended::Breach(breach, place) => {
+                coverage.count_list(1);
+                return Ok(found_after(breach, scenario, moves, place));
+            }
+        };
+        // The lists that begin as this one did, up to the move that changed nothing.
+        let alike = power(letters, u32::try_from(left).unwrap_or(depth));
+        coverage.count_list(alike);
+        next = number.saturating_add(alike);
+    }
+    Ok(None)
+}
+
+/// So many letters to this power, or the greatest number.
+fn power(letters: u64, exponent: u32) -> u64 {
+    letters.checked_pow(exponent).unwrap_or(u64::MAX)
+}
+
+/// Adds the list of this number: its digits in the number system of so many letters.
+fn push_list(
+    moves: &mut Vec<Move>,
+    alphabet: &[Move],
+    depth: u32,
+    number: u64,
+) -> Result<(), AllocError> {
+    let letters = alphabet.len() as u64;
+    for place in 0..depth {
+        let lower = power(letters, depth - place - 1);
+        if lower == 0 || letters == 0 {
+            return Ok(());
+        }
+        if let Some(letter) = alphabet.get((number / lower % letters) as usize) {
+            moves.push(*letter)?;
+        }
+    }
+    Ok(())
+}
+
+/// Carries out so many random lists of so many moves of a world's alphabet, at random link frames. Returns what was found first.
+pub fn search_random(
+    alloc: Global,
+    by: By,
+    scenario: Scenario,
+    lists: u32,
+    length: u32,
+    random: &mut Pcg32,
+    coverage: &mut Coverage,
+) -> anyhow::Result<Option<Finding>> {
+    let alphabet = scenario.alphabet(alloc)?;
+    let mut moves = scenario.base(alloc)?;
+    let base = moves.len();
+    for _ in 0..lists {
+        moves.truncate(base);
+        for _ in 0..length {
+            if let Some(letter) = random_move(alphabet.as_slice(), random) {
+                moves.push(letter)?;
+            }
+        }
+        let ended = run_list(alloc, by, scenario, moves.as_slice(), false, coverage)?;
+        coverage.count_list(1);
+        if let Ended::Breach(breach, place) = ended {
+            return Ok(found_after(breach, scenario, moves, place));
+        }
+    }
+    Ok(None)
+}
+
+/// A random letter; half of those at a link frame are at a random one of the first eight.
+fn random_move(alphabet: &[Move], random: &mut Pcg32) -> Option<Move> {
+    let word = random.next_word() as usize;
+    let letter = alphabet.get(word.checked_rem(alphabet.len())?)?;
+    let number = random.next_word();
+    if number % 2 == 0 {
+        Some(*letter)
+    } else {
+        Some(letter.at_frame(number / 2 % 8))
+    }
+}
