@@ -1,12 +1,10 @@
 //! The rows of a test are runs: the configuration, the capture file in hex, and what is wanted: the output file in hex,
 //! in which a question mark is any digit, the text, and the name of the fault. All are in pieces that are joined.
 
-mod devices;
 mod named;
 
 use macsec_capture::{CaptureFault, Direction, run_capture};
 use std::alloc::{AllocError, Global};
-use std::io::{Read, Write};
 use std::test::Fail;
 
 /// A run, in pieces: direction, configuration, input in hex, output in hex, text, fault.
@@ -78,14 +76,8 @@ pub fn octets(alloc: Global, pieces: &[&str]) -> Result<Vec<u8>, Fail> {
 }
 
 /// How a run ends: the name of its fault, or nothing.
-pub fn ended<C: Read, R: Read, W: Write, T: Write>(
-    alloc: Global,
-    direction: Direction,
-    files: (&mut C, &mut R, &mut W),
-    text: &mut T,
-) -> &'static str {
-    let (config, input, output) = files;
-    match run_capture(alloc, direction, config, input, output, text) {
+fn ended(done: Result<(), CaptureFault>) -> &'static str {
+    match done {
         Ok(()) => "",
         Err(CaptureFault::Script(fault)) => fault.name(),
         Err(CaptureFault::Pcap(fault)) => fault.name(),
@@ -111,9 +103,17 @@ struct Run {
 
 /// Runs a capture.
 fn outcome(alloc: Global, direction: Direction, config: &str, input: &[u8]) -> Run {
-    let (mut output, mut text) = (Vec::new(alloc), Vec::new(alloc));
-    let files = (&mut config.as_bytes(), &mut &input[..], &mut output);
-    let fault = ended(alloc, direction, files, &mut text);
+    let mut output = Vec::new(alloc);
+    let mut text = Vec::new(alloc);
+    let (mut config, mut input) = (config.as_bytes(), input);
+    let fault = ended(run_capture(
+        alloc,
+        direction,
+        &mut config,
+        &mut input,
+        &mut output,
+        &mut text,
+    ));
     Run {
         output,
         text,

@@ -1,8 +1,6 @@
 //! A file is given as hex, and what a reader returns as one text: the unit of the times, then what the calls of `next`
 //! return, one after another.
 
-mod devices;
-
 use macsec_pcap::{Body, PcapFault, PcapReader, PcapWriter, Record, Resolution};
 use std::alloc::{AllocError, Global};
 use std::fmt::Write;

@@ -8,10 +8,15 @@ ghost use Rattle.macsec_program.specs.declared.failures.Failure.TheVariants.{Scr
 ghost use Rattle.macsec_lines.specs.declared.faults.ScriptFault.TheVariants.{Memory};
 ghost use Rattle.macsec_program.specs.Failures.{failure_text, failure_status, told_text, told_status};
 
+use arrayvec::ArrayVec;
 use macsec_lines::ScriptFault;
 use macsec_pcap::PcapFault;
 use std::io::{self, Write};
 use thiserror::Error;
+
+/// The octets of the longest line that is written at once: that of a path of 4,096 octets fits, and no system opens a
+/// longer one.
+const LINE_ROOM: usize = 4352;
 
 /// Why a program that runs a script or a capture does not end well.
 #[derive(Clone, Copy, Debug, Error)]
@@ -43,6 +48,18 @@ impl Failure<'_> {
                 let name = fault.name();
                 writeln!(writer, "macsec: pcap {name}")
             }
+        }
+    }
+
+    /// Writes the one line of the failure with one call, without memory; in pieces if it is that of a longer path than
+    /// there is room for.
+    fn tell_at_once<W: Write>(self, writer: &mut W) -> io::Result<()>
+        ensures { OnOk result (Appends (W.contents writer.old) (W.contents writer.new) (failure_text self.entry)) }
+    {
+        let mut line: ArrayVec<u8, LINE_ROOM> = ArrayVec::new();
+        match self.tell(&mut line) {
+            Ok(()) => writer.write_all(line.as_slice()),
+            Err(_) => self.tell(writer),
         }
     }
 
@@ -78,6 +95,6 @@ pub fn tell<W: Write>(writer: &mut W, ended: Result<(), Failure<'_>>) -> (u8, io
 {
     match ended {
         Ok(()) => (0, Ok(())),
-        Err(failure) => (failure.status(), failure.tell(writer)),
+        Err(failure) => (failure.status(), failure.tell_at_once(writer)),
     }
 }

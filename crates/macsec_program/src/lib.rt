@@ -5,6 +5,7 @@
 mod captures;
 mod failures;
 mod scripts;
+mod streams;
 
 pub use captures::{CapturePaths, capture_named};
 pub use failures::{Failure, failure_of_words, tell};
@@ -12,3 +13,4 @@ pub use macsec_capture::Direction;
 pub use macsec_lines::ScriptFault;
 pub use macsec_pcap::PcapFault;
 pub use scripts::run_named;
+pub use streams::{StandIns, open_stand_ins};

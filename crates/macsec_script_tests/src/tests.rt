@@ -1,15 +1,13 @@
-//! What scripts print is compared by `macsec_examples`. Here are scripts at fault, readers and writers that fail,
-//! what is told of a failure, and what no script shows.
+//! What scripts print is compared by `macsec_examples`. Here are scripts at fault, what is told of a failure, and what no
+//! script shows. Readers and writers that fail are in `macsec_failures_tests`.
 
 mod counters;
-mod devices;
 mod failures;
 mod faults;
 
 use macsec_program::{Failure, tell};
 use macsec_script::{ScriptFault, run_script};
 use std::alloc::Global;
-use std::io::{Read, Write};
 use std::process::Abort;
 
 /// A script without a fault.
@@ -23,12 +21,9 @@ fn text() -> &'static str {
 }
 
 /// How the run of a script ends.
-fn end_of<R: Read, W: Write>(
-    alloc: Global,
-    reader: &mut R,
-    writer: &mut W,
-) -> Result<(), ScriptFault> {
-    run_script(alloc, reader, writer)
+fn end_of(alloc: Global, script: &str, text: &mut Vec<u8>) -> Result<(), ScriptFault> {
+    let mut reader = script.as_bytes();
+    run_script(alloc, &mut reader, text)
 }
 
 /// What standard error gets of a failure, and the status.
@@ -42,7 +37,7 @@ fn assert_told(rt: &(impl Abort + AllocGlobal), failure: Failure<'_>, wanted: &s
 /// A script prints nothing; its fault, if one is wanted, is told.
 fn assert_ends(rt: &(impl Abort + AllocGlobal), script: &str, wanted: Option<&str>) {
     let mut text = Vec::new(rt.alloc());
-    let done = end_of(rt.alloc(), &mut script.as_bytes(), &mut text);
+    let done = end_of(rt.alloc(), script, &mut text);
     assert!(rt; text.is_empty());
     match (done, wanted) {
         (Ok(()), None) => {}

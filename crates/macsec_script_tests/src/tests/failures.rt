@@ -1,12 +1,10 @@
 //! How a program that runs a script ends, and what it tells of that.
 
-use super::devices::FailingWriter;
 use super::{assert_told, script, text};
 use macsec_program::{Failure, PcapFault, failure_of_words, run_named, tell};
 use macsec_script::ScriptFault;
-use std::fs;
-use std::io::{self, Write};
 use std::test::Fail;
+use std::{fs, io};
 
 /// Out of memory is not returned as invalid arguments.
 #[test]
@@ -56,12 +54,7 @@ const DROPPED: (&str, &str) = (
 
 /// How the run of a named script ends, where standard input has the script `script`; what it printed, and how
 /// many octets of standard input it left.
-fn ended<W: Write>(
-    rt: &HostRuntime,
-    name: &str,
-    script: &str,
-    output: &mut W,
-) -> (u8, Vec<u8>, usize) {
+fn ended(rt: &HostRuntime, name: &str, script: &str, output: &mut Vec<u8>) -> (u8, Vec<u8>, usize) {
     let mut input = script.as_bytes();
     let mut told = Vec::new(rt.alloc());
     let (status, _) = tell(
@@ -99,21 +92,4 @@ fn named_scripts(rt: HostRuntime) -> Result<(), Fail> {
     }
     fs::remove_file(&rt, "drops")?;
     Ok(())
-}
-
-/// A flush that fails is told, but not in place of the run's own fault.
-#[test]
-fn flushes_that_fail(rt: HostRuntime) {
-    for (script, status, told) in [
-        (script(), 1, "macsec: Write\n"),
-        ("frob\n", 2, "macsec: line 1: Word\n"),
-    ] {
-        let mut output = FailingWriter {
-            left: 100,
-            flush_fails: true,
-        };
-        let (found, line, _) = ended(&rt, "-", script, &mut output);
-        assert_eq!(rt; found, status);
-        assert_eq!(rt; line.as_slice(), told.as_bytes());
-    }
 }

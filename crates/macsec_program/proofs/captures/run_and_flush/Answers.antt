@@ -1,7 +1,5 @@
 -- The run's own clauses, carried over the two flushes.
-use Rattle.std.proofs.Common.{◌≡◌}
 use Rattle.macsec_capture.specs.Captured.{captured}
-use Rattle.macsec_capture.specs.Runs.{CaptureGives, LeavesBoth}
 use Rattle.macsec_program.proofs.Flushed.{flushed, unwritten}
 use Rattle.macsec_program.proofs.captures.run_and_flush.Goals as goal
 

@@ -1,0 +1,35 @@
+//! Readers and writers over memory that fail when they are told to, for tests of those that read and write.
+#![tactic(auto)]
+
+mod reader;
+mod writer;
+
+ghost use Rattle.std.specs.Prelude.{◌≡◌};
+ghost use Rattle.macsec_devices.specs.Calls.{fails_at};
+
+pub use reader::FailingReader;
+pub use writer::FailingWriter;
+
+/// Which calls of a device fail. Calls are numbered from 0.
+#[derive(Clone, Copy, Debug)]
+pub enum Fails {
+    /// None.
+    Never,
+    /// The one of this number, and no other.
+    At(usize),
+    /// Those from this number on.
+    From(usize),
+}
+
+impl Fails {
+    /// Does the call of this number fail?
+    pub fn fails_at(self, call: usize) -> bool
+        ensures { result ≡ fails_at self call }
+    {
+        match self {
+            Fails::Never => false,
+            Fails::At(number) => call == number,
+            Fails::From(number) => call >= number,
+        }
+    }
+}

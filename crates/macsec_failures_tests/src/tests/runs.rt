@@ -1,0 +1,162 @@
+//! Runs of scripts and captures of which one device fails.
+
+use super::{CONFIG, SCRIPT, SCRIPT_TEXT, capture_file};
+use macsec_capture::{CaptureFault, Direction, run_capture};
+use macsec_devices::{FailingReader, FailingWriter, Fails};
+use macsec_script::{ScriptFault, run_script};
+use std::alloc::Global;
+use std::test::Fail;
+
+/// The devices of a script and of a capture.
+#[derive(Clone, Copy, Debug, PartialEq, Eq)]
+enum Place {
+    Script,
+    ScriptText,
+    Config,
+    Input,
+    Output,
+    Text,
+}
+
+/// What each answers if it fails: for what, and the name.
+const ANSWERS: [(Place, &str, &str); 6] = [
+    (Place::Script, "script", "Read"),
+    (Place::ScriptText, "script", "Write"),
+    (Place::Config, "script", "Read"),
+    (Place::Input, "pcap", "Read"),
+    (Place::Output, "pcap", "Write"),
+    (Place::Text, "script", "Write"),
+];
+
+/// What a run answers, how often its device was called, before it failed or ended and after, and what was written: to the
+/// output, and to the text.
+#[derive(Drop)]
+struct Run {
+    of: &'static str,
+    name: &'static str,
+    calls: usize,
+    calls_after: usize,
+    output: FailingWriter,
+    text: FailingWriter,
+}
+
+/// When a device fails, if the one of this place does.
+fn if_at(place: Place, other: Place, fails: Fails) -> Fails {
+    if place == other { fails } else { Fails::Never }
+}
+
+/// What a script answers.
+fn of_script(done: Result<(), ScriptFault>) -> (&'static str, &'static str) {
+    match done {
+        Ok(()) => ("", ""),
+        Err(fault) => ("script", fault.name()),
+    }
+}
+
+/// What a capture answers.
+fn of_capture(done: Result<(), CaptureFault>) -> (&'static str, &'static str) {
+    match done {
+        Ok(()) => ("", ""),
+        Err(CaptureFault::Script(fault)) => ("script", fault.name()),
+        Err(CaptureFault::Pcap(fault)) => ("pcap", fault.name()),
+    }
+}
+
+/// A run of the script.
+fn script_run(alloc: Global, place: Place, fails: Fails) -> Run {
+    let output = FailingWriter::new(alloc, Fails::Never, false);
+    let mut reader = FailingReader::new(SCRIPT.as_bytes(), 16, if_at(place, Place::Script, fails));
+    let mut text = FailingWriter::new(alloc, if_at(place, Place::ScriptText, fails), false);
+    let (of, name) = of_script(run_script(alloc, &mut reader, &mut text));
+    let (calls, calls_after) = match place {
+        Place::Script => (reader.calls(), reader.calls_after()),
+        _ => (text.calls(), text.calls_after()),
+    };
+    Run {
+        of,
+        name,
+        calls,
+        calls_after,
+        output,
+        text,
+    }
+}
+
+/// A run of the capture.
+fn capture_run(alloc: Global, file: &[u8], place: Place, fails: Fails) -> Run {
+    let fails_of = |other: Place| if_at(place, other, fails);
+    let mut config = FailingReader::new(CONFIG.as_bytes(), 16, fails_of(Place::Config));
+    let mut input = FailingReader::new(file, 16, fails_of(Place::Input));
+    let mut output = FailingWriter::new(alloc, fails_of(Place::Output), false);
+    let mut text = FailingWriter::new(alloc, fails_of(Place::Text), false);
+    let (of, name) = of_capture(run_capture(
+        alloc,
+        Direction::Protect,
+        &mut config,
+        &mut input,
+        &mut output,
+        &mut text,
+    ));
+    let (calls, calls_after) = match place {
+        Place::Config => (config.calls(), config.calls_after()),
+        Place::Input => (input.calls(), input.calls_after()),
+        Place::Output => (output.calls(), output.calls_after()),
+        _ => (text.calls(), text.calls_after()),
+    };
+    Run {
+        of,
+        name,
+        calls,
+        calls_after,
+        output,
+        text,
+    }
+}
+
+/// A run of which the device of this place fails.
+fn run_of(alloc: Global, file: &[u8], place: Place, fails: Fails) -> Run {
+    match place {
+        Place::Script | Place::ScriptText => script_run(alloc, place, fails),
+        _ => capture_run(alloc, file, place, fails),
+    }
+}
+
+/// Whichever call of one device fails, alone or with all after it, the run ends with the answer of that device, which is
+/// not called again. Nothing was written of a script or a configuration that can't be read; else what was written begins
+/// what a run without failures writes.
+#[test]
+fn devices_that_fail(rt: HostRuntime) -> Result<(), Fail> {
+    let alloc = rt.alloc();
+    let file = capture_file(alloc)?;
+    for (place, of, name) in ANSWERS {
+        let whole = run_of(alloc, file.as_slice(), place, Fails::Never);
+        assert_eq!(&rt; (whole.of, whole.name), ("", ""), "{place:?}");
+        if place == Place::Script {
+            assert_eq!(&rt; whole.text.written(), SCRIPT_TEXT.as_bytes());
+        }
+        // A reader's last call is the one that gives nothing.
+        for at in 0..whole.calls {
+            for fails in [Fails::At(at), Fails::From(at)] {
+                let found = run_of(alloc, file.as_slice(), place, fails);
+                assert_eq!(&rt; (found.of, found.name), (of, name), "{place:?} at {at}");
+                assert_eq!(&rt;
+                    (found.calls, found.calls_after),
+                    (at + 1, 0),
+                    "{place:?} at {at}"
+                );
+                let (output, text) = (found.output.written(), found.text.written());
+                assert!(&rt;
+                    whole.output.written().starts_with(output),
+                    "{place:?} at {at}"
+                );
+                assert!(&rt; whole.text.written().starts_with(text), "{place:?} at {at}");
+                if place == Place::Script || place == Place::Config {
+                    assert!(&rt; output.is_empty() && text.is_empty(), "{place:?} at {at}");
+                }
+            }
+        }
+        let met_none = run_of(alloc, file.as_slice(), place, Fails::At(whole.calls));
+        assert_eq!(&rt; (met_none.of, met_none.name), ("", ""), "{place:?}");
+    }
+    Ok(())
+}
