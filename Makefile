@@ -1,9 +1,18 @@
-# `make` builds the proved program as build/macsec, `make run` runs it on the tour,
-# `make check` is the gate, and `make bench` measures the cipher and scripts.
+# make               proves and builds the program, build/macsec
+# make run           runs it on the tour
+# make check         the gate
+# make bench         measures the cipher, frames, scripts and a full link
+# make search        looks for counter-examples to what is promised of two ends and their link
+# make fuzz          gives mutated inputs to the program as both compilers build it
+# make failures      makes files and streams fail, and lists the calls that take memory
+# make peer          compares frames with Scapy's, which has to be installed
+# make kept-frames   sees that callers which keep a frame over the next call are refused
 RT := $(shell command -v rt 2>/dev/null)
 SOURCES := crates.txt $(shell find crates -name out -prune -o -type f \( -name '*.rt' -o -name '*.antt' \) -print)
+INPUTS := 100000
+SEED := 1
 
-.PHONY: all run check bench toolchain clean
+.PHONY: all run check bench search fuzz failures peer kept-frames toolchain clean
 
 all: build/macsec
 
@@ -16,12 +25,33 @@ check: toolchain
 bench: toolchain
 	cd crates/macsec_bench && rt run -- measure
 
+search: toolchain
+	cd crates/macsec_search && rt run -- 5
+	cd crates/macsec_search && rt run -- --random 100000 --seed 1
+
+fuzz: build/macsec build/macsec-rattle
+	python3 fuzz/fuzz.py --inputs $(INPUTS) --seed $(SEED)
+
+failures: build/macsec
+	tools/failures
+
+peer: build/macsec
+	tools/peer
+
+kept-frames: toolchain
+	tools/kept-frames
+
 # The program is built once it is proved; here it is run on an empty script, which prints nothing.
 build/macsec: $(SOURCES) | toolchain
 	@echo "proving and building build/macsec, which takes some minutes the first time" >&2
 	@cd crates/macsec_cli && rt run -- run - < /dev/null >&2
 	@mkdir -p build
 	@cp crates/macsec_cli/out/macsec_cli build/macsec
+
+# The program as Rattle's own compiler builds it.
+build/macsec-rattle: $(SOURCES) | toolchain build/macsec
+	@cd crates/macsec_cli && rt run --backend rattle -- run - < /dev/null >&2
+	@cp crates/macsec_cli/out/macsec_cli build/macsec-rattle
 
 toolchain:
 ifeq ($(RT),)
