@@ -1,5 +1,5 @@
 -- A text cut into pieces of 256 octets, of which the last may be shorter.
-use Rattle.std.proofs.Common.{◌≡◌, ℕ, ◌+◌, ◌-◌, ◌*◌, ◌≤◌, List, [], ◌++◌, length, take, drop, min, ap, sym, ◌∙◌, arith}
+use Rattle.std.proofs.Common.{◌≡◌, ℕ, ◌+◌, ◌-◌, ◌*◌, ◌≤◌, List, [], ◌++◌, length, take, drop, min, refl, subst, ap, sym, ◌∙◌, arith}
 use Rattle.std.proofs.Math.Seq.{take-add}
 use Rattle.std.proofs.lemmas.List.{drop-drop, take_all}
 use Rattle.std.proofs.lemmas.Slice.{take-put_mid, drop-put_mid}
@@ -30,10 +30,10 @@ one_more text i e before end =
 pub all_pieces : (text : List ℕ) (i : ℕ) → length text ≤ 256 * i → pieces text i ≡ text
 all_pieces text i behind = take_all (end_of text i) text (omega (arith, behind))
 
--- ---- the text after the next piece was written
+-- ---- a text whose pieces are written in their place, one after another
 
 -- what was written stands after the pieces before it
-pub one_written : (text new : List ℕ) (written : List ℕ) (i e : ℕ) → length new ≡ length text → 256 * i ≤ length text → e ≡ min (length text) (256 * i + 256) → length written ≡ e - 256 * i
+one_written : (text new : List ℕ) (written : List ℕ) (i e : ℕ) → length new ≡ length text → 256 * i ≤ length text → e ≡ min (length text) (256 * i + 256) → length written ≡ e - 256 * i
     → take (end_of text (i + 1)) (put_mid (256 * i) (e - 256 * i) new written) ≡ take (end_of text i) new ++ written
 one_written text new written i e same before end long =
     let first : 256 * i ≡ end_of text i = omega (arith, before) in
@@ -41,7 +41,7 @@ one_written text new written i e same before end long =
     ∙ ap (λ (n : ℕ). take n new ++ written) first
 
 -- and the octets behind it stay
-pub rest_stays : (text new : List ℕ) (written : List ℕ) (i e : ℕ) → length new ≡ length text → 256 * i ≤ length text → e ≡ min (length text) (256 * i + 256) → length written ≡ e - 256 * i
+rest_stays : (text new : List ℕ) (written : List ℕ) (i e : ℕ) → length new ≡ length text → 256 * i ≤ length text → e ≡ min (length text) (256 * i + 256) → length written ≡ e - 256 * i
     → drop (end_of text i) new ≡ drop (end_of text i) text
     → drop (end_of text (i + 1)) (put_mid (256 * i) (e - 256 * i) new written) ≡ drop (end_of text (i + 1)) text
 rest_stays text new written i e same before end long held =
@@ -51,8 +51,42 @@ rest_stays text new written i e same before end long held =
     ∙ ap (λ (n : ℕ). drop n new) (sym next) ∙ sym (drop-drop w (end_of text i) new) ∙ ap (drop w) held ∙ drop-drop w (end_of text i) text ∙ ap (λ (n : ℕ). drop n text) next
 
 -- so the next piece is as it was before
-pub next_piece : (text new : List ℕ) (i e : ℕ) → 256 * i ≤ length text → drop (end_of text i) new ≡ drop (end_of text i) text
+next_piece : (text new : List ℕ) (i e : ℕ) → 256 * i ≤ length text → drop (end_of text i) new ≡ drop (end_of text i) text
     → take (e - 256 * i) (drop (256 * i) new) ≡ take (e - 256 * i) (drop (256 * i) text)
 next_piece text new i e before held =
     let first : end_of text i ≡ 256 * i = omega (arith, before) in
     ap (take (e - 256 * i)) (ap (λ (n : ℕ). drop n new) (sym first) ∙ held ∙ ap (λ (n : ℕ). drop n text) first)
+
+-- a state has taken in the first i pieces, what f gives for them stands in their place, and what follows them is as it was
+pub record AreWritten (Has : List ℕ → Type 0) (f : List ℕ → List ℕ) (text new : List ℕ) (i : ℕ) : Type 0 where
+  pub taken : Has (pieces text i)
+  pub done : take (end_of text i) new ≡ f (pieces text i)
+  pub rest : drop (end_of text i) new ≡ drop (end_of text i) text
+
+pub none_written : (Has : List ℕ → Type 0) (f : List ℕ → List ℕ) (text : List ℕ) → f [] ≡ [] → Has [] → AreWritten Has f text text 0
+none_written Has f text empty taken = record {
+  taken = subst Has (sym (no_piece text)) taken;
+  done = no_piece text ∙ sym (ap f (no_piece text) ∙ empty);
+  rest = refl;
+}
+
+-- the state after a piece has taken it in too, and what f gives for it was written
+pub one_more_written : (Has After : List ℕ → Type 0) (f : List ℕ → List ℕ) (text new written : List ℕ) (i e : ℕ)
+    → length new ≡ length text → 256 * i ≤ length text → e ≡ min (length text) (256 * i + 256) → length written ≡ e - 256 * i
+    → ((before : List ℕ) → Has before → let more = before ++ take (e - 256 * i) (drop (256 * i) new) in After more × (f more ≡ f before ++ written))
+    → AreWritten Has f text new i → AreWritten After f text (put_mid (256 * i) (e - 256 * i) new written) (i + 1)
+one_more_written Has After f text new written i e same before end long takes are =
+    let more : pieces text i ++ take (e - 256 * i) (drop (256 * i) new) ≡ pieces text (i + 1) =
+    ap (◌++◌ (pieces text i)) (next_piece text new i e before are.rest) ∙ one_more text i e before end in
+    let it = takes (pieces text i) are.taken in
+    record {
+      taken = subst After more it.0;
+      done = one_written text new written i e same before end long ∙ ap (λ (p : List ℕ). p ++ written) are.done ∙ sym it.1 ∙ ap f more;
+      rest = rest_stays text new written i e same before end long are.rest;
+    }
+
+pub all_written : (Has : List ℕ → Type 0) (f : List ℕ → List ℕ) (text new : List ℕ) (i : ℕ) → length new ≡ length text → length text ≤ 256 * i
+    → AreWritten Has f text new i → Has text × (new ≡ f text)
+all_written Has f text new i same behind are =
+    let all : pieces text i ≡ text = all_pieces text i behind in
+    (subst Has all are.taken, sym (take_all (end_of text i) new (omega (arith, same, behind))) ∙ are.done ∙ ap f all)

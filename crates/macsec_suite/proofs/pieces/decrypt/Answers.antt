@@ -1,8 +1,7 @@
-use Rattle.std.proofs.Common.{◌≡◌, ℕ, ◌+◌, ◌-◌, ◌*◌, ◌≤◌, List, [], ◌++◌, length, min, take, drop, refl, subst, sym, ap, ◌∙◌, arith}
-use Rattle.std.proofs.lemmas.List.{take_all}
+use Rattle.std.proofs.Common.{◌≡◌, ℕ, List, [], refl, arith}
 use Rattle.macsec_gcm.specs.Gcm.{gctr}
 use Rattle.macsec_gcm.specs.Pieces.{HasOpened, decrypted}
-use Rattle.macsec_suite.proofs.Cuts.{all_pieces, end_of, next_piece, no_piece, one_more, one_written, pieces, rest_stays}
+use Rattle.macsec_suite.proofs.Cuts.{all_written, none_written, one_more_written}
 use Rattle.macsec_suite.proofs.pieces.decrypt.Goals as goal
 
 nothing : (key iv : List ℕ) → decrypted key iv [] ≡ []
@@ -10,39 +9,13 @@ unfolding gctr
 nothing key iv = refl
 
 pub loop-i-init : goal.loop-i-init
-loop-i-init c =
-    let text : List ℕ = c.args.text.now in
-    record {
-      opened = λ key iv none. subst (λ (p : List ℕ). HasOpened c.args.unlocked.now key iv p) (sym (no_piece text)) none;
-      done = λ key iv none. no_piece text ∙ sym (ap (decrypted key iv) (no_piece text) ∙ nothing key iv);
-      rest = refl;
-    }
+loop-i-init c = λ key iv. none_written (HasOpened c.args.unlocked.now key iv) (decrypted key iv) c.args.text.now (nothing key iv)
 
 pub loop-i-preserved : goal.loop-i-preserved
-loop-i-preserved c =
-    let text : List ℕ = c.args.text.now in
-    let new : List ℕ = c.loop-i.text in
-    let i : ℕ = c.loop-i.i in
-    let e : ℕ = c.min-end.result in
-    let same : length new ≡ length text = c.loop-i.auto.text in
-    let before : 256 * i ≤ length text = omega arith in
-    let end : e ≡ min (length text) (256 * i + 256) = omega arith in
-    let long : length c.data.new.piece ≡ e - 256 * i = omega arith in
-    let piece : List ℕ = take (e - 256 * i) (drop (256 * i) new) in
-    let more : pieces text i ++ piece ≡ pieces text (i + 1) = ap (λ (p : List ℕ). pieces text i ++ p) (next_piece text new i e before c.loop-i.invariant.rest) ∙ one_more text i e before end in
-    record {
-      opened = λ key iv none. subst (λ (p : List ℕ). HasOpened c.data.new.self key iv p) more
-          (c.data.ensures key iv (pieces text i) (c.loop-i.invariant.opened key iv none)).0;
-      done = λ key iv none. one_written text new c.data.new.piece i e same before end long
-          ∙ ap (λ (p : List ℕ). p ++ c.data.new.piece) (c.loop-i.invariant.done key iv none)
-          ∙ sym (c.data.ensures key iv (pieces text i) (c.loop-i.invariant.opened key iv none)).1
-          ∙ ap (decrypted key iv) more;
-      rest = rest_stays text new c.data.new.piece i e same before end long c.loop-i.invariant.rest;
-    }
+loop-i-preserved c = λ key iv none.
+    one_more_written (HasOpened c.loop-i.unlocked key iv) (HasOpened c.data.new.self key iv) (decrypted key iv) c.args.text.now c.loop-i.text c.data.new.piece c.loop-i.i c.min-end.result
+    c.loop-i.auto.text (omega arith) (omega arith) (omega arith) (c.data.ensures key iv) (c.loop-i.invariant key iv none)
 
 pub returns : goal.returns
-returns c =
-    let text : List ℕ = c.args.text.now in
-    let i : ℕ = c.loop-i.i in
-    let all : pieces text i ≡ text = all_pieces text i (omega arith) in
-    λ key iv none. sym (take_all (end_of text i) c.loop-i.text (omega arith)) ∙ c.loop-i.invariant.done key iv none ∙ ap (decrypted key iv) all
+returns c = λ key iv none.
+    (all_written (HasOpened c.loop-i.unlocked key iv) (decrypted key iv) c.args.text.now c.loop-i.text c.loop-i.i c.loop-i.auto.text (omega arith) (c.loop-i.invariant key iv none)).1

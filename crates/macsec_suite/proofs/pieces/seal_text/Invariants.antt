@@ -1,14 +1,13 @@
-use Rattle.std.proofs.Common.{◌≡◌, ℕ, List, [], take, drop}
+use Rattle.std.proofs.Common.{ℕ, List, []}
 use Rattle.macsec_gcm.specs.Gcm.{seal_of}
 use Rattle.macsec_gcm.specs.Pieces.{HasSealed}
-use Rattle.macsec_suite.proofs.Cuts.{end_of, pieces}
+use Rattle.macsec_suite.proofs.Cuts.{AreWritten}
 use Rattle.macsec_suite.proofs.pieces.seal_text.Given as goal
 
--- the first i pieces were sealed, and their ciphertext stands in their place; what follows them is as it was
+abbrev pub ciphertext : List ℕ → List ℕ → List ℕ → List ℕ → List ℕ
+ciphertext key iv aad text = (seal_of key iv aad text).0
+
+-- the first i pieces were sealed
 abbrev pub invariant-loop-i : goal.invariant-loop-i
-invariant-loop-i l = record {
-  sealed : (key iv aad : List ℕ) → HasSealed l.initial.sealer key iv aad [] → HasSealed l.sealer key iv aad (pieces l.initial.text l.i);
-  done : (key iv aad : List ℕ) → HasSealed l.initial.sealer key iv aad []
-      → take (end_of l.initial.text l.i) l.text ≡ (seal_of key iv aad (pieces l.initial.text l.i)).0;
-  rest : drop (end_of l.initial.text l.i) l.text ≡ drop (end_of l.initial.text l.i) l.initial.text;
-}
+invariant-loop-i l = (key iv aad : List ℕ) → HasSealed l.initial.sealer key iv aad []
+    → AreWritten (HasSealed l.sealer key iv aad) (ciphertext key iv aad) l.initial.text l.text l.i
