@@ -1,7 +1,7 @@
 //! Laws of the product of two blocks and of its two steps, of their definitions alone: they are the contracts of functions
 //! with empty bodies.
 
-ghost use Rattle.macsec_field128.specs.Carryless.{CarrylessAddsInFirst, CarrylessAddsInSecond, CarrylessMovesWithFirst, CarrylessMovesWithSecond, CarrylessOfOne, ProductIsResidue, ResidueAdds};
+ghost use Rattle.macsec_field128.specs.Carryless.{CarrylessLaws, ProductIsResidue, ResidueAdds};
 ghost use Rattle.macsec_field128.specs.Laws.{AddsInFirst, AddsInSecond, Associates, ProductIsBlock};
 
 /// The product with a sum is the sum of the products, in either place.
@@ -20,17 +20,10 @@ pub fn product_associates()
     ensures { Associates }
 {}
 
-/// The product without carries keeps sums in both places.
-pub fn carryless_adds()
-    ensures first { CarrylessAddsInFirst }
-    ensures second { CarrylessAddsInSecond }
-{}
-
-/// The product without carries with 1, and those of numbers that are moved left.
-pub fn carryless_moves()
-    ensures one { CarrylessOfOne }
-    ensures first { CarrylessMovesWithFirst }
-    ensures second { CarrylessMovesWithSecond }
+/// The product without carries keeps sums in both places, and moves with numbers that are moved left; with 1 it is the
+/// other number.
+pub fn carryless_laws()
+    ensures { CarrylessLaws }
 {}
 
 /// The residue of a sum is the sum of the residues.

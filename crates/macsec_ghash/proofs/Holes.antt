@@ -4,18 +4,10 @@ use Rattle.std.proofs.Common.{◌≡◌, ℕ, zero, suc, ◌+◌, ◌*◌, ◌/�
 use Rattle.std.specs.Int.Bits.{xor_self}
 use Rattle.std.proofs.Math.Nat.{add-mul, mul_assoc, mul_comm, mul_right_comm}
 use Rattle.std.proofs.lemmas.Nat.{and_block, and_comm, and_le_r, and_mask, and_mod, and_shr, mul-lt, pow-add, pow_pos, shr_split, mod_below, xor_mod, xor_shr}
-use Rattle.macsec_field128.specs.Carryless.{carryless, CarrylessAddsInFirst, CarrylessAddsInSecond, CarrylessOfOne, CarrylessMovesWithFirst, CarrylessMovesWithSecond}
+use Rattle.macsec_field128.specs.Carryless.{carryless, CarrylessLaws}
 use Rattle.macsec_ghash.proofs.Sums.{parts}
 
--- what is known of the product without carries
-pub record Laws : Type 0 where
-  pub adds_first : CarrylessAddsInFirst
-  pub adds_second : CarrylessAddsInSecond
-  pub one : CarrylessOfOne
-  pub moves_first : CarrylessMovesWithFirst
-  pub moves_second : CarrylessMovesWithSecond
-
-pub carryless_none : Laws → (b : ℕ) → carryless 0 b ≡ 0
+pub carryless_none : CarrylessLaws → (b : ℕ) → carryless 0 b ≡ 0
 carryless_none laws b = laws.adds_first 0 0 b ∙ xor_self (carryless 0 b)
 
 bit_cases : (b : ℕ) → b < 2 → (b ≡ 0) ⊎ (b ≡ 1)
@@ -118,7 +110,7 @@ counts_bit e b u lt h =
       | inr o ↦ rw (o, one_times u) h
     ]
 
-carryless_bit : Laws → (b u : ℕ) → b < 2 → carryless b u ≡ b * u
+carryless_bit : CarrylessLaws → (b u : ℕ) → b < 2 → carryless b u ≡ b * u
 carryless_bit laws b u lt =
     elim (bit_cases b lt) [
       | inl z ↦ rw (z, zero_times u) (carryless_none laws u)
@@ -126,13 +118,13 @@ carryless_bit laws b u lt =
     ]
 
 -- by the last digit of the first number
-carryless_digit : Laws → (s u : ℕ) → s < 2 ^ 64 → s % 16 < 2 → bit_xor (carryless (s / 16) u * 16) (s % 16 * u) ≡ carryless s u
+carryless_digit : CarrylessLaws → (s u : ℕ) → s < 2 ^ 64 → s % 16 < 2 → bit_xor (carryless (s / 16) u * 16) (s % 16 * u) ≡ carryless s u
 carryless_digit laws s u lt bit =
     ap₂ bit_xor (sym (laws.moves_first 60 4 (s / 16) u (omega arith) (omega arith))) (sym (carryless_bit laws (s % 16) u bit))
     ∙ sym (laws.adds_first (s / 16 * 16) (s % 16) u)
     ∙ ap (λ (n : ℕ). carryless n u) (sym (parts 4 (s / 16) (s % 16) (omega arith)) ∙ (let whole : s / 16 * 16 + s % 16 ≡ s = omega arith in whole))
 
-counts_product : Laws → (d e s u : ℕ) → d < 15 → s < 2 ^ 64 → Counts (suc d) 1 s s → Counts e 1 u u → Counts (wider d e) (suc d) (s * u) (carryless s u)
+counts_product : CarrylessLaws → (d e s u : ℕ) → d < 15 → s < 2 ^ 64 → Counts (suc d) 1 s s → Counts e 1 u u → Counts (wider d e) (suc d) (s * u) (carryless s u)
 unfolding wider Counts
 counts_product laws zero e s u few lt h g =
     let bit : s < 2 = omega (arith, h.0, h.2.0) in
@@ -173,7 +165,7 @@ class_moved r x =
 class_lt : (r x : ℕ) → 0x11111111 * 2 ^ r < 2 ^ 32 → class r x < 2 ^ 32
 class_lt r x lt = omega (arith, and_le_r x (0x11111111 * 2 ^ r), lt)
 
-kept_counts : Laws → (x y : ℕ) → Counts 15 8 (bit_and x 0x11111111 * bit_and y 0x11111111) (carryless (bit_and x 0x11111111) (bit_and y 0x11111111))
+kept_counts : CarrylessLaws → (x y : ℕ) → Counts 15 8 (bit_and x 0x11111111 * bit_and y 0x11111111) (carryless (bit_and x 0x11111111) (bit_and y 0x11111111))
 unfolding ones wider
 kept_counts laws x y =
     let small : bit_and x 0x11111111 < 2 ^ 64 = omega (arith, and_le_r x 0x11111111) in
@@ -190,7 +182,7 @@ product_moved s u r q =
     ∙ ap (λ (n : ℕ). n * 2 ^ q) (mul_right_comm s (2 ^ r) u)
     ∙ mul_assoc (s * u) (2 ^ r) (2 ^ q) ∙ ap (λ (n : ℕ). s * u * n) (sym (pow-add 2 r q))
 
-carryless_moved : Laws → (s u r q : ℕ) → r < 4 → s < 2 ^ 32 → carryless (s * 2 ^ r) (u * 2 ^ q) ≡ carryless s u * 2 ^ (r + q)
+carryless_moved : CarrylessLaws → (s u r q : ℕ) → r < 4 → s < 2 ^ 32 → carryless (s * 2 ^ r) (u * 2 ^ q) ≡ carryless s u * 2 ^ (r + q)
 carryless_moved laws s u r q few lt =
     laws.moves_first 32 r s (u * 2 ^ q) (omega arith) lt
     ∙ ap (λ (n : ℕ). n * 2 ^ r) (laws.moves_second q s u)
@@ -209,7 +201,7 @@ places_masked t k p c places h =
     ]
 
 -- the integer product of two words, at the places that it has, is the product without carries
-pub product_of_classes : Laws → (r q t x y : ℕ) → r < 4 → 0x11111111 * 2 ^ r < 2 ^ 32 → 0x11111111 * 2 ^ q < 2 ^ 32 → (r + q ≡ t) ⊎ (r + q ≡ 4 + t)
+pub product_of_classes : CarrylessLaws → (r q t x y : ℕ) → r < 4 → 0x11111111 * 2 ^ r < 2 ^ 32 → 0x11111111 * 2 ^ q < 2 ^ 32 → (r + q ≡ t) ⊎ (r + q ≡ 4 + t)
     → bit_and (class r x * class q y % 2 ^ 64) (0x1111111111111111 * 2 ^ t) ≡ carryless (class r x) (class q y)
 product_of_classes laws r q t x y few lr lq places =
     let s : ℕ = bit_and (x / 2 ^ r) 0x11111111 in

@@ -1,9 +1,9 @@
 -- The product without carries of two words of 32 bits, by sixteen integer products of words that have every fourth bit.
 use Rattle.std.proofs.Common.{◌≡◌, ℕ, ◌+◌, ◌*◌, ◌%◌, ◌^◌, ◌<◌, inl, inr, bit_and, refl, sym, ap, ◌∙◌, arith}
 use Rattle.std.proofs.lemmas.Nat.{and_mask}
-use Rattle.macsec_field128.specs.Carryless.{carryless}
+use Rattle.macsec_field128.specs.Carryless.{carryless, CarrylessLaws}
 use Rattle.macsec_ghash.specs.Lanes.{sum_of_four}
-use Rattle.macsec_ghash.proofs.Holes.{Laws, class, product_of_classes}
+use Rattle.macsec_ghash.proofs.Holes.{class, product_of_classes}
 use Rattle.macsec_ghash.proofs.Sums.{four_under, mask_of_four, masks_add, moved_round, same_four, turned}
 
 -- the four parts of a word
@@ -29,12 +29,12 @@ masked_four a b c d m p q r s e f g h =
     mask_of_four a b c d m ∙ same_four (bit_and a m) (bit_and b m) (bit_and c m) (bit_and d m) p q r s e f g h
 
 -- a class times a word, from its parts in any order
-row : Laws → (r x y : ℕ) → sum_of_four (carryless (class r x) (class 0 y)) (carryless (class r x) (class 1 y)) (carryless (class r x) (class 2 y)) (carryless (class r x) (class 3 y)) ≡ carryless (class r x) (y % 2 ^ 32)
+row : CarrylessLaws → (r x y : ℕ) → sum_of_four (carryless (class r x) (class 0 y)) (carryless (class r x) (class 1 y)) (carryless (class r x) (class 2 y)) (carryless (class r x) (class 3 y)) ≡ carryless (class r x) (y % 2 ^ 32)
 row laws r x y =
     sym (four_under (carryless (class r x)) (laws.adds_second (class r x)) (class 0 y) (class 1 y) (class 2 y) (class 3 y))
     ∙ ap (carryless (class r x)) (parts_of_word y)
 
-pub word_product : Laws → (x y : ℕ) → by_classes x y ≡ carryless (x % 2 ^ 32) (y % 2 ^ 32)
+pub word_product : CarrylessLaws → (x y : ℕ) → by_classes x y ≡ carryless (x % 2 ^ 32) (y % 2 ^ 32)
 word_product laws x y =
     let p : ℕ → ℕ → ℕ = λ r q. carryless (class r x) (class q y) in
     let near : (r q t : ℕ) → r < 4 → 0x11111111 * 2 ^ r < 2 ^ 32 → 0x11111111 * 2 ^ q < 2 ^ 32 → r + q ≡ t → bit_and (class r x * class q y % 2 ^ 64) (0x1111111111111111 * 2 ^ t) ≡ p r q =

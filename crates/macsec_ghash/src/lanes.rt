@@ -6,7 +6,7 @@ ghost use Rattle.macsec_field128.specs.Field.{block_product, sum_below};
 ghost use Rattle.macsec_field128.specs.Carryless.{carryless};
 ghost use Rattle.macsec_ghash.specs.Lanes.{block_at, sum_of_four};
 
-use macsec_field128::laws::{carryless_adds, carryless_moves, product_is_residue, residue_adds};
+use macsec_field128::laws::{carryless_laws, product_is_residue, residue_adds};
 use macsec_field128::{Block, residue};
 use std::simd::{u64x2, u64x8};
 
@@ -105,8 +105,7 @@ fn four_words(a: u64x2, b: u64x2, c: u64x2, d: u64x2) -> u64x2
 fn products(a: u64x2, b: u64x2) -> u64x2
     ensures { (k : ℕ) → k < 2 → slice_index result k ≡ carryless (slice_index a k % 2 ^ 32) (slice_index b k % 2 ^ 32) }
 {
-    carryless_adds();
-    carryless_moves();
+    carryless_laws();
     let a0 = masked(a, 0x1111_1111);
     let a1 = masked(a, 0x2222_2222);
     let a2 = masked(a, 0x4444_4444);
@@ -189,8 +188,7 @@ fn sum_of_half_products(a: u64x8, b: u64x8) -> u64
 fn sum_of_word_products(a: u64x8, b: u64x8) -> u128
     ensures { result ≡ sum_below 8 (λ j. carryless (slice_index a j) (slice_index b j)) }
 {
-    carryless_adds();
-    carryless_moves();
+    carryless_laws();
     let a_left = left_halves(a);
     let b_left = left_halves(b);
     let left = sum_of_half_products(a_left, b_left);
@@ -206,8 +204,7 @@ pub fn sum_of_products(a_high: u64x8, a_low: u64x8, b_high: u64x8, b_low: u64x8)
     ensures { result.0 ≡ sum_below 8 (λ j. block_product (block_at a_high a_low j) (block_at b_high b_low j)) }
 {
     // For the proof: the residue of a sum is that of each product.
-    carryless_adds();
-    carryless_moves();
+    carryless_laws();
     residue_adds();
     product_is_residue();
     let left = sum_of_word_products(a_high, b_high);

@@ -1,18 +1,10 @@
 -- Lane by lane, the product of two words by their classes (`WordProducts`).
 use Rattle.std.proofs.Common.{slice_index}
-use Rattle.macsec_ghash.proofs.Holes.{Laws}
 use Rattle.macsec_ghash.proofs.WordProducts.{word_product}
 use Rattle.macsec_ghash.proofs.lanes.products.Goals as goal
 
 pub returns : goal.returns
 returns c k h =
-    let laws : Laws = record {
-      adds_first = c.carryless_adds.ensures.first;
-      adds_second = c.carryless_adds.ensures.second;
-      one = c.carryless_moves.ensures.one;
-      moves_first = c.carryless_moves.ensures.first;
-      moves_second = c.carryless_moves.ensures.second;
-    } in
     rw (
       c.four_words.ensures k h,
       c.masked.ensures k h,
@@ -48,4 +40,4 @@ returns c k h =
       c.masked-b2.ensures k h,
       c.masked-b3.ensures k h,
     )
-    (word_product laws (slice_index c.args.a k) (slice_index c.args.b k))
+    (word_product c.carryless_laws.ensures (slice_index c.args.a k) (slice_index c.args.b k))

@@ -3,20 +3,12 @@ use Rattle.std.proofs.Common.{ℕ, ◌<◌, ◌%◌, ◌^◌, slice_index, bit_x
 use Rattle.std.proofs.lemmas.Nat.{xor_lt}
 use Rattle.macsec_field128.specs.Carryless.{carryless}
 use Rattle.macsec_ghash.proofs.Holds.{word_lt}
-use Rattle.macsec_ghash.proofs.Holes.{Laws}
 use Rattle.macsec_ghash.proofs.HalfProducts.{sum_of_words, words_joined}
 use Rattle.macsec_ghash.proofs.Sums.{same_sums}
 use Rattle.macsec_ghash.proofs.lanes.sum_of_word_products.Goals as goal
 
 pub returns : goal.returns
 returns c =
-    let laws : Laws = record {
-      adds_first = c.carryless_adds.ensures.first;
-      adds_second = c.carryless_adds.ensures.second;
-      one = c.carryless_moves.ensures.one;
-      moves_first = c.carryless_moves.ensures.first;
-      moves_second = c.carryless_moves.ensures.second;
-    } in
     let left : ℕ = c.sum_of_half_products-left.result in
     let right : ℕ = c.sum_of_half_products-right.result in
     let both : ℕ = c.sum_of_half_products-both.result in
@@ -26,7 +18,7 @@ returns c =
     let cut : ℕ → ℕ = λ n. n % 2 ^ 32 in
     rw (c.from.ensures, c.from-2.ensures, c.from-3.ensures)
     (words_joined left right both left_lt (xor_lt 64 (bit_xor both left) right (xor_lt 64 both left both_lt left_lt) right_lt)
-    ∙ sum_of_words laws (slice_index c.args.a) (slice_index c.args.b) (word_lt 8 c.args.a c.fits-a) (word_lt 8 c.args.b c.fits-b) left right both
+    ∙ sum_of_words c.carryless_laws.ensures (slice_index c.args.a) (slice_index c.args.b) (word_lt 8 c.args.a c.fits-a) (word_lt 8 c.args.b c.fits-b) left right both
     (c.sum_of_half_products-left.ensures
     ∙ same_sums 8 _ _ (λ j h. ap₂ (λ (m n : ℕ). carryless (m % 2 ^ 32) (n % 2 ^ 32)) (c.left_halves-a_left.ensures j h) (c.left_halves-b_left.ensures j h)))
     c.sum_of_half_products-right.ensures
