@@ -1,15 +1,10 @@
 -- Opening is the inverse of sealing.
-use Rattle.std.proofs.Common.{◌≡◌, ◌↔◌, ℕ, List, [], ◌∷◌, ◌++◌, length, Bool, true, false, cond, Some, None, eq-eqb, refl, sym, ap, ◌∙◌}
+use Rattle.std.proofs.Common.{◌≡◌, ◌↔◌, ℕ, List, [], ◌∷◌, length, Bool, true, false, cond, Some, None, eq-eqb, refl, sym, ap, ◌∙◌}
 use Rattle.std.specs.Cmp.Lexicographic.{same_text}
-use Rattle.std.specs.Int.{w128, to_be_bytes}
-use Rattle.macsec_ghash.specs.Ghash.{ghash, pad}
-use Rattle.macsec_gcm.specs.Gcm.{authentication_tag, gctr, hash_subkey, inc32, length_block, open_of, pre_counter_block, seal_of}
+use Rattle.macsec_gcm.specs.Gcm.{authentication_tag, inc32, open_of, pre_counter_block, seal_of}
 use Rattle.macsec_gcm.specs.Octets.{same_octets}
+use Rattle.macsec_gcm.specs.Pieces.{decrypted}
 use Rattle.macsec_gcm.proofs.KeyStreams.{gctr-gctr, length-gctr}
-
--- a text with the key stream added
-abbrev pub sum_of : List ℕ → List ℕ → List ℕ → List ℕ
-sum_of key iv text = gctr key (inc32 (pre_counter_block iv)) text
 
 -- the tag that sealing gives with a ciphertext
 abbrev pub tag_of : List ℕ → List ℕ → List ℕ → List ℕ → List ℕ
@@ -17,14 +12,14 @@ tag_of key iv aad ciphertext = authentication_tag key (pre_counter_block iv) aad
 
 -- ---- what seals
 
--- a plaintext is the sum of its ciphertext with the key stream
-plaintext_from_sealed : (key iv aad plaintext : List ℕ) → sum_of key iv (seal_of key iv aad plaintext).0 ≡ plaintext
+-- a plaintext is what its ciphertext decrypts to
+plaintext_from_sealed : (key iv aad plaintext : List ℕ) → decrypted key iv (seal_of key iv aad plaintext).0 ≡ plaintext
 unfolding seal_of
 plaintext_from_sealed key iv aad plaintext = gctr-gctr key (inc32 (pre_counter_block iv)) plaintext
 
 pub sealing_is_injective : (key iv aad p q : List ℕ) → (seal_of key iv aad p).0 ≡ (seal_of key iv aad q).0 → p ≡ q
 sealing_is_injective key iv aad p q e =
-    sym (plaintext_from_sealed key iv aad p) ∙ ap (sum_of key iv) e ∙ plaintext_from_sealed key iv aad q
+    sym (plaintext_from_sealed key iv aad p) ∙ ap (decrypted key iv) e ∙ plaintext_from_sealed key iv aad q
 
 pub length-ciphertext : (key iv aad plaintext : List ℕ) → length (seal_of key iv aad plaintext).0 ≡ length plaintext
 unfolding seal_of
@@ -32,15 +27,12 @@ length-ciphertext key iv aad plaintext = length-gctr key (inc32 (pre_counter_blo
 
 pub length-tag : (key iv aad plaintext : List ℕ) → length (seal_of key iv aad plaintext).1 ≡ 16
 unfolding seal_of authentication_tag
-length-tag key iv aad plaintext =
-    let ciphertext = sum_of key iv plaintext in
-    let hash : ℕ = ghash (hash_subkey key) (pad aad ++ (pad ciphertext ++ pad (length_block aad ciphertext))) in
-    length-gctr key (pre_counter_block iv) (to_be_bytes w128 hash)
+length-tag key iv aad plaintext = length-gctr key (pre_counter_block iv) _
 
--- the sum of a ciphertext with the key stream seals to the ciphertext
-seal_of-sum : (key iv aad ciphertext : List ℕ) → seal_of key iv aad (sum_of key iv ciphertext) ≡ (ciphertext, tag_of key iv aad ciphertext)
+-- what a ciphertext decrypts to seals to the ciphertext
+seal_of-decrypted : (key iv aad ciphertext : List ℕ) → seal_of key iv aad (decrypted key iv ciphertext) ≡ (ciphertext, tag_of key iv aad ciphertext)
 unfolding seal_of
-seal_of-sum key iv aad ciphertext = rw (gctr-gctr key (inc32 (pre_counter_block iv)) ciphertext) refl
+seal_of-decrypted key iv aad ciphertext = rw (gctr-gctr key (inc32 (pre_counter_block iv)) ciphertext) refl
 
 -- what a plaintext seals to has its tag
 tag_from_sealed : (key iv aad ciphertext tag plaintext : List ℕ) → seal_of key iv aad plaintext ≡ (ciphertext, tag) → tag_of key iv aad ciphertext ≡ tag
@@ -54,16 +46,16 @@ same_octets-refl : (xs : List ℕ) → same_octets xs xs ≡ true
 same_octets-refl [] = refl
 same_octets-refl (x ∷ xs) = rw (eq-eqb x x refl, same_octets-refl xs) refl
 
-pub open_of-by_test : (key iv aad ciphertext tag : List ℕ) → open_of key iv aad ciphertext tag ≡ cond (same_octets (tag_of key iv aad ciphertext) tag) (Some (sum_of key iv ciphertext)) None
+pub open_of-by_test : (key iv aad ciphertext tag : List ℕ) → open_of key iv aad ciphertext tag ≡ cond (same_octets (tag_of key iv aad ciphertext) tag) (Some (decrypted key iv ciphertext)) None
 unfolding open_of
-open_of-by_test key iv aad ciphertext tag = rw (seal_of-sum key iv aad ciphertext, same_octets-refl ciphertext) refl
+open_of-by_test key iv aad ciphertext tag = rw (seal_of-decrypted key iv aad ciphertext, same_octets-refl ciphertext) refl
 
 -- the test is in the conclusion too: it is the call with all the variables, by which tactics find the lemma
 pub sealed_by_test : (key iv aad ciphertext tag : List ℕ) → same_octets (tag_of key iv aad ciphertext) tag ≡ true
-    → (same_octets (tag_of key iv aad ciphertext) tag ≡ true) × (seal_of key iv aad (sum_of key iv ciphertext) ≡ (ciphertext, tag))
+    → (same_octets (tag_of key iv aad ciphertext) tag ≡ true) × (seal_of key iv aad (decrypted key iv ciphertext) ≡ (ciphertext, tag))
 sealed_by_test key iv aad ciphertext tag e =
     let same = same_text (tag_of key iv aad ciphertext) tag (sym e) in
-    (e, seal_of-sum key iv aad ciphertext ∙ ap (λ (t : List ℕ). (ciphertext, t)) same)
+    (e, seal_of-decrypted key iv aad ciphertext ∙ ap (λ (t : List ℕ). (ciphertext, t)) same)
 
 pub test_by_sealed : (key iv aad ciphertext tag plaintext : List ℕ) → seal_of key iv aad plaintext ≡ (ciphertext, tag) → same_octets (tag_of key iv aad ciphertext) tag ≡ true
 test_by_sealed key iv aad ciphertext tag plaintext e = rw (tag_from_sealed key iv aad ciphertext tag plaintext e) (same_octets-refl tag)
@@ -73,16 +65,16 @@ test_by_sealed key iv aad ciphertext tag plaintext e = rw (tag_from_sealed key i
 seals_where_opens : (key iv aad ciphertext tag plaintext : List ℕ) → open_of key iv aad ciphertext tag ≡ Some plaintext → seal_of key iv aad plaintext ≡ (ciphertext, tag)
 seals_where_opens key iv aad ciphertext tag plaintext e = by (same_octets (tag_of key iv aad ciphertext) tag) refl (sym (open_of-by_test key iv aad ciphertext tag) ∙ e)
   where
-    by : (b : Bool) → same_octets (tag_of key iv aad ciphertext) tag ≡ b → cond b (Some (sum_of key iv ciphertext)) None ≡ Some plaintext → seal_of key iv aad plaintext ≡ (ciphertext, tag)
+    by : (b : Bool) → same_octets (tag_of key iv aad ciphertext) tag ≡ b → cond b (Some (decrypted key iv ciphertext)) None ≡ Some plaintext → seal_of key iv aad plaintext ≡ (ciphertext, tag)
     by true right given =
-        let sum : sum_of key iv ciphertext ≡ plaintext = cc in
-        ap (seal_of key iv aad) (sym sum) ∙ (sealed_by_test key iv aad ciphertext tag right).1
+        let same : decrypted key iv ciphertext ≡ plaintext = cc in
+        ap (seal_of key iv aad) (sym same) ∙ (sealed_by_test key iv aad ciphertext tag right).1
     by false wrong given = absurd (cc)
 
 opens_where_seals : (key iv aad ciphertext tag plaintext : List ℕ) → seal_of key iv aad plaintext ≡ (ciphertext, tag) → open_of key iv aad ciphertext tag ≡ Some plaintext
 opens_where_seals key iv aad ciphertext tag plaintext e =
-    let sum : sum_of key iv ciphertext ≡ plaintext = ap (λ (s : List ℕ × List ℕ). sum_of key iv s.0) (sym e) ∙ plaintext_from_sealed key iv aad plaintext in
-    open_of-by_test key iv aad ciphertext tag ∙ rw (test_by_sealed key iv aad ciphertext tag plaintext e, sum) refl
+    let same : decrypted key iv ciphertext ≡ plaintext = ap (λ (s : List ℕ × List ℕ). decrypted key iv s.0) (sym e) ∙ plaintext_from_sealed key iv aad plaintext in
+    open_of-by_test key iv aad ciphertext tag ∙ rw (test_by_sealed key iv aad ciphertext tag plaintext e, same) refl
 
 pub open_undoes_seal : (key iv aad ciphertext tag plaintext : List ℕ) → (open_of key iv aad ciphertext tag ≡ Some plaintext) ↔ (seal_of key iv aad plaintext ≡ (ciphertext, tag))
 open_undoes_seal key iv aad ciphertext tag plaintext =
