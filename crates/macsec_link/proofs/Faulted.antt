@@ -1,5 +1,5 @@
 -- The first fault of an event, with which it leaves the world as it is, and that of two configurations. Neither is out of memory.
-use Rattle.std.proofs.Common.{◌≡◌, ◌∙◌, Bool, true, false, List, [], ◌∷◌, ap, refl, subst, sym}
+use Rattle.std.proofs.Common.{◌≡◌, Bool, true, false, List, [], ◌∷◌, ap, refl, subst, sym}
 use Rattle.std.specs.Prelude.{Option, Some, None, Result, Err, MatchBool, if◌then◌else◌}
 use Rattle.macsec_suite.specs.FirstThatHolds.{first_that_holds}
 use Rattle.macsec_link.specs.declared.Event.{Event}
@@ -12,7 +12,7 @@ use Rattle.macsec_secy.specs.declared.fault.NewFault.{NewFault}
 use Rattle.macsec_secy.specs.Configs.{config_fault}
 use Rattle.macsec_link.specs.Answers.{Happens, RefusesMaking, RunsOutOfMemory, Steps, is_memory, make_fault, make_fault_of}
 use Rattle.macsec_link.specs.Faults.{FaultLine, fault_of, faults}
-use Rattle.macsec_link.specs.Step.{Answer, unless_fault}
+use Rattle.macsec_link.specs.Step.{unless_fault}
 use Rattle.macsec_link.specs.World.{WorldState}
 
 abbrev AreNotMemory : List FaultLine → Type 0

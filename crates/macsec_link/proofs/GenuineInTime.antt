@@ -1,11 +1,10 @@
 -- What was sealed and comes in time is genuine where an end opens it: so the premise of the laws on origin and order, that
 -- no tag is forged, holds of each frame that the law on acceptance speaks of, at both ends, padded or not.
-use Rattle.std.proofs.Common.{◌≡◌, inl, inr, ℕ, zero, suc, ◌+◌, ◌-◌, ◌^◌, ◌<◌, ◌≤◌, Bool, true, false, List, [], ◌∷◌, ◌++◌, length, take, refl, ap, sym, subst, ◌∙◌, arith, Contains, append-nil}
-use Rattle.std.specs.Prelude.{◌%◌, ◌==◌, ◌&&◌, ◌||◌, not, find, if◌then◌else◌, option_map, slice_get, Option, Some, None, IfSome}
+use Rattle.std.proofs.Common.{◌≡◌, inl, inr, ℕ, zero, suc, ◌<◌, List, [], ◌∷◌, ◌++◌, length, take, refl, ap, sym, subst, ◌∙◌, arith, Contains}
+use Rattle.std.specs.Prelude.{slice_get, Some, None, IfSome}
 use Rattle.std.proofs.lemmas.List.Elements.{Contains-append_left}
-use Rattle.std.proofs.lemmas.Option.{slice_get_within, unwrap_or-slice_get}
 use Rattle.macsec_tag.specs.Frame.{MpduParts, in_a_row}
-use Rattle.macsec_tag.specs.Table.{reading, tagged}
+use Rattle.macsec_tag.specs.Table.{reading}
 use Rattle.macsec_suite.specs.KeyRows.{InstalledKey, the_key}
 use Rattle.macsec_suite.specs.CipherUses.{CipherUse}
 use Rattle.macsec_tx.specs.declared.TxRow.{TxRow}
@@ -21,13 +20,12 @@ use Rattle.macsec_secy.specs.Step.{frame_fault, sending_of}
 use Rattle.macsec_link.specs.declared.End.{End}
 use Rattle.macsec_link.specs.declared.Event.{Event}
 use Rattle.macsec_link.specs.declared.Event.TheVariants.{Deliver, Send}
-use Rattle.macsec_link.specs.declared.WorldFault.{WorldFault}
 use Rattle.macsec_link.specs.Acceptance.{IsOnLink}
 use Rattle.macsec_link.specs.Faults.{fault_of}
 use Rattle.macsec_link.specs.Genuine.{IsGenuineAt, text_opened, text_opened_in}
 use Rattle.macsec_link.specs.Sound.{IsSound}
 use Rattle.macsec_link.specs.Step.{world_after, world_at, world_step}
-use Rattle.macsec_link.specs.Trace.{Trace, new_seals, new_trace, seals_by, text_sealed_by, text_to_open, trace_after, trace_of, trace_step}
+use Rattle.macsec_link.specs.Trace.{Trace, new_seals, new_trace, seals_by, text_sealed_by, trace_after, trace_of, trace_step}
 use Rattle.macsec_link.specs.Trace as trace
 use Rattle.macsec_link.specs.World.{WorldState, end_of, frame_at, new_world, other_end}
 use Rattle.macsec_link.proofs.Accepted.{LawOfStep, StandsWith, stands_with}
