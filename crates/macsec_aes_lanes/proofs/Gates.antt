@@ -2,7 +2,9 @@
 -- each place of planes, from the planes.
 use Rattle.std.proofs.Common.{◌≡◌, ℕ, zero, suc, ◌+◌, ◌*◌, ◌/◌, ◌%◌, ◌^◌, ◌<◌, List, [], ◌∷◌, length, map, slice_index, bit_and, bit_xor, min, refl, sym, ap, ap₂, ◌∙◌, arith}
 use Rattle.std.specs.Int.{bit_at}
+use Rattle.std.specs.Int.Bits.{xor_add_and}
 use Rattle.std.specs.List.{range_with_len}
+use Rattle.std.proofs.lemmas.Nat.{xor_lt}
 use Rattle.std.proofs.lemmas.Nat.Bits.{bit_at-lt, bit_at-zero, bit_at_and, bit_at_xor, bit_at_ones}
 use Rattle.std.proofs.Math.Nat.{pow-suc}
 use Rattle.macsec_aes_lanes.specs.Lanes.{lane_at}
@@ -25,20 +27,10 @@ value ones xs Ones = ones
 -- ---- one bit of what a gate computes
 
 pub sum_of_bits : (x y : ℕ) → x < 2 → y < 2 → (x + y) % 2 ≡ bit_xor x y
-sum_of_bits zero zero p q = refl
-sum_of_bits zero (suc zero) p q = refl
-sum_of_bits (suc zero) zero p q = refl
-sum_of_bits (suc zero) (suc zero) p q = refl
-sum_of_bits (suc (suc x)) y p q = absurd (omega arith)
-sum_of_bits x (suc (suc y)) p q = absurd (omega arith)
+sum_of_bits x y p q = omega (arith, xor_add_and x y, xor_lt 1 x y p q)
 
 product_of_bits : (x y : ℕ) → x < 2 → y < 2 → min x y ≡ bit_and x y
-product_of_bits zero zero p q = refl
-product_of_bits zero (suc zero) p q = refl
-product_of_bits (suc zero) zero p q = refl
-product_of_bits (suc zero) (suc zero) p q = refl
-product_of_bits (suc (suc x)) y p q = absurd (omega arith)
-product_of_bits x (suc (suc y)) p q = absurd (omega arith)
+product_of_bits x y p q = omega (arith, xor_add_and x y, xor_lt 1 x y p q)
 
 -- the bits at place k
 abbrev pub bits_at : ℕ → List ℕ → List ℕ

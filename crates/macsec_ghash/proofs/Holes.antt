@@ -1,9 +1,9 @@
 -- Integer products of numbers that have only every fourth bit. In each digit of four bits such a product counts ones, and
 -- the last bits of the counts are the product without carries.
 use Rattle.std.proofs.Common.{◌≡◌, ℕ, zero, suc, ◌+◌, ◌*◌, ◌/◌, ◌%◌, ◌^◌, ◌<◌, ◌≤◌, ◌⊎◌, inl, inr, bit_and, bit_xor, refl, sym, ap, ap₂, ◌∙◌, arith}
-use Rattle.std.specs.Int.Bits.{xor_self}
+use Rattle.std.specs.Int.Bits.{xor_add_and, xor_self}
 use Rattle.std.proofs.Math.Nat.{add-mul, mul_assoc, mul_comm, mul_right_comm}
-use Rattle.std.proofs.lemmas.Nat.{and_block, and_comm, and_le_r, and_mask, and_mod, and_shr, mul-lt, pow-add, pow_pos, shr_split, mod_below, xor_mod, xor_shr}
+use Rattle.std.proofs.lemmas.Nat.{and_block, and_comm, and_le_r, and_mask, and_mod, and_shr, mul-lt, pow-add, pow_pos, shr_split, mod_below, xor_lt, xor_mod, xor_shr}
 use Rattle.macsec_field128.specs.Carryless.{carryless, CarrylessLaws}
 use Rattle.macsec_ghash.proofs.Sums.{parts}
 
@@ -30,12 +30,7 @@ ones zero = 0
 ones (suc d) = ones d * 16 + 1
 
 sum_of_bits : (a b : ℕ) → a < 2 → b < 2 → bit_xor a b ≡ (a + b) % 2
-sum_of_bits zero zero p q = refl
-sum_of_bits zero (suc zero) p q = refl
-sum_of_bits (suc zero) zero p q = refl
-sum_of_bits (suc zero) (suc zero) p q = refl
-sum_of_bits (suc (suc a)) b p q = absurd (omega arith)
-sum_of_bits a (suc (suc b)) p q = absurd (omega arith)
+sum_of_bits a b p q = omega (arith, xor_add_and a b, xor_lt 1 a b p q)
 
 counts_more : (d n p c q : ℕ) → n < 15 → Counts d n p c → Counts d 1 q q → Counts d (suc n) (p + q) (bit_xor c q)
 unfolding Counts

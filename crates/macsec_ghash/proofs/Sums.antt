@@ -77,17 +77,7 @@ parts k a r lt =
 
 -- a mask
 mask_of_bits : (a b m : ℕ) → a < 2 → b < 2 → m < 2 → min ((a + b) % 2) m ≡ (min a m + min b m) % 2
-mask_of_bits zero zero zero p q r = refl
-mask_of_bits zero zero (suc zero) p q r = refl
-mask_of_bits zero (suc zero) zero p q r = refl
-mask_of_bits zero (suc zero) (suc zero) p q r = refl
-mask_of_bits (suc zero) zero zero p q r = refl
-mask_of_bits (suc zero) zero (suc zero) p q r = refl
-mask_of_bits (suc zero) (suc zero) zero p q r = refl
-mask_of_bits (suc zero) (suc zero) (suc zero) p q r = refl
-mask_of_bits (suc (suc a)) b m p q r = absurd (omega arith)
-mask_of_bits a (suc (suc b)) m p q r = absurd (omega arith)
-mask_of_bits a b (suc (suc m)) p q r = absurd (omega arith)
+mask_of_bits a b m p q r = omega arith
 
 pub mask_adds : (a b m : ℕ) → bit_and (bit_xor a b) m ≡ bit_xor (bit_and a m) (bit_and b m)
 mask_adds a b m =
