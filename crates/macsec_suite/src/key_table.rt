@@ -8,6 +8,7 @@ ghost use Rattle.macsec_suite.specs.KeyTables.{HasOwnKey, first_unused_of, row_s
 ghost use Rattle.macsec_suite.specs.Suites.{key_length};
 ghost use Rattle.macsec_suite.specs.Refusals.{first_refusal, install_refusals, is_repeated, refusal_of, retire_refusals};
 
+use crate::suite_key::octets_of;
 use crate::{KeyRow, NewKey, Refusal, Suite, SuiteFault, SuiteKey};
 use macsec_aes::Key;
 use std::alloc::{AllocError, Global};
@@ -192,15 +193,5 @@ impl StoredKey {
         ensures { result ≡ same_octets (stored_row self.now).bytes (key_bytes bytes) }
     {
         octets_of(&self.row.key.bytes) == octets_of(&bytes)
-    }
-}
-
-/// The bytes of a key.
-fn octets_of(key: &Key) -> &[u8]
-    ensures { result.now ≡ key_bytes key.now }
-{
-    match key {
-        Key::K128(octets) => octets,
-        Key::K256(octets) => octets,
     }
 }

@@ -1,9 +1,8 @@
 //! Keys prepared for a suite.
 
-ghost use Rattle.std.specs.Prelude.{◌≡◌, ◌<◌, length, min, if◌then◌else◌, IfOk};
+ghost use Rattle.std.specs.Prelude.{◌≡◌, min, if◌then◌else◌, IfOk};
 ghost use Rattle.macsec_aes.specs.Keys.{key_bytes};
-ghost use Rattle.macsec_suite.specs.Suites.{key_length};
-ghost use Rattle.macsec_suite.specs.Keys.{fault_of, has_wrong_offset, prepared_from, suite_key_fault};
+ghost use Rattle.macsec_suite.specs.Keys.{fault_of, prepared_from, suite_key_fault};
 ghost use Rattle.macsec_suite.specs.FaultNumbers.{number_of_suite_fault};
 
 use crate::Suite;
@@ -55,7 +54,7 @@ impl SuiteKey {
         ensures fault { fault_of result ≡ suite_key_fault suite key offset }
         ensures value { IfOk result (λ k. k ≡ prepared_from suite key offset) }
     {
-        if length_of(key) != suite.key_length() {
+        if octets_of(&key).len() != suite.key_length() {
             return Err(SuiteFault::KeyLength);
         }
         if suite.has_wrong_offset(offset) {
@@ -88,11 +87,11 @@ impl SuiteKey {
 }
 
 /// The bytes of a key.
-fn length_of(key: Key) -> usize
-    ensures { result ≡ length (key_bytes key) }
+pub(crate) fn octets_of(key: &Key) -> &[u8]
+    ensures { result.now ≡ key_bytes key.now }
 {
     match key {
-        Key::K128(bytes) => bytes.len(),
-        Key::K256(bytes) => bytes.len(),
+        Key::K128(octets) => octets,
+        Key::K256(octets) => octets,
     }
 }
