@@ -127,19 +127,29 @@ fn time_protect(rt: &HostRuntime, key: &SuiteKey) -> anyhow::Result<Duration> {
     Ok(start.elapsed(rt)?)
 }
 
+/// Does an endpoint pass a frame?
+fn is_passed(secy: &mut Secy, frame: &[u8]) -> anyhow::Result<bool> {
+    Ok(secy.receive(frame)?.verdict == Verdict::Passed)
+}
+
+/// Does an endpoint pass a frame each time that it is received?
+fn is_always_passed(secy: &mut Secy, frame: &[u8]) -> anyhow::Result<bool> {
+    let mut all_passed = true;
+    for _ in 0..TURN_COUNT {
+        all_passed = is_passed(secy, frame)? && all_passed;
+    }
+    Ok(all_passed)
+}
+
 /// How long it takes to receive a frame again and again, and whether it is passed each time.
 fn time_receive(
     rt: &HostRuntime,
     secy: &mut Secy,
     frame: &[u8],
 ) -> anyhow::Result<(Duration, bool)> {
-    let mut is_passed = true;
     let start = Instant::now(rt)?;
-    for _ in 0..TURN_COUNT {
-        let received = secy.receive(frame)?;
-        is_passed = is_passed && received.verdict == Verdict::Passed;
-    }
-    Ok((start.elapsed(rt)?, is_passed))
+    let all_passed = is_always_passed(secy, frame)?;
+    Ok((start.elapsed(rt)?, all_passed))
 }
 
 /// Octets of data per second.
