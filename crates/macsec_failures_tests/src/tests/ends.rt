@@ -6,8 +6,23 @@ use macsec_program::{
     CapturePaths, Direction, Failure, PcapFault, ScriptFault, capture_named, open_stand_ins,
     run_named, tell,
 };
+use std::alloc::Global;
 use std::fs;
+use std::process::Abort;
 use std::test::Fail;
+
+/// A failure is one line, and is written with one call; on a full device it has its status all the same.
+fn check_line(rt: &impl Abort, alloc: Global, failure: Failure<'_>) {
+    let mut line = FailingWriter::new(alloc, Fails::Never, false);
+    let (_, done) = tell(&mut line, Err(failure));
+    assert!(rt; done.is_ok());
+    assert_eq!(rt; line.calls(), 1, "{failure}");
+    assert!(rt; line.written().ends_with(b"\n"));
+    let mut full = FailingWriter::new(alloc, Fails::From(0), false);
+    let (status, done) = tell(&mut full, Err(failure));
+    assert!(rt; done.is_err());
+    assert!(rt; status == 1 || status == 2);
+}
 
 /// Each failure is one line, and is written with one call; a status needs no line.
 #[test]
@@ -25,15 +40,7 @@ fn lines_are_written_at_once(rt: HostRuntime) -> Result<(), Fail> {
         Failure::Script(ScriptFault::Memory),
         Failure::Pcap(PcapFault::RecordLength),
     ] {
-        let mut line = FailingWriter::new(alloc, Fails::Never, false);
-        let (_, done) = tell(&mut line, Err(failure));
-        assert!(&rt; done.is_ok());
-        assert_eq!(&rt; line.calls(), 1, "{failure}");
-        assert!(&rt; line.written().ends_with(b"\n"));
-        let mut full = FailingWriter::new(alloc, Fails::From(0), false);
-        let (status, done) = tell(&mut full, Err(failure));
-        assert!(&rt; done.is_err());
-        assert!(&rt; status == 1 || status == 2);
+        check_line(&rt, alloc, failure);
     }
     Ok(())
 }

@@ -6,39 +6,58 @@ use macsec_pcap::{PcapFault, PcapReader, PcapWriter, Resolution};
 use std::alloc::Global;
 use std::test::Fail;
 
-/// How many records a file has, and the fault that ends it, if one does; `None` if one of the next three calls returns
-/// something else.
+/// Is there a next record?
+fn has_next(reader: &mut PcapReader<&mut FailingReader<'_>>) -> Result<bool, PcapFault> {
+    Ok(reader.next()?.is_some())
+}
+
+/// How many records a file has, up to eight, and what the call behind them returns; `None` if one of the next three calls
+/// returns something else.
 fn counted(
     alloc: Global,
     source: &mut FailingReader<'_>,
-) -> Option<(usize, Result<(), PcapFault>)> {
+) -> Option<(usize, Result<bool, PcapFault>)> {
     let mut reader = match PcapReader::new(alloc, source) {
         Ok(reader) => reader,
         Err(fault) => return Some((0, Err(fault))),
     };
     let mut count = 0;
-    let mut ended = Ok(());
+    let mut ended = Ok(true);
     for i in 0..8 {
-        match reader.next() {
-            Ok(Some(_)) => count = i + 1,
-            Ok(None) => break,
-            Err(fault) => {
-                ended = Err(fault);
-                break;
-            }
+        ended = has_next(&mut reader);
+        if ended != Ok(true) {
+            break;
         }
+        count = i + 1;
     }
     for _ in 0..3 {
-        let again = match reader.next() {
-            Ok(Some(_)) => return None,
-            Ok(None) => Ok(()),
-            Err(fault) => Err(fault),
-        };
-        if again != ended {
+        if has_next(&mut reader) != ended {
             return None;
         }
     }
     Some((count, ended))
+}
+
+/// What is counted of the file of two records if the read of this number fails: in pieces of 7 octets the header takes 4
+/// calls, the 16 octets of a record 3, its frame 2, and the end 1.
+fn wanted_count(at: usize) -> (usize, Result<bool, PcapFault>) {
+    match at {
+        0..9 => (0, Err(PcapFault::Read)),
+        9..14 => (1, Err(PcapFault::Read)),
+        14 => (2, Err(PcapFault::Read)),
+        _ => (2, Ok(false)),
+    }
+}
+
+/// What is counted of a file if reads fail, and how often it is read after that.
+fn counted_failing(
+    alloc: Global,
+    file: &[u8],
+    fails: Fails,
+) -> (Option<(usize, Result<bool, PcapFault>)>, usize) {
+    let mut source = FailingReader::new(file, 7, fails);
+    let found = counted(alloc, &mut source);
+    (found, source.calls_after())
 }
 
 /// A read that fails is returned as such, whichever it is, for good, and the source is not read again, whether it would
@@ -47,22 +66,19 @@ fn counted(
 fn reads_that_fail(rt: HostRuntime) -> Result<(), Fail> {
     let alloc = rt.alloc();
     let file = capture_file(alloc)?;
-    // In pieces of 7 octets the header takes 4 calls, the 16 octets of a record 3, its frame 2, and the end 1.
     for at in 0..=15 {
-        let wanted = match at {
-            0..9 => (0, Err(PcapFault::Read)),
-            9..14 => (1, Err(PcapFault::Read)),
-            14 => (2, Err(PcapFault::Read)),
-            _ => (2, Ok(())),
-        };
         for fails in [Fails::At(at), Fails::From(at)] {
-            let mut source = FailingReader::new(file.as_slice(), 7, fails);
-            let found = counted(alloc, &mut source);
-            assert!(&rt; found == Some(wanted), "at {at}");
-            assert_eq!(&rt; source.calls_after(), 0, "at {at}");
+            let (found, calls_after) = counted_failing(alloc, file.as_slice(), fails);
+            assert!(&rt; found == Some(wanted_count(at)), "at {at}");
+            assert_eq!(&rt; calls_after, 0, "at {at}");
         }
     }
     Ok(())
+}
+
+/// What the writing of a record returns.
+fn write_of(writer: &mut PcapWriter<'_, FailingWriter>, captured: &[u8]) -> Result<(), PcapFault> {
+    writer.write(0, 0, captured)
 }
 
 /// What the writing of the header, of a record of three octets and of three empty ones returns; what comes after a header
@@ -71,37 +87,49 @@ fn answers(destination: &mut FailingWriter) -> [Result<(), PcapFault>; 5] {
     let mut found = [Err(PcapFault::Write); 5];
     if let Ok(mut writer) = PcapWriter::new(destination, Resolution::Nano) {
         found[0] = Ok(());
-        found[1] = writer.write(0, 0, &[1, 2, 3]);
+        found[1] = write_of(&mut writer, &[1, 2, 3]);
         for answer in &mut found[2..] {
-            *answer = writer.write(0, 0, &[]);
+            *answer = write_of(&mut writer, &[]);
         }
     }
     found
 }
 
+/// Are the first ones of these written, so many, and the others not?
+fn are_written(found: &[Result<(), PcapFault>], count: usize) -> bool {
+    for (i, answer) in found.iter().enumerate() {
+        let wanted = if i < count {
+            Ok(())
+        } else {
+            Err(PcapFault::Write)
+        };
+        if *answer != wanted {
+            return false;
+        }
+    }
+    true
+}
+
+/// What is written if writes fail, how often the destination was called, and how often after it failed.
+fn written_failing(alloc: Global, fails: Fails) -> ([Result<(), PcapFault>; 5], usize, usize) {
+    let mut destination = FailingWriter::new(alloc, fails, false);
+    let found = answers(&mut destination);
+    (found, destination.calls(), destination.calls_after())
+}
+
 /// A write that fails is returned as such, whichever it is, for good, and nothing is written after it.
 #[test]
 fn writes_that_fail(rt: HostRuntime) {
-    let mut whole = FailingWriter::new(rt.alloc(), Fails::Never, false);
-    let ended = answers(&mut whole);
-    assert!(&rt; ended == [Ok(()); 5]);
+    let (found, calls, _) = written_failing(rt.alloc(), Fails::Never);
+    assert!(&rt; are_written(&found, 5));
     // The header by one call, a record by two, and an empty one by one.
-    assert_eq!(&rt; whole.calls(), 6);
-    for at in 0..6 {
-        // How many of the five are written.
-        let count = [0, 1, 1, 2, 3, 4][at];
+    assert_eq!(&rt; calls, 6);
+    // How many of the five are written.
+    for (at, count) in [0, 1, 1, 2, 3, 4].into_iter().enumerate() {
         for fails in [Fails::At(at), Fails::From(at)] {
-            let mut destination = FailingWriter::new(rt.alloc(), fails, false);
-            let found = answers(&mut destination);
-            for (i, answer) in found.iter().enumerate() {
-                let wanted = if i < count {
-                    Ok(())
-                } else {
-                    Err(PcapFault::Write)
-                };
-                assert!(&rt; *answer == wanted, "at {at}");
-            }
-            assert_eq!(&rt; destination.calls_after(), 0, "at {at}");
+            let (found, _, calls_after) = written_failing(rt.alloc(), fails);
+            assert!(&rt; are_written(&found, count), "at {at}");
+            assert_eq!(&rt; calls_after, 0, "at {at}");
         }
     }
 }

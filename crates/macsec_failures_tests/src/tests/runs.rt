@@ -5,6 +5,7 @@ use macsec_capture::{CaptureFault, Direction, run_capture};
 use macsec_devices::{FailingReader, FailingWriter, Fails};
 use macsec_script::{ScriptFault, run_script};
 use std::alloc::Global;
+use std::process::Abort;
 use std::test::Fail;
 
 /// The devices of a script and of a capture.
@@ -18,8 +19,10 @@ enum Place {
     Text,
 }
 
-/// What each answers if it fails: for what, and the name.
-const ANSWERS: [(Place, &str, &str); 6] = [
+/// What a device answers if it fails: for what, and the name.
+type Answer = (Place, &'static str, &'static str);
+
+const ANSWERS: [Answer; 6] = [
     (Place::Script, "script", "Read"),
     (Place::ScriptText, "script", "Write"),
     (Place::Config, "script", "Read"),
@@ -121,42 +124,64 @@ fn run_of(alloc: Global, file: &[u8], place: Place, fails: Fails) -> Run {
     }
 }
 
+/// Does a run answer this?
+fn answers(run: &Run, of: &str, name: &str) -> bool {
+    run.of == of && run.name == name
+}
+
+/// Does what a run wrote begin what a run without failures writes, and was nothing written of a script or a configuration
+/// that can't be read?
+fn is_begun(run: &Run, whole: &Run, place: Place) -> bool {
+    let (output, text) = (run.output.written(), run.text.written());
+    let may_write = place != Place::Script && place != Place::Config;
+    whole.output.written().starts_with(output)
+        && whole.text.written().starts_with(text)
+        && (may_write || (output.is_empty() && text.is_empty()))
+}
+
 /// Whichever call of one device fails, alone or with all after it, the run ends with the answer of that device, which is
 /// not called again. Nothing was written of a script or a configuration that can't be read; else what was written begins
 /// what a run without failures writes.
+fn check_failures(
+    rt: &impl Abort,
+    alloc: Global,
+    file: &[u8],
+    (place, of, name): Answer,
+    whole: &Run,
+) {
+    // A reader's last call is the one that gives nothing.
+    for at in 0..whole.calls {
+        for fails in [Fails::At(at), Fails::From(at)] {
+            let found = run_of(alloc, file, place, fails);
+            assert!(rt; answers(&found, of, name), "{place:?} at {at}");
+            assert!(rt;
+                found.calls == at + 1 && found.calls_after == 0,
+                "{place:?} at {at}"
+            );
+            assert!(rt; is_begun(&found, whole, place), "{place:?} at {at}");
+        }
+    }
+}
+
+/// A run without failures, and those in which this device fails.
+fn check_device(rt: &impl Abort, alloc: Global, file: &[u8], answer: Answer) {
+    let (place, _, _) = answer;
+    let whole = run_of(alloc, file, place, Fails::Never);
+    assert!(rt; answers(&whole, "", ""), "{place:?}");
+    if place == Place::Script {
+        assert!(rt; whole.text.written() == SCRIPT_TEXT.as_bytes());
+    }
+    check_failures(rt, alloc, file, answer, &whole);
+    let met_none = run_of(alloc, file, place, Fails::At(whole.calls));
+    assert!(rt; answers(&met_none, "", ""), "{place:?}");
+}
+
+/// Each device of a script and of a capture.
 #[test]
 fn devices_that_fail(rt: HostRuntime) -> Result<(), Fail> {
-    let alloc = rt.alloc();
-    let file = capture_file(alloc)?;
-    for (place, of, name) in ANSWERS {
-        let whole = run_of(alloc, file.as_slice(), place, Fails::Never);
-        assert_eq!(&rt; (whole.of, whole.name), ("", ""), "{place:?}");
-        if place == Place::Script {
-            assert_eq!(&rt; whole.text.written(), SCRIPT_TEXT.as_bytes());
-        }
-        // A reader's last call is the one that gives nothing.
-        for at in 0..whole.calls {
-            for fails in [Fails::At(at), Fails::From(at)] {
-                let found = run_of(alloc, file.as_slice(), place, fails);
-                assert_eq!(&rt; (found.of, found.name), (of, name), "{place:?} at {at}");
-                assert_eq!(&rt;
-                    (found.calls, found.calls_after),
-                    (at + 1, 0),
-                    "{place:?} at {at}"
-                );
-                let (output, text) = (found.output.written(), found.text.written());
-                assert!(&rt;
-                    whole.output.written().starts_with(output),
-                    "{place:?} at {at}"
-                );
-                assert!(&rt; whole.text.written().starts_with(text), "{place:?} at {at}");
-                if place == Place::Script || place == Place::Config {
-                    assert!(&rt; output.is_empty() && text.is_empty(), "{place:?} at {at}");
-                }
-            }
-        }
-        let met_none = run_of(alloc, file.as_slice(), place, Fails::At(whole.calls));
-        assert_eq!(&rt; (met_none.of, met_none.name), ("", ""), "{place:?}");
+    let file = capture_file(rt.alloc())?;
+    for answer in ANSWERS {
+        check_device(&rt, rt.alloc(), file.as_slice(), answer);
     }
     Ok(())
 }
