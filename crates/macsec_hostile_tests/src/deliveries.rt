@@ -162,14 +162,12 @@ fn are_clients(frames: &[Vec<u8>], lasts: &[u8]) -> bool {
             == client(*last).as_slice())
 }
 
-/// Two ends after the frames were sent, and brought in these ways, one after another.
-fn world_after(alloc: Global, ways: [Way; 3]) -> Result<World, Fail> {
-    let mut world = associated(alloc)?;
-    send_all(alloc, &mut world)?;
+/// The link brings the frames in these ways, one after another.
+fn bring_all(world: &mut World, ways: [Way; 3]) -> Result<(), Fail> {
     for way in ways {
-        bring(&mut world, way)?;
+        bring(world, way)?;
     }
-    Ok(world)
+    Ok(())
 }
 
 /// All frames were sent, and those with these last octets delivered, in the order of sending.
@@ -179,6 +177,15 @@ fn assert_delivered(rt: &impl Abort, world: &World, lasts: &[u8]) {
     assert!(rt; are_clients(sent, &[0, 1, 2, 3, 4, 5, 6, 7, 8, 9]));
     assert!(rt; are_clients(delivered, lasts));
     assert!(rt; is_subsequence(delivered, sent));
+}
+
+/// Of frames that were sent and brought in these ways, those with these last octets are delivered.
+fn check_ways(rt: &impl Abort, alloc: Global, ways: [Way; 3], lasts: &[u8]) -> Result<(), Fail> {
+    let mut world = associated(alloc)?;
+    send_all(alloc, &mut world)?;
+    bring_all(&mut world, ways)?;
+    assert_delivered(rt, &world, lasts);
+    Ok(())
 }
 
 /// Whatever the link does, the frames delivered are among those sent, in the order of sending, each at most once: all
@@ -194,8 +201,7 @@ fn ten_frames(rt: HostRuntime) -> Result<(), Fail> {
         ([altered, reversed, twice], &all[9..]),
         ([altered, altered, altered], &all[..0]),
     ] {
-        let world = world_after(rt.alloc(), ways)?;
-        assert_delivered(&rt, &world, lasts);
+        check_ways(&rt, rt.alloc(), ways, lasts)?;
     }
     Ok(())
 }

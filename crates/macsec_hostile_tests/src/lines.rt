@@ -2,6 +2,7 @@
 
 use macsec_script::run_script;
 use std::alloc::Global;
+use std::process::Abort;
 use std::test::Fail;
 
 /// The two good lines before the line at fault.
@@ -38,23 +39,30 @@ fn end_of(alloc: Global, script: &str) -> (Option<u32>, &'static str, usize) {
     }
 }
 
-/// How a script ends whose third line is this one.
-fn end_with_line(alloc: Global, line: &str) -> Result<(Option<u32>, &'static str, usize), Fail> {
+/// A line as the third one of a script is its fault, of this name, and nothing is printed.
+fn check_third_line(rt: &impl Abort, alloc: Global, line: &str, fault: &str) -> Result<(), Fail> {
     let script = format!(in alloc; "{ENDS}{line}\nA numbers\n")?;
-    Ok(end_of(alloc, script.as_str()))
+    let (number, name, printed) = end_of(alloc, script.as_str());
+    assert!(rt;
+        number == Some(3) && name == fault && printed == 0,
+        "{line}"
+    );
+    Ok(())
 }
 
-/// Each of them as the third line is the fault of the script, and so is a line of 20,001 octets. Nothing is printed.
+/// Each of them as the third line is the fault of the script.
 #[test]
 fn third_lines_at_fault(rt: HostRuntime) -> Result<(), Fail> {
-    let alloc = rt.alloc();
     for (line, fault) in LINES_AT_FAULT {
-        let end = end_with_line(alloc, line)?;
-        assert_eq!(&rt; end, (Some(3), fault, 0), "{line}");
+        check_third_line(&rt, rt.alloc(), line, fault)?;
     }
-    let long = format!(in alloc; "A send {:019994}", 0)?;
-    assert_eq!(&rt; long.len(), 20_001);
-    let end = end_with_line(alloc, long.as_str())?;
-    assert_eq!(&rt; end, (Some(3), "LineLong", 0));
     Ok(())
+}
+
+/// So is a line of 20,001 octets.
+#[test]
+fn third_line_too_long(rt: HostRuntime) -> Result<(), Fail> {
+    let long = format!(in rt.alloc(); "A send {:019994}", 0)?;
+    assert_eq!(&rt; long.len(), 20_001);
+    check_third_line(&rt, rt.alloc(), long.as_str(), "LineLong")
 }
