@@ -5,6 +5,7 @@ mod named;
 
 use macsec_capture::{CaptureFault, Direction, run_capture};
 use std::alloc::{AllocError, Global};
+use std::process::Abort;
 use std::test::Fail;
 
 /// A run, in pieces: direction, configuration, input in hex, output in hex, text, fault.
@@ -121,139 +122,151 @@ fn outcome(alloc: Global, direction: Direction, config: &str, input: &[u8]) -> R
     }
 }
 
+/// The runs of `captures`.
+const ROWS: [Row; 11] = [
+    (
+        Direction::Protect,
+        &[SENDER],
+        &[MICRO, RECORD, RECORD],
+        &[MICRO, SENT_1, SENT_2],
+        &[
+            SENDER_DONE,
+            "record 0 link 46\nrecord 1 link 46\n",
+            NONE_IN,
+            TWO_OUT,
+        ],
+        "",
+    ),
+    // The second record is cut.
+    (
+        Direction::Protect,
+        &[SENDER],
+        &[
+            MICRO,
+            RECORD,
+            "00000000000000000e0000000e000000ffffffffffff02",
+        ],
+        &[MICRO, SENT_1],
+        &[SENDER_DONE, "record 0 link 46\n"],
+        "CutRecord",
+    ),
+    (
+        Direction::Protect,
+        &[SENDER],
+        &[],
+        &[],
+        &[SENDER_DONE],
+        "CutHeader",
+    ),
+    (
+        Direction::Protect,
+        &[SENDER],
+        &[MICRO],
+        &[MICRO],
+        &[SENDER_DONE, NONE_IN, NONE_OUT],
+        "",
+    ),
+    // A partial record has a number, and does not reach the endpoint.
+    (
+        Direction::Protect,
+        &[SENDER],
+        &[
+            MICRO,
+            "00000000000000000e0000000f000000ffffffffffff0200000000010800",
+            RECORD,
+            RECORD,
+        ],
+        &[MICRO, SENT_1, SENT_2],
+        &[
+            SENDER_DONE,
+            "record 0 partial\nrecord 1 link 46\nrecord 2 link 46\n",
+            NONE_IN,
+            TWO_OUT,
+        ],
+        "",
+    ),
+    // Nanoseconds, with the highest octets first; a frame of 13 octets, and one that is sent at its record's time.
+    (
+        Direction::Protect,
+        &["end A gcm128 0200000000010001 1518 sci\nA protect off\n"],
+        &[
+            "a1b23c4d0002000400000000000000000000ffff00000001",
+            "00000001000000020000000d0000000dffffffffffff02000000000108",
+            "00000003000000040000000e0000000effffffffffff0200000000010800",
+            "00",
+        ],
+        &[
+            "4d3cb2a1020004000000000000000000ffff000001000000",
+            "03000000040000000e0000000e000000ffffffffffff0200000000010800",
+        ],
+        &["2 done\nrecord 0 fault 1 Short\nrecord 1 link 14\n"],
+        "CutRecord",
+    ),
+    // No association: the frame is dropped, and no frame of it is written.
+    (
+        Direction::Protect,
+        &["end A gcm128 0200000000010001 1518 sci\n"],
+        &[MICRO, RECORD, "00"],
+        &[MICRO],
+        &["record 0 dropped NoSA\n"],
+        "CutRecord",
+    ),
+    // Verdicts that deliver nothing and the frame itself.
+    (
+        Direction::Validate,
+        &["end A gcm128 0200000000010001 1518 sci\n"],
+        &[MICRO, RECORD, "00"],
+        &[MICRO],
+        &["record 0 NoTag\n"],
+        "CutRecord",
+    ),
+    (
+        Direction::Validate,
+        &["end A gcm128 0200000000010001 1518 sci\nA validate check\nA key 0 00 0\n"],
+        &[MICRO, RECORD],
+        &[],
+        &[],
+        "Hex",
+    ),
+    (
+        Direction::Validate,
+        &["end A gcm128 0200000000010001 1518 sci\nA validate check\nA txon 0\n"],
+        &[MICRO, RECORD, "00"],
+        &[MICRO, RECORD],
+        &["2 done\n3 refused 13 NoSa\nrecord 0 Untagged 14\n"],
+        "CutRecord",
+    ),
+    (Direction::Validate, &["# no end\n"], &[], &[], &[], "Ends"),
+];
+
+/// The run of a row writes and prints what it wants, and ends as it wants.
+fn check_row(rt: &impl Abort, alloc: Global, row: Row) -> Result<(), Fail> {
+    let (direction, config, input, output, text, fault) = row;
+    let config = joined(alloc, config)?;
+    let input = octets(alloc, input)?;
+    let run = outcome(alloc, direction, config.as_str(), input.as_slice());
+    assert_eq!(rt; run.fault, fault);
+    check_text(rt, run.text.as_slice(), joined(alloc, text)?.as_str());
+    let written = hex::encode(alloc, run.output.as_slice())?;
+    let wanted = joined(alloc, output)?;
+    assert!(rt;
+        is_as_wanted(written.as_bytes(), wanted.as_bytes()),
+        "{written}"
+    );
+    Ok(())
+}
+
+/// This text was printed.
+fn check_text(rt: &impl Abort, text: &[u8], wanted: &str) {
+    assert_eq!(rt; text, wanted.as_bytes());
+}
+
 /// Captures that end well, that end with a fault of the input's format, and with one of the configuration: what was
 /// written before it stays, and there are no counters.
 #[test]
 fn captures(rt: HostRuntime) -> Result<(), Fail> {
-    let alloc = rt.alloc();
-    let rows: [Row; 11] = [
-        (
-            Direction::Protect,
-            &[SENDER],
-            &[MICRO, RECORD, RECORD],
-            &[MICRO, SENT_1, SENT_2],
-            &[
-                SENDER_DONE,
-                "record 0 link 46\nrecord 1 link 46\n",
-                NONE_IN,
-                TWO_OUT,
-            ],
-            "",
-        ),
-        // The second record is cut.
-        (
-            Direction::Protect,
-            &[SENDER],
-            &[
-                MICRO,
-                RECORD,
-                "00000000000000000e0000000e000000ffffffffffff02",
-            ],
-            &[MICRO, SENT_1],
-            &[SENDER_DONE, "record 0 link 46\n"],
-            "CutRecord",
-        ),
-        (
-            Direction::Protect,
-            &[SENDER],
-            &[],
-            &[],
-            &[SENDER_DONE],
-            "CutHeader",
-        ),
-        (
-            Direction::Protect,
-            &[SENDER],
-            &[MICRO],
-            &[MICRO],
-            &[SENDER_DONE, NONE_IN, NONE_OUT],
-            "",
-        ),
-        // A partial record has a number, and does not reach the endpoint.
-        (
-            Direction::Protect,
-            &[SENDER],
-            &[
-                MICRO,
-                "00000000000000000e0000000f000000ffffffffffff0200000000010800",
-                RECORD,
-                RECORD,
-            ],
-            &[MICRO, SENT_1, SENT_2],
-            &[
-                SENDER_DONE,
-                "record 0 partial\nrecord 1 link 46\nrecord 2 link 46\n",
-                NONE_IN,
-                TWO_OUT,
-            ],
-            "",
-        ),
-        // Nanoseconds, with the highest octets first; a frame of 13 octets, and one that is sent at its record's time.
-        (
-            Direction::Protect,
-            &["end A gcm128 0200000000010001 1518 sci\nA protect off\n"],
-            &[
-                "a1b23c4d0002000400000000000000000000ffff00000001",
-                "00000001000000020000000d0000000dffffffffffff02000000000108",
-                "00000003000000040000000e0000000effffffffffff0200000000010800",
-                "00",
-            ],
-            &[
-                "4d3cb2a1020004000000000000000000ffff000001000000",
-                "03000000040000000e0000000e000000ffffffffffff0200000000010800",
-            ],
-            &["2 done\nrecord 0 fault 1 Short\nrecord 1 link 14\n"],
-            "CutRecord",
-        ),
-        // No association: the frame is dropped, and no frame of it is written.
-        (
-            Direction::Protect,
-            &["end A gcm128 0200000000010001 1518 sci\n"],
-            &[MICRO, RECORD, "00"],
-            &[MICRO],
-            &["record 0 dropped NoSA\n"],
-            "CutRecord",
-        ),
-        // Verdicts that deliver nothing and the frame itself.
-        (
-            Direction::Validate,
-            &["end A gcm128 0200000000010001 1518 sci\n"],
-            &[MICRO, RECORD, "00"],
-            &[MICRO],
-            &["record 0 NoTag\n"],
-            "CutRecord",
-        ),
-        (
-            Direction::Validate,
-            &["end A gcm128 0200000000010001 1518 sci\nA validate check\nA key 0 00 0\n"],
-            &[MICRO, RECORD],
-            &[],
-            &[],
-            "Hex",
-        ),
-        (
-            Direction::Validate,
-            &["end A gcm128 0200000000010001 1518 sci\nA validate check\nA txon 0\n"],
-            &[MICRO, RECORD, "00"],
-            &[MICRO, RECORD],
-            &["2 done\n3 refused 13 NoSa\nrecord 0 Untagged 14\n"],
-            "CutRecord",
-        ),
-        (Direction::Validate, &["# no end\n"], &[], &[], &[], "Ends"),
-    ];
-    for (direction, config, input, output, text, fault) in rows {
-        let config = joined(alloc, config)?;
-        let input = octets(alloc, input)?;
-        let run = outcome(alloc, direction, config.as_str(), input.as_slice());
-        let wanted = joined(alloc, text)?;
-        assert_eq!(&rt; run.fault, fault);
-        assert_eq!(&rt; run.text.as_slice(), wanted.as_bytes());
-        let written = hex::encode(alloc, run.output.as_slice())?;
-        let wanted = joined(alloc, output)?;
-        assert!(&rt;
-            is_as_wanted(written.as_bytes(), wanted.as_bytes()),
-            "{written}"
-        );
+    for row in ROWS {
+        check_row(&rt, rt.alloc(), row)?;
     }
     Ok(())
 }
@@ -268,7 +281,7 @@ fn there_and_back(rt: HostRuntime) -> Result<(), Fail> {
     let lines = "record 0 OK 14\nrecord 1 OK 14\n";
     let wanted = joined(alloc, &[RECEIVER_DONE, lines, TWO_IN, NONE_OUT, CHANNEL])?;
     assert_eq!(&rt; back.fault, "");
-    assert_eq!(&rt; back.text.as_slice(), wanted.as_bytes());
+    check_text(&rt, back.text.as_slice(), wanted.as_str());
     assert_eq!(&rt; back.output.as_slice(), input.as_slice());
     Ok(())
 }

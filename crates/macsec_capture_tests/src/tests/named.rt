@@ -3,8 +3,9 @@
 use super::{MICRO, RECEIVER, RECORD, SENDER, SENDER_DONE, joined, octets};
 use macsec_capture::Direction;
 use macsec_program::{CapturePaths, capture_named, tell};
-use std::fs;
+use std::process::Abort;
 use std::test::Fail;
+use std::{fs, io};
 
 /// How the run over files of these names ends: its status, and what is told.
 fn end_of(
@@ -27,14 +28,37 @@ fn end_of(
     (status, told)
 }
 
+/// A protection over files of these names ends with this status, tells this, and prints this.
+fn check_end(rt: &impl Abort, found: (u8, Vec<u8>), text: &[u8], wanted: (u8, &str, &str)) {
+    let (status, line) = found;
+    let (wanted_status, told, printed) = wanted;
+    assert_eq!(rt; status, wanted_status);
+    assert_eq!(rt; line.as_slice(), told.as_bytes());
+    assert_eq!(rt; text, printed.as_bytes());
+}
+
+/// Writes a file of this name.
+fn write_file(rt: &HostRuntime, name: &str, octets: &[u8]) -> io::Result<()> {
+    fs::write(rt, name, octets)
+}
+
+/// Removes the files of these names.
+fn remove_files(rt: &HostRuntime, names: &[&str]) -> io::Result<()> {
+    for name in names {
+        fs::remove_file(rt, *name)?;
+    }
+    Ok(())
+}
+
 /// Files that can't be opened are reported in the order of their names, before a fault of the configuration; else the
 /// status is that of the run.
 #[test]
 fn ends_of_named_captures(rt: HostRuntime) -> Result<(), Fail> {
     let alloc = rt.alloc();
-    fs::write(&rt, "sender", SENDER)?;
-    fs::write(&rt, "fault", "frob\n")?;
-    fs::write(&rt, "cut", octets(alloc, &[MICRO, "00"])?.as_slice())?;
+    let cut = octets(alloc, &[MICRO, "00"])?;
+    write_file(&rt, "sender", SENDER.as_bytes())?;
+    write_file(&rt, "fault", b"frob\n")?;
+    write_file(&rt, "cut", cut.as_slice())?;
     for (names, status, told, printed) in [
         (["no", "not", "no/out"], 1, "macsec: cannot open no\n", ""),
         (
@@ -64,14 +88,10 @@ fn ends_of_named_captures(rt: HostRuntime) -> Result<(), Fail> {
         ),
     ] {
         let mut text = Vec::new(alloc);
-        let (found, line) = end_of(&rt, Direction::Protect, names, &mut text);
-        assert_eq!(&rt; found, status);
-        assert_eq!(&rt; line.as_slice(), told.as_bytes());
-        assert_eq!(&rt; text.as_slice(), printed.as_bytes());
+        let found = end_of(&rt, Direction::Protect, names, &mut text);
+        check_end(&rt, found, text.as_slice(), (status, told, printed));
     }
-    for name in ["sender", "fault", "cut", "made"] {
-        fs::remove_file(&rt, name)?;
-    }
+    remove_files(&rt, &["sender", "fault", "cut", "made"])?;
     Ok(())
 }
 
@@ -80,25 +100,24 @@ fn ends_of_named_captures(rt: HostRuntime) -> Result<(), Fail> {
 fn files_there_and_back(rt: HostRuntime) -> Result<(), Fail> {
     let alloc = rt.alloc();
     let frames = octets(alloc, &[MICRO, RECORD, RECORD])?;
-    fs::write(&rt, "from", SENDER)?;
-    fs::write(&rt, "to", RECEIVER)?;
-    fs::write(&rt, "frames", frames.as_slice())?;
-    fs::write(
-        &rt,
-        "back",
-        joined(alloc, &[SENDER, SENDER, RECEIVER])?.as_str(),
-    )?;
+    let long = joined(alloc, &[SENDER, SENDER, RECEIVER])?;
+    for (name, octets) in [
+        ("from", SENDER.as_bytes()),
+        ("to", RECEIVER.as_bytes()),
+        ("frames", frames.as_slice()),
+        ("back", long.as_bytes()),
+    ] {
+        write_file(&rt, name, octets)?;
+    }
     for (direction, names) in [
         (Direction::Protect, ["from", "frames", "sent"]),
         (Direction::Validate, ["to", "sent", "back"]),
     ] {
         let (status, told) = end_of(&rt, direction, names, &mut Vec::new(alloc));
-        assert_eq!(&rt; status, 0);
-        assert!(&rt; told.is_empty());
+        assert!(&rt; status == 0 && told.is_empty());
     }
-    assert_eq!(&rt; fs::read(&rt, "back")?.as_slice(), frames.as_slice());
-    for name in ["from", "to", "frames", "sent", "back"] {
-        fs::remove_file(&rt, name)?;
-    }
+    let back = fs::read(&rt, "back")?;
+    assert_eq!(&rt; back.as_slice(), frames.as_slice());
+    remove_files(&rt, &["from", "to", "frames", "sent", "back"])?;
     Ok(())
 }
