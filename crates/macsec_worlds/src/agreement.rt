@@ -1,10 +1,8 @@
 //! Whether the ends of the code do what the plain rule says.
 
-use crate::plain_end::PlainEnd;
-use crate::plain_world::{Answer, PlainWorld};
 use crate::scenario::{SCI_A, SCI_B};
-use crate::sending::Seal;
 use macsec_link::{An, End, Outcome, Secy, World, WorldFault};
+use macsec_plain_rule::{Answer, PlainEnd, PlainWorld, Seal};
 
 /// Do the code and the plain rule say the same of an event, after which these are the worlds?
 pub fn agrees(
@@ -102,7 +100,7 @@ pub fn logs_agree(world: &World, plain: &PlainWorld) -> bool {
 fn is_log(log: &[Vec<u8>], sealed: &[Seal], key: u8) -> bool {
     let mut kept = log.iter();
     for seal in sealed {
-        if seal.key.key.number == key {
+        if seal.key.number == key {
             match kept.next() {
                 Some(frame) if frame.as_slice() == seal.client.as_slice() => (),
                 _ => return false,

@@ -1,8 +1,8 @@
 //! What a search went through, as counts.
 
-use crate::plain_world::{Answer, Step};
 use macsec_link::{Refusal, Verdict};
-use std::alloc::{AllocError, Global};
+use macsec_plain_rule::{Answer, Step};
+use std::fmt;
 
 /// The verdicts, in the order in which they are printed.
 const VERDICTS: [Verdict; 12] = [
@@ -83,61 +83,70 @@ impl Coverage {
 
     /// Counts a step.
     pub fn count(&mut self, step: &Step) {
-        self.steps = self.steps.saturating_add(1);
-        self.seals = self.seals.saturating_add(u64::from(step.sealed));
-        self.accepted = self.accepted.saturating_add(u64::from(step.accepted));
+        add(&mut self.steps, true);
+        add(&mut self.seals, step.sealed);
+        add(&mut self.accepted, step.accepted);
         match &step.answer {
-            Answer::Done => self.done = self.done.saturating_add(1),
-            Answer::Made => self.link_frames = self.link_frames.saturating_add(1),
-            Answer::Dropped(_) => self.dropped = self.dropped.saturating_add(1),
-            Answer::Fault(_) => self.faults = self.faults.saturating_add(1),
-            Answer::Refused(refusal) => {
-                for (other, count) in REFUSALS.iter().zip(self.refusals.iter_mut()) {
-                    *count = count.saturating_add(u64::from(other == refusal));
-                }
-            }
+            Answer::Done => add(&mut self.done, true),
+            Answer::Made => add(&mut self.link_frames, true),
+            Answer::Dropped(_) => add(&mut self.dropped, true),
+            Answer::Fault(_) => add(&mut self.faults, true),
+            Answer::Refused(refusal) => count_refusal(&mut self.refusals, *refusal),
             Answer::Heard(verdict, controlled) => {
-                let delivered = u64::from(controlled.is_some());
-                self.delivered = self.delivered.saturating_add(delivered);
-                for (other, count) in VERDICTS.iter().zip(self.verdicts.iter_mut()) {
-                    *count = count.saturating_add(u64::from(other == verdict));
-                }
+                add(&mut self.delivered, controlled.is_some());
+                count_verdict(&mut self.verdicts, *verdict);
             }
         }
     }
+}
 
-    /// The counts as text.
-    pub fn text(&self, alloc: Global) -> Result<String, AllocError> {
-        let lists = self.lists;
-        let stand_for = self.stand_for;
-        let steps = self.steps;
-        let done = self.done;
-        let link_frames = self.link_frames;
-        let seals = self.seals;
-        let delivered = self.delivered;
-        let accepted = self.accepted;
-        let dropped = self.dropped;
-        let faults = self.faults;
-        let mut text = format!(in alloc;
-            "lists {lists} for {stand_for}, steps {steps}: commands done {done}, link frames {link_frames}, seals {seals}, "
+/// Counts an event, if it is of the kind that is counted.
+fn add(count: &mut u64, is_counted: bool) {
+    *count = count.saturating_add(u64::from(is_counted));
+}
+
+fn count_refusal(counts: &mut [u64; 14], refusal: Refusal) {
+    for (other, count) in REFUSALS.iter().zip(counts.iter_mut()) {
+        add(count, *other == refusal);
+    }
+}
+
+fn count_verdict(counts: &mut [u64; 12], verdict: Verdict) {
+    for (other, count) in VERDICTS.iter().zip(counts.iter_mut()) {
+        add(count, *other == verdict);
+    }
+}
+
+impl fmt::Display for Coverage {
+    fn fmt<W: fmt::Write>(&self, f: &mut fmt::Formatter<W>) -> fmt::Result {
+        write!(
+            f,
+            "lists {} for {}, steps {}: ",
+            self.lists, self.stand_for, self.steps
         )?;
-        let rest = format!(in alloc;
-            "delivered {delivered}, accepted as they had to be {accepted}, drops {dropped}, faults {faults}\n"
+        write!(
+            f,
+            "commands done {}, link frames {}, ",
+            self.done, self.link_frames
         )?;
-        text.push_str(rest.as_str())?;
-        text.push_str("verdicts:")?;
+        write!(f, "seals {}, delivered {}, ", self.seals, self.delivered)?;
+        write!(
+            f,
+            "accepted as they had to be {}, drops {}, ",
+            self.accepted, self.dropped
+        )?;
+        write!(f, "faults {}\nverdicts:", self.faults)?;
         for (verdict, count) in VERDICTS.iter().zip(&self.verdicts) {
             if *count > 0 {
-                text.push_str(format!(in alloc; " {verdict} {count}")?.as_str())?;
+                write!(f, " {verdict} {count}")?;
             }
         }
-        text.push_str("\nrefusals:")?;
+        write!(f, "\nrefusals:")?;
         for (refusal, count) in REFUSALS.iter().zip(&self.refusals) {
             if *count > 0 {
-                text.push_str(format!(in alloc; " {refusal:?} {count}")?.as_str())?;
+                write!(f, " {refusal:?} {count}")?;
             }
         }
-        text.push_str("\n")?;
-        Ok(text)
+        writeln!(f)
     }
 }

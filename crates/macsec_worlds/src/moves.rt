@@ -1,5 +1,6 @@
 //! What a list says: the moves that the events of a world are made of.
 
+use crate::scenario::sci_of;
 use macsec_link::{Command, End, Event, Frame, Sci};
 use std::alloc::{AllocError, Global};
 
@@ -20,11 +21,11 @@ pub enum Move {
 
 impl Move {
     /// The event. A client frame tells by its last octet how many were sent before it.
-    pub fn event(self, alloc: Global, sender: Sci, sent: u8) -> Result<Event, AllocError> {
+    pub fn event(self, alloc: Global, sent: u8) -> Result<Event, AllocError> {
         match self {
             Move::Command(end, command) => Ok(Event::Command(end, command)),
             Move::Send(end) => {
-                let client = client_frame(sender, sent);
+                let client = client_frame(sci_of(end), sent);
                 Ok(Event::Send(end, Frame::new(client.to_vec(alloc)?)))
             }
             Move::Deliver(end, n) => Ok(Event::Deliver(end, n)),

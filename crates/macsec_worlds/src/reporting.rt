@@ -1,10 +1,11 @@
 //! What the program's words ask for, and what it prints.
 
+use crate::Scenario;
 use crate::coverage::Coverage;
-use crate::script::script;
+use crate::script::Script;
 use crate::search::{By, Finding, search_all, search_random};
-use crate::{Plant, Scenario};
 use anyhow::{Context, bail};
+use macsec_plain_rule::Plant;
 use rand_pcg::Pcg32;
 use std::alloc::Global;
 
@@ -42,12 +43,21 @@ fn report_lists(rt: &impl Print, alloc: Global, depth: u32) -> anyhow::Result<bo
     println!(rt; "all lists of {depth} moves")?;
     let mut good = true;
     for scenario in Scenario::ALL {
-        let mut coverage = Coverage::new();
-        let found = search_all(alloc, By::Code, scenario, depth, &mut coverage)?;
-        good &= found.is_none();
-        print_world(rt, alloc, scenario, &coverage, found)?;
+        good &= report_world(rt, alloc, scenario, depth)?;
     }
     Ok(good)
+}
+
+/// Carries out all lists of this length in a world.
+fn report_world(
+    rt: &impl Print,
+    alloc: Global,
+    scenario: Scenario,
+    depth: u32,
+) -> anyhow::Result<bool> {
+    let mut coverage = Coverage::new();
+    let found = search_all(alloc, By::Code, scenario, depth, &mut coverage)?;
+    print_world(rt, alloc, scenario, &coverage, found)
 }
 
 /// Carries out so many random lists in each world.
@@ -56,49 +66,58 @@ fn report_random(rt: &impl Print, alloc: Global, lists: u32, seed: u32) -> anyho
     let mut good = true;
     let mut random = Pcg32::new(u64::from(seed), 0);
     for scenario in Scenario::ALL {
-        let mut coverage = Coverage::new();
-        let found = search_random(
-            alloc,
-            By::Code,
-            scenario,
-            lists,
-            RANDOM_LENGTH,
-            &mut random,
-            &mut coverage,
-        )?;
-        good &= found.is_none();
-        print_world(rt, alloc, scenario, &coverage, found)?;
+        good &= report_random_world(rt, alloc, scenario, lists, &mut random)?;
     }
     Ok(good)
 }
 
-/// Prints what was gone through in a world, and what was found.
+/// Carries out so many random lists in a world.
+fn report_random_world(
+    rt: &impl Print,
+    alloc: Global,
+    scenario: Scenario,
+    lists: u32,
+    random: &mut Pcg32,
+) -> anyhow::Result<bool> {
+    let mut coverage = Coverage::new();
+    let found = search_random(alloc, scenario, lists, RANDOM_LENGTH, random, &mut coverage)?;
+    print_world(rt, alloc, scenario, &coverage, found)
+}
+
+/// Prints what was gone through in a world, and what was found. Returns whether nothing was.
 fn print_world(
     rt: &impl Print,
     alloc: Global,
     scenario: Scenario,
     coverage: &Coverage,
     found: Option<Finding>,
-) -> anyhow::Result<()> {
+) -> anyhow::Result<bool> {
     let name = scenario.name();
     let letters = scenario.alphabet(alloc)?.len();
     println!(rt; "world {name}, {letters} moves")?;
-    let text = coverage.text(alloc)?;
-    print!(rt; "{text}")?;
+    print!(rt; "{coverage}")?;
     match found {
-        None => println!(rt; "no counter-example")?,
-        Some(found) => print_finding(rt, alloc, &found)?,
+        None => {
+            println!(rt; "no counter-example")?;
+            Ok(true)
+        }
+        Some(found) => {
+            print_finding(rt, &found)?;
+            Ok(false)
+        }
     }
-    Ok(())
 }
 
 /// Prints a counter-example, its script included.
-fn print_finding(rt: &impl Print, alloc: Global, found: &Finding) -> anyhow::Result<()> {
+fn print_finding(rt: &impl Print, found: &Finding) -> anyhow::Result<()> {
     let breach = found.breach.name();
     let name = found.scenario.name();
-    let text = script(alloc, found.scenario, found.moves.as_slice())?;
+    let script = Script {
+        scenario: found.scenario,
+        moves: found.moves.as_slice(),
+    };
     println!(rt; "counter-example in world {name}: {breach}")?;
-    print!(rt; "{text}")?;
+    print!(rt; "{script}")?;
     Ok(())
 }
 
@@ -123,20 +142,29 @@ fn report_plants(rt: &impl Print, alloc: Global) -> anyhow::Result<bool> {
     let mut good = true;
     for plant in Plant::ALL {
         let (found, lists) = find_plant(alloc, plant)?;
-        let name = plant.name();
-        match found {
-            None => {
-                good = false;
-                println!(rt; "{name}: not found in {lists} lists")?;
-            }
-            Some(found) => {
-                let breach = found.breach.name();
-                let world = found.scenario.name();
-                println!(rt; "{name}: found after {lists} lists, in world {world}: {breach}")?;
-            }
-        }
+        good &= found.is_some();
+        print_found(rt, plant, found.as_ref(), lists)?;
     }
     Ok(good)
+}
+
+/// Prints what a planted mistake brought about after so many lists.
+fn print_found(
+    rt: &impl Print,
+    plant: Plant,
+    found: Option<&Finding>,
+    lists: u64,
+) -> anyhow::Result<()> {
+    let name = plant.name();
+    match found {
+        None => println!(rt; "{name}: not found in {lists} lists")?,
+        Some(found) => {
+            let breach = found.breach.name();
+            let world = found.scenario.name();
+            println!(rt; "{name}: found after {lists} lists, in world {world}: {breach}")?;
+        }
+    }
+    Ok(())
 }
 
 /// Looks for one planted mistake, and prints the counter-example.
@@ -152,7 +180,7 @@ fn report_plant(rt: &impl Print, alloc: Global, name: &str) -> anyhow::Result<bo
         }
         Some(found) => {
             println!(rt; "{name}: found after {lists} lists")?;
-            print_finding(rt, alloc, &found)?;
+            print_finding(rt, &found)?;
             Ok(true)
         }
     }

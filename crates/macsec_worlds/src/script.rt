@@ -3,23 +3,30 @@
 use crate::moves::client_frame;
 use crate::scenario::sci_of;
 use crate::{Move, Scenario};
-use macsec_link::{An, Command, End, EndConfig, Key, Mode, NewKey, Sci, Suite, TagForm};
-use std::alloc::{AllocError, Global};
+use macsec_link::{Command, End, EndConfig, Key, Mode, NewKey, Suite, TagForm};
+use std::fmt;
 
 /// The script of these moves in a world, its first moves among them.
-pub fn script(alloc: Global, scenario: Scenario, moves: &[Move]) -> Result<String, AllocError> {
-    let mut text = String::new(alloc);
-    for end in [End::A, End::B] {
-        push_end(&mut text, alloc, end, scenario.config(end))?;
-    }
-    let mut sent = 0u8;
-    for done in moves {
-        push_move(&mut text, alloc, *done, sent)?;
-        if let Move::Send(_) = done {
-            sent = sent.wrapping_add(1);
+#[derive(Clone, Copy)]
+pub struct Script<'a> {
+    pub scenario: Scenario,
+    pub moves: &'a [Move],
+}
+
+impl fmt::Display for Script<'_> {
+    fn fmt<W: fmt::Write>(&self, f: &mut fmt::Formatter<W>) -> fmt::Result {
+        for end in [End::A, End::B] {
+            let config = EndText(self.scenario.config(end));
+            writeln!(f, "end {} {config}", end_name(end))?;
         }
+        let mut sent = 0u8;
+        for done in self.moves {
+            let line = Line { done: *done, sent };
+            writeln!(f, "{line}")?;
+            sent = sent.wrapping_add(u8::from(matches!(done, Move::Send(_))));
+        }
+        Ok(())
     }
-    Ok(text)
 }
 
 fn end_name(end: End) -> &'static str {
@@ -29,204 +36,149 @@ fn end_name(end: End) -> &'static str {
     }
 }
 
-fn push_end(
-    text: &mut String,
-    alloc: Global,
-    end: End,
-    config: EndConfig,
-) -> Result<(), AllocError> {
-    text.push_str("end ")?;
-    text.push_str(end_name(end))?;
-    text.push_str(match config.suite {
-        Suite::Gcm128 => " gcm128",
-        Suite::Gcm256 => " gcm256",
-        Suite::Xpn128 => " xpn128",
-        Suite::Xpn256 => " xpn256",
-    })?;
-    push_hex(text, alloc, &config.sci.0)?;
-    push_number(text, alloc, u64::from(config.max_frame))?;
-    text.push_str(match config.form {
-        TagForm::Auto => " auto\n",
-        TagForm::Sci => " sci\n",
-        TagForm::Es => " es\n",
-        TagForm::Scb => " scb\n",
-    })
-}
-
-/// Adds a word of hex digits.
-fn push_hex(text: &mut String, alloc: Global, octets: &[u8]) -> Result<(), AllocError> {
-    text.push_str(" ")?;
-    for octet in octets {
-        let word = format!(in alloc; "{octet:02x}")?;
-        text.push_str(word.as_str())?;
-    }
-    Ok(())
-}
-
-/// Adds a word that is a decimal number.
-fn push_number(text: &mut String, alloc: Global, number: u64) -> Result<(), AllocError> {
-    let word = format!(in alloc; " {number}")?;
-    text.push_str(word.as_str())
-}
-
-fn push_move(text: &mut String, alloc: Global, done: Move, sent: u8) -> Result<(), AllocError> {
-    match done {
-        Move::Command(end, command) => {
-            text.push_str(end_name(end))?;
-            push_command(text, alloc, &command)?;
-        }
-        Move::Send(end) => {
-            text.push_str(end_name(end))?;
-            text.push_str(" send")?;
-            push_hex(text, alloc, &client_frame(sci_of(end), sent))?;
-        }
-        Move::Deliver(end, n) => {
-            text.push_str(end_name(end))?;
-            text.push_str(" deliver")?;
-            push_number(text, alloc, u64::from(n))?;
-        }
-        Move::Alter(n, place, octet) => {
-            text.push_str("alter")?;
-            push_number(text, alloc, u64::from(n))?;
-            push_number(text, alloc, u64::from(place))?;
-            push_hex(text, alloc, &[octet])?;
-        }
-        Move::Pad(n) => {
-            text.push_str("pad")?;
-            push_number(text, alloc, u64::from(n))?;
-        }
-    }
-    text.push_str("\n")
-}
-
-/// The words of a command on associations and channels, in the order in which they are written.
+/// Octets as a word of hex digits.
 #[derive(Clone, Copy)]
-struct Words {
-    sci: Option<Sci>,
-    an: Option<An>,
-    key: Option<u8>,
-    pn: Option<u64>,
-    last: Option<u32>,
-}
+struct Hex<'a>(&'a [u8]);
 
-/// No words.
-const NO_WORDS: Words = Words {
-    sci: None,
-    an: None,
-    key: None,
-    pn: None,
-    last: None,
-};
-
-/// The words of a command; an SSCI is the last one.
-fn words_of(command: &Command) -> Words {
-    let mut words = NO_WORDS;
-    match *command {
-        Command::RxSc(sci) | Command::RxScDel(sci) => words.sci = Some(sci),
-        Command::TxOn(an) | Command::TxOff(an) | Command::TxDel(an) => words.an = Some(an),
-        Command::RxOn(sci, an) | Command::RxOff(sci, an) | Command::RxDel(sci, an) => {
-            words.sci = Some(sci);
-            words.an = Some(an);
+impl fmt::Display for Hex<'_> {
+    fn fmt<W: fmt::Write>(&self, f: &mut fmt::Formatter<W>) -> fmt::Result {
+        for octet in self.0 {
+            write!(f, "{octet:02x}")?;
         }
-        Command::RxLow { sci, an, pn } => {
-            words.sci = Some(sci);
-            words.an = Some(an);
-            words.pn = Some(pn);
+        Ok(())
+    }
+}
+
+/// The words of a configuration behind the end's name.
+#[derive(Clone, Copy)]
+struct EndText(EndConfig);
+
+impl fmt::Display for EndText {
+    fn fmt<W: fmt::Write>(&self, f: &mut fmt::Formatter<W>) -> fmt::Result {
+        let EndText(config) = *self;
+        let suite = match config.suite {
+            Suite::Gcm128 => "gcm128",
+            Suite::Gcm256 => "gcm256",
+            Suite::Xpn128 => "xpn128",
+            Suite::Xpn256 => "xpn256",
+        };
+        let form = form_name(config.form);
+        write!(
+            f,
+            "{suite} {} {} {form}",
+            Hex(&config.sci.0),
+            config.max_frame
+        )
+    }
+}
+
+fn form_name(form: TagForm) -> &'static str {
+    match form {
+        TagForm::Auto => "auto",
+        TagForm::Sci => "sci",
+        TagForm::Es => "es",
+        TagForm::Scb => "scb",
+    }
+}
+
+fn mode_name(mode: Mode) -> &'static str {
+    match mode {
+        Mode::Disabled => "disabled",
+        Mode::Check => "check",
+        Mode::Strict => "strict",
+    }
+}
+
+fn switch_name(on: bool) -> &'static str {
+    if on { "on" } else { "off" }
+}
+
+/// The line of a move before which so many client frames were sent.
+#[derive(Clone, Copy)]
+struct Line {
+    done: Move,
+    sent: u8,
+}
+
+impl fmt::Display for Line {
+    fn fmt<W: fmt::Write>(&self, f: &mut fmt::Formatter<W>) -> fmt::Result {
+        match self.done {
+            Move::Command(end, command) => write!(f, "{} {}", end_name(end), Words(command)),
+            Move::Send(end) => {
+                let client = client_frame(sci_of(end), self.sent);
+                write!(f, "{} send {}", end_name(end), Hex(&client))
+            }
+            Move::Deliver(end, n) => write!(f, "{} deliver {n}", end_name(end)),
+            Move::Alter(n, place, octet) => write!(f, "alter {n} {place} {octet:02x}"),
+            Move::Pad(n) => write!(f, "pad {n}"),
         }
-        Command::TxSa { an, key, next, .. } => {
-            words.an = Some(an);
-            words.key = Some(key);
-            words.pn = Some(next);
+    }
+}
+
+/// A command as words.
+#[derive(Clone, Copy)]
+struct Words(Command);
+
+impl fmt::Display for Words {
+    fn fmt<W: fmt::Write>(&self, f: &mut fmt::Formatter<W>) -> fmt::Result {
+        match self.0 {
+            Command::Protect(on) => write!(f, "protect {}", switch_name(on)),
+            Command::Validate(mode) => write!(f, "validate {}", mode_name(mode)),
+            Command::Replay { protect, window } => {
+                write!(f, "replay {} {window}", switch_name(protect))
+            }
+            Command::Tag(form) => write!(f, "tag {}", form_name(form)),
+            Command::Key(key) => write!(f, "key {}", KeyWords(key)),
+            Command::Retire(key) => write!(f, "retire {key}"),
+            Command::TxSa {
+                an,
+                key,
+                next,
+                conf,
+            } => {
+                let protection = if conf { "conf" } else { "int" };
+                write!(f, "txsa {} {key} {next:016x} {protection}", an.number())
+            }
+            Command::TxOn(an) => write!(f, "txon {}", an.number()),
+            Command::TxOff(an) => write!(f, "txoff {}", an.number()),
+            Command::TxDel(an) => write!(f, "txdel {}", an.number()),
+            Command::RxSc(sci) => write!(f, "rxsc {}", Hex(&sci.0)),
+            Command::RxScDel(sci) => write!(f, "rxscdel {}", Hex(&sci.0)),
+            Command::RxSa {
+                sci,
+                an,
+                key,
+                ssci,
+                lowest,
+            } => {
+                let sci = Hex(&sci.0);
+                write!(
+                    f,
+                    "rxsa {sci} {} {key} {lowest:016x} {ssci:08x}",
+                    an.number()
+                )
+            }
+            Command::RxOn(sci, an) => write!(f, "rxon {} {}", Hex(&sci.0), an.number()),
+            Command::RxOff(sci, an) => write!(f, "rxoff {} {}", Hex(&sci.0), an.number()),
+            Command::RxLow { sci, an, pn } => {
+                write!(f, "rxlow {} {} {pn:016x}", Hex(&sci.0), an.number())
+            }
+            Command::RxDel(sci, an) => write!(f, "rxdel {} {}", Hex(&sci.0), an.number()),
         }
-        Command::RxSa {
-            sci,
-            an,
-            key,
-            ssci,
-            lowest,
-        } => {
-            words.sci = Some(sci);
-            words.an = Some(an);
-            words.key = Some(key);
-            words.pn = Some(lowest);
-            words.last = Some(ssci);
+    }
+}
+
+/// The words of a key.
+#[derive(Clone, Copy)]
+struct KeyWords(NewKey);
+
+impl fmt::Display for KeyWords {
+    fn fmt<W: fmt::Write>(&self, f: &mut fmt::Formatter<W>) -> fmt::Result {
+        let KeyWords(key) = *self;
+        match &key.bytes {
+            Key::K128(bytes) => write!(f, "{} {}", key.number, Hex(bytes))?,
+            Key::K256(bytes) => write!(f, "{} {}", key.number, Hex(bytes))?,
         }
-        Command::Key(key) => words.key = Some(key.number),
-        Command::Retire(key) => words.key = Some(key),
-        _ => (),
+        write!(f, " {} {:08x} {}", key.offset, key.ssci, Hex(&key.salt))
     }
-    words
-}
-
-/// The first word of a command, and the second one if it is a keyword too.
-fn word_of(command: &Command) -> &'static str {
-    match *command {
-        Command::Protect(true) => " protect on",
-        Command::Protect(false) => " protect off",
-        Command::Validate(Mode::Disabled) => " validate disabled",
-        Command::Validate(Mode::Check) => " validate check",
-        Command::Validate(Mode::Strict) => " validate strict",
-        Command::Replay { protect: true, .. } => " replay on",
-        Command::Replay { protect: false, .. } => " replay off",
-        Command::Tag(TagForm::Auto) => " tag auto",
-        Command::Tag(TagForm::Sci) => " tag sci",
-        Command::Tag(TagForm::Es) => " tag es",
-        Command::Tag(TagForm::Scb) => " tag scb",
-        Command::Key(_) => " key",
-        Command::Retire(_) => " retire",
-        Command::TxSa { .. } => " txsa",
-        Command::TxOn(_) => " txon",
-        Command::TxOff(_) => " txoff",
-        Command::TxDel(_) => " txdel",
-        Command::RxSc(_) => " rxsc",
-        Command::RxScDel(_) => " rxscdel",
-        Command::RxSa { .. } => " rxsa",
-        Command::RxOn(_, _) => " rxon",
-        Command::RxOff(_, _) => " rxoff",
-        Command::RxLow { .. } => " rxlow",
-        Command::RxDel(_, _) => " rxdel",
-    }
-}
-
-fn push_command(text: &mut String, alloc: Global, command: &Command) -> Result<(), AllocError> {
-    text.push_str(word_of(command))?;
-    let words = words_of(command);
-    push_words(text, alloc, &words)?;
-    match *command {
-        Command::Replay { window, .. } => push_number(text, alloc, window),
-        Command::TxSa { conf: true, .. } => text.push_str(" conf"),
-        Command::TxSa { conf: false, .. } => text.push_str(" int"),
-        Command::Key(key) => push_key(text, alloc, &key),
-        _ => Ok(()),
-    }
-}
-
-fn push_words(text: &mut String, alloc: Global, words: &Words) -> Result<(), AllocError> {
-    if let Some(sci) = words.sci {
-        push_hex(text, alloc, &sci.0)?;
-    }
-    if let Some(an) = words.an {
-        push_number(text, alloc, u64::from(an.number()))?;
-    }
-    if let Some(key) = words.key {
-        push_number(text, alloc, u64::from(key))?;
-    }
-    if let Some(pn) = words.pn {
-        push_hex(text, alloc, &pn.to_be_bytes())?;
-    }
-    if let Some(last) = words.last {
-        push_hex(text, alloc, &last.to_be_bytes())?;
-    }
-    Ok(())
-}
-
-/// The words of a key behind its number.
-fn push_key(text: &mut String, alloc: Global, key: &NewKey) -> Result<(), AllocError> {
-    match &key.bytes {
-        Key::K128(bytes) => push_hex(text, alloc, bytes)?,
-        Key::K256(bytes) => push_hex(text, alloc, bytes)?,
-    }
-    push_number(text, alloc, u64::from(key.offset))?;
-    push_hex(text, alloc, &key.ssci.to_be_bytes())?;
-    push_hex(text, alloc, &key.salt)
 }

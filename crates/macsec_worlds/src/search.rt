@@ -2,10 +2,9 @@
 
 use crate::agreement::{agrees, logs_agree};
 use crate::coverage::Coverage;
-use crate::plain_world::{Answer, PlainWorld};
-use crate::scenario::sci_of;
-use crate::{Breach, Move, Plant, Scenario};
+use crate::{Move, Scenario};
 use macsec_link::{End, Event, Outcome, World, WorldFault};
+use macsec_plain_rule::{Answer, Breach, PlainWorld, Plant, Step};
 use rand_core::utils::NextWord;
 use rand_pcg::Pcg32;
 use std::alloc::{AllocError, Global};
@@ -60,24 +59,27 @@ impl Run {
     }
 
     /// Carries out a move.
-    fn step(&mut self, done: Move, coverage: &mut Coverage) -> anyhow::Result<Went> {
-        let sender = match done {
-            Move::Send(end) => {
-                self.sent = self.sent.wrapping_add(1);
-                sci_of(end)
-            }
-            _ => sci_of(End::A),
-        };
-        let event = done.event(self.alloc, sender, self.sent.wrapping_sub(1))?;
+    fn step(&mut self, done: Move, coverage: &mut Coverage) -> Result<Went, AllocError> {
+        let event = done.event(self.alloc, self.sent)?;
+        self.sent = self
+            .sent
+            .wrapping_add(u8::from(matches!(done, Move::Send(_))));
         let step = self.plain.step(&event)?;
         coverage.count(&step);
-        let is_idle = matches!(step.answer, Answer::Refused(_) | Answer::Fault(_));
-        let breach = if self.agrees(&event, &step.answer) {
+        Ok(self.compare(&event, &step))
+    }
+
+    /// Carries out an event by the code, and compares what came of it.
+    fn compare(&mut self, event: &Event, step: &Step) -> Went {
+        let breach = if self.agrees(event, &step.answer) {
             step.breach
         } else {
             Some(Breach::Disagreement)
         };
-        Ok(Went { breach, is_idle })
+        Went {
+            breach,
+            is_idle: matches!(step.answer, Answer::Refused(_) | Answer::Fault(_)),
+        }
     }
 
     /// Does the code say the same of an event?
@@ -216,10 +218,10 @@ fn push_list(
     Ok(())
 }
 
-/// Carries out so many random lists of so many moves of a world's alphabet, at random link frames. Returns what was found first.
+/// Carries out so many random lists of so many moves of a world's alphabet, at random link frames, by the code. Returns what
+/// was found first.
 pub fn search_random(
     alloc: Global,
-    by: By,
     scenario: Scenario,
     lists: u32,
     length: u32,
@@ -236,7 +238,7 @@ pub fn search_random(
                 moves.push(letter)?;
             }
         }
-        let ended = run_list(alloc, by, scenario, moves.as_slice(), false, coverage)?;
+        let ended = run_list(alloc, By::Code, scenario, moves.as_slice(), false, coverage)?;
         coverage.count_list(1);
         if let Ended::Breach(breach, place) = ended {
             return Ok(found_after(breach, scenario, moves, place));

@@ -15,22 +15,27 @@ pub struct PlainKey {
     pub first_unused: u128,
 }
 
-/// An end as lists of rows, and what it sealed. Its receive associations stay in their list when they are deleted.
+/// An end as lists of rows, and what it sealed. Its receive associations stay in their list when they are deleted. There may be
+/// a mistake in its rule.
 #[derive(Drop)]
 pub struct PlainEnd {
-    pub config: EndConfig,
+    pub(crate) alloc: Global,
+    pub(crate) plant: Option<Plant>,
+    pub(crate) config: EndConfig,
     pub options: Options,
-    pub keys: Vec<PlainKey>,
-    pub tx: [Option<TxRow>; 4],
-    pub channels: Vec<Sci>,
+    pub(crate) keys: Vec<PlainKey>,
+    pub(crate) tx: Vec<TxRow>,
+    pub(crate) channels: Vec<Sci>,
     pub rx: Vec<Association>,
     pub sealed: Vec<Seal>,
 }
 
 impl PlainEnd {
     /// A new end.
-    pub fn new(alloc: Global, config: EndConfig) -> PlainEnd {
+    pub fn new(alloc: Global, plant: Option<Plant>, config: EndConfig) -> PlainEnd {
         PlainEnd {
+            alloc,
+            plant,
             config,
             options: Options {
                 protect: true,
@@ -40,7 +45,7 @@ impl PlainEnd {
                 form: config.form,
             },
             keys: Vec::new(alloc),
-            tx: [None; 4],
+            tx: Vec::new(alloc),
             channels: Vec::new(alloc),
             rx: Vec::new(alloc),
             sealed: Vec::new(alloc),
@@ -59,13 +64,18 @@ impl PlainEnd {
 
     /// The transmit association of this number.
     pub fn tx_row(&self, an: An) -> Option<TxRow> {
-        self.tx[usize::from(an.number())]
+        for row in self.tx.iter() {
+            if row.an == an {
+                return Some(*row);
+            }
+        }
+        None
     }
 
     /// The receive association of this channel and number, and its place among those ever created.
     pub fn rx_row(&self, sci: Sci, an: An) -> Option<(usize, &Association)> {
         for (place, made) in self.rx.iter().enumerate() {
-            if made.live && made.row.sci == sci && made.row.an == an {
+            if made.is(sci, an) {
                 return Some((place, made));
             }
         }
@@ -73,71 +83,47 @@ impl PlainEnd {
     }
 
     /// A command, or its first refusal by number.
-    pub fn command(
-        &mut self,
-        alloc: Global,
-        plant: Option<Plant>,
-        command: &Command,
-    ) -> Result<Result<(), Refusal>, AllocError> {
-        if let Some(refusal) = self.refusal(plant, command) {
-            return Ok(Err(refusal));
+    pub fn command(&mut self, command: &Command) -> Result<Option<Refusal>, AllocError> {
+        if let Some(refusal) = self.refusal(command) {
+            return Ok(Some(refusal));
         }
-        self.change(alloc, plant, command)?;
+        self.change(command)?;
         let strict = self.options.mode == Mode::Strict;
         let ordered = self.options.replay && self.options.window == 0;
         for made in self.rx.iter_mut() {
             made.strict &= strict;
             made.ordered &= ordered;
         }
-        Ok(Ok(()))
+        Ok(None)
     }
 
     /// What a command changes.
-    fn change(
-        &mut self,
-        alloc: Global,
-        plant: Option<Plant>,
-        command: &Command,
-    ) -> Result<(), AllocError> {
+    fn change(&mut self, command: &Command) -> Result<(), AllocError> {
         match *command {
             Command::Protect(on) => self.options.protect = on,
             Command::Validate(mode) => self.options.mode = mode,
-            Command::Replay { protect, window } => self.set_replay(plant, protect, window),
+            Command::Replay { protect, window } => self.set_replay(protect, window),
             Command::Tag(form) => self.options.form = form,
-            Command::Key(key) => self.keys.push(PlainKey {
-                key,
-                retired: false,
-                first_unused: 1,
-            })?,
+            Command::Key(key) => self.install(key)?,
             Command::Retire(number) => self.retire(number),
             Command::TxSa {
                 an,
                 key,
                 next,
                 conf,
-            } => {
-                self.tx[usize::from(an.number())] = Some(TxRow {
-                    an,
-                    key,
-                    next: u128::from(next),
-                    conf,
-                    on: false,
-                })
-            }
+            } => self.create_tx(an, key, next, conf)?,
             Command::TxOn(an) => self.switch_tx(an, true),
             Command::TxOff(an) => self.switch_tx(an, false),
-            Command::TxDel(an) => self.tx[usize::from(an.number())] = None,
+            Command::TxDel(an) => self.tx.retain(|row| row.an != an),
             Command::RxSc(sci) => self.channels.push(sci)?,
-            Command::RxScDel(sci) => self.delete_channel(alloc, sci)?,
+            Command::RxScDel(sci) => self.delete_channel(sci),
             Command::RxSa {
                 sci,
                 an,
                 key,
                 ssci,
                 lowest,
-            } => self
-                .rx
-                .push(Association::new(alloc, sci, an, key, ssci, lowest))?,
+            } => self.create_rx(sci, an, key, ssci, lowest)?,
             Command::RxOn(sci, an) => self.switch_rx(sci, an, true),
             Command::RxOff(sci, an) => self.switch_rx(sci, an, false),
             Command::RxLow { sci, an, pn } => self.raise(sci, an, pn),
@@ -147,12 +133,21 @@ impl PlainEnd {
     }
 
     /// Sets replay protection, and narrows each association to the window.
-    fn set_replay(&mut self, plant: Option<Plant>, protect: bool, window: u64) {
+    fn set_replay(&mut self, protect: bool, window: u64) {
         self.options.replay = protect;
         self.options.window = window;
         for made in self.rx.iter_mut() {
-            made.set_window(plant, window);
+            made.set_window(self.plant, window);
         }
+    }
+
+    fn install(&mut self, key: NewKey) -> Result<(), AllocError> {
+        self.keys.push(PlainKey {
+            key,
+            retired: false,
+            first_unused: 1,
+        })?;
+        Ok(())
     }
 
     fn retire(&mut self, number: u8) {
@@ -161,15 +156,37 @@ impl PlainEnd {
         }
     }
 
+    /// Creates a transmit association, disabled.
+    fn create_tx(&mut self, an: An, key: u8, next: u64, conf: bool) -> Result<(), AllocError> {
+        self.tx.push(TxRow {
+            an,
+            key,
+            next: u128::from(next),
+            conf,
+            on: false,
+        })?;
+        Ok(())
+    }
+
     /// Switches a transmit association; at most one is enabled.
     fn switch_tx(&mut self, an: An, on: bool) {
-        for row in self.tx.iter_mut().flatten() {
-            if row.an == an {
-                row.on = on;
-            } else if on {
-                row.on = false;
-            }
+        for row in self.tx.iter_mut() {
+            row.on = if row.an == an { on } else { row.on && !on };
         }
+    }
+
+    /// Creates a receive association, disabled.
+    fn create_rx(
+        &mut self,
+        sci: Sci,
+        an: An,
+        key: u8,
+        ssci: u32,
+        lowest: u64,
+    ) -> Result<(), AllocError> {
+        let made = Association::new(self.alloc, sci, an, key, ssci, lowest);
+        self.rx.push(made)?;
+        Ok(())
     }
 
     /// Switches a receive association.
@@ -200,27 +217,20 @@ impl PlainEnd {
     }
 
     /// Deletes a channel and its associations.
-    fn delete_channel(&mut self, alloc: Global, sci: Sci) -> Result<(), AllocError> {
-        let mut kept = Vec::new(alloc);
-        for other in self.channels.iter() {
-            if *other != sci {
-                kept.push(*other)?;
-            }
-        }
-        self.channels = kept;
+    fn delete_channel(&mut self, sci: Sci) {
+        self.channels.retain(|other| *other != sci);
         for made in self.rx.iter_mut() {
-            if made.row.sci == sci {
-                made.live = false;
-            }
+            made.live &= made.row.sci != sci;
         }
-        Ok(())
     }
 
     /// This packet number of a transmit association and of its key was used.
     pub fn note_used(&mut self, an: An, key: u8, pn: u64) {
         let next = u128::from(pn) + 1;
-        if let Some(row) = &mut self.tx[usize::from(an.number())] {
-            row.next = next;
+        for row in self.tx.iter_mut() {
+            if row.an == an {
+                row.next = next;
+            }
         }
         for row in self.keys.iter_mut() {
             if row.key.number == key {
@@ -233,9 +243,7 @@ impl PlainEnd {
     pub fn has_fallen(&mut self) -> bool {
         let mut fallen = false;
         for made in self.rx.iter_mut() {
-            if made.has_fallen() && made.live {
-                fallen = true;
-            }
+            fallen |= made.has_fallen() & made.live;
         }
         fallen
     }

@@ -1,9 +1,10 @@
 //! A receive association by the plain rule, and what was delivered from it.
 
 use crate::Plant;
-use macsec_link::Sci;
-use macsec_secy::{An, RxRow};
-use std::alloc::Global;
+use crate::hearing::Hearing;
+use macsec_link::{Sci, Verdict};
+use macsec_secy::{An, Options, RxRow};
+use std::alloc::{AllocError, Global};
 
 /// A receive association that an end created, and its marks: whether it still exists, whether the end was strict and
 /// whether it had replay protection with a window of 0 all that time, the greatest lowest acceptable packet number that it
@@ -50,7 +51,7 @@ impl Association {
     }
 
     /// Raises the lowest acceptable packet number to the next one minus the window.
-    pub fn narrow(&mut self, window: u64) {
+    fn narrow(&mut self, window: u64) {
         let behind = self.row.next.saturating_sub(u128::from(window));
         self.row.lowest = self.row.lowest.max(behind);
     }
@@ -64,7 +65,7 @@ impl Association {
     }
 
     /// A frame with this packet number was accepted.
-    pub fn accept(&mut self, plant: Option<Plant>, pn: u64, window: u64) {
+    fn accept(&mut self, plant: Option<Plant>, pn: u64, window: u64) {
         self.row.next = self.row.next.max(u128::from(pn) + 1);
         let is_wider = match plant {
             Some(Plant::Repeat) => window == 0,
@@ -72,6 +73,36 @@ impl Association {
             _ => false,
         };
         self.narrow(window.saturating_add(u64::from(is_wider)));
+    }
+
+    /// A frame was heard, and its packet number moves those of the association on if it was validated. Returns whether one moved
+    /// without that.
+    pub fn move_on(&mut self, plant: Option<Plant>, options: &Options, hearing: &Hearing) -> bool {
+        if hearing.is_validated(options.mode) {
+            self.accept(plant, hearing.number, options.window);
+            self.greatest = self.greatest.max(Some(hearing.number));
+            return false;
+        }
+        if plant == Some(Plant::InvalidMoves) && hearing.verdict == Verdict::Invalid {
+            let lowest = self.row.lowest;
+            self.accept(plant, hearing.number, options.window);
+            return self.row.lowest != lowest;
+        }
+        false
+    }
+
+    /// A frame was delivered, if one was: that at this place among those that the other end sealed.
+    pub fn note_delivery(
+        &mut self,
+        alloc: Global,
+        hearing: &Hearing,
+        place: Option<usize>,
+    ) -> Result<(), AllocError> {
+        if let Some(client) = &hearing.controlled {
+            self.delivered.push(client.as_slice().to_vec(alloc)?)?;
+            self.place = self.place.max(place);
+        }
+        Ok(())
     }
 
     /// The packet number that the 32 bits of a SecTAG stand for.

@@ -2,10 +2,12 @@
 
 ghost use Rattle.std.specs.Prelude.{◌≡◌, ◌↔◌, Contains, IsTrue};
 
+use crate::association::Association;
 use crate::hearing::{Hearing, parts_of};
 use crate::plain_end::PlainEnd;
 use crate::sending::{Seal, Use};
 use macsec_link::{Key, Mode, Verdict};
+use macsec_secy::Options;
 use macsec_tag::Read;
 
 /// What a list of events may not bring about.
@@ -62,8 +64,8 @@ pub fn is_sent(frame: &[u8], sealed: &[u8]) -> bool {
 }
 
 /// The seal of a frame, or of the one that it pads.
-fn seal_of<'a>(other: &'a PlainEnd, frame: &[u8]) -> Option<&'a Seal> {
-    for seal in other.sealed.iter() {
+fn seal_of<'a>(sealed: &'a [Seal], frame: &[u8]) -> Option<&'a Seal> {
+    for seal in sealed {
         if is_sent(frame, seal.frame.as_slice()) {
             return Some(seal);
         }
@@ -74,7 +76,7 @@ fn seal_of<'a>(other: &'a PlainEnd, frame: &[u8]) -> Option<&'a Seal> {
 /// The seal of a frame that an end must accept: one that the other end sealed, or padded, and for which all
 /// conditions of acceptance hold at this end.
 pub fn due<'a>(end: &PlainEnd, other: &'a PlainEnd, frame: &[u8]) -> Option<&'a Seal> {
-    let seal = seal_of(other, frame)?;
+    let seal = seal_of(other.sealed.as_slice(), frame)?;
     let Read::Tagged(mpdu) = parts_of(frame) else {
         return None;
     };
@@ -82,57 +84,62 @@ pub fn due<'a>(end: &PlainEnd, other: &'a PlainEnd, frame: &[u8]) -> Option<&'a 
         return None;
     }
     let (_, made) = end.enabled(&mpdu)?;
-    let row = end.key(made.row.key)?;
-    let xpn = end.config.suite.is_xpn();
-    let same_key = row.key.bytes == seal.used.key
-        && row.key.offset == seal.key.key.offset
-        && end.config.suite == other.config.suite
-        && (!xpn || (row.key.salt == seal.key.key.salt && made.row.ssci == seal.key.key.ssci));
-    let number = u128::from(seal.number);
-    let lowest = made.row.lowest;
-    let in_time = number >= lowest && (!xpn || number - lowest < 1 << 31);
-    if same_key && in_time {
+    let same_suite = end.config.suite == other.config.suite;
+    if same_suite && end.has_key_of(made, seal) && is_in_time(end, made, seal.number) {
         Some(seal)
     } else {
         None
     }
 }
 
-/// What is wrong with a delivery from an association, by its marks before it; and the place of the delivered frame among what
+/// Is this packet number acceptable to an association, and one that is recovered from its lower half?
+fn is_in_time(end: &PlainEnd, made: &Association, number: u64) -> bool {
+    let number = u128::from(number);
+    let lowest = made.row.lowest;
+    number >= lowest && (!end.config.suite.is_xpn() || number - lowest < 1 << 31)
+}
+
+impl PlainEnd {
+    /// Would an association open what was sealed under this key, by its bytes, offset, salt and SSCI?
+    fn has_key_of(&self, made: &Association, seal: &Seal) -> bool {
+        let Some(held) = self.key(made.row.key) else {
+            return false;
+        };
+        let (own, key) = (held.key, seal.key);
+        own.bytes == key.bytes
+            && own.offset == key.offset
+            && (!self.config.suite.is_xpn() || (own.salt == key.salt && made.row.ssci == key.ssci))
+    }
+}
+
+/// What is wrong with a delivery from an association, by its marks before it. The delivered frame has this place among what
 /// the other end sealed.
 pub fn delivery_breach(
-    end: &PlainEnd,
-    heard: usize,
+    made: &Association,
+    options: &Options,
     hearing: &Hearing,
-    sealed: &[Seal],
-) -> (Option<Breach>, Option<usize>) {
-    let (Some(client), Some(made)) = (&hearing.controlled, end.rx.get(heard)) else {
-        return (None, None);
-    };
-    let Some(row) = end.key(made.row.key) else {
-        return (None, None);
-    };
-    let place = place_of(sealed, &row.key.bytes, client.as_slice());
-    if hearing.encrypted && !hearing.is_validated(end.options.mode) {
-        return (Some(Breach::Ciphertext), place);
+    place: Option<usize>,
+) -> Option<Breach> {
+    if hearing.encrypted && !hearing.is_validated(options.mode) {
+        return Some(Breach::Ciphertext);
     }
     if made.strict && place.is_none() {
-        return (Some(Breach::NotSent), place);
+        return Some(Breach::NotSent);
     }
     if made.strict && made.ordered && made.place >= place {
-        return (Some(Breach::OutOfOrder), place);
+        return Some(Breach::OutOfOrder);
     }
-    let reach = u128::from(hearing.number) + u128::from(end.options.window);
+    let reach = u128::from(hearing.number) + u128::from(options.window);
     match made.greatest {
-        Some(greatest) if end.options.replay && reach <= u128::from(greatest) => {
-            (Some(Breach::BelowWindow), place)
+        Some(greatest) if options.replay && reach <= u128::from(greatest) => {
+            Some(Breach::BelowWindow)
         }
-        _ => (None, place),
+        _ => None,
     }
 }
 
 /// The place of a client frame among what was sealed under these key bytes.
-fn place_of(sealed: &[Seal], bytes: &Key, client: &[u8]) -> Option<usize> {
+pub fn place_of(sealed: &[Seal], bytes: &Key, client: &[u8]) -> Option<usize> {
     for (place, seal) in sealed.iter().enumerate() {
         if seal.used.key == *bytes && seal.client.as_slice() == client {
             return Some(place);

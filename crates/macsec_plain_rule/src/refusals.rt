@@ -10,7 +10,7 @@ const MAX_CHANNELS: usize = 8;
 
 impl PlainEnd {
     /// The first refusal of a command, by the numbers of refusals.
-    pub fn refusal(&self, plant: Option<Plant>, command: &Command) -> Option<Refusal> {
+    pub fn refusal(&self, command: &Command) -> Option<Refusal> {
         match *command {
             Command::Protect(_) | Command::Validate(_) => None,
             Command::Replay { window, .. } => refused_if(
@@ -18,16 +18,16 @@ impl PlainEnd {
                 Refusal::Window,
             ),
             Command::Tag(form) => refused_if(self.is_unfit(form), Refusal::SciForm),
-            Command::Key(key) => self.key_refusal(plant, &key),
+            Command::Key(key) => self.key_refusal(&key),
             Command::Retire(key) => self
                 .unusable_key(key)
                 .or(refused_if(self.is_used(key), Refusal::KeyInUse)),
-            Command::TxSa { an, key, next, .. } => self.tx_sa_refusal(plant, an, key, next),
+            Command::TxSa { an, key, next, .. } => self.tx_sa_refusal(an, key, next),
             Command::TxOn(an) => self.tx_on_refusal(an),
             Command::TxOff(an) | Command::TxDel(an) => {
                 refused_if(self.tx_row(an).is_none(), Refusal::NoSa)
             }
-            Command::RxSc(sci) => self.channel_refusal(plant, sci),
+            Command::RxSc(sci) => self.channel_refusal(sci),
             Command::RxScDel(sci) => self.missing_channel(sci),
             Command::RxSa {
                 sci,
@@ -37,7 +37,7 @@ impl PlainEnd {
                 lowest,
             } => self
                 .rx_sa_refusal(sci, an, key, lowest)
-                .or(self.ssci_refusal(plant, key, ssci)),
+                .or(self.ssci_refusal(key, ssci)),
             Command::RxOn(sci, an) | Command::RxOff(sci, an) | Command::RxDel(sci, an) => {
                 self.missing_row(sci, an)
             }
@@ -57,7 +57,7 @@ impl PlainEnd {
         }
     }
 
-    fn key_refusal(&self, plant: Option<Plant>, key: &NewKey) -> Option<Refusal> {
+    fn key_refusal(&self, key: &NewKey) -> Option<Refusal> {
         let length = match key.bytes {
             Key::K128(_) => 16,
             Key::K256(_) => 32,
@@ -67,12 +67,12 @@ impl PlainEnd {
         refused_if(length != self.config.suite.key_length(), Refusal::KeyLength)
             .or(refused_if(!good_offset, Refusal::Offset))
             .or(refused_if(self.key(key.number).is_some(), Refusal::KeyNumberUsed))
-            .or(refused_if(self.has_bytes(plant, &key.bytes), Refusal::KeyRepeated))
+            .or(refused_if(self.has_bytes(&key.bytes), Refusal::KeyRepeated))
     }
 
-    fn has_bytes(&self, plant: Option<Plant>, bytes: &Key) -> bool {
+    fn has_bytes(&self, bytes: &Key) -> bool {
         for row in self.keys.iter() {
-            let passes = plant == Some(Plant::KeyAgain) && row.retired;
+            let passes = self.plant == Some(Plant::KeyAgain) && row.retired;
             if row.key.bytes == *bytes && !passes {
                 return true;
             }
@@ -89,7 +89,7 @@ impl PlainEnd {
     }
 
     fn sends_under(&self, key: u8) -> bool {
-        for row in self.tx.iter().flatten() {
+        for row in self.tx.iter() {
             if row.key == key {
                 return true;
             }
@@ -106,12 +106,12 @@ impl PlainEnd {
         self.sends_under(key)
     }
 
-    fn tx_sa_refusal(&self, plant: Option<Plant>, an: An, key: u8, next: u64) -> Option<Refusal> {
+    fn tx_sa_refusal(&self, an: An, key: u8, next: u64) -> Option<Refusal> {
         let first_unused = match self.key(key) {
             Some(row) => row.first_unused,
             None => 1,
         };
-        let below = u128::from(next) < first_unused && plant != Some(Plant::NumberAgain);
+        let below = u128::from(next) < first_unused && self.plant != Some(Plant::NumberAgain);
         self.unusable_key(key)
             .or(refused_if(self.sends_under(key), Refusal::KeyInUse))
             .or(refused_if(self.tx_row(an).is_some(), Refusal::AnTaken))
@@ -129,19 +129,15 @@ impl PlainEnd {
         }
     }
 
-    fn channel_refusal(&self, plant: Option<Plant>, sci: Sci) -> Option<Refusal> {
-        let own = sci == self.config.sci && plant != Some(Plant::OwnChannel);
+    fn channel_refusal(&self, sci: Sci) -> Option<Refusal> {
+        let own = sci == self.config.sci && self.plant != Some(Plant::OwnChannel);
         refused_if(own, Refusal::OwnSci)
-            .or(refused_if(self.has_channel(sci), Refusal::ScTaken))
+            .or(refused_if(self.channels.contains(&sci), Refusal::ScTaken))
             .or(refused_if(self.channels.len() >= MAX_CHANNELS, Refusal::ScFull))
     }
 
-    fn has_channel(&self, sci: Sci) -> bool {
-        self.channels.contains(&sci)
-    }
-
     fn missing_channel(&self, sci: Sci) -> Option<Refusal> {
-        refused_if(!self.has_channel(sci), Refusal::NoSc)
+        refused_if(!self.channels.contains(&sci), Refusal::NoSc)
     }
 
     fn missing_row(&self, sci: Sci, an: An) -> Option<Refusal> {
@@ -156,13 +152,13 @@ impl PlainEnd {
             .or(self.out_of_range(lowest))
     }
 
-    fn ssci_refusal(&self, plant: Option<Plant>, key: u8, ssci: u32) -> Option<Refusal> {
+    fn ssci_refusal(&self, key: u8, ssci: u32) -> Option<Refusal> {
         let own = match self.key(key) {
             Some(row) => row.key.ssci == ssci,
             None => false,
         };
         refused_if(
-            self.config.suite.is_xpn() && own && plant != Some(Plant::OwnSsci),
+            self.config.suite.is_xpn() && own && self.plant != Some(Plant::OwnSsci),
             Refusal::SsciOwn,
         )
     }

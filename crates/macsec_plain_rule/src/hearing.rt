@@ -3,7 +3,7 @@
 use crate::Plant;
 use crate::association::Association;
 use crate::plain_end::PlainEnd;
-use crate::sending::iv;
+use crate::sending::{Seal, Use, iv};
 use macsec_link::{Mode, Sci, Verdict};
 use macsec_tag::reading::read;
 use macsec_tag::{Mpdu, Read};
@@ -41,77 +41,68 @@ impl Hearing {
 
 impl PlainEnd {
     /// Judges a frame. Nothing changes yet.
-    pub fn judge(
-        &self,
-        alloc: Global,
-        plant: Option<Plant>,
-        frame: &[u8],
-        other: &PlainEnd,
-    ) -> Result<Hearing, AllocError> {
+    pub fn judge(&self, frame: &[u8], other: &PlainEnd) -> Result<Hearing, AllocError> {
         let strict = self.options.mode == Mode::Strict;
         match parts_of(frame) {
             Read::Bad(_) => Ok(Hearing::unread(Verdict::BadTag, None)),
             Read::Untagged if strict => Ok(Hearing::unread(Verdict::NoTag, None)),
             Read::Untagged => {
-                let whole = frame.to_vec(alloc)?;
+                let whole = frame.to_vec(self.alloc)?;
                 Ok(Hearing::unread(Verdict::Untagged, Some(whole)))
             }
-            Read::Tagged(mpdu) => self.judge_tagged(alloc, plant, frame, &mpdu, other),
+            Read::Tagged(mpdu) => self.judge_tagged(frame, &mpdu, other),
         }
     }
 
     fn judge_tagged(
         &self,
-        alloc: Global,
-        plant: Option<Plant>,
         frame: &[u8],
         mpdu: &Mpdu,
         other: &PlainEnd,
     ) -> Result<Hearing, AllocError> {
         let tag = mpdu.tag();
-        if !self.config.suite.is_xpn() && tag.pn() == 0 {
+        let (pn, e, c) = (tag.pn(), tag.e(), tag.c());
+        if !self.config.suite.is_xpn() && pn == 0 {
             return Ok(Hearing::unread(Verdict::BadTag, None));
         }
-        if tag.e() && !tag.c() {
+        if e && !c {
             return Ok(Hearing::unread(Verdict::Reserved, None));
         }
         let Some((place, made)) = self.enabled(mpdu) else {
-            if tag.c() || self.options.mode == Mode::Strict {
-                return Ok(Hearing::unread(Verdict::NoSaError, None));
-            }
-            let client = client_of(alloc, mpdu)?;
-            return Ok(Hearing::unread(Verdict::NoSa, Some(client)));
+            return self.judge_unknown(mpdu, c);
         };
-        let Some(number) = made.recovered(plant, self.config.suite.is_xpn(), tag.pn()) else {
+        let Some(number) = made.recovered(self.plant, self.config.suite.is_xpn(), pn) else {
             return Ok(Hearing::unread(Verdict::BadTag, None));
         };
-        let opens = self.opens(plant, made, number, frame, mpdu, other);
-        let verdict = self.verdict(plant, made, number, tag.c(), opens);
+        let opens = self.opens(made, number, covered(frame, mpdu), other);
+        let verdict = self.verdict(made, number, c, opens);
         let controlled = match verdict {
             Verdict::Late | Verdict::NotValid => None,
-            _ => Some(client_of(alloc, mpdu)?),
+            _ => Some(client_of(self.alloc, mpdu)?),
         };
         Ok(Hearing {
             verdict,
             place: Some(place),
             number,
-            encrypted: tag.e(),
+            encrypted: e,
             controlled,
         })
     }
 
+    /// Judges a frame that is of no enabled association.
+    fn judge_unknown(&self, mpdu: &Mpdu, c: bool) -> Result<Hearing, AllocError> {
+        if c || self.options.mode == Mode::Strict {
+            return Ok(Hearing::unread(Verdict::NoSaError, None));
+        }
+        let client = client_of(self.alloc, mpdu)?;
+        Ok(Hearing::unread(Verdict::NoSa, Some(client)))
+    }
+
     /// The verdict on a frame of an enabled association.
-    fn verdict(
-        &self,
-        plant: Option<Plant>,
-        made: &Association,
-        number: u64,
-        c: bool,
-        opens: bool,
-    ) -> Verdict {
+    fn verdict(&self, made: &Association, number: u64, c: bool, opens: bool) -> Verdict {
         let late = u128::from(number) < made.row.lowest
-            || (plant == Some(Plant::LateAtLowest) && u128::from(number) == made.row.lowest);
-        let in_clear = !c || plant == Some(Plant::CiphertextDelivered);
+            || (self.plant == Some(Plant::LateAtLowest) && u128::from(number) == made.row.lowest);
+        let in_clear = !c || self.plant == Some(Plant::CiphertextDelivered);
         match self.options.mode {
             _ if late && self.options.replay => Verdict::Late,
             Mode::Disabled if c => Verdict::NotValid,
@@ -131,12 +122,11 @@ impl PlainEnd {
         if let Some(sci) = tag.sci() {
             return Some(sci);
         }
-        if tag.scb() || tag.es() {
-            let port = if tag.scb() { 0 } else { 1 };
-            let &[_, _, _, _, _, _, a, b, c, d, e, f] = mpdu.addresses() else {
-                return None;
-            };
-            return Some(Sci([a, b, c, d, e, f, 0, port]));
+        if tag.scb() {
+            return source(mpdu.addresses(), 0);
+        }
+        if tag.es() {
+            return source(mpdu.addresses(), 1);
         }
         match self.channels.as_slice() {
             [sci] => Some(*sci),
@@ -148,54 +138,59 @@ impl PlainEnd {
     pub fn enabled(&self, mpdu: &Mpdu) -> Option<(usize, &Association)> {
         let sci = self.sci_of(mpdu)?;
         let (place, made) = self.rx_row(sci, mpdu.tag().an())?;
-        if made.row.on {
-            Some((place, made))
-        } else {
-            None
-        }
+        made.row.on.then_some((place, made))
     }
 
-    /// Was the frame, without its padding, sealed under the association's key with the IV of this packet number?
-    fn opens(
-        &self,
-        plant: Option<Plant>,
-        made: &Association,
-        number: u64,
-        frame: &[u8],
-        mpdu: &Mpdu,
-        other: &PlainEnd,
-    ) -> bool {
+    /// Was the frame sealed under the association's key with the IV of this packet number?
+    fn opens(&self, made: &Association, number: u64, frame: &[u8], other: &PlainEnd) -> bool {
         let Some(row) = self.key(made.row.key) else {
             return false;
         };
+        let sender = made.row;
         let iv = iv(
-            plant,
+            self.plant,
             self.config.suite,
-            made.row.sci,
-            made.row.ssci,
+            sender.sci,
+            sender.ssci,
             row.key.salt,
             number,
         );
-        let sealed = frame.len().saturating_sub(mpdu.padding().len());
-        let covered = frame.get(..sealed).unwrap_or(frame);
-        for seal in self.sealed.iter().chain(other.sealed.iter()) {
-            if seal.used.key == row.key.bytes
-                && seal.used.iv == iv
-                && seal.key.key.offset == row.key.offset
-                && seal.frame.as_slice() == covered
-            {
-                return true;
-            }
-        }
-        false
+        let used = Use {
+            key: row.key.bytes,
+            iv,
+        };
+        is_sealed(self.sealed.as_slice(), &used, row.key.offset, frame)
+            || is_sealed(other.sealed.as_slice(), &used, row.key.offset, frame)
     }
+}
+
+/// The SCI of the source address with this octet as its port identifier.
+fn source(addresses: &[u8], port: u8) -> Option<Sci> {
+    match *addresses {
+        [_, _, _, _, _, _, a, b, c, d, e, f] => Some(Sci([a, b, c, d, e, f, 0, port])),
+        _ => None,
+    }
+}
+
+/// Was this frame sealed by this use of the cipher, with this confidentiality offset?
+fn is_sealed(sealed: &[Seal], used: &Use, offset: u8, frame: &[u8]) -> bool {
+    for seal in sealed {
+        if seal.used == *used && seal.key.offset == offset && seal.frame.as_slice() == frame {
+            return true;
+        }
+    }
+    false
+}
+
+/// A frame without its padding.
+fn covered<'a>(frame: &'a [u8], mpdu: &Mpdu) -> &'a [u8] {
+    let length = frame.len().saturating_sub(mpdu.padding().len());
+    frame.get(..length).unwrap_or(frame)
 }
 
 /// The addresses and the data of a frame.
 fn client_of(alloc: Global, mpdu: &Mpdu) -> Result<Vec<u8>, AllocError> {
-    let mut client = mpdu.addresses().to_vec(alloc)?;
-    client.extend_from_slice(mpdu.secure_data())?;
-    Ok(client)
+    [mpdu.addresses(), mpdu.secure_data()].concat(alloc)
 }
 
 /// How a frame reads.

@@ -1,0 +1,155 @@
+//! What an end sends by the plain rule. Its cipher is one that opens what was sealed and nothing else: it leaves the data as
+//! they are, and the ICV is the number of the seal.
+
+use crate::Plant;
+use crate::plain_end::PlainEnd;
+use macsec_link::{DropReason, Key, NewKey, Sci, Suite, TagForm};
+use macsec_secy::TxRow;
+use macsec_suite::iv_of;
+use std::alloc::AllocError;
+
+/// A use of the cipher by a sender: the bytes of its key, and the IV.
+#[derive(Clone, Copy, PartialEq, Eq)]
+pub struct Use {
+    pub key: Key,
+    pub iv: [u8; 12],
+}
+
+/// A frame that was protected: its use of the cipher, with which key and packet number, the client frame, and the link frame.
+#[derive(Drop)]
+pub struct Seal {
+    pub used: Use,
+    pub key: NewKey,
+    pub number: u64,
+    pub client: Vec<u8>,
+    pub frame: Vec<u8>,
+}
+
+/// What becomes of a client frame: it is sent as it is, or dropped, or the link frame is this one, by a use of the cipher.
+#[derive(Drop)]
+pub enum Sending {
+    Plain,
+    Dropped(DropReason),
+    Sealed(Use, Vec<u8>),
+}
+
+/// The IV of a packet number under a key.
+pub fn iv(
+    plant: Option<Plant>,
+    suite: Suite,
+    sci: Sci,
+    ssci: u32,
+    salt: [u8; 12],
+    pn: u64,
+) -> [u8; 12] {
+    let number = if plant == Some(Plant::ShortIv) {
+        pn & 0xffff_ffff
+    } else {
+        pn
+    };
+    iv_of(suite, sci, ssci, salt, number.min(suite.last()))
+}
+
+impl PlainEnd {
+    /// Sends a client frame, of which the seal would have this number.
+    pub fn send(&mut self, seal: usize, client: &[u8]) -> Result<Sending, AllocError> {
+        if !self.options.protect {
+            return Ok(Sending::Plain);
+        }
+        let Some((row, key, number)) = self.sending_row() else {
+            return Ok(Sending::Dropped(DropReason::NoSa));
+        };
+        let frame = self.sealed_frame(row, number, client, seal)?;
+        if frame.len() > self.config.max_frame as usize {
+            return Ok(Sending::Dropped(DropReason::TooLong));
+        }
+        self.note_used(row.an, row.key, number);
+        let used = self.used(&key, number);
+        self.sealed.push(Seal {
+            used,
+            key,
+            number,
+            client: client.to_vec(self.alloc)?,
+            frame: frame.as_slice().to_vec(self.alloc)?,
+        })?;
+        Ok(Sending::Sealed(used, frame))
+    }
+
+    /// The use of the cipher for a packet number under a key.
+    fn used(&self, key: &NewKey, number: u64) -> Use {
+        let config = self.config;
+        let iv = iv(
+            self.plant,
+            config.suite,
+            config.sci,
+            key.ssci,
+            key.salt,
+            number,
+        );
+        Use { key: key.bytes, iv }
+    }
+
+    /// The enabled association, its key and its packet number, if it has one left.
+    fn sending_row(&self) -> Option<(TxRow, NewKey, u64)> {
+        let row = self.enabled_tx()?;
+        let number = u64::try_from(row.next).ok()?;
+        if number > self.config.suite.last() {
+            return None;
+        }
+        let held = self.key(row.key)?;
+        Some((row, held.key, number))
+    }
+
+    /// The enabled transmit association.
+    fn enabled_tx(&self) -> Option<TxRow> {
+        for row in self.tx.iter() {
+            if row.on {
+                return Some(*row);
+            }
+        }
+        None
+    }
+
+    /// The frame of a seal: addresses, SecTAG, data and ICV.
+    fn sealed_frame(
+        &self,
+        row: TxRow,
+        number: u64,
+        client: &[u8],
+        seal: usize,
+    ) -> Result<Vec<u8>, AllocError> {
+        let (addresses, data) = client.split_at(client.len().min(12));
+        let has_sci = match self.config.form {
+            TagForm::Auto => self.channels.len() > 1,
+            _ => true,
+        };
+        let head = head(&row, has_sci, number, data.len());
+        let icv = (seal as u128).to_be_bytes();
+        if has_sci {
+            [addresses, &head, &self.config.sci.0, data, &icv].concat(self.alloc)
+        } else {
+            [addresses, &head, data, &icv].concat(self.alloc)
+        }
+    }
+}
+
+/// The SecTAG up to its packet number, with its EtherType.
+fn head(row: &TxRow, has_sci: bool, number: u64, length: usize) -> [u8; 8] {
+    let bits = if has_sci { 0x20 } else { 0 };
+    let encrypted = if row.conf { 0x0c } else { 0 };
+    let short_length = match u8::try_from(length) {
+        Ok(length) if length < 48 => length,
+        _ => 0,
+    };
+    let [_, _, _, _, a, b, c, d] = number.to_be_bytes();
+    [
+        0x88,
+        0xe5,
+        bits | encrypted | row.an.number(),
+        short_length,
+        a,
+        b,
+        c,
+        d,
+    ]
+}
