@@ -3,7 +3,7 @@
 use crate::moves::client_frame;
 use crate::scenario::sci_of;
 use crate::{Move, Scenario};
-use macsec_link::{Command, End, EndConfig, Key, Mode, NewKey, Suite, TagForm};
+use macsec_link::{An, Command, End, EndConfig, Key, Mode, NewKey, Sci, Suite, TagForm};
 use std::fmt;
 
 /// The script of these moves in a world, its first moves among them.
@@ -115,6 +115,16 @@ impl fmt::Display for Line {
     }
 }
 
+/// The words of a receive association: the SCI of its channel, and its number.
+#[derive(Clone, Copy)]
+struct At(Sci, An);
+
+impl fmt::Display for At {
+    fn fmt<W: fmt::Write>(&self, f: &mut fmt::Formatter<W>) -> fmt::Result {
+        write!(f, "{} {}", Hex(&self.0.0), self.1.number())
+    }
+}
+
 /// A command as words.
 #[derive(Clone, Copy)]
 struct Words(Command);
@@ -150,20 +160,11 @@ impl fmt::Display for Words {
                 key,
                 ssci,
                 lowest,
-            } => {
-                let sci = Hex(&sci.0);
-                write!(
-                    f,
-                    "rxsa {sci} {} {key} {lowest:016x} {ssci:08x}",
-                    an.number()
-                )
-            }
-            Command::RxOn(sci, an) => write!(f, "rxon {} {}", Hex(&sci.0), an.number()),
-            Command::RxOff(sci, an) => write!(f, "rxoff {} {}", Hex(&sci.0), an.number()),
-            Command::RxLow { sci, an, pn } => {
-                write!(f, "rxlow {} {} {pn:016x}", Hex(&sci.0), an.number())
-            }
-            Command::RxDel(sci, an) => write!(f, "rxdel {} {}", Hex(&sci.0), an.number()),
+            } => write!(f, "rxsa {} {key} {lowest:016x} {ssci:08x}", At(sci, an)),
+            Command::RxOn(sci, an) => write!(f, "rxon {}", At(sci, an)),
+            Command::RxOff(sci, an) => write!(f, "rxoff {}", At(sci, an)),
+            Command::RxLow { sci, an, pn } => write!(f, "rxlow {} {pn:016x}", At(sci, an)),
+            Command::RxDel(sci, an) => write!(f, "rxdel {}", At(sci, an)),
         }
     }
 }
