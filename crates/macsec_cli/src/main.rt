@@ -1,14 +1,11 @@
 //! The program `macsec`: runs a script for a MACsec endpoint, or protects or validates the frames of a capture file.
 #![tactic(auto)]
 
-ghost use Rattle.std.specs.Prelude.{◌≡◌, map, string_bytes, IfErr};
+ghost use Rattle.std.specs.Prelude.{◌≡◌};
 ghost use Rattle.macsec_program.specs.Failures.{told_status};
-ghost use Rattle.macsec_words.specs.Words.{FailsBy};
 
-use macsec_program::{Failure, capture_named, failure_of_words, open_stand_ins, run_named, tell};
-use macsec_script::ScriptFault;
-use macsec_words::{Task, task_of_words};
-use std::io::BufWriter;
+use macsec_program::{Failure, failure_of_words, open_stand_ins, tell};
+use macsec_words::run_words;
 use std::process::ExitCode;
 use std::{env, io};
 
@@ -23,7 +20,7 @@ fn main(rt: HostRuntime) -> ExitCode {
 /// The status of the program once no file that it opens can be taken for a standard stream.
 fn status_of_run(rt: &HostRuntime) -> u8 {
     match own_words(rt) {
-        Ok(words) => told(rt, run(rt, words.as_slice())),
+        Ok(words) => told(rt, run_words(rt, words.as_slice())),
         Err(error) => told(rt, Err(failure_of_words(&error))),
     }
 }
@@ -39,20 +36,4 @@ fn told(rt: &HostRuntime, ended: Result<(), Failure<'_>>) -> u8
 /// The program's words, its own name among them.
 fn own_words(rt: &HostRuntime) -> io::Result<Vec<String>> {
     Ok(env::args(rt)?.collect(rt.alloc())?)
-}
-
-/// Does what the words ask for; what it prints goes to standard output.
-fn run<'a>(rt: &HostRuntime, words: &'a [String]) -> Result<(), Failure<'a>>
-    ensures { IfErr result (FailsBy (map string_bytes words.now)) }
-{
-    let task = task_of_words(rt.alloc(), words)?;
-    let Ok(mut text) = BufWriter::new(rt.alloc(), rt.stdout()) else {
-        return Err(Failure::Script(ScriptFault::Memory));
-    };
-    match task {
-        Task::Run(script) => run_named(rt, rt.alloc(), script, &mut rt.stdin(), &mut text),
-        Task::Capture(direction, paths) => {
-            capture_named(rt, rt.alloc(), direction, paths, &mut text)
-        }
-    }
 }

@@ -1,16 +1,17 @@
-//! The words of the program's command line.
+//! The words of the program's command line, and the run that they ask for.
 #![tactic(auto)]
 
-ghost use Rattle.std.specs.Prelude.{◌≡◌, false, map, option_map, string_bytes, IfOk};
+ghost use Rattle.std.specs.Prelude.{◌≡◌, false, map, option_map, string_bytes, IfErr, IfOk};
 ghost use Rattle.clap.specs.Words.{app_of, first_of, found_of, rows_of, rule_of, subcommand_rows_of};
-ghost use Rattle.macsec_words.specs.Words.{Asks, asked, asked_by, asked_in, capture_app, capture_in, kind_failure, macsec_app, name_rule, run_in};
+ghost use Rattle.macsec_words.specs.Words.{Asks, FailsBy, asked, asked_by, asked_in, capture_app, capture_in, kind_failure, macsec_app, name_rule, run_in};
 
 use clap::error::ErrorKind;
 use clap::{Arg, ArgAction, ArgMatches, Command};
 use macsec_capture::Direction;
 use macsec_lines::ScriptFault;
-use macsec_program::{CapturePaths, Failure};
+use macsec_program::{CapturePaths, Failure, capture_named, run_named};
 use std::alloc::{AllocError, Global};
+use std::io::BufWriter;
 
 /// What the words ask the program for.
 #[derive(Clone, Copy)]
@@ -35,6 +36,22 @@ pub fn task_of_words<'a>(alloc: Global, words: &'a [String]) -> Result<Task<'a>,
             None => Err(Failure::Usage),
         },
         Err(error) => Err(failure_of_kind(error.kind())),
+    }
+}
+
+/// Does what the words behind the program's own name ask for. What it prints goes to standard output.
+pub fn run_words<'a>(rt: &HostRuntime, words: &'a [String]) -> Result<(), Failure<'a>>
+    ensures { IfErr result (FailsBy (map string_bytes words.now)) }
+{
+    let task = task_of_words(rt.alloc(), words)?;
+    let Ok(mut text) = BufWriter::new(rt.alloc(), rt.stdout()) else {
+        return Err(Failure::Script(ScriptFault::Memory));
+    };
+    match task {
+        Task::Run(script) => run_named(rt, rt.alloc(), script, &mut rt.stdin(), &mut text),
+        Task::Capture(direction, paths) => {
+            capture_named(rt, rt.alloc(), direction, paths, &mut text)
+        }
     }
 }
 
