@@ -4,7 +4,7 @@
 # make bench         measures the cipher, frames, scripts and a full link
 # make search        looks for counter-examples to what is promised of two ends and their link
 # make fuzz          gives mutated inputs to the program as both compilers build it
-# make failures      makes files and streams fail, and lists the calls that take memory
+# make failures      makes files and streams fail, refuses memory, and lists the calls that take it
 # make peer          compares frames with Scapy's, which has to be installed
 # make kept-frames   sees that callers which keep a frame over the next call are refused
 RT := $(shell command -v rt 2>/dev/null)

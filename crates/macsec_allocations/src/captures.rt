@@ -1,0 +1,80 @@
+//! Capture files.
+
+use crate::room::{fill, one, write_answer};
+use macsec_capture::{CaptureFault, Direction, run_capture};
+use macsec_pcap::{PcapFault, PcapReader};
+use macsec_print::write_fault;
+use macsec_script::ScriptFault;
+use std::alloc::Global;
+use std::io::Write;
+
+/// The most octets of what a capture writes, to its output and as its text.
+const ROOM: usize = 65_536;
+
+/// The header of a capture file.
+const HEADER: [u8; 24] = [
+    0xd4, 0xc3, 0xb2, 0xa1, 2, 0, 4, 0, 0, 0, 0, 0, 0, 0, 0, 0, 0xff, 0xff, 0, 0, 1, 0, 0, 0,
+];
+
+/// A record of a client frame of 14 octets.
+const RECORD: [u8; 30] = [
+    0, 0, 0, 0, 0, 0, 0, 0, 14, 0, 0, 0, 14, 0, 0, 0, 0xff, 0xff, 0xff, 0xff, 0xff, 0xff, 2, 0, 0,
+    0, 0, 1, 8, 0,
+];
+
+/// `PcapReader::new`.
+pub fn reader<W: Write>(alloc: Global, before: u32, writer: &mut W) -> Result<(), ScriptFault> {
+    let filled = fill(alloc, before);
+    let reader = PcapReader::new(alloc, HEADER.as_slice());
+    let after = one(alloc);
+    let answer = match reader {
+        Ok(_) => "done",
+        Err(fault) => fault.name(),
+    };
+    write_answer(writer, filled, answer, after)
+}
+
+/// A capture file of that record, three times.
+fn capture_file() -> [u8; 114] {
+    let mut file = [0; 114];
+    file[..24].copy_from_slice(&HEADER);
+    for place in [24, 54, 84] {
+        file[place..place + 30].copy_from_slice(&RECORD);
+    }
+    file
+}
+
+/// `run_capture` on that file, with this text as the configuration; its text, and its output.
+pub fn run<W: Write>(
+    alloc: Global,
+    before: u32,
+    mut text: &[u8],
+    writer: &mut W,
+) -> Result<(), ScriptFault> {
+    let (Ok(mut output), Ok(mut printed)) = (
+        Vec::with_capacity(alloc, ROOM),
+        Vec::with_capacity(alloc, ROOM),
+    ) else {
+        return Err(ScriptFault::Memory);
+    };
+    let file = capture_file();
+    let filled = fill(alloc, before);
+    let ended = run_capture(
+        alloc,
+        Direction::Protect,
+        &mut text,
+        &mut file.as_slice(),
+        &mut output,
+        &mut printed,
+    );
+    let after = one(alloc);
+    let answer = match ended {
+        Ok(()) => "done",
+        Err(CaptureFault::Script(ScriptFault::Memory)) => "script Memory",
+        Err(CaptureFault::Pcap(PcapFault::Memory)) => "pcap Memory",
+        Err(_) => "another fault",
+    };
+    write_answer(writer, filled, answer, after)?;
+    write_fault(writer.write_all(printed.as_slice()))?;
+    write_fault(writeln!(writer, "output {output:?}"))
+}

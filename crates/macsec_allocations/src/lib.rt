@@ -1,0 +1,44 @@
+//! Calls that take memory, of which one allocation is refused: what they answer, and what stands after it.
+//!
+//! A case is a name, a text that the call works on, and a number of allocations that are made before the call and given
+//! back. Where the toolchain refuses the N-th allocation of a process, that number chooses which allocation of the call
+//! is refused: one allocation less before the call, and the refused one comes one later in it. After the call one more
+//! allocation is made. If that is the refused one, the call took fewer.
+#![tactic(auto)]
+
+mod captures;
+mod endpoints;
+mod program;
+mod room;
+mod scripts;
+mod worlds;
+
+use macsec_script::ScriptFault;
+
+/// Makes the call of this name on a text, after so many allocations, and prints what came of it. Returns `None` if there
+/// is no such call, and a fault if the text is none for it or can't be printed.
+pub fn report(
+    rt: &HostRuntime,
+    name: &str,
+    before: u32,
+    text: &[u8],
+) -> Option<Result<(), ScriptFault>> {
+    let alloc = rt.alloc();
+    let writer = &mut rt.stdout();
+    let reported = match name {
+        "main" => program::run(rt, before, writer),
+        "KeyTable::new" => endpoints::key_table(alloc, before, writer),
+        "Secy::new" => endpoints::secy(alloc, before, writer),
+        "Secy" => endpoints::turns(alloc, before, text, writer),
+        "World::new" => worlds::world(alloc, before, writer),
+        "World::step" => worlds::step(alloc, before, text, writer),
+        "World::run" => worlds::run(alloc, before, text, writer),
+        "parse_line" => scripts::line(alloc, before, text, writer),
+        "parse_script" => scripts::script(alloc, before, text, writer),
+        "run_script" => scripts::run(alloc, before, text, writer),
+        "PcapReader::new" => captures::reader(alloc, before, writer),
+        "run_capture" => captures::run(alloc, before, text, writer),
+        _ => return None,
+    };
+    Some(reported)
+}
