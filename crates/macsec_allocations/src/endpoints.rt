@@ -17,14 +17,14 @@ const ROOM: usize = 256;
 /// Two endpoints that can be made.
 pub const A: EndConfig = EndConfig {
     suite: Suite::Gcm128,
-    sci: Sci([2, 0, 0, 0, 0, 1, 0, 1]),
+    sci: Sci([0x12, 0x15, 0x35, 0x24, 0xc0, 0x89, 0x5e, 0x81]),
     max_frame: 1518,
     form: TagForm::Sci,
 };
 
 pub const B: EndConfig = EndConfig {
     suite: Suite::Gcm128,
-    sci: Sci([2, 0, 0, 0, 0, 2, 0, 1]),
+    sci: Sci([0, 0, 0, 0, 0, 0, 0, 2]),
     max_frame: 1518,
     form: TagForm::Auto,
 };
