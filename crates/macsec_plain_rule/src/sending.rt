@@ -119,11 +119,8 @@ impl PlainEnd {
         seal: usize,
     ) -> Result<Vec<u8>, AllocError> {
         let (addresses, data) = client.split_at(client.len().min(12));
-        let has_sci = match self.config.form {
-            TagForm::Auto => self.channels.len() > 1,
-            _ => true,
-        };
-        let head = head(&row, has_sci, number, data.len());
+        let (sci_bits, has_sci) = self.sci_bits(addresses);
+        let head = head(&row, sci_bits, number, data.len());
         let icv = (seal as u128).to_be_bytes();
         if has_sci {
             [addresses, &head, &self.config.sci.0, data, &icv].concat(self.alloc)
@@ -131,11 +128,21 @@ impl PlainEnd {
             [addresses, &head, data, &icv].concat(self.alloc)
         }
     }
+
+    /// The bits ES, SC and SCB of the TCI of a frame with these addresses (9.5), and whether its SecTAG has the SCI.
+    fn sci_bits(&self, addresses: &[u8]) -> (u8, bool) {
+        let own = addresses.ends_with(&self.config.sci.0[..6]);
+        match self.options.form {
+            TagForm::Es if own => (0x40, false),
+            TagForm::Scb if own => (0x10, false),
+            TagForm::Auto if self.channels.len() < 2 => (0, false),
+            _ => (0x20, true),
+        }
+    }
 }
 
 /// The SecTAG up to its packet number, with its EtherType.
-fn head(row: &TxRow, has_sci: bool, number: u64, length: usize) -> [u8; 8] {
-    let bits = if has_sci { 0x20 } else { 0 };
+fn head(row: &TxRow, sci_bits: u8, number: u64, length: usize) -> [u8; 8] {
     let encrypted = if row.conf { 0x0c } else { 0 };
     let short_length = match u8::try_from(length) {
         Ok(length) if length < 48 => length,
@@ -145,7 +152,7 @@ fn head(row: &TxRow, has_sci: bool, number: u64, length: usize) -> [u8; 8] {
     [
         0x88,
         0xe5,
-        bits | encrypted | row.an.number(),
+        sci_bits | encrypted | row.an.number(),
         short_length,
         a,
         b,

@@ -21,7 +21,7 @@ const VERDICTS: [Verdict; 12] = [
 ];
 
 /// The refusals that the alphabets can bring about, by number.
-const REFUSALS: [Refusal; 14] = [
+const REFUSALS: [Refusal; 15] = [
     Refusal::KeyNumberUsed,
     Refusal::KeyRepeated,
     Refusal::NoKey,
@@ -35,6 +35,7 @@ const REFUSALS: [Refusal; 14] = [
     Refusal::PnLower,
     Refusal::PnFloor,
     Refusal::SsciOwn,
+    Refusal::SciForm,
     Refusal::Exhausted,
 ];
 
@@ -53,7 +54,7 @@ pub struct Coverage {
     dropped: u64,
     faults: u64,
     verdicts: [u64; 12],
-    refusals: [u64; 14],
+    refusals: [u64; 15],
 }
 
 impl Coverage {
@@ -71,7 +72,7 @@ impl Coverage {
             dropped: 0,
             faults: 0,
             verdicts: [0; 12],
-            refusals: [0; 14],
+            refusals: [0; 15],
         }
     }
 
@@ -105,7 +106,7 @@ fn add(count: &mut u64, is_counted: bool) {
     *count = count.saturating_add(u64::from(is_counted));
 }
 
-fn count_refusal(counts: &mut [u64; 14], refusal: Refusal) {
+fn count_refusal(counts: &mut [u64; 15], refusal: Refusal) {
     for (other, count) in REFUSALS.iter().zip(counts.iter_mut()) {
         add(count, *other == refusal);
     }

@@ -10,6 +10,9 @@ pub const SCI_A: Sci = Sci([2, 0, 0, 0, 0, 1, 0, 1]);
 /// The SCI of end B.
 pub const SCI_B: Sci = Sci([2, 0, 0, 0, 0, 2, 0, 1]);
 
+/// The SCI of a third end, which neither sends nor receives.
+const SCI_C: Sci = Sci([2, 0, 0, 0, 0, 3, 0, 1]);
+
 /// The bytes of two keys.
 const BYTES: [u8; 2] = [0x2b, 0x3c];
 
@@ -41,11 +44,13 @@ pub enum Scenario {
     ExtendedLast,
     /// The change from one association and key to the next.
     Rollover,
+    /// The forms of the SecTAG.
+    Tags,
 }
 
 impl Scenario {
     /// All of them.
-    pub const ALL: [Scenario; 11] = [
+    pub const ALL: [Scenario; 12] = [
         Scenario::Numbers,
         Scenario::Keys,
         Scenario::ExtendedNumbers,
@@ -57,6 +62,7 @@ impl Scenario {
         Scenario::Last,
         Scenario::ExtendedLast,
         Scenario::Rollover,
+        Scenario::Tags,
     ];
 
     /// Its name.
@@ -73,6 +79,7 @@ impl Scenario {
             Scenario::Last => "last",
             Scenario::ExtendedLast => "extended-last",
             Scenario::Rollover => "rollover",
+            Scenario::Tags => "tags",
         }
     }
 
@@ -148,6 +155,7 @@ impl Scenario {
             Scenario::Last => last(LAST_32).to_vec(alloc),
             Scenario::ExtendedLast => last(u64::MAX).to_vec(alloc),
             Scenario::Rollover => rollover().to_vec(alloc),
+            Scenario::Tags => tags().to_vec(alloc),
         }
     }
 }
@@ -483,5 +491,24 @@ fn rollover() -> [Move; 13] {
         at_b(Command::RxScDel(SCI_A)),
         // The association number of the first frame becomes 1.
         Move::Alter(0, 14, 0x21),
+    ]
+}
+
+fn tags() -> [Move; 13] {
+    [
+        Move::Deliver(End::B, 0),
+        Move::Deliver(End::B, 1),
+        Move::Deliver(End::B, 2),
+        Move::Send(End::A),
+        at_a(Command::Tag(TagForm::Auto)),
+        at_a(Command::Tag(TagForm::Es)),
+        at_a(Command::Tag(TagForm::Scb)),
+        at_a(Command::RxSc(SCI_B)),
+        at_a(Command::RxSc(SCI_C)),
+        at_a(Command::RxScDel(SCI_C)),
+        at_b(Command::RxSc(SCI_C)),
+        at_b(Command::RxScDel(SCI_C)),
+        // The first frame has ES in place of the SCI, and its SCI becomes data.
+        Move::Alter(0, 14, 0x40),
     ]
 }
