@@ -1,4 +1,4 @@
-pub mod LivePlaces
+pub mod LiveTable
 pub mod Heard
 pub mod Commanded
 pub mod SentLogs

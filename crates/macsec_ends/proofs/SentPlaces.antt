@@ -40,14 +40,6 @@ place_made logs key new there room = record { there = omega (arith, there, lengt
 pub place_stays : (logs : List (Vec (Vec ℕ))) (key k : ℕ) (old new : Vec (Vec ℕ)) → old ≡ get_or logs key old → (HasRoom old → HasRoom new) → HasPlace logs k → HasPlace (set logs key new) k
 place_stays logs key k old new is room has = record { there = omega (arith, has.there, length-set logs key new); room = room_stays logs key k old new is room has.room }
 
-room_found : (logs : List (Vec (Vec ℕ))) (key : ℕ) (old : Vec (Vec ℕ)) → old ≡ get_or logs key old → key < length logs → HasRoomAt logs key → HasRoom old
-room_found [] key old is within has = absurd (omega (arith, within))
-room_found (l ∷ logs) zero old is within has = subst HasRoom (sym is) has
-room_found (l ∷ logs) (suc key) old is within has = room_found logs key old is (omega (arith, within)) has
-
-pub place_found : (logs : List (Vec (Vec ℕ))) (key : ℕ) (old : Vec (Vec ℕ)) → old ≡ get_or logs key old → HasPlace logs key → HasRoom old
-place_found logs key old is has = room_found logs key old is has.there has.room
-
 -- ---- the association that sends
 
 -- an association that is there, at its number

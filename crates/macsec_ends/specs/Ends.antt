@@ -12,6 +12,7 @@ pub record EndState : Type 0 where
   pub sent : SentLogs
   pub delivered : List DeliveryLog
 
+-- a new end: nothing was sent at it or delivered yet
 abbrev pub new_end : EndConfig → EndState
 new_end config = record { state = start config; sent = no_sent_logs; delivered = [] }
 

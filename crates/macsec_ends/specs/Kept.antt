@@ -4,12 +4,15 @@ use Rattle.std.specs.Global.{Vec}
 use Rattle.macsec_tx.specs.declared.TxRow.{TxRow}
 use Rattle.macsec_tx.specs.Transmit.{tx_row}
 
+-- the octets of each frame
 abbrev pub frames_kept : List (Vec ℕ) → List (List ℕ)
 frames_kept frames = map (λ f. f.items) frames
 
+-- the frames of a log, in their order
 abbrev pub log_kept : Vec (Vec ℕ) → List (List ℕ)
 log_kept log = frames_kept log.items
 
+-- the frames of each log, by the key's number
 abbrev pub logs_kept : List (Vec (Vec ℕ)) → List (List (List ℕ))
 logs_kept logs = map log_kept logs
 

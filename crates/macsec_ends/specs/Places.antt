@@ -10,9 +10,11 @@ pub record KeptLog : Type 0 where
   pub log : DeliveryLog
   pub spare : ℕ
 
+-- the log alone
 abbrev pub log_of : KeptLog → DeliveryLog
 log_of k = k.log
 
+-- the logs alone, in their order
 abbrev pub logs_of : List KeptLog → List DeliveryLog
 logs_of logs = map log_of logs
 

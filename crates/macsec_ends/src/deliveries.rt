@@ -123,12 +123,9 @@ fn is_live_at(logs: &[Deliveries], place: usize, sci: Sci, an: u8) -> bool
 fn place_of(logs: &[Deliveries], live: &[usize], sci: Sci, an: u8) -> Option<usize>
     ensures { result ≡ find (passes_at (is_live_at sci an) (logs_of logs.now)) live.now }
 {
-    for &place in live {
-        if is_live_at(logs, place, sci, an) {
-            return Some(place);
-        }
-    }
-    None
+    live.iter()
+        .find(|place| is_live_at(logs, **place, sci, an))
+        .copied()
 }
 
 /// Puts a frame into the log of the association that is now of this channel and of this number.

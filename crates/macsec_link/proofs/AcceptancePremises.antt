@@ -38,7 +38,7 @@ use Rattle.macsec_ends.specs.Logs.{no_sent_logs}
 use Rattle.macsec_link.specs.Trace.{Trace}
 use Rattle.macsec_link.proofs.SealedFrames.{Sealed, aad_sent, frame_with, sealed, tag_of, with_tag}
 use Rattle.macsec_link.proofs.TracedSteps.{send_step, sent_by, trace_sent}
-use Rattle.macsec_link.proofs.WorkedEnds.{Fails, client, config, new_key, no_salt, receives_from, sci_a, sci_b, sends_from}
+use Rattle.macsec_link.proofs.WorkedEnds.{Fails, client, config, installed_key, log, new_key, no_salt, receives_from, rx_from, sci_a, sci_b, sends_from, tx_from}
 
 -- the premises by name
 pub data Premise : Type 0 where
@@ -66,8 +66,8 @@ Holds sender receiver tx rx p InTime = rx.lowest ≤ tx.next
 Holds sender receiver tx rx p IsNear = is_xpn (the_key sender.keys tx.key).suite ≡ true → tx.next < rx.lowest + 2 ^ 31
 
 -- all of them are the premises of the law
-all_of_them : (sender receiver : State) (tx : TxRow) (rx : RxRow) (p : MpduParts) → ((r : Premise) → Holds sender receiver tx rx p r) → CanAccept sender receiver tx rx p
-all_of_them sender receiver tx rx p holds = record {
+premises_suffice : (sender receiver : State) (tx : TxRow) (rx : RxRow) (p : MpduParts) → ((r : Premise) → Holds sender receiver tx rx p r) → CanAccept sender receiver tx rx p
+premises_suffice sender receiver tx rx p holds = record {
   not_disabled = holds Validates;
   sci = holds ReadsSci;
   on = holds IsOn;
@@ -142,15 +142,8 @@ module _ (left_out : Premise) (a b : EndConfig) (commands : List Event) (w : Wor
 
 -- ---- the runs: A's association 0 sends for integrity alone, and B's receives, after some more commands
 
-abbrev pub tx_from : ℕ → TxRow
-tx_from next = record { an = 0; key = 0; next = next; conf = false; on = true }
-
-abbrev pub rx_from : ℕ → RxRow
-rx_from lowest = record { sci = sci_a; an = 0; key = 0; ssci = 1; next = lowest; lowest = lowest; on = true }
-
 abbrev pub key_row : Suite → ℕ → InstalledKey
-key_row suite ssci =
-    record { number = 0; suite = suite; bytes = replicate 16 7; salt = no_salt; ssci = ssci; offset = 0; first_unused = 1; retired = false }
+key_row suite ssci = installed_key suite no_salt ssci 1
 
 abbrev commands_of : ℕ → ℕ → List Event → List Event
 commands_of next lowest more = sends_from A (new_key no_salt 1) next false ++ receives_from B (new_key no_salt 2) sci_a 1 lowest ++ more
@@ -169,7 +162,7 @@ state_b b rx = record (start b) {
 abbrev pub world_before : EndConfig → ℕ → State → WorldState
 world_before a next b = record {
   a = record { state = record (start a) { keys = key_row a.suite 1 ∷ []; tx = tx_from next ∷ [] }; sent = no_sent_logs; delivered = [] };
-  b = record { state = b; sent = no_sent_logs; delivered = record { sci = sci_a; an = 0; key = 0; live = true; frames = [] } ∷ [] };
+  b = record { state = b; sent = no_sent_logs; delivered = log [] ∷ [] };
   frames = [];
 }
 
@@ -180,24 +173,24 @@ tag_from a next =
 abbrev pub frame_from : EndConfig → ℕ → List ℕ → List ℕ
 frame_from a next tag = frame_with (tag_sent (tx_options (start a)) (tx_from next) client) client (with_tag tag)
 
-pub seals_so : (a : EndConfig) (next : ℕ) → in_a_row (parts_sent (tx_options (start a)) (key_row a.suite 1) (tx_from next) client) ≡ frame_from a next (tag_from a next)
-seals_so a next =
+pub seals_as_frame : (a : EndConfig) (next : ℕ) → in_a_row (parts_sent (tx_options (start a)) (key_row a.suite 1) (tx_from next) client) ≡ frame_from a next (tag_from a next)
+seals_as_frame a next =
     ap (λ (it : Sealed). frame_with (tag_sent (tx_options (start a)) (tx_from next) client) client it)
     (sealed (replicate 16 7) (iv_sent (tx_options (start a)) (key_row a.suite 1) (tx_from next)) (aad_sent (tx_options (start a)) (key_row a.suite 1) (tx_from next) client))
 
 -- what holds of each premise but one
-pub but : (P : Premise → Type 0) (left_out : Premise) → (Validates ≢ left_out → P Validates) → (ReadsSci ≢ left_out → P ReadsSci) → (IsOn ≢ left_out → P IsOn) →
+pub each_but : (P : Premise → Type 0) (left_out : Premise) → (Validates ≢ left_out → P Validates) → (ReadsSci ≢ left_out → P ReadsSci) → (IsOn ≢ left_out → P IsOn) →
     (SameBytes ≢ left_out → P SameBytes) → (SameSuite ≢ left_out → P SameSuite) → (SameOffset ≢ left_out → P SameOffset) → (SameSalt ≢ left_out → P SameSalt) → (SameSsci ≢ left_out → P SameSsci) → (InTime ≢ left_out → P InTime) → (IsNear ≢ left_out → P IsNear) → (r : Premise) → r ≢ left_out → P r
-but P left_out a b c d e f g h i j Validates other = a other
-but P left_out a b c d e f g h i j ReadsSci other = b other
-but P left_out a b c d e f g h i j IsOn other = c other
-but P left_out a b c d e f g h i j SameBytes other = d other
-but P left_out a b c d e f g h i j SameSuite other = e other
-but P left_out a b c d e f g h i j SameOffset other = f other
-but P left_out a b c d e f g h i j SameSalt other = g other
-but P left_out a b c d e f g h i j SameSsci other = h other
-but P left_out a b c d e f g h i j InTime other = i other
-but P left_out a b c d e f g h i j IsNear other = j other
+each_but P left_out a b c d e f g h i j Validates other = a other
+each_but P left_out a b c d e f g h i j ReadsSci other = b other
+each_but P left_out a b c d e f g h i j IsOn other = c other
+each_but P left_out a b c d e f g h i j SameBytes other = d other
+each_but P left_out a b c d e f g h i j SameSuite other = e other
+each_but P left_out a b c d e f g h i j SameOffset other = f other
+each_but P left_out a b c d e f g h i j SameSalt other = g other
+each_but P left_out a b c d e f g h i j SameSsci other = h other
+each_but P left_out a b c d e f g h i j InTime other = i other
+each_but P left_out a b c d e f g h i j IsNear other = j other
 
 abbrev pub HoldsIn : EndConfig → ℕ → State → RxRow → Premise → Type 0
 HoldsIn a next b rx r =
@@ -221,10 +214,10 @@ pub validation_needed : Fails (LawWithout Validates) gcm_a gcm_b (run 1 1 (Comma
 validation_needed = (
   refl,
   fails_by Validates gcm_a gcm_b (commands_of 1 1 (Command B (Validate Disabled) ∷ [])) (world_before gcm_a 1 disabled) (tx_from 1) (rx_from 1) (frame_from gcm_a 1 (tag_from gcm_a 1))
-      refl refl refl (ap (sent_by (tx_from 1)) (seals_so gcm_a 1)) (seals_so gcm_a 1)
+      refl refl refl (ap (sent_by (tx_from 1)) (seals_as_frame gcm_a 1)) (seals_as_frame gcm_a 1)
       (record {
         there = refl;
-        holds = but (HoldsIn gcm_a 1 disabled (rx_from 1)) Validates (λ no. absurd (no refl)) (λ no. refl) (λ no. refl)
+        holds = each_but (HoldsIn gcm_a 1 disabled (rx_from 1)) Validates (λ no. absurd (no refl)) (λ no. refl) (λ no. refl)
             (λ no. refl) (λ no. refl) (λ no. refl) (λ no xpn. cc) (λ no xpn. cc) (λ no. omega arith) (λ no xpn. cc);
       })
       Unchecked (Some client) (λ same. cc) (is_unchecked (tag_from gcm_a 1)),
@@ -252,10 +245,10 @@ sci_needed = (
   refl,
   fails_by ReadsSci without_sci gcm_b (commands_of 1 1 (Command B (RxSc sci_c) ∷ [])) (world_before without_sci 1 two_channels) (tx_from 1) (rx_from 1)
       (frame_from without_sci 1 (tag_from without_sci 1))
-      refl refl refl (ap (sent_by (tx_from 1)) (seals_so without_sci 1)) (seals_so without_sci 1)
+      refl refl refl (ap (sent_by (tx_from 1)) (seals_as_frame without_sci 1)) (seals_as_frame without_sci 1)
       (record {
         there = refl;
-        holds = but (HoldsIn without_sci 1 two_channels (rx_from 1)) ReadsSci (λ no same. cc) (λ no. absurd (no refl)) (λ no. refl)
+        holds = each_but (HoldsIn without_sci 1 two_channels (rx_from 1)) ReadsSci (λ no same. cc) (λ no. absurd (no refl)) (λ no. refl)
             (λ no. refl) (λ no. refl) (λ no. refl) (λ no xpn. cc) (λ no xpn. cc) (λ no. omega arith) (λ no xpn. cc);
       })
       NoSaError None (λ same. cc) (has_no_channel (tag_from without_sci 1)),
@@ -273,10 +266,10 @@ pub on_needed : Fails (LawWithout IsOn) gcm_a gcm_b (run 1 1 (Command B (RxOff s
 on_needed = (
   refl,
   fails_by IsOn gcm_a gcm_b (commands_of 1 1 (Command B (RxOff sci_a 0) ∷ [])) (world_before gcm_a 1 (state_b gcm_b rx_off)) (tx_from 1) rx_off (frame_from gcm_a 1 (tag_from gcm_a 1))
-      refl refl refl (ap (sent_by (tx_from 1)) (seals_so gcm_a 1)) (seals_so gcm_a 1)
+      refl refl refl (ap (sent_by (tx_from 1)) (seals_as_frame gcm_a 1)) (seals_as_frame gcm_a 1)
       (record {
         there = refl;
-        holds = but (HoldsIn gcm_a 1 (state_b gcm_b rx_off) rx_off) IsOn (λ no same. cc) (λ no. refl) (λ no. absurd (no refl))
+        holds = each_but (HoldsIn gcm_a 1 (state_b gcm_b rx_off) rx_off) IsOn (λ no same. cc) (λ no. refl) (λ no. absurd (no refl))
             (λ no. refl) (λ no. refl) (λ no. refl) (λ no xpn. cc) (λ no xpn. cc) (λ no. omega arith) (λ no xpn. cc);
       })
       NoSaError None (λ same. cc) (is_off (tag_from gcm_a 1)),
@@ -292,10 +285,10 @@ in_time_needed = (
   refl,
   fails_by InTime gcm_a gcm_b (commands_of 1 1 (Command B (RxLow sci_a 0 2) ∷ [])) (world_before gcm_a 1 (state_b gcm_b (rx_from 2))) (tx_from 1) (rx_from 2)
       (frame_from gcm_a 1 (tag_from gcm_a 1))
-      refl refl refl (ap (sent_by (tx_from 1)) (seals_so gcm_a 1)) (seals_so gcm_a 1)
+      refl refl refl (ap (sent_by (tx_from 1)) (seals_as_frame gcm_a 1)) (seals_as_frame gcm_a 1)
       (record {
         there = refl;
-        holds = but (HoldsIn gcm_a 1 (state_b gcm_b (rx_from 2)) (rx_from 2)) InTime (λ no same. cc) (λ no. refl) (λ no. refl)
+        holds = each_but (HoldsIn gcm_a 1 (state_b gcm_b (rx_from 2)) (rx_from 2)) InTime (λ no same. cc) (λ no. refl) (λ no. refl)
             (λ no. refl) (λ no. refl) (λ no. refl) (λ no xpn. cc) (λ no xpn. cc) (λ no. absurd (no refl)) (λ no xpn. cc);
       })
       Late None (λ same. cc) (is_late (tag_from gcm_a 1)),
@@ -314,10 +307,10 @@ suite_needed = (
   refl,
   fails_by SameSuite xpn_a gcm_b (commands_of (2 ^ 32) (2 ^ 32 - 1) []) (world_before xpn_a (2 ^ 32) (state_b gcm_b (rx_from (2 ^ 32 - 1)))) (tx_from (2 ^ 32)) (rx_from (2 ^ 32 - 1))
       (frame_from xpn_a (2 ^ 32) (tag_from xpn_a (2 ^ 32)))
-      refl refl refl (ap (sent_by (tx_from (2 ^ 32))) (seals_so xpn_a (2 ^ 32))) (seals_so xpn_a (2 ^ 32))
+      refl refl refl (ap (sent_by (tx_from (2 ^ 32))) (seals_as_frame xpn_a (2 ^ 32))) (seals_as_frame xpn_a (2 ^ 32))
       (record {
         there = refl;
-        holds = but (HoldsIn xpn_a (2 ^ 32) (state_b gcm_b (rx_from (2 ^ 32 - 1))) (rx_from (2 ^ 32 - 1))) SameSuite (λ no same. cc) (λ no. refl) (λ no. refl)
+        holds = each_but (HoldsIn xpn_a (2 ^ 32) (state_b gcm_b (rx_from (2 ^ 32 - 1))) (rx_from (2 ^ 32 - 1))) SameSuite (λ no same. cc) (λ no. refl) (λ no. refl)
             (λ no. refl) (λ no. absurd (no refl)) (λ no. refl) (λ no xpn. refl) (λ no xpn. refl) (λ no. omega arith) (λ no xpn. omega arith);
       })
       BadTag None (λ same. cc) (is_zero (tag_from xpn_a (2 ^ 32))),
@@ -336,10 +329,10 @@ near_needed = (
   refl,
   fails_by IsNear xpn_a xpn_b (commands_of (2 ^ 32) 1 []) (world_before xpn_a (2 ^ 32) (state_b xpn_b (rx_from 1))) (tx_from (2 ^ 32)) (rx_from 1)
       (frame_from xpn_a (2 ^ 32) (tag_from xpn_a (2 ^ 32)))
-      refl refl refl (ap (sent_by (tx_from (2 ^ 32))) (seals_so xpn_a (2 ^ 32))) (seals_so xpn_a (2 ^ 32))
+      refl refl refl (ap (sent_by (tx_from (2 ^ 32))) (seals_as_frame xpn_a (2 ^ 32))) (seals_as_frame xpn_a (2 ^ 32))
       (record {
         there = refl;
-        holds = but (HoldsIn xpn_a (2 ^ 32) (state_b xpn_b (rx_from 1)) (rx_from 1)) IsNear (λ no same. cc) (λ no. refl) (λ no. refl)
+        holds = each_but (HoldsIn xpn_a (2 ^ 32) (state_b xpn_b (rx_from 1)) (rx_from 1)) IsNear (λ no same. cc) (λ no. refl) (λ no. refl)
             (λ no. refl) (λ no. refl) (λ no. refl) (λ no xpn. refl) (λ no xpn. refl) (λ no. omega arith) (λ no. absurd (no refl));
       })
       BadTag None (λ same. cc) (is_far (tag_from xpn_a (2 ^ 32))),

@@ -31,11 +31,11 @@ use Rattle.macsec_link.specs.declared.Event.TheVariants.{Deliver, Send}
 use Rattle.macsec_ends.specs.Logs.{no_sent_logs}
 use Rattle.macsec_link.specs.Step.{world_step}
 use Rattle.macsec_link.specs.World.{WorldState}
-use Rattle.macsec_link.proofs.AcceptancePremises.{Holds, HoldsIn, LawWithout, Premise, SameBytes, SameOffset, but, fails_by, frame_from, gcm_a, gcm_b, heard, key_row, rx_from, seals_so, state_b, tag_from, tx_from, world_before, world_sent}
+use Rattle.macsec_link.proofs.AcceptancePremises.{Holds, HoldsIn, LawWithout, Premise, SameBytes, SameOffset, each_but, fails_by, frame_from, gcm_a, gcm_b, heard, key_row, seals_as_frame, state_b, tag_from, world_before, world_sent}
 use Rattle.macsec_link.proofs.KeyPremises.{answered, cover}
 use Rattle.macsec_link.proofs.SealedFrames.{Sealed, aad_sent, closes, first, first_differs, frame_with, items, rest, sealed, tag_of, with_tag}
 use Rattle.macsec_link.proofs.TracedSteps.{sent_by}
-use Rattle.macsec_link.proofs.WorkedEnds.{Fails, client, new_key, no_salt, receives_from, sci_a, sends_from}
+use Rattle.macsec_link.proofs.WorkedEnds.{Fails, client, new_key, no_salt, receives_from, rx_from, sci_a, sends_from, tx_from}
 
 -- ---- a tag by its hash
 
@@ -133,10 +133,10 @@ pub bytes_needed : Fails (LawWithout SameBytes) gcm_a gcm_b (commands ++ Send A 
 bytes_needed = (
   refl,
   fails_by SameBytes gcm_a gcm_b commands (world_before gcm_a 1 with_other) (tx_from 1) (rx_from 1) (frame_from gcm_a 1 (tag_from gcm_a 1))
-      refl refl refl (ap (sent_by (tx_from 1)) (seals_so gcm_a 1)) (seals_so gcm_a 1)
+      refl refl refl (ap (sent_by (tx_from 1)) (seals_as_frame gcm_a 1)) (seals_as_frame gcm_a 1)
       (record {
         there = refl;
-        holds = but (HoldsIn gcm_a 1 with_other (rx_from 1)) SameBytes (λ no same. cc) (λ no. refl) (λ no. refl)
+        holds = each_but (HoldsIn gcm_a 1 with_other (rx_from 1)) SameBytes (λ no same. cc) (λ no. refl) (λ no. refl)
             (λ no. absurd (no refl)) (λ no. refl) (λ no. refl) (λ no xpn. cc) (λ no xpn. cc) (λ no. omega arith) (λ no xpn. cc);
       })
       NotValid None (λ same. cc)
@@ -147,7 +147,7 @@ bytes_needed = (
 
 long_tag : (key iv aad ciphertext : List ℕ) → length (tag_with key iv aad ciphertext) ≡ 16
 unfolding authentication_tag gctr
-long_tag key iv aad ciphertext = refl
+long_tag _ _ _ _ = refl
 
 -- a text with a ciphertext opens with one tag alone, whatever its plaintext is
 closes_with : (key iv aad ciphertext : List ℕ) (octet : ℕ) (others : List ℕ) → (first (tag_with key iv aad ciphertext) == octet) ≡ false → open_of key iv aad ciphertext (octet ∷ others) ≡ None
@@ -228,7 +228,7 @@ offset_needed = (
       refl refl refl (ap (sent_by tx_conf) seals_clear) seals_clear
       (record {
         there = refl;
-        holds = but HoldsAt30 SameOffset (λ no same. cc) (λ no. refl) (λ no. refl)
+        holds = each_but HoldsAt30 SameOffset (λ no same. cc) (λ no. refl) (λ no. refl)
             (λ no. refl) (λ no. refl) (λ no. absurd (no refl)) (λ no xpn. cc) (λ no xpn. cc) (λ no. omega arith) (λ no xpn. cc);
       })
       NotValid None (λ same. cc)

@@ -17,15 +17,15 @@ use Rattle.macsec_secy.specs.Step.{Input, step}
 
 pub record EndpointLaws : Type 0 where
   pub equal_ivs : (suite : Suite) (p q : IvParts) → EqualIvs suite p q
-  pub apart : (s : State) → IsSound s → KeysAreApart s.keys
-  pub stay : (s : State) (input : Input) → IsSound s → KeysStay s (step s input).1
-  pub rx_apart : (s : State) → IsSound s → RxRowsAreApart s.rx.rows
+  pub keys_apart : (s : State) → IsSound s → KeysAreApart s.keys
+  pub keys_stay : (s : State) (input : Input) → IsSound s → KeysStay s (step s input).1
+  pub rx_rows_apart : (s : State) → IsSound s → RxRowsAreApart s.rx.rows
   pub rx_rows_stay : (s : State) (input : Input) (sci : Sci) (an n : ℕ) → RxRowStays s input sci an n
   pub protects : (s : State) (frame : List ℕ) (row : TxRow) → Protects s frame row
   pub delivers : (s : State) (frame : List ℕ) (row : RxRow) (delivered : List ℕ) → DeliversFrom s frame row delivered
 
 pub key_row_facts : EndpointLaws → (s : State) (key : InstalledKey) → IsSound s → Contains s.keys key → IsKeyRow key
-key_row_facts laws s key sound there = All-contains IsKeyRow s.keys key (laws.apart s sound).rows there
+key_row_facts laws s key sound there = All-contains IsKeyRow s.keys key (laws.keys_apart s sound).rows there
 
 -- two senders that differ do not have one IV
 pub differ : (suite : Suite) (p q : IvParts) → HaveSameSender suite p q → (is_xpn suite ≡ true → p.ssci ≢ q.ssci) → p.sci ≢ q.sci → ⊥

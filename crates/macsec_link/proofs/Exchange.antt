@@ -10,7 +10,6 @@ use Rattle.macsec_suite.specs.CipherUses.{CipherUse, cipher_use}
 use Rattle.macsec_suite.specs.KeyRows.{InstalledKey}
 use Rattle.macsec_suite.specs.Suites.{iv_of}
 use Rattle.macsec_tx.specs.declared.TxOptions.{TxOptions}
-use Rattle.macsec_tx.specs.declared.TxRow.{TxRow}
 use Rattle.macsec_tx.specs.Transmit.{tag_sent}
 use Rattle.macsec_rx.specs.declared.RxRow.{RxRow}
 use Rattle.macsec_rx.specs.declared.Verdict.TheVariants.{Passed}
@@ -27,7 +26,7 @@ use Rattle.macsec_link.specs.declared.Event.TheVariants.{Deliver, Send}
 use Rattle.macsec_link.specs.Genuine.{IsGenuine, IsGenuineAt}
 use Rattle.macsec_link.specs.Answers.{make_fault}
 use Rattle.macsec_link.specs.Keys.{AgreeOnKey, AgreeOnKeys}
-use Rattle.macsec_ends.specs.Logs.{DeliveryLog, no_sent_logs, sent_under}
+use Rattle.macsec_ends.specs.Logs.{no_sent_logs, sent_under}
 use Rattle.macsec_link.specs.Origin.{HasStrictOrder, IsStrict, WhileThere}
 use Rattle.macsec_link.specs.Step.{world_after}
 use Rattle.macsec_link.specs.World.{WorldState, new_world}
@@ -35,7 +34,7 @@ use Rattle.macsec_link.specs.Trace.{Mark, Trace, new_trace, trace_after, trace_s
 use Rattle.macsec_link.proofs.Moments.{world_of_trace}
 use Rattle.macsec_link.proofs.SealedFrames.{Sealed, aad_sent, frame_with, items, opens, parts_with, sealed, tag_of, with_tag}
 use Rattle.macsec_link.proofs.TracedSteps.{AtEach, after_both, at_moment, deliver_step, each_append, each_next, genuine_append, genuine_at, genuine_next, send_step, sent_by}
-use Rattle.macsec_link.proofs.WorkedEnds.{config, new_key, no_salt, of_two, receives_from, sci_a, sci_b, sends_from}
+use Rattle.macsec_link.proofs.WorkedEnds.{config, installed_key, log, new_key, no_salt, of_two, receives_from, rx_from, sci_a, sci_b, sends_from, tx_from}
 
 abbrev pub config_a : EndConfig
 config_a = config Gcm128 sci_a
@@ -59,17 +58,7 @@ exchange = Send A (client 1) ∷ Deliver B 0 ∷ second_exchange
 -- ---- the ends, by the packet numbers that come next
 
 abbrev pub key_row : ℕ → ℕ → InstalledKey
-key_row ssci first_unused =
-    record { number = 0; suite = Gcm128; bytes = replicate 16 7; salt = no_salt; ssci = ssci; offset = 0; first_unused = first_unused; retired = false }
-
-abbrev pub tx_from : ℕ → TxRow
-tx_from next = record { an = 0; key = 0; next = next; conf = false; on = true }
-
-abbrev pub rx_from : ℕ → RxRow
-rx_from next = record { sci = sci_a; an = 0; key = 0; ssci = 1; next = next; lowest = next; on = true }
-
-abbrev pub log : List (List ℕ) → DeliveryLog
-log frames = record { sci = sci_a; an = 0; key = 0; live = true; frames = frames }
+key_row ssci first_unused = installed_key Gcm128 no_salt ssci first_unused
 
 -- with these options of B, A has sent up to n; B's association, the octets that B validated, and its channel's counters; what
 -- A's client sent, what B delivered, and the link's frames
@@ -232,60 +221,60 @@ pub record MeetsPremises : Type 0 where
   pub sent : sent_under last_world.a.sent 0 ≡ client 1 ∷ client 2 ∷ []
   pub delivered : slice_get last_world.b.delivered 0 ≡ Some (log (client 1 ∷ client 2 ∷ []))
 
-abbrev t1 : List ℕ
-t1 = tag 1 (client 1)
+abbrev first_tag : List ℕ
+first_tag = tag 1 (client 1)
 
-abbrev t2 : List ℕ
-t2 = tag 2 (client 2)
+abbrev second_tag : List ℕ
+second_tag = tag 2 (client 2)
 
-first_opens : open_of bytes (iv 1) (aad 1 (client 1)) [] (items 16 t1) ≡ Some []
+first_opens : open_of bytes (iv 1) (aad 1 (client 1)) [] (items 16 first_tag) ≡ Some []
 first_opens = opens bytes (iv 1) (aad 1 (client 1))
 
-second_opens : open_of bytes (iv 2) (aad 2 (client 2)) [] (items 16 t2) ≡ Some []
+second_opens : open_of bytes (iv 2) (aad 2 (client 2)) [] (items 16 second_tag) ≡ Some []
 second_opens = opens bytes (iv 2) (aad 2 (client 2))
 
 is_genuine : IsGenuine (new_trace config_a config_b) events
 is_genuine =
     genuine_append (new_trace config_a config_b) ready commands exchange (tt, (tt, (tt, (tt, (tt, (tt, (tt, tt))))))) is_ready
-    (genuine_next ready (after_first t1) (Send A (client 1)) (Deliver B 0 ∷ second_exchange) (tt {0}) first_sent
-    (genuine_next (after_first t1) (heard_first t1) (Deliver B 0) second_exchange (first_genuine t1 first_opens) (first_heard t1 first_opens)
-    (genuine_next (heard_first t1) (after_second t1 t2) (Send A (client 2)) (Deliver B 1 ∷ []) (tt {0}) (second_sent t1)
-    (genuine_next (after_second t1 t2) (heard_second t1 t2) (Deliver B 1) [] (second_genuine t1 t2 second_opens) (second_heard t1 t2 second_opens) (tt {0})))))
+    (genuine_next ready (after_first first_tag) (Send A (client 1)) (Deliver B 0 ∷ second_exchange) (tt {0}) first_sent
+    (genuine_next (after_first first_tag) (heard_first first_tag) (Deliver B 0) second_exchange (first_genuine first_tag first_opens) (first_heard first_tag first_opens)
+    (genuine_next (heard_first first_tag) (after_second first_tag second_tag) (Send A (client 2)) (Deliver B 1 ∷ []) (tt {0}) (second_sent first_tag)
+    (genuine_next (after_second first_tag second_tag) (heard_second first_tag second_tag) (Deliver B 1) [] (second_genuine first_tag second_tag second_opens) (second_heard first_tag second_tag second_opens) (tt {0})))))
 
-ends_so : trace_after (new_trace config_a config_b) events ≡ heard_second t1 t2
-ends_so =
+trace_ends : trace_after (new_trace config_a config_b) events ≡ heard_second first_tag second_tag
+trace_ends =
     after_both (new_trace config_a config_b) ready commands exchange is_ready
     ∙ ap (λ (t : Trace). trace_after t (Deliver B 0 ∷ second_exchange)) first_sent
-    ∙ ap (λ (t : Trace). trace_after t second_exchange) (first_heard t1 first_opens)
-    ∙ ap (λ (t : Trace). trace_after t (Deliver B 1 ∷ [])) (second_sent t1)
-    ∙ second_heard t1 t2 second_opens
+    ∙ ap (λ (t : Trace). trace_after t second_exchange) (first_heard first_tag first_opens)
+    ∙ ap (λ (t : Trace). trace_after t (Deliver B 1 ∷ [])) (second_sent first_tag)
+    ∙ second_heard first_tag second_tag second_opens
 
-last_is : last_world ≡ (heard_second t1 t2).world
-last_is = sym (world_of_trace (new_trace config_a config_b) events) ∙ ap (λ (t : Trace). t.world) ends_so
+last_world_is : last_world ≡ (heard_second first_tag second_tag).world
+last_world_is = sym (world_of_trace (new_trace config_a config_b) events) ∙ ap (λ (t : Trace). t.world) trace_ends
 
 -- B's options are those of the making at each moment
-abbrev IsSo : (State → Type 0) → WorldState → Type 0
-IsSo P w = IfSome (slice_get w.b.delivered 0) (λ log. log.live ≡ true → P w.b.state)
+abbrev WhileLive : (State → Type 0) → WorldState → Type 0
+WhileLive P w = IfSome (slice_get w.b.delivered 0) (λ log. log.live ≡ true → P w.b.state)
 
-each_moment : (P : State → Type 0) → ((s : State) → s.options ≡ first_options config_b → P s) → AtEach (IsSo P) (new_world config_a config_b) events
+each_moment : (P : State → Type 0) → ((s : State) → s.options ≡ first_options config_b → P s) → AtEach (WhileLive P) (new_world config_a config_b) events
 each_moment P so =
-    each_append (IsSo P) (new_world config_a config_b) ready.world commands exchange
+    each_append (WhileLive P) (new_world config_a config_b) ready.world commands exchange
     (tt, (tt, (tt, (tt, (tt, (tt, (λ live. so _ refl, tt))))))) (sym (world_of_trace (new_trace config_a config_b) commands) ∙ ap (λ (t : Trace). t.world) is_ready)
-    (each_next (IsSo P) ready.world (after_first t1).world (Send A (client 1)) (Deliver B 0 ∷ second_exchange) (λ live. so _ refl) (ap (λ (t : Trace). t.world) first_sent)
-    (each_next (IsSo P) (after_first t1).world (heard_first t1).world (Deliver B 0) second_exchange (λ live. so _ refl) (ap (λ (t : Trace). t.world) (first_heard t1 first_opens))
-    (each_next (IsSo P) (heard_first t1).world (after_second t1 t2).world (Send A (client 2)) (Deliver B 1 ∷ []) (λ live. so _ refl) (ap (λ (t : Trace). t.world) (second_sent t1))
-    (each_next (IsSo P) (after_second t1 t2).world (heard_second t1 t2).world (Deliver B 1) [] (λ live. so _ refl) (ap (λ (t : Trace). t.world) (second_heard t1 t2 second_opens)) (λ live. so _ refl)))))
+    (each_next (WhileLive P) ready.world (after_first first_tag).world (Send A (client 1)) (Deliver B 0 ∷ second_exchange) (λ live. so _ refl) (ap (λ (t : Trace). t.world) first_sent)
+    (each_next (WhileLive P) (after_first first_tag).world (heard_first first_tag).world (Deliver B 0) second_exchange (λ live. so _ refl) (ap (λ (t : Trace). t.world) (first_heard first_tag first_opens))
+    (each_next (WhileLive P) (heard_first first_tag).world (after_second first_tag second_tag).world (Send A (client 2)) (Deliver B 1 ∷ []) (λ live. so _ refl) (ap (λ (t : Trace). t.world) (second_sent first_tag))
+    (each_next (WhileLive P) (after_second first_tag second_tag).world (heard_second first_tag second_tag).world (Deliver B 1) [] (λ live. so _ refl) (ap (λ (t : Trace). t.world) (second_heard first_tag second_tag second_opens)) (λ live. so _ refl)))))
 
 while_there : (P : State → Type 0) → ((s : State) → s.options ≡ first_options config_b → P s) → WhileThere config_a config_b events B 0 P
-while_there P so k within = at_moment (IsSo P) (new_world config_a config_b) events (each_moment P so) k within
+while_there P so k within = at_moment (WhileLive P) (new_world config_a config_b) events (each_moment P so) k within
 
 pub meets_premises : MeetsPremises
 meets_premises = record {
   made = refl;
   genuine = is_genuine;
-  agree = subst AgreeOnKeys (sym last_is) (of_two (λ x y. x.bytes ≡ y.bytes → AgreeOnKey x y) _ _ (λ same. record { suite = refl; salt = λ xpn. refl }));
+  agree = subst AgreeOnKeys (sym last_world_is) (of_two (λ x y. x.bytes ≡ y.bytes → AgreeOnKey x y) _ _ (λ same. record { suite = refl; salt = λ xpn. refl }));
   strict = while_there IsStrict (λ s is. ap (λ (o : Options). o.mode) is);
   in_order = while_there HasStrictOrder (λ s is. record { replay = ap (λ (o : Options). o.replay) is; window = ap (λ (o : Options). o.window) is });
-  sent = ap (λ (w : WorldState). sent_under w.a.sent 0) last_is;
-  delivered = ap (λ (w : WorldState). slice_get w.b.delivered 0) last_is;
+  sent = ap (λ (w : WorldState). sent_under w.a.sent 0) last_world_is;
+  delivered = ap (λ (w : WorldState). slice_get w.b.delivered 0) last_world_is;
 }

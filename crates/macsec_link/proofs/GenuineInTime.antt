@@ -22,10 +22,10 @@ use Rattle.macsec_link.specs.declared.Event.{Event}
 use Rattle.macsec_link.specs.declared.Event.TheVariants.{Deliver, Send}
 use Rattle.macsec_link.specs.Acceptance.{IsOnLink}
 use Rattle.macsec_link.specs.Faults.{fault_of}
-use Rattle.macsec_link.specs.Genuine.{IsGenuineAt, text_opened, text_opened_in}
+use Rattle.macsec_link.specs.Genuine.{IsGenuineAt, use_opened, use_opened_in}
 use Rattle.macsec_link.specs.Sound.{IsSound}
 use Rattle.macsec_link.specs.Step.{world_after, world_at, world_step}
-use Rattle.macsec_link.specs.Trace.{Trace, new_seals, new_trace, seals_by, text_sealed_by, trace_after, trace_of, trace_step}
+use Rattle.macsec_link.specs.Trace.{Trace, new_seals, new_trace, seals_by, use_sealed_by, trace_after, trace_of, trace_step}
 use Rattle.macsec_link.specs.Trace as trace
 use Rattle.macsec_link.specs.World.{WorldState, end_of, frame_at, new_world, other_end}
 use Rattle.macsec_link.proofs.Accepted.{LawOfStep, StandsWith, stands_with}
@@ -58,12 +58,12 @@ module _ (law_of_step : LawOfStep) (laws : EndpointLaws) (w : WorldState) (e : E
   frame_is = (finds w n (in_a_row p ++ at.behind) sound at.there).found
 
   -- it is what was sealed of it
-  pub opened_in_time : text_opened s (frame_at w n) ≡ Some (text_sealed_by sender client tx)
+  pub opened_in_time : use_opened s (frame_at w n) ≡ Some (use_sealed_by sender client tx)
   opened_in_time =
       let it = law_of_step sender s client tx rx at.behind sender_sound (sound_end w sound e) good by can at.may in
-      subst (λ (f : List ℕ). text_opened s f ≡ Some (text_sealed_by sender client tx)) frame_is
-      (ap (λ (j : Judgement). text_opened_in s j j.row (reading (in_a_row p ++ at.behind))) it.judged
-      ∙ ap (text_opened_in s (at_row rx tx.next 13 Passed (Some client)) (Some rx)) it.reads ∙ ap Some it.opens)
+      subst (λ (f : List ℕ). use_opened s f ≡ Some (use_sealed_by sender client tx)) frame_is
+      (ap (λ (j : Judgement). use_opened_in s j j.row (reading (in_a_row p ++ at.behind))) it.judged
+      ∙ ap (use_opened_in s (at_row rx tx.next 13 Passed (Some client)) (Some rx)) it.reads ∙ ap Some it.opens)
 
 -- ---- what was sealed stays, and what was sent stands on the link
 
@@ -81,7 +81,7 @@ record IsSentBy (w : WorldState) (e : End) (client : List ℕ) (tx : TxRow) : Ty
   by : (sending_of (end_of w e).state client).by ≡ Some tx
 
 abbrev sealed_at : WorldState → End → List ℕ → TxRow → CipherUse
-sealed_at w e client tx = text_sealed_by (end_of w e).state client tx
+sealed_at w e client tx = use_sealed_by (end_of w e).state client tx
 
 sealed_now : (t : Trace) (e : End) (client : List ℕ) (tx : TxRow) → IsSentBy t.world e client tx → Contains (trace_step t (Send e client)).seals (sealed_at t.world e client tx)
 sealed_now t e client tx sent =
@@ -147,7 +147,7 @@ genuine_in_time law_of_step laws a b events sounds e k m n client tx rx sends le
     sealed_later (new_trace a b) events k m (other_end e) client tx before sends.sends (world_of_trace (new_trace a b) (take k events)) (record { none = sends.none; by = sends.by }) less in
     let opened = opened_in_time law_of_step laws w e n (end_of before (other_end e)).state client tx rx (sounds m) (sound_end before (sounds k) (other_end e))
     (fits before (other_end e) client sends.none) sends.by can on_link in
-    subst (λ (v : WorldState). IfSome (text_opened (end_of v e).state (frame_at v n)) (Contains seals)) (sym (world_of_trace (new_trace a b) (take m events)))
+    subst (λ (v : WorldState). IfSome (use_opened (end_of v e).state (frame_at v n)) (Contains seals)) (sym (world_of_trace (new_trace a b) (take m events)))
     (subst (λ o. IfSome o (Contains seals)) (sym opened) sealed)
 
 -- its link frame is there at each of these moments

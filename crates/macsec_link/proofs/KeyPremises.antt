@@ -23,11 +23,11 @@ use Rattle.macsec_link.specs.declared.Event.TheVariants.{Deliver, Send}
 use Rattle.macsec_link.specs.Faults.{fault_of}
 use Rattle.macsec_link.specs.Step.{world_step}
 use Rattle.macsec_link.specs.World.{WorldState, frame_at}
-use Rattle.macsec_link.proofs.AcceptancePremises.{HoldsIn, LawWithout, SameSalt, SameSsci, but, fails_by, frame_from, heard, key_row, rx_from, seals_so, state_b, tag_from, tx_from, world_before, world_sent, xpn_a, xpn_b}
+use Rattle.macsec_link.proofs.AcceptancePremises.{HoldsIn, LawWithout, SameSalt, SameSsci, each_but, fails_by, frame_from, heard, key_row, seals_as_frame, state_b, tag_from, world_before, world_sent, xpn_a, xpn_b}
 use Rattle.macsec_link.proofs.Ivs.{xor_same}
 use Rattle.macsec_link.proofs.SealedFrames.{aad_sent, closes, first, items, rest, tag_of}
 use Rattle.macsec_link.proofs.TracedSteps.{sent_by}
-use Rattle.macsec_link.proofs.WorkedEnds.{Fails, client, new_key, no_salt, receives_from, sci_a, sends_from}
+use Rattle.macsec_link.proofs.WorkedEnds.{Fails, client, new_key, no_salt, receives_from, rx_from, sci_a, sends_from, tx_from}
 
 -- ---- tags under two IVs
 
@@ -97,10 +97,10 @@ pub salt_needed : Fails (LawWithout SameSalt) xpn_a xpn_b (commands other_salt 1
 salt_needed = (
   refl,
   fails_by SameSalt xpn_a xpn_b (commands other_salt 1) (world_before xpn_a 1 salted) (tx_from 1) (rx_from 1) (frame_from xpn_a 1 (tag_from xpn_a 1))
-      refl refl refl (ap (sent_by (tx_from 1)) (seals_so xpn_a 1)) (seals_so xpn_a 1)
+      refl refl refl (ap (sent_by (tx_from 1)) (seals_as_frame xpn_a 1)) (seals_as_frame xpn_a 1)
       (record {
         there = refl;
-        holds = but (HoldsIn xpn_a 1 salted (rx_from 1)) SameSalt (λ no same. cc) (λ no. refl) (λ no. refl)
+        holds = each_but (HoldsIn xpn_a 1 salted (rx_from 1)) SameSalt (λ no same. cc) (λ no. refl) (λ no. refl)
             (λ no. refl) (λ no. refl) (λ no. refl) (λ no. absurd (no refl)) (λ no xpn. refl) (λ no. omega arith) (λ no xpn. omega arith);
       })
       NotValid None (λ same. cc)
@@ -123,10 +123,10 @@ pub ssci_needed : Fails (LawWithout SameSsci) xpn_a xpn_b (commands no_salt 3 ++
 ssci_needed = (
   refl,
   fails_by SameSsci xpn_a xpn_b (commands no_salt 3) (world_before xpn_a 1 (state_b xpn_b rx_of_3)) (tx_from 1) rx_of_3 (frame_from xpn_a 1 (tag_from xpn_a 1))
-      refl refl refl (ap (sent_by (tx_from 1)) (seals_so xpn_a 1)) (seals_so xpn_a 1)
+      refl refl refl (ap (sent_by (tx_from 1)) (seals_as_frame xpn_a 1)) (seals_as_frame xpn_a 1)
       (record {
         there = refl;
-        holds = but (HoldsIn xpn_a 1 (state_b xpn_b rx_of_3) rx_of_3) SameSsci (λ no same. cc) (λ no. refl) (λ no. refl)
+        holds = each_but (HoldsIn xpn_a 1 (state_b xpn_b rx_of_3) rx_of_3) SameSsci (λ no same. cc) (λ no. refl) (λ no. refl)
             (λ no. refl) (λ no. refl) (λ no. refl) (λ no xpn. refl) (λ no. absurd (no refl)) (λ no. omega arith) (λ no xpn. omega arith);
       })
       NotValid None (λ same. cc)

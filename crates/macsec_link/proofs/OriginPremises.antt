@@ -27,11 +27,11 @@ use Rattle.macsec_link.specs.Origin.{HasStrictOrder, IsStrict, IsSubsequence, Wa
 use Rattle.macsec_link.specs.Step.{world_after, world_at}
 use Rattle.macsec_link.specs.Trace.{Trace, new_trace, trace_after, trace_step}
 use Rattle.macsec_link.specs.World.{WorldState, end_of, new_world}
-use Rattle.macsec_link.proofs.Exchange.{aad, at_numbers, bytes, client, commands, config_a, config_b, first_judged, is_ready, iv, key_row, link_frame_of, link_frame_with, mark, ready, rx_from, tag, trace_at}
+use Rattle.macsec_link.proofs.Exchange.{aad, at_numbers, bytes, client, commands, config_a, config_b, first_judged, is_ready, iv, key_row, link_frame_of, link_frame_with, mark, ready, tag, trace_at}
 use Rattle.macsec_link.proofs.Moments.{world_of_trace}
 use Rattle.macsec_link.proofs.SealedFrames.{closes, first, items, opens, tag_of}
 use Rattle.macsec_link.proofs.TracedSteps.{AtEach, after_both, at_moment, deliver_step, each_append, each_next, genuine_append, genuine_at, genuine_next}
-use Rattle.macsec_link.proofs.WorkedEnds.{Fails, of_two, only}
+use Rattle.macsec_link.proofs.WorkedEnds.{Fails, of_two, only, rx_from}
 
 -- A has sent nothing
 sent_none : (y : InstalledKey) → Contains (key_row 1 1 ∷ []) y → Contains (sent_under no_sent_logs y.number) (client 1) → ⊥
@@ -45,16 +45,16 @@ no_subsequence_of_none x ([], rising, found) = cc
 no_subsequence_of_none x (place ∷ places, rising, found) = cc
 
 -- a fact of B at a moment, while its association is there
-abbrev IsSo : (State → Type 0) → WorldState → Type 0
-IsSo P w = IfSome (slice_get w.b.delivered 0) (λ log. log.live ≡ true → P w.b.state)
+abbrev WhileLive : (State → Type 0) → WorldState → Type 0
+WhileLive P w = IfSome (slice_get w.b.delivered 0) (λ log. log.live ≡ true → P w.b.state)
 
 abbrev world_of : Trace → WorldState
 world_of t = t.world
 
 -- ---- a frame is injected that fits B's key
 
-abbrev t1 : List ℕ
-t1 = tag 1 (client 1)
+abbrev first_tag : List ℕ
+first_tag = tag 1 (client 1)
 
 abbrev Opens : List ℕ → Type 0
 Opens t = open_of bytes (iv 1) (aad 1 (client 1)) [] (items 16 t) ≡ Some []
@@ -63,7 +63,7 @@ abbrev forging : List ℕ → List Event
 forging t = Inject (link_frame_of 1 (client 1) t) ∷ Deliver B 0 ∷ []
 
 abbrev forged : List Event
-forged = commands ++ forging t1
+forged = commands ++ forging first_tag
 
 abbrev injected : List ℕ → Trace
 injected t = at_numbers 0 0 [] [] (link_frame_of 1 (client 1) t ∷ []) [] []
@@ -77,28 +77,28 @@ is_injected t = refl
 is_deceived : (t : List ℕ) → Opens t → trace_step (injected t) (Deliver B 0) ≡ deceived t
 is_deceived t is = deliver_step (injected t) 0 (link_frame_of 1 (client 1) t) (at_row (rx_from 1) 1 13 Passed (Some (client 1))) refl refl refl (first_judged t is)
 
-is_open : Opens t1
+is_open : Opens first_tag
 is_open = opens bytes (iv 1) (aad 1 (client 1))
 
-ends_so : trace_after (new_trace config_a config_b) forged ≡ deceived t1
-ends_so =
-    after_both (new_trace config_a config_b) ready commands (forging t1) is_ready
-    ∙ ap (λ (t : Trace). trace_after t (Deliver B 0 ∷ [])) (is_injected t1)
-    ∙ is_deceived t1 is_open
+trace_ends : trace_after (new_trace config_a config_b) forged ≡ deceived first_tag
+trace_ends =
+    after_both (new_trace config_a config_b) ready commands (forging first_tag) is_ready
+    ∙ ap (λ (t : Trace). trace_after t (Deliver B 0 ∷ [])) (is_injected first_tag)
+    ∙ is_deceived first_tag is_open
 
-last_is : world_after (new_world config_a config_b) forged ≡ (deceived t1).world
-last_is = sym (world_of_trace (new_trace config_a config_b) forged) ∙ ap world_of ends_so
+last_world_is : world_after (new_world config_a config_b) forged ≡ (deceived first_tag).world
+last_world_is = sym (world_of_trace (new_trace config_a config_b) forged) ∙ ap world_of trace_ends
 
-each_moment : (P : State → Type 0) → ((s : State) → s.options ≡ first_options config_b → P s) → AtEach (IsSo P) (new_world config_a config_b) forged
+each_moment : (P : State → Type 0) → ((s : State) → s.options ≡ first_options config_b → P s) → AtEach (WhileLive P) (new_world config_a config_b) forged
 each_moment P so =
-    each_append (IsSo P) (new_world config_a config_b) ready.world commands (forging t1)
+    each_append (WhileLive P) (new_world config_a config_b) ready.world commands (forging first_tag)
     (tt, (tt, (tt, (tt, (tt, (tt, (λ live. so _ refl, tt)))))))
     (sym (world_of_trace (new_trace config_a config_b) commands) ∙ ap world_of is_ready)
-    (each_next (IsSo P) ready.world (injected t1).world (Inject (link_frame_of 1 (client 1) t1)) (Deliver B 0 ∷ []) (λ live. so _ refl) (ap world_of (is_injected t1))
-    (each_next (IsSo P) (injected t1).world (deceived t1).world (Deliver B 0) [] (λ live. so _ refl) (ap world_of (is_deceived t1 is_open)) (λ live. so _ refl)))
+    (each_next (WhileLive P) ready.world (injected first_tag).world (Inject (link_frame_of 1 (client 1) first_tag)) (Deliver B 0 ∷ []) (λ live. so _ refl) (ap world_of (is_injected first_tag))
+    (each_next (WhileLive P) (injected first_tag).world (deceived first_tag).world (Deliver B 0) [] (λ live. so _ refl) (ap world_of (is_deceived first_tag is_open)) (λ live. so _ refl)))
 
 while_there : (P : State → Type 0) → ((s : State) → s.options ≡ first_options config_b → P s) → WhileThere config_a config_b forged B 0 P
-while_there P so k within = at_moment (IsSo P) (new_world config_a config_b) forged (each_moment P so) k within
+while_there P so k within = at_moment (WhileLive P) (new_world config_a config_b) forged (each_moment P so) k within
 
 -- the law on origin without the premise that no tag is forged
 abbrev pub OriginWhereForged : EndConfig → EndConfig → List Event → Type 0
@@ -108,8 +108,8 @@ pub genuineness_needed : Fails OriginWhereForged config_a config_b forged
 genuineness_needed = (
   refl,
   λ law.
-      let sent : WasSentByOther (deceived t1).world B 0 =
-      subst (λ (w : WorldState). WasSentByOther w B 0) (ap (world_after (new_world config_a config_b)) (take_all (length forged) forged (omega arith)) ∙ last_is)
+      let sent : WasSentByOther (deceived first_tag).world B 0 =
+      subst (λ (w : WorldState). WasSentByOther w B 0) (ap (world_after (new_world config_a config_b)) (take_all (length forged) forged (omega arith)) ∙ last_world_is)
       (law B 0 (length forged) (while_there IsStrict (λ s is. ap (λ (o : Options). o.mode) is)) (omega arith)) in
       let it = sent 0 [] (omega arith) in
       sent_none it.0 it.1 it.3,
@@ -126,9 +126,9 @@ pub genuineness_needed_for_order : Fails OrderWhereForged config_a config_b forg
 genuineness_needed_for_order = (
   refl,
   λ law.
-      let in_order : WasSentInOrder (deceived t1).world B 0 =
-      subst (λ (w : WorldState). WasSentInOrder w B 0) last_is
-      (law (subst AgreeOnKeys (sym last_is) (of_two (λ x y. x.bytes ≡ y.bytes → AgreeOnKey x y) _ _ (λ same. record { suite = refl; salt = λ xpn. refl }))) B 0
+      let in_order : WasSentInOrder (deceived first_tag).world B 0 =
+      subst (λ (w : WorldState). WasSentInOrder w B 0) last_world_is
+      (law (subst AgreeOnKeys (sym last_world_is) (of_two (λ x y. x.bytes ≡ y.bytes → AgreeOnKey x y) _ _ (λ same. record { suite = refl; salt = λ xpn. refl }))) B 0
       (while_there IsStrict (λ s is. ap (λ (o : Options). o.mode) is))
       (while_there HasStrictOrder (λ s is. record { replay = ap (λ (o : Options). o.replay) is; window = ap (λ (o : Options). o.window) is }))) in
       no_subsequence_of_none (client 1) (in_order (key_row 1 1) (0, omega arith, refl) refl),
@@ -210,14 +210,14 @@ guess_ends octet other =
     ∙ ap (λ (t : Trace). trace_after t back) (is_unvalidated octet other)
     ∙ is_strict_again octet)
 
-each_in_check : (octet : ℕ) → IsOther octet → AtEach (IsSo HasStrictOrder) (new_world config_a config_b) (guess octet)
+each_in_check : (octet : ℕ) → IsOther octet → AtEach (WhileLive HasStrictOrder) (new_world config_a config_b) (guess octet)
 each_in_check octet other =
-    each_append (IsSo HasStrictOrder) (new_world config_a config_b) in_check.world commands_check (guessing octet)
+    each_append (WhileLive HasStrictOrder) (new_world config_a config_b) in_check.world commands_check (guessing octet)
     (tt, (tt, (tt, (tt, (tt, (tt, (λ live. record { replay = refl; window = refl }, (λ live. record { replay = refl; window = refl }, tt))))))))
     (sym (world_of_trace (new_trace config_a config_b) commands_check) ∙ ap world_of is_in_check)
-    (each_next (IsSo HasStrictOrder) in_check.world (on_link octet).world (Inject (guessed octet)) (Deliver B 0 ∷ back) (λ live. record { replay = refl; window = refl }) (ap world_of (is_on_link octet))
-    (each_next (IsSo HasStrictOrder) (on_link octet).world (unvalidated octet).world (Deliver B 0) back (λ live. record { replay = refl; window = refl }) (ap world_of (is_unvalidated octet other))
-    (each_next (IsSo HasStrictOrder) (unvalidated octet).world (strict_again octet).world (Command B (Validate Strict)) [] (λ live. record { replay = refl; window = refl }) (ap world_of (is_strict_again octet))
+    (each_next (WhileLive HasStrictOrder) in_check.world (on_link octet).world (Inject (guessed octet)) (Deliver B 0 ∷ back) (λ live. record { replay = refl; window = refl }) (ap world_of (is_on_link octet))
+    (each_next (WhileLive HasStrictOrder) (on_link octet).world (unvalidated octet).world (Deliver B 0) back (λ live. record { replay = refl; window = refl }) (ap world_of (is_unvalidated octet other))
+    (each_next (WhileLive HasStrictOrder) (unvalidated octet).world (strict_again octet).world (Command B (Validate Strict)) [] (λ live. record { replay = refl; window = refl }) (ap world_of (is_strict_again octet))
     (λ live. record { replay = refl; window = refl }))))
 
 -- the law on origin where the end is strict after the last event, whatever it was before
@@ -252,7 +252,7 @@ order_fails octet other = (
       subst (λ (w : WorldState). WasSentInOrder w B 0) ends
       (law (guess_genuine octet other) (subst AgreeOnKeys (sym ends) (of_two (λ x y. x.bytes ≡ y.bytes → AgreeOnKey x y) _ _ (λ same. record { suite = refl; salt = λ xpn. refl }))) B 0
       (subst (λ (w : WorldState). IsStrict w.b.state) (sym ends) refl)
-      (λ k within. at_moment (IsSo HasStrictOrder) (new_world config_a config_b) (guess octet) (each_in_check octet other) k within)) in
+      (λ k within. at_moment (WhileLive HasStrictOrder) (new_world config_a config_b) (guess octet) (each_in_check octet other) k within)) in
       no_subsequence_of_none (client 1) (in_order (key_row 1 1) (0, omega arith, refl) refl),
 )
 

@@ -14,26 +14,26 @@ upper_octets : (n : ℕ) → take 4 (to_be_bytes w64 n) ≡ to_be_bytes w32 (n /
 upper_octets n = λ i. sym (shr-shr n 32 24) i % 256 ∷ sym (shr-shr n 32 16) i % 256 ∷ sym (shr-shr n 32 8) i % 256 ∷ n / 2 ^ 32 % 256 ∷ []
 
 -- octets of two IVs of one salt
-same_octet : (ssci ssci' n n' k : ℕ) (salt : List ℕ) → k < length salt → get_or (extended_iv ssci salt n) k 0 ≡ get_or (extended_iv ssci' salt n') k 0 →
+same_unsalted_octet : (ssci ssci' n n' k : ℕ) (salt : List ℕ) → k < length salt → get_or (extended_iv ssci salt n) k 0 ≡ get_or (extended_iv ssci' salt n') k 0 →
     get_or (to_be_bytes w32 ssci ++ to_be_bytes w64 n) k 0 ≡ get_or (to_be_bytes w32 ssci' ++ to_be_bytes w64 n') k 0
-same_octet ssci ssci' n n' k salt within same =
+same_unsalted_octet ssci ssci' n n' k salt within same =
     xor_same (get_or salt k 0) (get_or (to_be_bytes w32 ssci ++ to_be_bytes w64 n) k 0) (get_or (to_be_bytes w32 ssci' ++ to_be_bytes w64 n') k 0)
     (sym (get_or-sum salt (to_be_bytes w32 ssci ++ to_be_bytes w64 n) k within) ∙ same ∙ get_or-sum salt (to_be_bytes w32 ssci' ++ to_be_bytes w64 n') k within)
 
 module _ (ssci ssci' n n' m m' : ℕ) (salt sci : List ℕ) (long : length salt ≡ 12) (count : length sci ≡ 8) (fits : n < 2 ^ 64) (fits' : n' < 2 ^ 64)
     (iv : extended_iv ssci salt n ≡ sci ++ to_be_bytes w32 m) (iv' : extended_iv ssci' salt n' ≡ sci ++ to_be_bytes w32 m') where
-  of_sci : (k : ℕ) → k < 8 → get_or (to_be_bytes w32 ssci ++ to_be_bytes w64 n) k 0 ≡ get_or (to_be_bytes w32 ssci' ++ to_be_bytes w64 n') k 0
-  of_sci k within =
+  same_octet_of_sci : (k : ℕ) → k < 8 → get_or (to_be_bytes w32 ssci ++ to_be_bytes w64 n) k 0 ≡ get_or (to_be_bytes w32 ssci' ++ to_be_bytes w64 n') k 0
+  same_octet_of_sci k within =
       let inside : k < length sci = omega (arith, within, count) in
-      same_octet ssci ssci' n n' k salt (omega (arith, within, long))
+      same_unsalted_octet ssci ssci' n n' k salt (omega (arith, within, long))
       (ap (λ (xs : List ℕ). get_or xs k 0) iv ∙ get_or_append_left sci (to_be_bytes w32 m) 0 k inside
       ∙ sym (get_or_append_left sci (to_be_bytes w32 m') 0 k inside) ∙ ap (λ (xs : List ℕ). get_or xs k 0) (sym iv'))
 
-  same_upper : n / 2 ^ 32 ≡ n' / 2 ^ 32
-  same_upper =
+  same_upper_half : n / 2 ^ 32 ≡ n' / 2 ^ 32
+  same_upper_half =
       let four : take 4 (to_be_bytes w64 n) ≡ take 4 (to_be_bytes w64 n') =
-      λ i. of_sci 4 (omega arith) i ∷ of_sci 5 (omega arith) i ∷ of_sci 6 (omega arith) i ∷ of_sci 7 (omega arith) i ∷ [] in
+      λ i. same_octet_of_sci 4 (omega arith) i ∷ same_octet_of_sci 5 (omega arith) i ∷ same_octet_of_sci 6 (omega arith) i ∷ same_octet_of_sci 7 (omega arith) i ∷ [] in
       same_of_4 (n / 2 ^ 32) (n' / 2 ^ 32) (omega (arith, fits)) (omega (arith, fits')) (sym (upper_octets n) ∙ four ∙ upper_octets n')
 
   pub rises_together : m ≡ n % 2 ^ 32 → m' ≡ n' % 2 ^ 32 → (m < m' → n < n') × (n < n' → m < m')
-  rises_together low low' = (λ less. omega (arith, less, low, low', same_upper), λ less. omega (arith, less, low, low', same_upper))
+  rises_together low low' = (λ less. omega (arith, less, low, low', same_upper_half), λ less. omega (arith, less, low, low', same_upper_half))

@@ -22,11 +22,11 @@ use Rattle.macsec_link.specs.declared.End.TheVariants.{A, B}
 use Rattle.macsec_link.specs.declared.Event.{Event}
 use Rattle.macsec_link.specs.declared.Event.TheVariants.{Alter, Command, Deliver, Inject, Pad, Send, SendUncontrolled}
 use Rattle.macsec_link.specs.Answers.{make_fault}
-use Rattle.macsec_link.specs.Genuine.{IsGenuineAt, text_opened_in}
+use Rattle.macsec_link.specs.Genuine.{IsGenuineAt, use_opened_in}
 use Rattle.macsec_link.specs.Keys.{AgreeOnKey, AgreeOnKeys, DifferInSsci}
 use Rattle.macsec_link.specs.Origin.{IsStrict, WhileThere}
 use Rattle.macsec_link.specs.Step.{world_after}
-use Rattle.macsec_link.specs.Trace.{Trace, text_to_open, trace_of}
+use Rattle.macsec_link.specs.Trace.{Trace, use_to_open_by, trace_of}
 use Rattle.macsec_link.specs.World.{WorldState, end_of, frame_at, new_world}
 use Rattle.macsec_link.proofs.TracedSteps.{at_moment}
 use Rattle.macsec_link.proofs.WorkedEnds.{client, config, new_key, no_salt, of_two, receives_from, sci_a, sci_b, scis_differ, sends_from}
@@ -41,13 +41,13 @@ nothing_asked t e n not13 = by_parts (judgement_of s frame) (judgement_of s fram
     frame : List ℕ
     frame = frame_at t.world n
 
-    by_parts : (j : Judgement) (row : Option RxRow) (r : Reading) → (j.step == 13) ≡ false → IfSome (text_opened_in s j row r) (Contains t.seals)
+    by_parts : (j : Judgement) (row : Option RxRow) (r : Reading) → (j.step == 13) ≡ false → IfSome (use_opened_in s j row r) (Contains t.seals)
     by_parts j None untagged not13 = tt
     by_parts j None (bad fault) not13 = tt
     by_parts j None (tagged p) not13 = tt
     by_parts j (Some row) untagged not13 = tt
     by_parts j (Some row) (bad fault) not13 = tt
-    by_parts j (Some row) (tagged p) not13 = subst (λ (b : Bool). IfSome (if b then Some (text_to_open s row j.number p) else None) (Contains t.seals)) (sym not13) tt
+    by_parts j (Some row) (tagged p) not13 = subst (λ (b : Bool). IfSome (if b then Some (use_to_open_by s row j.number p) else None) (Contains t.seals)) (sym not13) tt
 
 -- an event that is no delivery asks for nothing
 pub others_ask_nothing : (t : Trace) (e : End) (frame : List ℕ) (n place octet : ℕ) → IsGenuineAt t (Send e frame) × (IsGenuineAt t (SendUncontrolled e frame) × (IsGenuineAt t (Inject frame) × (IsGenuineAt t (Alter n place octet) × IsGenuineAt t (Pad n))))
@@ -64,7 +64,7 @@ pub record MeetIvPremises (a b : EndConfig) (events : List Event) : Type 0 where
   pub scis : a.sci ≢ b.sci
   pub agree : AgreeOnKeys (world_after (new_world a b) events)
   pub differ : DifferInSsci (world_after (new_world a b) events)
-  pub two : length (trace_of a b events).seals ≡ 2
+  pub two_seals : length (trace_of a b events).seals ≡ 2
 
 -- with 32-bit packet numbers, also where the ends have one SSCI and two salts
 pub one_ssci_of_32_bits : MeetIvPremises (config Gcm128 sci_a) (config Gcm128 sci_b) (both_send (new_key no_salt 0) (new_key (1 ∷ replicate 11 0) 0))
@@ -73,7 +73,7 @@ one_ssci_of_32_bits = record {
   scis = scis_differ sci_a sci_b (λ same. omega (arith, same));
   agree = of_two (λ x y. x.bytes ≡ y.bytes → AgreeOnKey x y) _ _ (λ same. record { suite = refl; salt = λ xpn. cc });
   differ = of_two (λ (x y : InstalledKey). x.bytes ≡ y.bytes → is_xpn x.suite ≡ true → x.ssci ≢ y.ssci) _ _ (λ same xpn. cc);
-  two = refl;
+  two_seals = refl;
 }
 
 -- with extended ones
@@ -83,7 +83,7 @@ two_sscis = record {
   scis = scis_differ sci_a sci_b (λ same. omega (arith, same));
   agree = of_two (λ x y. x.bytes ≡ y.bytes → AgreeOnKey x y) _ _ (λ same. record { suite = refl; salt = λ xpn. refl });
   differ = of_two (λ (x y : InstalledKey). x.bytes ≡ y.bytes → is_xpn x.suite ≡ true → x.ssci ≢ y.ssci) _ _ (λ same xpn same_ssci. omega (arith, same_ssci));
-  two = refl;
+  two_seals = refl;
 }
 
 -- ---- mode Strict

@@ -29,12 +29,12 @@ use Rattle.macsec_link.specs.Origin.{HasStrictOrder, IsStrict, IsSubsequence, Wa
 use Rattle.macsec_link.specs.Step.{world_after}
 use Rattle.macsec_link.specs.Trace.{Mark, Trace, new_trace, trace_after, trace_step}
 use Rattle.macsec_link.specs.World.{WorldState, new_world}
-use Rattle.macsec_link.proofs.Exchange.{client, log, mark, rx_from, tx_from}
+use Rattle.macsec_link.proofs.Exchange.{client, mark}
 use Rattle.macsec_link.proofs.IvPremises.{AgreeOnSuite, AgreeOnSuites}
 use Rattle.macsec_link.proofs.Moments.{world_of_trace}
 use Rattle.macsec_link.proofs.SealedFrames.{Sealed, aad_sent, frame_with, items, opens, parts_with, sealed, tag_of, with_tag}
 use Rattle.macsec_link.proofs.TracedSteps.{AtEach, after_both, at_moment, deliver_step, each_append, each_next, genuine_append, genuine_at, genuine_next, send_step, sent_by}
-use Rattle.macsec_link.proofs.WorkedEnds.{Fails, config, new_key, no_salt, of_two, receives_from, sci_a, sci_b, sends_from}
+use Rattle.macsec_link.proofs.WorkedEnds.{Fails, config, installed_key, log, new_key, no_salt, of_two, receives_from, rx_from, sci_a, sci_b, sends_from, tx_from}
 
 abbrev xpn_a : EndConfig
 xpn_a = config Xpn128 sci_a
@@ -69,8 +69,7 @@ abbrev pub events : List Event
 events = commands ++ exchange
 
 abbrev key_row : List ℕ → ℕ → ℕ → InstalledKey
-key_row salt ssci first_unused =
-    record { number = 0; suite = Xpn128; bytes = replicate 16 7; salt = salt; ssci = ssci; offset = 0; first_unused = first_unused; retired = false }
+key_row salt ssci first_unused = installed_key Xpn128 salt ssci first_unused
 
 -- A has sent n frames, of which the first unused number is told; B's association and what it has accepted
 abbrev trace_at : ℕ → ℕ → RxRow → ℕ → List (List ℕ) → List (List ℕ) → List (List ℕ) → List CipherUse → List Mark → Trace
@@ -155,11 +154,11 @@ second_sent t =
 abbrev all_sent : List (List ℕ)
 all_sent = own 0 ∷ own 1 ∷ own 2 ∷ []
 
-abbrev three : List ℕ → List ℕ → List ℕ → RxRow → ℕ → List (List ℕ) → List Mark → Trace
-three t u v row m delivered marks =
+abbrev three_sent : List ℕ → List ℕ → List ℕ → RxRow → ℕ → List (List ℕ) → List Mark → Trace
+three_sent t u v row m delivered marks =
     trace_at 3 (number 3) row m all_sent delivered (frame 0 t ∷ frame 1 u ∷ frame 2 v ∷ []) (use_of 0 t ∷ use_of 1 u ∷ use_of 2 v ∷ []) marks
 
-third_sent : (t u : List ℕ) → trace_step (sent_two t u) (Send A (client 3)) ≡ three t u (tag 2) (rx_from 1) 0 [] []
+third_sent : (t u : List ℕ) → trace_step (sent_two t u) (Send A (client 3)) ≡ three_sent t u (tag 2) (rx_from 1) 0 [] []
 third_sent t u =
     send_step (sent_two t u) (client 3) (tx_from (number 2)) (frame 2 (tag 2)) refl refl (ap (λ (it : Sealed). sent_by (tx_from (number 2)) (frame_by 2 it)) (sealed bytes (iv 2) (aad 2)))
     ∙ ap (λ (it : Sealed).
@@ -180,16 +179,16 @@ unfolding sum_with_stream
 iv_of_first = refl
 
 abbrev before_delivery : List ℕ → List ℕ → List ℕ → Trace
-before_delivery t u v = three t u v (rx_from 1) 0 [] []
+before_delivery t u v = three_sent t u v (rx_from 1) 0 [] []
 
 abbrev after_third : List ℕ → List ℕ → List ℕ → Trace
-after_third t u v = three t u v (rx_from 2) 1 (own 2 ∷ []) (mark 1 ∷ [])
+after_third t u v = three_sent t u v (rx_from 2) 1 (own 2 ∷ []) (mark 1 ∷ [])
 
 abbrev after_raising : List ℕ → List ℕ → List ℕ → Trace
-after_raising t u v = three t u v (rx_from (2 ^ 32)) 1 (own 2 ∷ []) (mark 1 ∷ [])
+after_raising t u v = three_sent t u v (rx_from (2 ^ 32)) 1 (own 2 ∷ []) (mark 1 ∷ [])
 
 abbrev after_first : List ℕ → List ℕ → List ℕ → Trace
-after_first t u v = three t u v (rx_from (2 ^ 33)) 2 (own 2 ∷ own 0 ∷ []) (mark 1 ∷ mark (2 ^ 33 - 1) ∷ [])
+after_first t u v = three_sent t u v (rx_from (2 ^ 33)) 2 (own 2 ∷ own 0 ∷ []) (mark 1 ∷ mark (2 ^ 33 - 1) ∷ [])
 
 third_judged : (t u v : List ℕ) → Opens 2 v → judgement_of (before_delivery t u v).world.b.state (frame 2 v) ≡ at_row (rx_from 1) 1 13 Passed (Some (own 2))
 third_judged t u v is =
@@ -222,64 +221,64 @@ first_genuine t u v is =
 
 -- ---- the run
 
-abbrev t0 : List ℕ
-t0 = tag 0
+abbrev first_tag : List ℕ
+first_tag = tag 0
 
-abbrev t1 : List ℕ
-t1 = tag 1
+abbrev second_tag : List ℕ
+second_tag = tag 1
 
-abbrev t2 : List ℕ
-t2 = tag 2
+abbrev third_tag : List ℕ
+third_tag = tag 2
 
-first_opens : Opens 0 t0
+first_opens : Opens 0 first_tag
 first_opens = opens bytes (iv 0) (aad 0)
 
-third_opens : Opens 2 t2
+third_opens : Opens 2 third_tag
 third_opens = opens bytes (iv 2) (aad 2)
 
 is_genuine : IsGenuine (new_trace xpn_a xpn_b) events
 is_genuine =
     genuine_append (new_trace xpn_a xpn_b) ready commands exchange (tt, (tt, (tt, (tt, (tt, (tt, (tt, tt))))))) is_ready
-    (genuine_next ready (sent_one t0) (Send A (client 1)) (Send A (client 2) ∷ Send A (client 3) ∷ from_delivery) (tt {0}) first_sent
-    (genuine_next (sent_one t0) (sent_two t0 t1) (Send A (client 2)) (Send A (client 3) ∷ from_delivery) (tt {0}) (second_sent t0)
-    (genuine_next (sent_two t0 t1) (before_delivery t0 t1 t2) (Send A (client 3)) from_delivery (tt {0}) (third_sent t0 t1)
-    (genuine_next (before_delivery t0 t1 t2) (after_third t0 t1 t2) (Deliver B 2) from_raising (third_genuine t0 t1 t2 third_opens) (third_heard t0 t1 t2 third_opens)
-    (genuine_next (after_third t0 t1 t2) (after_raising t0 t1 t2) (Command B (RxLow sci_a 0 (2 ^ 32))) last_delivery (tt {0}) (is_raised t0 t1 t2)
-    (genuine_next (after_raising t0 t1 t2) (after_first t0 t1 t2) (Deliver B 0) [] (first_genuine t0 t1 t2 first_opens) (first_heard t0 t1 t2 first_opens) (tt {0})))))))
+    (genuine_next ready (sent_one first_tag) (Send A (client 1)) (Send A (client 2) ∷ Send A (client 3) ∷ from_delivery) (tt {0}) first_sent
+    (genuine_next (sent_one first_tag) (sent_two first_tag second_tag) (Send A (client 2)) (Send A (client 3) ∷ from_delivery) (tt {0}) (second_sent first_tag)
+    (genuine_next (sent_two first_tag second_tag) (before_delivery first_tag second_tag third_tag) (Send A (client 3)) from_delivery (tt {0}) (third_sent first_tag second_tag)
+    (genuine_next (before_delivery first_tag second_tag third_tag) (after_third first_tag second_tag third_tag) (Deliver B 2) from_raising (third_genuine first_tag second_tag third_tag third_opens) (third_heard first_tag second_tag third_tag third_opens)
+    (genuine_next (after_third first_tag second_tag third_tag) (after_raising first_tag second_tag third_tag) (Command B (RxLow sci_a 0 (2 ^ 32))) last_delivery (tt {0}) (is_raised first_tag second_tag third_tag)
+    (genuine_next (after_raising first_tag second_tag third_tag) (after_first first_tag second_tag third_tag) (Deliver B 0) [] (first_genuine first_tag second_tag third_tag first_opens) (first_heard first_tag second_tag third_tag first_opens) (tt {0})))))))
 
 abbrev world_of : Trace → WorldState
 world_of t = t.world
 
-last_is : world_after (new_world xpn_a xpn_b) events ≡ (after_first t0 t1 t2).world
-last_is =
+last_world_is : world_after (new_world xpn_a xpn_b) events ≡ (after_first first_tag second_tag third_tag).world
+last_world_is =
     sym (world_of_trace (new_trace xpn_a xpn_b) events)
     ∙ ap world_of
     (after_both (new_trace xpn_a xpn_b) ready commands exchange is_ready
     ∙ ap (λ (t : Trace). trace_after t (Send A (client 2) ∷ Send A (client 3) ∷ from_delivery)) first_sent
-    ∙ ap (λ (t : Trace). trace_after t (Send A (client 3) ∷ from_delivery)) (second_sent t0)
-    ∙ ap (λ (t : Trace). trace_after t from_delivery) (third_sent t0 t1)
-    ∙ ap (λ (t : Trace). trace_after t from_raising) (third_heard t0 t1 t2 third_opens)
-    ∙ ap (λ (t : Trace). trace_after t last_delivery) (is_raised t0 t1 t2)
-    ∙ first_heard t0 t1 t2 first_opens)
+    ∙ ap (λ (t : Trace). trace_after t (Send A (client 3) ∷ from_delivery)) (second_sent first_tag)
+    ∙ ap (λ (t : Trace). trace_after t from_delivery) (third_sent first_tag second_tag)
+    ∙ ap (λ (t : Trace). trace_after t from_raising) (third_heard first_tag second_tag third_tag third_opens)
+    ∙ ap (λ (t : Trace). trace_after t last_delivery) (is_raised first_tag second_tag third_tag)
+    ∙ first_heard first_tag second_tag third_tag first_opens)
 
 -- B's options are those of the making at each moment
-abbrev IsSo : (State → Type 0) → WorldState → Type 0
-IsSo P w = IfSome (slice_get w.b.delivered 0) (λ log. log.live ≡ true → P w.b.state)
+abbrev WhileLive : (State → Type 0) → WorldState → Type 0
+WhileLive P w = IfSome (slice_get w.b.delivered 0) (λ log. log.live ≡ true → P w.b.state)
 
-each_moment : (P : State → Type 0) → ((s : State) → s.options ≡ first_options xpn_b → P s) → AtEach (IsSo P) (new_world xpn_a xpn_b) events
+each_moment : (P : State → Type 0) → ((s : State) → s.options ≡ first_options xpn_b → P s) → AtEach (WhileLive P) (new_world xpn_a xpn_b) events
 each_moment P so =
-    each_append (IsSo P) (new_world xpn_a xpn_b) ready.world commands exchange
+    each_append (WhileLive P) (new_world xpn_a xpn_b) ready.world commands exchange
     (tt, (tt, (tt, (tt, (tt, (tt, (λ live. so _ refl, tt)))))))
     (sym (world_of_trace (new_trace xpn_a xpn_b) commands) ∙ ap world_of is_ready)
-    (each_next (IsSo P) ready.world (sent_one t0).world (Send A (client 1)) (Send A (client 2) ∷ Send A (client 3) ∷ from_delivery) (λ live. so _ refl) (ap world_of first_sent)
-    (each_next (IsSo P) (sent_one t0).world (sent_two t0 t1).world (Send A (client 2)) (Send A (client 3) ∷ from_delivery) (λ live. so _ refl) (ap world_of (second_sent t0))
-    (each_next (IsSo P) (sent_two t0 t1).world (before_delivery t0 t1 t2).world (Send A (client 3)) from_delivery (λ live. so _ refl) (ap world_of (third_sent t0 t1))
-    (each_next (IsSo P) (before_delivery t0 t1 t2).world (after_third t0 t1 t2).world (Deliver B 2) from_raising (λ live. so _ refl) (ap world_of (third_heard t0 t1 t2 third_opens))
-    (each_next (IsSo P) (after_third t0 t1 t2).world (after_raising t0 t1 t2).world (Command B (RxLow sci_a 0 (2 ^ 32))) last_delivery (λ live. so _ refl) (ap world_of (is_raised t0 t1 t2))
-    (each_next (IsSo P) (after_raising t0 t1 t2).world (after_first t0 t1 t2).world (Deliver B 0) [] (λ live. so _ refl) (ap world_of (first_heard t0 t1 t2 first_opens)) (λ live. so _ refl)))))))
+    (each_next (WhileLive P) ready.world (sent_one first_tag).world (Send A (client 1)) (Send A (client 2) ∷ Send A (client 3) ∷ from_delivery) (λ live. so _ refl) (ap world_of first_sent)
+    (each_next (WhileLive P) (sent_one first_tag).world (sent_two first_tag second_tag).world (Send A (client 2)) (Send A (client 3) ∷ from_delivery) (λ live. so _ refl) (ap world_of (second_sent first_tag))
+    (each_next (WhileLive P) (sent_two first_tag second_tag).world (before_delivery first_tag second_tag third_tag).world (Send A (client 3)) from_delivery (λ live. so _ refl) (ap world_of (third_sent first_tag second_tag))
+    (each_next (WhileLive P) (before_delivery first_tag second_tag third_tag).world (after_third first_tag second_tag third_tag).world (Deliver B 2) from_raising (λ live. so _ refl) (ap world_of (third_heard first_tag second_tag third_tag third_opens))
+    (each_next (WhileLive P) (after_third first_tag second_tag third_tag).world (after_raising first_tag second_tag third_tag).world (Command B (RxLow sci_a 0 (2 ^ 32))) last_delivery (λ live. so _ refl) (ap world_of (is_raised first_tag second_tag third_tag))
+    (each_next (WhileLive P) (after_raising first_tag second_tag third_tag).world (after_first first_tag second_tag third_tag).world (Deliver B 0) [] (λ live. so _ refl) (ap world_of (first_heard first_tag second_tag third_tag first_opens)) (λ live. so _ refl)))))))
 
 while_there : (P : State → Type 0) → ((s : State) → s.options ≡ first_options xpn_b → P s) → WhileThere xpn_a xpn_b events B 0 P
-while_there P so k within = at_moment (IsSo P) (new_world xpn_a xpn_b) events (each_moment P so) k within
+while_there P so k within = at_moment (WhileLive P) (new_world xpn_a xpn_b) events (each_moment P so) k within
 
 -- the third and then the first are no subsequence
 no_subsequence : (x y z : List ℕ) → y ≢ x → z ≢ x → IsSubsequence (z ∷ x ∷ []) (x ∷ y ∷ z ∷ []) → ⊥
@@ -304,9 +303,9 @@ pub same_salt_needed_for_order : Fails OrderForOtherSalts xpn_a xpn_b events
 same_salt_needed_for_order = (
   refl,
   λ law.
-      let in_order : WasSentInOrder (after_first t0 t1 t2).world B 0 =
-      subst (λ (w : WorldState). WasSentInOrder w B 0) last_is
-      (law is_genuine (subst AgreeOnSuites (sym last_is) (of_two AgreeOnSuite _ _ (λ same. refl))) B 0
+      let in_order : WasSentInOrder (after_first first_tag second_tag third_tag).world B 0 =
+      subst (λ (w : WorldState). WasSentInOrder w B 0) last_world_is
+      (law is_genuine (subst AgreeOnSuites (sym last_world_is) (of_two AgreeOnSuite _ _ (λ same. refl))) B 0
       (while_there IsStrict (λ s is. ap (λ (o : Options). o.mode) is))
       (while_there HasStrictOrder (λ s is. record { replay = ap (λ (o : Options). o.replay) is; window = ap (λ (o : Options). o.window) is }))) in
       no_subsequence (own 0) (own 1) (own 2) (differ 2 1 (λ same. omega (arith, same))) (differ 3 1 (λ same. omega (arith, same)))

@@ -23,7 +23,7 @@ tied laws e i log sound found live =
     let there = left_member (λ (l : DeliveryLog). l.live) e.delivered log (found_member e.delivered i log found) live in
     let it = from_map association_of_row e.state.rx.rows (association_of_log log) (subst (λ (xs : List (Sci × ℕ × ℕ)). IsMember xs (association_of_log log)) sound.logged (member_of_map association_of_log (live_logs e.delivered) log there)) in
     let row = it.0 in
-    let place = laws.rx_apart e.state sound.endpoint row (contained e.state.rx.rows row it.1) in
+    let place = laws.rx_rows_apart e.state sound.endpoint row (contained e.state.rx.rows row it.1) in
     record {
       row = row;
       there = ap (λ s. rx_row e.state.rx.rows s log.an) (sym (ap (λ (x : Sci × ℕ × ℕ). x.0) it.2)) ∙ ap (λ n. rx_row e.state.rx.rows row.sci n) (sym (ap (λ (x : Sci × ℕ × ℕ). x.1) it.2)) ∙ place;

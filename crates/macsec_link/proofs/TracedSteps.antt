@@ -14,9 +14,9 @@ use Rattle.macsec_link.specs.declared.End.TheVariants.{A, B}
 use Rattle.macsec_link.specs.declared.Event.{Event}
 use Rattle.macsec_link.specs.declared.Event.TheVariants.{Deliver, Send}
 use Rattle.macsec_link.specs.Faults.{fault_of}
-use Rattle.macsec_link.specs.Genuine.{IsGenuine, IsGenuineAt, text_opened, text_opened_in}
+use Rattle.macsec_link.specs.Genuine.{IsGenuine, IsGenuineAt, use_opened, use_opened_in}
 use Rattle.macsec_link.specs.Step.{world_after, world_step}
-use Rattle.macsec_link.specs.Trace.{Trace, marks_by, text_sealed_by, trace_after, trace_step}
+use Rattle.macsec_link.specs.Trace.{Trace, marks_by, use_sealed_by, trace_after, trace_step}
 use Rattle.macsec_link.specs.World.{WorldState, frame_at}
 use Rattle.macsec_ends.specs.Ends.{end_after}
 
@@ -33,7 +33,7 @@ trace_sent t client row frame = record {
     b = t.world.b;
     frames = t.world.frames ++ frame ∷ [];
   };
-  seals = t.seals ++ text_sealed_by t.world.a.state client row ∷ [];
+  seals = t.seals ++ use_sealed_by t.world.a.state client row ∷ [];
   marks = t.marks ++ [];
 }
 
@@ -58,8 +58,8 @@ pub deliver_step : (t : Trace) (n : ℕ) (frame : List ℕ) (j : Judgement) → 
 deliver_step t n frame j none there fits judged = rw (none, there, fits, judged) refl
 
 pub genuine_at : (s : State) (frame : List ℕ) (j : Judgement) (seals : List CipherUse) → judgement_of s frame ≡ j →
-    IfSome (text_opened_in s j j.row (reading frame)) (Contains seals) → IfSome (text_opened s frame) (Contains seals)
-genuine_at s frame j seals judged it = subst (λ (j : Judgement). IfSome (text_opened_in s j j.row (reading frame)) (Contains seals)) (sym judged) it
+    IfSome (use_opened_in s j j.row (reading frame)) (Contains seals) → IfSome (use_opened s frame) (Contains seals)
+genuine_at s frame j seals judged it = subst (λ (j : Judgement). IfSome (use_opened_in s j j.row (reading frame)) (Contains seals)) (sym judged) it
 
 -- ---- events in their order
 

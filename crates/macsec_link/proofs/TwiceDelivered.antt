@@ -26,12 +26,12 @@ use Rattle.macsec_link.specs.Origin.{HasStrictOrder, IsStrict, IsSubsequence, Wa
 use Rattle.macsec_link.specs.Step.{world_after}
 use Rattle.macsec_link.specs.Trace.{Mark, Trace, marks_of, new_trace, trace_after, trace_of, trace_step}
 use Rattle.macsec_link.specs.World.{WorldState, end_of, new_world}
-use Rattle.macsec_link.proofs.Exchange.{aad, bytes, client, config_a, config_b, iv, key_row, link_frame_of, link_frame_with, log, rx_from, tag, trace_at, tx_from, use_of, use_with}
+use Rattle.macsec_link.proofs.Exchange.{aad, bytes, client, config_a, config_b, iv, key_row, link_frame_of, link_frame_with, tag, trace_at, use_of, use_with}
 use Rattle.macsec_link.proofs.Exchange as exchange
 use Rattle.macsec_link.proofs.Moments.{world_of_trace}
 use Rattle.macsec_link.proofs.SealedFrames.{Sealed, items, opens, sealed}
 use Rattle.macsec_link.proofs.TracedSteps.{AtEach, after_both, at_moment, deliver_step, each_append, each_next, genuine_append, genuine_at, genuine_next, send_step, sent_by}
-use Rattle.macsec_link.proofs.WorkedEnds.{Fails, of_two}
+use Rattle.macsec_link.proofs.WorkedEnds.{Fails, log, of_two, rx_from, tx_from}
 
 -- with replay protection on the window is 1, and with it off 0
 abbrev window : Bool → ℕ
@@ -104,16 +104,16 @@ at_end replay t =
 
 -- ---- the steps
 
-abbrev t1 : List ℕ
-t1 = tag 1 (client 1)
+abbrev first_tag : List ℕ
+first_tag = tag 1 (client 1)
 
-sends : (replay : Bool) → sending_of (ready replay).world.a.state (client 1) ≡ sent_by (tx_from 1) (frame t1)
+sends : (replay : Bool) → sending_of (ready replay).world.a.state (client 1) ≡ sent_by (tx_from 1) (frame first_tag)
 sends replay = ap (λ (it : Sealed). sent_by (tx_from 1) (link_frame_with 1 (client 1) it)) (sealed bytes (iv 1) (aad 1 (client 1)))
 
-is_sent : (replay : Bool) → trace_step (ready replay) (Send A (client 1)) ≡ after_sending replay t1
+is_sent : (replay : Bool) → trace_step (ready replay) (Send A (client 1)) ≡ after_sending replay first_tag
 is_sent replay =
-    send_step (ready replay) (client 1) (tx_from 1) (frame t1) refl refl (sends replay)
-    ∙ ap (λ (it : Sealed). trace_at (options_of replay) 1 (rx_from 1) 0 no_rx_counters (client 1 ∷ []) [] (frame t1 ∷ []) (use_with 1 (client 1) it ∷ []) [])
+    send_step (ready replay) (client 1) (tx_from 1) (frame first_tag) refl refl (sends replay)
+    ∙ ap (λ (it : Sealed). trace_at (options_of replay) 1 (rx_from 1) 0 no_rx_counters (client 1 ∷ []) [] (frame first_tag ∷ []) (use_with 1 (client 1) it ∷ []) [])
     (sealed bytes (iv 1) (aad 1 (client 1)))
 
 abbrev Opens : List ℕ → Type 0
@@ -151,46 +151,46 @@ is_back false t = refl
 
 -- ---- the run
 
-is_open : Opens t1
+is_open : Opens first_tag
 is_open = opens bytes (iv 1) (aad 1 (client 1))
 
 is_genuine : (replay : Bool) → IsGenuine (new_trace config_a config_b) (events replay)
 is_genuine replay =
     genuine_append (new_trace config_a config_b) (ready replay) (commands replay) (Send A (client 1) ∷ twice) (tt, (tt, (tt, (tt, (tt, (tt, (tt, (tt, tt)))))))) (is_ready replay)
-    (genuine_next (ready replay) (after_sending replay t1) (Send A (client 1)) twice (tt {0}) (is_sent replay)
-    (genuine_next (after_sending replay t1) (after_once replay t1) (Deliver B 0) (Deliver B 0 ∷ back) (once_genuine replay t1 is_open) (once_heard replay t1 is_open)
-    (genuine_next (after_once replay t1) (after_twice replay t1) (Deliver B 0) back (again_genuine replay t1 is_open) (again_heard replay t1 is_open)
-    (genuine_next (after_twice replay t1) (at_end replay t1) (Command B (Replay true 0)) [] (tt {0}) (is_back replay t1) (tt {0})))))
+    (genuine_next (ready replay) (after_sending replay first_tag) (Send A (client 1)) twice (tt {0}) (is_sent replay)
+    (genuine_next (after_sending replay first_tag) (after_once replay first_tag) (Deliver B 0) (Deliver B 0 ∷ back) (once_genuine replay first_tag is_open) (once_heard replay first_tag is_open)
+    (genuine_next (after_once replay first_tag) (after_twice replay first_tag) (Deliver B 0) back (again_genuine replay first_tag is_open) (again_heard replay first_tag is_open)
+    (genuine_next (after_twice replay first_tag) (at_end replay first_tag) (Command B (Replay true 0)) [] (tt {0}) (is_back replay first_tag) (tt {0})))))
 
-ends_so : (replay : Bool) → trace_of config_a config_b (events replay) ≡ at_end replay t1
-ends_so replay =
+trace_ends : (replay : Bool) → trace_of config_a config_b (events replay) ≡ at_end replay first_tag
+trace_ends replay =
     after_both (new_trace config_a config_b) (ready replay) (commands replay) (Send A (client 1) ∷ twice) (is_ready replay)
     ∙ ap (λ (t : Trace). trace_after t twice) (is_sent replay)
-    ∙ ap (λ (t : Trace). trace_after t (Deliver B 0 ∷ back)) (once_heard replay t1 is_open)
-    ∙ ap (λ (t : Trace). trace_after t back) (again_heard replay t1 is_open)
-    ∙ is_back replay t1
+    ∙ ap (λ (t : Trace). trace_after t (Deliver B 0 ∷ back)) (once_heard replay first_tag is_open)
+    ∙ ap (λ (t : Trace). trace_after t back) (again_heard replay first_tag is_open)
+    ∙ is_back replay first_tag
 
-last_is : (replay : Bool) → world_after (new_world config_a config_b) (events replay) ≡ (at_end replay t1).world
-last_is replay = sym (world_of_trace (new_trace config_a config_b) (events replay)) ∙ ap (λ (t : Trace). t.world) (ends_so replay)
+last_world_is : (replay : Bool) → world_after (new_world config_a config_b) (events replay) ≡ (at_end replay first_tag).world
+last_world_is replay = sym (world_of_trace (new_trace config_a config_b) (events replay)) ∙ ap (λ (t : Trace). t.world) (trace_ends replay)
 
 -- B is strict all the while, and its options are these from its association's making on, but for replay and window
-abbrev IsSo : (State → Type 0) → WorldState → Type 0
-IsSo P w = IfSome (slice_get w.b.delivered 0) (λ log. log.live ≡ true → P w.b.state)
+abbrev WhileLive : (State → Type 0) → WorldState → Type 0
+WhileLive P w = IfSome (slice_get w.b.delivered 0) (λ log. log.live ≡ true → P w.b.state)
 
 each_moment : (replay : Bool) (P : State → Type 0) → ((s : State) → s.options ≡ first_options config_b → P s) → ((s : State) → s.options ≡ options_of replay → P s) →
-    AtEach (IsSo P) (new_world config_a config_b) (events replay)
+    AtEach (WhileLive P) (new_world config_a config_b) (events replay)
 each_moment replay P first so =
-    each_append (IsSo P) (new_world config_a config_b) (ready replay).world (commands replay) (Send A (client 1) ∷ twice)
+    each_append (WhileLive P) (new_world config_a config_b) (ready replay).world (commands replay) (Send A (client 1) ∷ twice)
     (tt, (tt, (tt, (tt, (tt, (tt, (λ live. first _ refl, (λ live. first _ refl, tt))))))))
     (sym (world_of_trace (new_trace config_a config_b) (commands replay)) ∙ ap (λ (t : Trace). t.world) (is_ready replay))
-    (each_next (IsSo P) (ready replay).world (after_sending replay t1).world (Send A (client 1)) twice (λ live. so _ refl) (ap (λ (t : Trace). t.world) (is_sent replay))
-    (each_next (IsSo P) (after_sending replay t1).world (after_once replay t1).world (Deliver B 0) (Deliver B 0 ∷ back) (λ live. so _ refl) (ap (λ (t : Trace). t.world) (once_heard replay t1 is_open))
-    (each_next (IsSo P) (after_once replay t1).world (after_twice replay t1).world (Deliver B 0) back (λ live. so _ refl) (ap (λ (t : Trace). t.world) (again_heard replay t1 is_open))
-    (each_next (IsSo P) (after_twice replay t1).world (at_end replay t1).world (Command B (Replay true 0)) [] (λ live. so _ refl) (ap (λ (t : Trace). t.world) (is_back replay t1)) (λ live. first _ refl)))))
+    (each_next (WhileLive P) (ready replay).world (after_sending replay first_tag).world (Send A (client 1)) twice (λ live. so _ refl) (ap (λ (t : Trace). t.world) (is_sent replay))
+    (each_next (WhileLive P) (after_sending replay first_tag).world (after_once replay first_tag).world (Deliver B 0) (Deliver B 0 ∷ back) (λ live. so _ refl) (ap (λ (t : Trace). t.world) (once_heard replay first_tag is_open))
+    (each_next (WhileLive P) (after_once replay first_tag).world (after_twice replay first_tag).world (Deliver B 0) back (λ live. so _ refl) (ap (λ (t : Trace). t.world) (again_heard replay first_tag is_open))
+    (each_next (WhileLive P) (after_twice replay first_tag).world (at_end replay first_tag).world (Command B (Replay true 0)) [] (λ live. so _ refl) (ap (λ (t : Trace). t.world) (is_back replay first_tag)) (λ live. first _ refl)))))
 
 while_there : (replay : Bool) (P : State → Type 0) → ((s : State) → s.options ≡ first_options config_b → P s) → ((s : State) → s.options ≡ options_of replay → P s) →
     WhileThere config_a config_b (events replay) B 0 P
-while_there replay P first so k within = at_moment (IsSo P) (new_world config_a config_b) (events replay) (each_moment replay P first so) k within
+while_there replay P first so k within = at_moment (WhileLive P) (new_world config_a config_b) (events replay) (each_moment replay P first so) k within
 
 -- one frame sent, delivered twice, is no subsequence
 no_subsequence : (x : List ℕ) → IsSubsequence (x ∷ x ∷ []) (x ∷ []) → ⊥
@@ -213,7 +213,7 @@ OrderWithRest replay a b events =
     (e : End) (i : ℕ) → WhileThere a b events e i IsStrict → WhileThere a b events e i (HasRest replay) → HasStrictOrder (end_of (world_after (new_world a b) events) e).state →
     WasSentInOrder (world_after (new_world a b) events) e i
 
-keys_agree : (replay : Bool) → AgreeOnKeys (at_end replay t1).world
+keys_agree : (replay : Bool) → AgreeOnKeys (at_end replay first_tag).world
 keys_agree replay = of_two (λ x y. x.bytes ≡ y.bytes → AgreeOnKey x y) _ _ (λ same. record { suite = refl; salt = λ xpn. refl })
 
 has_rest : (replay : Bool) → WhileThere config_a config_b (events replay) B 0 (HasRest replay)
@@ -222,11 +222,11 @@ has_rest false = while_there false (HasRest false) (λ s is. ap (λ (o : Options
 
 order_fails : (replay : Bool) → OrderWithRest replay config_a config_b (events replay) → ⊥
 order_fails replay law =
-    let in_order : WasSentInOrder (at_end replay t1).world B 0 =
-    subst (λ (w : WorldState). WasSentInOrder w B 0) (last_is replay)
-    (law (is_genuine replay) (subst AgreeOnKeys (sym (last_is replay)) (keys_agree replay)) B 0
+    let in_order : WasSentInOrder (at_end replay first_tag).world B 0 =
+    subst (λ (w : WorldState). WasSentInOrder w B 0) (last_world_is replay)
+    (law (is_genuine replay) (subst AgreeOnKeys (sym (last_world_is replay)) (keys_agree replay)) B 0
     (while_there replay IsStrict (λ s is. ap (λ (o : Options). o.mode) is) (λ s is. ap (λ (o : Options). o.mode) is)) (has_rest replay)
-    (subst (λ (w : WorldState). HasStrictOrder w.b.state) (sym (last_is replay)) (record { replay = refl; window = refl }))) in
+    (subst (λ (w : WorldState). HasStrictOrder w.b.state) (sym (last_world_is replay)) (record { replay = refl; window = refl }))) in
     no_subsequence (client 1) (in_order (key_row 1 2) (0, omega arith, refl) refl)
 
 -- a window of 1 is too wide
@@ -249,8 +249,8 @@ pub protection_needed_for_window : Fails WindowWhereOff config_a config_b (event
 protection_needed_for_window = (
   refl,
   λ law.
-      let pairs : AllPairs IsWithinWindowOff (marks_of (at_end false t1) B 0) =
-      subst (λ (t : Trace). AllPairs IsWithinWindowOff (marks_of t B 0)) (ends_so false) (law B 0) in
+      let pairs : AllPairs IsWithinWindowOff (marks_of (at_end false first_tag) B 0) =
+      subst (λ (t : Trace). AllPairs IsWithinWindowOff (marks_of t B 0)) (trace_ends false) (law B 0) in
       let less : 1 < 1 + 0 = pairs 0 1 (mark false) (omega arith) (omega arith) refl in
       omega (arith, less),
 )

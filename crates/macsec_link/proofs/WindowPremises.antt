@@ -17,11 +17,11 @@ use Rattle.macsec_link.specs.declared.End.TheVariants.{A, B}
 use Rattle.macsec_link.specs.declared.Event.{Event}
 use Rattle.macsec_link.specs.declared.Event.TheVariants.{Deliver, Inject, Send}
 use Rattle.macsec_link.specs.Trace.{Mark, Trace, marks_of, new_trace, trace_after, trace_of, trace_step}
-use Rattle.macsec_link.proofs.Exchange.{aad, bytes, client, config_a, config_b, iv, key_row, link_frame_of, link_frame_with, mark, rx_from, tag, trace_at, tx_from, use_of, use_with}
+use Rattle.macsec_link.proofs.Exchange.{aad, bytes, client, config_a, config_b, iv, key_row, link_frame_of, link_frame_with, mark, tag, trace_at, use_of, use_with}
 use Rattle.macsec_link.proofs.OriginPremises.{commands_check, icv_of, in_check, is_in_check, options_check, zero_or_one}
 use Rattle.macsec_link.proofs.SealedFrames.{Sealed, closes, first, items, opens, sealed, tag_of}
 use Rattle.macsec_link.proofs.TracedSteps.{after_both, deliver_step, send_step, sent_by}
-use Rattle.macsec_link.proofs.WorkedEnds.{Fails}
+use Rattle.macsec_link.proofs.WorkedEnds.{Fails, rx_from, tx_from}
 
 -- a frame of number 2 with such an ICV, and then A's own of number 1
 abbrev guessed : ℕ → List ℕ
@@ -72,17 +72,17 @@ guess_judged octet other =
 is_unvalidated : (octet : ℕ) → IsOther octet → trace_step (on_link octet) (Deliver B 0) ≡ unvalidated octet
 is_unvalidated octet other = deliver_step (on_link octet) 0 (guessed octet) (at_row (rx_from 1) 2 12 Invalid (Some (client 2))) refl refl refl (guess_judged octet other)
 
-abbrev t1 : List ℕ
-t1 = tag 1 (client 1)
+abbrev first_tag : List ℕ
+first_tag = tag 1 (client 1)
 
-sends : (octet : ℕ) → sending_of (unvalidated octet).world.a.state (client 1) ≡ sent_by (tx_from 1) (link_frame_of 1 (client 1) t1)
+sends : (octet : ℕ) → sending_of (unvalidated octet).world.a.state (client 1) ≡ sent_by (tx_from 1) (link_frame_of 1 (client 1) first_tag)
 sends octet = ap (λ (it : Sealed). sent_by (tx_from 1) (link_frame_with 1 (client 1) it)) (sealed bytes (iv 1) (aad 1 (client 1)))
 
-is_sent : (octet : ℕ) → trace_step (unvalidated octet) (Send A (client 1)) ≡ after_sending octet t1
+is_sent : (octet : ℕ) → trace_step (unvalidated octet) (Send A (client 1)) ≡ after_sending octet first_tag
 is_sent octet =
-    send_step (unvalidated octet) (client 1) (tx_from 1) (link_frame_of 1 (client 1) t1) refl refl (sends octet)
+    send_step (unvalidated octet) (client 1) (tx_from 1) (link_frame_of 1 (client 1) first_tag) refl refl (sends octet)
     ∙ ap (λ (it : Sealed).
-    trace_at options_check 1 (rx_from 1) 2 one_invalid (client 1 ∷ []) (client 2 ∷ []) (guessed octet ∷ link_frame_of 1 (client 1) t1 ∷ []) (use_with 1 (client 1) it ∷ []) (invalid ∷ []))
+    trace_at options_check 1 (rx_from 1) 2 one_invalid (client 1 ∷ []) (client 2 ∷ []) (guessed octet ∷ link_frame_of 1 (client 1) first_tag ∷ []) (use_with 1 (client 1) it ∷ []) (invalid ∷ []))
     (sealed bytes (iv 1) (aad 1 (client 1)))
 
 abbrev Opens : List ℕ → Type 0
@@ -94,13 +94,13 @@ sent_judged octet t is = ap (judge_opened (rx_options (after_sending octet t).wo
 is_passed : (octet : ℕ) (t : List ℕ) → Opens t → trace_step (after_sending octet t) (Deliver B 1) ≡ passed octet t
 is_passed octet t is = deliver_step (after_sending octet t) 1 (link_frame_of 1 (client 1) t) (at_row (rx_from 1) 1 13 Passed (Some (client 1))) refl refl refl (sent_judged octet t is)
 
-ends_so : (octet : ℕ) → IsOther octet → trace_of config_a config_b (events octet) ≡ passed octet t1
-ends_so octet other =
+trace_ends : (octet : ℕ) → IsOther octet → trace_of config_a config_b (events octet) ≡ passed octet first_tag
+trace_ends octet other =
     after_both (new_trace config_a config_b) in_check commands_check (exchange octet) is_in_check
     ∙ ap (λ (t : Trace). trace_after t (Deliver B 0 ∷ then_sent)) (is_on_link octet)
     ∙ ap (λ (t : Trace). trace_after t then_sent) (is_unvalidated octet other)
     ∙ ap (λ (t : Trace). trace_after t (Deliver B 1 ∷ [])) (is_sent octet)
-    ∙ is_passed octet t1 (opens bytes (iv 1) (aad 1 (client 1)))
+    ∙ is_passed octet first_tag (opens bytes (iv 1) (aad 1 (client 1)))
 
 -- ---- the law
 
@@ -115,8 +115,8 @@ fails : (octet : ℕ) → IsOther octet → Fails WindowOfAll config_a config_b 
 fails octet other = (
   refl,
   λ law.
-      let pairs : AllPairs IsWithinAnyway (marks_of (passed octet t1) B 0) =
-      subst (λ (t : Trace). AllPairs IsWithinAnyway (marks_of t B 0)) (ends_so octet other) (law B 0) in
+      let pairs : AllPairs IsWithinAnyway (marks_of (passed octet first_tag) B 0) =
+      subst (λ (t : Trace). AllPairs IsWithinAnyway (marks_of t B 0)) (trace_ends octet other) (law B 0) in
       let less : 2 < 1 + 0 = pairs 0 1 (mark 1) (omega arith) (omega arith) refl in
       omega (arith, less),
 )

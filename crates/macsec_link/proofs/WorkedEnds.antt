@@ -1,17 +1,21 @@
 -- The ends of worked runs: their configurations and keys, and the commands by which association 0 sends or receives.
-use Rattle.std.proofs.Common.{◌≡◌, ◌≢◌, ◌⊎◌, inl, inr, ℕ, List, [], ◌∷◌, ap, get_or, subst, Contains}
+use Rattle.std.proofs.Common.{◌≡◌, ◌≢◌, ◌⊎◌, inl, inr, ℕ, true, false, List, [], ◌∷◌, ap, get_or, subst, Contains}
 use Rattle.std.specs.Prelude.{replicate, Bool, None}
 use Rattle.macsec_aes.specs.declared.Key.TheVariants.{K128}
 use Rattle.macsec_tag.specs.declared.identifiers.Sci.{Sci}
 use Rattle.macsec_suite.specs.declared.key_row.NewKey.{NewKey}
 use Rattle.macsec_suite.specs.declared.suite.Suite.{Suite}
+use Rattle.macsec_suite.specs.KeyRows.{InstalledKey}
 use Rattle.macsec_tx.specs.declared.TagForm.TheVariants as form
+use Rattle.macsec_tx.specs.declared.TxRow.{TxRow}
+use Rattle.macsec_rx.specs.declared.RxRow.{RxRow}
 use Rattle.macsec_secy.specs.declared.command.Command.TheVariants.{Key, RxOn, RxSa, RxSc, TxOn, TxSa}
 use Rattle.macsec_secy.specs.declared.config.EndConfig.{EndConfig}
 use Rattle.macsec_link.specs.declared.End.{End}
 use Rattle.macsec_link.specs.declared.Event.{Event}
 use Rattle.macsec_link.specs.declared.Event.TheVariants.{Command}
 use Rattle.macsec_link.specs.Answers.{make_fault}
+use Rattle.macsec_ends.specs.Logs.{DeliveryLog}
 use Rattle.macsec_link.proofs.Members.{member}
 
 abbrev pub sci_a : Sci
@@ -50,6 +54,22 @@ sends_from e key next conf = Command e (Key key) ∷ Command e (TxSa 0 0 next co
 abbrev pub receives_from : End → NewKey → Sci → ℕ → ℕ → List Event
 receives_from e key sci ssci lowest =
     Command e (Key key) ∷ Command e (RxSc sci) ∷ Command e (RxSa sci 0 0 ssci lowest) ∷ Command e (RxOn sci 0) ∷ []
+
+-- the association that sends so, for integrity alone, and the one that receives so from A
+abbrev pub tx_from : ℕ → TxRow
+tx_from next = record { an = 0; key = 0; next = next; conf = false; on = true }
+
+abbrev pub rx_from : ℕ → RxRow
+rx_from next = record { sci = sci_a; an = 0; key = 0; ssci = 1; next = next; lowest = next; on = true }
+
+-- what was delivered from the latter
+abbrev pub log : List (List ℕ) → DeliveryLog
+log frames = record { sci = sci_a; an = 0; key = 0; live = true; frames = frames }
+
+-- key 0 as it is installed
+abbrev pub installed_key : Suite → List ℕ → ℕ → ℕ → InstalledKey
+installed_key suite salt ssci first_unused =
+    record { number = 0; suite = suite; bytes = replicate 16 7; salt = salt; ssci = ssci; offset = 0; first_unused = first_unused; retired = false }
 
 pub only : {X : Type 0} (key x : X) → Contains (key ∷ []) x → key ≡ x
 only key x there = by_place (member (key ∷ []) x there)

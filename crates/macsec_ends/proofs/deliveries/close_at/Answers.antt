@@ -1,7 +1,7 @@
 use Rattle.std.proofs.Common.{◌∙◌, ℕ, List, ap, arith, get_or, length-set, map, refl}
 use Rattle.macsec_ends.specs.Logs.{is_live_at, log_closing}
 use Rattle.macsec_ends.specs.Places.{logs_of}
-use Rattle.macsec_ends.proofs.LivePlaces.{all_within, each_closed, next_changed, with_each}
+use Rattle.macsec_ends.proofs.LiveTable.{all_within, each_closed, next_changed, with_each}
 use Rattle.macsec_ends.proofs.deliveries.close_at.Goals as goal
 
 pub loop-place-init : goal.loop-place-init

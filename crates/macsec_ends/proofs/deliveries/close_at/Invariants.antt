@@ -1,7 +1,7 @@
 use Rattle.std.proofs.Common.{◌≡◌, drop, length, map}
 use Rattle.macsec_ends.specs.Logs.{is_live_at, log_closing}
 use Rattle.macsec_ends.specs.Places.{logs_of}
-use Rattle.macsec_ends.proofs.LivePlaces.{with_each}
+use Rattle.macsec_ends.proofs.LiveTable.{with_each}
 use Rattle.macsec_ends.proofs.deliveries.close_at.Given as goal
 
 -- once the logs at the places that are left are closed where that holds, all are

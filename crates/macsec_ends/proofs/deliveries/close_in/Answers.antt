@@ -2,7 +2,7 @@ use Rattle.std.proofs.Common.{◌∙◌, ℕ, List, ap, arith, get_or, length-se
 use Rattle.macsec_rx.specs.Channels.{same_sci}
 use Rattle.macsec_ends.specs.Logs.{log_closing}
 use Rattle.macsec_ends.specs.Places.{logs_of}
-use Rattle.macsec_ends.proofs.LivePlaces.{all_within, each_closed, next_changed, with_each}
+use Rattle.macsec_ends.proofs.LiveTable.{all_within, each_closed, next_changed, with_each}
 use Rattle.macsec_ends.proofs.deliveries.close_in.Goals as goal
 
 pub loop-place-init : goal.loop-place-init

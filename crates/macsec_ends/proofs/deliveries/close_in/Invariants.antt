@@ -2,7 +2,7 @@ use Rattle.std.proofs.Common.{◌≡◌, drop, length, map}
 use Rattle.macsec_rx.specs.Channels.{same_sci}
 use Rattle.macsec_ends.specs.Logs.{log_closing}
 use Rattle.macsec_ends.specs.Places.{logs_of}
-use Rattle.macsec_ends.proofs.LivePlaces.{with_each}
+use Rattle.macsec_ends.proofs.LiveTable.{with_each}
 use Rattle.macsec_ends.proofs.deliveries.close_in.Given as goal
 
 -- once the logs at the places that are left are closed where that holds, all are

@@ -2,7 +2,7 @@ use Rattle.std.proofs.Common.{◌∙◌, List, ap, arith, filter, map, rules}
 use Rattle.macsec_rx.specs.Channels.{same_sci}
 use Rattle.macsec_ends.specs.Logs.{DeliveryLog, is_live_at, log_closing}
 use Rattle.macsec_ends.specs.Places.{KeptLog, logs_of}
-use Rattle.macsec_ends.proofs.LivePlaces.{is_live_in, table_left, table_more}
+use Rattle.macsec_ends.proofs.LiveTable.{is_live_in, table_left, table_more}
 use Rattle.macsec_ends.proofs.deliveries.follow_command.Goals as goal
 
 pub returns-in-RxSa-clause-live : goal.returns-in-RxSa-clause-live

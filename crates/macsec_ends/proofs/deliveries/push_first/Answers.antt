@@ -1,6 +1,6 @@
 use Rattle.std.proofs.Common.{arith}
 use Rattle.macsec_ends.specs.Logs.{log_delivering}
-use Rattle.macsec_ends.proofs.LivePlaces.{changed_at, changed_nowhere, has_place, inside}
+use Rattle.macsec_ends.proofs.LiveTable.{changed_at, changed_nowhere, has_place, inside}
 use Rattle.macsec_ends.proofs.deliveries.push_first.Goals as goal
 
 pub index_mut-requires : goal.index_mut-requires

@@ -1,7 +1,7 @@
 use Rattle.std.proofs.Common.{◌∙◌, All, arith, get_or, length-set, subst}
 use Rattle.std.proofs.lemmas.List.{take_all}
 use Rattle.macsec_ends.specs.Places.{HasPlaceAt}
-use Rattle.macsec_ends.proofs.LivePlaces.{all_within, more_places, same_logs}
+use Rattle.macsec_ends.proofs.LiveTable.{all_within, more_places, same_logs}
 use Rattle.macsec_ends.proofs.deliveries.reserve_live.Goals as goal
 
 pub index_mut-requires : goal.index_mut-requires

@@ -7,7 +7,7 @@ use Rattle.macsec_ends.specs.Logs.{logs_delivering}
 use Rattle.macsec_ends.specs.Places.{live_places, logs_of}
 use Rattle.macsec_ends.specs.Sound.{IsSoundEnd}
 use Rattle.macsec_ends.proofs.Heard.{heard, hears, shown_itself}
-use Rattle.macsec_ends.proofs.LivePlaces.{live_places-delivered}
+use Rattle.macsec_ends.proofs.LiveTable.{live_places-delivered}
 use Rattle.macsec_ends.proofs.Logged.{sound_after}
 use Rattle.macsec_ends.proofs.end.EndLogs.receive.Goals as goal
 

@@ -21,9 +21,9 @@ abbrev pub with_each : Change → List ℕ → List DeliveryLog → List Deliver
 with_each change [] logs = logs
 with_each change (place ∷ places) logs = with_each change places (with_at change place logs)
 
-abbrev with_found : Change → Option ℕ → List DeliveryLog → List DeliveryLog
-with_found change None logs = logs
-with_found change (Some place) logs = with_at change place logs
+abbrev with_found_at : Change → Option ℕ → List DeliveryLog → List DeliveryLog
+with_found_at change None logs = logs
+with_found_at change (Some place) logs = with_at change place logs
 
 -- the table, of a log before others
 abbrev live_before : Bool → List ℕ → List ℕ
@@ -32,10 +32,10 @@ live_before live places = cond live (zero ∷ map suc places) (map suc places)
 -- ---- kept logs
 
 -- a log is replaced by one that is changed so
-set_at : (change : Change) (logs : List KeptLog) (place : ℕ) (old new : KeptLog) → old ≡ get_or logs place old → new.log ≡ change old.log → logs_of (set logs place new) ≡ with_at change place (logs_of logs)
-set_at change [] place old new is changed = refl
-set_at change (k ∷ logs) zero old new is changed = ap (λ log. log ∷ logs_of logs) (changed ∙ ap (λ (x : KeptLog). change x.log) is)
-set_at change (k ∷ logs) (suc place) old new is changed = ap (λ rest. k.log ∷ rest) (set_at change logs place old new is changed)
+logs_of-set : (change : Change) (logs : List KeptLog) (place : ℕ) (old new : KeptLog) → old ≡ get_or logs place old → new.log ≡ change old.log → logs_of (set logs place new) ≡ with_at change place (logs_of logs)
+logs_of-set change [] place old new is changed = refl
+logs_of-set change (k ∷ logs) zero old new is changed = ap (λ log. log ∷ logs_of logs) (changed ∙ ap (λ (x : KeptLog). change x.log) is)
+logs_of-set change (k ∷ logs) (suc place) old new is changed = ap (λ rest. k.log ∷ rest) (logs_of-set change logs place old new is changed)
 
 place_made : (logs : List KeptLog) (place : ℕ) (new : KeptLog) → 1 ≤ new.spare → HasPlaceAt (set logs place new) place
 place_made [] place new spare = tt
@@ -80,9 +80,9 @@ pub all_within : (logs : List KeptLog) (table : List ℕ) → table ≡ live_pla
 all_within logs table is = subst (λ (places : List ℕ). All (λ place. place < length logs) places) (sym is) (λ i d inside. omega (arith, length-map logs log_of, within (logs_of logs) i d inside))
 
 -- what holds of each place of a table holds of the one that a search finds
-found_of : (P : ℕ → Type 0) (test : ℕ → Bool) (places : List ℕ) (place : ℕ) → All P places → find test places ≡ Some place → P place
-found_of P test [] place all found = cc
-found_of P test (p ∷ places) place all found = by_test (test p) (found_of P test places place (λ i d inside. all (suc i) d (omega (arith, inside)))) found
+holds_of_found : (P : ℕ → Type 0) (test : ℕ → Bool) (places : List ℕ) (place : ℕ) → All P places → find test places ≡ Some place → P place
+holds_of_found P test [] place all found = cc
+holds_of_found P test (p ∷ places) place all found = by_test (test p) (holds_of_found P test places place (λ i d inside. all (suc i) d (omega (arith, inside)))) found
   where
     by_test : (b : Bool) → (find test places ≡ Some place → P place) → (if b then Some p else find test places) ≡ Some place → P place
     by_test true later found' = let it : p ≡ place = cc in subst P it (all 0 p (omega arith))
@@ -113,23 +113,23 @@ live_places-delivered (Some place) frame logs = live_places-delivering (is_live_
 
 -- ---- every live log is changed
 
-with_each-shifted : (change : Change) (places : List ℕ) (log : DeliveryLog) (logs : List DeliveryLog) → with_each change (map suc places) (log ∷ logs) ≡ log ∷ with_each change places logs
-with_each-shifted change [] log logs = refl
-with_each-shifted change (place ∷ places) log logs = with_each-shifted change places log (with_at change place logs)
+with_each-map_suc : (change : Change) (places : List ℕ) (log : DeliveryLog) (logs : List DeliveryLog) → with_each change (map suc places) (log ∷ logs) ≡ log ∷ with_each change places logs
+with_each-map_suc change [] log logs = refl
+with_each-map_suc change (place ∷ places) log logs = with_each-map_suc change places log (with_at change place logs)
 
 with_each-live : (change : Change) → ((log : DeliveryLog) → log.live ≡ false → change log ≡ log) → (logs : List DeliveryLog) → with_each change (live_places logs) logs ≡ map change logs
 with_each-live change keeps [] = refl
 with_each-live change keeps (log ∷ logs) = by_test (with_each-live change keeps logs) log.live refl
   where
     by_test : with_each change (live_places logs) logs ≡ map change logs → (b : Bool) → log.live ≡ b → with_each change (live_before b (live_places logs)) (log ∷ logs) ≡ change log ∷ map change logs
-    by_test rest true is = with_each-shifted change (live_places logs) (change log) logs ∙ ap (λ xs. change log ∷ xs) rest
-    by_test rest false is = with_each-shifted change (live_places logs) log logs ∙ ap (λ xs. log ∷ xs) rest ∙ ap (λ x. x ∷ map change logs) (sym (keeps log is))
+    by_test rest true is = with_each-map_suc change (live_places logs) (change log) logs ∙ ap (λ xs. change log ∷ xs) rest
+    by_test rest false is = with_each-map_suc change (live_places logs) log logs ∙ ap (λ xs. log ∷ xs) rest ∙ ap (λ x. x ∷ map change logs) (sym (keeps log is))
 
 -- the log at the next place of the table is changed
 pub next_changed : (change : Change) (logs : List KeptLog) (table : List ℕ) (i : ℕ) (old new : KeptLog) (all : List DeliveryLog) → i < length table → old ≡ get_or logs (get_or table i 0) old → new.log ≡ change old.log →
     with_each change (drop i table) (logs_of logs) ≡ all → with_each change (drop (i + 1) table) (logs_of (set logs (get_or table i 0) new)) ≡ all
 next_changed change logs table i old new all inside is changed so_far =
-    ap (with_each change (drop (i + 1) table)) (set_at change logs (get_or table i 0) old new is changed)
+    ap (with_each change (drop (i + 1) table)) (logs_of-set change logs (get_or table i 0) old new is changed)
     ∙ sym (ap (λ (places : List ℕ). with_each change places (logs_of logs)) (drop_more table i 0 inside)) ∙ so_far
 
 -- a log whose association is not there is closed already
@@ -144,9 +144,9 @@ pub each_closed : (test : DeliveryLog → Bool) (logs : List DeliveryLog) → wi
 each_closed test logs = with_each-live (log_closing test) (closed_stays test) logs
 
 -- the table without the places of logs that were closed
-filter-shifted : (test : ℕ → Bool) (places : List ℕ) → filter test (map suc places) ≡ map suc (filter (λ place. test (suc place)) places)
-filter-shifted test [] = refl
-filter-shifted test (place ∷ places) = by_test (test (suc place)) (filter-shifted test places)
+filter-map_suc : (test : ℕ → Bool) (places : List ℕ) → filter test (map suc places) ≡ map suc (filter (λ place. test (suc place)) places)
+filter-map_suc test [] = refl
+filter-map_suc test (place ∷ places) = by_test (test (suc place)) (filter-map_suc test places)
   where
     by_test : (b : Bool) → filter test (map suc places) ≡ map suc (filter (λ p. test (suc p)) places) →
         cond b (suc place ∷ filter test (map suc places)) (filter test (map suc places)) ≡ map suc (cond b (place ∷ filter (λ p. test (suc p)) places) (filter (λ p. test (suc p)) places))
@@ -159,7 +159,7 @@ is_live_in logs place = passes_at (λ log. log.live) logs place
 live_places-closing : (test : DeliveryLog → Bool) (logs : List DeliveryLog) → filter (is_live_in (map (log_closing test) logs)) (live_places logs) ≡ live_places (map (log_closing test) logs)
 live_places-closing test [] = refl
 live_places-closing test (log ∷ logs) =
-    by_test (filter-shifted (is_live_in (map (log_closing test) (log ∷ logs))) (live_places logs) ∙ ap (map suc) (live_places-closing test logs)) log.live refl
+    by_test (filter-map_suc (is_live_in (map (log_closing test) (log ∷ logs))) (live_places logs) ∙ ap (map suc) (live_places-closing test logs)) log.live refl
   where
     by_test : filter (is_live_in (map (log_closing test) (log ∷ logs))) (map suc (live_places logs)) ≡ map suc (live_places (map (log_closing test) logs)) → (b : Bool) → log.live ≡ b →
         filter (is_live_in (map (log_closing test) (log ∷ logs))) (live_before b (live_places logs)) ≡ live_before (log_closing test log).live (live_places (map (log_closing test) logs))
@@ -180,39 +180,39 @@ table_left test logs after table left is closed left_is =
 
 -- ---- the first live log that passes a test is changed
 
-find-shifted : (test : ℕ → Bool) (places : List ℕ) → find test (map suc places) ≡ option_map suc (find (λ place. test (suc place)) places)
-find-shifted test [] = refl
-find-shifted test (place ∷ places) = by_test (test (suc place)) (find-shifted test places)
+find-map_suc : (test : ℕ → Bool) (places : List ℕ) → find test (map suc places) ≡ option_map suc (find (λ place. test (suc place)) places)
+find-map_suc test [] = refl
+find-map_suc test (place ∷ places) = by_test (test (suc place)) (find-map_suc test places)
   where
     by_test : (b : Bool) → find test (map suc places) ≡ option_map suc (find (λ p. test (suc p)) places) →
         (if b then Some (suc place) else find test (map suc places)) ≡ option_map suc (if b then Some place else find (λ p. test (suc p)) places)
     by_test true rest = refl
     by_test false rest = rest
 
-with_found-shifted : (change : Change) (o : Option ℕ) (log : DeliveryLog) (logs : List DeliveryLog) → with_found change (option_map suc o) (log ∷ logs) ≡ log ∷ with_found change o logs
-with_found-shifted change None log logs = refl
-with_found-shifted change (Some place) log logs = refl
+with_found_at-map_suc : (change : Change) (o : Option ℕ) (log : DeliveryLog) (logs : List DeliveryLog) → with_found_at change (option_map suc o) (log ∷ logs) ≡ log ∷ with_found_at change o logs
+with_found_at-map_suc change None log logs = refl
+with_found_at-map_suc change (Some place) log logs = refl
 
 module _ (test : DeliveryLog → Bool) (of_live : (log : DeliveryLog) → log.live ≡ false → test log ≡ false) (change : Change) where
-  first_found : (logs : List DeliveryLog) → with_found change (find (passes_at test logs) (live_places logs)) logs ≡ with_first test change logs
-  first_found [] = refl
-  first_found (log ∷ logs) =
-      by_live (ap (λ o. with_found change o (log ∷ logs)) (find-shifted (passes_at test (log ∷ logs)) (live_places logs))
-      ∙ with_found-shifted change (find (passes_at test logs) (live_places logs)) log logs ∙ ap (λ rest. log ∷ rest) (first_found logs)) log.live refl
+  with_found_at-find : (logs : List DeliveryLog) → with_found_at change (find (passes_at test logs) (live_places logs)) logs ≡ with_first test change logs
+  with_found_at-find [] = refl
+  with_found_at-find (log ∷ logs) =
+      by_live (ap (λ o. with_found_at change o (log ∷ logs)) (find-map_suc (passes_at test (log ∷ logs)) (live_places logs))
+      ∙ with_found_at-map_suc change (find (passes_at test logs) (live_places logs)) log logs ∙ ap (λ rest. log ∷ rest) (with_found_at-find logs)) log.live refl
     where
-      by_test : with_found change (find (passes_at test (log ∷ logs)) (map suc (live_places logs))) (log ∷ logs) ≡ log ∷ with_first test change logs → (b : Bool) →
-          with_found change (if b then Some zero else find (passes_at test (log ∷ logs)) (map suc (live_places logs))) (log ∷ logs) ≡ (if b then change log ∷ logs else log ∷ with_first test change logs)
+      by_test : with_found_at change (find (passes_at test (log ∷ logs)) (map suc (live_places logs))) (log ∷ logs) ≡ log ∷ with_first test change logs → (b : Bool) →
+          with_found_at change (if b then Some zero else find (passes_at test (log ∷ logs)) (map suc (live_places logs))) (log ∷ logs) ≡ (if b then change log ∷ logs else log ∷ with_first test change logs)
       by_test later true = refl
       by_test later false = later
 
-      by_live : with_found change (find (passes_at test (log ∷ logs)) (map suc (live_places logs))) (log ∷ logs) ≡ log ∷ with_first test change logs → (b : Bool) → log.live ≡ b →
-          with_found change (find (passes_at test (log ∷ logs)) (live_before b (live_places logs))) (log ∷ logs) ≡ with_first test change (log ∷ logs)
+      by_live : with_found_at change (find (passes_at test (log ∷ logs)) (map suc (live_places logs))) (log ∷ logs) ≡ log ∷ with_first test change logs → (b : Bool) → log.live ≡ b →
+          with_found_at change (find (passes_at test (log ∷ logs)) (live_before b (live_places logs))) (log ∷ logs) ≡ with_first test change (log ∷ logs)
       by_live later true is = by_test later (test log)
       by_live later false is = later ∙ sym (ap (λ b. if b then change log ∷ logs else log ∷ with_first test change logs) (of_live log is))
 
-first_changed : (sci : Sci) (an : ℕ) (change : Change) (logs : List DeliveryLog) →
-    with_found change (find (passes_at (is_live_at sci an) logs) (live_places logs)) logs ≡ with_first (is_live_at sci an) change logs
-first_changed sci an change logs = first_found (is_live_at sci an) (λ log closed. rw closed refl) change logs
+with_found_at-find_live : (sci : Sci) (an : ℕ) (change : Change) (logs : List DeliveryLog) →
+    with_found_at change (find (passes_at (is_live_at sci an) logs) (live_places logs)) logs ≡ with_first (is_live_at sci an) change logs
+with_found_at-find_live sci an change logs = with_found_at-find (is_live_at sci an) (λ log closed. rw closed refl) change logs
 
 -- the search in the table, of logs that are seen as these
 module _ (sci : Sci) (an : ℕ) (logs seen : List KeptLog) (table : List ℕ) (same : seen ≡ logs) (is : table ≡ live_places (logs_of logs)) where
@@ -220,19 +220,19 @@ module _ (sci : Sci) (an : ℕ) (logs seen : List KeptLog) (table : List ℕ) (s
   searched o found = ap (λ (ls : List KeptLog). find (passes_at (is_live_at sci an) (logs_of ls)) table) (sym same) ∙ sym found
 
   pub inside : (o : Option ℕ) → o ≡ find (passes_at (is_live_at sci an) (logs_of seen)) table → (place : ℕ) → o ≡ Some place → place < length logs
-  inside o found place there = found_of (λ p. p < length logs) (passes_at (is_live_at sci an) (logs_of logs)) table place (all_within logs table is) (searched o found ∙ there)
+  inside o found place there = holds_of_found (λ p. p < length logs) (passes_at (is_live_at sci an) (logs_of logs)) table place (all_within logs table is) (searched o found ∙ there)
 
   pub has_place : (o : Option ℕ) → o ≡ find (passes_at (is_live_at sci an) (logs_of seen)) table → (place : ℕ) → o ≡ Some place → All (HasPlaceAt logs) table → (old : KeptLog) → old ≡ get_or logs place old → 1 ≤ old.spare
   has_place o found place there have old here =
-      place_found logs place old here (inside o found place there) (found_of (HasPlaceAt logs) (passes_at (is_live_at sci an) (logs_of logs)) table place have (searched o found ∙ there))
+      place_found logs place old here (inside o found place there) (holds_of_found (HasPlaceAt logs) (passes_at (is_live_at sci an) (logs_of logs)) table place have (searched o found ∙ there))
 
   module _ (change : Change) where
-    by_search : with_found change (find (passes_at (is_live_at sci an) (logs_of logs)) table) (logs_of logs) ≡ with_first (is_live_at sci an) change (logs_of logs)
-    by_search = ap (λ (places : List ℕ). with_found change (find (passes_at (is_live_at sci an) (logs_of logs)) places) (logs_of logs)) is ∙ first_changed sci an change (logs_of logs)
+    by_search : with_found_at change (find (passes_at (is_live_at sci an) (logs_of logs)) table) (logs_of logs) ≡ with_first (is_live_at sci an) change (logs_of logs)
+    by_search = ap (λ (places : List ℕ). with_found_at change (find (passes_at (is_live_at sci an) (logs_of logs)) places) (logs_of logs)) is ∙ with_found_at-find_live sci an change (logs_of logs)
 
     pub changed_at : (o : Option ℕ) → o ≡ find (passes_at (is_live_at sci an) (logs_of seen)) table → (place : ℕ) → o ≡ Some place → (old new : KeptLog) → old ≡ get_or logs place old → new.log ≡ change old.log →
         logs_of (set logs place new) ≡ with_first (is_live_at sci an) change (logs_of logs)
-    changed_at o found place there old new here changed = set_at change logs place old new here changed ∙ ap (λ x. with_found change x (logs_of logs)) (sym (searched o found ∙ there)) ∙ by_search
+    changed_at o found place there old new here changed = logs_of-set change logs place old new here changed ∙ ap (λ x. with_found_at change x (logs_of logs)) (sym (searched o found ∙ there)) ∙ by_search
 
     pub changed_nowhere : (o : Option ℕ) → o ≡ find (passes_at (is_live_at sci an) (logs_of seen)) table → o ≡ None → logs_of logs ≡ with_first (is_live_at sci an) change (logs_of logs)
-    changed_nowhere o found none = ap (λ x. with_found change x (logs_of logs)) (sym (searched o found ∙ none)) ∙ by_search
+    changed_nowhere o found none = ap (λ x. with_found_at change x (logs_of logs)) (sym (searched o found ∙ none)) ∙ by_search
