@@ -85,26 +85,35 @@ impl fmt::Display for Verdict {
     }
 }
 
-/// What reception depends on: the endpoint's suite, how frames are validated, whether late frames are dropped, and the
-/// replay window.
+/// What reception depends on.
 #[derive(Clone, Copy, PartialEq, Eq, Debug)]
 pub struct RxOptions {
+    /// The endpoint's cipher suite.
     pub suite: Suite,
+    /// How frames are validated.
     pub mode: Mode,
+    /// Are late frames dropped?
     pub replay: bool,
+    /// The replay window, in packet numbers.
     pub window: u64,
 }
 
-/// A receive association: the SCI of its channel, its number, the number of its key, the SSCI of the sender, the next
-/// packet number, which is past each that was accepted, the lowest acceptable one, and whether it is enabled.
+/// A receive association.
 #[derive(Clone, Copy, PartialEq, Eq, Debug, Default)]
 pub struct RxRow {
+    /// The SCI of its channel.
     pub sci: Sci,
+    /// Its association number.
     pub an: An,
+    /// The number of its key.
     pub key: u8,
+    /// The SSCI of the sender.
     pub ssci: u32,
+    /// The next packet number: past each that was accepted.
     pub next: u128,
+    /// The lowest acceptable packet number.
     pub lowest: u128,
+    /// Is it enabled?
     pub on: bool,
 }
 
@@ -131,11 +140,13 @@ impl RxRow {
     }
 }
 
-/// The verdict on a frame, its association if the verdict depends on one, and the position and the length of what is
-/// delivered.
+/// What is found of a tagged frame.
 #[derive(Clone, Copy, PartialEq, Eq, Debug)]
 pub struct Judged {
+    /// The verdict.
     pub verdict: Verdict,
+    /// The association of the frame, if the verdict depends on one.
     pub row: Option<(Sci, An)>,
+    /// The position and the length of what is delivered.
     pub delivered: Option<(usize, usize)>,
 }

@@ -21,13 +21,15 @@ pub enum Sent<'a> {
     Dropped(DropReason),
 }
 
-/// What becomes of a link frame: the verdict; from step 7 on the association that it is for, by the SCI of its channel
-/// and its number, 0 to 3; the frame at the uncontrolled port; and the frame at the controlled port, if one is
-/// delivered.
+/// What becomes of a link frame.
 #[derive(Drop)]
 pub struct Received<'a> {
+    /// The verdict.
     pub verdict: Verdict,
+    /// The association that it is for, by the SCI of its channel and its number, 0 to 3, if the verdict depends on one.
     pub row: Option<(Sci, u8)>,
+    /// The frame at the uncontrolled port: as it came.
     pub uncontrolled: &'a [u8],
+    /// The frame at the controlled port, if one is delivered.
     pub controlled: Option<&'a [u8]>,
 }

@@ -2,14 +2,18 @@
 
 use crate::{An, Mode, NewKey, Sci, TagForm};
 
-/// What commands set: whether frames are protected, how they are validated, whether late frames are dropped, the replay
-/// window, and the tag form.
+/// What commands set.
 #[derive(Clone, Copy, PartialEq, Eq, Debug)]
 pub struct Options {
+    /// Are client frames protected?
     pub protect: bool,
+    /// How received frames are validated.
     pub mode: Mode,
+    /// Are late frames dropped?
     pub replay: bool,
+    /// The replay window, in packet numbers.
     pub window: u64,
+    /// The tag form.
     pub form: TagForm,
 }
 

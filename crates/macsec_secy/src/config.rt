@@ -10,13 +10,16 @@ use crate::{MAX_FRAME_LEN, NewFault, Sci, Suite, TagForm};
 /// The fewest octets that an endpoint's largest frame may have.
 pub const MIN_MAX_FRAME: usize = 64;
 
-/// The configuration of an endpoint: its cipher suite, its SCI, the most octets of a frame that is sent to the link for
-/// its controlled port's client, and its first tag form.
+/// The configuration of an endpoint.
 #[derive(Clone, Copy, PartialEq, Eq, Debug)]
 pub struct EndConfig {
+    /// Its cipher suite.
     pub suite: Suite,
+    /// Its SCI.
     pub sci: Sci,
+    /// The most octets of a frame that is sent to the link for its controlled port's client: 64 to 9,248.
     pub max_frame: u32,
+    /// Its first tag form.
     pub form: TagForm,
 }
 

@@ -21,25 +21,33 @@ pub enum TagForm {
     Scb,
 }
 
-/// What transmission depends on: whether frames are protected, the tag form, the endpoint's SCI, the octets of the
-/// largest frame, and whether there is more than one receive channel.
+/// What transmission depends on.
 #[derive(Clone, Copy, PartialEq, Eq, Debug)]
 pub struct TxOptions {
+    /// Are client frames protected?
     pub protect: bool,
+    /// The tag form.
     pub form: TagForm,
+    /// The endpoint's own SCI.
     pub sci: Sci,
+    /// The most octets of a frame that is sent.
     pub max_frame: u32,
+    /// Is there more than one receive channel?
     pub many: bool,
 }
 
-/// A transmit association: its number, the number of its key, its next packet number, which is one past the last if it
-/// is exhausted, whether it encrypts, and whether it is enabled.
+/// A transmit association.
 #[derive(Clone, Copy, PartialEq, Eq, Debug, Default)]
 pub struct TxRow {
+    /// Its association number.
     pub an: An,
+    /// The number of its key.
     pub key: u8,
+    /// Its next packet number; one past the last if it is exhausted.
     pub next: u128,
+    /// Does it encrypt?
     pub conf: bool,
+    /// Is it enabled?
     pub on: bool,
 }
 
