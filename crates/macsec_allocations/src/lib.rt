@@ -35,6 +35,7 @@ pub fn report(
         "World::run" => worlds::run(alloc, before, text, writer),
         "parse_line" => scripts::line(alloc, before, text, writer),
         "parse_script" => scripts::script(alloc, before, text, writer),
+        "parse_config" => scripts::config(alloc, before, text, writer),
         "run_script" => scripts::run(alloc, before, text, writer),
         "PcapReader::new" => captures::reader(alloc, before, writer),
         "run_capture" => captures::run(alloc, before, text, writer),

@@ -1,8 +1,8 @@
-//! Lines and scripts.
+//! Lines, scripts and configurations.
 
 use crate::room::{fill, one, write_answer};
 use macsec_print::write_fault;
-use macsec_script::{LineFault, ScriptFault, parse_line, parse_script, run_script};
+use macsec_script::{LineFault, ScriptFault, parse_config, parse_line, parse_script, run_script};
 use std::alloc::Global;
 use std::io::Write;
 
@@ -37,6 +37,19 @@ pub fn script<W: Write>(
 ) -> Result<(), ScriptFault> {
     let filled = fill(alloc, before);
     let lines = parse_script(alloc, text);
+    let after = one(alloc);
+    write_answer(writer, filled, script_answer(lines.err()), after)
+}
+
+/// `parse_config`.
+pub fn config<W: Write>(
+    alloc: Global,
+    before: u32,
+    text: &[u8],
+    writer: &mut W,
+) -> Result<(), ScriptFault> {
+    let filled = fill(alloc, before);
+    let lines = parse_config(alloc, text);
     let after = one(alloc);
     write_answer(writer, filled, script_answer(lines.err()), after)
 }
