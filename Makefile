@@ -1,5 +1,5 @@
-# make               proves and builds the program, build/macsec
-# make run           runs it on the tour
+# make               proves and builds the program, build/macsec: a quarter of an hour or more from nothing
+# make run           does the same, and runs it on the tour
 # make check         the gate
 # make bench         measures the cipher, frames, scripts and a full link
 # make search        looks for counter-examples to what is promised of two ends and their link
@@ -7,12 +7,15 @@
 # make failures      makes files and streams fail, refuses memory, and lists the calls that take it
 # make peer          compares frames with Scapy's, which has to be installed
 # make kept-frames   sees that callers which keep a frame over the next call are refused
+# make lanes-used    sees that the cipher is built of its lanes, powers and pieces
+# make clean         removes build/
+# fuzz, failures and peer prove and build the program first.
 RT := $(shell command -v rt 2>/dev/null)
 SOURCES := crates.txt $(shell find crates -name out -prune -o -type f \( -name '*.rt' -o -name '*.antt' \) -print)
 INPUTS := 100000
 SEED := 1
 
-.PHONY: all run check bench search fuzz failures peer kept-frames toolchain clean
+.PHONY: all run check bench search fuzz failures peer kept-frames lanes-used toolchain clean
 
 all: build/macsec
 
@@ -40,6 +43,9 @@ peer: build/macsec
 
 kept-frames: toolchain
 	tools/kept-frames
+
+lanes-used: toolchain
+	tools/lanes-used
 
 # The program is built once it is proved; here it is run on an empty script, which prints nothing.
 build/macsec: $(SOURCES) | toolchain
