@@ -1,7 +1,6 @@
 -- A run from its configuration on.
 use Rattle.std.proofs.Common.{◌≡◌, ℕ, List, [], ◌∷◌, refl, sym, ap, subst, ◌∙◌}
-use Rattle.std.specs.Prelude.{Bool, true, false, not, is_some, Option, Some, None, Result, Ok, Err, IfSome, IfErr, option_map}
-use Rattle.std.specs.Io.KnownBytes.{Appends, Keeps}
+use Rattle.std.specs.Prelude.{true, not, is_some, Option, Some, None, Result, Ok, Err, IfSome, option_map}
 use Rattle.std.proofs.KnownBytes.{Appends-nil, Keeps-refl}
 use Rattle.macsec_secy.specs.declared.config.EndConfig.{EndConfig}
 use Rattle.macsec_secy.specs.declared.fault.NewFault.{NewFault}
@@ -17,7 +16,7 @@ use Rattle.macsec_script.specs.Laws.{AreFit}
 use Rattle.macsec_script.specs.Printed.{a_config}
 use Rattle.macsec_capture.specs.declared.Direction.{Direction}
 use Rattle.macsec_capture.specs.declared.fault.CaptureFault.{CaptureFault}
-use Rattle.macsec_capture.specs.declared.fault.CaptureFault.TheVariants.{Script, Pcap}
+use Rattle.macsec_capture.specs.declared.fault.CaptureFault.TheVariants.{Script}
 use Rattle.macsec_capture.specs.Captured.{captured, captured_at, captured_by, one_end}
 use Rattle.macsec_capture.specs.Runs.{CaptureGives, Grows, LeavesBoth, ReadsConfig, Stays, Written}
 
@@ -91,16 +90,6 @@ left_both w (script.Ends n) = Stays-same w
 left_both w (script.LineLong n) = Stays-same w
 
 -- ---- the configuration was read
-
--- it has no end
-pub without_end : (direction : Direction) (config input : Option (List ℕ)) (lines given : List NumberedLine) (w : Written) → given ≡ lines → one_end given ≡ None →
-    IfSome config (λ c. config_of c ≡ Ok lines) → IfSome config (λ c. IfSome input (λ file. CaptureGives (captured direction c file) w w (Ok tt)))
-without_end direction None input lines given w same none read = tt
-without_end direction (Some c) None lines given w same none read = tt
-without_end direction (Some c) (Some file) lines given w same none read =
-    let whole : captured direction c file ≡ captured_at direction None file =
-    ap (λ ls. captured_by direction ls file) read ∙ ap (λ ls. captured_at direction (one_end ls) file) (sym same) ∙ ap (λ end. captured_at direction end file) none in
-    subst (λ captures. CaptureGives captures w w (Ok tt)) (sym whole) (refl, Grows-nothing w)
 
 pub with_end : (direction : Direction) (config input : Option (List ℕ)) (lines given : List NumberedLine) (end : EndConfig) (commands : List NumberedLine)
     (old new : Written) (answer : Result (Unit {0}) CaptureFault) → given ≡ lines → one_end given ≡ Some (end, commands) → IfSome config (λ c. config_of c ≡ Ok lines) →

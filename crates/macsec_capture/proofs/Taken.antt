@@ -1,10 +1,8 @@
 -- Records one after another.
 use Rattle.std.proofs.Common.{◌≡◌, ℕ, ◌+◌, List, [], ◌∷◌, ◌++◌, refl, sym, ap, subst, ◌∙◌, append_assoc, append-nil}
-use Rattle.std.specs.Prelude.{Option, Some, None, Result, Ok, Err}
-use Rattle.std.specs.Io.KnownBytes.{Appends}
+use Rattle.std.specs.Prelude.{Option, Some, None, Ok, Err}
 use Rattle.std.proofs.KnownBytes.{Appends-nil, Appends-trans}
 use Rattle.macsec_secy.specs.State.{State}
-use Rattle.macsec_lines.specs.declared.faults.ScriptFault.TheVariants as script
 use Rattle.macsec_pcap.specs.declared.fault.PcapFault.{PcapFault}
 use Rattle.macsec_pcap.specs.declared.fault.PcapFault.TheVariants.{Magic, Version, LinkType, CutHeader, CutRecord, RecordLength, Read, Write, Memory, RecordCount}
 use Rattle.macsec_pcap.specs.Records.{CaptureRecord}
@@ -15,7 +13,7 @@ use Rattle.macsec_capture.specs.declared.Direction.{Direction}
 use Rattle.macsec_capture.specs.declared.fault.CaptureFault.{CaptureFault}
 use Rattle.macsec_capture.specs.declared.fault.CaptureFault.TheVariants.{Script, Pcap}
 use Rattle.macsec_capture.specs.Captured.{Part, record_part, records_part}
-use Rattle.macsec_capture.specs.Runs.{Adds, Cuts, Grows, IsWriteFault, RunsHeld, RunsRecords, Written}
+use Rattle.macsec_capture.specs.Runs.{Adds, Grows, IsWriteFault, RunsHeld, RunsRecords, Written}
 
 -- what was written, with what is still to come, is the whole
 pub record IsOnTheWay (direction : Direction) (whole : Part) (old now : Written) (s : State) (k : ℕ) (rest : List CaptureRecord) : Type 0 where

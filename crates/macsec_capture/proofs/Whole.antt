@@ -1,5 +1,5 @@
 -- A run over a whole file, from its parts.
-use Rattle.std.proofs.Common.{◌≡◌, ℕ, List, [], ◌∷◌, ◌++◌, refl, sym, ap, subst, ◌∙◌, append_assoc, append-nil}
+use Rattle.std.proofs.Common.{◌≡◌, ℕ, List, [], ◌++◌, refl, sym, ap, subst, ◌∙◌, append_assoc, append-nil}
 use Rattle.std.specs.Prelude.{Option, Some, None, Result, Ok, Err, IfErr, IfSome, option_map}
 use Rattle.std.specs.Io.KnownBytes.{Appends}
 use Rattle.std.proofs.KnownBytes.{Appends-nil, Appends-trans}
@@ -127,13 +127,6 @@ counted_gives header part end old mid next new after first runs same prints =
         text = Appends-trans old.text next.text new.text part.text (last_lines end part.state) grown.text (subst (Appends next.text new.text) counters prints);
       },
     )
-
--- a writer failed
-pub write_failed : (header : List ℕ) (part : Part) (end : Option PcapFault) (old new : Written) → CaptureGives (of_parts header part end) old new (Err (Pcap Write))
-write_failed header part end old new = configured_file end
-
-pub text_failed : (header : List ℕ) (part : Part) (end : Option PcapFault) (old new : Written) → CaptureGives (of_parts header part end) old new (Err (Script script.Write))
-text_failed header part end old new = configured_file end
 
 -- ---- a file with a fault in its header
 

@@ -1,13 +1,12 @@
 //! The configuration of a capture's endpoint: its end, and its commands.
 
-ghost use Rattle.std.specs.Prelude.{◌≡◌, IfErr, IfOk, IfSome, None, Ok, OnOk, length, option_map};
+ghost use Rattle.std.specs.Prelude.{◌≡◌, IfErr, IfOk, None, OnOk, option_map};
 ghost use Rattle.std.specs.Io.KnownBytes.{Appends};
 ghost use Rattle.macsec_secy.specs.Answers.{output_of_command};
 ghost use Rattle.macsec_secy.specs.Configs.{config_fault};
 ghost use Rattle.macsec_secy.specs.Sound.{IsSound};
 ghost use Rattle.macsec_secy.specs.State.{start};
 ghost use Rattle.macsec_lines.specs.declared.faults.ScriptFault.TheVariants.{Memory, Write};
-ghost use Rattle.macsec_print.specs.Outcomes.{outcome_text};
 ghost use Rattle.macsec_capture.specs.Captured.{command_outcome, commands_part, line_part, one_end};
 
 use macsec_lines::Line;

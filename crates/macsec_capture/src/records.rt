@@ -1,6 +1,6 @@
 //! The records of a capture: their frames go through the endpoint, in order, and what comes of them to another file.
 
-ghost use Rattle.std.specs.Prelude.{◌≡◌, ◌≤◌, IfErr, IfSome, None, OnOk, Some, length, option_copied};
+ghost use Rattle.std.specs.Prelude.{◌≡◌, ◌≤◌, IfErr, IfSome, None, OnOk, length, option_copied};
 ghost use Rattle.macsec_secy.specs.Answers.{output_of_received, output_of_sent};
 ghost use Rattle.macsec_secy.specs.Sound.{IsSound};
 ghost use Rattle.macsec_secy.specs.Step.{client_frame, link_frame, step};

@@ -170,7 +170,3 @@ gctr-gctr key icb text =
     ∙ xor_assoc (get_or text k 0) (key_stream key icb k) (key_stream key icb k)
     ∙ ap (bit_xor (get_or text k 0)) (xor_self (key_stream key icb k))
     ∙ xor_zero_r (get_or text k 0))
-
-pub gctr-nil : (key icb : List ℕ) → gctr key icb [] ≡ []
-unfolding gctr
-gctr-nil key icb = refl

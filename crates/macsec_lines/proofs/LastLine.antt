@@ -16,9 +16,6 @@ trimmed (line ∷ next ∷ more) = line ∷ trimmed (next ∷ more)
 abbrev pub pieces_of : List ℕ → List (List ℕ)
 pieces_of text = slice_split (λ octet. octet == 10) text
 
-lines_of-trimmed : (text : List ℕ) → trimmed (pieces_of text) ≡ lines_of text
-lines_of-trimmed text = refl
-
 cons_cond : (b : Bool) (line : List ℕ) (p q : List (List ℕ)) → line ∷ cond b p q ≡ cond b (line ∷ p) (line ∷ q)
 cons_cond true line p q = refl
 cons_cond false line p q = refl

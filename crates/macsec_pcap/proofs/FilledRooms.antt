@@ -1,5 +1,5 @@
 -- Rooms that are filled from a reader.
-use Rattle.std.proofs.Common.{◌≡◌, ℕ, ◌+◌, ◌<◌, ◌≤◌, List, [], ◌++◌, length, take, drop, refl, sym, ap, subst, ◌∙◌, arith, length-append, append-nil}
+use Rattle.std.proofs.Common.{◌≡◌, ℕ, ◌+◌, ◌≤◌, List, [], ◌++◌, length, take, drop, refl, sym, ap, subst, ◌∙◌, arith, length-append, append-nil}
 use Rattle.std.specs.Prelude.{Option, Some, None}
 use Rattle.std.proofs.lemmas.List.{length-take-le, take-append-le, take_at, drop_at}
 use Rattle.std.proofs.Math.Seq.{take-append-add}
@@ -47,9 +47,3 @@ filled_whole octets (Some ys) room n filled whole =
   where
     take_all : (xs : List ℕ) → take (length xs) xs ≡ xs
     take_all xs = ap (take (length xs)) (sym (append-nil xs)) ∙ take_at xs [] _ refl
-
--- a room that isn't full holds all of them
-pub filled_short : (octets : List ℕ) (new : Option (List ℕ)) (room : List ℕ) (n : ℕ) → IsFilled (Some octets) new room n → n < length room → length octets ≡ n
-filled_short octets None room n filled short = absurd filled.octets
-filled_short octets (Some ys) room n filled short =
-    ap length (filled.octets ∙ ap (λ rest. take n room ++ rest) (filled.end short) ∙ append-nil (take n room)) ∙ length-take-le n room filled.fits

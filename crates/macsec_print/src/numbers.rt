@@ -3,7 +3,6 @@
 ghost use Rattle.std.specs.Prelude.{◌≡◌, flat_map, IfErr, OnOk, Some};
 ghost use Rattle.std.specs.Io.KnownBytes.{Appends};
 ghost use Rattle.macsec_tx.specs.Transmit.{tx_row};
-ghost use Rattle.macsec_rx.specs.Channels.{rx_row};
 ghost use Rattle.macsec_lines.specs.declared.faults.ScriptFault.TheVariants.{Write};
 ghost use Rattle.macsec_print.specs.Numbers.{association_numbers, channel_text, mode_text, numbers_text, packet_number_text, rx_text, state_text, tx_text};
 ghost use Rattle.macsec_print.specs.Printing.{Prints};

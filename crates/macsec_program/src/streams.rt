@@ -1,6 +1,6 @@
 //! What stands in the place of standard streams that were closed before the program started.
 
-ghost use Rattle.std.specs.Prelude.{◌≡◌, codes, IfErr};
+ghost use Rattle.std.specs.Prelude.{codes, IfErr};
 ghost use Rattle.macsec_program.specs.Failures.{FailsAs};
 
 use crate::failures::Failure;

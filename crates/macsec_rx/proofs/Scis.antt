@@ -1,5 +1,5 @@
 -- Laws on SCIs and on the list of the channels.
-use Rattle.std.proofs.Common.{◌≡◌, ◌∙◌, ℕ, Bool, true, false, cond, ◌||◌, List, [], ◌∷◌, ◌++◌, refl, sym, ap, subst}
+use Rattle.std.proofs.Common.{◌≡◌, ◌∙◌, ℕ, Bool, true, false, cond, List, [], ◌∷◌, ◌++◌, refl, sym, ap}
 use Rattle.std.specs.Prelude.{filter, not}
 use Rattle.std.specs.Cmp.Lexicographic.{same_text}
 use Rattle.std.proofs.lemmas.Bool.{eq-eqb, or_parts}
@@ -62,12 +62,3 @@ kept_scis p (s ∷ scis) h = by_test (p s) (filter p scis) (not_among_filter p s
     by_test : (b : Bool) (kept : List Sci) → has_channel kept s ≡ false → AreScis kept → AreScis (cond b (s ∷ kept) kept)
     by_test true kept free h' = (h.0, free, h')
     by_test false kept free h' = h'
-
--- the SCI of a channel, and so of each association, is 8 octets
-pub channel_sci : (scis : List Sci) (sci : Sci) → AreScis scis → has_channel scis sci ≡ true → IsSci sci
-channel_sci [] sci h there = cc
-channel_sci (s ∷ scis) sci h there = by_test (same_sci s sci) refl (channel_sci scis sci h.2) there
-  where
-    by_test : (b : Bool) → same_sci s sci ≡ b → (has_channel scis sci ≡ true → IsSci sci) → (b || has_channel scis sci) ≡ true → IsSci sci
-    by_test true same later there' = subst IsSci (one_sci s sci same) h.0
-    by_test false same later there' = later there'

@@ -3,7 +3,6 @@ use Rattle.std.proofs.Common.{◌≡◌, ℕ, ◌≤◌, Bool, true, false, List
 use Rattle.std.specs.Prelude.{◌%◌, ◌^◌, ◌&&◌, not, nat_lt, if◌then◌else◌, Option, Some, None, IsSome}
 use Rattle.std.specs.Int.{w32, to_be_bytes}
 use Rattle.std.proofs.lemmas.Bool.{le-ltb, ltb-false}
-use Rattle.macsec_gcm.specs.Gcm.{open_of}
 use Rattle.macsec_gcm.specs.Laws.{OpenUndoesSeal, SealedLengths}
 use Rattle.macsec_tag.specs.declared.identifiers.Sci.{Sci}
 use Rattle.macsec_tag.specs.Frame.{MpduParts, in_a_row}
@@ -12,7 +11,7 @@ use Rattle.macsec_tag.specs.Table.{reading, tagged}
 use Rattle.macsec_pn.specs.Numbers.{recovered_number}
 use Rattle.macsec_suite.specs.declared.suite.Suite.{Suite}
 use Rattle.macsec_suite.specs.Suites.{extended_iv, is_xpn, iv_of}
-use Rattle.macsec_suite.specs.Parts.{aad_and_plaintext, clear_length}
+use Rattle.macsec_suite.specs.Parts.{clear_length}
 use Rattle.macsec_suite.specs.CipherUses.{cipher_use, plaintext_of_use}
 use Rattle.macsec_suite.specs.KeyRows.{InstalledKey, key_row, prepared_key, the_key}
 use Rattle.macsec_tx.specs.declared.TxOptions.{TxOptions}

@@ -28,12 +28,6 @@ scis_kept verdict sci [] = refl
 scis_kept verdict sci (row ∷ rows) =
     ap (λ s. s ∷ map sci_of_counters (map (count_at verdict sci) rows)) (sci_kept verdict sci row) ∙ ap (λ ss. row.sci ∷ ss) (scis_kept verdict sci rows)
 
--- a frame is counted
-pub after_counting : (verdict : Verdict) (place : Option (Sci × ℕ)) (rows : List ChannelCounters) →
-    map sci_of_counters (counted_at_place verdict place rows) ≡ map sci_of_counters rows
-after_counting verdict None rows = refl
-after_counting verdict (Some place) rows = scis_kept verdict place.0 rows
-
 pub after_judging : (j : Judgement) (rows : List ChannelCounters) → map sci_of_counters (rx_packet_counted j rows) ≡ map sci_of_counters rows
 after_judging j rows = by_parts (is_counted_by_channel j) j.row
   where

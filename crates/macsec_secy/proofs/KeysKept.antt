@@ -1,11 +1,11 @@
 -- The key of each association stays in the table, whatever is done.
 use Rattle.std.proofs.Common.{◌≡◌, ℕ, Bool, true, false, List, [], ◌∷◌, ◌++◌, map, refl, ap, sym, subst, ◌∙◌}
-use Rattle.std.specs.Prelude.{◌==◌, not, if◌then◌else◌, Option, Some, None, IsSome, IfSome, Result, Ok, Err, OnOk, OnErr}
+use Rattle.std.specs.Prelude.{◌==◌, not, if◌then◌else◌, Option, Some, None, IsSome, IfSome}
 use Rattle.std.proofs.lemmas.Bool.{eqb-true}
 use Rattle.macsec_suite.specs.declared.refusal.Refusal.{Refusal}
 use Rattle.macsec_suite.specs.declared.refusal.Refusal.TheVariants.{NoKey}
 use Rattle.macsec_suite.specs.KeyRows.{InstalledKey, at_number, key_row, keys_noting, keys_retiring, retired_row, row_noting}
-use Rattle.macsec_suite.specs.Refusals.{first_refusal, is_number_used, refusal_of}
+use Rattle.macsec_suite.specs.Refusals.{first_refusal, is_number_used}
 use Rattle.macsec_tx.specs.declared.TxRow.{TxRow}
 use Rattle.macsec_tx.specs.Transmit.{keys_after, next_used, rows_after, tx_row, used_at}
 use Rattle.macsec_tx.specs.Commands.{HaveKeys, off_at, switch_to, tx_sa_refusals, with_tx_off, with_tx_on, with_tx_sa, without_tx}
@@ -17,12 +17,6 @@ IsThere keys number = IsSome (key_row keys number)
 -- the key of this association, where there is one, is in the table
 abbrev HasKey : List InstalledKey → Option TxRow → Type 0
 HasKey keys row = IfSome row (λ r. IsThere keys r.key)
-
--- a fact holds after a command where it held before, and holds of what the command does if it is not refused
-pub kept_by : {S : Type 0} (P : S → Type 0) (old new after : S) (answer : Result (Unit {0}) Refusal) → OnOk answer (new ≡ after) → OnErr answer (new ≡ old) →
-    P old → (refusal_of answer ≡ None → P after) → P new
-kept_by P old new after (Ok done) ok err here later = subst P (sym ok) (later refl)
-kept_by P old new after (Err refusal) ok err here later = subst P (sym err) here
 
 -- a change that is made where a test holds keeps each field that the change keeps
 pub field_kept : {A B : Type 0} (field : A → B) (change : A → A) → ((x : A) → field (change x) ≡ field x) → (test : Bool) (x : A) →

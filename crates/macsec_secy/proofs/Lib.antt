@@ -3,7 +3,6 @@ pub mod RxKeysKept
 pub mod Lent
 pub mod ChannelsCounted
 pub mod Steps
-pub mod Lengths
 pub mod SentFrames
 pub mod TaggedFrames
 pub mod Limits

@@ -1,6 +1,6 @@
 -- The words of the command line, as clap's definitions read them: `run SCRIPT`, `protect CONFIG IN OUT` or
 -- `validate CONFIG IN OUT`.
-use Rattle.std.specs.Prelude.{◌≡◌, ◌⊎◌, ℕ, List, [], ◌∷◌, codes, bytes_eq, true, if◌then◌else◌, Option, Some, None, option_map, option_and_then, IsSomeAnd, Result, Ok, Err}
+use Rattle.std.specs.Prelude.{◌≡◌, ◌⊎◌, List, [], ◌∷◌, codes, bytes_eq, true, if◌then◌else◌, Option, Some, None, option_map, option_and_then, IsSomeAnd, Result, Ok, Err}
 use Rattle.clap.specs.Words.{App, Kinds, Row, Rule, Text, fault_of, first_of, new_app, new_rule, subcommand_of, with_rule, with_subcommand}
 use Rattle.clap.specs.declared.builder.action.ArgAction.TheVariants.{Set}
 use Rattle.clap.specs.declared.error.kind.ErrorKind.{ErrorKind}

@@ -1,4 +1,4 @@
-use Rattle.std.proofs.Common.{◌≡◌, rules, subst, sym}
+use Rattle.std.proofs.Common.{rules, subst, sym}
 use Rattle.macsec_rx.specs.Rows.{AreChannels}
 use Rattle.macsec_secy.specs.declared.command.Command.TheVariants as by
 use Rattle.macsec_secy.specs.contracts.Secy.{the_view}
