@@ -1,7 +1,7 @@
 """What the program must print, write and return, by the rules of docs/: scripts, endpoints, links and captures.
 
-It is written in Python from the documents and the standards and not from the program, so that an answer of the
-program can be compared with it. Standard library alone. FIPS 197 and SP 800-38D are at the end of this file.
+The rules of docs/ are written here once more, in Python, so that an answer of the program can be compared with them.
+Standard library alone. FIPS 197 and SP 800-38D are at the end of this file.
 """
 
 import functools
@@ -212,6 +212,7 @@ class Endpoint:
         self.protects, self.mode, self.replay, self.window = True, "strict", True, 0
         self.keys, self.tx, self.channels = {}, {}, []
         self.counters = dict.fromkeys(SECY_COUNTERS, 0)
+        self.seal, self.open_sealed = seal, open_sealed
 
     # Commands. The refusals of each are tested in the order of their numbers.
 
@@ -362,7 +363,7 @@ class Endpoint:
             tag += self.sci
         clear = min(key.offset, len(data)) if sa.conf else len(data)
         head = frame[:12] + tag + data[:clear]
-        sealed = seal(key.octets, self.iv(key, self.sci, key.ssci, pn), head, data[clear:])
+        sealed = self.seal(key.octets, self.iv(key, self.sci, key.ssci, pn), head, data[clear:])
         name = "Encrypted" if sa.conf else "Protected"
         self.count("OutPkts" + name)
         self.count("OutOctets" + name, len(data))
@@ -435,7 +436,7 @@ class Endpoint:
         self.count("InOctetsDecrypted" if is_encrypted else "InOctetsValidated", len(data))
         clear = min(key.offset, len(data)) if is_encrypted else len(data)
         head = frame[: 12 + read["tag_length"] + clear]
-        text = open_sealed(key.octets, self.iv(key, sci, sa.ssci, pn), head, data[clear:], read["icv"])
+        text = self.open_sealed(key.octets, self.iv(key, sci, sa.ssci, pn), head, data[clear:], read["icv"])
         return None if text is None else data[:clear] + text
 
     # What the lines `counters` and `numbers` print.
@@ -561,21 +562,25 @@ def text_of(lines):
     return "".join(it + "\n" for it in lines).encode()
 
 
-def run_script(script):
+def lines_told(world, number, keyword, end, values):
+    """The lines that are printed of a line of a script."""
+    if keyword == "counters":
+        return world.ends[end].counter_lines(number)
+    if keyword == "numbers":
+        return world.ends[end].number_lines(number)
+    return [f"{number} {world.result(keyword, end, values)}"]
+
+
+def run_script(script, make_world=World):
     """Status, text and the line on standard error."""
     try:
         lines = parse(script, is_config=False)
     except ScriptFault as fault:
         return 2, b"", f"macsec: {fault}\n".encode()
     ends = {values[0]: Endpoint(*values[1:]) for _, keyword, _, values in lines if keyword == "end"}
-    world, text = World(ends), []
-    for number, keyword, end, values in lines[2:]:
-        if keyword == "counters":
-            text += ends[end].counter_lines(number)
-        elif keyword == "numbers":
-            text += ends[end].number_lines(number)
-        else:
-            text.append(f"{number} {world.result(keyword, end, values)}")
+    world, text = make_world(ends), []
+    for line in lines[2:]:
+        text += lines_told(world, *line)
     return 0, text_of(text), b""
 
 

@@ -9,13 +9,15 @@ are cut, repeated and exchanged, and their octets, words, lines, records and fie
 of a seed is the same on every machine, however many processes share the work; --only N runs that one and prints it.
 
 Of each input it asks: the program ends within some seconds, by itself and not by a signal; status, standard output,
-standard error and OUT are those expected; standard error is nothing or one of the lines that the documents name, with
-its status; OUT is an empty file, or a header and whole records; and each program that is named gives the same.
+standard error and OUT are those expected, and no other file is created or changed; standard error is nothing or one of
+the lines that the documents name, with its status; OUT is an empty file, or a header and whole records; and the run of
+a script keeps the promises of docs/LINK.md (promises.py).
 """
 
 import argparse
 import collections
-import multiprocessing
+import concurrent.futures
+import os
 import pathlib
 import re
 import subprocess
@@ -25,6 +27,7 @@ import time
 
 sys.dont_write_bytecode = True
 import expected
+import promises
 from inputs import ROOT, Corpus, case_of
 
 SECONDS = 20
@@ -49,7 +52,7 @@ OUTCOME = re.compile(
 
 
 def answer_of(program, case, folder):
-    """Status, standard output, standard error and OUT; or why the program gave none."""
+    """Status, standard output, standard error and the files after the run; or why the program gave none."""
     for name, octets in case.files.items():
         (folder / name).write_bytes(octets)
     try:
@@ -62,8 +65,11 @@ def answer_of(program, case, folder):
         )
     except subprocess.TimeoutExpired:
         return f"no end within {SECONDS} seconds"
-    out = (folder / "out").read_bytes() if case.answer[3] is not None else None
-    return done.returncode, done.stdout, done.stderr, out
+    finally:
+        files = {it.name: it.read_bytes() for it in folder.iterdir()}
+        for name in files:
+            (folder / name).unlink()
+    return done.returncode, done.stdout, done.stderr, files
 
 
 def is_capture(octets):
@@ -79,19 +85,25 @@ def complaint(case, answer):
     """What is wrong with an answer, or None."""
     if isinstance(answer, str):
         return answer
-    status, text, told, out = answer
+    status, text, told, files = answer
     if status < 0:
         return f"ended by signal {-status}"
     if not any(status == it and re.fullmatch(form, told) for it, form in STATED):
         return f"status {status} with {told[:200]!r}"
     if status == 2 and text:
         return "a text beside a fault of the script or of the words"
-    if out is not None and case.kind != "words" and not is_capture(out):
+    if case.answer[3] is not None and not is_capture(files.get(case.out, b"")):
         return "OUT is no capture file"
-    for name, found, wanted in zip(("status", "text", "standard error", "OUT"), answer, case.answer):
+    for name, found, wanted in zip(("status", "text", "standard error"), answer, case.answer):
         if found != wanted:
             return f"{name}: {difference(found, wanted)}"
-    return None
+    return difference_of_files(files, case.files_after())
+
+
+def difference_of_files(found, wanted):
+    """Which file is there and should not be, is not there, or has other octets; or None."""
+    name = next((it for it in sorted({*found, *wanted}) if found.get(it) != wanted.get(it)), None)
+    return None if name is None else f"file {name}: {difference(found.get(name), wanted.get(name))}"
 
 
 def difference(found, wanted):
@@ -109,45 +121,71 @@ def told_of(case):
     return re.sub(r"cannot open .*", "cannot open", re.sub(r"line \d+", "line", told)) or "status 0"
 
 
-class Worker:
-    """Runs shares of the inputs, each in a folder of its own."""
+class Tally:
+    """What the inputs of a share were, and what was found."""
 
-    def __init__(self, options):
-        self.options, self.corpus = options, Corpus()
+    def __init__(self):
+        self.count, self.findings = 0, []
+        self.answers, self.outcomes, self.met, self.meeting = (collections.Counter() for _ in range(4))
 
-    def run(self, share):
-        answers, outcomes, findings = collections.Counter(), collections.Counter(), []
-        with tempfile.TemporaryDirectory() as folder:
-            for number in share:
-                case = case_of(self.options.seed, number, self.corpus)
-                answers[case.kind, told_of(case)] += 1
-                outcomes.update(OUTCOME.findall(case.answer[1]))
-                for program in self.options.programs:
-                    what = complaint(case, answer_of(program, case, pathlib.Path(folder)))
-                    if what:
-                        findings.append((number, program.name, what))
-        return len(share), answers, outcomes, findings
+    def add(self, case):
+        self.count += 1
+        self.answers[case.kind, told_of(case)] += 1
+        self.outcomes.update(OUTCOME.findall(case.answer[1]))
+        self.met.update(case.met)
+        self.meeting.update(it for it, many in case.met.items() if many)
+
+    def merge(self, other):
+        self.count += other.count
+        self.findings += other.findings
+        for mine, others in (
+            (self.answers, other.answers),
+            (self.outcomes, other.outcomes),
+            (self.met, other.met),
+            (self.meeting, other.meeting),
+        ):
+            mine.update(others)
 
 
-def start_worker(options):
-    global WORKER
-    WORKER = Worker(options)
+def start_worker(seed, programs):
+    """A worker has files of this repository of its own."""
+    global SEED, CORPUS, BUILDS
+    SEED, CORPUS, BUILDS = seed, Corpus(), programs
 
 
 def run_share(share):
-    return WORKER.run(share)
+    """Runs some inputs in a folder of their own."""
+    tally = Tally()
+    with tempfile.TemporaryDirectory() as folder:
+        for number in share:
+            try:
+                case = case_of(SEED, number, CORPUS)
+            except promises.Broken as broken:
+                tally.findings.append((number, "expected.py", str(broken)))
+                continue
+            tally.add(case)
+            for program in BUILDS:
+                what = complaint(case, answer_of(program, case, pathlib.Path(folder)))
+                if what:
+                    tally.findings.append((number, program.name, what))
+    return tally
 
 
-def report(options, count, answers, outcomes, findings, seconds):
+def report(options, tally, seconds):
     names = " and ".join(it.name for it in options.programs)
-    print(f"{count:,} inputs of seed {options.seed}, each to {names}, in {seconds:.0f} seconds")
-    for (kind, told), many in sorted(answers.items()):
+    print(f"{options.inputs:,} inputs of seed {options.seed}, each to {names}, in {seconds:.0f} seconds")
+    for (kind, told), many in sorted(tally.answers.items()):
         print(f"{many:9,}  {kind}: {told}")
-    print(f"{sum(outcomes.values()):9,}  lines of commands, events and records in the texts expected, of which")
-    for outcome, many in sorted(outcomes.items()):
+    to_the_end = sum(many for (_, told), many in tally.answers.items() if told == "status 0")
+    print(f"{to_the_end:9,}  runs to the end")
+    print(f"{sum(tally.outcomes.values()):9,}  lines of commands, events and records in the texts expected, of which")
+    for outcome, many in sorted(tally.outcomes.items()):
         print(f"{many:9,}  {outcome.decode()}")
-    print(f"{len(findings):9,}  answers other than expected")
-    for number, program, what in findings[:20]:
+    for promise in promises.PROMISES:
+        many, scripts = tally.met[promise], tally.meeting[promise]
+        print(f"{many:9,}  events in {scripts:,} scripts that met the premises of promise `{promise}`")
+    print(f"{len(tally.findings):9,}  answers other than expected, or promises broken")
+    for number, program, what in sorted(tally.findings)[:20]:
         print(f"input {number}, {program}: {what}")
 
 
@@ -158,36 +196,47 @@ def show(options):
     for name, octets in case.files.items():
         print(f"{name}: {octets!r}")
     print(f"expected: {case.answer}")
+    found = []
     with tempfile.TemporaryDirectory() as folder:
         for program in options.programs:
             answer = answer_of(program, case, pathlib.Path(folder))
-            print(f"{program.name}: {complaint(case, answer) or 'as expected'}\n{answer}")
+            found.append(complaint(case, answer))
+            print(f"{program.name}: {found[-1] or 'as expected'}\n{answer}")
+    return 1 if any(found) else 0
+
+
+def programs_of(named):
+    """The programs named; or the built one, and the one of the other compiler if it is there."""
+    missing = [it for it in named or PROGRAMS[:1] if not it.is_file()]
+    if missing:
+        sys.exit(f"there is no program {missing[0]}")
+    if not named and not PROGRAMS[1].is_file():
+        print(f"{PROGRAMS[1].name} is not there: only {PROGRAMS[0].name} is run")
+    return [it.resolve() for it in named or PROGRAMS if it.is_file()]
 
 
 def main():
     parser = argparse.ArgumentParser(description=__doc__.split("\n")[0])
     parser.add_argument("--inputs", type=int, default=100_000, help="how many inputs (100,000)")
     parser.add_argument("--seed", default="1", help="which inputs (1)")
-    parser.add_argument("--jobs", type=int, default=multiprocessing.cpu_count(), help="how many processes")
+    parser.add_argument("--jobs", type=int, default=os.cpu_count(), help="how many processes")
     parser.add_argument("--only", type=int, help="runs the input of this number alone, and prints it")
-    parser.add_argument("programs", nargs="*", type=pathlib.Path, default=PROGRAMS, help="the builds of the program")
+    parser.add_argument("programs", nargs="*", type=pathlib.Path, help="the builds of the program")
     options = parser.parse_args()
-    options.programs = [it.resolve() for it in options.programs]
+    options.programs = programs_of(options.programs)
     if options.only is not None:
         return show(options)
-    began, count = time.monotonic(), 0
-    answers, outcomes, findings = collections.Counter(), collections.Counter(), []
-    shares = [range(it, min(it + 250, options.inputs)) for it in range(0, options.inputs, 250)]
-    with multiprocessing.Pool(options.jobs, start_worker, (options,)) as pool:
-        for many, of_share, in_share, found in pool.imap_unordered(run_share, shares):
-            count += many
-            answers += of_share
-            outcomes += in_share
-            findings += found
-            if count % 10_000 < many:
-                print(f"{count:,} inputs, {len(findings)} answers other than expected", file=sys.stderr, flush=True)
-    report(options, count, answers, outcomes, sorted(findings), time.monotonic() - began)
-    return 1 if findings else 0
+    Corpus()
+    began, tally, size = time.monotonic(), Tally(), 100
+    shares = [range(it, min(it + size, options.inputs)) for it in range(0, options.inputs, size)]
+    of_worker = (options.seed, options.programs)
+    with concurrent.futures.ProcessPoolExecutor(options.jobs, None, start_worker, of_worker) as pool:
+        for number, of_share in enumerate(pool.map(run_share, shares), 1):
+            tally.merge(of_share)
+            if number % 100 == 0:
+                print(f"{number * size:,} inputs, {len(tally.findings)} findings", file=sys.stderr, flush=True)
+    report(options, tally, time.monotonic() - began)
+    return 1 if tally.findings else 0
 
 
 if __name__ == "__main__":

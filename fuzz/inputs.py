@@ -11,6 +11,8 @@ import re
 import struct
 
 import expected
+import made
+import promises
 
 ROOT = pathlib.Path(__file__).resolve().parent.parent
 DATA = ROOT / "crates/macsec_examples/data"
@@ -19,10 +21,18 @@ SHORTEST = bytes.fromhex("ffffffffffff0200000000010800")
 
 
 class Case:
-    """The words of the program, its standard input, its files, and the answer that is expected."""
+    """The words of the program, its standard input, its files, and the answer that is expected.
 
-    def __init__(self, kind, words, answer, stdin=b"", files=()):
+    The answer has status, text, standard error, and the octets of OUT, or None where no file is created or changed.
+    """
+
+    def __init__(self, kind, words, answer, stdin=b"", files=(), met=None, out="out"):
         self.kind, self.words, self.answer, self.stdin, self.files = kind, words, answer, stdin, dict(files)
+        self.met, self.out = met or {}, out
+
+    def files_after(self):
+        """The files that there must be after the run."""
+        return self.files if self.answer[3] is None else {**self.files, self.out: self.answer[3]}
 
 
 class Capture:
@@ -160,19 +170,19 @@ def of_octets(rng, octets):
 
 def of_word(rng, word, words):
     """Another word in its place, mostly one of its kind, or one with another digit."""
-    way = rng.randrange(8)
-    if way < 3:
+    way = rng.randrange(24)
+    if way < 10:
         return rng.choice(words[kind_of(word)] or [word])
-    if way < 5 and word.isdigit():
-        if rng.randrange(8) == 0:
+    if way < 16 and word.isdigit():
+        if rng.randrange(12) == 0:
             return word.rjust(rng.choice((2, 19, 20, 21, 22)), b"0")
         return b"%d" % max(0, int(word) + rng.choice((-2, -1, 1, 2)))
-    if way < 6 and word:
+    if way < 22 and re.fullmatch(rb"[0-9a-fA-F]+", word):
         place = rng.randrange(len(word))
         return word[:place] + rng.choice((b"0", b"1", b"2", b"8", b"f", b"F")) + word[place + 1 :]
-    if way == 6:
-        return of_octets(rng, word)
-    return rng.choice(words[None])
+    if way < 21:
+        return rng.choice(words[kind_of(word)] or [word])
+    return of_octets(rng, word) if way < 23 else rng.choice(words[None])
 
 
 def kind_of(word):
@@ -187,7 +197,7 @@ def kind_of(word):
 def of_words(rng, line, words):
     """A word of a line is altered, or its words are."""
     items = line.split(b" ")
-    if rng.randrange(6) == 0:
+    if rng.randrange(16) == 0:
         return b" ".join(of_items(rng, items, words[None]))
     place = rng.randrange(len(items))
     items[place] = of_word(rng, items[place], words)
@@ -198,15 +208,17 @@ def of_text(rng, corpus, text):
     """A script or a configuration, after some mutations, or at a limit."""
     if rng.randrange(250) == 0:
         return at_limit(rng, text)
+    if rng.randrange(15) == 0:
+        return at_edge(rng, text)
     for _ in range(rng.choice((0, 1, 1, 1, 1, 2, 3, 5))):
         lines = text.split(b"\n")
-        way = rng.randrange(8)
-        if way < 4:
+        way = rng.randrange(16)
+        if way < 8:
             place = rng.randrange(len(lines))
             lines[place] = of_words(rng, lines[place], corpus.words)
-        elif way < 7:
+        elif way < 15:
             lines[2 * (len(lines) > 2) :] = of_items(rng, lines[2 * (len(lines) > 2) :], corpus.lines)
-        text = b"\n".join(lines) if way < 7 else of_octets(rng, text)
+        text = b"\n".join(lines) if way < 15 else of_octets(rng, text)
     return text
 
 
@@ -225,6 +237,20 @@ def at_limit(rng, text):
     lines = text.split(b"\n")
     head, rest = lines[:2], lines[2:]
     return b"\n".join(head + rest * (8_000 // max(1, len(rest)) if len(text) < 20_000 else 2))
+
+
+def at_edge(rng, text):
+    """A text with a long line, a number of many digits, two carriage returns, or no line behind its first."""
+    way, lines = rng.randrange(4), text.split(b"\n")
+    if way == 0:
+        return text + b"#" * (expected.MAX_LINE + rng.randrange(-1, 2)) + rng.choice((b"\r\n", b"\n"))
+    if way == 1:
+        return text + b"A txoff " + b"0" * rng.choice((20, 21)) + b"\n"
+    if way == 2:
+        lines[rng.randrange(len(lines))] += rng.choice((b"\r", b"\r\r"))
+        return b"\n".join(lines)
+    first = next((it for it, line in enumerate(lines) if line.startswith(b"end")), 0)
+    return b"\n".join(lines[: first + 1] + [b"#", b""][: rng.randrange(3)])
 
 
 def of_frame(rng, frame):
@@ -276,77 +302,25 @@ def of_capture(rng, frames):
 
 
 def script_case(rng, corpus):
+    """A script of this repository or a made one, after mutations."""
     script = rng.choice(corpus.scripts)
-    if rng.randrange(5) == 0:
+    if rng.randrange(2):
+        script = made.made_script(rng)[0]
+    elif rng.randrange(5) == 0:
         other = rng.choice(corpus.scripts).split(b"\n")
         lines = script.split(b"\n")
         script = b"\n".join(lines[: rng.randrange(len(lines) + 1)] + other[rng.randrange(len(other)) :])
     script = of_text(rng, corpus, script)
-    answer = *expected.run_script(script), None
+    answer, met = promises.checked_run(script)
     if rng.randrange(4) == 0:
-        return Case("run", ["run", "script"], answer, files={"script": script})
-    return Case("run -", ["run", "-"], answer, script)
+        return Case("run", ["run", "script"], (*answer, None), files={"script": script}, met=met)
+    return Case("run -", ["run", "-"], (*answer, None), script, met=met)
 
 
-def made_case(rng, corpus):
+def made_case(rng, _corpus):
     """A script without a fault, of two ends that have associations in both directions, and of any events."""
-    suite = rng.choice(list(expected.SUITES))
-    length, is_xpn = expected.SUITES[suite]
-    forms = [(b"0200000000010001", "es"), (b"0200000000020000", "scb")]
-    scis = [rng.choice((forms[it], (forms[it][0], rng.choice(("auto", "sci"))))) for it in (0, 1)]
-    most = rng.choice((64, 1_518, 1_518, 9_248))
-    lines = []
-    for end, (sci, form) in zip((b"A", b"B"), scis):
-        lines.append(b"end %s %s %s %d %s" % (end, suite.encode(), sci, most, form.encode()))
-    first = rng.choice((1, 1, 5, 2**31 - 1, 2**32 - 3, *((2**32 + 2**31, 2**64 - 3) if is_xpn else ())))
-    offset = 0 if is_xpn else rng.choice((0, 0, 30, 50))
-    for end, own, (peer, _) in ((b"A", 1, scis[1]), (b"B", 2, scis[0])):
-        for number in (0, 1):
-            key = bytes([number]) * length
-            lines.append(b"%s key %d %s %d %08x %s" % (end, number, key.hex().encode(), offset, own, b"0a" * 12))
-            lines.append(b"%s txsa %d %d %x %s" % (end, number, number, first, rng.choice((b"int", b"conf"))))
-        lines += [b"%s txon 0" % end, b"%s rxsc %s" % (end, peer)]
-        for number in (0, 1):
-            lines.append(b"%s rxsa %s %d %d %x %08x" % (end, peer, number, number, first, 3 - own))
-            lines.append(b"%s rxon %s %d" % (end, peer, number))
-    frames = 0
-    for _ in range(rng.randrange(1, 80)):
-        lines.append(made_line(rng, [it for it, _ in scis], first, frames))
-        frames += any(it in lines[-1] for it in (b"send", b"alter", b"pad"))
-    lines += [b"A numbers", b"A counters", b"B numbers", b"B counters"]
-    script = b"\n".join(lines) + b"\n"
-    return Case("made", ["run", "-"], (*expected.run_script(script), None), script)
-
-
-def made_line(rng, scis, first, frames):
-    """Any event, with some so many frames on the link, or a command that matters to it."""
-    end, an = rng.choice((b"A", b"B")), rng.choice((0, 0, 0, 1, 2))
-    sci, pn = rng.choice(scis), first + rng.randrange(12)
-    number = rng.choice((rng.randrange(frames + 1), max(0, frames - rng.randrange(1, 4))))
-    place = rng.choice((0, 13, 14, 15, 19, 28, rng.randrange(90)))
-    octet = rng.choice((0, 1, 0x10, 0x2F, 0x30, 0x40, 0x50, *rng.randbytes(3)))
-    source = rng.choice((b"020000000001", b"020000000002"))
-    size = rng.choice((0, 1, 2, 18, 29, 30, 31, 47, 48, 49, 50, 51, 60))
-    return rng.choice(
-        [b"%s send ffffffffffff%s0800%s" % (end, source, b"5a" * size)] * 8
-        + [b"%s deliver %d" % (end, number)] * 12
-        + [b"alter %d %d %02x" % (number, place, octet)] * 3
-        + [b"pad %d" % number] * 2
-        + [
-            b"%s sendu ffffffffffff%s88e5%s" % (end, source, rng.randbytes(size + 1).hex().encode()),
-            b"%s replay %s %d" % (end, rng.choice((b"on", b"off")), rng.choice((0, 1, 2, 5, 2**30 - 1, 2**30, 2**32))),
-            b"%s validate %s" % (end, rng.choice(expected.MODES).encode()),
-            b"%s protect %s" % (end, rng.choice((b"on", b"on", b"off"))),
-            b"%s tag %s" % (end, rng.choice(expected.FORMS).encode()),
-            b"%s %s %d" % (end, rng.choice((b"txon", b"txon", b"txoff", b"txdel", b"retire")), an),
-            b"%s txsa %d %d %x %s" % (end, an, rng.randrange(3), pn % 2**64, rng.choice((b"int", b"conf"))),
-            b"%s %s %s %d" % (end, rng.choice((b"rxon", b"rxon", b"rxoff", b"rxdel")), sci, an),
-            b"%s rxsa %s %d %d %x %08x" % (end, sci, an, rng.randrange(3), pn % 2**64, rng.randrange(3)),
-            b"%s rxlow %s %d %x" % (end, sci, an, pn % 2**64),
-            b"%s %s %s" % (end, rng.choice((b"rxsc", b"rxsc", b"rxscdel")), rng.choice((sci, b"0000000000000001"))),
-            b"%s numbers" % end,
-        ]
-    )
+    script, text, met = made.made_script(rng)
+    return Case("made", ["run", "-"], (0, text, b"", None), script, met=met)
 
 
 def capture_case(rng, corpus):
@@ -358,6 +332,8 @@ def capture_case(rng, corpus):
     file = of_capture(rng, frames)
     answer = expected.run_capture(direction, config, file)
     files = {"config": config, "in": file, "out": rng.choice((b"", b"old" * 20, file))}
+    if rng.randrange(4) == 0:
+        del files["out"]
     return Case(direction, [direction, "config", "in", "out"], answer, files=files)
 
 
@@ -393,50 +369,80 @@ def back_case(rng, _corpus):
 
 
 def words_case(rng, corpus):
-    """Words of no form of the program, and names of files that can't be opened or read."""
-    usage = (2, b"", b"macsec: usage\n", None)
+    """Words of no form of the program, names of files that can't be opened or read, and files whose name is `-`."""
+    way = rng.randrange(16)
+    if way < 4:
+        return usage_case(rng, way)
+    return name_case(rng) if way < 7 else dash_case(rng, corpus)
+
+
+def usage_case(rng, way):
+    """Words of no form of the program: no file is created or changed."""
     words = rng.choice((["run", "-"], ["protect", "config", "in", "out"], ["validate", "config", "in", "out"]))
-    way = rng.randrange(6)
     if way == 0:
         words = words[: rng.randrange(len(words))]
-        return Case("words", words, usage)
-    if way == 1:
-        extra = rng.choice(("x", "", "-", "a b", "run", "\udcff"))
-        return Case("words", words + [extra], usage)
-    if way == 2:
+    elif way == 1:
+        words.append(rng.choice(("x", "", "-", "a b", "run", "\udcff")))
+    elif way == 2:
         option = rng.choice(("--help", "-h", "--version", "-V", "-x", "--x=1"))
         words.insert(rng.randrange(len(words) + 1), option)
-        return Case("words", words, usage)
-    if way == 3:
+    else:
         words[0] = rng.choice(("Run", "runs", "ru", "", "-", "protect ", "validat", "help", "\udcff"))
-        return Case("words", words, usage)
-    if way == 4:
-        script = rng.choice(corpus.scripts)
-        return Case("words", ["run", "--", "-"], (*expected.run_script(script), None), script)
-    return name_case(rng, words)
+    files = small_files()
+    if rng.randrange(2):
+        del files["out"]
+    return Case("words", words, (2, b"", b"macsec: usage\n", None), files["config"], files)
 
 
-def name_case(rng, words):
-    """One of the names is that of no file, or of a folder."""
+def small_files():
     config = b"end A gcm128 0200000000010001 1518 sci\nA protect off\n"
-    files = {"config": config, "in": Capture([SHORTEST]).octets(), "out": b"old"}
+    return {"config": config, "in": Capture([SHORTEST]).octets(), "out": b"old"}
+
+
+def dash_case(rng, corpus):
+    """A file of the name `-`, and other octets on standard input, which `-` means for SCRIPT alone."""
+    scripts = rng.sample(corpus.scripts, 2)
+    way = rng.randrange(8)
+    if way < 2:
+        words = rng.choice((["run", "-"], ["run", "--", "-"]))
+        return Case("words", words, (*expected.run_script(scripts[0]), None), scripts[0], {"-": scripts[1]})
+    if way == 2:
+        words = rng.choice((["run", "./-"], ["run", "--", "./-"]))
+        return Case("words", words, (*expected.run_script(scripts[1]), None), scripts[0], {"-": scripts[1]})
+    direction, config, frames = rng.choice(corpus.runs)
+    file = Capture(frames, is_nano=rng.random() < 0.5).octets()
+    names = {"config": "config", "in": "in", "out": "out"}
+    names[rng.choice(list(names))] = "-"
+    words = [direction, *["--"] * rng.randrange(2), *names.values()]
+    files = {names["config"]: config, names["in"]: file, names["out"]: b"old"}
+    if rng.randrange(2):
+        del files[names["out"]]
+    stdin = rng.choice((b"", config, file, small_files()["config"]))
+    return Case("words", words, expected.run_capture(direction, config, file), stdin, files, out=names["out"])
+
+
+def name_case(rng):
+    """One of the names is that of no file, or of a folder."""
+    files = small_files()
+    words = rng.choice((["run", "-"], ["protect", "config", "in", "out"], ["validate", "config", "in", "out"]))
     place = rng.randrange(1, len(words))
     name = rng.choice(("absent", "absent/x", ".", "", "config/x")) if words[0] != "run" else rng.choice(("absent", ""))
     if place == 3 and name == "absent":
         name = "absent/x"
     words[place] = name
-    out = b"old" if place < 3 and name != "." else b""
     if name != "." or place == 3:
         told = b"macsec: cannot open %s\n" % name.encode()
-        return Case("words", words, (1, b"", told, None if place == 3 or words[0] == "run" else out), files=files)
+        return Case("words", words, (1, b"", told, None), files=files)
     if place == 1:
         return Case("words", words, (1, b"", b"macsec: Read\n", b""), files=files)
-    text = expected.run_capture(words[0], config, b"")[1]
+    text = expected.run_capture(words[0], files["config"], b"")[1]
     return Case("words", words, (1, text, b"macsec: pcap Read\n", b""), files=files)
+
+
+KINDS = {script_case: 30, made_case: 35, capture_case: 26, back_case: 4, words_case: 5}
 
 
 def case_of(seed, number, corpus):
     digest = hashlib.sha256(f"{seed}:{number}".encode()).digest()
     rng = random.Random(int.from_bytes(digest, "big"))
-    make = rng.choices((script_case, made_case, capture_case, back_case, words_case), (45, 15, 33, 4, 3))[0]
-    return make(rng, corpus)
+    return rng.choices(list(KINDS), list(KINDS.values()))[0](rng, corpus)

@@ -3,16 +3,20 @@
 
     python3 fuzz/planted.py [--inputs N] [--seed TEXT]
 
-So it is seen that a program with that mistake would not get past `make fuzz`. No program is run here.
+So it is seen that a program with that mistake would not get past `make fuzz`; and, of the mistakes that break a promise
+of docs/LINK.md, that promises.py finds it broken. No program is run here. The status is 1 if a mistake was not shown.
 """
 
 import argparse
-import multiprocessing
+import concurrent.futures
+import os
 import sys
+import time
 import types
 
 sys.dont_write_bytecode = True
 import inputs
+import promises
 
 # The mistake, and a text of expected.py, which stands there once, with the one that takes its place.
 PLANTED = [
@@ -204,43 +208,181 @@ PLANTED = [
 ]
 
 
-def planted(rule):
-    """A copy of expected.py with this wrong rule."""
-    _, old, new = rule
-    text = (inputs.ROOT / "fuzz/expected.py").read_text()
-    assert text.count(old) == 1, rule
-    module = types.ModuleType("planted")
-    exec(compile(text.replace(old, new), "planted", "exec"), module.__dict__)
-    return module
+# The promise that is broken, the mistake, and the two texts.
+BREAKING = [
+    (
+        "ivs",
+        "a transmit association begins below the key's first unused number",
+        'refuse("PnFloor", pn < key.first_unused)',
+        "pass",
+    ),
+    (
+        "ivs",
+        "a retired key's octets are taken again",
+        "it.octets == octets for it",
+        "it.octets == octets and not it.retired for it",
+    ),
+    (
+        "ivs",
+        "a key of another transmit association is taken",
+        'refuse("KeyInUse", any(sa.key == number for sa in self.tx.values()))',
+        "pass",
+    ),
+    (
+        "seals",
+        "the IV has 32 bits of an extended number",
+        'ssci + struct.pack(">Q", pn)',
+        'ssci + struct.pack(">Q", pn % 2**32)',
+    ),
+    (
+        "seals",
+        "the key does not note that a number is used",
+        "sa.next, key.first_unused = pn + 1, pn + 1",
+        "sa.next = pn + 1",
+    ),
+    (
+        "seals",
+        "the last octet of a frame is not what was sealed",
+        "        return head + sealed\n",
+        '        return head + sealed[:-1] + b"\\0"\n',
+    ),
+    (
+        "origin",
+        "a strict end delivers an invalid frame of integrity only",
+        'if c or self.mode == "strict" else ("Invalid"',
+        'if c else ("Invalid"',
+    ),
+    (
+        "origin",
+        "a receive channel of the own SCI",
+        'refuse("OwnSci", sci == self.sci)',
+        "pass",
+    ),
+    (
+        "origin",
+        "a receive association of the own SSCI",
+        'refuse("SsciOwn", self.is_xpn and ssci == key.ssci)',
+        "pass",
+    ),
+    (
+        "order",
+        "after a frame is accepted its own number stays acceptable",
+        "        sa.lowest = max(sa.lowest, sa.next - self.window)\n",
+        "        sa.lowest = max(sa.lowest, pn - self.window)\n",
+    ),
+    (
+        "order",
+        "a strict end delivers late frames",
+        "if self.replay and is_late",
+        'if self.replay and is_late and self.mode != "strict"',
+    ),
+    (
+        "window",
+        "the window is one wider than it is set",
+        "        sa.lowest = max(sa.lowest, sa.next - self.window)\n",
+        "        sa.lowest = max(sa.lowest, sa.next - self.window - 1)\n",
+    ),
+    (
+        "window",
+        "a replay command leaves the lowest numbers",
+        "sa.lowest = max(sa.lowest, sa.next - window)",
+        "pass",
+    ),
+    (
+        "acceptance",
+        "a late frame is one at the lowest acceptable number too",
+        "is_late = pn < sa.lowest",
+        "is_late = pn <= sa.lowest",
+    ),
+    (
+        "acceptance",
+        "an extended number keeps the upper half of the lowest one",
+        "            upper += 1\n",
+        "            pass\n",
+    ),
+    (
+        "acceptance",
+        "the offset counts for frames of integrity only",
+        "clear = min(key.offset, len(data)) if is_encrypted else len(data)",
+        "clear = min(key.offset, len(data))",
+    ),
+    (
+        "acceptance",
+        "padding is taken for data",
+        "size = short or len(rest) - 16\n",
+        "size = len(rest) - 16\n",
+    ),
+    (
+        "acceptance",
+        "data are delivered as they were received",
+        "frame[:12] + opened, channel",
+        "plain, channel",
+    ),
+]
 
 
-def answer_of(module, case):
-    if case.words[0] == "run":
-        return *module.run_script(case.stdin or case.files.get("script", b"")), None
-    return module.run_capture(case.words[0], case.files["config"], case.files["in"])
+class Plant:
+    """A copy of expected.py with a wrong rule, and the promise that the rule breaks or None."""
+
+    def __init__(self, promise, mistake, old, new):
+        self.promise, self.mistake, self.model = promise, mistake, types.ModuleType("planted")
+        text = (inputs.ROOT / "fuzz/expected.py").read_text()
+        assert text.count(old) == 1, mistake
+        exec(compile(text.replace(old, new), "planted", "exec"), self.model.__dict__)
+
+    def is_shown(self, case):
+        """Is the answer to an input another one; or is the promise seen to be broken?"""
+        if case.kind == "words":
+            return False
+        if self.promise:
+            return case.words[0] == "run" and case.answer[0] == 0 and self.breaks(script_of(case))
+        if case.words[0] == "run":
+            return self.model.run_script(script_of(case)) != case.answer[:3]
+        return self.model.run_capture(case.words[0], case.files["config"], case.files["in"]) != case.answer
+
+    def breaks(self, script):
+        try:
+            promises.checked_run(script, self.model)
+        except promises.Broken as broken:
+            return broken.args[0] == self.promise
+        return False
+
+
+def script_of(case):
+    return case.stdin or case.files.get("script", b"")
 
 
 def first_shown(job):
-    """The first input whose answer is another one by the wrong rule."""
-    rule, options = job
-    corpus, module = inputs.Corpus(), planted(rule)
+    """Of some wrong rules, each with its place in the list, the first input that shows it."""
+    rules, options = job
+    corpus, left, shown = inputs.Corpus(), {place: Plant(*rule) for place, rule in rules}, {}
     for number in range(options.inputs):
+        if not left:
+            break
         case = inputs.case_of(options.seed, number, corpus)
-        if case.kind != "words" and answer_of(module, case) != case.answer:
-            return rule[0], number
-    return rule[0], None
+        for place in [it for it, plant in left.items() if plant.is_shown(case)]:
+            shown[place] = number
+            del left[place]
+    return shown
 
 
 def main():
     parser = argparse.ArgumentParser(description=__doc__.split("\n")[0])
-    parser.add_argument("--inputs", type=int, default=20_000, help="how many inputs at most (20,000)")
+    parser.add_argument("--inputs", type=int, default=5_000, help="how many inputs at most (5,000)")
     parser.add_argument("--seed", default="1", help="which inputs (1)")
-    parser.add_argument("--jobs", type=int, default=multiprocessing.cpu_count(), help="how many processes")
+    parser.add_argument("--jobs", type=int, default=os.cpu_count(), help="how many processes")
     options = parser.parse_args()
-    with multiprocessing.Pool(options.jobs) as pool:
-        for mistake, number in pool.imap(first_shown, [(rule, options) for rule in PLANTED], 1):
-            print("   not shown" if number is None else f"{number + 1:9,} inputs", f" {mistake}", flush=True)
+    began, shown = time.monotonic(), {}
+    rules = list(enumerate([(None, *rule) for rule in PLANTED] + BREAKING))
+    with concurrent.futures.ProcessPoolExecutor(options.jobs) as pool:
+        for found in pool.map(first_shown, [(rules[it :: options.jobs], options) for it in range(options.jobs)]):
+            shown.update(found)
+    for place, (promise, mistake, *_) in rules:
+        what = f"breaks `{promise}`: {mistake}" if promise else mistake
+        print(f"{shown[place] + 1:9,} inputs  {what}" if place in shown else f"      not shown  {what}")
+    print(f"{len(shown)} of {len(rules)} mistakes are shown, in {time.monotonic() - began:.0f} seconds")
+    return 0 if len(shown) == len(rules) else 1
 
 
 if __name__ == "__main__":
-    main()
+    sys.exit(main())
