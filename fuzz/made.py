@@ -284,12 +284,16 @@ class Maker:
         key = endpoint.keys[number]
         far = (2**31, 2**32) if endpoint.is_xpn else ()
         pn = key.first_unused + rng.choice((-2, -1, -1, 0, 0, 1, 3, *far))
-        if rng.randrange(8):
+        is_deleted = rng.randrange(6) > 0
+        if is_deleted:
             self.add(f"{end} txdel {an}")
-        there = rng.choice((an, an, self.free_an(end)))
+        there = rng.choice((an, an, self.free_an(end))) if is_deleted else self.free_an(end)
         self.add(f"{end} txsa {there} {number} {max(pn, rng.randrange(2)) % 2**64:x} {self.int_or_conf()}")
         self.add(f"{end} txon {there}")
         self.send(end)
+        if not is_deleted:
+            self.add(f"{end} txon {an}")
+            self.send(end)
         if rng.randrange(2):
             self.again(self.other(end), there)
 

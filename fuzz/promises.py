@@ -204,7 +204,7 @@ def sci_read(endpoint, frame):
 
 
 def recovered(endpoint, lowest, low):
-    """The packet number of a frame whose SecTAG has this one: the next such one, from half of 2^32 below on."""
+    """The packet number of a frame whose SecTAG has this PN (docs/ENDPOINT.md, receive associations)."""
     if not endpoint.is_xpn:
         return low
     upper = lowest >> 32
