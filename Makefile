@@ -1,4 +1,5 @@
-# make               proves and builds the program, build/macsec: a quarter of an hour or more from nothing
+# make try           builds the program before any proof, in about a minute, and runs it on the tour
+# make               proves and builds the program, build/macsec
 # make run           does the same, and runs it on the tour
 # make check         the gate
 # make bench         measures the cipher, frames, scripts and a full link
@@ -13,17 +14,33 @@
 RT := $(shell command -v rt 2>/dev/null)
 SOURCES := crates.txt $(shell find crates -name out -prune -o -type f \( -name '*.rt' -o -name '*.antt' \) -print)
 INPUTS := 100000
+GATE_INPUTS := 2000
 SEED := 1
 
-.PHONY: all run check bench search fuzz failures peer kept-frames lanes-used toolchain clean
+.PHONY: all try run check bench search fuzz failures peer kept-frames lanes-used toolchain clean
 
 all: build/macsec
+
+try: toolchain
+	@cd crates/macsec_cli && rt try -- run - < ../macsec_examples/data/tour.macsec
+	@echo "make try: nothing of this build is proved; make run proves it" >&2
 
 run: build/macsec
 	@build/macsec run - < crates/macsec_examples/data/tour.macsec
 
+# What needs no proof; every proof from nothing, the must-fail edits, the tests and the programs; then the program that
+# was proved, as both compilers built it.
 check: toolchain
+	tools/kept-frames
+	tools/lanes-used
+	tools/failures calls
 	rt ci
+	@mkdir -p build
+	cp crates/macsec_cli/out/macsec_cli build/macsec
+	cp crates/macsec_cli/out/macsec_cli.by-rattle build/macsec-rattle
+	python3 fuzz/fuzz.py --inputs $(GATE_INPUTS) --seed $(SEED)
+	python3 fuzz/planted.py --inputs $(GATE_INPUTS) --seed $(SEED)
+	tools/failures memory
 
 bench: toolchain
 	cd crates/macsec_bench && rt run -- measure
@@ -49,7 +66,8 @@ lanes-used: toolchain
 
 # The program is built once it is proved; here it is run on an empty script, which prints nothing.
 build/macsec: $(SOURCES) | toolchain
-	@echo "proving and building build/macsec, which takes some minutes the first time" >&2
+	@echo "proving and building build/macsec; README.md says how long the first time takes" >&2
+	@tools/prove macsec_cli
 	@cd crates/macsec_cli && rt run -- run - < /dev/null >&2
 	@mkdir -p build
 	@cp crates/macsec_cli/out/macsec_cli build/macsec
