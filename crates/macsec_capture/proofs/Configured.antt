@@ -2,10 +2,10 @@
 use Rattle.std.proofs.Common.{◌≡◌, ℕ, List, [], ◌∷◌, refl, sym, ap, subst, ◌∙◌}
 use Rattle.std.specs.Prelude.{true, not, is_some, Option, Some, None, Result, Ok, Err, IfSome, option_map}
 use Rattle.std.proofs.KnownBytes.{Appends-nil, Keeps-refl}
-use Rattle.macsec_secy.specs.declared.config.EndConfig.{EndConfig}
-use Rattle.macsec_secy.specs.declared.fault.NewFault.{NewFault}
-use Rattle.macsec_secy.specs.Configs.{config_fault}
-use Rattle.macsec_link.specs.declared.End.TheVariants.{A, B}
+use Rattle.macsec_commands.specs.declared.config.EndConfig.{EndConfig}
+use Rattle.macsec_commands.specs.declared.fault.NewFault.{NewFault}
+use Rattle.macsec_commands.specs.Configs.{config_fault}
+use Rattle.macsec_commands.specs.declared.event.End.TheVariants.{A, B}
 use Rattle.macsec_lines.specs.declared.lines.Line.{Line}
 use Rattle.macsec_lines.specs.declared.lines.Line.TheVariants as line
 use Rattle.macsec_lines.specs.declared.faults.ScriptFault.{ScriptFault}

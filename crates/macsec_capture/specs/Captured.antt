@@ -1,11 +1,11 @@
 -- What a run over a capture file writes: the output file, and the text.
 use Rattle.std.specs.Prelude.{ℕ, ◌+◌, List, [], ◌∷◌, ◌++◌, Option, Some, None, Result, Ok, Err, option_map}
-use Rattle.macsec_secy.specs.declared.config.EndConfig.{EndConfig}
+use Rattle.macsec_commands.specs.declared.config.EndConfig.{EndConfig}
 use Rattle.macsec_secy.specs.State.{State, start}
 use Rattle.macsec_secy.specs.Step.{Input, client_frame, link_frame, operator_command, Output, refused, leaves, received, step}
 use Rattle.macsec_link.specs.declared.Outcome.{Outcome}
 use Rattle.macsec_link.specs.declared.Outcome.TheVariants.{Done, Refused}
-use Rattle.macsec_link.specs.declared.Event.TheVariants as event
+use Rattle.macsec_commands.specs.declared.event.Event.TheVariants as event
 use Rattle.macsec_lines.specs.declared.lines.Line.TheVariants as line
 use Rattle.macsec_lines.specs.declared.faults.ScriptFault.{ScriptFault}
 use Rattle.macsec_lines.specs.Scripts.{NumberedLine, config_of}

@@ -3,7 +3,7 @@
 ghost use Rattle.std.specs.Prelude.{◌≡◌, IfErr, IfOk, None, OnOk, option_map};
 ghost use Rattle.std.specs.Io.KnownBytes.{Appends};
 ghost use Rattle.macsec_secy.specs.Answers.{output_of_command};
-ghost use Rattle.macsec_secy.specs.Configs.{config_fault};
+ghost use Rattle.macsec_commands.specs.Configs.{config_fault};
 ghost use Rattle.macsec_secy.specs.Sound.{IsSound};
 ghost use Rattle.macsec_secy.specs.State.{start};
 ghost use Rattle.macsec_lines.specs.declared.faults.ScriptFault.TheVariants.{Memory, Write};

@@ -1,7 +1,7 @@
 //! A run over a capture file: by a configuration, from a reader to a writer, with a text.
 
 ghost use Rattle.std.specs.Prelude.{◌≡◌, IfErr, IfOk, IfSome, None, Some};
-ghost use Rattle.macsec_secy.specs.Configs.{config_fault};
+ghost use Rattle.macsec_commands.specs.Configs.{config_fault};
 ghost use Rattle.macsec_secy.specs.Sound.{IsSound};
 ghost use Rattle.macsec_lines.specs.Fields.{map_ok};
 ghost use Rattle.macsec_pcap.specs.Captures.{CaptureFile, file_of};

@@ -1,7 +1,7 @@
 -- An end that carried out a management command, or refused it.
 use Rattle.std.proofs.Common.{◌≡◌, ◌∙◌, List, ap, subst}
 use Rattle.macsec_suite.specs.declared.refusal.Refusal.{Refusal}
-use Rattle.macsec_secy.specs.declared.command.Command.{Command}
+use Rattle.macsec_commands.specs.declared.command.Command.{Command}
 use Rattle.macsec_secy.specs.State.{State}
 use Rattle.macsec_secy.specs.Step.{Output, done, operator_command, refused, step}
 use Rattle.macsec_ends.specs.Answers.{EndHappens}

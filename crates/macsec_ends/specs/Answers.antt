@@ -2,11 +2,11 @@
 use Rattle.std.specs.Prelude.{◌≡◌, ◌≤◌, ℕ, List, length, Option, Some, None, Result, Ok, Err}
 use Rattle.macsec_tag.specs.declared.identifiers.Sci.{Sci}
 use Rattle.macsec_tag.specs.Limits.{max_frame_len}
-use Rattle.macsec_secy.specs.declared.config.EndConfig.{EndConfig}
-use Rattle.macsec_secy.specs.declared.fault.NewFault.{NewFault}
-use Rattle.macsec_secy.specs.declared.fault.NewFault.TheVariants as new_fault
+use Rattle.macsec_commands.specs.declared.config.EndConfig.{EndConfig}
+use Rattle.macsec_commands.specs.declared.fault.NewFault.{NewFault}
+use Rattle.macsec_commands.specs.declared.fault.NewFault.TheVariants as new_fault
 use Rattle.macsec_secy.specs.Answers.{drop_output}
-use Rattle.macsec_secy.specs.Configs.{config_fault}
+use Rattle.macsec_commands.specs.Configs.{config_fault}
 use Rattle.macsec_secy.specs.Step.{Input, Output, leaves, link_frame, received, step}
 use Rattle.macsec_ends.specs.declared.end.Departure.{Departure}
 use Rattle.macsec_ends.specs.declared.end.Departure.TheVariants.{Link, Dropped}

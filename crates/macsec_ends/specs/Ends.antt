@@ -1,6 +1,6 @@
 -- An end: an endpoint with the logs of what its clients sent and of what was delivered.
 use Rattle.std.specs.Prelude.{List, []}
-use Rattle.macsec_secy.specs.declared.config.EndConfig.{EndConfig}
+use Rattle.macsec_commands.specs.declared.config.EndConfig.{EndConfig}
 use Rattle.macsec_secy.specs.State.{State, start}
 use Rattle.macsec_secy.specs.Step.{Input, Output}
 use Rattle.macsec_ends.specs.Logs.{SentLogs, DeliveryLog, no_sent_logs, sent_after, delivered_after}

@@ -3,8 +3,7 @@
 
 mod deliveries;
 mod end;
-mod frame;
 mod sent;
 
 pub use end::{Departure, EndLogs, Hearing};
-pub use frame::Frame;
+pub use macsec_commands::Frame;

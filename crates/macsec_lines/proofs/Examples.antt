@@ -2,13 +2,13 @@
 use Rattle.std.specs.Prelude.{◌≡◌, ℕ, List, ◌++◌, [], ◌∷◌, replicate, codes, Some, None, Ok, Err, true, false, refl}
 use Rattle.hex.proofs.OnLiterals.{hex_on_literals}
 use Rattle.macsec_aes.specs.declared.Key.TheVariants.{K128, K256}
-use Rattle.macsec_tx.specs.declared.TagForm.TheVariants as form
-use Rattle.macsec_secy.specs.declared.command.Command.TheVariants as by
-use Rattle.macsec_rx.specs.declared.Mode.TheVariants.{Check}
+use Rattle.macsec_commands.specs.declared.form.TagForm.TheVariants as form
+use Rattle.macsec_commands.specs.declared.command.Command.TheVariants as by
+use Rattle.macsec_commands.specs.declared.mode.Mode.TheVariants.{Check}
 use Rattle.macsec_tag.specs.declared.identifiers.Sci.{Sci}
 use Rattle.macsec_suite.specs.declared.suite.Suite.TheVariants.{Gcm128, Gcm256, Xpn128, Xpn256}
-use Rattle.macsec_link.specs.declared.End.TheVariants.{A, B}
-use Rattle.macsec_link.specs.declared.Event.TheVariants as event
+use Rattle.macsec_commands.specs.declared.event.End.TheVariants.{A, B}
+use Rattle.macsec_commands.specs.declared.event.Event.TheVariants as event
 use Rattle.macsec_lines.specs.declared.lines.Line.{Line}
 use Rattle.macsec_lines.specs.declared.lines.Line.TheVariants as line
 use Rattle.macsec_lines.specs.declared.lines.LineFault.TheVariants.{Word, Count, Hex, Number, Ends, LineLong}

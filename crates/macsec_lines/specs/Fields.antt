@@ -4,14 +4,14 @@ use Rattle.std.specs.Int.{w32, from_be_bytes}
 use Rattle.macsec_aes.specs.declared.Key.{Key}
 use Rattle.macsec_aes.specs.declared.Key.TheVariants.{K128, K256}
 use Rattle.macsec_tag.specs.declared.identifiers.Sci.{Sci}
-use Rattle.macsec_tx.specs.declared.TagForm.{TagForm}
-use Rattle.macsec_tx.specs.declared.TagForm.TheVariants as form
-use Rattle.macsec_rx.specs.declared.Mode.{Mode}
-use Rattle.macsec_rx.specs.declared.Mode.TheVariants as mode
+use Rattle.macsec_commands.specs.declared.form.TagForm.{TagForm}
+use Rattle.macsec_commands.specs.declared.form.TagForm.TheVariants as form
+use Rattle.macsec_commands.specs.declared.mode.Mode.{Mode}
+use Rattle.macsec_commands.specs.declared.mode.Mode.TheVariants as mode
 use Rattle.macsec_suite.specs.declared.suite.Suite.{Suite}
 use Rattle.macsec_suite.specs.declared.suite.Suite.TheVariants.{Gcm128, Gcm256, Xpn128, Xpn256}
-use Rattle.macsec_link.specs.declared.End.{End}
-use Rattle.macsec_link.specs.declared.End.TheVariants.{A, B}
+use Rattle.macsec_commands.specs.declared.event.End.{End}
+use Rattle.macsec_commands.specs.declared.event.End.TheVariants.{A, B}
 use Rattle.macsec_lines.specs.declared.lines.LineFault.{LineFault}
 use Rattle.macsec_lines.specs.declared.lines.LineFault.TheVariants.{Word}
 use Rattle.macsec_lines.specs.Numerals.{decimal_in, packet_number, octets_of, some_octets}

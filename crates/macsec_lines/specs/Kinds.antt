@@ -3,13 +3,13 @@ use Rattle.std.specs.Prelude.{ℕ, ◌-◌, ◌^◌, ◌==◌, replicate, List, 
 use Rattle.macsec_aes.specs.declared.Key.{Key}
 use Rattle.macsec_tag.specs.Limits.{max_frame_len}
 use Rattle.macsec_suite.specs.declared.key_row.NewKey.{NewKey}
-use Rattle.macsec_secy.specs.declared.command.Command.{Command}
-use Rattle.macsec_secy.specs.declared.command.Command.TheVariants as by
-use Rattle.macsec_secy.specs.Limits.{min_max_frame}
-use Rattle.macsec_secy.specs.declared.config.EndConfig.{EndConfig}
-use Rattle.macsec_secy.specs.Configs.{config_fault}
-use Rattle.macsec_link.specs.declared.End.{End}
-use Rattle.macsec_link.specs.declared.Event.TheVariants as event
+use Rattle.macsec_commands.specs.declared.command.Command.{Command}
+use Rattle.macsec_commands.specs.declared.command.Command.TheVariants as by
+use Rattle.macsec_commands.specs.Limits.{min_max_frame}
+use Rattle.macsec_commands.specs.declared.config.EndConfig.{EndConfig}
+use Rattle.macsec_commands.specs.Configs.{config_fault}
+use Rattle.macsec_commands.specs.declared.event.End.{End}
+use Rattle.macsec_commands.specs.declared.event.Event.TheVariants as event
 use Rattle.macsec_lines.specs.declared.lines.Line.{Line}
 use Rattle.macsec_lines.specs.declared.lines.Line.TheVariants as line
 use Rattle.macsec_lines.specs.declared.lines.LineFault.{LineFault}

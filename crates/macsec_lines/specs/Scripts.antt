@@ -1,7 +1,7 @@
 -- A script, and the configuration of one end: the lines that are not skipped, with their numbers, or the first fault.
 use Rattle.std.specs.Prelude.{ℕ, ◌+◌, ◌-◌, ◌||◌, List, [], ◌∷◌, length, Bool, nat_lt, if◌then◌else◌, Option, Some, None, Result, Ok, Err}
-use Rattle.macsec_link.specs.declared.End.TheVariants.{A, B}
-use Rattle.macsec_link.specs.declared.Event.TheVariants as event
+use Rattle.macsec_commands.specs.declared.event.End.TheVariants.{A, B}
+use Rattle.macsec_commands.specs.declared.event.Event.TheVariants as event
 use Rattle.macsec_lines.specs.declared.lines.Line.{Line}
 use Rattle.macsec_lines.specs.declared.lines.Line.TheVariants as line
 use Rattle.macsec_lines.specs.declared.lines.LineFault.{LineFault}

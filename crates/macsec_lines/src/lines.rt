@@ -19,7 +19,7 @@ use ends::end_line;
 use frames::frame_line;
 use keys::key_line;
 use link::link_line;
-use macsec_link::{End, EndConfig, Event};
+use macsec_commands::{End, EndConfig, Event};
 use options::{option_line, protection_line};
 use receive::{channel_line, receive_line};
 use showing::show_line;

@@ -10,7 +10,7 @@ ghost use Rattle.macsec_lines.specs.Readings.{Parses};
 use crate::faults::ScriptFault;
 use crate::lines::{Line, LineFault, parse_line};
 use crate::words::lines;
-use macsec_link::{End, Event};
+use macsec_commands::{End, Event};
 use std::alloc::Global;
 
 /// The octets of the longest script.

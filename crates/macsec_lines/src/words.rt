@@ -10,7 +10,7 @@ ghost use Rattle.macsec_lines.specs.Readings.{Reads};
 
 use crate::lines::LineFault;
 use hex::FromHexError;
-use macsec_link::{An, End, Frame, Key, Mode, Sci, Suite, TagForm};
+use macsec_commands::{An, End, Frame, Key, Mode, Sci, Suite, TagForm};
 use std::alloc::{AllocError, Global};
 
 /// The pieces of a text between its line feeds.

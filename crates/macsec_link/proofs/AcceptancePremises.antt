@@ -9,24 +9,24 @@ use Rattle.macsec_suite.specs.declared.suite.Suite.{Suite}
 use Rattle.macsec_suite.specs.declared.suite.Suite.TheVariants.{Gcm128, Xpn128}
 use Rattle.macsec_suite.specs.KeyRows.{InstalledKey, the_key}
 use Rattle.macsec_suite.specs.Suites.{is_xpn}
-use Rattle.macsec_tx.specs.declared.TagForm.TheVariants as form
+use Rattle.macsec_commands.specs.declared.form.TagForm.TheVariants as form
 use Rattle.macsec_tx.specs.declared.TxRow.{TxRow}
 use Rattle.macsec_tx.specs.Transmit.{iv_sent, parts_sent, tag_sent}
-use Rattle.macsec_rx.specs.declared.Mode.TheVariants.{Disabled}
+use Rattle.macsec_commands.specs.declared.mode.Mode.TheVariants.{Disabled}
 use Rattle.macsec_rx.specs.declared.RxRow.{RxRow}
 use Rattle.macsec_rx.specs.declared.Verdict.{Verdict}
 use Rattle.macsec_rx.specs.declared.Verdict.TheVariants.{BadTag, Late, NoSaError, Passed, Unchecked}
 use Rattle.macsec_rx.specs.Channels.{rx_row}
 use Rattle.macsec_rx.specs.Judge.{in_use, sci_of}
-use Rattle.macsec_secy.specs.declared.command.Command.TheVariants.{RxLow, RxOff, RxSc, Validate}
-use Rattle.macsec_secy.specs.declared.config.EndConfig.{EndConfig}
+use Rattle.macsec_commands.specs.declared.command.Command.TheVariants.{RxLow, RxOff, RxSc, Validate}
+use Rattle.macsec_commands.specs.declared.config.EndConfig.{EndConfig}
 use Rattle.macsec_secy.specs.Accepts.{CanAccept}
 use Rattle.macsec_secy.specs.State.{State, first_options, no_rx_counters, start, tx_options}
 use Rattle.macsec_secy.specs.Step.{frame_fault, sending_of}
-use Rattle.macsec_link.specs.declared.End.{End}
-use Rattle.macsec_link.specs.declared.End.TheVariants.{A, B}
-use Rattle.macsec_link.specs.declared.Event.{Event}
-use Rattle.macsec_link.specs.declared.Event.TheVariants.{Command, Deliver, Send}
+use Rattle.macsec_commands.specs.declared.event.End.{End}
+use Rattle.macsec_commands.specs.declared.event.End.TheVariants.{A, B}
+use Rattle.macsec_commands.specs.declared.event.Event.{Event}
+use Rattle.macsec_commands.specs.declared.event.Event.TheVariants.{Command, Deliver, Send}
 use Rattle.macsec_link.specs.declared.Outcome.{Outcome}
 use Rattle.macsec_link.specs.declared.Outcome.TheVariants.{Heard}
 use Rattle.macsec_link.specs.declared.WorldFault.{WorldFault}

@@ -25,9 +25,9 @@ use Rattle.macsec_rx.specs.declared.Verdict.TheVariants.{NotValid}
 use Rattle.macsec_rx.specs.Judge.{at_row, judge_opened}
 use Rattle.macsec_secy.specs.Reception.{judgement_of}
 use Rattle.macsec_secy.specs.State.{State, rx_options, start, tx_options}
-use Rattle.macsec_link.specs.declared.End.TheVariants.{A, B}
-use Rattle.macsec_link.specs.declared.Event.{Event}
-use Rattle.macsec_link.specs.declared.Event.TheVariants.{Deliver, Send}
+use Rattle.macsec_commands.specs.declared.event.End.TheVariants.{A, B}
+use Rattle.macsec_commands.specs.declared.event.Event.{Event}
+use Rattle.macsec_commands.specs.declared.event.Event.TheVariants.{Deliver, Send}
 use Rattle.macsec_ends.specs.Logs.{no_sent_logs}
 use Rattle.macsec_link.specs.Step.{world_step}
 use Rattle.macsec_link.specs.World.{WorldState}

@@ -12,14 +12,14 @@ use Rattle.macsec_tx.specs.Transmit.{parts_sent}
 use Rattle.macsec_rx.specs.declared.RxRow.{RxRow}
 use Rattle.macsec_rx.specs.declared.Verdict.TheVariants.{Passed}
 use Rattle.macsec_rx.specs.Judge.{Judgement, at_row}
-use Rattle.macsec_secy.specs.declared.config.EndConfig.{EndConfig}
+use Rattle.macsec_commands.specs.declared.config.EndConfig.{EndConfig}
 use Rattle.macsec_secy.specs.Accepts.{CanAccept}
 use Rattle.macsec_secy.specs.Sound as endpoint
 use Rattle.macsec_secy.specs.State.{State, tx_options}
 use Rattle.macsec_secy.specs.Step.{frame_fault, sending_of}
-use Rattle.macsec_link.specs.declared.End.{End}
-use Rattle.macsec_link.specs.declared.Event.{Event}
-use Rattle.macsec_link.specs.declared.Event.TheVariants.{Deliver, Send}
+use Rattle.macsec_commands.specs.declared.event.End.{End}
+use Rattle.macsec_commands.specs.declared.event.Event.{Event}
+use Rattle.macsec_commands.specs.declared.event.Event.TheVariants.{Deliver, Send}
 use Rattle.macsec_link.specs.Acceptance.{IsOnLink}
 use Rattle.macsec_link.specs.Faults.{fault_of}
 use Rattle.macsec_link.specs.Genuine.{IsGenuineAt, use_opened, use_opened_in}

@@ -9,10 +9,10 @@ use Rattle.macsec_suite.specs.declared.suite.Suite.TheVariants.{Gcm128, Xpn128}
 use Rattle.macsec_suite.specs.CipherUses.{CipherUse}
 use Rattle.macsec_suite.specs.Suites.{is_xpn}
 use Rattle.macsec_suite.specs.KeyRows.{InstalledKey}
-use Rattle.macsec_secy.specs.declared.config.EndConfig.{EndConfig}
-use Rattle.macsec_link.specs.declared.End.TheVariants.{A, B}
-use Rattle.macsec_link.specs.declared.Event.{Event}
-use Rattle.macsec_link.specs.declared.Event.TheVariants.{Send}
+use Rattle.macsec_commands.specs.declared.config.EndConfig.{EndConfig}
+use Rattle.macsec_commands.specs.declared.event.End.TheVariants.{A, B}
+use Rattle.macsec_commands.specs.declared.event.Event.{Event}
+use Rattle.macsec_commands.specs.declared.event.Event.TheVariants.{Send}
 use Rattle.macsec_link.specs.Keys.{AgreeOnKey, AgreeOnKeys, DifferInSsci}
 use Rattle.macsec_link.specs.Step.{world_after}
 use Rattle.macsec_link.specs.Trace.{trace_of}

@@ -17,9 +17,9 @@ use Rattle.macsec_secy.specs.Reception.{judgement_of}
 use Rattle.macsec_secy.specs.State.{State, rx_options, start, tx_options}
 use Rattle.macsec_secy.specs.Step.{frame_fault}
 use Rattle.macsec_tx.specs.Transmit.{iv_sent}
-use Rattle.macsec_link.specs.declared.End.TheVariants.{A, B}
-use Rattle.macsec_link.specs.declared.Event.{Event}
-use Rattle.macsec_link.specs.declared.Event.TheVariants.{Deliver, Send}
+use Rattle.macsec_commands.specs.declared.event.End.TheVariants.{A, B}
+use Rattle.macsec_commands.specs.declared.event.Event.{Event}
+use Rattle.macsec_commands.specs.declared.event.Event.TheVariants.{Deliver, Send}
 use Rattle.macsec_link.specs.Faults.{fault_of}
 use Rattle.macsec_link.specs.Step.{world_step}
 use Rattle.macsec_link.specs.World.{WorldState, frame_at}

@@ -8,18 +8,18 @@ use Rattle.std.proofs.lemmas.List.{take_all}
 use Rattle.macsec_gcm.specs.Gcm.{open_of}
 use Rattle.macsec_tag.specs.Table.{parts_at}
 use Rattle.macsec_suite.specs.KeyRows.{InstalledKey}
-use Rattle.macsec_rx.specs.declared.Mode.TheVariants.{Check, Strict}
+use Rattle.macsec_commands.specs.declared.mode.Mode.TheVariants.{Check, Strict}
 use Rattle.macsec_rx.specs.declared.Verdict.TheVariants.{Invalid, Passed}
 use Rattle.macsec_rx.specs.Judge.{at_row, judge_opened}
-use Rattle.macsec_secy.specs.declared.command.Command.TheVariants.{Validate}
-use Rattle.macsec_secy.specs.declared.config.EndConfig.{EndConfig}
-use Rattle.macsec_secy.specs.declared.command.Options.{Options}
+use Rattle.macsec_commands.specs.declared.command.Command.TheVariants.{Validate}
+use Rattle.macsec_commands.specs.declared.config.EndConfig.{EndConfig}
+use Rattle.macsec_secy.specs.declared.options.Options.{Options}
 use Rattle.macsec_secy.specs.Reception.{judgement_of}
 use Rattle.macsec_secy.specs.State.{State, first_options, no_rx_counters, rx_options}
-use Rattle.macsec_link.specs.declared.End.{End}
-use Rattle.macsec_link.specs.declared.End.TheVariants.{B}
-use Rattle.macsec_link.specs.declared.Event.{Event}
-use Rattle.macsec_link.specs.declared.Event.TheVariants.{Command, Deliver, Inject}
+use Rattle.macsec_commands.specs.declared.event.End.{End}
+use Rattle.macsec_commands.specs.declared.event.End.TheVariants.{B}
+use Rattle.macsec_commands.specs.declared.event.Event.{Event}
+use Rattle.macsec_commands.specs.declared.event.Event.TheVariants.{Command, Deliver, Inject}
 use Rattle.macsec_link.specs.Genuine.{IsGenuine, IsGenuineAt}
 use Rattle.macsec_link.specs.Keys.{AgreeOnKey, AgreeOnKeys}
 use Rattle.macsec_ends.specs.Logs.{no_sent_logs, sent_under}

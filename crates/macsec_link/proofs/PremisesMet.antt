@@ -10,17 +10,17 @@ use Rattle.macsec_suite.specs.declared.key_row.NewKey.{NewKey}
 use Rattle.macsec_suite.specs.declared.suite.Suite.TheVariants.{Gcm128, Xpn128}
 use Rattle.macsec_suite.specs.KeyRows.{InstalledKey}
 use Rattle.macsec_suite.specs.Suites.{is_xpn}
-use Rattle.macsec_rx.specs.declared.Mode.TheVariants.{Check}
+use Rattle.macsec_commands.specs.declared.mode.Mode.TheVariants.{Check}
 use Rattle.macsec_rx.specs.declared.RxRow.{RxRow}
 use Rattle.macsec_rx.specs.Judge.{Judgement}
-use Rattle.macsec_secy.specs.declared.command.Command.TheVariants.{RxDel, Validate}
-use Rattle.macsec_secy.specs.declared.config.EndConfig.{EndConfig}
+use Rattle.macsec_commands.specs.declared.command.Command.TheVariants.{RxDel, Validate}
+use Rattle.macsec_commands.specs.declared.config.EndConfig.{EndConfig}
 use Rattle.macsec_secy.specs.Reception.{judgement_of}
 use Rattle.macsec_secy.specs.State.{State}
-use Rattle.macsec_link.specs.declared.End.{End}
-use Rattle.macsec_link.specs.declared.End.TheVariants.{A, B}
-use Rattle.macsec_link.specs.declared.Event.{Event}
-use Rattle.macsec_link.specs.declared.Event.TheVariants.{Alter, Command, Deliver, Inject, Pad, Send, SendUncontrolled}
+use Rattle.macsec_commands.specs.declared.event.End.{End}
+use Rattle.macsec_commands.specs.declared.event.End.TheVariants.{A, B}
+use Rattle.macsec_commands.specs.declared.event.Event.{Event}
+use Rattle.macsec_commands.specs.declared.event.Event.TheVariants.{Alter, Command, Deliver, Inject, Pad, Send, SendUncontrolled}
 use Rattle.macsec_link.specs.Answers.{make_fault}
 use Rattle.macsec_link.specs.Genuine.{IsGenuineAt, use_opened_in}
 use Rattle.macsec_link.specs.Keys.{AgreeOnKey, AgreeOnKeys, DifferInSsci}

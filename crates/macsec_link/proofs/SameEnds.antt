@@ -1,7 +1,7 @@
 -- One end is the other, or not.
 use Rattle.std.proofs.Common.{◌≡◌, ◌⊎◌, inl, inr, Bool, true, false, refl}
-use Rattle.macsec_link.specs.declared.End.{End}
-use Rattle.macsec_link.specs.declared.End.TheVariants.{A, B}
+use Rattle.macsec_commands.specs.declared.event.End.{End}
+use Rattle.macsec_commands.specs.declared.event.End.TheVariants.{A, B}
 use Rattle.macsec_link.specs.World.{other_end}
 use Rattle.macsec_link.specs.Trace.{same_end}
 

@@ -9,7 +9,8 @@ use Rattle.macsec_gcm.specs.Octets.{same_octets}
 use Rattle.macsec_tag.specs.declared.identifiers.Sci.{Sci}
 use Rattle.macsec_rx.specs.Channels.{same_sci}
 use Rattle.macsec_rx.specs.Commands.{has_channel}
-use Rattle.macsec_rx.specs.Rows.{AreScis, IsSci}
+use Rattle.macsec_rx.specs.Rows.{AreScis}
+use Rattle.macsec_commands.specs.Scis.{IsSci}
 
 same_octets-refl : (xs : List ℕ) → same_octets xs xs ≡ true
 same_octets-refl [] = refl

@@ -25,8 +25,8 @@ use Rattle.macsec_suite.specs.KeyRows.{InstalledKey, the_key}
 use Rattle.macsec_suite.specs.CipherUses.{CipherUse, cipher_use, plaintext_of_use}
 use Rattle.macsec_rx.specs.declared.RxRow.{RxRow}
 use Rattle.macsec_rx.specs.declared.RxOptions.{RxOptions}
-use Rattle.macsec_rx.specs.declared.Mode.{Mode}
-use Rattle.macsec_rx.specs.declared.Mode.TheVariants.{Disabled, Check, Strict}
+use Rattle.macsec_commands.specs.declared.mode.Mode.{Mode}
+use Rattle.macsec_commands.specs.declared.mode.Mode.TheVariants.{Disabled, Check, Strict}
 use Rattle.macsec_rx.specs.declared.Verdict.{Verdict}
 use Rattle.macsec_rx.specs.declared.Verdict.TheVariants.{BadTag, Reserved, NoSa, NoSaError, Late, NotValid, Unchecked, Delayed, Invalid, Passed}
 use Rattle.macsec_rx.specs.Channels.{Channels, is_at, with_rx, numbers_of, with_numbers}

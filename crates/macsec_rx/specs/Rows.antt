@@ -2,15 +2,11 @@
 use Rattle.std.specs.Prelude.{◌≡◌, ◌^◌, ◌<◌, ◌≤◌, List, [], ◌∷◌, length, None, true, false}
 use Rattle.macsec_tag.specs.declared.identifiers.Sci.{Sci}
 use Rattle.macsec_tag.specs.Laws.{AreOctets}
+use Rattle.macsec_commands.specs.Scis.{IsSci}
 use Rattle.macsec_rx.specs.declared.RxRow.{RxRow}
 use Rattle.macsec_rx.specs.Limits.{max_channel_count, max_association_count}
 use Rattle.macsec_rx.specs.Channels.{Channels, rx_row}
 use Rattle.macsec_rx.specs.Commands.{has_channel}
-
--- an SCI is 8 octets
-pub record IsSci (sci : Sci) : Type 0 where
-  pub count : length sci.0 ≡ 8
-  pub octets : AreOctets sci.0
 
 -- an association is of a channel, its number is 0 to 3, its key's number is an octet, its SSCI has 32
 -- bits, its next packet number is at most one past the last of 64 bits, and its lowest acceptable one is

@@ -3,7 +3,8 @@
 ghost use Rattle.std.specs.Prelude.{◌≡◌, ◌&&◌, length, ◌≤◌, true, map, slice_get, false, IfOk, OnErr, OnOk, Some};
 ghost use Rattle.macsec_suite.specs.Refusals.{first_refusal, refusal_of};
 ghost use Rattle.macsec_rx.specs.Channels.{at_place, is_at, no_channels, rx_row, same_sci, with_rx};
-ghost use Rattle.macsec_rx.specs.Rows.{AreChannels, IsSci};
+ghost use Rattle.macsec_rx.specs.Rows.{AreChannels};
+ghost use Rattle.macsec_commands.specs.Scis.{IsSci};
 ghost use Rattle.macsec_rx.specs.Judge.{in_use, only_channel, port_of, row_accepting, sci_of};
 ghost use Rattle.macsec_rx.specs.Commands.{HaveRxKeys, channels_narrowed, has_channel, row_narrowed, row_raised, row_switched, rx_low_refusals, rx_row_refusals, rx_sa_refusals, rx_sc_del_refusals, rx_sc_refusals, rx_uses, with_channel, with_rx_low, with_rx_on, with_rx_sa, without_channel, without_rx};
 

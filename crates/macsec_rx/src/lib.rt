@@ -11,20 +11,10 @@ mod judging;
 
 pub use channels::RxChannels;
 use macsec_pn::RxNumbers;
+pub use macsec_commands::Mode;
 use macsec_suite::Suite;
 use macsec_tag::{An, Sci};
 use std::fmt;
-
-/// How received frames are validated (10.6).
-#[derive(Clone, Copy, PartialEq, Eq, Debug)]
-pub enum Mode {
-    /// No frame is validated.
-    Disabled,
-    /// Frames are validated; those that are not valid are delivered too, unless their C bit is set.
-    Check,
-    /// Frames are validated; the valid ones alone are delivered.
-    Strict,
-}
 
 /// What becomes of a received frame, named as its counter is, without InPkts.
 #[derive(Clone, Copy, PartialEq, Eq, Debug)]

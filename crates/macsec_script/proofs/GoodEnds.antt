@@ -1,9 +1,9 @@
 -- The ends of a script without fault can be made.
 use Rattle.std.proofs.Common.{◌≡◌, ℕ, ◌+◌, List, [], ◌∷◌, refl, sym, ap, ◌∙◌, subst}
 use Rattle.std.specs.Prelude.{Bool, true, false, cond, not, is_some, Option, Some, None, Result, Ok, Err, IfSome, ◌==◌}
-use Rattle.macsec_secy.specs.declared.fault.NewFault.{NewFault}
-use Rattle.macsec_secy.specs.Configs.{config_fault}
-use Rattle.macsec_link.specs.declared.End.TheVariants.{A, B}
+use Rattle.macsec_commands.specs.declared.fault.NewFault.{NewFault}
+use Rattle.macsec_commands.specs.Configs.{config_fault}
+use Rattle.macsec_commands.specs.declared.event.End.TheVariants.{A, B}
 use Rattle.macsec_link.specs.Answers.{make_fault, make_fault_of}
 use Rattle.macsec_lines.specs.declared.lines.Line.{Line}
 use Rattle.macsec_lines.specs.declared.lines.Line.TheVariants as line

@@ -1,7 +1,7 @@
 -- What a script prints.
 use Rattle.std.specs.Prelude.{ℕ, List, [], ◌∷◌, ◌++◌, slice_get, Option, Some, None, Result, Ok}
-use Rattle.macsec_secy.specs.declared.config.EndConfig.{EndConfig}
-use Rattle.macsec_link.specs.declared.End.TheVariants.{A, B}
+use Rattle.macsec_commands.specs.declared.config.EndConfig.{EndConfig}
+use Rattle.macsec_commands.specs.declared.event.End.TheVariants.{A, B}
 use Rattle.macsec_link.specs.declared.Outcome.{Outcome}
 use Rattle.macsec_link.specs.declared.Outcome.TheVariants.{Made}
 use Rattle.macsec_link.specs.declared.WorldFault.{WorldFault}

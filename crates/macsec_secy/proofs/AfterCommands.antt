@@ -7,8 +7,8 @@ use Rattle.macsec_suite.specs.KeyRows.{InstalledKey, key_row, keys_retiring, key
 use Rattle.macsec_suite.specs.Refusals.{RefusalLine, first_refusal, is_number_used}
 use Rattle.macsec_tx.specs.declared.TxRow.{TxRow}
 use Rattle.macsec_tx.specs.Commands.{tx_sa_refusals, tx_uses}
-use Rattle.macsec_secy.specs.declared.command.Command.{Command}
-use Rattle.macsec_secy.specs.declared.command.Command.TheVariants.{Protect, Validate, Replay, Tag, Key, Retire, TxSa, TxOn, TxOff, TxDel, RxSc, RxScDel, RxSa, RxOn, RxOff, RxLow, RxDel}
+use Rattle.macsec_commands.specs.declared.command.Command.{Command}
+use Rattle.macsec_commands.specs.declared.command.Command.TheVariants.{Protect, Validate, Replay, Tag, Key, Retire, TxSa, TxOn, TxOff, TxDel, RxSc, RxScDel, RxSa, RxOn, RxOff, RxLow, RxDel}
 use Rattle.macsec_secy.specs.State.{State}
 use Rattle.macsec_secy.specs.Commands.{effect, refusal}
 use Rattle.macsec_secy.specs.Agrees.{HaveUnusedNext, first_unused}

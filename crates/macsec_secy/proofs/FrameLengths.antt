@@ -17,8 +17,8 @@ use Rattle.macsec_suite.specs.declared.refusal.Refusal.{Refusal}
 use Rattle.macsec_suite.specs.KeyRows.{InstalledKey, the_key}
 use Rattle.macsec_suite.specs.Parts.{aad_and_plaintext, clear_length}
 use Rattle.macsec_suite.specs.Suites.{is_xpn, iv_of, last_of}
-use Rattle.macsec_tx.specs.declared.TagForm.{TagForm}
-use Rattle.macsec_tx.specs.declared.TagForm.TheVariants as form
+use Rattle.macsec_commands.specs.declared.form.TagForm.{TagForm}
+use Rattle.macsec_commands.specs.declared.form.TagForm.TheVariants as form
 use Rattle.macsec_tx.specs.declared.TxOptions.{TxOptions}
 use Rattle.macsec_tx.specs.declared.TxRow.{TxRow}
 use Rattle.macsec_tx.specs.Laws.{CanBeSent, IsReadAsSent}

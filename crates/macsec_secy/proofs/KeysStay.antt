@@ -7,8 +7,8 @@ use Rattle.macsec_suite.specs.declared.refusal.Refusal.{Refusal}
 use Rattle.macsec_suite.specs.KeyRows.{AreKeyRows, InstalledKey, at_number, key_row, keys_noting, no_key, retired_row, row_noting, the_key}
 use Rattle.macsec_tx.specs.declared.TxRow.{TxRow}
 use Rattle.macsec_tx.specs.Transmit.{keys_after}
-use Rattle.macsec_secy.specs.declared.command.Command.{Command}
-use Rattle.macsec_secy.specs.declared.command.Command.TheVariants.{Protect, Validate, Replay, Tag, Key, Retire, TxSa, TxOn, TxOff, TxDel, RxSc, RxScDel, RxSa, RxOn, RxOff, RxLow, RxDel}
+use Rattle.macsec_commands.specs.declared.command.Command.{Command}
+use Rattle.macsec_commands.specs.declared.command.Command.TheVariants.{Protect, Validate, Replay, Tag, Key, Retire, TxSa, TxOn, TxOff, TxDel, RxSc, RxScDel, RxSa, RxOn, RxOff, RxLow, RxDel}
 use Rattle.macsec_secy.specs.declared.fault.FrameFault.{FrameFault}
 use Rattle.macsec_secy.specs.Agrees.{HasUnusedNext}
 use Rattle.macsec_secy.specs.Commands.{effect, refusal, unless_refused}

@@ -4,10 +4,10 @@ use Rattle.std.specs.Prelude.{if◌then◌else◌, Option, Some, None}
 use Rattle.std.proofs.lemmas.Bool.Decides.{nat_tests}
 use Rattle.std.proofs.Common.{arith}
 use Rattle.macsec_tag.specs.Limits.{max_frame_len}
-use Rattle.macsec_secy.specs.declared.config.EndConfig.{EndConfig}
-use Rattle.macsec_secy.specs.declared.fault.NewFault.{NewFault}
-use Rattle.macsec_secy.specs.Limits.{min_max_frame}
-use Rattle.macsec_secy.specs.Configs.{config_fault, is_bad_limit}
+use Rattle.macsec_commands.specs.declared.config.EndConfig.{EndConfig}
+use Rattle.macsec_commands.specs.declared.fault.NewFault.{NewFault}
+use Rattle.macsec_commands.specs.Limits.{min_max_frame}
+use Rattle.macsec_commands.specs.Configs.{config_fault, is_bad_limit}
 
 within : (n : ℕ) → is_bad_limit n ≡ false → (min_max_frame ≤ n) × (n ≤ max_frame_len)
 within n h = (grind (arith, nat_tests, h), grind (arith, nat_tests, h))

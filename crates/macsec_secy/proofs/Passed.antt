@@ -6,8 +6,8 @@ use Rattle.macsec_tag.specs.Frame.{MpduParts}
 use Rattle.macsec_pn.specs.Numbers.{is_late, recovered_number}
 use Rattle.macsec_suite.specs.Suites.{is_xpn}
 use Rattle.macsec_suite.specs.KeyRows.{InstalledKey, the_key}
-use Rattle.macsec_rx.specs.declared.Mode.{Mode}
-use Rattle.macsec_rx.specs.declared.Mode.TheVariants.{Disabled, Check, Strict}
+use Rattle.macsec_commands.specs.declared.mode.Mode.{Mode}
+use Rattle.macsec_commands.specs.declared.mode.Mode.TheVariants.{Disabled, Check, Strict}
 use Rattle.macsec_rx.specs.declared.RxOptions.{RxOptions}
 use Rattle.macsec_rx.specs.declared.RxRow.{RxRow}
 use Rattle.macsec_rx.specs.declared.Verdict.TheVariants.{Passed}

@@ -8,8 +8,8 @@ use Rattle.macsec_rx.specs.declared.RxRow.{RxRow}
 use Rattle.macsec_rx.specs.Channels.{at_place, is_at, rx_row, same_sci, with_rx}
 use Rattle.macsec_rx.specs.Commands.{row_narrowed, row_raised, row_switched}
 use Rattle.macsec_rx.specs.Judge.{accepted_number, row_accepting, rows_accepting}
-use Rattle.macsec_secy.specs.declared.command.Command.{Command}
-use Rattle.macsec_secy.specs.declared.command.Command.TheVariants.{Protect, Validate, Replay, Tag, Key, Retire, TxSa, TxOn, TxOff, TxDel, RxSc, RxScDel, RxSa, RxOn, RxOff, RxLow, RxDel}
+use Rattle.macsec_commands.specs.declared.command.Command.{Command}
+use Rattle.macsec_commands.specs.declared.command.Command.TheVariants.{Protect, Validate, Replay, Tag, Key, Retire, TxSa, TxOn, TxOff, TxDel, RxSc, RxScDel, RxSa, RxOn, RxOff, RxLow, RxDel}
 use Rattle.macsec_secy.specs.declared.fault.FrameFault.{FrameFault}
 use Rattle.macsec_secy.specs.Commands.{effect, refusal, unless_refused}
 use Rattle.macsec_secy.specs.Kept.{IsAbove, RxRowStays, deletes}

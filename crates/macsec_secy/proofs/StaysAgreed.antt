@@ -8,10 +8,10 @@ use Rattle.macsec_tx.specs.Transmit.{Sending, row_on}
 use Rattle.macsec_rx.specs.declared.RxRow.{RxRow}
 use Rattle.macsec_rx.specs.Channels.{is_at, same_sci}
 use Rattle.macsec_rx.specs.Judge.{Judgement}
-use Rattle.macsec_secy.specs.declared.config.EndConfig.{EndConfig}
+use Rattle.macsec_commands.specs.declared.config.EndConfig.{EndConfig}
 use Rattle.macsec_secy.specs.declared.fault.FrameFault.{FrameFault}
-use Rattle.macsec_secy.specs.declared.command.Command.{Command}
-use Rattle.macsec_secy.specs.declared.command.Command.TheVariants.{Protect, Validate, Replay, Tag, Key, Retire, TxSa, TxOn, TxOff, TxDel, RxSc, RxScDel, RxSa, RxOn, RxOff, RxLow, RxDel}
+use Rattle.macsec_commands.specs.declared.command.Command.{Command}
+use Rattle.macsec_commands.specs.declared.command.Command.TheVariants.{Protect, Validate, Replay, Tag, Key, Retire, TxSa, TxOn, TxOff, TxDel, RxSc, RxScDel, RxSa, RxOn, RxOff, RxLow, RxDel}
 use Rattle.macsec_secy.specs.State.{State, start, tx_options}
 use Rattle.macsec_secy.specs.Agrees.{Agrees, HasOtherSsci}
 use Rattle.macsec_secy.specs.Commands.{effect, refusal, refusals, unless_refused}

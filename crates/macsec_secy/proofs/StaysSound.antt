@@ -17,13 +17,14 @@ use Rattle.macsec_tx.specs.Rows.{AreTxRows}
 use Rattle.macsec_rx.specs.declared.RxRow.{RxRow}
 use Rattle.macsec_rx.specs.Channels.{Channels, same_sci}
 use Rattle.macsec_rx.specs.Judge.{Judgement}
-use Rattle.macsec_rx.specs.Rows.{AreChannels, IsSci}
+use Rattle.macsec_rx.specs.Rows.{AreChannels}
+use Rattle.macsec_commands.specs.Scis.{IsSci}
 use Rattle.macsec_secy.specs.declared.counters.ChannelCounters.{ChannelCounters}
-use Rattle.macsec_secy.specs.declared.config.EndConfig.{EndConfig}
-use Rattle.macsec_secy.specs.declared.command.Command.{Command}
-use Rattle.macsec_secy.specs.declared.command.Command.TheVariants.{Protect, Validate, Replay, Tag, Key, Retire, TxSa, TxOn, TxOff, TxDel, RxSc, RxScDel, RxSa, RxOn, RxOff, RxLow, RxDel}
+use Rattle.macsec_commands.specs.declared.config.EndConfig.{EndConfig}
+use Rattle.macsec_commands.specs.declared.command.Command.{Command}
+use Rattle.macsec_commands.specs.declared.command.Command.TheVariants.{Protect, Validate, Replay, Tag, Key, Retire, TxSa, TxOn, TxOff, TxDel, RxSc, RxScDel, RxSa, RxOn, RxOff, RxLow, RxDel}
 use Rattle.macsec_secy.specs.State.{State, no_rx_counters, start}
-use Rattle.macsec_secy.specs.Configs.{config_fault}
+use Rattle.macsec_commands.specs.Configs.{config_fault}
 use Rattle.macsec_secy.specs.Commands.{effect, refusal, refusals}
 use Rattle.macsec_secy.specs.declared.fault.FrameFault.{FrameFault}
 use Rattle.macsec_secy.specs.Reception.{judgement_of, state_after_receiving}

@@ -4,7 +4,7 @@ use Rattle.std.specs.Prelude.{option_map, Option, None}
 use Rattle.macsec_tag.specs.declared.identifiers.Sci.{Sci}
 use Rattle.macsec_tag.specs.Frame.{MpduParts}
 use Rattle.macsec_tag.specs.Table.{reading, tagged}
-use Rattle.macsec_rx.specs.declared.Mode.{Mode}
+use Rattle.macsec_commands.specs.declared.mode.Mode.{Mode}
 use Rattle.macsec_rx.specs.declared.RxOptions.{RxOptions}
 use Rattle.macsec_rx.specs.Channels.{Channels}
 use Rattle.macsec_rx.specs.declared.Verdict.{Verdict}

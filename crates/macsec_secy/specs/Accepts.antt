@@ -10,7 +10,7 @@ use Rattle.macsec_tx.specs.declared.TxRow.{TxRow}
 use Rattle.macsec_tag.specs.Limits.{max_frame_len}
 use Rattle.macsec_tx.specs.Transmit.{parts_sent, use_sent}
 use Rattle.macsec_rx.specs.declared.RxRow.{RxRow}
-use Rattle.macsec_rx.specs.declared.Mode.TheVariants.{Disabled}
+use Rattle.macsec_commands.specs.declared.mode.Mode.TheVariants.{Disabled}
 use Rattle.macsec_rx.specs.declared.Verdict.TheVariants.{Passed}
 use Rattle.macsec_rx.specs.Judge.{at_row, in_use, sci_of, use_to_open}
 use Rattle.macsec_secy.specs.Reception.{judgement_of}

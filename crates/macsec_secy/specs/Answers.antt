@@ -2,10 +2,10 @@
 use Rattle.std.specs.Prelude.{◌≡◌, ℕ, List, Option, Some, None, Result, Ok, Err, option_map, find}
 use Rattle.std.specs.Borrow.{Bor}
 use Rattle.macsec_suite.specs.declared.refusal.Refusal.{Refusal}
-use Rattle.macsec_secy.specs.declared.config.EndConfig.{EndConfig}
+use Rattle.macsec_commands.specs.declared.config.EndConfig.{EndConfig}
 use Rattle.macsec_secy.specs.declared.fault.FrameFault.{FrameFault}
-use Rattle.macsec_secy.specs.declared.fault.NewFault.{NewFault}
-use Rattle.macsec_secy.specs.declared.fault.NewFault.TheVariants.{Memory, MaxFrame, SciForm}
+use Rattle.macsec_commands.specs.declared.fault.NewFault.{NewFault}
+use Rattle.macsec_commands.specs.declared.fault.NewFault.TheVariants.{Memory, MaxFrame, SciForm}
 use Rattle.macsec_secy.specs.declared.answers.Received.{Received}
 use Rattle.macsec_secy.specs.declared.answers.Sent.{Sent}
 use Rattle.macsec_secy.specs.declared.answers.Sent.TheVariants.{Link, Dropped}
@@ -16,7 +16,7 @@ use Rattle.macsec_rx.specs.Channels.{same_sci}
 use Rattle.macsec_secy.specs.declared.counters.RxCounters.{RxCounters}
 use Rattle.macsec_secy.specs.declared.counters.ChannelCounters.{ChannelCounters}
 use Rattle.macsec_secy.specs.State.{State, start}
-use Rattle.macsec_secy.specs.Configs.{config_fault}
+use Rattle.macsec_commands.specs.Configs.{config_fault}
 use Rattle.macsec_secy.specs.Step.{Output, done, refused, leaves, dropped_no_sa, dropped_too_long, received, fault}
 
 -- of `command`

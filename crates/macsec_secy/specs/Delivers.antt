@@ -5,7 +5,7 @@ use Rattle.macsec_tag.specs.Table.{Reading, tagged, reading}
 use Rattle.macsec_pn.specs.Numbers.{recovered_number}
 use Rattle.macsec_suite.specs.KeyRows.{the_key}
 use Rattle.macsec_suite.specs.Suites.{is_xpn}
-use Rattle.macsec_rx.specs.declared.Mode.TheVariants.{Strict}
+use Rattle.macsec_commands.specs.declared.mode.Mode.TheVariants.{Strict}
 use Rattle.macsec_rx.specs.declared.RxRow.{RxRow}
 use Rattle.macsec_rx.specs.Channels.{rx_row}
 use Rattle.macsec_rx.specs.Judge.{in_use, opened_frame, plaintext_of, rows_after, sci_of}

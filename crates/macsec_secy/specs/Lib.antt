@@ -1,5 +1,3 @@
-pub mod Limits
-pub mod Configs
 pub mod FaultNumbers
 pub mod State
 pub mod Agrees

@@ -8,13 +8,14 @@ use Rattle.macsec_tag.specs.Limits.{max_frame_len}
 use Rattle.macsec_tx.specs.Commands.{HaveKeys}
 use Rattle.macsec_tx.specs.Rows.{AreTxRows}
 use Rattle.macsec_rx.specs.Commands.{HaveRxKeys}
-use Rattle.macsec_rx.specs.Rows.{AreChannels, IsSci}
+use Rattle.macsec_rx.specs.Rows.{AreChannels}
+use Rattle.macsec_commands.specs.Scis.{IsSci}
 use Rattle.macsec_secy.specs.declared.counters.Counters.{Counters}
 use Rattle.macsec_secy.specs.declared.counters.TxCounters.{TxCounters}
 use Rattle.macsec_secy.specs.declared.counters.RxCounters.{RxCounters}
 use Rattle.macsec_secy.specs.declared.counters.ChannelCounters.{ChannelCounters}
 use Rattle.macsec_secy.specs.Agrees.{Agrees}
-use Rattle.macsec_secy.specs.Limits.{min_max_frame}
+use Rattle.macsec_commands.specs.Limits.{min_max_frame}
 use Rattle.macsec_secy.specs.State.{State}
 
 abbrev pub sci_of_counters : ChannelCounters → Sci

@@ -3,12 +3,12 @@ use Rattle.std.specs.Prelude.{List, [], length, nat_lt, Bool, true}
 use Rattle.macsec_suite.specs.KeyRows.{InstalledKey}
 use Rattle.macsec_tx.specs.declared.TxRow.{TxRow}
 use Rattle.macsec_tx.specs.declared.TxOptions.{TxOptions}
-use Rattle.macsec_secy.specs.declared.config.EndConfig.{EndConfig}
-use Rattle.macsec_rx.specs.declared.Mode.TheVariants.{Strict}
+use Rattle.macsec_commands.specs.declared.config.EndConfig.{EndConfig}
+use Rattle.macsec_commands.specs.declared.mode.Mode.TheVariants.{Strict}
 use Rattle.macsec_rx.specs.declared.RxOptions.{RxOptions}
 use Rattle.macsec_rx.specs.Channels.{Channels, no_channels}
 use Rattle.macsec_tag.specs.declared.identifiers.Sci.{Sci}
-use Rattle.macsec_secy.specs.declared.command.Options.{Options}
+use Rattle.macsec_secy.specs.declared.options.Options.{Options}
 use Rattle.macsec_secy.specs.declared.counters.Counters.{Counters}
 use Rattle.macsec_secy.specs.declared.counters.TxCounters.{TxCounters}
 use Rattle.macsec_secy.specs.declared.counters.RxCounters.{RxCounters}

@@ -8,7 +8,7 @@ use Rattle.macsec_rx.specs.declared.Verdict.{Verdict}
 use Rattle.macsec_rx.specs.Judge.{Judgement, place_of}
 use Rattle.macsec_secy.specs.declared.fault.FrameFault.{FrameFault}
 use Rattle.macsec_secy.specs.declared.fault.FrameFault.TheVariants.{Short, Long}
-use Rattle.macsec_secy.specs.declared.command.Command.{Command}
+use Rattle.macsec_commands.specs.declared.command.Command.{Command}
 use Rattle.macsec_secy.specs.State.{State, tx_options}
 use Rattle.macsec_secy.specs.Counting.{count_leaving, count_protected}
 use Rattle.macsec_secy.specs.Commands.{refusal, state_after_command}

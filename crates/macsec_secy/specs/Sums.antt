@@ -5,7 +5,7 @@ use Rattle.std.specs.Prelude.{◌≡◌, ◌+◌, ◌%◌, ◌^◌, ℕ, Bool, f
 use Rattle.std.specs.List.{sum_by}
 use Rattle.macsec_secy.specs.declared.counters.Counters.{Counters}
 use Rattle.macsec_secy.specs.declared.counters.RxCounters.{RxCounters}
-use Rattle.macsec_secy.specs.declared.command.Command.TheVariants.{RxScDel}
+use Rattle.macsec_commands.specs.declared.command.Command.TheVariants.{RxScDel}
 use Rattle.macsec_secy.specs.State.{State}
 use Rattle.macsec_secy.specs.Counting.{plus}
 use Rattle.macsec_secy.specs.Commands.{refusal}

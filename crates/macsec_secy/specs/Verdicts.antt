@@ -1,7 +1,7 @@
 -- What the verdict and the mode of validation say of the step that decided.
 use Rattle.std.specs.Prelude.{ℕ, List, map, Bool, true, false, not, if◌then◌else◌, Option, Some, None}
 use Rattle.macsec_tag.specs.declared.identifiers.Sci.{Sci}
-use Rattle.macsec_rx.specs.declared.Mode.{Mode}
+use Rattle.macsec_commands.specs.declared.mode.Mode.{Mode}
 use Rattle.macsec_rx.specs.declared.Verdict.{Verdict}
 use Rattle.macsec_rx.specs.declared.Verdict.TheVariants.{Untagged, NoTag, BadTag, Reserved, NoSa, NoSaError, Late, NotValid, Unchecked, Delayed, Invalid, Passed}
 use Rattle.macsec_rx.specs.Judge.{is_disabled, is_strict}

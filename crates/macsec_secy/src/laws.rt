@@ -4,7 +4,7 @@ ghost use Rattle.std.specs.Prelude.{ℕ, List};
 ghost use Rattle.macsec_tag.specs.declared.identifiers.Sci.{Sci};
 ghost use Rattle.macsec_tx.specs.declared.TxRow.{TxRow};
 ghost use Rattle.macsec_rx.specs.declared.RxRow.{RxRow};
-ghost use Rattle.macsec_secy.specs.declared.config.EndConfig.{EndConfig};
+ghost use Rattle.macsec_commands.specs.declared.config.EndConfig.{EndConfig};
 ghost use Rattle.macsec_secy.specs.State.{State, start};
 ghost use Rattle.macsec_secy.specs.Agrees.{Agrees};
 ghost use Rattle.macsec_secy.specs.Sound.{IsSound};

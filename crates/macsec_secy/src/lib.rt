@@ -10,32 +10,31 @@ ghost use Rattle.macsec_secy.specs.Sound.{IsSound};
 ghost use Rattle.macsec_secy.specs.Sums.{AddsFrames};
 
 mod answers;
-mod command;
-mod config;
 mod counters;
 mod counting;
 mod fault;
 pub mod laws;
 mod managing;
+mod options;
 mod receiving;
 mod showing;
 
 pub use answers::{DropReason, Received, Sent};
 use arrayvec::ArrayVec;
-pub use command::{Command, Options};
-pub use config::{EndConfig, MIN_MAX_FRAME};
 pub use counters::{ChannelCounters, Counters, RxCounters, TxCounters};
-pub use fault::{FrameFault, NewFault};
-pub use macsec_aes::Key;
+pub use fault::FrameFault;
+pub use macsec_commands::{
+    An, Command, EndConfig, Key, MAX_FRAME_LEN, MIN_MAX_FRAME, Mode, NewFault, NewKey, Sci, Suite, TagForm,
+};
 use macsec_rx::RxChannels;
-pub use macsec_rx::{Mode, RxRow, Verdict};
+pub use macsec_rx::{RxRow, Verdict};
 use macsec_suite::KeyTable;
-pub use macsec_suite::{NewKey, Refusal, Suite};
+pub use macsec_suite::Refusal;
 use macsec_tag::reading::read;
 use macsec_tag::{ADDRESSES_LENGTH, MIN_FRAME_LEN, Read};
-pub use macsec_tag::{An, MAX_FRAME_LEN, Sci};
-pub use macsec_tx::{TagForm, TxRow};
+pub use macsec_tx::TxRow;
 use macsec_tx::{TxChannel, TxResult};
+pub use options::Options;
 use receiving::{
     count_at_row, delivered_octets, delivered_untagged, sci_and_number, verdict_on_untagged,
 };

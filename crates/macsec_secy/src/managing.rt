@@ -3,14 +3,13 @@
 ghost use Rattle.std.specs.Prelude.{◌≡◌};
 ghost use Rattle.macsec_suite.specs.Refusals.{holds_of, refusal_of};
 ghost use Rattle.macsec_tx.specs.Transmit.{row_on};
-ghost use Rattle.macsec_rx.specs.Rows.{IsSci};
-ghost use Rattle.macsec_secy.specs.declared.command.Command.TheVariants as by;
+ghost use Rattle.macsec_commands.specs.declared.command.Command.TheVariants as by;
 ghost use Rattle.macsec_secy.specs.State.{tx_options};
-ghost use Rattle.macsec_secy.specs.Configs.{is_unfit};
 ghost use Rattle.macsec_secy.specs.Sound.{IsSound};
 ghost use Rattle.macsec_secy.specs.Commands.{refusal, state_after_command, uses};
 
 use crate::{Mode, Refusal, Sci, Secy, TagForm};
+use macsec_commands::is_unfit;
 use macsec_tx::TxOptions;
 
 impl Secy {
@@ -80,17 +79,5 @@ impl Secy {
             max_frame: self.config.max_frame,
             many: self.rx.channel(1).is_some(),
         }
-    }
-}
-
-/// Does the tag form require a port other than the SCI's?
-pub(crate) fn is_unfit(form: TagForm, sci: Sci) -> bool
-    ensures unfit { result ≡ is_unfit form sci }
-    ensures sci { IsSci sci }
-{
-    match form {
-        TagForm::Auto | TagForm::Sci => false,
-        TagForm::Es => sci.0[6] != 0 || sci.0[7] != 1,
-        TagForm::Scb => sci.0[6] != 0 || sci.0[7] != 0,
     }
 }

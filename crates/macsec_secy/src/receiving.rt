@@ -2,7 +2,7 @@
 
 ghost use Rattle.std.specs.Prelude.{◌≡◌, ◌+◌, ◌≤◌, map, length, option_map, IfSome};
 ghost use Rattle.macsec_suite.specs.Refusals.{refusal_of};
-ghost use Rattle.macsec_secy.specs.declared.command.Command.TheVariants as by;
+ghost use Rattle.macsec_commands.specs.declared.command.Command.TheVariants as by;
 ghost use Rattle.macsec_secy.specs.State.{no_rx_counters, rx_options};
 ghost use Rattle.macsec_rx.specs.Judge.{octets_at};
 ghost use Rattle.macsec_secy.specs.Counting.{count_at, count_in_channel, count_packet};

@@ -14,8 +14,8 @@ use Rattle.macsec_suite.specs.Keys.{PreparedKey}
 use Rattle.macsec_suite.specs.KeyRows.{InstalledKey, prepared_key}
 use Rattle.macsec_suite.specs.Parts.{aad_and_plaintext, clear_length}
 use Rattle.macsec_suite.specs.Suites.{iv_of}
-use Rattle.macsec_tx.specs.declared.TagForm.{TagForm}
-use Rattle.macsec_tx.specs.declared.TagForm.TheVariants as form
+use Rattle.macsec_commands.specs.declared.form.TagForm.{TagForm}
+use Rattle.macsec_commands.specs.declared.form.TagForm.TheVariants as form
 use Rattle.macsec_tx.specs.declared.TxOptions.{TxOptions}
 use Rattle.macsec_tx.specs.declared.TxRow.{TxRow}
 use Rattle.macsec_tx.specs.Tags.{is_own, sci_sent, sl_of}

@@ -2,8 +2,8 @@
 use Rattle.std.specs.Prelude.{ℕ, List, take, Bool, false, nat_lt, if◌then◌else◌, Option, Some, None}
 use Rattle.macsec_gcm.specs.Octets.{same_octets}
 use Rattle.macsec_tag.specs.declared.identifiers.Sci.{Sci}
-use Rattle.macsec_tx.specs.declared.TagForm.{TagForm}
-use Rattle.macsec_tx.specs.declared.TagForm.TheVariants as form
+use Rattle.macsec_commands.specs.declared.form.TagForm.{TagForm}
+use Rattle.macsec_commands.specs.declared.form.TagForm.TheVariants as form
 
 -- the source address is that of the SCI, which is its first six octets (9.9)
 abbrev pub is_own : Sci → List ℕ → Bool

@@ -6,20 +6,8 @@ pub mod laws;
 mod sending;
 
 pub use channel::TxChannel;
+pub use macsec_commands::TagForm;
 use macsec_tag::{An, Sci};
-
-/// Which SecTAG a frame gets (9.5).
-#[derive(Clone, Copy, PartialEq, Eq, Debug)]
-pub enum TagForm {
-    /// With the SCI if there is more than one receive channel, else without ES, SCB and SCI.
-    Auto,
-    /// With the SCI.
-    Sci,
-    /// With ES in place of the SCI if the source address is that of the SCI, else with the SCI.
-    Es,
-    /// With SCB in place of the SCI if the source address is that of the SCI, else with the SCI.
-    Scb,
-}
 
 /// What transmission depends on.
 #[derive(Clone, Copy, PartialEq, Eq, Debug)]

@@ -4,9 +4,9 @@ use Rattle.macsec_aes.specs.declared.Key.TheVariants.{K128}
 use Rattle.macsec_tag.specs.declared.identifiers.Sci.{Sci}
 use Rattle.macsec_suite.specs.declared.key_row.NewKey.{NewKey}
 use Rattle.macsec_suite.specs.declared.suite.Suite.TheVariants.{Gcm128}
-use Rattle.macsec_tx.specs.declared.TagForm.TheVariants as form
-use Rattle.macsec_secy.specs.declared.command.Command.{Command}
-use Rattle.macsec_secy.specs.declared.command.Command.TheVariants.{Key, TxSa, TxOn, RxSc, RxSa, RxOn}
+use Rattle.macsec_commands.specs.declared.form.TagForm.TheVariants as form
+use Rattle.macsec_commands.specs.declared.command.Command.{Command}
+use Rattle.macsec_commands.specs.declared.command.Command.TheVariants.{Key, TxSa, TxOn, RxSc, RxSa, RxOn}
 use Rattle.macsec_secy.specs.State.{State, start}
 use Rattle.macsec_secy.specs.Step.{operator_command, step}
 

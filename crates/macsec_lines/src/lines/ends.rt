@@ -6,8 +6,7 @@ ghost use Rattle.macsec_lines.specs.Kinds.{read_line, kinds_of, kinds, end_kinds
 use crate::lines::{Line, LineFault};
 use crate::words;
 use crate::words::decimal;
-use macsec_link::EndConfig;
-use macsec_secy::{MAX_FRAME_LEN, MIN_MAX_FRAME};
+use macsec_commands::{EndConfig, MAX_FRAME_LEN, MIN_MAX_FRAME};
 
 /// An end's configuration, from the words after `end`.
 fn configured_end(words: &[&[u8]]) -> Result<Line, LineFault>

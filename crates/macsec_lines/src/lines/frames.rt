@@ -7,7 +7,7 @@ ghost use Rattle.macsec_lines.specs.Readings.{Reads};
 use crate::lines::{Line, LineFault};
 use crate::words;
 use crate::words::frame_number;
-use macsec_link::{End, Event};
+use macsec_commands::{End, Event};
 use std::alloc::Global;
 
 /// A client frame, from the words after `send`.

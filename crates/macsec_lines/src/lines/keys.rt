@@ -6,7 +6,7 @@ ghost use Rattle.macsec_lines.specs.Kinds.{read_line, kinds_at, kinds_of, key_ki
 use crate::lines::{Line, LineFault};
 use crate::words;
 use crate::words::{decimal, key_number};
-use macsec_link::{Command, End, Event, NewKey};
+use macsec_commands::{Command, End, Event, NewKey};
 
 /// The installation of a key, from the words after `key`. The last two, SSCI and salt, can be left out and
 /// are zeros then.

@@ -7,7 +7,7 @@ ghost use Rattle.macsec_lines.specs.Readings.{Reads};
 use crate::lines::{Line, LineFault};
 use crate::words;
 use crate::words::frame_number;
-use macsec_link::Event;
+use macsec_commands::Event;
 use std::alloc::Global;
 
 /// A link frame with one octet set, from the words after `alter`.

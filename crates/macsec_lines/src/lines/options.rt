@@ -6,7 +6,7 @@ ghost use Rattle.macsec_lines.specs.Kinds.{read_line, kinds_at, kinds_of, protec
 use crate::lines::{Line, LineFault};
 use crate::words;
 use crate::words::decimal;
-use macsec_link::{Command, End, Event};
+use macsec_commands::{Command, End, Event};
 
 /// Whether frames are protected, from the words after `protect`.
 fn protect(at: End, words: &[&[u8]]) -> Result<Line, LineFault>

@@ -4,7 +4,7 @@ ghost use Rattle.std.specs.Prelude.{◌≡◌, [], map, codes, IfSome, IfNone};
 ghost use Rattle.macsec_lines.specs.Kinds.{read_line, kinds_at, kinds_of, show_kinds};
 
 use crate::lines::{Line, LineFault};
-use macsec_link::End;
+use macsec_commands::End;
 
 /// The showing of counters, from the words after `counters`.
 fn counters(at: End, words: &[&[u8]]) -> Result<Line, LineFault>

@@ -6,7 +6,7 @@ ghost use Rattle.macsec_lines.specs.Kinds.{read_line, kinds_at, kinds_of, transm
 use crate::lines::{Line, LineFault};
 use crate::words;
 use crate::words::{association, key_number};
-use macsec_link::{Command, End, Event};
+use macsec_commands::{Command, End, Event};
 
 /// The creation of a transmit association, from the words after `txsa`.
 fn tx_sa(at: End, words: &[&[u8]]) -> Result<Line, LineFault>

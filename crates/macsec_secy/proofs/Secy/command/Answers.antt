@@ -1,6 +1,6 @@
 use Rattle.std.proofs.Common.{◌≡◌, refl, rules}
 use Rattle.macsec_suite.specs.Refusals.{refusal_of}
-use Rattle.macsec_secy.specs.declared.command.Command.TheVariants as by
+use Rattle.macsec_commands.specs.declared.command.Command.TheVariants as by
 use Rattle.macsec_secy.specs.contracts.Secy.{the_view}
 use Rattle.macsec_secy.specs.Commands.{refusal}
 use Rattle.macsec_secy.proofs.FramesCounted.{command_adds}

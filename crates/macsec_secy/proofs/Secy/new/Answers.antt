@@ -2,7 +2,7 @@ use Rattle.std.proofs.Common.{◌≡◌, rules, subst}
 use Rattle.std.specs.Prelude.{None}
 use Rattle.macsec_rx.specs.Rows.{AreChannels}
 use Rattle.macsec_secy.specs.State.{start}
-use Rattle.macsec_secy.specs.Configs.{config_fault}
+use Rattle.macsec_commands.specs.Configs.{config_fault}
 use Rattle.macsec_secy.proofs.StaysSound.{TablesHold, at_start}
 use Rattle.macsec_secy.proofs.Secy.new.Goals as goal
 

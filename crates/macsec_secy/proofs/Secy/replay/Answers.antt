@@ -1,7 +1,7 @@
 use Rattle.std.proofs.Common.{◌≡◌, rules, subst}
 use Rattle.std.specs.Prelude.{None}
 use Rattle.macsec_rx.specs.Rows.{AreChannels}
-use Rattle.macsec_secy.specs.declared.command.Command.TheVariants.{Replay}
+use Rattle.macsec_commands.specs.declared.command.Command.TheVariants.{Replay}
 use Rattle.macsec_secy.specs.contracts.Secy.{the_view}
 use Rattle.macsec_secy.specs.Commands.{refusal}
 use Rattle.macsec_secy.proofs.StaysSound.{after_effect}

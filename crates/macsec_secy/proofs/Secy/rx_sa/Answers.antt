@@ -1,5 +1,5 @@
 use Rattle.std.proofs.Common.{refl, rules}
-use Rattle.macsec_secy.specs.declared.command.Command.TheVariants as by
+use Rattle.macsec_commands.specs.declared.command.Command.TheVariants as by
 use Rattle.macsec_secy.specs.contracts.Secy.{the_view}
 use Rattle.macsec_secy.proofs.StaysSound.{by_rx}
 use Rattle.macsec_secy.proofs.Secy.rx_sa.Goals as goal

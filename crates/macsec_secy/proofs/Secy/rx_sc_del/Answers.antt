@@ -3,7 +3,7 @@ use Rattle.std.specs.Prelude.{filter, not}
 use Rattle.arrayvec.proofs.ArrayVecLemmas.{filter-from_retain}
 use Rattle.macsec_rx.specs.Channels.{same_sci}
 use Rattle.macsec_rx.specs.Rows.{AreChannels}
-use Rattle.macsec_secy.specs.declared.command.Command.TheVariants as by
+use Rattle.macsec_commands.specs.declared.command.Command.TheVariants as by
 use Rattle.macsec_secy.specs.Commands.{state_after_command, unless_refused}
 use Rattle.macsec_secy.specs.contracts.Secy.{the_view}
 use Rattle.macsec_secy.proofs.StaysSound.{after_effect}

@@ -4,7 +4,7 @@ use Rattle.macsec_secy.specs.Step.{frame_fault}
 use Rattle.macsec_link.specs.World.{WorldState}
 use Rattle.macsec_link.proofs.LinkFrames.{at_place, heard}
 use Rattle.macsec_link.proofs.world.World.deliver.Goals.{in-A, in-B}
-use Rattle.macsec_link.specs.declared.Event.TheVariants as event
+use Rattle.macsec_commands.specs.declared.event.Event.TheVariants as event
 use Rattle.macsec_link.proofs.Faulted.{passed_on}
 use Rattle.macsec_link.proofs.world.World.deliver.Goals as goal
 

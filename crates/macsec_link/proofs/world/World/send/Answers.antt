@@ -6,7 +6,7 @@ use Rattle.std.specs.Global.{Vec}
 use Rattle.std.proofs.lemmas.Grind.{common_steps}
 use Rattle.std.proofs.lemmas.List.{length-map}
 use Rattle.macsec_link.specs.World.{WorldState}
-use Rattle.macsec_link.specs.declared.Event.TheVariants as event
+use Rattle.macsec_commands.specs.declared.event.Event.TheVariants as event
 use Rattle.macsec_link.proofs.Faulted.{passed_on}
 use Rattle.macsec_link.proofs.world.World.send.Goals as goal
 

@@ -1,6 +1,6 @@
 -- By search; these proofs are here for speed.
 use Rattle.std.proofs.Common.{rules}
-use Rattle.macsec_secy.proofs.config.EndConfig.fault.Goals as goal
+use Rattle.macsec_commands.proofs.config.EndConfig.fault.Goals as goal
 
 pub returns-then-is_unfit-clause-fault : goal.returns-then-is_unfit-clause-fault
 returns-then-is_unfit-clause-fault c = search rules

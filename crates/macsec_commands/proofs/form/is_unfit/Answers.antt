@@ -2,7 +2,7 @@
 -- mutant it tries all.
 use Rattle.std.proofs.Common.{arith}
 use Rattle.std.proofs.lemmas.Grind.{common_steps}
-use Rattle.macsec_secy.proofs.managing.is_unfit.Goals as goal
+use Rattle.macsec_commands.proofs.form.is_unfit.Goals as goal
 
 pub returns-else-sci-ne0-clause-unfit : goal.returns-else-sci-ne0-clause-unfit
 returns-else-sci-ne0-clause-unfit c = grind (arith, common_steps)

@@ -4,12 +4,12 @@ use Rattle.macsec_gcm.specs.Octets.{same_octets}
 use Rattle.macsec_tag.specs.declared.identifiers.Sci.{Sci}
 use Rattle.macsec_suite.specs.FirstThatHolds.{first_that_holds}
 use Rattle.macsec_tag.specs.Limits.{max_frame_len}
-use Rattle.macsec_tx.specs.declared.TagForm.{TagForm}
-use Rattle.macsec_tx.specs.declared.TagForm.TheVariants as form
-use Rattle.macsec_secy.specs.declared.config.EndConfig.{EndConfig}
-use Rattle.macsec_secy.specs.declared.fault.NewFault.{NewFault}
-use Rattle.macsec_secy.specs.declared.fault.NewFault.TheVariants.{MaxFrame, SciForm}
-use Rattle.macsec_secy.specs.Limits.{min_max_frame}
+use Rattle.macsec_commands.specs.declared.form.TagForm.{TagForm}
+use Rattle.macsec_commands.specs.declared.form.TagForm.TheVariants as form
+use Rattle.macsec_commands.specs.declared.config.EndConfig.{EndConfig}
+use Rattle.macsec_commands.specs.declared.fault.NewFault.{NewFault}
+use Rattle.macsec_commands.specs.declared.fault.NewFault.TheVariants.{MaxFrame, SciForm}
+use Rattle.macsec_commands.specs.Limits.{min_max_frame}
 
 -- the tag form requires a port other than the SCI's: in place of an SCI, ES means port 0001 and SCB port 0000 (9.5)
 abbrev pub is_unfit : TagForm → Sci → Bool

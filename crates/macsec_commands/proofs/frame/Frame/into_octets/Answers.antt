@@ -1,5 +1,5 @@
 use Rattle.std.proofs.Common.{rules}
-use Rattle.macsec_ends.proofs.frame.Frame.into_octets.Goals as goal
+use Rattle.macsec_commands.proofs.frame.Frame.into_octets.Goals as goal
 
 pub returns-clause-octets : goal.returns-clause-octets
 returns-clause-octets c = search rules

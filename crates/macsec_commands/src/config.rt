@@ -1,11 +1,10 @@
 //! The configuration of an endpoint.
 
 ghost use Rattle.std.specs.Prelude.{◌≡◌};
-ghost use Rattle.macsec_secy.specs.Configs.{config_fault};
-ghost use Rattle.macsec_rx.specs.Rows.{IsSci};
+ghost use Rattle.macsec_commands.specs.Configs.{config_fault};
+ghost use Rattle.macsec_commands.specs.Scis.{IsSci};
 
-use crate::managing::is_unfit;
-use crate::{MAX_FRAME_LEN, NewFault, Sci, Suite, TagForm};
+use crate::{MAX_FRAME_LEN, NewFault, Sci, Suite, TagForm, is_unfit};
 
 /// The fewest octets that an endpoint's largest frame may have.
 pub const MIN_MAX_FRAME: usize = 64;

@@ -1,0 +1,4 @@
+pub mod Limits
+pub mod Configs
+pub mod FaultNumbers
+pub mod Scis
