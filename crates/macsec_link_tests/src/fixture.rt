@@ -1,8 +1,12 @@
-//! What the tests share: two ends, and frames.
+//! What the tests share: two ends, their commands, and frames.
 
-use macsec_link::{EndConfig, Event, Frame, Outcome, Sci, Suite, TagForm, World, WorldFault};
-use macsec_vectors::SCI;
+use macsec_link::{
+    An, Command, End, EndConfig, Event, Frame, Key, NewKey, Outcome, Sci, Suite, TagForm, Verdict,
+    World, WorldFault,
+};
+use macsec_vectors::{KEY_128, SCI};
 use std::alloc::Global;
+use std::process::Abort;
 use std::test::Fail;
 
 /// End A, whose SCI is that of the test frames.
@@ -20,6 +24,51 @@ pub const B: EndConfig = EndConfig {
     ..A
 };
 
+/// The cipher suite of both ends, and whether their frames are encrypted.
+#[derive(Clone, Copy)]
+pub struct Protection {
+    pub suite: Suite,
+    pub conf: bool,
+}
+
+pub fn an(rt: &impl Abort, number: u8) -> An {
+    An::new(number).expect(rt, "an association number")
+}
+
+/// A key of 128 bits is installed: that of the test frames, but for its last octet.
+pub fn key(number: u8, ssci: u32) -> Command {
+    let mut bytes = KEY_128;
+    bytes[15] ^= number;
+    Command::Key(NewKey {
+        number,
+        bytes: Key::K128(bytes),
+        salt: [0; 12],
+        ssci,
+        offset: 0,
+    })
+}
+
+/// A transmit association is created, whose first packet number is 1.
+pub fn tx_sa(an: An, key: u8, conf: bool) -> Command {
+    Command::TxSa {
+        an,
+        key,
+        next: 1,
+        conf,
+    }
+}
+
+/// A receive association of frames from A is created, whose lowest acceptable packet number is 1.
+pub fn rx_sa(an: An, key: u8, ssci: u32) -> Command {
+    Command::RxSa {
+        sci: A.sci,
+        an,
+        key,
+        ssci,
+        lowest: 1,
+    }
+}
+
 /// A client frame of 14 octets, of which this is the last.
 pub fn client(last: u8) -> [u8; 14] {
     [
@@ -35,4 +84,36 @@ pub fn frame(alloc: Global, octets: &[u8]) -> Result<Frame, Fail> {
 /// What comes of an event.
 pub fn result_of(world: &mut World, event: &Event) -> Result<Outcome, WorldFault> {
     world.step(event)
+}
+
+/// Two ends with an association between them, from A to B. The receiver is in Strict with a replay window of 0, as
+/// every endpoint is at first.
+pub fn associated(rt: &impl Abort, alloc: Global, protection: Protection) -> Result<World, Fail> {
+    let Protection { suite, conf } = protection;
+    let an = an(rt, 0);
+    let mut world = World::new(alloc, EndConfig { suite, ..A }, EndConfig { suite, ..B })?;
+    for (end, command) in [
+        (End::A, key(0, 1)),
+        (End::A, tx_sa(an, 0, conf)),
+        (End::A, Command::TxOn(an)),
+        (End::B, key(0, 2)),
+        (End::B, Command::RxSc(A.sci)),
+        (End::B, rx_sa(an, 0, 1)),
+        (End::B, Command::RxOn(A.sci, an)),
+    ] {
+        let done = result_of(&mut world, &Event::Command(end, command))?;
+        assert!(rt; matches!(done, Outcome::Done));
+    }
+    Ok(world)
+}
+
+/// The verdict of the receiver on a link frame, and whether it delivered one.
+pub fn verdict_on(rt: &impl Abort, world: &mut World, n: u32) -> Result<(Verdict, bool), Fail> {
+    match result_of(world, &Event::Deliver(End::B, n))? {
+        Outcome::Heard {
+            verdict,
+            controlled,
+        } => Ok((verdict, controlled.is_some())),
+        _ => panic!(rt; "no verdict on {n}"),
+    }
 }

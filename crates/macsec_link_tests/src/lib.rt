@@ -1,9 +1,11 @@
 //! Tests of two ends over a link: what no clause of `macsec_link` says and no script shows, that worlds, steps and runs
-//! don't return `Memory` if there is memory, a full link, and the logs.
+//! don't return `Memory` if there is memory, a full link, the logs, and a hostile link that alters each bit of a frame.
 #![tactic(auto)]
 
 #[cfg(test)]
 mod fixture;
+#[cfg(test)]
+mod hostile;
 #[cfg(test)]
 mod limits;
 #[cfg(test)]

@@ -1,10 +1,7 @@
 //! A whole run, and what was sent under each key and delivered from each association.
 
-use crate::fixture::{A, B, client, frame};
-use macsec_link::{
-    An, Command, End, Event, Key, NewKey, Outcome, Report, Verdict, World, WorldFault,
-};
-use macsec_vectors::KEY_128;
+use crate::fixture::{self, A, B, an, client, frame};
+use macsec_link::{An, Command, End, Event, Outcome, Report, Verdict, World, WorldFault};
 use std::alloc::Global;
 use std::process::Abort;
 use std::test::Fail;
@@ -63,51 +60,19 @@ fn is_wanted(got: &Result<Outcome, WorldFault>, wanted: Wanted) -> bool {
     }
 }
 
-fn an(rt: &impl Abort, number: u8) -> An {
-    An::new(number).expect(rt, "an association number")
-}
-
-/// A key for the suite of both ends is installed: that of the test frames, but for its last octet.
+/// A key for the suite of both ends is installed.
 fn key(end: End, number: u8) -> Wanted {
-    let mut bytes = KEY_128;
-    bytes[15] ^= number;
-    Wanted::Done(
-        end,
-        Command::Key(NewKey {
-            number,
-            bytes: Key::K128(bytes),
-            salt: [0; 12],
-            ssci: 0,
-            offset: 0,
-        }),
-    )
+    Wanted::Done(end, fixture::key(number, 0))
 }
 
 /// A transmit association is created at A, for integrity only.
 fn tx_sa(an: An, key: u8) -> Wanted {
-    Wanted::Done(
-        End::A,
-        Command::TxSa {
-            an,
-            key,
-            next: 1,
-            conf: false,
-        },
-    )
+    Wanted::Done(End::A, fixture::tx_sa(an, key, false))
 }
 
 /// A receive association of frames from A is created at B.
 fn rx_sa(an: An, key: u8) -> Wanted {
-    Wanted::Done(
-        End::B,
-        Command::RxSa {
-            sci: A.sci,
-            an,
-            key,
-            ssci: 0,
-            lowest: 1,
-        },
-    )
+    Wanted::Done(End::B, fixture::rx_sa(an, key, 0))
 }
 
 /// The sender goes over to another association under another key, and its receiver with it. A receive association

@@ -4,7 +4,7 @@
 use macsec_pcap::{Body, PcapFault, PcapReader, PcapWriter, Record, Resolution};
 use std::alloc::{AllocError, Global};
 use std::fmt::Write;
-use std::io::Read;
+use std::io::{self, Read};
 use std::test::Fail;
 
 /// The header of a file in microseconds, with the lowest octets first.
@@ -90,7 +90,7 @@ fn octets(alloc: Global, pieces: &[&str]) -> Result<Vec<u8>, Fail> {
 #[test]
 fn files(rt: HostRuntime) -> Result<(), Fail> {
     let alloc = rt.alloc();
-    let rows: [(&[&str], &[&str]); 23] = [
+    let rows: [(&[&str], &[&str]); 24] = [
         (&[MICRO], &["Micro end end"]),
         (&[MICRO, RECORD, RECORD], &["Micro", TOLD, TOLD, " end end"]),
         (&[NANO_BIG], &["Nano end end"]),
@@ -147,6 +147,15 @@ fn files(rt: HostRuntime) -> Result<(), Fail> {
         (
             &["d4c3b2a1000200040000000000000000ffff000001000000"],
             &["Version"],
+        ),
+        // 20 octets were captured of a frame of 14: the record is whole, and has all of them.
+        (
+            &[
+                MICRO,
+                "0000000000000000140000000e000000",
+                "ffffffffffff0200000000010800010203040506",
+            ],
+            &["Micro 0.0:ffffffffffff0200000000010800010203040506 end end"],
         ),
         // One octet more was captured than the frame had, one less, none of an empty frame, and none of a frame.
         (
@@ -272,5 +281,55 @@ fn longest_frame(rt: HostRuntime) -> Result<(), Fail> {
     };
     assert_eq!(&rt; read, longest.as_slice());
     assert!(&rt; matches!(reader.next(), Ok(None)));
+    Ok(())
+}
+
+/// A file of empty records at time 0: its header, and then so many octets of 0.
+#[derive(Drop)]
+struct EmptyRecords<'a> {
+    header: &'a [u8],
+    zeros: usize,
+}
+
+impl Read for EmptyRecords<'_> {
+    fn read(&mut self, buf: &mut [u8]) -> io::Result<usize> {
+        if self.header.is_empty() {
+            let count = self.zeros.min(buf.len());
+            buf[..count].fill(0);
+            self.zeros -= count;
+            return Ok(count);
+        }
+        let count = self.header.len().min(buf.len());
+        buf[..count].copy_from_slice(&self.header[..count]);
+        self.header = &self.header[count..];
+        Ok(count)
+    }
+}
+
+/// How many records a reader returns, and the fault after them, if there is one.
+fn count_of<R: Read + Drop>(alloc: Global, source: R) -> Result<(u32, Option<PcapFault>), Fail> {
+    let mut reader = PcapReader::new(alloc, source)?;
+    for n in 0..16_777_218 {
+        match reader.next() {
+            Ok(Some(_)) => {}
+            Ok(None) => return Ok((n, None)),
+            Err(fault) => return Ok((n, Some(fault))),
+        }
+    }
+    Ok((16_777_218, None))
+}
+
+/// A file of 16,777,216 records is read, and if one octet follows them, the fault is `RecordCount`, though no record is
+/// whole there.
+#[test]
+fn most_records(rt: HostRuntime) -> Result<(), Fail> {
+    let alloc = rt.alloc();
+    let header = octets(alloc, &[MICRO])?;
+    let source = EmptyRecords {
+        header: header.as_slice(),
+        zeros: 16 * 16_777_216 + 1,
+    };
+    let found = count_of(alloc, source)?;
+    assert_eq!(&rt; found, (16_777_216, Some(PcapFault::RecordCount)));
     Ok(())
 }

@@ -4,6 +4,8 @@
 mod counters;
 mod failures;
 mod faults;
+mod lines;
+mod sentences;
 
 use macsec_program::{Failure, tell};
 use macsec_script::{ScriptFault, run_script};

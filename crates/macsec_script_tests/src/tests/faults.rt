@@ -4,6 +4,10 @@ use super::assert_ends;
 use macsec_script::{LineFault, parse_line};
 use std::alloc::{AllocError, Global};
 
+/// The first two lines of a script.
+const ENDS: &str =
+    "end A gcm128 12153524c0895e81 1518 sci\nend B gcm128 0000000000000002 1518 auto\n";
+
 /// A line, and its fault.
 type Faulty = (&'static str, LineFault);
 
@@ -54,12 +58,29 @@ fn fault_of(alloc: Global, line: &str) -> Option<LineFault> {
     parse_line(alloc, line.as_bytes()).err()
 }
 
+/// What is told of a fault in the third line of a script.
+fn told_of(fault: LineFault) -> &'static str {
+    match fault {
+        LineFault::Word => "macsec: line 3: Word\n",
+        LineFault::Count => "macsec: line 3: Count\n",
+        LineFault::Hex => "macsec: line 3: Hex\n",
+        LineFault::Number => "macsec: line 3: Number\n",
+        LineFault::Ends => "macsec: line 3: Ends\n",
+        LineFault::LineLong => "macsec: line 3: LineLong\n",
+        LineFault::Memory => "macsec: Memory\n",
+    }
+}
+
+/// Each line alone, and as the third of a script, of which nothing is printed then.
 #[test]
-fn lines_at_fault(rt: HostRuntime) {
+fn lines_at_fault(rt: HostRuntime) -> Result<(), AllocError> {
     for (line, fault) in LINES_AT_FAULT {
         let found = fault_of(rt.alloc(), line);
         assert!(rt; found == Some(fault), "{line}");
+        let script = format!(in rt.alloc(); "{ENDS}{line}\nA numbers\n")?;
+        assert_ends(&rt, script.as_str(), Some(told_of(fault)));
     }
+    Ok(())
 }
 
 /// The first fault is told, and a line in a wrong place by `Ends`.
@@ -116,12 +137,17 @@ fn repeated(alloc: Global, piece: &str, count: u32) -> Result<String, AllocError
     Ok(text)
 }
 
-/// A line of 20,000 octets, or a script of 65,536 lines, is skipped, and a longer one is at fault.
+/// A line of 32 octets with its line feed.
+const OF_32_OCTETS: &str = "# a line of a comment, repeated\n";
+
+/// A line of 20,000 octets, a script of 65,536 lines, or one of 1,048,576 octets, is skipped, and a longer one is at
+/// fault.
 #[test]
 fn long_lines_and_scripts(rt: HostRuntime) -> Result<(), AllocError> {
     for (piece, count, rest, fault) in [
         ("#", 20_000, "\r", "macsec: line 1: LineLong\n"),
         ("\n", 65_536, "\n", "macsec: ScriptLong\n"),
+        (OF_32_OCTETS, 32_768, "#", "macsec: ScriptLong\n"),
     ] {
         let mut script = repeated(rt.alloc(), piece, count)?;
         assert_ends(&rt, script.as_str(), None);

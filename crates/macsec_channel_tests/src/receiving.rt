@@ -1,15 +1,14 @@
-//! One channel with one association, its commands and its frames.
+//! The receive channels: one channel with one association, its commands and its frames.
 
 ghost use Rattle.std.specs.Prelude.{IfOk};
 ghost use Rattle.macsec_rx.specs.Commands.{HaveRxKeys};
 
-use macsec_aes::Key;
+use crate::fixture::{an, key_table};
 use macsec_rx::{Judged, Mode, RxChannels, RxOptions, RxRow, Verdict};
-use macsec_suite::{KeyTable, NewKey, Refusal, Suite};
+use macsec_suite::{KeyTable, Refusal, Suite};
 use macsec_tag::reading::read;
-use macsec_tag::{An, Read, Sci};
-use macsec_vectors::{CLIENT_54, CLIENT_60, KEY_128, LINK_54, LINK_60, PACKET_NUMBER, SCI};
-use std::alloc::Global;
+use macsec_tag::{Read, Sci};
+use macsec_vectors::{CLIENT_54, CLIENT_60, LINK_54, LINK_60, PACKET_NUMBER, SCI};
 use std::process::Abort;
 use std::test::Fail;
 
@@ -18,25 +17,6 @@ const SENDER: Sci = Sci(SCI);
 
 /// The own SCI.
 const OWN: Sci = Sci([0, 0, 0, 0, 0, 0, 0, 2]);
-
-/// The association number of the test frames.
-fn an() -> Result<An, Fail> {
-    Ok(An::new(2).ok_or("an association number is 0 to 3")?)
-}
-
-/// A table of the key of the test frames, of the number 0.
-fn key_table(alloc: Global) -> Result<KeyTable, Fail> {
-    let mut keys = KeyTable::new(alloc)?;
-    let key = NewKey {
-        number: 0,
-        bytes: Key::K128(KEY_128),
-        salt: [0; 12],
-        ssci: 0,
-        offset: 0,
-    };
-    keys.install(Suite::Gcm128, &key)?;
-    Ok(keys)
-}
 
 /// The sender's channel, whose association for the test frames is enabled.
 fn channel_on(keys: &KeyTable) -> Result<RxChannels, Fail>

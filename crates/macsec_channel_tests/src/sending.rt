@@ -1,14 +1,13 @@
-//! One association, its commands and its frames.
+//! The transmit channel: one association, its commands and its frames.
 
 ghost use Rattle.std.specs.Prelude.{IfOk};
 ghost use Rattle.macsec_tx.specs.Commands.{HaveKeys};
 
-use macsec_aes::Key;
-use macsec_suite::{KeyTable, NewKey, Refusal, Suite};
-use macsec_tag::{An, Sci};
+use crate::fixture::{an, key_table};
+use macsec_suite::{KeyTable, Refusal};
+use macsec_tag::Sci;
 use macsec_tx::{TagForm, TxChannel, TxOptions, TxResult, TxRow};
-use macsec_vectors::{CLIENT_54, CLIENT_60, KEY_128, LINK_54, LINK_60, PACKET_NUMBER, SCI};
-use std::alloc::Global;
+use macsec_vectors::{CLIENT_54, CLIENT_60, LINK_54, LINK_60, PACKET_NUMBER, SCI};
 use std::test::Fail;
 
 /// Protection with the SCI in each SecTAG, up to frames of 1,518 octets.
@@ -19,25 +18,6 @@ const OPTIONS: TxOptions = TxOptions {
     max_frame: 1518,
     many: false,
 };
-
-/// The association number of the test frames.
-fn an() -> Result<An, Fail> {
-    Ok(An::new(2).ok_or("an association number is 0 to 3")?)
-}
-
-/// A table of the key of the test frames, of the number 0.
-fn key_table(alloc: Global) -> Result<KeyTable, Fail> {
-    let mut keys = KeyTable::new(alloc)?;
-    let key = NewKey {
-        number: 0,
-        bytes: Key::K128(KEY_128),
-        salt: [0; 12],
-        ssci: 0,
-        offset: 0,
-    };
-    keys.install(Suite::Gcm128, &key)?;
-    Ok(keys)
-}
 
 /// A channel whose association for the test frames is enabled, and encrypts if `conf` is true.
 fn channel_on(keys: &KeyTable, conf: bool) -> Result<TxChannel, Fail>

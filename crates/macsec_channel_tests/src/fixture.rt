@@ -1,0 +1,27 @@
+//! What the tests share: the association number and the key of the test frames.
+
+use macsec_aes::Key;
+use macsec_suite::{KeyTable, NewKey, Suite};
+use macsec_tag::An;
+use macsec_vectors::KEY_128;
+use std::alloc::Global;
+use std::test::Fail;
+
+/// The association number of the test frames.
+pub fn an() -> Result<An, Fail> {
+    Ok(An::new(2).ok_or("an association number is 0 to 3")?)
+}
+
+/// A table of the key of the test frames, of the number 0.
+pub fn key_table(alloc: Global) -> Result<KeyTable, Fail> {
+    let mut keys = KeyTable::new(alloc)?;
+    let key = NewKey {
+        number: 0,
+        bytes: Key::K128(KEY_128),
+        salt: [0; 12],
+        ssci: 0,
+        offset: 0,
+    };
+    keys.install(Suite::Gcm128, &key)?;
+    Ok(keys)
+}
