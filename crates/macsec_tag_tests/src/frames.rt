@@ -204,3 +204,27 @@ fn another_ethertype(rt: HostRuntime) {
     frame[12..].copy_from_slice(&[0x08, 0x00]);
     assert_eq!(rt; answer_to(&frame), Answer::Untagged);
 }
+
+/// Is there a SecTAG with ES or SCB, this SL, and the SCI of the test frames or none?
+fn is_made(es: bool, scb: bool, sl: u8, sci: Option<Sci>) -> Option<bool> {
+    let tag = SecTag::new(es, scb, false, false, An::new(0)?, sl, 1, sci);
+    Some(tag.is_some())
+}
+
+/// An association number is below 4, an SL below 48, and an SCI stands in no SecTAG with ES or SCB.
+#[test]
+fn parts_out_of_range(rt: HostRuntime) {
+    for (number, is_one) in [(0, true), (3, true), (4, false), (255, false)] {
+        assert!(&rt; An::new(number).is_some() == is_one, "{number}");
+    }
+    for (es, scb, sl, sci, wanted) in [
+        (false, false, 47, Some(SENDER), true),
+        (false, false, 48, Some(SENDER), false),
+        (true, true, 0, None, true),
+        (true, false, 0, Some(SENDER), false),
+        (false, true, 0, Some(SENDER), false),
+        (true, false, 255, None, false),
+    ] {
+        assert!(&rt; is_made(es, scb, sl, sci) == Some(wanted), "SL {sl}");
+    }
+}
