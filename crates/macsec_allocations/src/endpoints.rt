@@ -2,6 +2,7 @@
 
 use crate::room::{fill, one, write_answer};
 use macsec_link::{End, EndConfig, Event, Sci, Secy, Suite, TagForm};
+use macsec_print::{Label, print_counters};
 use macsec_script::{Line, ScriptFault, parse_script};
 use macsec_secy::{NewFault, Sent};
 use macsec_suite::KeyTable;
@@ -55,7 +56,8 @@ pub fn fault_name(fault: Option<NewFault>) -> &'static str {
     }
 }
 
-/// The calls of two endpoints: the events of a script, again and again. A delivery is one of the frame that was sent last.
+/// The calls of two endpoints: the events of a script, again and again; and the counters of both then. A delivery is one of
+/// the frame that was sent last.
 pub fn turns<W: Write>(
     alloc: Global,
     before: u32,
@@ -80,7 +82,9 @@ pub fn turns<W: Write>(
         }
     }
     let after = one(alloc);
-    write_answer(writer, filled, "done", after)
+    write_answer(writer, filled, "done", after)?;
+    print_counters(writer, Label::End, &a)?;
+    print_counters(writer, Label::End, &b)
 }
 
 /// The link frame that was sent last.

@@ -8,7 +8,6 @@
 
 mod captures;
 mod endpoints;
-mod program;
 mod room;
 mod scripts;
 mod worlds;
@@ -26,7 +25,6 @@ pub fn report(
     let alloc = rt.alloc();
     let writer = &mut rt.stdout();
     let reported = match name {
-        "main" => program::run(rt, before, writer),
         "KeyTable::new" => endpoints::key_table(alloc, before, writer),
         "Secy::new" => endpoints::secy(alloc, before, writer),
         "Secy" => endpoints::turns(alloc, before, text, writer),

@@ -1,6 +1,6 @@
 //! The program `macsec_failures`: makes a call that takes memory, of which one allocation may be refused, and prints what
 //! came of it. The call works on standard input; its name is the first word, and the second is the number of allocations
-//! before it. The other words are those of the call `main`.
+//! before it.
 #![tactic(auto)]
 
 use macsec_allocations::report;
@@ -10,7 +10,7 @@ use std::process::ExitCode;
 
 fn main(rt: HostRuntime) -> anyhow::Result<ExitCode> {
     let own: Vec<String> = env::args(&rt)?.collect(rt.alloc())?;
-    let [_, name, before, ..] = own.as_slice() else {
+    let [_, name, before] = own.as_slice() else {
         return Ok(ExitCode::SUCCESS);
     };
     let before = before.parse::<u32>()?;
