@@ -2,7 +2,7 @@
 -- a window of 1, one frame is delivered twice, though no tag is forged and B validates strictly, and though B has both
 -- afterwards. With it off the later packet number is not above the earlier one either.
 use Rattle.std.proofs.Common.{◌≡◌, ℕ, zero, suc, ◌+◌, ◌<◌, Bool, true, false, List, [], ◌∷◌, ◌++◌, refl, ap, sym, subst, ◌∙◌, arith, AllPairs}
-use Rattle.std.specs.Prelude.{slice_get, IfSome, Some}
+use Rattle.std.specs.Prelude.{Some}
 use Rattle.macsec_gcm.specs.Gcm.{open_of}
 use Rattle.macsec_tag.specs.Table.{parts_at}
 use Rattle.macsec_rx.specs.declared.RxRow.{RxRow}
@@ -26,12 +26,12 @@ use Rattle.macsec_link.specs.Origin.{HasStrictOrder, IsStrict, IsSubsequence, Wa
 use Rattle.macsec_link.specs.Step.{world_after}
 use Rattle.macsec_link.specs.Trace.{Mark, Trace, marks_of, new_trace, trace_after, trace_of, trace_step}
 use Rattle.macsec_link.specs.World.{WorldState, end_of, new_world}
-use Rattle.macsec_link.proofs.Exchange.{aad, bytes, client, config_a, config_b, iv, key_row, link_frame_of, link_frame_with, tag, trace_at, use_of, use_with}
-use Rattle.macsec_link.proofs.Exchange as exchange
+use Rattle.macsec_premises.proofs.Exchange.{aad, bytes, client, config_a, config_b, iv, key_row, link_frame_of, link_frame_with, tag, trace_at, use_of, use_with}
+use Rattle.macsec_premises.proofs.Exchange as exchange
 use Rattle.macsec_link.proofs.Moments.{world_of_trace}
-use Rattle.macsec_link.proofs.SealedFrames.{Sealed, items, opens, sealed}
-use Rattle.macsec_link.proofs.TracedSteps.{AtEach, after_both, at_moment, deliver_step, each_append, each_next, genuine_append, genuine_at, genuine_next, send_step, sent_by}
-use Rattle.macsec_link.proofs.WorkedEnds.{Fails, log, of_two, rx_from, tx_from}
+use Rattle.macsec_premises.proofs.SealedFrames.{Sealed, items, opens, sealed}
+use Rattle.macsec_premises.proofs.TracedSteps.{AtEach, WhileLive, after_both, at_moment, deliver_step, each_append, each_next, genuine_append, genuine_at, genuine_next, send_step, sent_by}
+use Rattle.macsec_premises.proofs.WorkedEnds.{Fails, of_two, rx_from, tx_from}
 
 -- with replay protection on the window is 1, and with it off 0
 abbrev window : Bool → ℕ
@@ -174,9 +174,6 @@ last_world_is : (replay : Bool) → world_after (new_world config_a config_b) (e
 last_world_is replay = sym (world_of_trace (new_trace config_a config_b) (events replay)) ∙ ap (λ (t : Trace). t.world) (trace_ends replay)
 
 -- B is strict all the while, and its options are these from its association's making on, but for replay and window
-abbrev WhileLive : (State → Type 0) → WorldState → Type 0
-WhileLive P w = IfSome (slice_get w.b.delivered 0) (λ log. log.live ≡ true → P w.b.state)
-
 each_moment : (replay : Bool) (P : State → Type 0) → ((s : State) → s.options ≡ first_options config_b → P s) → ((s : State) → s.options ≡ options_of replay → P s) →
     AtEach (WhileLive P) (new_world config_a config_b) (events replay)
 each_moment replay P first so =

@@ -1,28 +1,21 @@
 -- Each premise of the law on packet numbers is needed: without it there is a run in which two uses of the cipher have
 -- the same key bytes and the same IV.
-use Rattle.std.proofs.Common.{◌≡◌, ◌≢◌, ℕ, true, false, List, [], ◌∷◌, ◌++◌, refl, AllPairs, arith, Contains}
+use Rattle.std.proofs.Common.{◌≡◌, ◌≢◌, ℕ, true, List, [], ◌∷◌, refl, AllPairs, arith, Contains}
 use Rattle.std.specs.Prelude.{replicate}
 use Rattle.macsec_gcm.specs.Octets.{sum_with_stream}
 use Rattle.macsec_tag.specs.declared.identifiers.Sci.{Sci}
-use Rattle.macsec_suite.specs.declared.key_row.NewKey.{NewKey}
 use Rattle.macsec_suite.specs.declared.suite.Suite.TheVariants.{Gcm128, Xpn128}
 use Rattle.macsec_suite.specs.CipherUses.{CipherUse}
 use Rattle.macsec_suite.specs.Suites.{is_xpn}
 use Rattle.macsec_suite.specs.KeyRows.{InstalledKey}
 use Rattle.macsec_commands.specs.declared.config.EndConfig.{EndConfig}
-use Rattle.macsec_commands.specs.declared.event.End.TheVariants.{A, B}
 use Rattle.macsec_commands.specs.declared.event.Event.{Event}
-use Rattle.macsec_commands.specs.declared.event.Event.TheVariants.{Send}
 use Rattle.macsec_link.specs.Keys.{AgreeOnKey, AgreeOnKeys, DifferInSsci}
 use Rattle.macsec_link.specs.Step.{world_after}
 use Rattle.macsec_link.specs.Trace.{trace_of}
 use Rattle.macsec_link.specs.UniqueIvs.{HasOtherIv}
 use Rattle.macsec_link.specs.World.{WorldState, new_world}
-use Rattle.macsec_link.proofs.WorkedEnds.{Fails, client, config, new_key, no_salt, of_two, sci_a, sci_b, scis_differ, sends_from}
-
--- a frame of each end, from packet number 1 on
-abbrev both_send : NewKey → NewKey → List Event
-both_send a b = sends_from A a 1 false ++ sends_from B b 1 false ++ Send A client ∷ Send B client ∷ []
+use Rattle.macsec_premises.proofs.WorkedEnds.{Fails, both_send, config, new_key, no_salt, of_two, sci_a, sci_b, scis_differ}
 
 abbrev no_use : CipherUse
 no_use = record { key = []; iv = []; aad = []; ciphertext = []; tag = [] }

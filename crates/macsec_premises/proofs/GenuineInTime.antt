@@ -25,8 +25,7 @@ use Rattle.macsec_link.specs.Faults.{fault_of}
 use Rattle.macsec_link.specs.Genuine.{IsGenuineAt, use_opened, use_opened_in}
 use Rattle.macsec_link.specs.Sound.{IsSound}
 use Rattle.macsec_link.specs.Step.{world_after, world_at, world_step}
-use Rattle.macsec_link.specs.Trace.{Trace, new_seals, new_trace, seals_by, use_sealed_by, trace_after, trace_of, trace_step}
-use Rattle.macsec_link.specs.Trace as trace
+use Rattle.macsec_link.specs.Trace.{Trace, added_unless_fault, new_seals, new_trace, seals_by, use_sealed_by, trace_after, trace_of, trace_step}
 use Rattle.macsec_link.specs.World.{WorldState, end_of, frame_at, new_world, other_end}
 use Rattle.macsec_link.proofs.Accepted.{LawOfStep, StandsWith, stands_with}
 use Rattle.macsec_link.proofs.EndpointLaws.{EndpointLaws}
@@ -34,7 +33,7 @@ use Rattle.macsec_link.proofs.LinkFrames.{finds}
 use Rattle.macsec_link.proofs.Members.{IsMember, contained}
 use Rattle.macsec_link.proofs.Moments.{AreSound, world_of_trace}
 use Rattle.macsec_link.proofs.Seals.{fits, sound_end}
-use Rattle.macsec_link.proofs.SentStands.{stands_on_link, stays_on_link}
+use Rattle.macsec_premises.proofs.SentStands.{stands_on_link, stays_on_link}
 
 -- ---- what is opened of a frame that can be accepted
 
@@ -69,7 +68,7 @@ module _ (law_of_step : LawOfStep) (laws : EndpointLaws) (w : WorldState) (e : E
 
 seals_stay : (t : Trace) (events : List Event) (u : CipherUse) → Contains t.seals u → Contains (trace_after t events).seals u
 seals_stay t [] u there = there
-seals_stay t (event ∷ events) u there = seals_stay (trace_step t event) events u (Contains-append_left t.seals (trace.unless_fault (fault_of t.world event) (new_seals t.world event)) u there)
+seals_stay t (event ∷ events) u there = seals_stay (trace_step t event) events u (Contains-append_left t.seals (added_unless_fault (fault_of t.world event) (new_seals t.world event)) u there)
 
 last_member : {X : Type 0} (xs : List X) (x : X) → IsMember (xs ++ x ∷ []) x
 last_member [] x = inl refl
@@ -85,8 +84,8 @@ sealed_at w e client tx = use_sealed_by (end_of w e).state client tx
 
 sealed_now : (t : Trace) (e : End) (client : List ℕ) (tx : TxRow) → IsSentBy t.world e client tx → Contains (trace_step t (Send e client)).seals (sealed_at t.world e client tx)
 sealed_now t e client tx sent =
-    let new : trace.unless_fault (fault_of t.world (Send e client)) (new_seals t.world (Send e client)) ≡ sealed_at t.world e client tx ∷ [] =
-    ap (λ f. trace.unless_fault f (new_seals t.world (Send e client))) sent.none ∙ ap (seals_by (end_of t.world e).state client) sent.by in
+    let new : added_unless_fault (fault_of t.world (Send e client)) (new_seals t.world (Send e client)) ≡ sealed_at t.world e client tx ∷ [] =
+    ap (λ f. added_unless_fault f (new_seals t.world (Send e client))) sent.none ∙ ap (seals_by (end_of t.world e).state client) sent.by in
     subst (λ (us : List CipherUse). Contains (t.seals ++ us) (sealed_at t.world e client tx)) (sym new)
     (contained (t.seals ++ sealed_at t.world e client tx ∷ []) (sealed_at t.world e client tx) (last_member t.seals (sealed_at t.world e client tx)))
 

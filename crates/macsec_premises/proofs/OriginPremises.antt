@@ -1,8 +1,8 @@
 -- Two premises of the laws on origin and order are needed. Where a tag is forged, B delivers a frame that A never sent. In
 -- mode Check it does so without any forged tag, and stays deceived in mode Strict: of two frames that differ in the ICV
 -- alone at most one opens, and the other one is delivered as Invalid.
-use Rattle.std.proofs.Common.{◌≡◌, ◌⊎◌, inl, inr, ℕ, zero, suc, ◌≤◌, true, false, List, [], ◌∷◌, ◌++◌, length, refl, ap, sym, subst, ◌∙◌, arith, Contains}
-use Rattle.std.specs.Prelude.{◌==◌, replicate, slice_get, IfSome, Some}
+use Rattle.std.proofs.Common.{◌≡◌, ◌⊎◌, inl, inr, ℕ, zero, suc, ◌≤◌, false, List, [], ◌∷◌, ◌++◌, length, refl, ap, sym, subst, ◌∙◌, arith, Contains}
+use Rattle.std.specs.Prelude.{◌==◌, replicate, Some}
 use Rattle.std.proofs.lemmas.Bool.{ne_eqb}
 use Rattle.std.proofs.lemmas.List.{take_all}
 use Rattle.macsec_gcm.specs.Gcm.{open_of}
@@ -27,11 +27,11 @@ use Rattle.macsec_link.specs.Origin.{HasStrictOrder, IsStrict, IsSubsequence, Wa
 use Rattle.macsec_link.specs.Step.{world_after, world_at}
 use Rattle.macsec_link.specs.Trace.{Trace, new_trace, trace_after, trace_step}
 use Rattle.macsec_link.specs.World.{WorldState, end_of, new_world}
-use Rattle.macsec_link.proofs.Exchange.{aad, at_numbers, bytes, client, commands, config_a, config_b, first_judged, is_ready, iv, key_row, link_frame_of, link_frame_with, mark, ready, tag, trace_at}
+use Rattle.macsec_premises.proofs.Exchange.{aad, at_numbers, bytes, client, commands, config_a, config_b, first_judged, is_ready, iv, key_row, link_frame_of, link_frame_with, mark, ready, tag, trace_at}
 use Rattle.macsec_link.proofs.Moments.{world_of_trace}
-use Rattle.macsec_link.proofs.SealedFrames.{closes, first, items, opens, tag_of}
-use Rattle.macsec_link.proofs.TracedSteps.{AtEach, after_both, at_moment, deliver_step, each_append, each_next, genuine_append, genuine_at, genuine_next}
-use Rattle.macsec_link.proofs.WorkedEnds.{Fails, of_two, only, rx_from}
+use Rattle.macsec_premises.proofs.SealedFrames.{closes, first, items, opens, tag_of}
+use Rattle.macsec_premises.proofs.TracedSteps.{AtEach, WhileLive, world_of, after_both, at_moment, deliver_step, each_append, each_next, genuine_append, genuine_at, genuine_next}
+use Rattle.macsec_premises.proofs.WorkedEnds.{Fails, of_two, only, rx_from}
 
 -- A has sent nothing
 sent_none : (y : InstalledKey) → Contains (key_row 1 1 ∷ []) y → Contains (sent_under no_sent_logs y.number) (client 1) → ⊥
@@ -43,13 +43,6 @@ sent_none y there sent =
 no_subsequence_of_none : (x : List ℕ) → IsSubsequence (x ∷ []) [] → ⊥
 no_subsequence_of_none x ([], rising, found) = cc
 no_subsequence_of_none x (place ∷ places, rising, found) = cc
-
--- a fact of B at a moment, while its association is there
-abbrev WhileLive : (State → Type 0) → WorldState → Type 0
-WhileLive P w = IfSome (slice_get w.b.delivered 0) (λ log. log.live ≡ true → P w.b.state)
-
-abbrev world_of : Trace → WorldState
-world_of t = t.world
 
 -- ---- a frame is injected that fits B's key
 

@@ -2,7 +2,7 @@
 -- frame comes to B at once, and B delivers both in their order. The cipher is not computed: of a tag it is known that it
 -- has 16 octets and opens.
 use Rattle.std.proofs.Common.{◌≡◌, ℕ, ◌+◌, ◌*◌, List, [], ◌∷◌, ◌++◌, refl, ap, sym, subst, ◌∙◌, arith}
-use Rattle.std.specs.Prelude.{replicate, slice_get, slice_set, true, false, IfSome, Some, None}
+use Rattle.std.specs.Prelude.{replicate, slice_get, slice_set, true, false, Some, None}
 use Rattle.macsec_gcm.specs.Gcm.{open_of}
 use Rattle.macsec_tag.specs.Table.{parts_at}
 use Rattle.macsec_suite.specs.declared.suite.Suite.TheVariants.{Gcm128}
@@ -32,9 +32,9 @@ use Rattle.macsec_link.specs.Step.{world_after}
 use Rattle.macsec_link.specs.World.{WorldState, new_world}
 use Rattle.macsec_link.specs.Trace.{Mark, Trace, new_trace, trace_after, trace_step}
 use Rattle.macsec_link.proofs.Moments.{world_of_trace}
-use Rattle.macsec_link.proofs.SealedFrames.{Sealed, aad_sent, frame_with, items, opens, parts_with, sealed, tag_of, with_tag}
-use Rattle.macsec_link.proofs.TracedSteps.{AtEach, after_both, at_moment, deliver_step, each_append, each_next, genuine_append, genuine_at, genuine_next, send_step, sent_by}
-use Rattle.macsec_link.proofs.WorkedEnds.{config, installed_key, log, new_key, no_salt, of_two, receives_from, rx_from, sci_a, sci_b, sends_from, tx_from}
+use Rattle.macsec_premises.proofs.SealedFrames.{Sealed, aad_sent, frame_with, items, opens, parts_with, sealed, tag_of, with_tag}
+use Rattle.macsec_premises.proofs.TracedSteps.{AtEach, WhileLive, after_both, at_moment, deliver_step, each_append, each_next, genuine_append, genuine_at, genuine_next, send_step, sent_by}
+use Rattle.macsec_premises.proofs.WorkedEnds.{config, installed_key, log, new_key, no_salt, of_two, receives_from, rx_from, sci_a, sci_b, sends_from, tx_from}
 
 abbrev pub config_a : EndConfig
 config_a = config Gcm128 sci_a
@@ -253,9 +253,6 @@ last_world_is : last_world ≡ (heard_second first_tag second_tag).world
 last_world_is = sym (world_of_trace (new_trace config_a config_b) events) ∙ ap (λ (t : Trace). t.world) trace_ends
 
 -- B's options are those of the making at each moment
-abbrev WhileLive : (State → Type 0) → WorldState → Type 0
-WhileLive P w = IfSome (slice_get w.b.delivered 0) (λ log. log.live ≡ true → P w.b.state)
-
 each_moment : (P : State → Type 0) → ((s : State) → s.options ≡ first_options config_b → P s) → AtEach (WhileLive P) (new_world config_a config_b) events
 each_moment P so =
     each_append (WhileLive P) (new_world config_a config_b) ready.world commands exchange

@@ -7,7 +7,7 @@ use Rattle.std.specs.Int.{w32, w64, to_be_bytes}
 use Rattle.std.proofs.lemmas.List.{get_or_append_left}
 use Rattle.std.proofs.lemmas.Nat.{shr-shr}
 use Rattle.macsec_suite.specs.Suites.{extended_iv}
-use Rattle.macsec_link.proofs.Ivs.{get_or-sum, same_of_4, xor_same}
+use Rattle.macsec_premises.proofs.Ivs.{get_or-sum, same_of_4, xor_same}
 
 -- the first four octets of an extended packet number are those of its upper half
 upper_octets : (n : ℕ) → take 4 (to_be_bytes w64 n) ≡ to_be_bytes w32 (n / 2 ^ 32)

@@ -1,5 +1,5 @@
 -- The ends of worked runs: their configurations and keys, and the commands by which association 0 sends or receives.
-use Rattle.std.proofs.Common.{◌≡◌, ◌≢◌, ◌⊎◌, inl, inr, ℕ, true, false, List, [], ◌∷◌, ap, get_or, subst, Contains}
+use Rattle.std.proofs.Common.{◌≡◌, ◌≢◌, ◌⊎◌, inl, inr, ℕ, true, false, List, [], ◌∷◌, ◌++◌, ap, get_or, subst, Contains}
 use Rattle.std.specs.Prelude.{replicate, Bool, None}
 use Rattle.macsec_aes.specs.declared.Key.TheVariants.{K128}
 use Rattle.macsec_tag.specs.declared.identifiers.Sci.{Sci}
@@ -12,8 +12,9 @@ use Rattle.macsec_rx.specs.declared.RxRow.{RxRow}
 use Rattle.macsec_commands.specs.declared.command.Command.TheVariants.{Key, RxOn, RxSa, RxSc, TxOn, TxSa}
 use Rattle.macsec_commands.specs.declared.config.EndConfig.{EndConfig}
 use Rattle.macsec_commands.specs.declared.event.End.{End}
+use Rattle.macsec_commands.specs.declared.event.End.TheVariants.{A, B}
 use Rattle.macsec_commands.specs.declared.event.Event.{Event}
-use Rattle.macsec_commands.specs.declared.event.Event.TheVariants.{Command}
+use Rattle.macsec_commands.specs.declared.event.Event.TheVariants.{Command, Send}
 use Rattle.macsec_link.specs.Answers.{make_fault}
 use Rattle.macsec_ends.specs.Logs.{DeliveryLog}
 use Rattle.macsec_link.proofs.Members.{member}
@@ -49,6 +50,10 @@ Fails law a b events = (make_fault a b ≡ None) × (law a b events → ⊥)
 -- association 0 sends from this packet number on
 abbrev pub sends_from : End → NewKey → ℕ → Bool → List Event
 sends_from e key next conf = Command e (Key key) ∷ Command e (TxSa 0 0 next conf) ∷ Command e (TxOn 0) ∷ []
+
+-- a frame of each end, from packet number 1 on
+abbrev pub both_send : NewKey → NewKey → List Event
+both_send a b = sends_from A a 1 false ++ sends_from B b 1 false ++ Send A client ∷ Send B client ∷ []
 
 -- association 0 of the only channel receives from this packet number on
 abbrev pub receives_from : End → NewKey → Sci → ℕ → ℕ → List Event

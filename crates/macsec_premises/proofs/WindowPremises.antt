@@ -17,11 +17,11 @@ use Rattle.macsec_commands.specs.declared.event.End.TheVariants.{A, B}
 use Rattle.macsec_commands.specs.declared.event.Event.{Event}
 use Rattle.macsec_commands.specs.declared.event.Event.TheVariants.{Deliver, Inject, Send}
 use Rattle.macsec_link.specs.Trace.{Mark, Trace, marks_of, new_trace, trace_after, trace_of, trace_step}
-use Rattle.macsec_link.proofs.Exchange.{aad, bytes, client, config_a, config_b, iv, key_row, link_frame_of, link_frame_with, mark, tag, trace_at, use_of, use_with}
-use Rattle.macsec_link.proofs.OriginPremises.{commands_check, icv_of, in_check, is_in_check, options_check, zero_or_one}
-use Rattle.macsec_link.proofs.SealedFrames.{Sealed, closes, first, items, opens, sealed, tag_of}
-use Rattle.macsec_link.proofs.TracedSteps.{after_both, deliver_step, send_step, sent_by}
-use Rattle.macsec_link.proofs.WorkedEnds.{Fails, rx_from, tx_from}
+use Rattle.macsec_premises.proofs.Exchange.{aad, bytes, client, config_a, config_b, iv, key_row, link_frame_of, link_frame_with, mark, tag, trace_at, use_of, use_with}
+use Rattle.macsec_premises.proofs.OriginPremises.{commands_check, icv_of, in_check, is_in_check, options_check, zero_or_one}
+use Rattle.macsec_premises.proofs.SealedFrames.{Sealed, closes, first, items, opens, sealed, tag_of}
+use Rattle.macsec_premises.proofs.TracedSteps.{after_both, deliver_step, send_step, sent_by}
+use Rattle.macsec_premises.proofs.WorkedEnds.{Fails, rx_from, tx_from}
 
 -- a frame of number 2 with such an ICV, and then A's own of number 1
 abbrev guessed : ℕ → List ℕ

@@ -6,7 +6,6 @@ use Rattle.std.proofs.Common.{◌≡◌, ◌≢◌, ℕ, Bool, true, false, List
 use Rattle.std.specs.Prelude.{◌==◌, if◌then◌else◌, replicate, slice_get, Option, Some, None, IfSome, Contains}
 use Rattle.macsec_tag.specs.Table.{Reading, bad, tagged, untagged}
 use Rattle.macsec_tag.specs.Table as table
-use Rattle.macsec_suite.specs.declared.key_row.NewKey.{NewKey}
 use Rattle.macsec_suite.specs.declared.suite.Suite.TheVariants.{Gcm128, Xpn128}
 use Rattle.macsec_suite.specs.KeyRows.{InstalledKey}
 use Rattle.macsec_suite.specs.Suites.{is_xpn}
@@ -18,7 +17,7 @@ use Rattle.macsec_commands.specs.declared.config.EndConfig.{EndConfig}
 use Rattle.macsec_secy.specs.Reception.{judgement_of}
 use Rattle.macsec_secy.specs.State.{State}
 use Rattle.macsec_commands.specs.declared.event.End.{End}
-use Rattle.macsec_commands.specs.declared.event.End.TheVariants.{A, B}
+use Rattle.macsec_commands.specs.declared.event.End.TheVariants.{B}
 use Rattle.macsec_commands.specs.declared.event.Event.{Event}
 use Rattle.macsec_commands.specs.declared.event.Event.TheVariants.{Alter, Command, Deliver, Inject, Pad, Send, SendUncontrolled}
 use Rattle.macsec_link.specs.Answers.{make_fault}
@@ -28,8 +27,8 @@ use Rattle.macsec_link.specs.Origin.{IsStrict, WhileThere}
 use Rattle.macsec_link.specs.Step.{world_after}
 use Rattle.macsec_link.specs.Trace.{Trace, use_to_open_by, trace_of}
 use Rattle.macsec_link.specs.World.{WorldState, end_of, frame_at, new_world}
-use Rattle.macsec_link.proofs.TracedSteps.{at_moment}
-use Rattle.macsec_link.proofs.WorkedEnds.{client, config, new_key, no_salt, of_two, receives_from, sci_a, sci_b, scis_differ, sends_from}
+use Rattle.macsec_premises.proofs.TracedSteps.{at_moment}
+use Rattle.macsec_premises.proofs.WorkedEnds.{both_send, config, new_key, no_salt, of_two, receives_from, sci_a, sci_b, scis_differ}
 
 -- a frame of which step 13 of reception does not decide asks for nothing
 pub nothing_asked : (t : Trace) (e : End) (n : ℕ) → ((judgement_of (end_of t.world e).state (frame_at t.world n)).step == 13) ≡ false → IsGenuineAt t (Deliver e n)
@@ -54,9 +53,6 @@ pub others_ask_nothing : (t : Trace) (e : End) (frame : List ℕ) (n place octet
 others_ask_nothing t e frame n place octet = (tt, (tt, (tt, (tt, tt))))
 
 -- ---- packet numbers
-
-abbrev both_send : NewKey → NewKey → List Event
-both_send a b = sends_from A a 1 false ++ sends_from B b 1 false ++ Send A client ∷ Send B client ∷ []
 
 -- all premises of the law on packet numbers, and a use of the cipher at each end
 pub record MeetIvPremises (a b : EndConfig) (events : List Event) : Type 0 where

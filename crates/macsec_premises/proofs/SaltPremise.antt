@@ -1,8 +1,8 @@
 -- That the ends agree on the salt is needed for the order of deliveries: with another salt at B a packet number that B
 -- recovers is another one than A's, and the IV may fit all the same. A sends three frames, from ffffffff on; B takes the
 -- third as number 1, and then the first as 1ffffffff.
-use Rattle.std.proofs.Common.{◌≡◌, ◌≢◌, ℕ, get_or, zero, suc, ◌+◌, ◌-◌, ◌*◌, ◌^◌, ◌<◌, true, false, List, [], ◌∷◌, ◌++◌, refl, ap, sym, subst, ◌∙◌, arith}
-use Rattle.std.specs.Prelude.{replicate, slice_get, slice_set, IfSome, Some}
+use Rattle.std.proofs.Common.{◌≡◌, ◌≢◌, ℕ, get_or, zero, suc, ◌+◌, ◌-◌, ◌*◌, ◌^◌, ◌<◌, false, List, [], ◌∷◌, ◌++◌, refl, ap, sym, subst, ◌∙◌, arith}
+use Rattle.std.specs.Prelude.{replicate, slice_set, Some}
 use Rattle.macsec_gcm.specs.Gcm.{open_of}
 use Rattle.macsec_gcm.specs.Octets.{sum_with_stream}
 use Rattle.macsec_tag.specs.Table.{parts_at}
@@ -29,12 +29,12 @@ use Rattle.macsec_link.specs.Origin.{HasStrictOrder, IsStrict, IsSubsequence, Wa
 use Rattle.macsec_link.specs.Step.{world_after}
 use Rattle.macsec_link.specs.Trace.{Mark, Trace, new_trace, trace_after, trace_step}
 use Rattle.macsec_link.specs.World.{WorldState, new_world}
-use Rattle.macsec_link.proofs.Exchange.{client, mark}
-use Rattle.macsec_link.proofs.IvPremises.{AgreeOnSuite, AgreeOnSuites}
+use Rattle.macsec_premises.proofs.Exchange.{client, mark}
+use Rattle.macsec_premises.proofs.IvPremises.{AgreeOnSuite, AgreeOnSuites}
 use Rattle.macsec_link.proofs.Moments.{world_of_trace}
-use Rattle.macsec_link.proofs.SealedFrames.{Sealed, aad_sent, frame_with, items, opens, parts_with, sealed, tag_of, with_tag}
-use Rattle.macsec_link.proofs.TracedSteps.{AtEach, after_both, at_moment, deliver_step, each_append, each_next, genuine_append, genuine_at, genuine_next, send_step, sent_by}
-use Rattle.macsec_link.proofs.WorkedEnds.{Fails, config, installed_key, log, new_key, no_salt, of_two, receives_from, rx_from, sci_a, sci_b, sends_from, tx_from}
+use Rattle.macsec_premises.proofs.SealedFrames.{Sealed, aad_sent, frame_with, items, opens, parts_with, sealed, tag_of, with_tag}
+use Rattle.macsec_premises.proofs.TracedSteps.{AtEach, WhileLive, world_of, after_both, at_moment, deliver_step, each_append, each_next, genuine_append, genuine_at, genuine_next, send_step, sent_by}
+use Rattle.macsec_premises.proofs.WorkedEnds.{Fails, config, installed_key, log, new_key, no_salt, of_two, receives_from, rx_from, sci_a, sci_b, sends_from, tx_from}
 
 abbrev xpn_a : EndConfig
 xpn_a = config Xpn128 sci_a
@@ -246,9 +246,6 @@ is_genuine =
     (genuine_next (after_third first_tag second_tag third_tag) (after_raising first_tag second_tag third_tag) (Command B (RxLow sci_a 0 (2 ^ 32))) last_delivery (tt {0}) (is_raised first_tag second_tag third_tag)
     (genuine_next (after_raising first_tag second_tag third_tag) (after_first first_tag second_tag third_tag) (Deliver B 0) [] (first_genuine first_tag second_tag third_tag first_opens) (first_heard first_tag second_tag third_tag first_opens) (tt {0})))))))
 
-abbrev world_of : Trace → WorldState
-world_of t = t.world
-
 last_world_is : world_after (new_world xpn_a xpn_b) events ≡ (after_first first_tag second_tag third_tag).world
 last_world_is =
     sym (world_of_trace (new_trace xpn_a xpn_b) events)
@@ -262,9 +259,6 @@ last_world_is =
     ∙ first_heard first_tag second_tag third_tag first_opens)
 
 -- B's options are those of the making at each moment
-abbrev WhileLive : (State → Type 0) → WorldState → Type 0
-WhileLive P w = IfSome (slice_get w.b.delivered 0) (λ log. log.live ≡ true → P w.b.state)
-
 each_moment : (P : State → Type 0) → ((s : State) → s.options ≡ first_options xpn_b → P s) → AtEach (WhileLive P) (new_world xpn_a xpn_b) events
 each_moment P so =
     each_append (WhileLive P) (new_world xpn_a xpn_b) ready.world commands exchange

@@ -36,9 +36,9 @@ use Rattle.macsec_link.specs.World.{WorldState, end_of, new_world, other_end}
 use Rattle.macsec_link.specs.Faults.{fault_of}
 use Rattle.macsec_ends.specs.Logs.{no_sent_logs}
 use Rattle.macsec_link.specs.Trace.{Trace}
-use Rattle.macsec_link.proofs.SealedFrames.{Sealed, aad_sent, frame_with, sealed, tag_of, with_tag}
-use Rattle.macsec_link.proofs.TracedSteps.{send_step, sent_by, trace_sent}
-use Rattle.macsec_link.proofs.WorkedEnds.{Fails, client, config, installed_key, log, new_key, no_salt, receives_from, rx_from, sci_a, sci_b, sends_from, tx_from}
+use Rattle.macsec_premises.proofs.SealedFrames.{Sealed, aad_sent, frame_with, sealed, tag_of, with_tag}
+use Rattle.macsec_premises.proofs.TracedSteps.{send_step, sent_by, trace_sent}
+use Rattle.macsec_premises.proofs.WorkedEnds.{Fails, client, config, installed_key, log, new_key, no_salt, receives_from, rx_from, sci_a, sci_b, sends_from, tx_from}
 
 -- the premises by name
 pub data Premise : Type 0 where

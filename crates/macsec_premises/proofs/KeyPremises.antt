@@ -23,11 +23,11 @@ use Rattle.macsec_commands.specs.declared.event.Event.TheVariants.{Deliver, Send
 use Rattle.macsec_link.specs.Faults.{fault_of}
 use Rattle.macsec_link.specs.Step.{world_step}
 use Rattle.macsec_link.specs.World.{WorldState, frame_at}
-use Rattle.macsec_link.proofs.AcceptancePremises.{HoldsIn, LawWithout, SameSalt, SameSsci, each_but, fails_by, frame_from, heard, key_row, seals_as_frame, state_b, tag_from, world_before, world_sent, xpn_a, xpn_b}
-use Rattle.macsec_link.proofs.Ivs.{xor_same}
-use Rattle.macsec_link.proofs.SealedFrames.{aad_sent, closes, first, items, rest, tag_of}
-use Rattle.macsec_link.proofs.TracedSteps.{sent_by}
-use Rattle.macsec_link.proofs.WorkedEnds.{Fails, client, new_key, no_salt, receives_from, rx_from, sci_a, sends_from, tx_from}
+use Rattle.macsec_premises.proofs.AcceptancePremises.{HoldsIn, LawWithout, SameSalt, SameSsci, each_but, fails_by, frame_from, heard, key_row, seals_as_frame, state_b, tag_from, world_before, world_sent, xpn_a, xpn_b}
+use Rattle.macsec_premises.proofs.Ivs.{xor_same}
+use Rattle.macsec_premises.proofs.SealedFrames.{aad_sent, closes, first, items, rest, tag_of}
+use Rattle.macsec_premises.proofs.TracedSteps.{sent_by}
+use Rattle.macsec_premises.proofs.WorkedEnds.{Fails, client, new_key, no_salt, receives_from, rx_from, sci_a, sends_from, tx_from}
 
 -- ---- tags under two IVs
 

@@ -1,7 +1,7 @@
 -- One event of a trace, by what the endpoint makes of it: so a worked run goes on from a world that is written out,
 -- and never computes what it had before.
 use Rattle.std.proofs.Common.{◌≡◌, ℕ, ◌≤◌, zero, suc, List, [], ◌∷◌, ◌++◌, length, take, refl, sym, subst, arith}
-use Rattle.std.specs.Prelude.{Some, None, IfSome, Contains}
+use Rattle.std.specs.Prelude.{slice_get, true, Some, None, IfSome, Contains}
 use Rattle.macsec_tag.specs.Table.{reading}
 use Rattle.macsec_suite.specs.CipherUses.{CipherUse}
 use Rattle.macsec_tx.specs.declared.TxRow.{TxRow}
@@ -19,6 +19,9 @@ use Rattle.macsec_link.specs.Step.{world_after, world_step}
 use Rattle.macsec_link.specs.Trace.{Trace, marks_by, use_sealed_by, trace_after, trace_step}
 use Rattle.macsec_link.specs.World.{WorldState, frame_at}
 use Rattle.macsec_ends.specs.Ends.{end_after}
+
+abbrev pub world_of : Trace → WorldState
+world_of t = t.world
 
 -- ---- one event
 
@@ -74,6 +77,10 @@ genuine_append t after (event ∷ events) more now is later = (now.0, genuine_ap
 abbrev pub AtEach : (WorldState → Type 0) → WorldState → List Event → Type 0
 AtEach P w [] = P w
 AtEach P w (event ∷ events) = P w × AtEach P (world_step w event).1 events
+
+-- a fact of B at a moment, while its association 0 is there
+abbrev pub WhileLive : (State → Type 0) → WorldState → Type 0
+WhileLive P w = IfSome (slice_get w.b.delivered 0) (λ log. log.live ≡ true → P w.b.state)
 
 -- of each moment before the last
 abbrev pub AtEachBefore : (WorldState → Type 0) → WorldState → List Event → Type 0
