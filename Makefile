@@ -28,13 +28,11 @@ try: toolchain
 run: build/macsec
 	@build/macsec run - < crates/macsec_examples/data/tour.macsec
 
-# What needs no proof; every proof from nothing, the must-fail edits, the tests and the programs; then the program that
-# was proved, as both compilers built it.
+# Every proof from nothing, the must-fail edits, the tests and the programs, and beside them what needs no proof; then
+# the program that was proved, as both compilers built it.
 check: toolchain
-	tools/kept-frames
-	tools/lanes-used
 	tools/failures calls
-	rt ci
+	tools/kept-frames & frames=$$!; tools/lanes-used & lanes=$$!; rt ci && wait $$frames && wait $$lanes
 	@mkdir -p build
 	cp crates/macsec_cli/out/macsec_cli build/macsec
 	cp crates/macsec_cli/out/macsec_cli.by-rattle build/macsec-rattle
