@@ -44,6 +44,11 @@ FailsAs name (CannotOpen path) = path.now ≡ name
 FailsAs name (Script fault) = Unit {0}
 FailsAs name (Pcap fault) = ⊥
 
+-- the file of this name can't be opened
+abbrev pub FailsAsOpening : List ℕ → Failure → Type 0
+FailsAsOpening name (CannotOpen path) = path.now ≡ name
+FailsAsOpening name other = ⊥
+
 -- nothing is written if the file can't be opened
 abbrev pub LeavesOutput : Option (List ℕ) → Option (List ℕ) → Failure → Type 0
 LeavesOutput old new Usage = Keeps old new

@@ -1,7 +1,7 @@
 //! What stands in the place of standard streams that were closed before the program started.
 
 ghost use Rattle.std.specs.Prelude.{codes, IfErr};
-ghost use Rattle.macsec_program.specs.Failures.{FailsAs};
+ghost use Rattle.macsec_program.specs.Failures.{FailsAsOpening};
 
 use crate::failures::Failure;
 use std::fs;
@@ -23,7 +23,7 @@ pub struct StandIns<F> {
 /// Opens what stands in for closed standard streams; before any other file, and to be held for the whole run. Returns
 /// `CannotOpen` if the directory `/` can't be opened three times.
 pub fn open_stand_ins<H: Files>(rt: &H) -> Result<StandIns<H::File>, Failure<'static>>
-    ensures { IfErr result (FailsAs (codes "/")) }
+    ensures { IfErr result (FailsAsOpening (codes "/")) }
 {
     match (
         fs::open(rt, STAND_IN),
