@@ -1,6 +1,6 @@
 -- The words of the command line, as clap's definitions read them: `run SCRIPT`, `protect CONFIG IN OUT` or
 -- `validate CONFIG IN OUT`.
-use Rattle.std.specs.Prelude.{◌≡◌, ◌⊎◌, List, [], ◌∷◌, codes, bytes_eq, true, if◌then◌else◌, Option, Some, None, option_map, option_and_then, IsSomeAnd, Result, Ok, Err}
+use Rattle.std.specs.Prelude.{◌≡◌, ◌⊎◌, List, [], ◌∷◌, codes, bytes_eq, true, if◌then◌else◌, Option, Some, None, option_map, option_and_then, IsSome, IsSomeAnd, Result, Ok, Err}
 use Rattle.clap.specs.Words.{App, Kinds, Row, Rule, Text, fault_of, first_of, new_app, new_rule, subcommand_of, with_rule, with_subcommand}
 use Rattle.clap.specs.declared.builder.action.ArgAction.TheVariants.{Set}
 use Rattle.clap.specs.declared.error.kind.ErrorKind.{ErrorKind}
@@ -93,5 +93,5 @@ IsCapture (capturing direction config input output) = Unit {0}
 abbrev pub FailsBy : List Text → Failure → Type 0
 FailsBy words Usage = asked words ≡ None
 FailsBy words (CannotOpen path) = IsSomeAnd (asked words) (NamesFile path.now)
-FailsBy words (Script fault) = Unit {0}
+FailsBy words (Script fault) = (IsSome (asked words)) ⊎ (fault ≡ Memory)
 FailsBy words (Pcap fault) = IsSomeAnd (asked words) IsCapture

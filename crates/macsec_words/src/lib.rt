@@ -1,7 +1,9 @@
 //! The words of the program's command line, and the run that they ask for.
 #![tactic(auto)]
 
-ghost use Rattle.std.specs.Prelude.{◌≡◌, false, map, option_map, string_bytes, IfErr, IfOk};
+mod program;
+
+ghost use Rattle.std.specs.Prelude.{◌≡◌, false, map, option_map, string_bytes, IfErr, IfOk, IsSome};
 ghost use Rattle.clap.specs.Words.{app_of, first_of, found_of, rows_of, rule_of, subcommand_rows_of};
 ghost use Rattle.macsec_words.specs.Words.{Asks, FailsBy, asked, asked_by, asked_in, capture_app, capture_in, kind_failure, macsec_app, name_rule, run_in};
 
@@ -10,6 +12,7 @@ use clap::{Arg, ArgAction, ArgMatches, Command};
 use macsec_capture::Direction;
 use macsec_lines::ScriptFault;
 use macsec_program::{CapturePaths, Failure, capture_named, run_named};
+pub use program::{run_and_tell, run_program};
 use std::alloc::{AllocError, Global};
 use std::io::BufWriter;
 
@@ -41,7 +44,8 @@ pub fn task_of_words<'a>(alloc: Global, words: &'a [String]) -> Result<Task<'a>,
 
 /// Does what the words behind the program's own name ask for. What it prints goes to standard output.
 pub fn run_words<'a>(rt: &HostRuntime, words: &'a [String]) -> Result<(), Failure<'a>>
-    ensures { IfErr result (FailsBy (map string_bytes words.now)) }
+    ensures done { IfOk result (λ _. IsSome (asked (map string_bytes words.now))) }
+    ensures failure { IfErr result (FailsBy (map string_bytes words.now)) }
 {
     let task = task_of_words(rt.alloc(), words)?;
     let Ok(mut text) = BufWriter::new(rt.alloc(), rt.stdout()) else {
