@@ -31,7 +31,8 @@ use Rattle.macsec_link.proofs.Accepted.{LawOfStep, StandsWith, stands_with}
 use Rattle.macsec_link.proofs.EndpointLaws.{EndpointLaws}
 use Rattle.macsec_link.proofs.LinkFrames.{finds}
 use Rattle.macsec_link.proofs.Members.{IsMember, contained}
-use Rattle.macsec_link.proofs.Moments.{AreSound, world_of_trace}
+use Rattle.macsec_link.specs.Beginnings.{AreSound}
+use Rattle.macsec_link.proofs.Moments.{world_of_trace}
 use Rattle.macsec_link.proofs.Seals.{fits, sound_end}
 use Rattle.macsec_premises.proofs.SentStands.{stands_on_link, stays_on_link}
 

@@ -1,0 +1,44 @@
+//! Laws of the written world, for every list of events: each is the contract of a function that does nothing. Whoever takes
+//! steps by `World::step` has them of the events whose results are not `Memory`.
+
+ghost use Rattle.std.specs.Prelude.{◌++◌, ◌∷◌, List, []};
+ghost use Rattle.macsec_commands.specs.declared.config.EndConfig.{EndConfig};
+ghost use Rattle.macsec_commands.specs.declared.event.Event.{Event};
+ghost use Rattle.macsec_link.specs.World.{new_world};
+ghost use Rattle.macsec_link.specs.Step.{world_after, world_step};
+ghost use Rattle.macsec_link.specs.Sound.{IsSound};
+ghost use Rattle.macsec_link.specs.Beginnings.{AreSound, AtEachMoment};
+ghost use Rattle.macsec_link.specs.UniqueIvs.{RepeatsNoIv, SealsEachFrame};
+ghost use Rattle.macsec_link.specs.Window.{KeepsWindow, MarksEachFrame};
+ghost use Rattle.macsec_link.specs.Acceptance.{AcceptsInTime};
+ghost use Rattle.macsec_link.specs.Origin.{ComesFromOther, ComesInOrder};
+
+use macsec_secy::laws::{accepts_sent, delivers_in_time, keys_stay, protects_frames, rx_rows_stay};
+use macsec_suite::laws::equal_ivs;
+use macsec_tag::laws::reads_by_grammar;
+
+/// The four promises: of every list of events at whose moments the world is sound. `World::run` says what each promises.
+pub fn promises()
+    ensures unique_ivs { (a b : EndConfig) (events : List Event) → AreSound a b events → AtEachMoment RepeatsNoIv a b events }
+    ensures seals { (a b : EndConfig) (events : List Event) → AreSound a b events → AtEachMoment SealsEachFrame a b events }
+    ensures window { (a b : EndConfig) (events : List Event) → AreSound a b events → KeepsWindow a b events }
+    ensures marks { (a b : EndConfig) (events : List Event) → AreSound a b events → AtEachMoment MarksEachFrame a b events }
+    ensures origin { (a b : EndConfig) (events : List Event) → AreSound a b events → AtEachMoment ComesFromOther a b events }
+    ensures order { (a b : EndConfig) (events : List Event) → AreSound a b events → AtEachMoment ComesInOrder a b events }
+    ensures acceptance { (a b : EndConfig) (events : List Event) → AreSound a b events → AcceptsInTime a b events }
+{
+    // Laws that the proofs cite.
+    reads_by_grammar();
+    equal_ivs();
+    keys_stay();
+    rx_rows_stay();
+    protects_frames();
+    delivers_in_time();
+    accepts_sent();
+}
+
+/// The worlds of a list of events are sound if each step from a sound one, as `World::step` takes it, leaves a sound one.
+pub fn worlds_are_sound()
+    ensures start { (a b : EndConfig) → IsSound (new_world a b) → AreSound a b [] }
+    ensures step { (a b : EndConfig) (events : List Event) (event : Event) → AreSound a b events → IsSound (world_step (world_after (new_world a b) events) event).1 → AreSound a b (events ++ event ∷ []) }
+{}
