@@ -1,5 +1,5 @@
-//! Laws of the written world, for every list of events: each is the contract of a function that does nothing. Whoever takes
-//! steps by `World::step` has them of the events whose results are not `Memory`.
+//! Laws of the written world, for every list of events: each is the contract of a function that does nothing. Whoever
+//! takes steps by `World::step` has them of the events whose results are not `Memory`.
 
 ghost use Rattle.std.specs.Prelude.{◌++◌, ◌∷◌, List, []};
 ghost use Rattle.macsec_commands.specs.declared.config.EndConfig.{EndConfig};
@@ -17,7 +17,7 @@ use macsec_secy::laws::{accepts_sent, delivers_in_time, keys_stay, protects_fram
 use macsec_suite::laws::equal_ivs;
 use macsec_tag::laws::reads_by_grammar;
 
-/// The four promises: of every list of events at whose moments the world is sound. `World::run` says what each promises.
+/// The four promises, of every list of events at whose moments the world is sound; `World::run` says what each promises.
 pub fn promises()
     ensures unique_ivs { (a b : EndConfig) (events : List Event) → AreSound a b events → AtEachMoment RepeatsNoIv a b events }
     ensures seals { (a b : EndConfig) (events : List Event) → AreSound a b events → AtEachMoment SealsEachFrame a b events }
