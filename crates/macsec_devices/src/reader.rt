@@ -1,11 +1,14 @@
 //! A reader that fails.
 
-ghost use Rattle.std.specs.Prelude.{◌≡◌, length, false};
+ghost use Rattle.std.specs.Prelude.{◌≡◌, Some, false, is_err, length};
+ghost use Rattle.std.specs.Io.KnownBytes.{ReadConsumes};
+ghost use Rattle.std.specs.Io.{ReadsAtMost};
+ghost use Rattle.macsec_devices.specs.Calls.{fails_at};
 
 use crate::Fails;
 use std::io::{self, Read};
 
-/// A reader over octets that gives at most so many a call. A call that fails does so as one that was interrupted, and
+/// A reader over octets that gives at most so many a call, and one at least. A call that fails does so as one that was interrupted, and
 /// takes nothing. It counts its calls, and those after it failed or had no octets left.
 #[derive(Drop)]
 pub struct FailingReader<'a> {
@@ -21,7 +24,11 @@ impl<'a> FailingReader<'a> {
     /// A reader over these octets, in pieces of this length at most.
     pub fn new(octets: &'a [u8], piece: usize, fails: Fails) -> FailingReader<'a>
         ensures rest { result.rest.now ≡ octets.now }
+        ensures piece { result.piece ≡ piece }
+        ensures fails { result.fails ≡ fails }
         ensures calls { result.calls ≡ 0 }
+        ensures has_ended { result.has_ended ≡ false }
+        ensures calls_after { result.calls_after ≡ 0 }
     {
         FailingReader {
             rest: octets,
@@ -46,17 +53,16 @@ impl<'a> FailingReader<'a> {
     {
         self.calls_after
     }
-
-    /// Did it fail or give nothing?
-    pub fn has_ended(&self) -> bool
-        ensures { result ≡ self.now.has_ended }
-    {
-        self.has_ended
-    }
 }
 
 impl Read for FailingReader<'_> {
-    fn read(&mut self, buf: &mut [u8]) -> io::Result<usize> {
+    ghost remaining = { λ reader. Some reader.rest.now };
+
+    fn read(&mut self, buf: &mut [u8]) -> io::Result<usize>
+        ensures bound { ReadsAtMost result buf.new }
+        ensures bytes { ReadConsumes (Some self.old.rest.now) (Some self.new.rest.now) result buf.new }
+        ensures fails { is_err result ≡ fails_at self.old.fails self.old.calls }
+    {
         if self.has_ended {
             self.calls_after = self.calls_after.saturating_add(1);
         }
@@ -66,7 +72,7 @@ impl Read for FailingReader<'_> {
             self.has_ended = true;
             return Err(io::Error::from(io::ErrorKind::Interrupted));
         }
-        let count = self.rest.len().min(buf.len()).min(self.piece);
+        let count = self.rest.len().min(buf.len()).min(self.piece.max(1));
         buf[..count].copy_from_slice(&self.rest[..count]);
         self.rest = &self.rest[count..];
         if count == 0 {

@@ -1,6 +1,9 @@
 //! A writer that fails.
 
-ghost use Rattle.std.specs.Prelude.{◌≡◌, []};
+ghost use Rattle.std.specs.Prelude.{◌≡◌, [], IfOk, Some, false, is_err};
+ghost use Rattle.std.specs.Io.KnownBytes.{Keeps, WriteAppends};
+ghost use Rattle.std.specs.Io.{WritesAtMost};
+ghost use Rattle.macsec_devices.specs.Calls.{fails_at};
 
 use crate::Fails;
 use std::alloc::Global;
@@ -21,7 +24,11 @@ impl FailingWriter {
     /// A writer that has written nothing.
     pub fn new(alloc: Global, fails: Fails, flush_fails: bool) -> FailingWriter
         ensures written { result.written.items ≡ [] }
+        ensures fails { result.fails ≡ fails }
+        ensures flush_fails { result.flush_fails ≡ flush_fails }
         ensures calls { result.calls ≡ 0 }
+        ensures has_failed { result.has_failed ≡ false }
+        ensures calls_after { result.calls_after ≡ 0 }
     {
         FailingWriter {
             written: Vec::new(alloc),
@@ -56,7 +63,13 @@ impl FailingWriter {
 }
 
 impl Write for FailingWriter {
-    fn write(&mut self, buf: &[u8]) -> io::Result<usize> {
+    ghost contents = { λ writer. Some writer.written.items };
+
+    fn write(&mut self, buf: &[u8]) -> io::Result<usize>
+        ensures bound { WritesAtMost result buf.now }
+        ensures bytes { WriteAppends (Some self.old.written.items) (Some self.new.written.items) result buf.now }
+        ensures works { IfOk result (λ _. fails_at self.old.fails self.old.calls ≡ false) }
+    {
         if self.has_failed {
             self.calls_after = self.calls_after.saturating_add(1);
         }
@@ -70,7 +83,10 @@ impl Write for FailingWriter {
         Ok(buf.len())
     }
 
-    fn flush(&mut self) -> io::Result<()> {
+    fn flush(&mut self) -> io::Result<()>
+        ensures bytes { Keeps (Some self.old.written.items) (Some self.new.written.items) }
+        ensures fails { is_err result ≡ self.old.flush_fails }
+    {
         if self.flush_fails {
             return Err(io::Error::from(io::ErrorKind::Other));
         }
