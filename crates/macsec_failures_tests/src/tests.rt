@@ -1,8 +1,9 @@
-//! What the tests share: a script, and a capture with its configuration.
+//! What the tests share: a script, and a capture in each direction with its configuration.
 
 mod ends;
 mod records;
 mod runs;
+mod tasks;
 
 use std::alloc::{AllocError, Global};
 use std::test::Fail;
@@ -16,18 +17,39 @@ const SCRIPT_TEXT: &str =
     "3 done\n4 done\n5 frame 0 ffffffffffff0200000000010800\n6 tx 2 0 0000000000000001 off int\n";
 
 /// An endpoint that protects client frames for integrity, from packet number 1 on.
-const CONFIG: &str =
+const SENDER: &str =
     "end A gcm128 0200000000010001 1518 sci\nA key 0 ad7a2bd03eac835a6f620fdcb506b345 0\nA txsa 0 0 1 int\nA txon 0\n";
 
-/// The header of a capture file in microseconds, and twice a client frame of 14 octets.
+/// An endpoint that receives what that one sends.
+const RECEIVER: &str =
+    "end A gcm128 0000000000000002 1518 auto\nA key 0 ad7a2bd03eac835a6f620fdcb506b345 0\nA rxsc 0200000000010001\nA rxsa 0200000000010001 0 0 1\nA rxon 0200000000010001 0\n";
+
+/// The header of a capture file in microseconds, and the record of a client frame of 14 octets.
 const HEADER: &str = "d4c3b2a1020004000000000000000000ffff000001000000";
 
 const RECORD: &str = "00000000000000000e0000000e000000ffffffffffff0200000000010800";
 
-/// The capture file of two records, of 84 octets.
-fn capture_file(alloc: Global) -> Result<Vec<u8>, Fail> {
+/// The records of what is sent for the client frame with packet numbers 1 and 2. Their ICVs are OpenSSL's.
+const SENT_1: &str =
+    "00000000000000002e0000002e000000ffffffffffff02000000000188e5200200000001020000000001000108008e3d3a0bba9402aac21a039e881269e6";
+
+const SENT_2: &str =
+    "00000000000000002e0000002e000000ffffffffffff02000000000188e520020000000202000000000100010800711a359b8f9a2b7c880dca1196f41d67";
+
+/// The capture file of the client frame, twice, of 84 octets.
+fn client_file(alloc: Global) -> Result<Vec<u8>, Fail> {
+    octets(alloc, &[HEADER, RECORD, RECORD])
+}
+
+/// The capture file of what is sent for it, of 148 octets.
+fn link_file(alloc: Global) -> Result<Vec<u8>, Fail> {
+    octets(alloc, &[HEADER, SENT_1, SENT_2])
+}
+
+/// The octets of pieces of hex, one after another.
+fn octets(alloc: Global, pieces: &[&str]) -> Result<Vec<u8>, Fail> {
     let mut text = String::new(alloc);
-    push_all(&mut text, &[HEADER, RECORD, RECORD])?;
+    push_all(&mut text, pieces)?;
     Ok(hex::decode(alloc, text.as_str())?)
 }
 

@@ -1,6 +1,6 @@
 //! How programs end whose devices fail.
 
-use super::{CONFIG, SCRIPT, capture_file};
+use super::{RECEIVER, SCRIPT, SENDER, client_file, link_file, push_all};
 use macsec_devices::{FailingWriter, Fails};
 use macsec_program::{
     CapturePaths, Direction, Failure, PcapFault, ScriptFault, capture_named, open_stand_ins,
@@ -11,17 +11,17 @@ use std::fs;
 use std::process::Abort;
 use std::test::Fail;
 
-/// A failure is one line, and is written with one call; on a full device it has its status all the same.
-fn check_line(rt: &impl Abort, alloc: Global, failure: Failure<'_>) {
+/// A failure is this line, written with one call, and has this status, on a full device too.
+fn check_line(rt: &impl Abort, alloc: Global, failure: Failure<'_>, wanted: (u8, &str)) {
     let mut line = FailingWriter::new(alloc, Fails::Never, false);
-    let (_, done) = tell(&mut line, Err(failure));
+    let (status, done) = tell(&mut line, Err(failure));
     assert!(rt; done.is_ok());
+    assert_eq!(rt; (status, line.written()), (wanted.0, wanted.1.as_bytes()));
     assert_eq!(rt; line.calls(), 1, "{failure}");
-    assert!(rt; line.written().ends_with(b"\n"));
     let mut full = FailingWriter::new(alloc, Fails::From(0), false);
     let (status, done) = tell(&mut full, Err(failure));
     assert!(rt; done.is_err());
-    assert!(rt; status == 1 || status == 2);
+    assert_eq!(rt; status, wanted.0);
 }
 
 /// Each failure is one line, and is written with one call; a status needs no line.
@@ -32,15 +32,29 @@ fn lines_are_written_at_once(rt: HostRuntime) -> Result<(), Fail> {
     for _ in 0..4096 {
         longest.push_str("p")?;
     }
-    for failure in [
-        Failure::Usage,
-        Failure::CannotOpen("no/such"),
-        Failure::CannotOpen(longest.as_str()),
-        Failure::Script(ScriptFault::Hex(65536)),
-        Failure::Script(ScriptFault::Memory),
-        Failure::Pcap(PcapFault::RecordLength),
+    let mut line = String::new(alloc);
+    push_all(&mut line, &["macsec: cannot open ", longest.as_str(), "\n"])?;
+    for (failure, status, told) in [
+        (Failure::Usage, 2, "macsec: usage\n"),
+        (
+            Failure::CannotOpen("no/such"),
+            1,
+            "macsec: cannot open no/such\n",
+        ),
+        (Failure::CannotOpen(longest.as_str()), 1, line.as_str()),
+        (
+            Failure::Script(ScriptFault::Hex(65536)),
+            2,
+            "macsec: line 65536: Hex\n",
+        ),
+        (Failure::Script(ScriptFault::Memory), 1, "macsec: Memory\n"),
+        (
+            Failure::Pcap(PcapFault::RecordLength),
+            1,
+            "macsec: pcap RecordLength\n",
+        ),
     ] {
-        check_line(&rt, alloc, failure);
+        check_line(&rt, alloc, failure, (status, told));
     }
     Ok(())
 }
@@ -69,17 +83,26 @@ fn flushes_of_scripts_that_fail(rt: HostRuntime) {
 }
 
 /// How a capture ends that is written to this file, and whose text's flush fails if it is to: its status, and what is told.
-fn end_of_capture(rt: &HostRuntime, output: &str, flush_fails: bool) -> (u8, Vec<u8>) {
+fn end_of_capture(
+    rt: &HostRuntime,
+    direction: Direction,
+    output: &str,
+    flush_fails: bool,
+) -> (u8, Vec<u8>) {
+    let (config, input) = match direction {
+        Direction::Protect => ("sender", "client"),
+        Direction::Validate => ("receiver", "link"),
+    };
     let paths = CapturePaths {
-        config: "by",
-        input: "frames",
+        config,
+        input,
         output,
     };
     let mut text = FailingWriter::new(rt.alloc(), Fails::Never, flush_fails);
     let mut told = Vec::new(rt.alloc());
     let (status, _) = tell(
         &mut told,
-        capture_named(rt, rt.alloc(), Direction::Protect, paths, &mut text),
+        capture_named(rt, rt.alloc(), direction, paths, &mut text),
     );
     (status, told)
 }
@@ -87,17 +110,22 @@ fn end_of_capture(rt: &HostRuntime, output: &str, flush_fails: bool) -> (u8, Vec
 /// The same of an output on a full device, and of the text of a capture.
 #[test]
 fn flushes_of_captures_that_fail(rt: HostRuntime) -> Result<(), Fail> {
-    fs::write(&rt, "by", CONFIG)?;
-    fs::write(&rt, "frames", capture_file(rt.alloc())?.as_slice())?;
-    for (output, flush_fails, wanted) in [
-        ("/dev/full", false, "macsec: pcap Write\n"),
-        ("written", true, "macsec: Write\n"),
-        ("/dev/full", true, "macsec: pcap Write\n"),
-    ] {
-        let (found, told) = end_of_capture(&rt, output, flush_fails);
-        assert_eq!(&rt; (found, told.as_slice()), (1, wanted.as_bytes()));
+    let alloc = rt.alloc();
+    fs::write(&rt, "sender", SENDER)?;
+    fs::write(&rt, "receiver", RECEIVER)?;
+    fs::write(&rt, "client", client_file(alloc)?.as_slice())?;
+    fs::write(&rt, "link", link_file(alloc)?.as_slice())?;
+    for direction in [Direction::Protect, Direction::Validate] {
+        for (output, flush_fails, wanted) in [
+            ("/dev/full", false, "macsec: pcap Write\n"),
+            ("written", true, "macsec: Write\n"),
+            ("/dev/full", true, "macsec: pcap Write\n"),
+        ] {
+            let (found, told) = end_of_capture(&rt, direction, output, flush_fails);
+            assert_eq!(&rt; (found, told.as_slice()), (1, wanted.as_bytes()));
+        }
     }
-    for name in ["by", "frames", "written"] {
+    for name in ["sender", "receiver", "client", "link", "written"] {
         fs::remove_file(&rt, name)?;
     }
     Ok(())

@@ -1,6 +1,6 @@
 //! Readers and writers of capture files over devices that fail.
 
-use super::capture_file;
+use super::client_file;
 use macsec_devices::{FailingReader, FailingWriter, Fails};
 use macsec_pcap::{PcapFault, PcapReader, PcapWriter, Resolution};
 use std::alloc::Global;
@@ -65,7 +65,7 @@ fn counted_failing(
 #[test]
 fn reads_that_fail(rt: HostRuntime) -> Result<(), Fail> {
     let alloc = rt.alloc();
-    let file = capture_file(alloc)?;
+    let file = client_file(alloc)?;
     for at in 0..=15 {
         for fails in [Fails::At(at), Fails::From(at)] {
             let (found, calls_after) = counted_failing(alloc, file.as_slice(), fails);

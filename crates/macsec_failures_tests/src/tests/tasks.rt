@@ -1,0 +1,96 @@
+//! The runs of which devices fail, and their stops: where a run can end before its end.
+
+use super::{
+    HEADER, RECEIVER, RECORD, SCRIPT, SCRIPT_TEXT, SENDER, SENT_1, SENT_2, client_file, link_file,
+};
+use macsec_capture::Direction;
+use std::alloc::Global;
+use std::test::Fail;
+
+/// A run of the script, or of a capture: the client frames are protected, or the link frames validated.
+#[derive(Clone, Copy, Debug)]
+pub enum Task {
+    Script,
+    Capture(Direction),
+}
+
+/// What a run adds from one stop to the next: to the output, in hex, and to the text.
+pub type Step = (&'static str, &'static str);
+
+/// The text of a script is written at its end.
+const SCRIPT_STEPS: [Step; 1] = [("", SCRIPT_TEXT)];
+
+/// A capture: the configuration, the header, each record, and the counters.
+const PROTECT_STEPS: [Step; 5] = [
+    ("", "2 done\n3 done\n4 done\n"),
+    (HEADER, ""),
+    (SENT_1, "record 0 link 46\n"),
+    (SENT_2, "record 1 link 46\n"),
+    (
+        "",
+        "end InPktsUntagged 0\nend InPktsNoTag 0\nend InPktsBadTag 0\nend InPktsReserved 0\nend InPktsNoSA 0\nend InPktsNoSAError 0\nend InOctetsValidated 0\nend InOctetsDecrypted 0\nend OutPktsUntagged 0\nend OutPktsTooLong 0\nend OutPktsNoSA 0\nend OutPktsProtected 2\nend OutPktsEncrypted 0\nend OutOctetsProtected 4\nend OutOctetsEncrypted 0\n",
+    ),
+];
+
+const VALIDATE_STEPS: [Step; 5] = [
+    ("", "2 done\n3 done\n4 done\n5 done\n"),
+    (HEADER, ""),
+    (RECORD, "record 0 OK 14\n"),
+    (RECORD, "record 1 OK 14\n"),
+    (
+        "",
+        "end InPktsUntagged 0\nend InPktsNoTag 0\nend InPktsBadTag 0\nend InPktsReserved 0\nend InPktsNoSA 0\nend InPktsNoSAError 0\nend InOctetsValidated 4\nend InOctetsDecrypted 0\nend OutPktsUntagged 0\nend OutPktsTooLong 0\nend OutPktsNoSA 0\nend OutPktsProtected 0\nend OutPktsEncrypted 0\nend OutOctetsProtected 0\nend OutOctetsEncrypted 0\nend 0200000000010001 InPktsOK 2\nend 0200000000010001 InPktsUnchecked 0\nend 0200000000010001 InPktsDelayed 0\nend 0200000000010001 InPktsLate 0\nend 0200000000010001 InPktsInvalid 0\nend 0200000000010001 InPktsNotValid 0\n",
+    ),
+];
+
+impl Task {
+    /// What the run adds, step by step.
+    pub fn steps(self) -> &'static [Step] {
+        match self {
+            Task::Script => &SCRIPT_STEPS,
+            Task::Capture(Direction::Protect) => &PROTECT_STEPS,
+            Task::Capture(Direction::Validate) => &VALIDATE_STEPS,
+        }
+    }
+
+    /// The script, or the configuration of the capture.
+    pub fn source(self) -> &'static str {
+        match self {
+            Task::Script => SCRIPT,
+            Task::Capture(Direction::Protect) => SENDER,
+            Task::Capture(Direction::Validate) => RECEIVER,
+        }
+    }
+
+    /// The capture file.
+    pub fn input(self, alloc: Global) -> Result<Vec<u8>, Fail> {
+        match self {
+            Task::Script => Ok(Vec::new(alloc)),
+            Task::Capture(Direction::Protect) => client_file(alloc),
+            Task::Capture(Direction::Validate) => link_file(alloc),
+        }
+    }
+}
+
+/// What is written at a stop, to the output and to the text.
+#[derive(Drop)]
+pub struct Stop {
+    pub output: Vec<u8>,
+    pub text: String,
+}
+
+impl Stop {
+    /// The stop behind so many steps: all of them for the end.
+    pub fn behind(alloc: Global, steps: &[Step], count: usize) -> Result<Stop, Fail> {
+        let mut digits = String::new(alloc);
+        let mut text = String::new(alloc);
+        for (octets, lines) in steps.iter().take(count) {
+            digits.push_str(octets)?;
+            text.push_str(lines)?;
+        }
+        Ok(Stop {
+            output: hex::decode(alloc, digits.as_str())?,
+            text,
+        })
+    }
+}
