@@ -2,10 +2,10 @@
 #![tactic(auto)]
 
 ghost use Rattle.std.specs.Prelude.{◌≡◌};
-ghost use Rattle.macsec_program.specs.Failures.{told_status};
+ghost use Rattle.macsec_files.specs.Failures.{told_status};
 
-use macsec_program::{Failure, failure_of_words, open_stand_ins, tell};
-use macsec_words::run_words;
+use macsec_arguments::run_words;
+use macsec_files::{Failure, failure_of_words, open_stand_ins, tell};
 use std::process::ExitCode;
 use std::{env, io};
 

@@ -7,7 +7,7 @@ mod faults;
 mod lines;
 mod sentences;
 
-use macsec_program::{Failure, tell};
+use macsec_files::{Failure, tell};
 use macsec_script::{ScriptFault, run_script};
 use std::alloc::Global;
 use std::process::Abort;

@@ -2,7 +2,7 @@
 
 use super::{MICRO, RECEIVER, RECORD, SENDER, SENDER_DONE, joined, octets};
 use macsec_capture::Direction;
-use macsec_program::{CapturePaths, capture_named, tell};
+use macsec_files::{CapturePaths, capture_named, tell};
 use std::process::Abort;
 use std::test::Fail;
 use std::{fs, io};

@@ -2,7 +2,7 @@
 
 use super::{RECEIVER, SCRIPT, SENDER, client_file, link_file, push_all};
 use macsec_devices::{FailingWriter, Fails};
-use macsec_program::{
+use macsec_files::{
     CapturePaths, Direction, Failure, PcapFault, ScriptFault, capture_named, open_stand_ins,
     run_named, tell,
 };

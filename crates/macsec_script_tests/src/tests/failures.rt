@@ -1,7 +1,7 @@
 //! How a program that runs a script ends, and what it tells of that.
 
 use super::{assert_told, script, text};
-use macsec_program::{Failure, PcapFault, failure_of_words, run_named, tell};
+use macsec_files::{Failure, PcapFault, failure_of_words, run_named, tell};
 use macsec_script::ScriptFault;
 use std::test::Fail;
 use std::{fs, io};

@@ -2,9 +2,9 @@
 //! it.
 
 use macsec_capture::CaptureFault;
+use macsec_files::Failure;
 use macsec_link::{End, WorldFault};
 use macsec_pcap::PcapFault;
-use macsec_program::Failure;
 use macsec_script::ScriptFault;
 use macsec_secy::{FrameFault, NewFault};
 use macsec_suite::{Refusal, SuiteFault};

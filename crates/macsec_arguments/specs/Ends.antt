@@ -1,0 +1,20 @@
+-- How the program ends by its words, and what is told of an end.
+use Rattle.std.specs.Prelude.{◌≡◌, ◌⊎◌, ℕ, List, codes, Option, IsSome, OnOk, Result, Ok, Err}
+use Rattle.std.specs.Io.KnownBytes.{Appends}
+use Rattle.clap.specs.Words.{Text}
+use Rattle.macsec_files.specs.declared.failures.Failure.{Failure}
+use Rattle.macsec_files.specs.Failures.{FailsAsOpening, told_status, told_text}
+use Rattle.macsec_arguments.specs.Words.{FailsBy, asked}
+
+-- what the words ask for was done, or it failed, or `/` can't be opened
+abbrev pub EndsBy : List Text → Result (Unit {0}) Failure → Type 0
+EndsBy words (Ok done) = IsSome (asked words)
+EndsBy words (Err failure) = (FailsBy words failure) ⊎ (FailsAsOpening (codes "/") failure)
+
+-- of one of these ends, this is the status, and its text is what was written if it was taken
+pub record IsTold {E : Type 0} (Ends : Result (Unit {0}) Failure → Type 0) (old new : Option (List ℕ)) (status : ℕ)
+    (taken : Result (Unit {0}) E) : Type 0 where
+  pub ended : Result (Unit {0}) Failure
+  pub ends : Ends ended
+  pub status_of_end : status ≡ told_status ended
+  pub line : OnOk taken (Appends old new (told_text ended))
