@@ -8,8 +8,8 @@ ghost use Rattle.macsec_devices.specs.Calls.{fails_at};
 use crate::Fails;
 use std::io::{self, Read};
 
-/// A reader over octets that gives at most so many a call, and one at least. A call that fails does so as one that was interrupted, and
-/// takes nothing. It counts its calls, and those after it failed or had no octets left.
+/// A reader over octets that gives at most so many a call, and one at least. A call that fails does so as one that was
+/// interrupted, and takes nothing. It counts its calls, and those after it failed or had no octets left.
 #[derive(Drop)]
 pub struct FailingReader<'a> {
     rest: &'a [u8],

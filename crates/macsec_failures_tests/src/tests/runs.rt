@@ -18,12 +18,12 @@ enum Place {
     Text,
 }
 
-/// What a device answers if it fails, for what and by which name; and its calls: so many of which each, if it fails, leaves
-/// the run at the stop behind so many steps.
+/// What a device answers if it fails, for what and by which name; and its calls: so many of which each, if it fails,
+/// leaves the run at the stop behind so many steps.
 type Device = (Place, &'static str, &'static str, &'static [(usize, usize)]);
 
-/// A read gives 16 octets at most, and the last one none. The header of a file is written by one call, and a record by two; a
-/// script's line by one; and of a capture's line each piece, as `3` and ` done`, and each octet in hex by one.
+/// A read gives 16 octets at most, and the last one none. The header of a file is written by one call, and a record by
+/// two; a script's line by one; and of a capture's line each piece, as `3` and ` done`, and each octet in hex by one.
 const OF_SCRIPT: [Device; 2] = [
     (Place::Script, "script", "Read", &[(13, 0)]),
     (Place::Text, "script", "Write", &[(4, 0)]),
@@ -63,11 +63,12 @@ const OF_VALIDATION: [Device; 4] = [
     ),
 ];
 
-/// So many calls of a device are made to fail: all but those for the counters of the channel, at the end of a validation.
+/// So many calls of a device are made to fail: all but those for the counters of the channel, at the end of a
+/// validation.
 const CHECKED_CALLS: usize = 112;
 
-/// What a run answers, how often its device was called, before it failed or ended and after, and what was written: to the
-/// output, and to the text.
+/// What a run answers, how often its device was called, before it failed or ended and after, and what was written: to
+/// the output, and to the text.
 #[derive(Drop)]
 struct Run {
     of: &'static str,
@@ -208,8 +209,8 @@ fn stop_of(calls: &[(usize, usize)], at: usize) -> usize {
     0
 }
 
-/// Whether the call of this number fails alone or with all after it, the run ends with the answer of its device, which is
-/// not called again, and is at the stop of this call.
+/// Whether the call of this number fails alone or with all after it, the run ends with the answer of its device, which
+/// is not called again, and is at the stop of this call.
 fn check_call(
     rt: &impl Abort,
     alloc: Global,
