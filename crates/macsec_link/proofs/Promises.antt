@@ -15,7 +15,7 @@ use Rattle.macsec_link.proofs.EndpointLaws.{EndpointLaws}
 use Rattle.macsec_link.proofs.Deliveries.{Grammar}
 use Rattle.macsec_link.proofs.FreshIvs.{RepeatsNone, ends_stay}
 use Rattle.macsec_link.proofs.FreshIvs as ivs
-use Rattle.macsec_link.proofs.GenuineRuns.{StaysSound, comes_from_other, comes_in_order, marks_each_frame, seals_each_frame, stays_sound}
+use Rattle.macsec_link.proofs.GenuineRuns.{GoesSound, comes_from_other, comes_in_order, marks_each_frame, seals_each_frame, stays_sound}
 use Rattle.macsec_link.proofs.WindowMarks.{KeepWindow, window_kept}
 use Rattle.macsec_link.proofs.WindowMarks as window
 use Rattle.macsec_link.proofs.Moments.{sound_up_to, world_of_trace}
@@ -37,7 +37,7 @@ trace_goes laws a b t e sound holds = record {
   window = window.after_event laws t.world e t.marks sound holds.window;
 }
 
-go_on : EndpointLaws → (a b : EndConfig) (t : Trace) (events : List Event) → StaysSound t events → TraceHolds a b t → TraceHolds a b (trace_after t events)
+go_on : EndpointLaws → (a b : EndConfig) (t : Trace) (events : List Event) → GoesSound t events → TraceHolds a b t → TraceHolds a b (trace_after t events)
 go_on laws a b t [] sound holds = holds
 go_on laws a b t (e ∷ events) sound holds = go_on laws a b (trace_step t e) events sound.1 (trace_goes laws a b t e sound.0 holds)
 

@@ -4,10 +4,10 @@
 ghost use Rattle.std.specs.Prelude.{◌++◌, ◌∷◌, List, []};
 ghost use Rattle.macsec_commands.specs.declared.config.EndConfig.{EndConfig};
 ghost use Rattle.macsec_commands.specs.declared.event.Event.{Event};
-ghost use Rattle.macsec_link.specs.World.{new_world};
+ghost use Rattle.macsec_link.specs.World.{WorldState};
 ghost use Rattle.macsec_link.specs.Step.{world_after, world_step};
 ghost use Rattle.macsec_link.specs.Sound.{IsSound};
-ghost use Rattle.macsec_link.specs.Beginnings.{AreSound, AtEachMoment};
+ghost use Rattle.macsec_link.specs.Beginnings.{AreSound, AtEachMoment, StaysSound};
 ghost use Rattle.macsec_link.specs.UniqueIvs.{RepeatsNoIv, SealsEachFrame};
 ghost use Rattle.macsec_link.specs.Window.{KeepsWindow, MarksEachFrame};
 ghost use Rattle.macsec_link.specs.Acceptance.{AcceptsInTime};
@@ -39,6 +39,6 @@ pub fn promises()
 
 /// The worlds of a list of events are sound if each step from a sound one, as `World::step` takes it, leaves a sound one.
 pub fn worlds_are_sound()
-    ensures start { (a b : EndConfig) → IsSound (new_world a b) → AreSound a b [] }
-    ensures step { (a b : EndConfig) (events : List Event) (event : Event) → AreSound a b events → IsSound (world_step (world_after (new_world a b) events) event).1 → AreSound a b (events ++ event ∷ []) }
+    ensures start { (w : WorldState) → IsSound w → StaysSound w [] }
+    ensures step { (w : WorldState) (events : List Event) (event : Event) → StaysSound w events → IsSound (world_step (world_after w events) event).1 → StaysSound w (events ++ event ∷ []) }
 {}
