@@ -7,16 +7,16 @@ use macsec_secy::{An, Options, RxRow};
 use std::alloc::{AllocError, Global};
 
 /// A receive association that an end created, and its marks: whether it still exists, whether the end was strict and
-/// whether it had replay protection with a window of 0 all that time, the greatest lowest acceptable packet number that it
-/// had, the greatest validated packet number, the place of the latest delivered frame among those that the other end
-/// sealed, and the delivered frames.
+/// whether it had replay protection with a window of 0 all that time, the next and the lowest acceptable packet number when
+/// they were looked at last, the greatest validated packet number, the place of the latest delivered frame among those that
+/// the other end sealed, and the delivered frames.
 #[derive(Drop)]
 pub struct Association {
     pub row: RxRow,
     pub live: bool,
     pub strict: bool,
     pub ordered: bool,
-    pub floor: u128,
+    pub seen: (u128, u128),
     pub greatest: Option<u64>,
     pub place: Option<usize>,
     pub delivered: Vec<Vec<u8>>,
@@ -38,7 +38,7 @@ impl Association {
             live: true,
             strict: true,
             ordered: true,
-            floor: 0,
+            seen: (u128::from(lowest), u128::from(lowest)),
             greatest: None,
             place: None,
             delivered: Vec::new(alloc),
@@ -75,31 +75,28 @@ impl Association {
         self.narrow(window.saturating_add(u64::from(is_wider)));
     }
 
-    /// A frame was heard, and its packet number moves those of the association on if it was validated. Returns whether one moved
-    /// without that.
-    pub fn move_on(&mut self, plant: Option<Plant>, options: &Options, hearing: &Hearing) -> bool {
+    /// A frame was heard, and its packet number moves those of the association on if it was validated.
+    pub fn move_on(&mut self, plant: Option<Plant>, options: &Options, hearing: &Hearing) {
         if hearing.is_validated(options.mode) {
-            self.accept(plant, hearing.number, options.window);
             self.greatest = self.greatest.max(Some(hearing.number));
-            return false;
-        }
-        if plant == Some(Plant::InvalidMoves) && hearing.verdict == Verdict::Invalid {
-            let lowest = self.row.lowest;
             self.accept(plant, hearing.number, options.window);
-            return self.row.lowest != lowest;
+        } else if plant == Some(Plant::InvalidMoves) && hearing.verdict == Verdict::Invalid {
+            self.accept(plant, hearing.number, options.window);
         }
-        false
     }
 
     /// A frame was delivered, if one was: that at this place among those that the other end sealed.
     pub fn note_delivery(
         &mut self,
         alloc: Global,
+        plant: Option<Plant>,
         hearing: &Hearing,
         place: Option<usize>,
     ) -> Result<(), AllocError> {
         if let Some(client) = &hearing.controlled {
-            self.delivered.push(client.as_slice().to_vec(alloc)?)?;
+            if plant != Some(Plant::LostDelivery) {
+                self.delivered.push(client.as_slice().to_vec(alloc)?)?;
+            }
             self.place = self.place.max(place);
         }
         Ok(())
@@ -129,10 +126,10 @@ impl Association {
         if number == 0 { None } else { Some(number) }
     }
 
-    /// Has the lowest acceptable packet number fallen since this was asked before?
-    pub fn has_fallen(&mut self) -> bool {
-        let has_fallen = self.row.lowest < self.floor;
-        self.floor = self.row.lowest;
-        has_fallen
+    /// Since this was asked before, has the lowest acceptable packet number fallen, or, where none may move, has one moved?
+    pub fn has_moved(&mut self, may_move: bool) -> bool {
+        let (next, lowest) = self.seen;
+        self.seen = (self.row.next, self.row.lowest);
+        self.row.lowest < lowest || (!may_move && self.seen != (next, lowest))
     }
 }

@@ -23,7 +23,7 @@ pub enum Breach {
     BelowWindow,
     /// A frame as the other end sealed it, or padded, is not accepted although all conditions hold.
     NotAccepted,
-    /// A lowest acceptable packet number falls, or is moved by a frame that was not validated.
+    /// A lowest acceptable packet number falls, or one moves without a command and without a validated frame.
     NumberMoved,
     /// An association delivers the data of an encrypted frame that was not validated.
     Ciphertext,
@@ -40,7 +40,7 @@ impl Breach {
             Breach::OutOfOrder => "delivered out of order or twice",
             Breach::BelowWindow => "delivered below the window",
             Breach::NotAccepted => "sent in time and not accepted",
-            Breach::NumberMoved => "a lowest packet number falls or is moved by an invalid frame",
+            Breach::NumberMoved => "a packet number falls or is moved by no valid frame",
             Breach::Ciphertext => "delivered without being decrypted",
             Breach::Disagreement => "the code and the plain rule disagree",
         }

@@ -10,13 +10,14 @@ use macsec_tag::{Mpdu, Read};
 use std::alloc::{AllocError, Global};
 
 /// What becomes of a link frame: the verdict; the place of its association among those ever created, if the verdict depends on
-/// one, and the packet number there; whether the data are encrypted; and what is delivered.
+/// one, and the packet number there; whether the data are encrypted, and how many octets they are; and what is delivered.
 #[derive(Drop)]
 pub struct Hearing {
     pub verdict: Verdict,
     pub place: Option<usize>,
     pub number: u64,
     pub encrypted: bool,
+    pub octets: usize,
     pub controlled: Option<Vec<u8>>,
 }
 
@@ -28,6 +29,7 @@ impl Hearing {
             place: None,
             number: 0,
             encrypted: false,
+            octets: 0,
             controlled,
         }
     }
@@ -78,6 +80,7 @@ impl PlainEnd {
         let verdict = self.verdict(made, number, c, opens);
         let controlled = match verdict {
             Verdict::Late | Verdict::NotValid => None,
+            _ if self.plant == Some(Plant::NoDelivery) => None,
             _ => Some(client_of(self.alloc, mpdu)?),
         };
         Ok(Hearing {
@@ -85,6 +88,7 @@ impl PlainEnd {
             place: Some(place),
             number,
             encrypted: e,
+            octets: mpdu.secure_data().len(),
             controlled,
         })
     }
@@ -129,7 +133,7 @@ impl PlainEnd {
             return source(mpdu.addresses(), 1);
         }
         match self.channels.as_slice() {
-            [sci] => Some(*sci),
+            [channel] => Some(channel.sci),
             _ => None,
         }
     }
@@ -172,10 +176,13 @@ fn source(addresses: &[u8], port: u8) -> Option<Sci> {
     }
 }
 
-/// Was this frame sealed by this use of the cipher, with this confidentiality offset?
+/// Was this frame sealed by this use of the cipher, and if it is encrypted with as many clear octets of data as this
+/// confidentiality offset leaves?
 fn is_sealed(sealed: &[Seal], used: &Use, offset: u8, frame: &[u8]) -> bool {
     for seal in sealed {
-        if seal.used == *used && seal.key.offset == offset && seal.frame.as_slice() == frame {
+        let is_clear_alike = !seal.encrypted
+            || seal.clear_octets(seal.key.offset) == seal.clear_octets(offset);
+        if seal.used == *used && is_clear_alike && seal.frame.as_slice() == frame {
             return true;
         }
     }

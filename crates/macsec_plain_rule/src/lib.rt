@@ -4,6 +4,7 @@
 
 mod association;
 mod breach;
+mod counting;
 mod hearing;
 mod plain_end;
 mod plain_world;
@@ -16,4 +17,4 @@ pub use breach::Breach;
 pub use plain_end::PlainEnd;
 pub use plain_world::{Answer, PlainWorld, Step};
 pub use plant::Plant;
-pub use sending::Seal;
+pub use sending::{LinkFrame, Seal};

@@ -2,9 +2,10 @@
 
 use crate::Plant;
 use crate::association::Association;
+use crate::counting::{no_counters, no_tx_counters};
 use crate::sending::Seal;
 use macsec_link::{Command, EndConfig, Mode, NewKey, Refusal, Sci};
-use macsec_secy::{An, Options, TxRow};
+use macsec_secy::{An, ChannelCounters, Counters, Options, RxCounters, TxCounters, TxRow};
 use std::alloc::{AllocError, Global};
 
 /// A key: what was installed, whether it is retired, and its first unused packet number.
@@ -15,7 +16,15 @@ pub struct PlainKey {
     pub first_unused: u128,
 }
 
-/// An end as lists of rows, and what it sealed. Its receive associations stay in their list when they are deleted. There may be
+/// Which receive associations' packet numbers an event may move: all by a command, one by a frame that it validated.
+#[derive(Clone, Copy)]
+pub enum Movable {
+    All,
+    Only(usize),
+    None,
+}
+
+/// An end as lists of rows and counters, and what it sealed. Its receive associations stay in their list when they are deleted. There may be
 /// a mistake in its rule.
 #[derive(Drop)]
 pub struct PlainEnd {
@@ -25,7 +34,9 @@ pub struct PlainEnd {
     pub options: Options,
     pub(crate) keys: Vec<PlainKey>,
     pub(crate) tx: Vec<TxRow>,
-    pub(crate) channels: Vec<Sci>,
+    pub channels: Vec<ChannelCounters>,
+    pub counters: Counters,
+    pub tx_counters: TxCounters,
     pub rx: Vec<Association>,
     pub sealed: Vec<Seal>,
 }
@@ -47,6 +58,8 @@ impl PlainEnd {
             keys: Vec::new(alloc),
             tx: Vec::new(alloc),
             channels: Vec::new(alloc),
+            counters: no_counters(),
+            tx_counters: no_tx_counters(),
             rx: Vec::new(alloc),
             sealed: Vec::new(alloc),
         }
@@ -115,7 +128,7 @@ impl PlainEnd {
             Command::TxOn(an) => self.switch_tx(an, true),
             Command::TxOff(an) => self.switch_tx(an, false),
             Command::TxDel(an) => self.tx.retain(|row| row.an != an),
-            Command::RxSc(sci) => self.channels.push(sci)?,
+            Command::RxSc(sci) => self.create_channel(sci)?,
             Command::RxScDel(sci) => self.delete_channel(sci),
             Command::RxSa {
                 sci,
@@ -216,9 +229,33 @@ impl PlainEnd {
         }
     }
 
+    /// Creates a channel, the last.
+    fn create_channel(&mut self, sci: Sci) -> Result<(), AllocError> {
+        let channel = ChannelCounters {
+            sci,
+            counters: RxCounters::default(),
+        };
+        if self.plant == Some(Plant::FirstChannel) {
+            self.channels.insert(0, channel)?;
+        } else {
+            self.channels.push(channel)?;
+        }
+        Ok(())
+    }
+
+    /// Is there a channel with this SCI?
+    pub fn has_channel(&self, sci: Sci) -> bool {
+        for channel in self.channels.iter() {
+            if channel.sci == sci {
+                return true;
+            }
+        }
+        false
+    }
+
     /// Deletes a channel and its associations.
     fn delete_channel(&mut self, sci: Sci) {
-        self.channels.retain(|other| *other != sci);
+        self.channels.retain(|channel| channel.sci != sci);
         for made in self.rx.iter_mut() {
             made.live &= made.row.sci != sci;
         }
@@ -239,12 +276,18 @@ impl PlainEnd {
         }
     }
 
-    /// Has a lowest acceptable packet number fallen since this was asked before?
-    pub fn has_fallen(&mut self) -> bool {
-        let mut fallen = false;
-        for made in self.rx.iter_mut() {
-            fallen |= made.has_fallen() & made.live;
+    /// Since this was asked before, has a lowest acceptable packet number fallen, or has one of an association moved that
+    /// may not be moved?
+    pub fn has_moved(&mut self, movable: Movable) -> bool {
+        let mut moved = false;
+        for (place, made) in self.rx.iter_mut().enumerate() {
+            let may_move = match movable {
+                Movable::All => true,
+                Movable::Only(only) => only == place,
+                Movable::None => false,
+            };
+            moved |= made.has_moved(may_move);
         }
-        fallen
+        moved
     }
 }

@@ -3,8 +3,8 @@
 use crate::Plant;
 use crate::breach::{Breach, delivery_breach, due, is_accepted, is_repeated, place_of};
 use crate::hearing::Hearing;
-use crate::plain_end::PlainEnd;
-use crate::sending::{Seal, Sending, Use};
+use crate::plain_end::{Movable, PlainEnd};
+use crate::sending::{LinkFrame, Seal, Sending, Use};
 use macsec_link::{Command, DropReason, End, EndConfig, Event, Refusal, Verdict, WorldFault};
 use std::alloc::{AllocError, Global};
 
@@ -19,23 +19,26 @@ pub enum Answer {
     Fault(WorldFault),
 }
 
-/// What came of an event, what is wrong with it, and whether it protected a frame or accepted one that it had to accept.
+/// What came of an event, what is wrong with it, whether it protected a frame or accepted one that it had to accept, and the
+/// place of the association that validated a frame, if one did.
 #[derive(Drop)]
 pub struct Step {
     pub answer: Answer,
     pub breach: Option<Breach>,
     pub sealed: bool,
     pub accepted: bool,
+    validated: Option<usize>,
 }
 
 impl Step {
     /// A step that neither protected a frame nor had to accept one.
-    fn new(answer: Answer, breach: Option<Breach>) -> Step {
+    fn new(answer: Answer) -> Step {
         Step {
             answer,
-            breach,
+            breach: None,
             sealed: false,
             accepted: false,
+            validated: None,
         }
     }
 }
@@ -46,7 +49,7 @@ pub struct PlainWorld {
     alloc: Global,
     pub a: PlainEnd,
     pub b: PlainEnd,
-    pub frames: Vec<Vec<u8>>,
+    pub frames: Vec<LinkFrame>,
     uses: Vec<Use>,
 }
 
@@ -70,8 +73,17 @@ impl PlainWorld {
         }
     }
 
-    /// One event.
+    /// One event, after which the packet numbers of both ends are looked at.
     pub fn step(&mut self, event: &Event) -> Result<Step, AllocError> {
+        let mut step = self.carry_out(event)?;
+        let (at_a, at_b) = movable_by(event, step.validated);
+        if self.a.has_moved(at_a) | self.b.has_moved(at_b) && step.breach.is_none() {
+            step.breach = Some(Breach::NumberMoved);
+        }
+        Ok(step)
+    }
+
+    fn carry_out(&mut self, event: &Event) -> Result<Step, AllocError> {
         match event {
             Event::Command(End::A, command) => carry_out(&mut self.a, command),
             Event::Command(End::B, command) => carry_out(&mut self.b, command),
@@ -89,64 +101,73 @@ impl PlainWorld {
             End::A => self.a.send(seal, client)?,
             End::B => self.b.send(seal, client)?,
         };
+        match end {
+            End::A => self.a.count_sent(client, &sending),
+            End::B => self.b.count_sent(client, &sending),
+        }
         match sending {
             Sending::Plain => self.put(client),
-            Sending::Dropped(reason) => Ok(Step::new(Answer::Dropped(reason), None)),
-            Sending::Sealed(used, frame) => self.put_sealed(&used, frame),
+            Sending::Dropped(reason) => Ok(Step::new(Answer::Dropped(reason))),
+            Sending::Sealed(_, used, frame) => self.put_sealed(&used, frame),
         }
     }
 
     /// A new link frame, which was protected by this use of the cipher.
-    fn put_sealed(&mut self, used: &Use, frame: Vec<u8>) -> Result<Step, AllocError> {
+    fn put_sealed(&mut self, used: &Use, frame: LinkFrame) -> Result<Step, AllocError> {
         self.frames.push(frame)?;
         let is_repeated = is_repeated(self.uses.as_slice(), used);
         self.uses.push(*used)?;
         Ok(Step {
-            answer: Answer::Made,
             breach: is_repeated.then_some(Breach::RepeatedIv),
             sealed: true,
-            accepted: false,
+            ..Step::new(Answer::Made)
         })
     }
 
     /// A new link frame.
     fn put(&mut self, frame: &[u8]) -> Result<Step, AllocError> {
-        self.frames.push(frame.to_vec(self.alloc)?)?;
-        Ok(Step::new(Answer::Made, None))
+        let octets = frame.to_vec(self.alloc)?;
+        self.put_link((octets.len(), octets.len()), octets)
+    }
+
+    /// A new link frame, which may be another one in the code between these places.
+    fn put_link(&mut self, hidden: (usize, usize), octets: Vec<u8>) -> Result<Step, AllocError> {
+        self.frames.push(LinkFrame { octets, hidden })?;
+        Ok(Step::new(Answer::Made))
     }
 
     fn deliver(&mut self, end: End, n: u32) -> Result<Step, AllocError> {
         let Some(frame) = self.frames.get(n as usize) else {
-            return Ok(Step::new(Answer::Fault(WorldFault::NoFrame), None));
+            return Ok(Step::new(Answer::Fault(WorldFault::NoFrame)));
         };
         match end {
-            End::A => receive(&mut self.a, &self.b, frame.as_slice()),
-            End::B => receive(&mut self.b, &self.a, frame.as_slice()),
+            End::A => receive(&mut self.a, &self.b, frame.octets.as_slice()),
+            End::B => receive(&mut self.b, &self.a, frame.octets.as_slice()),
         }
     }
 
     fn alter(&mut self, n: u32, place: u32, octet: u8) -> Result<Step, AllocError> {
         let Some(frame) = self.frames.get(n as usize) else {
-            return Ok(Step::new(Answer::Fault(WorldFault::NoFrame), None));
+            return Ok(Step::new(Answer::Fault(WorldFault::NoFrame)));
         };
         let place = place as usize;
-        let (Some(before), Some([_, after @ ..])) = (frame.get(..place), frame.get(place..)) else {
-            return Ok(Step::new(Answer::Fault(WorldFault::AlterRange), None));
+        let (hidden, old) = (frame.hidden, frame.octets.as_slice());
+        let (Some(before), Some([_, after @ ..])) = (old.get(..place), old.get(place..)) else {
+            return Ok(Step::new(Answer::Fault(WorldFault::AlterRange)));
         };
         let altered = [before, &[octet], after].concat(self.alloc)?;
-        self.frames.push(altered)?;
-        Ok(Step::new(Answer::Made, None))
+        self.put_link(hidden, altered)
     }
 
     fn pad(&mut self, n: u32) -> Result<Step, AllocError> {
         let Some(frame) = self.frames.get(n as usize) else {
-            return Ok(Step::new(Answer::Fault(WorldFault::NoFrame), None));
+            return Ok(Step::new(Answer::Fault(WorldFault::NoFrame)));
         };
-        let mut padded = frame.as_slice().to_vec(self.alloc)?;
+        let hidden = frame.hidden;
+        let mut padded = frame.octets.as_slice().to_vec(self.alloc)?;
         let length = padded.len().max(60);
         padded.resize(length, 0)?;
-        self.frames.push(padded)?;
-        Ok(Step::new(Answer::Made, None))
+        self.put_link(hidden, padded)
     }
 }
 
@@ -156,21 +177,35 @@ fn carry_out(end: &mut PlainEnd, command: &Command) -> Result<Step, AllocError> 
         None => Answer::Done,
         Some(refusal) => Answer::Refused(refusal),
     };
-    Ok(Step::new(answer, end.has_fallen().then_some(Breach::NumberMoved)))
+    Ok(Step::new(answer))
+}
+
+/// Which packet numbers of A and of B an event may move, where a frame was validated by the association at this place.
+fn movable_by(event: &Event, validated: Option<usize>) -> (Movable, Movable) {
+    let heard = match validated {
+        None => Movable::None,
+        Some(place) => Movable::Only(place),
+    };
+    match event {
+        Event::Command(End::A, _) => (Movable::All, Movable::None),
+        Event::Command(End::B, _) => (Movable::None, Movable::All),
+        Event::Deliver(End::A, _) => (heard, Movable::None),
+        Event::Deliver(End::B, _) => (Movable::None, heard),
+        _ => (Movable::None, Movable::None),
+    }
 }
 
 /// A link frame comes to an end.
 fn receive(end: &mut PlainEnd, other: &PlainEnd, frame: &[u8]) -> Result<Step, AllocError> {
     let due = due(end, other, frame);
-    if end.plant == Some(Plant::NoDelivery) {
-        let breach = due.is_some().then_some(Breach::NotAccepted);
-        return Ok(Step::new(Answer::Fault(WorldFault::NoFrame), breach));
-    }
     let hearing = end.judge(frame, other)?;
     let accepted = is_accepted(due, &hearing);
     let heard = end.hear(&hearing, other.sealed.as_slice())?;
+    end.count_heard(&hearing);
+    let is_validated = hearing.is_validated(end.options.mode);
     Ok(Step {
         sealed: false,
+        validated: if is_validated { hearing.place } else { None },
         accepted: accepted && due.is_some(),
         breach: if accepted {
             heard
@@ -196,10 +231,8 @@ impl PlainEnd {
         if hearing.controlled.is_some() {
             breach = delivery_breach(made, &self.options, hearing, place);
         }
-        made.note_delivery(self.alloc, hearing, place)?;
-        if made.move_on(self.plant, &self.options, hearing) {
-            breach = Some(Breach::NumberMoved);
-        }
+        made.note_delivery(self.alloc, self.plant, hearing, place)?;
+        made.move_on(self.plant, &self.options, hearing);
         Ok(breach)
     }
 

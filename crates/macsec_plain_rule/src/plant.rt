@@ -31,11 +31,23 @@ pub enum Plant {
     ShortIv,
     /// No frame is ever delivered to an end.
     NoDelivery,
+    /// The SCI of a SecTAG has another last octet.
+    SciOctet,
+    /// Late frames are not counted.
+    LateUncounted,
+    /// Octets of data are not counted where a frame is not valid.
+    OctetsUncounted,
+    /// A new receive channel is the first.
+    FirstChannel,
+    /// The log of what is delivered has no entry.
+    LostDelivery,
+    /// A frame that is sent is in the log of the next key.
+    OtherLog,
 }
 
 impl Plant {
-    /// All of them.
-    pub const ALL: [Plant; 14] = [
+    /// Those that break a promise or a rule of reception: a search of the plain rule alone finds them.
+    pub const BREAKING: [Plant; 14] = [
         Plant::NumberAgain,
         Plant::KeyAgain,
         Plant::OwnChannel,
@@ -50,6 +62,16 @@ impl Plant {
         Plant::ByNext,
         Plant::ShortIv,
         Plant::NoDelivery,
+    ];
+
+    /// Those that break none: only the comparison with the code finds them, and the last two only that of logs.
+    pub const COMPARED: [Plant; 6] = [
+        Plant::SciOctet,
+        Plant::LateUncounted,
+        Plant::OctetsUncounted,
+        Plant::FirstChannel,
+        Plant::LostDelivery,
+        Plant::OtherLog,
     ];
 
     /// Its name on the command line.
@@ -69,14 +91,20 @@ impl Plant {
             Plant::ByNext => "by-next",
             Plant::ShortIv => "short-iv",
             Plant::NoDelivery => "no-delivery",
+            Plant::SciOctet => "sci-octet",
+            Plant::LateUncounted => "late-uncounted",
+            Plant::OctetsUncounted => "octets-uncounted",
+            Plant::FirstChannel => "first-channel",
+            Plant::LostDelivery => "lost-delivery",
+            Plant::OtherLog => "other-log",
         }
     }
 
     /// The mistake of this name.
     pub fn named(name: &str) -> Option<Plant> {
-        for plant in Plant::ALL {
+        for plant in Plant::BREAKING.iter().chain(&Plant::COMPARED) {
             if plant.name() == name {
-                return Some(plant);
+                return Some(*plant);
             }
         }
         None

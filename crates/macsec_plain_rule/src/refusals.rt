@@ -132,12 +132,12 @@ impl PlainEnd {
     fn channel_refusal(&self, sci: Sci) -> Option<Refusal> {
         let own = sci == self.config.sci && self.plant != Some(Plant::OwnChannel);
         refused_if(own, Refusal::OwnSci)
-            .or(refused_if(self.channels.contains(&sci), Refusal::ScTaken))
+            .or(refused_if(self.has_channel(sci), Refusal::ScTaken))
             .or(refused_if(self.channels.len() >= MAX_CHANNELS, Refusal::ScFull))
     }
 
     fn missing_channel(&self, sci: Sci) -> Option<Refusal> {
-        refused_if(!self.channels.contains(&sci), Refusal::NoSc)
+        refused_if(!self.has_channel(sci), Refusal::NoSc)
     }
 
     fn missing_row(&self, sci: Sci, an: An) -> Option<Refusal> {

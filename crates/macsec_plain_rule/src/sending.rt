@@ -15,22 +15,51 @@ pub struct Use {
     pub iv: [u8; 12],
 }
 
-/// A frame that was protected: its use of the cipher, with which key and packet number, the client frame, and the link frame.
+/// A frame that was protected: its use of the cipher, with which key and packet number, whether it is encrypted, the client
+/// frame, and the link frame.
 #[derive(Drop)]
 pub struct Seal {
     pub used: Use,
     pub key: NewKey,
     pub number: u64,
+    pub encrypted: bool,
     pub client: Vec<u8>,
     pub frame: Vec<u8>,
 }
 
-/// What becomes of a client frame: it is sent as it is, or dropped, or the link frame is this one, by a use of the cipher.
+impl Seal {
+    /// How many octets of the data a confidentiality offset leaves clear.
+    pub fn clear_octets(&self, offset: u8) -> usize {
+        self.client.len().saturating_sub(12).min(offset as usize)
+    }
+
+    /// The places of the link frame between which an ideal cipher's octets are others than the code's: the encrypted data and
+    /// the ICV.
+    fn hidden(&self) -> (usize, usize) {
+        let end = self.frame.len();
+        let icv = end.saturating_sub(16);
+        if !self.encrypted {
+            return (icv, end);
+        }
+        let data = self.client.len().saturating_sub(12);
+        let hidden = data.saturating_sub(self.clear_octets(self.key.offset));
+        (icv.saturating_sub(hidden), end)
+    }
+}
+
+/// A link frame. Between its two places it may be another one in the code, whose cipher is not the ideal one.
+#[derive(Drop)]
+pub struct LinkFrame {
+    pub octets: Vec<u8>,
+    pub hidden: (usize, usize),
+}
+
+/// What becomes of a client frame: it is sent as it is, or dropped, or sealed, encrypted or not, by a use of the cipher.
 #[derive(Drop)]
 pub enum Sending {
     Plain,
     Dropped(DropReason),
-    Sealed(Use, Vec<u8>),
+    Sealed(bool, Use, LinkFrame),
 }
 
 /// The IV of a packet number under a key.
@@ -53,8 +82,11 @@ pub fn iv(
 impl PlainEnd {
     /// Sends a client frame, of which the seal would have this number.
     pub fn send(&mut self, seal: usize, client: &[u8]) -> Result<Sending, AllocError> {
-        if !self.options.protect {
+        if !self.options.protect && client.len() <= self.config.max_frame as usize {
             return Ok(Sending::Plain);
+        }
+        if !self.options.protect {
+            return Ok(Sending::Dropped(DropReason::TooLong));
         }
         let Some((row, key, number)) = self.sending_row() else {
             return Ok(Sending::Dropped(DropReason::NoSa));
@@ -64,15 +96,33 @@ impl PlainEnd {
             return Ok(Sending::Dropped(DropReason::TooLong));
         }
         self.note_used(row.an, row.key, number);
-        let used = self.used(&key, number);
-        self.sealed.push(Seal {
-            used,
-            key,
+        let seal = Seal {
+            used: self.used(&key, number),
+            key: self.noted_key(key),
             number,
+            encrypted: row.conf,
             client: client.to_vec(self.alloc)?,
             frame: frame.as_slice().to_vec(self.alloc)?,
-        })?;
-        Ok(Sending::Sealed(used, frame))
+        };
+        let sent = LinkFrame {
+            octets: frame,
+            hidden: seal.hidden(),
+        };
+        let used = seal.used;
+        self.sealed.push(seal)?;
+        Ok(Sending::Sealed(row.conf, used, sent))
+    }
+
+    /// The key under which a sent frame is noted.
+    fn noted_key(&self, key: NewKey) -> NewKey {
+        if self.plant == Some(Plant::OtherLog) {
+            NewKey {
+                number: key.number.wrapping_add(1),
+                ..key
+            }
+        } else {
+            key
+        }
     }
 
     /// The use of the cipher for a packet number under a key.
@@ -123,7 +173,10 @@ impl PlainEnd {
         let head = head(&row, sci_bits, number, data.len());
         let icv = (seal as u128).to_be_bytes();
         if has_sci {
-            [addresses, &head, &self.config.sci.0, data, &icv].concat(self.alloc)
+            let [a, b, c, d, e, f, g, h] = self.config.sci.0;
+            let last = h ^ u8::from(self.plant == Some(Plant::SciOctet));
+            let sci = [a, b, c, d, e, f, g, last];
+            [addresses, &head, &sci, data, &icv].concat(self.alloc)
         } else {
             [addresses, &head, data, &icv].concat(self.alloc)
         }

@@ -1,6 +1,6 @@
 //! Whether the ends of the code do what the plain rule says.
 
-use crate::scenario::{SCI_A, SCI_B};
+use crate::scenario::{SCI_A, SCI_B, SCI_C};
 use macsec_link::{An, End, Outcome, Secy, World, WorldFault};
 use macsec_plain_rule::{Answer, PlainEnd, PlainWorld, Seal};
 
@@ -12,8 +12,8 @@ pub fn agrees(
     answer: &Answer,
 ) -> bool {
     answers_agree(world, plain, got, answer)
-        && rows_agree(world.end(End::A), &plain.a)
-        && rows_agree(world.end(End::B), &plain.b)
+        && ends_agree(world.end(End::A), &plain.a)
+        && ends_agree(world.end(End::B), &plain.b)
 }
 
 fn answers_agree(
@@ -48,24 +48,38 @@ fn answers_agree(
     }
 }
 
-/// Is this the last link frame in both, of as many octets, with the same ones up to the data?
+/// Is this the last link frame in both, of as many octets, with the same ones but for the encrypted data and the ICV?
 fn frames_agree(world: &World, plain: &PlainWorld, n: u32) -> bool {
     let (Some(frame), Some(wanted)) = (world.frame(n), plain.frames.last()) else {
         return false;
     };
-    let head = wanted.len().min(20);
+    let (front, tail) = wanted.hidden;
+    let octets = wanted.octets.as_slice();
     n as usize + 1 == plain.frames.len()
-        && frame.len() == wanted.len()
-        && frame.get(..head) == wanted.as_slice().get(..head)
+        && frame.len() == octets.len()
+        && frame.get(..front) == octets.get(..front)
+        && frame.get(tail..) == octets.get(tail..)
 }
 
-/// Are the options and the packet numbers of an end's associations 0 and 1 the same?
+/// Are the options, counters, associations and receive channels of an end the same?
+fn ends_agree(end: &Secy, plain: &PlainEnd) -> bool {
+    end.options() == plain.options
+        && end.counters() == plain.counters
+        && end.tx_counters() == plain.tx_counters
+        && rows_agree(end, plain)
+        && channels_agree(end, plain)
+}
+
+/// Are an end's associations the same, with their packet numbers?
 fn rows_agree(end: &Secy, plain: &PlainEnd) -> bool {
-    for an in [An::new(0).unwrap(), An::new(1).unwrap()] {
+    for number in 0..4u8 {
+        let Some(an) = An::new(number) else {
+            return false;
+        };
         if end.tx_row(an) != plain.tx_row(an) {
             return false;
         }
-        for sci in [SCI_A, SCI_B] {
+        for sci in [SCI_A, SCI_B, SCI_C] {
             let row = match plain.rx_row(sci, an) {
                 Some((_, made)) => Some(made.row),
                 None => None,
@@ -75,7 +89,23 @@ fn rows_agree(end: &Secy, plain: &PlainEnd) -> bool {
             }
         }
     }
-    end.options() == plain.options
+    true
+}
+
+/// Are an end's receive channels the same, in their order, with their counters?
+fn channels_agree(end: &Secy, plain: &PlainEnd) -> bool {
+    for place in 0..8usize {
+        let agree = match (end.rx_channel(place), plain.channels.get(place)) {
+            (None, None) => true,
+            (Some(sci), Some(channel)) => sci == channel.sci
+                && end.rx_counters(sci) == Some(channel.counters),
+            _ => false,
+        };
+        if !agree {
+            return false;
+        }
+    }
+    true
 }
 
 /// Are the logs of both ends the same: what was sent under the keys 0 to 2, and what was delivered from each association?

@@ -17,6 +17,10 @@ pub enum Move {
     Alter(u32, u32, u8),
     /// A new link frame: that of this number, with zeros up to 60 octets.
     Pad(u32),
+    /// A client frame at an end's uncontrolled port, unlike each before it.
+    SendUncontrolled(End),
+    /// A new link frame that no end protected: that of this end with this packet number, in which ICV and data are made up.
+    Inject(End, u8),
 }
 
 impl Move {
@@ -31,7 +35,20 @@ impl Move {
             Move::Deliver(end, n) => Ok(Event::Deliver(end, n)),
             Move::Alter(n, place, octet) => Ok(Event::Alter(n, place, octet)),
             Move::Pad(n) => Ok(Event::Pad(n)),
+            Move::SendUncontrolled(end) => {
+                let client = client_frame(sci_of(end), sent);
+                Ok(Event::SendUncontrolled(end, Frame::new(client.to_vec(alloc)?)))
+            }
+            Move::Inject(end, pn) => {
+                let forged = forged_frame(sci_of(end), pn);
+                Ok(Event::Inject(Frame::new(forged.to_vec(alloc)?)))
+            }
         }
+    }
+
+    /// Has it a client frame of its own?
+    pub fn is_send(self) -> bool {
+        matches!(self, Move::Send(_) | Move::SendUncontrolled(_))
     }
 
     /// The same move at a link frame of another number, if it is at one.
@@ -50,5 +67,15 @@ pub fn client_frame(sender: Sci, last: u8) -> [u8; 14] {
     let [a, b, c, d, e, f, _, _] = sender.0;
     [
         0xff, 0xff, 0xff, 0xff, 0xff, 0xff, a, b, c, d, e, f, 8, last,
+    ]
+}
+
+/// A frame for integrity only with this SCI and packet number, of association 0, with two octets of data, whose ICV is made up.
+pub fn forged_frame(sender: Sci, pn: u8) -> [u8; 46] {
+    let [a, b, c, d, e, f, g, h] = sender.0;
+    [
+        0xff, 0xff, 0xff, 0xff, 0xff, 0xff, a, b, c, d, e, f, 0x88, 0xe5, 0x20, 2, 0, 0, 0, pn, a,
+        b, c, d, e, f, g, h, 8, 0xee, 0xee, 0xee, 0xee, 0xee, 0xee, 0xee, 0xee, 0xee, 0xee, 0xee,
+        0xee, 0xee, 0xee, 0xee, 0xee, 0xee,
     ]
 }

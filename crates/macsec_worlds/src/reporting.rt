@@ -3,7 +3,7 @@
 use crate::Scenario;
 use crate::coverage::Coverage;
 use crate::script::Script;
-use crate::search::{By, Finding, search_all, search_random};
+use crate::search::{By, Finding, disagreement, search_all, search_random};
 use anyhow::{Context, bail};
 use macsec_plain_rule::Plant;
 use rand_pcg::Pcg32;
@@ -122,11 +122,10 @@ fn print_finding(rt: &impl Print, found: &Finding) -> anyhow::Result<()> {
 }
 
 /// Looks for what a planted mistake brings about, in shorter lists first. Returns it, and after how many lists it was found.
-fn find_plant(alloc: Global, plant: Plant) -> anyhow::Result<(Option<Finding>, u64)> {
+fn find_plant(alloc: Global, by: By) -> anyhow::Result<(Option<Finding>, u64)> {
     let mut coverage = Coverage::new();
     for depth in 1..PLANT_DEPTH + 1 {
         for scenario in Scenario::ALL {
-            let by = By::Planted(plant);
             let found = search_all(alloc, by, scenario, depth, &mut coverage)?;
             if found.is_some() {
                 return Ok((found, coverage.lists));
@@ -136,16 +135,46 @@ fn find_plant(alloc: Global, plant: Plant) -> anyhow::Result<(Option<Finding>, u
     Ok((None, coverage.lists))
 }
 
-/// Looks for each planted mistake.
+/// Looks for each planted mistake, and whether the code disagrees with the plain rule that has it.
 fn report_plants(rt: &impl Print, alloc: Global) -> anyhow::Result<bool> {
     println!(rt; "planted mistakes")?;
     let mut good = true;
-    for plant in Plant::ALL {
-        let (found, lists) = find_plant(alloc, plant)?;
+    for plant in Plant::BREAKING {
+        let (found, lists) = find_plant(alloc, By::Planted(plant))?;
+        print_found(rt, plant, found.as_ref(), lists)?;
+        good &= report_disagreement(rt, alloc, plant, found.as_ref())?;
+    }
+    println!(rt; "planted mistakes beside the code")?;
+    for plant in Plant::COMPARED {
+        let (found, lists) = find_plant(alloc, By::Beside(plant))?;
         good &= found.is_some();
         print_found(rt, plant, found.as_ref(), lists)?;
     }
     Ok(good)
+}
+
+/// Carries out a counter-example by the code and by the plain rule with the mistake beside it, and prints after how many moves
+/// they disagree. Returns whether they do.
+fn report_disagreement(
+    rt: &impl Print,
+    alloc: Global,
+    plant: Plant,
+    found: Option<&Finding>,
+) -> anyhow::Result<bool> {
+    let Some(found) = found else {
+        return Ok(false);
+    };
+    let mut coverage = Coverage::new();
+    match disagreement(alloc, plant, found, &mut coverage)? {
+        None => {
+            println!(rt; "  the code beside it: no disagreement")?;
+            Ok(false)
+        }
+        Some(moves) => {
+            println!(rt; "  the code beside it: a disagreement after {moves} moves")?;
+            Ok(true)
+        }
+    }
 }
 
 /// Prints what a planted mistake brought about after so many lists.
@@ -172,7 +201,12 @@ fn report_plant(rt: &impl Print, alloc: Global, name: &str) -> anyhow::Result<bo
     let Some(plant) = Plant::named(name) else {
         bail!("no mistake has the name {name}");
     };
-    let (found, lists) = find_plant(alloc, plant)?;
+    let by = if Plant::COMPARED.contains(&plant) {
+        By::Beside(plant)
+    } else {
+        By::Planted(plant)
+    };
+    let (found, lists) = find_plant(alloc, by)?;
     match found {
         None => {
             println!(rt; "{name}: not found in {lists} lists")?;
@@ -181,7 +215,7 @@ fn report_plant(rt: &impl Print, alloc: Global, name: &str) -> anyhow::Result<bo
         Some(found) => {
             println!(rt; "{name}: found after {lists} lists")?;
             print_finding(rt, &found)?;
-            Ok(true)
+            report_disagreement(rt, alloc, plant, Some(&found))
         }
     }
 }

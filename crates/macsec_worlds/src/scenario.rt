@@ -11,7 +11,7 @@ pub const SCI_A: Sci = Sci([2, 0, 0, 0, 0, 1, 0, 1]);
 pub const SCI_B: Sci = Sci([2, 0, 0, 0, 0, 2, 0, 1]);
 
 /// The SCI of a third end, which neither sends nor receives.
-const SCI_C: Sci = Sci([2, 0, 0, 0, 0, 3, 0, 1]);
+pub const SCI_C: Sci = Sci([2, 0, 0, 0, 0, 3, 0, 1]);
 
 /// The bytes of two keys.
 const BYTES: [u8; 2] = [0x2b, 0x3c];
@@ -46,11 +46,13 @@ pub enum Scenario {
     Rollover,
     /// The forms of the SecTAG.
     Tags,
+    /// Unlike offsets at the ends, and frames that no end protected.
+    Offsets,
 }
 
 impl Scenario {
     /// All of them.
-    pub const ALL: [Scenario; 12] = [
+    pub const ALL: [Scenario; 13] = [
         Scenario::Numbers,
         Scenario::Keys,
         Scenario::ExtendedNumbers,
@@ -63,6 +65,7 @@ impl Scenario {
         Scenario::ExtendedLast,
         Scenario::Rollover,
         Scenario::Tags,
+        Scenario::Offsets,
     ];
 
     /// Its name.
@@ -80,6 +83,7 @@ impl Scenario {
             Scenario::ExtendedLast => "extended-last",
             Scenario::Rollover => "rollover",
             Scenario::Tags => "tags",
+            Scenario::Offsets => "offsets",
         }
     }
 
@@ -118,12 +122,26 @@ impl Scenario {
         }
     }
 
+    /// The confidentiality offset of the first key at A; at B it is 0.
+    fn first_offset(self) -> u8 {
+        match self {
+            Scenario::Offsets => 30,
+            _ => 0,
+        }
+    }
+
     /// The moves before each list.
     pub fn base(self, alloc: Global) -> Result<Vec<Move>, AllocError> {
         let conf = matches!(self, Scenario::Modes);
         let mut base = self.later_base(alloc)?;
         let [tx_sa, tx_on] = sending(End::A, self.first(), conf);
-        for first in [tx_on, tx_sa, key(End::B, 0, 0), key(End::A, 0, 0)] {
+        let offset = self.first_offset();
+        for first in [
+            tx_on,
+            tx_sa,
+            key(End::B, 0, 0),
+            key_at(End::A, 0, 0, offset),
+        ] {
             base.insert(0, first)?;
         }
         Ok(base)
@@ -137,6 +155,7 @@ impl Scenario {
             Scenario::Reflection => both_sent().to_vec(alloc),
             Scenario::ExtendedReflection => both_sent_to_a().to_vec(alloc),
             Scenario::Rollover => two_associations(self.first()).to_vec(alloc),
+            Scenario::Offsets => unlike_offsets().to_vec(alloc),
             _ => two_sent(self.first()).to_vec(alloc),
         }
     }
@@ -156,6 +175,7 @@ impl Scenario {
             Scenario::ExtendedLast => last(u64::MAX).to_vec(alloc),
             Scenario::Rollover => rollover().to_vec(alloc),
             Scenario::Tags => tags().to_vec(alloc),
+            Scenario::Offsets => offsets().to_vec(alloc),
         }
     }
 }
@@ -187,6 +207,11 @@ fn at_b(command: Command) -> Move {
 
 /// A key of this number at an end, with the first or the second bytes. The own SSCI of A is 1, that of B 2.
 fn key(end: End, number: u8, bytes: usize) -> Move {
+    key_at(end, number, bytes, 0)
+}
+
+/// The same with this confidentiality offset.
+fn key_at(end: End, number: u8, bytes: usize, offset: u8) -> Move {
     let ssci = match end {
         End::A => 1,
         End::B => 2,
@@ -199,7 +224,7 @@ fn key(end: End, number: u8, bytes: usize) -> Move {
             bytes: Key::K128([octet; 16]),
             salt: [0x5a; 12],
             ssci,
-            offset: 0,
+            offset,
         }),
     )
 }
@@ -211,6 +236,16 @@ fn tx_sa(second: bool, key: u8, next: u64) -> Move {
         key,
         next,
         conf: false,
+    })
+}
+
+/// A transmit association of A that encrypts.
+fn encrypting(second: bool, key: u8, next: u64) -> Move {
+    at_a(Command::TxSa {
+        an: an(second),
+        key,
+        next,
+        conf: true,
     })
 }
 
@@ -294,6 +329,21 @@ fn two_associations(lowest: u64) -> [Move; 8] {
         tx_sa(true, 1, 1),
         rx_sa(End::B, SCI_A, true, 1, 1, 1),
         at_b(Command::RxOn(SCI_A, an(true))),
+    ]
+}
+
+/// B receives from A under two associations and keys, whose offsets are 30 and 0, and 30 and 50 at A and B. A has sent a
+/// frame.
+fn unlike_offsets() -> [Move; 8] {
+    [
+        at_b(Command::RxSc(SCI_A)),
+        rx_sa(End::B, SCI_A, false, 0, 1, 1),
+        at_b(Command::RxOn(SCI_A, an(false))),
+        key_at(End::A, 1, 1, 30),
+        key_at(End::B, 1, 1, 50),
+        rx_sa(End::B, SCI_A, true, 1, 1, 1),
+        at_b(Command::RxOn(SCI_A, an(true))),
+        Move::Send(End::A),
     ]
 }
 
@@ -510,5 +560,23 @@ fn tags() -> [Move; 13] {
         at_b(Command::RxScDel(SCI_C)),
         // The first frame has ES in place of the SCI, and its SCI becomes data.
         Move::Alter(0, 14, 0x40),
+    ]
+}
+
+fn offsets() -> [Move; 13] {
+    [
+        Move::Deliver(End::B, 0),
+        Move::Deliver(End::B, 1),
+        Move::Deliver(End::B, 2),
+        Move::Send(End::A),
+        Move::SendUncontrolled(End::A),
+        Move::Inject(End::A, 2),
+        at_a(Command::TxDel(an(false))),
+        encrypting(false, 0, 9),
+        encrypting(true, 1, 1),
+        tx_sa(true, 1, 1),
+        at_a(Command::TxOn(an(false))),
+        at_a(Command::TxOn(an(true))),
+        at_b(Command::Validate(Mode::Check)),
     ]
 }

@@ -1,6 +1,6 @@
 //! A list of events as a script that `macsec run` takes.
 
-use crate::moves::client_frame;
+use crate::moves::{client_frame, forged_frame};
 use crate::scenario::sci_of;
 use crate::{Move, Scenario};
 use macsec_link::{An, Command, End, EndConfig, Key, Mode, NewKey, Sci, Suite, TagForm};
@@ -23,7 +23,7 @@ impl fmt::Display for Script<'_> {
         for done in self.moves {
             let line = Line { done: *done, sent };
             writeln!(f, "{line}")?;
-            sent = sent.wrapping_add(u8::from(matches!(done, Move::Send(_))));
+            sent = sent.wrapping_add(u8::from(done.is_send()));
         }
         Ok(())
     }
@@ -111,6 +111,11 @@ impl fmt::Display for Line {
             Move::Deliver(end, n) => write!(f, "{} deliver {n}", end_name(end)),
             Move::Alter(n, place, octet) => write!(f, "alter {n} {place} {octet:02x}"),
             Move::Pad(n) => write!(f, "pad {n}"),
+            Move::SendUncontrolled(end) => {
+                let client = client_frame(sci_of(end), self.sent);
+                write!(f, "{} sendu {}", end_name(end), Hex(&client))
+            }
+            Move::Inject(end, pn) => write!(f, "inject {}", Hex(&forged_frame(sci_of(end), pn))),
         }
     }
 }

@@ -9,12 +9,25 @@ use rand_core::utils::NextWord;
 use rand_pcg::Pcg32;
 use std::alloc::{AllocError, Global};
 
-/// By what lists are carried out: by the code and by the plain rule beside it, or by the plain rule alone, in which a mistake
-/// was planted.
+/// By what lists are carried out, and what is looked for.
 #[derive(Clone, Copy)]
 pub enum By {
+    /// By the code and by the plain rule beside it: breaches and disagreements.
     Code,
+    /// By the plain rule alone, in which a mistake was planted: breaches.
     Planted(Plant),
+    /// By the code and by the plain rule beside it, in which a mistake was planted: disagreements.
+    Beside(Plant),
+}
+
+impl By {
+    /// The planted mistake.
+    fn plant(self) -> Option<Plant> {
+        match self {
+            By::Code => None,
+            By::Planted(plant) | By::Beside(plant) => Some(plant),
+        }
+    }
 }
 
 /// What was found: a breach, in which world, and the moves up to it, those of the world's beginning among them.
@@ -25,10 +38,11 @@ pub struct Finding {
     pub moves: Vec<Move>,
 }
 
-/// Both worlds as they are carried out. There is none of the code if a mistake was planted.
+/// Both worlds as they are carried out. There is none of the code if the plain rule is alone.
 #[derive(Drop)]
 struct Run {
     alloc: Global,
+    by: By,
     plain: PlainWorld,
     world: Option<World>,
     sent: u8,
@@ -46,13 +60,14 @@ impl Run {
     fn new(alloc: Global, by: By, scenario: Scenario) -> anyhow::Result<Run> {
         let a = scenario.config(End::A);
         let b = scenario.config(End::B);
-        let (plant, world) = match by {
-            By::Code => (None, Some(World::new(alloc, a, b)?)),
-            By::Planted(plant) => (Some(plant), None),
+        let world = match by {
+            By::Planted(_) => None,
+            By::Code | By::Beside(_) => Some(World::new(alloc, a, b)?),
         };
         Ok(Run {
             alloc,
-            plain: PlainWorld::new(alloc, plant, a, b),
+            by,
+            plain: PlainWorld::new(alloc, by.plant(), a, b),
             world,
             sent: 0,
         })
@@ -61,9 +76,7 @@ impl Run {
     /// Carries out a move.
     fn step(&mut self, done: Move, coverage: &mut Coverage) -> Result<Went, AllocError> {
         let event = done.event(self.alloc, self.sent)?;
-        self.sent = self
-            .sent
-            .wrapping_add(u8::from(matches!(done, Move::Send(_))));
+        self.sent = self.sent.wrapping_add(u8::from(done.is_send()));
         let step = self.plain.step(&event)?;
         coverage.count(&step);
         Ok(self.compare(&event, &step))
@@ -71,10 +84,11 @@ impl Run {
 
     /// Carries out an event by the code, and compares what came of it.
     fn compare(&mut self, event: &Event, step: &Step) -> Went {
-        let breach = if self.agrees(event, &step.answer) {
-            step.breach
-        } else {
-            Some(Breach::Disagreement)
+        let agrees = self.agrees(event, &step.answer);
+        let breach = match self.by {
+            _ if !agrees => Some(Breach::Disagreement),
+            By::Beside(_) => None,
+            By::Code | By::Planted(_) => step.breach,
         };
         Went {
             breach,
@@ -140,6 +154,31 @@ fn run_list(
     } else {
         Ok(Ended::Breach(Breach::Disagreement, moves.len()))
     }
+}
+
+/// Carries out the moves of a counter-example by the code and by the plain rule with this mistake beside it. Returns after how
+/// many moves the two disagreed, if they did.
+pub fn disagreement(
+    alloc: Global,
+    plant: Plant,
+    found: &Finding,
+    coverage: &mut Coverage,
+) -> anyhow::Result<Option<usize>> {
+    let moves = found.moves.as_slice();
+    let ended = run_list(
+        alloc,
+        By::Beside(plant),
+        found.scenario,
+        moves,
+        false,
+        coverage,
+    )?;
+    Ok(match ended {
+        Ended::Breach(Breach::Disagreement, place) => Some(
+            place.saturating_add(1).min(moves.len()),
+        ),
+        _ => None,
+    })
 }
 
 /// What was found after these of the moves.
