@@ -47,7 +47,7 @@ impl Move {
     }
 
     /// Has it a client frame of its own?
-    pub fn is_send(self) -> bool {
+    pub fn is_send(&self) -> bool {
         matches!(self, Move::Send(_) | Move::SendUncontrolled(_))
     }
 
