@@ -11,8 +11,8 @@ ghost use Rattle.macsec_ends.specs.Kept.{frames_kept};
 ghost use Rattle.macsec_ends.specs.Logs.{DeliveryLog, makes_log, sent_under};
 ghost use Rattle.macsec_ends.specs.Sound.{IsSoundEnd};
 
-use crate::deliveries::{Deliveries, follow_command, push_delivered, reserve_live, reserve_log};
 use crate::Frame;
+use crate::deliveries::{Deliveries, follow_command, push_delivered, reserve_live, reserve_log};
 use crate::sent::{push_at, reserve_places};
 use macsec_secy::laws::{lengths_of_frames, lengths_of_protected_frames};
 use macsec_secy::{

@@ -10,8 +10,8 @@ mod delivering;
 mod judging;
 
 pub use channels::RxChannels;
-use macsec_pn::RxNumbers;
 pub use macsec_commands::Mode;
+use macsec_pn::RxNumbers;
 use macsec_suite::Suite;
 use macsec_tag::{An, Sci};
 use std::fmt;

@@ -24,7 +24,8 @@ use arrayvec::ArrayVec;
 pub use counters::{ChannelCounters, Counters, RxCounters, TxCounters};
 pub use fault::FrameFault;
 pub use macsec_commands::{
-    An, Command, EndConfig, Key, MAX_FRAME_LEN, MIN_MAX_FRAME, Mode, NewFault, NewKey, Sci, Suite, TagForm,
+    An, Command, EndConfig, Key, MAX_FRAME_LEN, MIN_MAX_FRAME, Mode, NewFault, NewKey, Sci, Suite,
+    TagForm,
 };
 use macsec_rx::RxChannels;
 pub use macsec_rx::{RxRow, Verdict};
