@@ -64,7 +64,7 @@ lanes-used: toolchain
 
 # The program is built once it is proved; here it is run on an empty script, which prints nothing.
 build/macsec: $(SOURCES) | toolchain
-	@echo "proving and building build/macsec; README.md says how long the first time takes" >&2
+	@echo "proving and building build/macsec: from nothing many minutes, with a line for each crate" >&2
 	@tools/prove macsec_cli
 	@cd crates/macsec_cli && rt run -- run - < /dev/null >&2
 	@mkdir -p build
