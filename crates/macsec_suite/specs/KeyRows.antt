@@ -1,11 +1,12 @@
 -- The keys of an endpoint, as a list of rows in the order of their installation.
-use Rattle.std.specs.Prelude.{◌≡◌, ℕ, ◌+◌, ◌^◌, ◌<◌, ◌≤◌, List, [], ◌∷◌, ◌++◌, length, map, find, ◌==◌, Bool, false, true, if◌then◌else◌, Option, None, unwrap_or}
+use Rattle.std.specs.Prelude.{◌≡◌, ℕ, ◌+◌, ◌^◌, ◌<◌, ◌≤◌, List, [], ◌∷◌, ◌++◌, length, map, find, ◌==◌, Bool, false, true, not, ◌&&◌, if◌then◌else◌, Option, None, unwrap_or}
+use Rattle.std.specs.List.{list_any}
 use Rattle.macsec_aes.specs.Keys.{key_bytes}
 use Rattle.macsec_suite.specs.declared.key_row.NewKey.{NewKey}
 use Rattle.macsec_suite.specs.declared.suite.Suite.{Suite}
 use Rattle.macsec_suite.specs.declared.suite.Suite.TheVariants.{Gcm128}
 use Rattle.macsec_suite.specs.Keys.{PreparedKey}
-use Rattle.macsec_suite.specs.Suites.{key_length}
+use Rattle.macsec_suite.specs.Suites.{is_xpn, key_length, widest_extended_window, widest_short_window}
 
 -- the most keys of an endpoint; their numbers are below this one
 abbrev pub max_key_count : ℕ
@@ -48,7 +49,11 @@ at_number change number row = if row.number == number then change row else row
 abbrev pub with_key : (InstalledKey → InstalledKey) → ℕ → List InstalledKey → List InstalledKey
 with_key change number rows = map (at_number change number) rows
 
--- the row of a new key, of which no packet number is used
+-- the suite of a new key: its own, or, if it names none, the default
+abbrev pub suite_of : Suite → NewKey → Suite
+suite_of default k = unwrap_or k.suite default
+
+-- the row of a new key of a suite, of which no packet number is used
 abbrev pub new_row : Suite → NewKey → InstalledKey
 new_row suite k = record {
   number = k.number;
@@ -77,6 +82,14 @@ row_noting pn row = record row { first_unused = pn + 1 }
 -- the keys, of which the one of this number has used the packet number pn
 abbrev pub keys_noting : List InstalledKey → ℕ → ℕ → List InstalledKey
 keys_noting rows number pn = with_key (row_noting pn) number rows
+
+-- packet numbers are extended under the key, and it is not retired
+abbrev pub is_extended : InstalledKey → Bool
+is_extended row = is_xpn row.suite && not row.retired
+
+-- the widest replay window beside the keys: less wide while packet numbers are extended under one that is not retired
+abbrev pub widest_beside : List InstalledKey → ℕ
+widest_beside rows = if list_any is_extended rows then widest_extended_window else widest_short_window
 
 -- what holds of every key's row: its number is below 256, it has as many bytes as its suite requires, its salt has
 -- twelve octets, its SSCI 32 bits, and its first unused packet number is at least 1 and at most one past the last of 64

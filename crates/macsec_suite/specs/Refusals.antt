@@ -1,15 +1,16 @@
 -- Why commands on keys are refused: each refusal with its condition, in the order of the tests.
-use Rattle.std.specs.Prelude.{ℕ, List, [], ◌∷◌, Bool, false, not, nat_lt, ◌==◌, ◌||◌, is_some, Option, Some, None, Result, Ok, Err}
+use Rattle.std.specs.Prelude.{ℕ, List, [], ◌∷◌, Bool, false, not, nat_lt, ◌==◌, ◌||◌, ◌&&◌, is_some, Option, Some, None, Result, Ok, Err}
 use Rattle.std.specs.List.{list_any}
 use Rattle.macsec_aes.specs.Keys.{key_bytes}
 use Rattle.macsec_gcm.specs.Octets.{same_octets}
 use Rattle.macsec_suite.specs.declared.suite.Suite.{Suite}
 use Rattle.macsec_suite.specs.declared.key_row.NewKey.{NewKey}
 use Rattle.macsec_suite.specs.declared.refusal.Refusal.{Refusal}
-use Rattle.macsec_suite.specs.declared.refusal.Refusal.TheVariants.{KeyLength, Offset, KeyNumberUsed, KeyRepeated, NoKey, KeyRetired, KeyInUse}
+use Rattle.macsec_suite.specs.declared.refusal.Refusal.TheVariants.{KeyLength, Offset, KeyNumberUsed, KeyRepeated, NoKey, KeyRetired, KeyInUse, Window}
 use Rattle.macsec_suite.specs.FirstThatHolds.{first_that_holds}
 use Rattle.macsec_suite.specs.Keys.{has_wrong_length, has_wrong_offset}
 use Rattle.macsec_suite.specs.KeyRows.{InstalledKey, key_row}
+use Rattle.macsec_suite.specs.Suites.{is_xpn, widest_extended_window}
 
 -- a refusal, and whether its condition holds
 abbrev pub RefusalLine : Type 0
@@ -36,13 +37,18 @@ is_repeated rows bytes = list_any (λ row. same_octets row.bytes bytes) rows
 abbrev pub is_retired : List InstalledKey → ℕ → Bool
 is_retired rows number = holds_of (λ row. row.retired) (key_row rows number)
 
--- of installing a key
-abbrev pub install_refusals : Suite → List InstalledKey → NewKey → List RefusalLine
-install_refusals suite rows k =
+-- packet numbers are extended in the suite, and the replay window is too wide for them
+abbrev pub is_too_wide : Suite → ℕ → Bool
+is_too_wide suite window = is_xpn suite && nat_lt widest_extended_window window
+
+-- of installing a key of a suite beside a replay window
+abbrev pub install_refusals : Suite → ℕ → List InstalledKey → NewKey → List RefusalLine
+install_refusals suite window rows k =
     (KeyLength, has_wrong_length suite k.bytes) ∷
     (Offset, has_wrong_offset suite k.offset) ∷
     (KeyNumberUsed, is_number_used rows k.number) ∷
-    (KeyRepeated, is_repeated rows (key_bytes k.bytes)) ∷ []
+    (KeyRepeated, is_repeated rows (key_bytes k.bytes)) ∷
+    (Window, is_too_wide suite window) ∷ []
 
 -- of retiring a key, which an association may use
 abbrev pub retire_refusals : List InstalledKey → ℕ → Bool → List RefusalLine

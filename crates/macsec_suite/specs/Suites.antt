@@ -33,6 +33,9 @@ extended_iv ssci salt pn = sum_with_stream salt (to_be_bytes w32 ssci ++ to_be_b
 abbrev pub iv_of : Suite → Sci → ℕ → List ℕ → ℕ → List ℕ
 iv_of suite sci ssci salt pn = if is_xpn suite then extended_iv ssci salt pn else sci.0 ++ to_be_bytes w32 pn
 
--- the widest replay window
-abbrev pub widest_window : Suite → ℕ
-widest_window suite = if is_xpn suite then 2 ^ 30 - 1 else 2 ^ 32 - 1
+-- the widest replay window with packet numbers of 32 bits, and with extended ones
+abbrev pub widest_short_window : ℕ
+widest_short_window = 2 ^ 32 - 1
+
+abbrev pub widest_extended_window : ℕ
+widest_extended_window = 2 ^ 30 - 1

@@ -1,6 +1,6 @@
 //! A key to be installed, and an installed one.
 
-use crate::SuiteKey;
+use crate::{Suite, SuiteKey};
 use macsec_aes::Key;
 
 /// A key to be installed.
@@ -16,6 +16,8 @@ pub struct NewKey {
     pub ssci: u32,
     /// The confidentiality offset: how many octets of the Secure Data stay as they are.
     pub offset: u8,
+    /// Its cipher suite; without one it gets the endpoint's default.
+    pub suite: Option<Suite>,
 }
 
 /// An installed key.

@@ -1,13 +1,15 @@
 //! The table of an endpoint's keys (IEEE 802.1AE, 10.7).
 
 ghost use Rattle.std.specs.Prelude.{◌≡◌, [], ◌∷◌, ◌++◌, length, slice_get, IfOk, OnOk, OnErr, IsSome, IfSome, MatchOption, option_map, Some, None};
+ghost use Rattle.std.specs.List.{list_any};
 ghost use Rattle.macsec_aes.specs.Keys.{key_bytes};
 ghost use Rattle.macsec_gcm.specs.Octets.{same_octets};
-ghost use Rattle.macsec_suite.specs.KeyRows.{AreKeyRows, key_row, keys_noting, keys_retiring, keys_with, the_key};
+ghost use Rattle.macsec_suite.specs.KeyRows.{AreKeyRows, is_extended, key_row, keys_noting, keys_retiring, keys_with, suite_of, the_key, widest_beside};
 ghost use Rattle.macsec_suite.specs.KeyTables.{HasOwnKey, first_unused_of, row_shown, stored_row};
 ghost use Rattle.macsec_suite.specs.Suites.{key_length};
 ghost use Rattle.macsec_suite.specs.Refusals.{first_refusal, install_refusals, is_repeated, refusal_of, retire_refusals};
 
+use crate::suite::{WIDEST_EXTENDED_WINDOW, WIDEST_SHORT_WINDOW};
 use crate::suite_key::octets_of;
 use crate::{KeyRow, NewKey, Refusal, Suite, SuiteFault, SuiteKey};
 use macsec_aes::Key;
@@ -63,14 +65,16 @@ impl KeyTable {
         })
     }
 
-    /// Installs a key of a suite; its first unused packet number is 1. Refused with the first of `KeyLength`, `Offset`,
-    /// `KeyNumberUsed` and `KeyRepeated` that applies.
-    pub fn install(&mut self, suite: Suite, key: &NewKey) -> Result<(), Refusal>
-        ensures refusal { refusal_of result ≡ first_refusal (install_refusals suite self.old key.now) }
-        ensures done { OnOk result (self.new ≡ keys_with suite self.old key.now) }
+    /// Installs a key, of the default suite if it names none, beside a replay window; its first unused packet number
+    /// is 1. Refused with the first of `KeyLength`, `Offset`, `KeyNumberUsed`, `KeyRepeated` and, if packet numbers are
+    /// extended in its suite and the window is above 2^30 - 1, `Window` that applies.
+    pub fn install(&mut self, default: Suite, key: &NewKey, window: u64) -> Result<(), Refusal>
+        ensures refusal { refusal_of result ≡ first_refusal (install_refusals (suite_of default key.now) window self.old key.now) }
+        ensures done { OnOk result (self.new ≡ keys_with (suite_of default key.now) self.old key.now) }
         ensures unchanged { OnErr result (self.new ≡ self.old) }
         ensures rows { OnOk result (AreKeyRows self.new) }
     {
+        let suite = key.suite.unwrap_or(default);
         let suite_key = match SuiteKey::new(suite, key.bytes, key.salt, key.offset) {
             Ok(suite_key) => suite_key,
             Err(SuiteFault::KeyLength) => return Err(Refusal::KeyLength),
@@ -81,6 +85,9 @@ impl KeyTable {
         }
         if self.has_bytes(key.bytes) {
             return Err(Refusal::KeyRepeated);
+        }
+        if suite.is_too_wide(window) {
+            return Err(Refusal::Window);
         }
         self.append(KeyRow {
             key: *key,
@@ -129,6 +136,28 @@ impl KeyTable {
     {
         let stored = self.stored(number)?;
         Some(stored.first_unused)
+    }
+
+    /// The widest replay window beside the keys: 2^30 - 1 while packet numbers are extended under one that is not
+    /// retired, and else 2^32 - 1.
+    pub fn widest_window(&self) -> u64
+        ensures { result ≡ widest_beside self.now }
+    {
+        if self.has_extended() {
+            WIDEST_EXTENDED_WINDOW
+        } else {
+            WIDEST_SHORT_WINDOW
+        }
+    }
+
+    /// Are packet numbers extended under a key that is not retired?
+    fn has_extended(&self) -> bool
+        ensures { result ≡ list_any is_extended self.now }
+    {
+        self.rows
+            .as_slice()
+            .iter()
+            .any(|stored| stored.is_extended())
     }
 
     /// Notes that the packet number `pn` was used under the key of this number, which is in the table. The first unused
@@ -188,6 +217,13 @@ impl KeyTable {
 }
 
 impl StoredKey {
+    /// Are packet numbers extended under the key, and is it not retired?
+    fn is_extended(&self) -> bool
+        ensures { result ≡ is_extended (stored_row self.now) }
+    {
+        self.row.suite_key.suite().is_xpn() && !self.row.retired
+    }
+
     /// Does the key have these bytes?
     fn has_bytes(&self, bytes: Key) -> bool
         ensures { result ≡ same_octets (stored_row self.now).bytes (key_bytes bytes) }

@@ -1,8 +1,15 @@
 //! The cipher suites (IEEE 802.1AE, clause 14).
 
 ghost use Rattle.std.specs.Prelude.{◌≡◌, ◌<◌};
-ghost use Rattle.macsec_suite.specs.Suites.{is_xpn, key_length, last_of, widest_window};
+ghost use Rattle.macsec_suite.specs.Suites.{is_xpn, key_length, last_of};
+ghost use Rattle.macsec_suite.specs.Refusals.{is_too_wide};
 ghost use Rattle.macsec_suite.specs.Keys.{has_wrong_offset};
+
+/// The widest replay window with packet numbers of 32 bits.
+pub(crate) const WIDEST_SHORT_WINDOW: u64 = (1 << 32) - 1;
+
+/// The widest replay window with extended packet numbers.
+pub(crate) const WIDEST_EXTENDED_WINDOW: u64 = (1 << 30) - 1;
 
 /// A cipher suite.
 #[derive(Clone, Copy, PartialEq, Eq, Debug)]
@@ -45,15 +52,11 @@ impl Suite {
         if self.is_xpn() { u64::MAX } else { 0xffff_ffff }
     }
 
-    /// The widest replay window.
-    pub fn widest_window(self) -> u64
-        ensures { result ≡ widest_window self }
+    /// Are packet numbers extended, and is the replay window too wide for them?
+    pub(crate) fn is_too_wide(self, window: u64) -> bool
+        ensures { result ≡ is_too_wide self window }
     {
-        if self.is_xpn() {
-            (1 << 30) - 1
-        } else {
-            u64::from(u32::MAX)
-        }
+        self.is_xpn() && window > WIDEST_EXTENDED_WINDOW
     }
 
     /// Is this no confidentiality offset of the suite's keys?
