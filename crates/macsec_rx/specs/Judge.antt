@@ -1,21 +1,20 @@
 -- The verdict on a tagged frame: the first step of reception whose condition holds (IEEE 802.1AE, 10.6).
 --    1  an untagged frame, in Strict: NoTag
 --    2  an untagged frame, in another mode: Untagged; the frame is delivered
---    3  the SecTAG has a fault, or PN 0 in a suite with 32-bit packet numbers: BadTag
+--    3  the SecTAG has a fault: BadTag
 --    4  E is set and C clear: Reserved
 --    5  no association is enabled for the frame; Strict, or C set: NoSaError
 --    6  no association is enabled for it, otherwise: NoSa; DA, SA and data are delivered
---    7  no packet number is recovered: BadTag
+--    7  no packet number is recovered, or PN 0 under a key with packet numbers of 32 bits: BadTag
 --    8  replay protection, and the packet number is late: Late
 --    9  Disabled, and C is set: NotValid
 --   10  Disabled, otherwise: Delayed if it is late, else Unchecked; DA, SA and data are delivered
 --   11  the ICV is not valid; Strict, or C set: NotValid
 --   12  the ICV is not valid, otherwise: Invalid; DA, SA and data are delivered as they were received
 --   13  the ICV is valid: Delayed if it is late, else Passed; DA, SA and opened data are delivered
--- A tagged frame is judged from step 3 on. Only step 13 accepts the packet number.
+-- A frame whose SecTAG has no fault is judged from step 4 on. Only step 13 accepts the packet number.
 use Rattle.std.specs.Prelude.{ℕ, List, [], ◌∷◌, ◌++◌, take, find, slice_range, ◌+◌, ◌==◌, Bool, true, false, not, ◌&&◌, ◌||◌, is_some, if◌then◌else◌, Option, Some, None}
 use Rattle.macsec_tag.specs.declared.identifiers.Sci.{Sci}
-use Rattle.macsec_tag.specs.Tag.{Tag}
 use Rattle.macsec_tag.specs.Frame.{MpduParts}
 use Rattle.macsec_pn.specs.Numbers.{recovered_number, is_late, accept}
 use Rattle.macsec_suite.specs.declared.suite.Suite.{Suite}
@@ -117,6 +116,15 @@ judge_number options key association p (Some number) =
     then at_row association number 10 (if is_late association.lowest number then Delayed else Unchecked) (Some (bare_frame p))
     else judge_opened options key association number p (plaintext_of key association number p)
 
+-- the PN field is 0, which no sender uses, and packet numbers have 32 bits
+abbrev pub is_bad_number : Suite → ℕ → Bool
+is_bad_number suite pn = pn == 0 && not (is_xpn suite)
+
+-- the packet number of a frame, by the suite of the key of its association, the lowest acceptable number and the PN
+-- field: what is recovered, if anything is, but none for a bad one
+abbrev pub number_of_frame : Suite → ℕ → ℕ → Option ℕ
+number_of_frame suite lowest pn = if is_bad_number suite pn then None else recovered_number (is_xpn suite) lowest pn
+
 -- steps 5 to 13: no association is enabled for the frame, or there is one
 abbrev pub judge_row : RxOptions → List InstalledKey → MpduParts → Option RxRow → Judgement
 judge_row options keys p None =
@@ -124,18 +132,12 @@ judge_row options keys p None =
     else without_row 6 NoSa (Some (bare_frame p))
 judge_row options keys p (Some row) =
     let key = the_key keys row.key in
-    judge_number options key row p (recovered_number (is_xpn key.suite) row.lowest p.tag.pn)
+    judge_number options key row p (number_of_frame key.suite row.lowest p.tag.pn)
 
--- the packet number is 0, which no sender uses, and packet numbers have 32 bits
-abbrev pub is_bad_number : Suite → Tag → Bool
-is_bad_number suite tag = tag.pn == 0 && not (is_xpn suite)
-
--- steps 3 to 13, with the association enabled for the frame, if there is one
+-- steps 4 to 13, with the association enabled for the frame, if there is one
 abbrev pub judge_tagged_row : RxOptions → List InstalledKey → MpduParts → Option RxRow → Judgement
 judge_tagged_row options keys p row =
-    if is_bad_number options.suite p.tag then without_row 3 BadTag None
-    else if p.tag.e && not p.tag.c then without_row 4 Reserved None
-    else judge_row options keys p row
+    if p.tag.e && not p.tag.c then without_row 4 Reserved None else judge_row options keys p row
 
 abbrev pub judge_tagged : RxOptions → List InstalledKey → Channels → MpduParts → Judgement
 judge_tagged options keys channels p =

@@ -10,14 +10,14 @@ ghost use Rattle.macsec_tag.specs.Limits.{max_frame_len};
 ghost use Rattle.macsec_rx.specs.Limits.{unpadded_length};
 ghost use Rattle.macsec_rx.specs.Channels.{with_rx};
 ghost use Rattle.macsec_rx.specs.Commands.{HaveRxKeys};
-ghost use Rattle.macsec_rx.specs.Judge.{is_bad_number, is_disabled, is_strict, judge_number, judge_opened, judge_row, judge_tagged, judge_tagged_row, octets_at, plaintext_of, rows_after};
+ghost use Rattle.macsec_rx.specs.Judge.{is_bad_number, is_disabled, is_strict, judge_number, judge_opened, judge_row, judge_tagged, judge_tagged_row, number_of_frame, octets_at, plaintext_of, rows_after};
 ghost use Rattle.macsec_rx.specs.Delivered.{IsInPlace, frame_with, opened_under};
 ghost use Rattle.macsec_rx.specs.Rows.{AreChannels};
 ghost use Rattle.macsec_rx.specs.Judged.{ShowsJudgement, ShowsOutcome};
 
 use crate::delivering::{deliver_bare, deliver_opened};
 use crate::{Judged, Mode, RxChannels, RxOptions, RxRow, Verdict};
-use macsec_suite::{KeyRow, KeyTable, iv_of};
+use macsec_suite::{KeyRow, KeyTable, Suite, iv_of};
 use macsec_tag::Mpdu;
 
 /// A verdict, and the packet number that is accepted with it, if one is.
@@ -112,11 +112,22 @@ fn is_disabled(mode: Mode) -> bool
     }
 }
 
-/// Does the frame have the packet number 0, and do packet numbers have 32 bits?
-fn has_bad_number(options: &RxOptions, mpdu: &Mpdu<'_>) -> bool
-    ensures { result ≡ is_bad_number options.now.suite mpdu.now.tag }
+/// Is the PN field 0, which no sender uses, and have packet numbers 32 bits?
+fn is_bad_number(suite: Suite, pn: u32) -> bool
+    ensures { result ≡ is_bad_number suite pn }
 {
-    mpdu.tag().pn() == 0 && !options.suite.is_xpn()
+    pn == 0 && !suite.is_xpn()
+}
+
+/// The packet number of a frame of an association whose key has this suite, by the PN field, if it has one.
+fn number_of_frame(suite: Suite, row: &RxRow, pn: u32) -> Option<u64>
+    ensures number { result ≡ number_of_frame suite row.now.lowest pn }
+    ensures most { IfSome result (λ number. number ≤ last_of suite) }
+{
+    if is_bad_number(suite, pn) {
+        return None;
+    }
+    row.numbers().recover(suite.is_xpn(), pn)
 }
 
 /// The verdict, with `row` the association enabled for the frame, or none.
@@ -134,9 +145,6 @@ fn judge_tagged_row(
     ensures row { IfSome result.accepted (λ n. (judge_tagged_row options.now keys.now mpdu.now row.now).row ≡ row.now) }
     ensures place { IsInPlace result.judged.delivered mpdu.now }
 {
-    if has_bad_number(options, mpdu) {
-        return Outcome::without_row(Verdict::BadTag, None);
-    }
     let tag = mpdu.tag();
     if tag.e() && !tag.c() {
         return Outcome::without_row(Verdict::Reserved, None);
@@ -194,8 +202,7 @@ fn judge_known(
     ensures place { IsInPlace result.judged.delivered mpdu.now }
 {
     let key = keys.key(row.key).unwrap();
-    let is_xpn = key.suite_key.suite().is_xpn();
-    let Some(number) = row.numbers().recover(is_xpn, mpdu.tag().pn()) else {
+    let Some(number) = number_of_frame(key.suite_key.suite(), row, mpdu.tag().pn()) else {
         return Outcome::at_row(row, Verdict::BadTag, None, None);
     };
     judge_number(key, options, row, number, mpdu, out)

@@ -12,7 +12,6 @@ mod judging;
 pub use channels::RxChannels;
 pub use macsec_commands::Mode;
 use macsec_pn::RxNumbers;
-use macsec_suite::Suite;
 use macsec_tag::{An, Sci};
 use std::fmt;
 
@@ -23,7 +22,7 @@ pub enum Verdict {
     Untagged,
     /// It has no SecTAG, and is dropped.
     NoTag,
-    /// Its SecTAG or its packet number is invalid.
+    /// Its SecTAG is invalid, or it has no packet number.
     BadTag,
     /// E is set and C clear.
     Reserved,
@@ -78,8 +77,6 @@ impl fmt::Display for Verdict {
 /// What reception depends on.
 #[derive(Clone, Copy, PartialEq, Eq, Debug)]
 pub struct RxOptions {
-    /// The endpoint's cipher suite.
-    pub suite: Suite,
     /// How frames are validated.
     pub mode: Mode,
     /// Are late frames dropped?

@@ -10,7 +10,7 @@ use Rattle.macsec_rx.proofs.judging.judge_known.Goals as goal
 pub returns-clause-outcome : goal.returns-clause-outcome
 returns-clause-outcome c =
     let there = rw c.unwrap-key.ensures at c.key.ensures.row in
-    let number = rw (c.is_xpn-is_xpn.ensures, c.numbers.ensures, c.suite.ensures, c.pn.ensures, c.tag.ensures) at c.in-Some.ensures.value in
+    let number = rw (c.suite.ensures, c.pn.ensures, c.tag.ensures) at c.in-Some.ensures.number in
     subst (λ j. ShowsOutcome c.judge_number.result c.judge_number.new.out j)
     (judged c.args.options.now c.args.keys.now c.args.mpdu.now c.args.row.now c.unwrap-key.result.now _ c.in-Some.number there number)
     (c.judge_number.ensures.outcome (the_key c.args.keys.now c.args.row.now.key).first_unused)
@@ -18,7 +18,7 @@ returns-clause-outcome c =
 pub returns-clause-row : goal.returns-clause-row
 returns-clause-row c =
     let there = rw c.unwrap-key.ensures at c.key.ensures.row in
-    let number = rw (c.is_xpn-is_xpn.ensures, c.numbers.ensures, c.suite.ensures, c.pn.ensures, c.tag.ensures) at c.in-Some.ensures.value in
+    let number = rw (c.suite.ensures, c.pn.ensures, c.tag.ensures) at c.in-Some.ensures.number in
     subst (λ j. IfSome c.judge_number.result.accepted (λ n. j.row ≡ Some c.args.row.now))
     (judged c.args.options.now c.args.keys.now c.args.mpdu.now c.args.row.now c.unwrap-key.result.now _ c.in-Some.number there number)
     (c.judge_number.ensures.row (the_key c.args.keys.now c.args.row.now.key).first_unused)
