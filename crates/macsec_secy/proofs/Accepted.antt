@@ -21,7 +21,7 @@ use Rattle.macsec_tag.specs.Limits.{max_frame_len, min_frame_len}
 use Rattle.macsec_tx.specs.Transmit.{parts_sent, tag_sent, use_sent}
 use Rattle.macsec_rx.specs.declared.RxRow.{RxRow}
 use Rattle.macsec_rx.specs.declared.Verdict.TheVariants.{Passed}
-use Rattle.macsec_rx.specs.Judge.{at_row, in_use, is_bad_number, opened_frame, use_to_open}
+use Rattle.macsec_rx.specs.Judge.{at_row, in_use, is_bad_number, number_of_frame, opened_frame, use_to_open}
 use Rattle.macsec_secy.specs.declared.fault.FrameFault.TheVariants.{Short, Long}
 use Rattle.macsec_secy.specs.Accepts.{AcceptsSent, HasSameKey, padded_by}
 use Rattle.macsec_secy.specs.Reception.{judge_reading, judgement_of}
@@ -98,17 +98,16 @@ accepts_sent laws sender receiver client tx rx behind sender_sound receiver_soun
     let reads : reading frame ≡ tagged q = read_with laws.read_again p as_sent.is_tagged.tag as_sent.is_tagged.lengths refl behind may.none in
     let good : frame_fault frame ≡ None = no_fault frame (omega (arith, length-append (in_a_row p) behind, as_sent.octets, long)) may.most in
     let used = in_use_is (λ (r : RxRow). IsSome (key_row receiver.keys r.key)) receiver.rx.rows sender.config.sci tx.an rx receiver_sound.rx_keys can.on in
-    let own_suite : other.suite ≡ receiver.config.suite = the_key_holds (λ (k : InstalledKey). k.suite ≡ receiver.config.suite) receiver.keys rx.key receiver_sound.suite used.holds in
-    let suite : receiver.config.suite ≡ key.suite = sym own_suite ∙ can.key.suite in
     let delivers : opened_frame other q plaintext ≡ client =
     ap (λ (offset : ℕ). p.da ++ p.sa ++ take (clear_length offset tag.e p.secure_data) p.secure_data ++ plaintext) can.key.offset
     ∙ gives_frame laws.lengths (prepared_key key) iv tag client in
     let opens : use_to_open other rx tx.next q ≡ use_sent options key tx client = same_use key other rx sender.config.sci tx.next q can.key used.sci in
     let passes = passed (rx_options receiver) receiver.keys receiver.rx q rx tx.next plaintext (record {
-      number_sent = ap (λ (s : Suite). is_bad_number s q.tag) suite ∙ not_bad (is_xpn key.suite) tx.next row.next_least sent.next;
       not_reserved = same_bits tx.conf;
       used = ap (in_use receiver.rx.rows tx.an) can.sci ∙ can.on;
-      recovered = ap (λ (s : Suite). recovered_number_of s) can.key.suite ∙ recovered (is_xpn key.suite) rx.lowest tx.next row.next_least sent.next can.not_late can.near;
+      numbered = ap (λ (s : Suite). number_of_frame s rx.lowest (tx.next % 2 ^ 32)) can.key.suite
+          ∙ numbered key.suite (tx.next % 2 ^ 32) (not_bad (is_xpn key.suite) tx.next row.next_least sent.next)
+          (recovered (is_xpn key.suite) rx.lowest tx.next row.next_least sent.next can.not_late can.near);
       in_time = le-ltb tx.next rx.lowest can.not_late;
       enabled = is_enabled receiver.options.mode can.not_disabled;
       opens = ap plaintext_of_use opens ∙ sealed_opens laws.undoes laws.lengths (prepared_key key) iv tag client;
@@ -126,8 +125,8 @@ accepts_sent laws sender receiver client tx rx behind sender_sound receiver_soun
     same_bits true = refl
     same_bits false = refl
 
-    recovered_number_of : Suite → Option ℕ
-    recovered_number_of s = recovered_number (is_xpn s) rx.lowest (tx.next % 2 ^ 32)
+    numbered : (suite : Suite) (pn : ℕ) → is_bad_number suite pn ≡ false → recovered_number (is_xpn suite) rx.lowest pn ≡ Some tx.next → number_of_frame suite rx.lowest pn ≡ Some tx.next
+    numbered suite pn good is = rw (good, is) refl
 
     told : {sci : Sci} {an : ℕ} {frame : List ℕ} → rx.sci ≡ sci → rx.an ≡ an →
         received Passed (Some (rx.sci, rx.an)) frame (Some client) ≡ received Passed (Some (sci, an)) frame (Some client)

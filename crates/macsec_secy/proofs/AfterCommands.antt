@@ -3,7 +3,7 @@
 use Rattle.std.proofs.Common.{◌≡◌, ℕ, ◌≤◌, Bool, true, false, List, [], ◌∷◌, ◌++◌, refl}
 use Rattle.std.specs.Prelude.{not, if◌then◌else◌, Some, None, IsSome}
 use Rattle.std.proofs.lemmas.Bool.{ltb-false}
-use Rattle.macsec_suite.specs.KeyRows.{InstalledKey, key_row, keys_retiring, keys_with, new_row}
+use Rattle.macsec_suite.specs.KeyRows.{InstalledKey, key_row, keys_retiring, keys_with, new_row, suite_of}
 use Rattle.macsec_suite.specs.Refusals.{RefusalLine, first_refusal, is_number_used}
 use Rattle.macsec_tx.specs.declared.TxRow.{TxRow}
 use Rattle.macsec_tx.specs.Commands.{tx_sa_refusals, tx_uses}
@@ -21,7 +21,7 @@ effect_stays s (Protect on) n = refl
 effect_stays s (Validate mode) n = refl
 effect_stays s (Replay protect window) n = refl
 effect_stays s (Tag form) n = refl
-effect_stays s (Key key) n = first-another_key s.keys (new_row s.config.suite key) n refl
+effect_stays s (Key key) n = first-another_key s.keys (new_row (suite_of s.config.suite key) key) n refl
 effect_stays s (Retire key) n = first-retiring s.keys key n
 effect_stays s (TxSa an key next conf) n = refl
 effect_stays s (TxOn an) n = refl
@@ -69,7 +69,7 @@ effect_keeps s (Protect on) e have = have
 effect_keeps s (Validate mode) e have = have
 effect_keeps s (Replay protect window) e have = have
 effect_keeps s (Tag form) e have = have
-effect_keeps s (Key key) e have = with_keys s.keys (keys_with s.config.suite s.keys key) (another_stays s.keys (new_row s.config.suite key) refl) s.tx have
+effect_keeps s (Key key) e have = with_keys s.keys (keys_with (suite_of s.config.suite key) s.keys key) (another_stays s.keys (new_row (suite_of s.config.suite key) key) refl) s.tx have
 effect_keeps s (Retire key) e have = with_keys s.keys (keys_retiring s.keys key) (retiring_stays s.keys key) s.tx have
 effect_keeps s (TxSa an key next conf) e have =
     let known = free_to_join s.keys s.tx an key next e in

@@ -5,6 +5,7 @@ use Rattle.std.proofs.lemmas.Bool.{ltb-false}
 use Rattle.macsec_tag.specs.Frame.{MpduParts}
 use Rattle.macsec_tag.specs.Table.{Reading, untagged, bad, tagged, reading}
 use Rattle.macsec_pn.specs.Numbers.{is_late, recovered_number}
+use Rattle.macsec_suite.specs.declared.suite.Suite.{Suite}
 use Rattle.macsec_suite.specs.Suites.{is_xpn}
 use Rattle.macsec_suite.specs.KeyRows.{InstalledKey, the_key}
 use Rattle.macsec_commands.specs.declared.mode.Mode.{Mode}
@@ -12,7 +13,7 @@ use Rattle.macsec_commands.specs.declared.mode.Mode.TheVariants.{Disabled, Check
 use Rattle.macsec_rx.specs.declared.RxOptions.{RxOptions}
 use Rattle.macsec_rx.specs.declared.RxRow.{RxRow}
 use Rattle.macsec_rx.specs.declared.Verdict.TheVariants.{BadTag, Reserved, NoSa, NoSaError, Late, NotValid, Unchecked, Delayed, Invalid, NoTag, Untagged}
-use Rattle.macsec_rx.specs.Judge.{Judgement, at_row, bare_frame, in_use, is_bad_number, is_disabled, is_strict, judge_number, judge_opened, judge_row, judge_tagged_row, opened_frame, plaintext_of, sci_of, without_row}
+use Rattle.macsec_rx.specs.Judge.{Judgement, at_row, bare_frame, in_use, is_bad_number, is_disabled, is_strict, judge_number, judge_opened, judge_row, judge_tagged_row, number_of_frame, opened_frame, plaintext_of, sci_of, without_row}
 use Rattle.macsec_secy.specs.Delivers.{IsOpened, used_in}
 use Rattle.macsec_secy.specs.Reception.{judge_reading, judgement_of}
 use Rattle.macsec_secy.specs.State.{State, rx_options}
@@ -21,7 +22,7 @@ use Rattle.macsec_secy.specs.State.{State, rx_options}
 pub record OpensParts (keys : List InstalledKey) (p : MpduParts) (j : Judgement) (row : RxRow) (frame : List ℕ) : Type 0 where
   pub plaintext : List ℕ
   pub thirteen : (j.step == 13) ≡ true
-  pub number : recovered_number (is_xpn (the_key keys row.key).suite) row.lowest p.tag.pn ≡ Some j.number
+  pub number : number_of_frame (the_key keys row.key).suite row.lowest p.tag.pn ≡ Some j.number
   pub opens : plaintext_of (the_key keys row.key) row j.number p ≡ Some plaintext
   pub gives : opened_frame (the_key keys row.key) p plaintext ≡ frame
 
@@ -40,6 +41,14 @@ in_time : (replay : Bool) (lowest number : ℕ) → (replay && is_late lowest nu
 in_time true lowest number not_late on = ltb-false number lowest not_late
 in_time false lowest number not_late on = cc
 
+-- a packet number of a frame is one that is recovered
+recovered_of : (suite : Suite) (lowest pn number : ℕ) → number_of_frame suite lowest pn ≡ Some number → recovered_number (is_xpn suite) lowest pn ≡ Some number
+recovered_of suite lowest pn number is = by_test (is_bad_number suite pn) is
+  where
+    by_test : (b : Bool) → (if b then None else recovered_number (is_xpn suite) lowest pn) ≡ Some number → recovered_number (is_xpn suite) lowest pn ≡ Some number
+    by_test true is' = cc
+    by_test false is' = is'
+
 strict_validates : (mode : Mode) → is_strict mode ≡ true → is_disabled mode ≡ false
 strict_validates Strict strict = refl
 strict_validates Check strict = cc
@@ -55,7 +64,7 @@ module _ (options : RxOptions) (keys : List InstalledKey) (p : MpduParts) where
     opened = λ strict. absurd (let no = sym strict ∙ not_strict in cc);
   }
 
-  by_cipher : (r : RxRow) (number : ℕ) → (options.replay && is_late r.lowest number) ≡ false → recovered_number (is_xpn (the_key keys r.key).suite) r.lowest p.tag.pn ≡ Some number →
+  by_cipher : (r : RxRow) (number : ℕ) → (options.replay && is_late r.lowest number) ≡ false → number_of_frame (the_key keys r.key).suite r.lowest p.tag.pn ≡ Some number →
       (o : Option (List ℕ)) → plaintext_of (the_key keys r.key) r number p ≡ o → TellsAll options keys p (judge_opened options (the_key keys r.key) r number p o) (Some r)
   by_cipher r number not_late is None opens row frame of_row delivers = by_tests p.tag.c (is_strict options.mode) refl of_row delivers
     where
@@ -75,13 +84,13 @@ module _ (options : RxOptions) (keys : List InstalledKey) (p : MpduParts) where
         opened = λ strict. record {
           plaintext = plaintext;
           thirteen = refl;
-          number = subst (λ (x : RxRow). recovered_number (is_xpn (the_key keys x.key).suite) x.lowest p.tag.pn ≡ Some number) one is;
+          number = subst (λ (x : RxRow). number_of_frame (the_key keys x.key).suite x.lowest p.tag.pn ≡ Some number) one is;
           opens = subst (λ (x : RxRow). plaintext_of (the_key keys x.key) x number p ≡ Some plaintext) one opens;
           gives = subst (λ (x : RxRow). opened_frame (the_key keys x.key) p plaintext ≡ frame) one out;
         };
       }
 
-  by_number : (r : RxRow) (o : Option ℕ) → recovered_number (is_xpn (the_key keys r.key).suite) r.lowest p.tag.pn ≡ o → TellsAll options keys p (judge_number options (the_key keys r.key) r p o) (Some r)
+  by_number : (r : RxRow) (o : Option ℕ) → number_of_frame (the_key keys r.key).suite r.lowest p.tag.pn ≡ o → TellsAll options keys p (judge_number options (the_key keys r.key) r p o) (Some r)
   by_number r None is row frame of_row delivers = cc
   by_number r (Some number) is row frame of_row delivers = by_tests (options.replay && is_late r.lowest number) (is_disabled options.mode) p.tag.c refl refl row frame of_row delivers
     where
@@ -109,15 +118,14 @@ module _ (options : RxOptions) (keys : List InstalledKey) (p : MpduParts) where
           Tells options keys p (if b then without_row 5 NoSaError None else without_row 6 NoSa (Some (bare_frame p))) None row frame
       by_test true of_row' = cc
       by_test false of_row' = cc
-  by_row (Some r) row frame of_row delivers = by_number r (recovered_number (is_xpn (the_key keys r.key).suite) r.lowest p.tag.pn) refl row frame of_row delivers
+  by_row (Some r) row frame of_row delivers = by_number r (number_of_frame (the_key keys r.key).suite r.lowest p.tag.pn) refl row frame of_row delivers
 
   by_tagged : (o : Option RxRow) → TellsAll options keys p (judge_tagged_row options keys p o) o
-  by_tagged o = by_tests (is_bad_number options.suite p.tag) (p.tag.e && not p.tag.c)
+  by_tagged o = by_test (p.tag.e && not p.tag.c)
     where
-      by_tests : (bad_one reserved : Bool) → TellsAll options keys p (if bad_one then without_row 3 BadTag None else if reserved then without_row 4 Reserved None else judge_row options keys p o) o
-      by_tests true reserved row frame of_row delivers = cc
-      by_tests false true row frame of_row delivers = cc
-      by_tests false false row frame of_row delivers = by_row o row frame of_row delivers
+      by_test : (reserved : Bool) → TellsAll options keys p (if reserved then without_row 4 Reserved None else judge_row options keys p o) o
+      by_test true row frame of_row delivers = cc
+      by_test false row frame of_row delivers = by_row o row frame of_row delivers
 
 -- ---- of a frame
 
@@ -148,7 +156,8 @@ by_reading s frame row delivered (tagged p) is of_row delivers =
             reads = is;
             plaintext = opened.plaintext;
             thirteen = subst (λ (j : Judgement). (j.step == 13) ≡ true) j opened.thirteen;
-            number = subst (λ (j : Judgement). recovered_number (is_xpn (the_key s.keys row.key).suite) row.lowest p.tag.pn ≡ Some j.number) j opened.number;
+            number = subst (λ (j : Judgement). recovered_number (is_xpn (the_key s.keys row.key).suite) row.lowest p.tag.pn ≡ Some j.number) j
+                (recovered_of (the_key s.keys row.key).suite row.lowest p.tag.pn _ opened.number);
             opens = subst (λ (j : Judgement). plaintext_of (the_key s.keys row.key) row j.number p ≡ Some opened.plaintext) j opened.opens;
             gives = opened.gives;
           };

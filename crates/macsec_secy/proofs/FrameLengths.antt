@@ -12,7 +12,7 @@ use Rattle.macsec_tag.specs.declared.fault.TagFault.TheVariants.{Cut}
 use Rattle.macsec_tag.specs.Frame.{MpduParts, has_macsec_ethertype}
 use Rattle.macsec_tag.specs.Tag.{Tag, sci_octets, encoding, tci_an}
 use Rattle.macsec_tag.specs.Table.{Reading, untagged, bad, tagged, after_tag, data_length_at, parts_at, reading, reading_with, tag_fault, tag_length_at}
-use Rattle.macsec_pn.specs.Numbers.{is_late, recovered_number}
+use Rattle.macsec_pn.specs.Numbers.{is_late}
 use Rattle.macsec_suite.specs.declared.refusal.Refusal.{Refusal}
 use Rattle.macsec_suite.specs.KeyRows.{InstalledKey, the_key}
 use Rattle.macsec_suite.specs.Parts.{aad_and_plaintext, clear_length}
@@ -29,7 +29,7 @@ use Rattle.macsec_tx.specs.Transmit.{Leaving, plain, protected, no_sa, too_long,
 use Rattle.macsec_rx.specs.declared.RxOptions.{RxOptions}
 use Rattle.macsec_rx.specs.declared.RxRow.{RxRow}
 use Rattle.macsec_rx.specs.declared.Verdict.TheVariants.{Untagged, NoTag, BadTag, Reserved, NoSa, NoSaError, Late, NotValid, Unchecked, Delayed, Invalid}
-use Rattle.macsec_rx.specs.Judge.{Judgement, at_row, bare_frame, in_use, is_bad_number, is_disabled, is_strict, judge_number, judge_opened, judge_row, judge_tagged_row, opened_frame, plaintext_of, sci_of, without_row}
+use Rattle.macsec_rx.specs.Judge.{Judgement, at_row, bare_frame, in_use, is_disabled, is_strict, judge_number, judge_opened, judge_row, judge_tagged_row, number_of_frame, opened_frame, plaintext_of, sci_of, without_row}
 use Rattle.macsec_secy.specs.declared.fault.FrameFault.{FrameFault}
 use Rattle.macsec_secy.specs.declared.fault.FrameFault.TheVariants.{Short, Long}
 use Rattle.macsec_secy.specs.State.{State, rx_options, tx_options}
@@ -248,17 +248,15 @@ row_up_to laws n options keys p None fits = by_test (is_strict options.mode || p
     by_test true = tt
     by_test false = fits
 row_up_to laws n options keys p (Some row) fits =
-    number_up_to laws n options (the_key keys row.key) row p (recovered_number (is_xpn (the_key keys row.key).suite) row.lowest p.tag.pn) fits
+    number_up_to laws n options (the_key keys row.key) row p (number_of_frame (the_key keys row.key).suite row.lowest p.tag.pn) fits
 
 tagged_up_to : LowerLaws → (n : ℕ) (options : RxOptions) (keys : List InstalledKey) (p : MpduParts) (row : Option RxRow) →
     length (bare_frame p) ≤ n → DeliversUpTo n (judge_tagged_row options keys p row)
-tagged_up_to laws n options keys p row fits = by_tests (is_bad_number options.suite p.tag) (p.tag.e && not p.tag.c)
+tagged_up_to laws n options keys p row fits = by_test (p.tag.e && not p.tag.c)
   where
-    by_tests : (bad_number reserved : Bool) → DeliversUpTo n (
-        if bad_number then without_row 3 BadTag None else if reserved then without_row 4 Reserved None else judge_row options keys p row)
-    by_tests true reserved = tt
-    by_tests false true = tt
-    by_tests false false = row_up_to laws n options keys p row fits
+    by_test : (reserved : Bool) → DeliversUpTo n (if reserved then without_row 4 Reserved None else judge_row options keys p row)
+    by_test true = tt
+    by_test false = row_up_to laws n options keys p row fits
 
 judged_up_to : LowerLaws → (s : State) (frame : List ℕ) (r : Reading) → FitsIn (length frame) r → DeliversUpTo (length frame) (judge_reading s frame r)
 judged_up_to laws s frame untagged fits = by_test (is_strict s.options.mode)

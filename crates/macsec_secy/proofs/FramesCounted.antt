@@ -8,7 +8,7 @@ use Rattle.std.specs.List.{All}
 use Rattle.macsec_tag.specs.declared.identifiers.Sci.{Sci}
 use Rattle.macsec_tag.specs.Frame.{MpduParts}
 use Rattle.macsec_tag.specs.Table.{Reading, untagged, bad, tagged, reading}
-use Rattle.macsec_pn.specs.Numbers.{is_late, recovered_number}
+use Rattle.macsec_pn.specs.Numbers.{is_late}
 use Rattle.macsec_suite.specs.declared.refusal.Refusal.{Refusal}
 use Rattle.macsec_suite.specs.KeyRows.{InstalledKey, the_key}
 use Rattle.macsec_suite.specs.Suites.{is_xpn}
@@ -19,7 +19,7 @@ use Rattle.macsec_rx.specs.declared.Verdict.{Verdict}
 use Rattle.macsec_rx.specs.declared.Verdict.TheVariants.{Untagged, NoTag, BadTag, Reserved, NoSa, NoSaError, Late, NotValid, Unchecked, Delayed, Invalid, Passed}
 use Rattle.macsec_rx.specs.Channels.{is_at}
 use Rattle.macsec_rx.specs.Commands.{has_channel}
-use Rattle.macsec_rx.specs.Judge.{Judgement, at_row, bare_frame, in_use, is_bad_number, is_disabled, is_strict, judge_number, judge_opened, judge_row, judge_tagged_row, opened_frame, plaintext_of, sci_of, without_row}
+use Rattle.macsec_rx.specs.Judge.{Judgement, at_row, bare_frame, in_use, is_disabled, is_strict, judge_number, judge_opened, judge_row, judge_tagged_row, number_of_frame, opened_frame, plaintext_of, sci_of, without_row}
 use Rattle.macsec_rx.specs.Rows.{AreRxRows, AreScis}
 use Rattle.macsec_commands.specs.declared.command.Command.{Command}
 use Rattle.macsec_commands.specs.declared.command.Command.TheVariants.{Protect, Validate, Replay, Tag, Key, Retire, TxSa, TxOn, TxOff, TxDel, RxSc, RxScDel, RxSa, RxOn, RxOff, RxLow, RxDel}
@@ -90,17 +90,15 @@ once_of_row rows options keys p None has = by_test (is_strict options.mode || p.
     by_test true c = IsOneMore-raised_part _ _ c.in_pkts_no_sa_error (omega arith)
     by_test false c = IsOneMore-raised_part _ _ c.in_pkts_no_sa (omega arith)
 once_of_row rows options keys p (Some row) has =
-    once_numbered rows options (the_key keys row.key) row p (recovered_number (is_xpn (the_key keys row.key).suite) row.lowest p.tag.pn) has
+    once_numbered rows options (the_key keys row.key) row p (number_of_frame (the_key keys row.key).suite row.lowest p.tag.pn) has
 
 once_tagged : (rows : List ChannelCounters) (options : RxOptions) (keys : List InstalledKey) (p : MpduParts) (row : Option RxRow) →
     IfSome row (λ r. HasCounters rows r.sci) → IsCountedOnce rows (judge_tagged_row options keys p row)
-once_tagged rows options keys p row has = by_tests (is_bad_number options.suite p.tag) (p.tag.e && not p.tag.c)
+once_tagged rows options keys p row has = by_test (p.tag.e && not p.tag.c)
   where
-    by_tests : (bad_number reserved : Bool) → IsCountedOnce rows (
-        if bad_number then without_row 3 BadTag None else if reserved then without_row 4 Reserved None else judge_row options keys p row)
-    by_tests true reserved c = IsOneMore-raised_part _ _ c.in_pkts_bad_tag (omega arith)
-    by_tests false true c = IsOneMore-raised_part _ _ c.in_pkts_reserved (omega arith)
-    by_tests false false c = once_of_row rows options keys p row has c
+    by_test : (reserved : Bool) → IsCountedOnce rows (if reserved then without_row 4 Reserved None else judge_row options keys p row)
+    by_test true c = IsOneMore-raised_part _ _ c.in_pkts_reserved (omega arith)
+    by_test false c = once_of_row rows options keys p row has c
 
 -- ---- the association enabled for a frame is of a channel, which has its counters once
 

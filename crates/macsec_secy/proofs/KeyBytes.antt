@@ -12,10 +12,10 @@ use Rattle.macsec_secy.proofs.AfterCommands.{none_hold}
 use Rattle.macsec_secy.proofs.KeysKept.{field_kept}
 use Rattle.macsec_secy.proofs.NoTwo.{no_two-map, no_two-with}
 
-pub with_another_key : (suite : Suite) (keys : List InstalledKey) (key : NewKey) → first_refusal (install_refusals suite keys key) ≡ None →
+pub with_another_key : (suite : Suite) (window : ℕ) (keys : List InstalledKey) (key : NewKey) → first_refusal (install_refusals suite window keys key) ≡ None →
     NoTwo same_bytes keys → NoTwo same_bytes (keys_with suite keys key)
-with_another_key suite keys key e apart =
-    let none = none_hold (install_refusals suite keys key) e in
+with_another_key suite window keys key e apart =
+    let none = none_hold (install_refusals suite window keys key) e in
     no_two-with same_bytes keys (new_row suite key) none.1.1.1.0 apart
 
 -- a change of the key of one number that keeps its bytes

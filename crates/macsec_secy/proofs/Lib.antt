@@ -9,6 +9,7 @@ pub mod Limits
 pub mod Sums
 pub mod CountersKept
 pub mod StaysSound
+pub mod WidestWindow
 pub mod FramesCounted
 pub mod SameKey
 pub mod FirstUnused

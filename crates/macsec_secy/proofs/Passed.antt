@@ -3,8 +3,7 @@ use Rattle.std.proofs.Common.{◌≡◌, ◌≢◌, ℕ, false, List, refl}
 use Rattle.std.specs.Prelude.{◌&&◌, not, Some}
 use Rattle.std.proofs.lemmas.Bool.{and_right}
 use Rattle.macsec_tag.specs.Frame.{MpduParts}
-use Rattle.macsec_pn.specs.Numbers.{is_late, recovered_number}
-use Rattle.macsec_suite.specs.Suites.{is_xpn}
+use Rattle.macsec_pn.specs.Numbers.{is_late}
 use Rattle.macsec_suite.specs.KeyRows.{InstalledKey, the_key}
 use Rattle.macsec_commands.specs.declared.mode.Mode.{Mode}
 use Rattle.macsec_commands.specs.declared.mode.Mode.TheVariants.{Disabled, Check, Strict}
@@ -12,7 +11,7 @@ use Rattle.macsec_rx.specs.declared.RxOptions.{RxOptions}
 use Rattle.macsec_rx.specs.declared.RxRow.{RxRow}
 use Rattle.macsec_rx.specs.declared.Verdict.TheVariants.{Passed}
 use Rattle.macsec_rx.specs.Channels.{Channels}
-use Rattle.macsec_rx.specs.Judge.{at_row, in_use, is_bad_number, is_disabled, judge_number, judge_tagged, opened_frame, plaintext_of, sci_of}
+use Rattle.macsec_rx.specs.Judge.{at_row, in_use, is_disabled, judge_number, judge_tagged, number_of_frame, opened_frame, plaintext_of, sci_of}
 
 pub is_enabled : (mode : Mode) → mode ≢ Disabled → is_disabled mode ≡ false
 is_enabled Disabled not_disabled = absurd (not_disabled refl)
@@ -21,10 +20,9 @@ is_enabled Strict not_disabled = refl
 
 -- none of the steps before 13 holds
 pub record Passes (options : RxOptions) (keys : List InstalledKey) (channels : Channels) (p : MpduParts) (row : RxRow) (number : ℕ) (plaintext : List ℕ) : Type 0 where
-  pub number_sent : is_bad_number options.suite p.tag ≡ false
   pub not_reserved : (p.tag.e && not p.tag.c) ≡ false
   pub used : in_use channels.rows p.tag.an (sci_of channels.scis p) ≡ Some row
-  pub recovered : recovered_number (is_xpn (the_key keys row.key).suite) row.lowest p.tag.pn ≡ Some number
+  pub numbered : number_of_frame (the_key keys row.key).suite row.lowest p.tag.pn ≡ Some number
   pub in_time : is_late row.lowest number ≡ false
   pub enabled : is_disabled options.mode ≡ false
   pub opens : plaintext_of (the_key keys row.key) row number p ≡ Some plaintext
@@ -37,4 +35,4 @@ at_number options key row p number plaintext in_time enabled opens =
 pub passed : (options : RxOptions) (keys : List InstalledKey) (channels : Channels) (p : MpduParts) (row : RxRow) (number : ℕ) (plaintext : List ℕ) →
     Passes options keys channels p row number plaintext → judge_tagged options keys channels p ≡ at_row row number 13 Passed (Some (opened_frame (the_key keys row.key) p plaintext))
 passed options keys channels p row number plaintext passes =
-    rw (passes.number_sent, passes.not_reserved, passes.used, passes.recovered) (at_number options (the_key keys row.key) row p number plaintext passes.in_time passes.enabled passes.opens)
+    rw (passes.not_reserved, passes.used, passes.numbered) (at_number options (the_key keys row.key) row p number plaintext passes.in_time passes.enabled passes.opens)

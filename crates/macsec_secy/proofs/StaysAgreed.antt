@@ -3,7 +3,7 @@ use Rattle.std.proofs.Common.{◌≡◌, ◌⊎◌, ℕ, Bool, true, false, List
 use Rattle.std.specs.Prelude.{not, Option, Some, None}
 use Rattle.std.proofs.lemmas.List.Elements.{All-filter, All-nil}
 use Rattle.macsec_suite.specs.declared.refusal.Refusal.{Refusal}
-use Rattle.macsec_suite.specs.KeyRows.{new_row}
+use Rattle.macsec_suite.specs.KeyRows.{new_row, suite_of}
 use Rattle.macsec_tx.specs.Transmit.{Sending, row_on}
 use Rattle.macsec_rx.specs.declared.RxRow.{RxRow}
 use Rattle.macsec_rx.specs.Channels.{is_at, same_sci}
@@ -64,9 +64,9 @@ after_effect s (Replay protect window) e agrees =
 after_effect s (Tag form) e agrees = assumption
 after_effect s (Key key) e agrees =
     assumption (
-      bytes.with_another_key s.config.suite s.keys key e agrees.key_bytes,
+      bytes.with_another_key (suite_of s.config.suite key) s.options.window s.keys key e agrees.key_bytes,
       effect_keeps s (Key key) e agrees.unused_next,
-      sscis.with_another_key s.keys s.rx.rows (new_row s.config.suite key) agrees.other_sscis,
+      sscis.with_another_key s.keys s.rx.rows (new_row (suite_of s.config.suite key) key) agrees.other_sscis,
     )
 after_effect s (Retire key) e agrees =
     assumption (

@@ -7,9 +7,7 @@ use Rattle.std.proofs.lemmas.List.{map-append}
 use Rattle.std.proofs.lemmas.List.Elements.{All-append, All-cons, All-filter, All-map, All-nil, All-weaker}
 use Rattle.macsec_tag.specs.Table.{reading}
 use Rattle.macsec_suite.specs.declared.refusal.Refusal.{Refusal}
-use Rattle.macsec_suite.specs.declared.suite.Suite.{Suite}
-use Rattle.macsec_suite.specs.Suites.{widest_window}
-use Rattle.macsec_suite.specs.KeyRows.{AreKeyRows, InstalledKey, at_number, key_row, new_row, retired_row, row_noting}
+use Rattle.macsec_suite.specs.KeyRows.{AreKeyRows, InstalledKey, key_row, new_row, suite_of, widest_beside}
 use Rattle.macsec_suite.specs.Refusals.{refusal_of}
 use Rattle.macsec_tx.specs.Transmit.{Sending, keys_after}
 use Rattle.macsec_tx.specs.declared.TxRow.{TxRow}
@@ -36,6 +34,7 @@ use Rattle.macsec_secy.proofs.AfterCommands.{none_hold}
 use Rattle.macsec_secy.proofs.KeysKept as tx
 use Rattle.macsec_secy.proofs.RxKeysKept as rx
 use Rattle.macsec_secy.proofs.StaysAgreed as rows
+use Rattle.macsec_secy.proofs.WidestWindow as widest
 use Rattle.macsec_secy.proofs.ChannelsCounted.{after_judging, without_counters}
 use Rattle.macsec_secy.proofs.CountersKept.{after_judgement, after_leaving, after_protected, after_reading, no_rx_counted, no_tx_counted, none_counted}
 
@@ -50,32 +49,18 @@ pub record TablesHold (s : State) : Type 0 where
 pub at_start : (config : EndConfig) → config_fault config ≡ None → IsSci config.sci → TablesHold (start config) → IsSound (start config)
 at_start config good own tables =
     let limit = good_limit config good in
-    let within : 0 ≤ widest_window config.suite = omega arith in
+    let within : 0 ≤ widest_beside [] = omega arith in
     assumption (
       limit.0,
       limit.1,
       own,
       within,
-      All-nil (λ (key : InstalledKey). key.suite ≡ config.suite),
       All-nil (λ (row : RxRow). IsSome (key_row [] row.key)),
       none_counted,
       no_tx_counted,
       All-nil (λ (row : ChannelCounters). AreRxCounters row.counters),
       rows.at_start config,
     )
-
--- ---- the keys have one suite
-
-abbrev OfSuite : Suite → List InstalledKey → Type 0
-OfSuite suite keys = All (λ key. key.suite ≡ suite) keys
-
--- a change of the key of one number that keeps its suite
-one_changed : (suite : Suite) (change : InstalledKey → InstalledKey) → ((key : InstalledKey) → (change key).suite ≡ key.suite) → (number : ℕ) (keys : List InstalledKey) →
-    OfSuite suite keys → OfSuite suite (map (at_number change number) keys)
-one_changed suite change same number keys of =
-    All-map (λ (key : InstalledKey). key.suite ≡ suite) (at_number change number) keys
-    (All-weaker (λ key. key.suite ≡ suite) (λ key. (at_number change number key).suite ≡ suite)
-    (λ key e. tx.field_kept (λ (k : InstalledKey). k.suite) change same (key.number == number) key ∙ e) keys of)
 
 -- ---- commands
 
@@ -84,19 +69,21 @@ effect_is_sound s (Protect on) e tables agrees sound = assumption
 effect_is_sound s (Validate mode) e tables agrees sound = assumption
 effect_is_sound s (Replay protect window) e tables agrees sound =
     let none = none_hold (refusals s (Replay protect window)) e in
-    let within : window ≤ widest_window s.config.suite = ltb-false (widest_window s.config.suite) window none.0 in
+    let within : window ≤ widest_beside s.keys = ltb-false (widest_beside s.keys) window none.0 in
     assumption (within, rx.with_all_narrowed s.keys s.rx window sound.rx_keys)
 effect_is_sound s (Tag form) e tables agrees sound = assumption
 effect_is_sound s (Key key) e tables agrees sound =
-    let new = new_row s.config.suite key in
+    let suite = suite_of s.config.suite key in
+    let new = new_row suite key in
+    let none = none_hold (refusals s (Key key)) e in
     assumption (
-      All-append (λ k. k.suite ≡ s.config.suite) s.keys (new ∷ []) sound.suite (All-cons (λ k. k.suite ≡ s.config.suite) new [] refl (All-nil (λ k. k.suite ≡ s.config.suite))),
+      widest.with_one_more suite s.keys key s.options.window none.1.1.1.1.0 sound.window,
       tx.with_another_key s.keys s.tx new sound.tx_keys,
       rx.with_another_key s.keys s.rx.rows new sound.rx_keys,
     )
 effect_is_sound s (Retire key) e tables agrees sound =
     assumption (
-      one_changed s.config.suite retired_row (λ k. refl) key s.keys sound.suite,
+      widest.with_one_retired s.keys key s.options.window sound.window,
       tx.with_a_key_retired s.keys s.tx key sound.tx_keys,
       rx.with_a_key_retired s.keys s.rx.rows key sound.rx_keys,
     )
@@ -157,14 +144,14 @@ by_rx s c channels after answer refuses ok err behind are sound =
 
 -- ---- frames
 
-suite_after : (suite : Suite) (keys : List InstalledKey) (by : Option TxRow) → OfSuite suite keys → OfSuite suite (keys_after keys by)
-suite_after suite keys None of = of
-suite_after suite keys (Some row) of = one_changed suite (row_noting row.next) (λ k. refl) row.key keys of
+widest_after : (keys : List InstalledKey) (by : Option TxRow) (window : ℕ) → window ≤ widest_beside keys → window ≤ widest_beside (keys_after keys by)
+widest_after keys None window within = within
+widest_after keys (Some row) window within = widest.with_one_noting keys row.key row.next window within
 
 after_sending : (s : State) (frame : List ℕ) (sent : Sending) → TablesHold (state_after_sending s frame sent) → Agrees (state_after_sending s frame sent) → IsSound s → IsSound (state_after_sending s frame sent)
 after_sending s frame sent tables agrees sound =
     assumption (
-      suite_after s.config.suite s.keys sent.by sound.suite,
+      widest_after s.keys sent.by s.options.window sound.window,
       tx.after_sending s.keys s.tx sent.by sound.tx_keys,
       rx.after_sending s.keys s.rx.rows sent.by sound.rx_keys,
       after_leaving sent.leaving s.counters sound.counters,

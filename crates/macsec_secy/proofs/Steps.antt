@@ -3,7 +3,7 @@ use Rattle.std.proofs.Common.{◌≡◌, ℕ, Bool, true, false, List, [], ◌�
 use Rattle.std.specs.Prelude.{if◌then◌else◌, nat_le, not, ◌&&◌, ◌||◌, option_map, Option, Some, None}
 use Rattle.macsec_tag.specs.declared.identifiers.Sci.{Sci}
 use Rattle.macsec_tag.specs.Frame.{MpduParts}
-use Rattle.macsec_pn.specs.Numbers.{is_late, recovered_number}
+use Rattle.macsec_pn.specs.Numbers.{is_late}
 use Rattle.macsec_suite.specs.KeyRows.{InstalledKey, the_key}
 use Rattle.macsec_suite.specs.Suites.{is_xpn}
 use Rattle.macsec_commands.specs.declared.mode.Mode.{Mode}
@@ -11,7 +11,7 @@ use Rattle.macsec_rx.specs.declared.RxOptions.{RxOptions}
 use Rattle.macsec_rx.specs.declared.RxRow.{RxRow}
 use Rattle.macsec_rx.specs.declared.Verdict.TheVariants.{BadTag, Reserved, NoSa, NoSaError, Late, NotValid, Unchecked, Delayed, Invalid, Passed}
 use Rattle.macsec_rx.specs.Channels.{Channels, same_sci}
-use Rattle.macsec_rx.specs.Judge.{Judgement, at_row, bare_frame, is_bad_number, is_disabled, is_strict, judge_number, judge_opened, judge_row, judge_tagged, judge_tagged_row, opened_frame, place_of, plaintext_of, without_row}
+use Rattle.macsec_rx.specs.Judge.{Judgement, at_row, bare_frame, is_disabled, is_strict, judge_number, judge_opened, judge_row, judge_tagged, judge_tagged_row, number_of_frame, opened_frame, place_of, plaintext_of, without_row}
 use Rattle.macsec_secy.specs.declared.counters.Counters.{Counters}
 use Rattle.macsec_secy.specs.declared.counters.ChannelCounters.{ChannelCounters}
 use Rattle.macsec_secy.specs.Counting.{count_at, count_in_channel, count_packet}
@@ -75,16 +75,14 @@ tells_row options keys p None = by_test (is_strict options.mode || p.tag.c)
     by_test true = record { packet = λ c. refl; channel = λ rows. refl; opened = refl }
     by_test false = record { packet = λ c. refl; channel = λ rows. refl; opened = refl }
 tells_row options keys p (Some row) =
-    tells_number options (the_key keys row.key) row p (recovered_number (is_xpn (the_key keys row.key).suite) row.lowest p.tag.pn)
+    tells_number options (the_key keys row.key) row p (number_of_frame (the_key keys row.key).suite row.lowest p.tag.pn)
 
 tells_tagged_row : (options : RxOptions) (keys : List InstalledKey) (p : MpduParts) (row : Option RxRow) → Tells options.mode (judge_tagged_row options keys p row)
-tells_tagged_row options keys p row = by_tests (is_bad_number options.suite p.tag) (p.tag.e && not p.tag.c)
+tells_tagged_row options keys p row = by_test (p.tag.e && not p.tag.c)
   where
-    by_tests : (bad reserved : Bool) → Tells options.mode (
-        if bad then without_row 3 BadTag None else if reserved then without_row 4 Reserved None else judge_row options keys p row)
-    by_tests true reserved = record { packet = λ c. refl; channel = λ rows. refl; opened = refl }
-    by_tests false true = record { packet = λ c. refl; channel = λ rows. refl; opened = refl }
-    by_tests false false = tells_row options keys p row
+    by_test : (reserved : Bool) → Tells options.mode (if reserved then without_row 4 Reserved None else judge_row options keys p row)
+    by_test true = record { packet = λ c. refl; channel = λ rows. refl; opened = refl }
+    by_test false = tells_row options keys p row
 
 pub tells_tagged : (options : RxOptions) (keys : List InstalledKey) (channels : Channels) (p : MpduParts) → Tells options.mode (judge_tagged options keys channels p)
 tells_tagged options keys channels p = tells_tagged_row options keys p _

@@ -1,8 +1,7 @@
 -- Management commands: why each is refused, in the order of the tests, and what it does
 -- (IEEE 802.1AE, 10.7).
 use Rattle.std.specs.Prelude.{ℕ, List, [], ◌∷◌, ◌++◌, filter, nat_lt, Bool, true, false, not, ◌||◌, Option, Some, None}
-use Rattle.macsec_suite.specs.Suites.{widest_window}
-use Rattle.macsec_suite.specs.KeyRows.{keys_with, keys_retiring}
+use Rattle.macsec_suite.specs.KeyRows.{keys_with, keys_retiring, suite_of, widest_beside}
 use Rattle.macsec_suite.specs.declared.refusal.Refusal.{Refusal}
 use Rattle.macsec_suite.specs.declared.refusal.Refusal.TheVariants.{Window, SciForm}
 use Rattle.macsec_suite.specs.Refusals.{RefusalLine, first_refusal, install_refusals, retire_refusals}
@@ -22,9 +21,9 @@ uses s key = tx_uses s.tx key || rx_uses s.rx.rows key
 abbrev pub refusals : State → Command → List RefusalLine
 refusals s (Protect on) = []
 refusals s (Validate mode) = []
-refusals s (Replay protect window) = (Window, nat_lt (widest_window s.config.suite) window) ∷ []
+refusals s (Replay protect window) = (Window, nat_lt (widest_beside s.keys) window) ∷ []
 refusals s (Tag form) = (SciForm, is_unfit form s.config.sci) ∷ []
-refusals s (Key key) = install_refusals s.config.suite s.keys key
+refusals s (Key key) = install_refusals (suite_of s.config.suite key) s.options.window s.keys key
 refusals s (Retire key) = retire_refusals s.keys key (uses s key)
 refusals s (TxSa an key next conf) = tx_sa_refusals s.keys s.tx an key next
 refusals s (TxOn an) = tx_on_refusals s.keys s.tx an
@@ -47,7 +46,7 @@ effect s (Replay protect window) = record s {
   rx = channels_narrowed s.rx window;
 }
 effect s (Tag form) = record s { options = record s.options { form = form } }
-effect s (Key key) = record s { keys = keys_with s.config.suite s.keys key }
+effect s (Key key) = record s { keys = keys_with (suite_of s.config.suite key) s.keys key }
 effect s (Retire key) = record s { keys = keys_retiring s.keys key }
 effect s (TxSa an key next conf) = record s { tx = with_tx_sa s.tx an key next conf }
 effect s (TxOn an) = record s { tx = with_tx_on s.tx an }

@@ -2,8 +2,7 @@
 use Rattle.std.specs.Prelude.{◌≡◌, ◌<◌, ◌≤◌, ◌^◌, ℕ, map}
 use Rattle.std.specs.List.{All}
 use Rattle.macsec_tag.specs.declared.identifiers.Sci.{Sci}
-use Rattle.macsec_suite.specs.KeyRows.{AreKeyRows}
-use Rattle.macsec_suite.specs.Suites.{widest_window}
+use Rattle.macsec_suite.specs.KeyRows.{AreKeyRows, widest_beside}
 use Rattle.macsec_tag.specs.Limits.{max_frame_len}
 use Rattle.macsec_tx.specs.Commands.{HaveKeys}
 use Rattle.macsec_tx.specs.Rows.{AreTxRows}
@@ -52,9 +51,9 @@ pub record AreRxCounters (c : RxCounters) : Type 0 where
   pub in_pkts_not_valid : c.in_pkts_not_valid < 2 ^ 64
 
 -- the largest frame of the configuration has 64 to 9,248 octets, and the endpoint's SCI has 8; keys, transmit
--- associations and receive channels have their bounds; the replay window is not too wide for the suite, and all keys
--- are of that suite; the key of each association is in the table; each channel has its counters, in the order of the
--- channels; the counters have 64 bits; and the rows of the tables agree with one another
+-- associations and receive channels have their bounds; the replay window is not too wide beside the keys; the key of
+-- each association is in the table; each channel has its counters, in the order of the channels; the counters have 64
+-- bits; and the rows of the tables agree with one another
 pub record IsSound (s : State) : Type 0 where
   pub max_frame_least : min_max_frame ≤ s.config.max_frame
   pub max_frame_most : s.config.max_frame ≤ max_frame_len
@@ -62,8 +61,7 @@ pub record IsSound (s : State) : Type 0 where
   pub keys : AreKeyRows s.keys
   pub tx : AreTxRows s.tx
   pub rx : AreChannels s.rx
-  pub window : s.options.window ≤ widest_window s.config.suite
-  pub suite : All (λ key. key.suite ≡ s.config.suite) s.keys
+  pub window : s.options.window ≤ widest_beside s.keys
   pub tx_keys : HaveKeys s.keys s.tx
   pub rx_keys : HaveRxKeys s.keys s.rx.rows
   pub channels : map sci_of_counters s.rx_counters ≡ s.rx.scis

@@ -90,7 +90,6 @@ tx_options s = record {
 -- what reception depends on
 abbrev pub rx_options : State → RxOptions
 rx_options s = record {
-  suite = s.config.suite;
   mode = s.options.mode;
   replay = s.options.replay;
   window = s.options.window;

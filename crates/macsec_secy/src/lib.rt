@@ -139,7 +139,10 @@ impl Secy {
             Command::Validate(mode) => self.validate(mode),
             Command::Replay { protect, window } => self.replay(protect, window),
             Command::Tag(form) => self.tag(form),
-            Command::Key(key) => self.keys.install(self.config.suite, &key),
+            Command::Key(key) => {
+                self.keys
+                    .install(self.config.suite, &key, self.options.window)
+            }
             Command::Retire(key) => {
                 let in_use = self.uses(key);
                 self.keys.retire(key, in_use)

@@ -29,7 +29,7 @@ impl Secy {
         ensures after { self.new ≡ state_after_command self.old (by.Replay protect window) }
         ensures sound { IsSound self.new }
     {
-        if window > self.config.suite.widest_window() {
+        if window > self.keys.widest_window() {
             return Err(Refusal::Window);
         }
         self.options.replay = protect;

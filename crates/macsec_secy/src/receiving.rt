@@ -60,7 +60,6 @@ impl Secy {
         ensures { result ≡ rx_options self.now }
     {
         RxOptions {
-            suite: self.config.suite,
             mode: self.options.mode,
             replay: self.options.replay,
             window: self.options.window,

@@ -1,0 +1,84 @@
+-- The widest replay window beside the keys, as keys come and change.
+use Rattle.std.proofs.Common.{◌≡◌, ℕ, ◌≤◌, Bool, true, false, List, [], ◌∷◌, ◌++◌, map, refl, sym, ap, subst, ◌∙◌, arith}
+use Rattle.std.specs.Prelude.{◌==◌, ◌&&◌, ◌||◌, not, nat_lt, if◌then◌else◌}
+use Rattle.std.specs.List.{list_any}
+use Rattle.std.proofs.lemmas.Bool.{ltb-false}
+use Rattle.macsec_suite.specs.declared.key_row.NewKey.{NewKey}
+use Rattle.macsec_suite.specs.declared.suite.Suite.{Suite}
+use Rattle.macsec_suite.specs.Suites.{is_xpn, widest_extended_window, widest_short_window}
+use Rattle.macsec_suite.specs.KeyRows.{InstalledKey, at_number, is_extended, keys_noting, keys_retiring, keys_with, new_row, retired_row, row_noting, widest_beside}
+use Rattle.macsec_suite.specs.Refusals.{is_too_wide}
+
+-- by whether packet numbers are extended under one of the keys
+abbrev widest_if : Bool → ℕ
+widest_if extended = if extended then widest_extended_window else widest_short_window
+
+-- ---- one more key
+
+list_any-push : (keys : List InstalledKey) (new : InstalledKey) → list_any is_extended (keys ++ new ∷ []) ≡ (list_any is_extended keys || is_extended new)
+list_any-push [] new = at_end (is_extended new)
+  where
+    at_end : (b : Bool) → (b || false) ≡ b
+    at_end true = refl
+    at_end false = refl
+list_any-push (key ∷ keys) new = at_front (is_extended key) (list_any-push keys new)
+  where
+    at_front : (b : Bool) → list_any is_extended (keys ++ new ∷ []) ≡ (list_any is_extended keys || is_extended new) →
+        (b || list_any is_extended (keys ++ new ∷ [])) ≡ ((b || list_any is_extended keys) || is_extended new)
+    at_front true same = refl
+    at_front false same = same
+
+pub with_one_more : (suite : Suite) (keys : List InstalledKey) (key : NewKey) (window : ℕ) → is_too_wide suite window ≡ false → window ≤ widest_beside keys →
+    window ≤ widest_beside (keys_with suite keys key)
+with_one_more suite keys key window fits within =
+    subst (λ b. window ≤ widest_if b) (sym (list_any-push keys (new_row suite key))) (by_tests (list_any is_extended keys) (is_xpn suite) within fits)
+  where
+    by_tests : (before extended : Bool) → window ≤ widest_if before → (extended && nat_lt widest_extended_window window) ≡ false → window ≤ widest_if (before || (extended && true))
+    by_tests true extended within' fits' = within'
+    by_tests false true within' fits' = ltb-false widest_extended_window window fits'
+    by_tests false false within' fits' = within'
+
+-- ---- a key that changes
+
+-- if packet numbers are extended under it after the change, they were before
+abbrev ExtendsNone : (InstalledKey → InstalledKey) → Type 0
+ExtendsNone change = (key : InstalledKey) → is_extended (change key) ≡ true → is_extended key ≡ true
+
+extended_before : (change : InstalledKey → InstalledKey) → ExtendsNone change → (keys : List InstalledKey) → list_any is_extended (map change keys) ≡ true → list_any is_extended keys ≡ true
+extended_before change none [] is = is
+extended_before change none (key ∷ keys) is = by_tests (is_extended (change key)) (is_extended key) (none key) is
+  where
+    by_tests : (after before : Bool) → (after ≡ true → before ≡ true) → (after || list_any is_extended (map change keys)) ≡ true → (before || list_any is_extended keys) ≡ true
+    by_tests after true h is' = refl
+    by_tests true false h is' = let no = h refl in cc
+    by_tests false false h is' = extended_before change none keys is'
+
+changed : (change : InstalledKey → InstalledKey) → ExtendsNone change → (keys : List InstalledKey) → widest_beside keys ≤ widest_beside (map change keys)
+changed change none keys = by_tests (list_any is_extended keys) (list_any is_extended (map change keys)) (extended_before change none keys)
+  where
+    by_tests : (before after : Bool) → (after ≡ true → before ≡ true) → widest_if before ≤ widest_if after
+    by_tests true true h = omega arith
+    by_tests true false h = omega arith
+    by_tests false true h = let no = h refl in cc
+    by_tests false false h = omega arith
+
+at_one : (change : InstalledKey → InstalledKey) → ExtendsNone change → (number : ℕ) → ExtendsNone (at_number change number)
+at_one change none number key = by_test (key.number == number)
+  where
+    by_test : (b : Bool) → is_extended (if b then change key else key) ≡ true → is_extended key ≡ true
+    by_test true is = none key is
+    by_test false is = is
+
+retiring : ExtendsNone retired_row
+retiring key is = by_test (is_xpn key.suite) is
+  where
+    by_test : (b : Bool) → (b && false) ≡ true → is_extended key ≡ true
+    by_test true is' = cc
+    by_test false is' = cc
+
+pub with_one_retired : (keys : List InstalledKey) (number window : ℕ) → window ≤ widest_beside keys → window ≤ widest_beside (keys_retiring keys number)
+with_one_retired keys number window within = omega (arith, within, changed (at_number retired_row number) (at_one retired_row retiring number) keys)
+
+pub with_one_noting : (keys : List InstalledKey) (number pn window : ℕ) → window ≤ widest_beside keys → window ≤ widest_beside (keys_noting keys number pn)
+with_one_noting keys number pn window within =
+    omega (arith, within, changed (at_number (row_noting pn) number) (at_one (row_noting pn) (λ key is. is) number) keys)
