@@ -12,7 +12,7 @@ pub const MIN_MAX_FRAME: usize = 64;
 /// The configuration of an endpoint.
 #[derive(Clone, Copy, PartialEq, Eq, Debug)]
 pub struct EndConfig {
-    /// Its cipher suite.
+    /// The cipher suite of the keys that name none.
     pub suite: Suite,
     /// Its SCI.
     pub sci: Sci,

@@ -37,7 +37,7 @@ no_salt = replicate 12 0
 
 -- key 0, of the same bytes at both ends
 abbrev pub new_key : List ℕ → ℕ → NewKey
-new_key salt ssci = record { number = 0; bytes = K128 (replicate 16 7); salt = salt; ssci = ssci; offset = 0 }
+new_key salt ssci = record { number = 0; bytes = K128 (replicate 16 7); salt = salt; ssci = ssci; offset = 0; suite = None }
 
 -- a client's frame of two octets of data
 abbrev pub client : List ℕ

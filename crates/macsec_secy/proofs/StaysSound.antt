@@ -23,7 +23,7 @@ use Rattle.macsec_commands.specs.declared.command.Command.{Command}
 use Rattle.macsec_commands.specs.declared.command.Command.TheVariants.{Protect, Validate, Replay, Tag, Key, Retire, TxSa, TxOn, TxOff, TxDel, RxSc, RxScDel, RxSa, RxOn, RxOff, RxLow, RxDel}
 use Rattle.macsec_secy.specs.State.{State, no_rx_counters, start}
 use Rattle.macsec_commands.specs.Configs.{config_fault}
-use Rattle.macsec_secy.specs.Commands.{effect, refusal, refusals}
+use Rattle.macsec_secy.specs.Commands.{effect, refusal, refusals, state_after_command, unless_refused}
 use Rattle.macsec_secy.specs.declared.fault.FrameFault.{FrameFault}
 use Rattle.macsec_secy.specs.Reception.{judgement_of, state_after_receiving}
 use Rattle.macsec_secy.specs.Step.{Output, client_frame, link_frame, frame_fault, received_output, sending_of, sent_output, state_after_sending, step, unless_fault}
@@ -141,6 +141,12 @@ pub by_rx : (s : State) (c : Command) (channels after : Channels) (answer : Resu
     OnOk answer (channels ≡ after) → OnErr answer (channels ≡ s.rx) → record s { rx = after } ≡ effect s c → AreChannels channels → IsSound s → IsSound (record s { rx = channels })
 by_rx s c channels after answer refuses ok err behind are sound =
     by_table s c (λ r. record s { rx = r }) s.rx channels after answer refuses ok err refl behind (λ e. record { keys = sound.keys; tx = sound.tx; rx = are }) sound
+
+-- the channels after a command that they carry out or refuse are those of the state after it
+pub left_by_rx : (s : State) (c : Command) (channels after : Channels) (answer : Result (Unit {0}) Refusal) → refusal_of answer ≡ refusal s c →
+    OnOk answer (channels ≡ after) → OnErr answer (channels ≡ s.rx) → record s { rx = after } ≡ effect s c → record s { rx = channels } ≡ state_after_command s c
+left_by_rx s c channels after (Ok done) refuses ok err behind = ap (λ r. record s { rx = r }) ok ∙ behind ∙ ap (λ r. unless_refused r s c) refuses
+left_by_rx s c channels after (Err r) refuses ok err behind = ap (λ r. record s { rx = r }) err ∙ ap (λ r. unless_refused r s c) refuses
 
 -- ---- frames
 

@@ -46,12 +46,13 @@ ExtendsNone change = (key : InstalledKey) → is_extended (change key) ≡ true 
 
 extended_before : (change : InstalledKey → InstalledKey) → ExtendsNone change → (keys : List InstalledKey) → list_any is_extended (map change keys) ≡ true → list_any is_extended keys ≡ true
 extended_before change none [] is = is
-extended_before change none (key ∷ keys) is = by_tests (is_extended (change key)) (is_extended key) (none key) is
+extended_before change none (key ∷ keys) is = by_tests (is_extended (change key)) (is_extended key) (none key) (extended_before change none keys) is
   where
-    by_tests : (after before : Bool) → (after ≡ true → before ≡ true) → (after || list_any is_extended (map change keys)) ≡ true → (before || list_any is_extended keys) ≡ true
-    by_tests after true h is' = refl
-    by_tests true false h is' = let no = h refl in cc
-    by_tests false false h is' = extended_before change none keys is'
+    by_tests : (after before : Bool) → (after ≡ true → before ≡ true) → (list_any is_extended (map change keys) ≡ true → list_any is_extended keys ≡ true) →
+        (after || list_any is_extended (map change keys)) ≡ true → (before || list_any is_extended keys) ≡ true
+    by_tests after true h rest is' = refl
+    by_tests true false h rest is' = let no = h refl in cc
+    by_tests false false h rest is' = rest is'
 
 changed : (change : InstalledKey → InstalledKey) → ExtendsNone change → (keys : List InstalledKey) → widest_beside keys ≤ widest_beside (map change keys)
 changed change none keys = by_tests (list_any is_extended keys) (list_any is_extended (map change keys)) (extended_before change none keys)

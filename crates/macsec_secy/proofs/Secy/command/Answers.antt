@@ -1,10 +1,10 @@
-use Rattle.std.proofs.Common.{◌≡◌, refl, rules}
+use Rattle.std.proofs.Common.{◌≡◌, ◌∙◌, refl, sym, ap₂, rules}
 use Rattle.macsec_suite.specs.Refusals.{refusal_of}
 use Rattle.macsec_commands.specs.declared.command.Command.TheVariants as by
 use Rattle.macsec_secy.specs.contracts.Secy.{the_view}
-use Rattle.macsec_secy.specs.Commands.{refusal}
+use Rattle.macsec_secy.specs.Commands.{refusal, state_after_command}
 use Rattle.macsec_secy.proofs.FramesCounted.{command_adds}
-use Rattle.macsec_secy.proofs.StaysSound.{by_keys, by_rx, by_tx}
+use Rattle.macsec_secy.proofs.StaysSound.{by_keys, by_rx, by_tx, left_by_rx}
 use Rattle.macsec_secy.proofs.Secy.command.Goals as goal
 
 pub invariant_of-self-in-Key : goal.invariant_of-self-in-Key
@@ -139,3 +139,9 @@ returns-in-Protect-clause-output c = search rules
 
 pub returns-in-Protect-clause-after : goal.returns-in-Protect-clause-after
 returns-in-Protect-clause-after c = search rules
+
+pub returns-in-RxLow-clause-after : goal.returns-in-RxLow-clause-after
+returns-in-RxLow-clause-after c =
+    let s = c.self-in-RxLow in
+    left_by_rx (the_view s.inside) (by.RxLow c.in-RxLow.sci c.in-RxLow.an c.in-RxLow.pn) c.rx_low.new.self _ c.rx_low.result c.rx_low.ensures.refusal c.rx_low.ensures.done c.rx_low.ensures.unchanged refl
+    ∙ ap₂ state_after_command s.view_is (sym c.in-RxLow.is)
