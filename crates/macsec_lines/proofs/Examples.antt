@@ -54,6 +54,15 @@ tag_form = refl
 other_suite : line_of (codes "end A xpn192 12153524c0895e81 1518 sci") ≡ Err Word
 other_suite = refl
 
+-- an SSCI without a salt is read as a suite
+no_salt : line_of (codes "A key 0 ad7a2bd03eac835a6f620fdcb506b345 0 00000001") ≡ Err Word
+unfolding hex_on_literals
+no_salt = refl
+
+suite_after_the_salt : line_of (codes "A key 0 ad7a2bd03eac835a6f620fdcb506b345 0 00000001 12153525c0895e8000000000 xpn128") ≡ Err Word
+unfolding hex_on_literals
+suite_after_the_salt = refl
+
 protection : line_of (codes "A txsa 2 0 b2c28465 none") ≡ Err Word
 protection = refl
 
@@ -77,12 +86,12 @@ too_many = refl
 no_window : line_of (codes "A replay off") ≡ Err Count
 no_window = refl
 
--- an SSCI without a salt; the words are counted before any of them is read
-no_salt : line_of (codes "A key 256 ad7a2bd03eac835a6f620fdcb506b345 0 00000001") ≡ Err Count
-no_salt = refl
+-- the words are counted before any of them is read
+no_offset : line_of (codes "A key 256 ad7a2bd03eac835a6f620fdcb506b345") ≡ Err Count
+no_offset = refl
 
-six_words : line_of (codes "A key 0 ad7a2bd03eac835a6f620fdcb506b345 0 00000001 12153525c0895e8000000000 0") ≡ Err Count
-six_words = refl
+after_the_salt : line_of (codes "A key 256 ad7a2bd03eac835a6f620fdcb506b345 0 xpn128 00000001 12153525c0895e8000000000 0") ≡ Err Count
+after_the_salt = refl
 
 numbers_of : line_of (codes "A numbers 1") ≡ Err Count
 numbers_of = refl
@@ -140,6 +149,11 @@ long_salt = refl
 salt_without_digits : line_of (codes "A key 0 ad7a2bd03eac835a6f620fdcb506b345 0 00000001 12153525c0895e800000000g") ≡ Err Hex
 unfolding hex_on_literals
 salt_without_digits = refl
+
+-- seven words have no suite
+suite_for_an_ssci : line_of (codes "A key 0 ad7a2bd03eac835a6f620fdcb506b345 0 xpn128 00000001") ≡ Err Hex
+unfolding hex_on_literals
+suite_for_an_ssci = refl
 
 seventeen_digits : line_of (codes "A txsa 0 0 00000000000000001 int") ≡ Err Hex
 seventeen_digits = refl
@@ -252,6 +266,7 @@ key : line_of (codes "A key 7 000102030405060708090A0B0C0D0E0F 0") ≡
       salt = replicate 12 0;
       ssci = 0;
       offset = 0;
+      suite = None;
     }))))
 unfolding hex_on_literals
 key = refl
@@ -263,6 +278,7 @@ key_of_32_octets : line_of (codes "A key 7 000102030405060708090a0b0c0d0e0f10111
       salt = replicate 12 0;
       ssci = 0;
       offset = 0;
+      suite = None;
     }))))
 unfolding hex_on_literals
 key_of_32_octets = refl
@@ -274,6 +290,7 @@ offset_30 : line_of (codes "A key 7 000102030405060708090a0b0c0d0e0f 30") ≡
       salt = replicate 12 0;
       ssci = 0;
       offset = 30;
+      suite = None;
     }))))
 unfolding hex_on_literals
 offset_30 = refl
@@ -286,9 +303,34 @@ ssci_and_salt : line_of (codes "A key 7 000102030405060708090a0b0c0d0e0f 0 0a0B0
       salt = 18 ∷ 21 ∷ 53 ∷ 37 ∷ 192 ∷ 137 ∷ 94 ∷ 128 ∷ 0 ∷ 0 ∷ 0 ∷ 0 ∷ [];
       ssci = 168496141;
       offset = 0;
+      suite = None;
     }))))
 unfolding hex_on_literals
 ssci_and_salt = refl
+
+suite_of_a_key : line_of (codes "B key 7 000102030405060708090a0b0c0d0e0f 30 gcm256") ≡
+    Ok (Some (tells B (by.Key (record {
+      number = 7;
+      bytes = K128 (0 ∷ 1 ∷ 2 ∷ 3 ∷ 4 ∷ 5 ∷ 6 ∷ 7 ∷ 8 ∷ 9 ∷ 10 ∷ 11 ∷ 12 ∷ 13 ∷ 14 ∷ 15 ∷ []);
+      salt = replicate 12 0;
+      ssci = 0;
+      offset = 30;
+      suite = Some Gcm256;
+    }))))
+unfolding hex_on_literals
+suite_of_a_key = refl
+
+suite_ssci_and_salt : line_of (codes "A key 7 000102030405060708090a0b0c0d0e0f 0 xpn128 0a0B0c0D 12153525c0895e8000000000") ≡
+    Ok (Some (tells A (by.Key (record {
+      number = 7;
+      bytes = K128 (0 ∷ 1 ∷ 2 ∷ 3 ∷ 4 ∷ 5 ∷ 6 ∷ 7 ∷ 8 ∷ 9 ∷ 10 ∷ 11 ∷ 12 ∷ 13 ∷ 14 ∷ 15 ∷ []);
+      salt = 18 ∷ 21 ∷ 53 ∷ 37 ∷ 192 ∷ 137 ∷ 94 ∷ 128 ∷ 0 ∷ 0 ∷ 0 ∷ 0 ∷ [];
+      ssci = 168496141;
+      offset = 0;
+      suite = Some Xpn128;
+    }))))
+unfolding hex_on_literals
+suite_ssci_and_salt = refl
 
 tx_sa : line_of (codes "A  txsa\t2 00 b2C28465 int\r") ≡ Ok (Some (tells A (by.TxSa 2 0 2999092325 false)))
 tx_sa = refl

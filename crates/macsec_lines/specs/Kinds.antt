@@ -3,6 +3,7 @@ use Rattle.std.specs.Prelude.{ℕ, ◌-◌, ◌^◌, ◌==◌, replicate, List, 
 use Rattle.macsec_aes.specs.declared.Key.{Key}
 use Rattle.macsec_tag.specs.Limits.{max_frame_len}
 use Rattle.macsec_suite.specs.declared.key_row.NewKey.{NewKey}
+use Rattle.macsec_suite.specs.declared.suite.Suite.{Suite}
 use Rattle.macsec_commands.specs.declared.command.Command.{Command}
 use Rattle.macsec_commands.specs.declared.command.Command.TheVariants as by
 use Rattle.macsec_commands.specs.Limits.{min_max_frame}
@@ -53,8 +54,9 @@ abbrev pub max_frame : Field
 max_frame = number min_max_frame max_frame_len
 
 -- a key as its line says it
-abbrev pub key_from : ℕ → Key → ℕ → ℕ → List ℕ → NewKey
-key_from = λ n bytes offset ssci salt. record { number = n; bytes = bytes; salt = salt; ssci = ssci; offset = offset }
+abbrev pub key_from : ℕ → Key → ℕ → Option Suite → ℕ → List ℕ → NewKey
+key_from = λ n bytes offset suite ssci salt.
+    record { number = n; bytes = bytes; salt = salt; ssci = ssci; offset = offset; suite = suite }
 
 -- a command at an end
 abbrev pub tells : End → Command → Line
@@ -72,13 +74,18 @@ option_kinds e =
     kind (codes "replay") (switch ∷ window ∷ []) (λ on window. tells e (by.Replay on window)) ∷
     kind (codes "tag") (tag_form ∷ []) (λ form. tells e (by.Tag form)) ∷ []
 
--- the lines of keys; an SSCI and a salt that are left out are zeros
+-- the lines of keys, the number of whose words says which of them are there: a key without a suite gets the endpoint's,
+-- and an SSCI and a salt that are left out are zeros
 abbrev pub key_kinds : End → List Kind
 key_kinds e =
     kind (codes "key") (key_number ∷ key ∷ offset ∷ [])
-    (λ n bytes offset. tells e (by.Key (key_from n bytes offset 0 (replicate 12 0)))) ∷
+    (λ n bytes offset. tells e (by.Key (key_from n bytes offset None 0 (replicate 12 0)))) ∷
+    kind (codes "key") (key_number ∷ key ∷ offset ∷ suite ∷ [])
+    (λ n bytes offset suite. tells e (by.Key (key_from n bytes offset (Some suite) 0 (replicate 12 0)))) ∷
     kind (codes "key") (key_number ∷ key ∷ offset ∷ ssci ∷ salt ∷ [])
-    (λ n bytes offset ssci salt. tells e (by.Key (key_from n bytes offset ssci salt))) ∷
+    (λ n bytes offset ssci salt. tells e (by.Key (key_from n bytes offset None ssci salt))) ∷
+    kind (codes "key") (key_number ∷ key ∷ offset ∷ suite ∷ ssci ∷ salt ∷ [])
+    (λ n bytes offset suite ssci salt. tells e (by.Key (key_from n bytes offset (Some suite) ssci salt))) ∷
     kind (codes "retire") (key_number ∷ []) (λ n. tells e (by.Retire n)) ∷ []
 
 -- the lines of transmit associations

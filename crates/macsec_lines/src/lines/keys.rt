@@ -8,19 +8,31 @@ use crate::words;
 use crate::words::{decimal, key_number};
 use macsec_commands::{Command, End, Event, NewKey};
 
-/// The installation of a key, from the words after `key`. The last two, SSCI and salt, can be left out and
-/// are zeros then.
+/// The installation of a key, from the words after `key`, whose number says what follows the offset: nothing, a suite,
+/// an SSCI and a salt, or all three. An SSCI and a salt that are left out are zeros.
 fn new_key(at: End, words: &[&[u8]]) -> Result<Line, LineFault>
     ensures { result ≡ read_line (kinds_at at) (codes "key") (map (λ w. w.now) words.now) }
 {
-    let (number, bytes, offset, more) = match words {
-        [number, bytes, offset] => (number, bytes, offset, None),
-        [number, bytes, offset, ssci, salt] => (number, bytes, offset, Some((ssci, salt))),
+    let (number, bytes, offset, suite, more) = match words {
+        [number, bytes, offset] => (number, bytes, offset, None, None),
+        [number, bytes, offset, suite] => (number, bytes, offset, Some(suite), None),
+        [number, bytes, offset, ssci, salt] => (number, bytes, offset, None, Some((ssci, salt))),
+        [number, bytes, offset, suite, ssci, salt] => (
+            number,
+            bytes,
+            offset,
+            Some(suite),
+            Some((ssci, salt)),
+        ),
         _ => return Err(LineFault::Count),
     };
     let number = key_number(number)?;
     let bytes = words::key(bytes)?;
     let offset = decimal(0, 255, offset)? as u8;
+    let suite = match suite {
+        Some(suite) => Some(words::suite(suite)?),
+        None => None,
+    };
     let (ssci, salt) = match more {
         Some((ssci, salt)) => (words::ssci(ssci)?, words::salt(salt)?),
         None => (0, [0; 12]),
@@ -33,6 +45,7 @@ fn new_key(at: End, words: &[&[u8]]) -> Result<Line, LineFault>
             salt,
             ssci,
             offset,
+            suite,
         }),
     )))
 }

@@ -4,12 +4,6 @@ use Rattle.std.proofs.Common.{arith}
 use Rattle.std.proofs.lemmas.Grind.{common_steps}
 use Rattle.macsec_lines.proofs.lines.keys.new_key.Goals as goal
 
-pub returns-in_err-ssci-in-Some : goal.returns-in_err-ssci-in-Some
-returns-in_err-ssci-in-Some c = grind (arith, common_steps)
-
-pub returns : goal.returns
-returns c = grind (arith, common_steps)
-
 pub returns-in_err-number : goal.returns-in_err-number
 returns-in_err-number c = grind (arith, common_steps)
 
@@ -19,5 +13,11 @@ returns-in_err-bytes c = grind (arith, common_steps)
 pub returns-in_err-offset : goal.returns-in_err-offset
 returns-in_err-offset c = grind (arith, common_steps)
 
-pub returns-in_err-salt-in-Some : goal.returns-in_err-salt-in-Some
-returns-in_err-salt-in-Some c = grind (arith, common_steps)
+pub returns-in_err-suite-in-Some : goal.returns-in_err-suite-in-Some
+returns-in_err-suite-in-Some c = grind (arith, common_steps)
+
+pub returns-in_err-ssci-in-Some-more : goal.returns-in_err-ssci-in-Some-more
+returns-in_err-ssci-in-Some-more c = grind (arith, common_steps)
+
+pub returns-in_err-salt-in-Some-more : goal.returns-in_err-salt-in-Some-more
+returns-in_err-salt-in-Some-more c = grind (arith, common_steps)
