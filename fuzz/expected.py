@@ -86,10 +86,12 @@ def is_hex(word):
 
 AN, NUMBER, LINK_NUMBER = decimal(0, 3), decimal(0, 255), decimal(0, 2**32 - 1)
 SCI, SSCI, SALT, FRAME, OCTET = hexadecimal(8), hexadecimal(4), hexadecimal(12), hexadecimal(), hexadecimal(1)
-WINDOW = decimal(0, 2**64 - 1)
+WINDOW, SUITE = decimal(0, 2**64 - 1), one_of(*SUITES)
+# The words of a key that are never left out.
+KEY = (NUMBER, hexadecimal(16, 32), NUMBER)
 # The lines that do not begin with an end, and those that do: the words after the keyword, in each of their forms.
 PLAIN = {
-    "end": [(one_of("A", "B"), one_of(*SUITES), SCI, decimal(64, MAX_FRAME), one_of(*FORMS))],
+    "end": [(one_of("A", "B"), SUITE, SCI, decimal(64, MAX_FRAME), one_of(*FORMS))],
     "alter": [(LINK_NUMBER, LINK_NUMBER, OCTET)],
     "pad": [(LINK_NUMBER,)],
     "inject": [(FRAME,)],
@@ -99,7 +101,7 @@ COMMANDS = {
     "validate": [(one_of(*MODES),)],
     "replay": [(one_of("on", "off"), WINDOW)],
     "tag": [(one_of(*FORMS),)],
-    "key": [(NUMBER, hexadecimal(16, 32), NUMBER), (NUMBER, hexadecimal(16, 32), NUMBER, SSCI, SALT)],
+    "key": [KEY, (*KEY, SUITE), (*KEY, SSCI, SALT), (*KEY, SUITE, SSCI, SALT)],
     "retire": [(NUMBER,)],
     "txsa": [(AN, NUMBER, packet_number, one_of("int", "conf"))],
     "txon": [(AN,)],
@@ -194,8 +196,10 @@ class Sa:
 
 
 class Key:
-    def __init__(self, octets, offset, ssci, salt):
-        self.octets, self.offset, self.ssci, self.salt = octets, offset, ssci, salt
+    def __init__(self, octets, offset, suite, ssci, salt):
+        self.octets, self.offset, self.suite, self.ssci, self.salt = octets, offset, suite, ssci, salt
+        self.is_xpn = SUITES[suite][1]
+        self.last = 2**64 - 1 if self.is_xpn else 2**32 - 1
         self.retired, self.first_unused = False, 1
 
 
@@ -206,9 +210,7 @@ class Channel:
 
 class Endpoint:
     def __init__(self, suite, sci, max_frame, form):
-        self.key_length, self.is_xpn = SUITES[suite]
-        self.last = 2**64 - 1 if self.is_xpn else 2**32 - 1
-        self.sci, self.max_frame, self.form = sci, max_frame, form
+        self.suite, self.sci, self.max_frame, self.form = suite, sci, max_frame, form
         self.protects, self.mode, self.replay, self.window = True, "strict", True, 0
         self.keys, self.tx, self.channels = {}, {}, []
         self.counters = dict.fromkeys(SECY_COUNTERS, 0)
@@ -226,7 +228,8 @@ class Endpoint:
         self.mode = word
 
     def do_replay(self, word, window):
-        refuse("Window", window > (2**30 - 1 if self.is_xpn else 2**32 - 1))
+        is_narrow = any(it.is_xpn and not it.retired for it in self.keys.values())
+        refuse("Window", window > (2**30 - 1 if is_narrow else 2**32 - 1))
         self.replay, self.window = word == "on", window
         for channel in self.channels:
             for sa in channel.sas.values():
@@ -236,12 +239,17 @@ class Endpoint:
         refuse("SciForm", not form_fits(form, self.sci))
         self.form = form
 
-    def do_key(self, number, octets, offset, ssci=bytes(4), salt=bytes(12)):
-        refuse("KeyLength", len(octets) != self.key_length)
-        refuse("Offset", offset not in ((0,) if self.is_xpn else (0, 30, 50)))
+    def do_key(self, number, octets, offset, *rest):
+        """The words after the offset are none, a suite, an SSCI and a salt, or all three."""
+        suite = rest[0] if len(rest) in (1, 3) else self.suite
+        ssci, salt = rest[-2:] if len(rest) > 1 else (bytes(4), bytes(12))
+        key_length, is_xpn = SUITES[suite]
+        refuse("KeyLength", len(octets) != key_length)
+        refuse("Offset", offset not in ((0,) if is_xpn else (0, 30, 50)))
         refuse("KeyNumberUsed", number in self.keys)
         refuse("KeyRepeated", any(it.octets == octets for it in self.keys.values()))
-        self.keys[number] = Key(octets, offset, ssci, salt)
+        refuse("Window", is_xpn and self.window > 2**30 - 1)
+        self.keys[number] = Key(octets, offset, suite, ssci, salt)
 
     def usable_key(self, number):
         refuse("NoKey", number not in self.keys)
@@ -258,13 +266,16 @@ class Endpoint:
         key = self.usable_key(number)
         refuse("KeyInUse", any(sa.key == number for sa in self.tx.values()))
         refuse("AnTaken", an in self.tx)
-        refuse("PnRange", not 1 <= pn <= self.last)
+        refuse("PnRange", not 1 <= pn <= key.last)
         refuse("PnFloor", pn < key.first_unused)
         self.tx[an] = Sa(number, pn, conf=conf == "conf")
 
+    def is_exhausted(self, sa):
+        return sa.next > self.keys[sa.key].last
+
     def do_txon(self, an):
         refuse("NoSa", an not in self.tx)
-        refuse("Exhausted", self.tx[an].next > self.last)
+        refuse("Exhausted", self.is_exhausted(self.tx[an]))
         for number, sa in self.tx.items():
             sa.on = number == an
 
@@ -294,8 +305,8 @@ class Endpoint:
         channel = self.channel(sci)
         refuse("NoSc", channel is None)
         refuse("AnTaken", an in channel.sas)
-        refuse("PnRange", not 1 <= pn <= self.last)
-        refuse("SsciOwn", self.is_xpn and ssci == key.ssci)
+        refuse("PnRange", not 1 <= pn <= key.last)
+        refuse("SsciOwn", key.is_xpn and ssci == key.ssci)
         channel.sas[an] = Sa(number, pn, ssci=ssci)
 
     def rx_sa(self, sci, an):
@@ -311,7 +322,7 @@ class Endpoint:
 
     def do_rxlow(self, sci, an, pn):
         sa = self.rx_sa(sci, an)
-        refuse("PnRange", not 1 <= pn <= self.last)
+        refuse("PnRange", not 1 <= pn <= self.keys[sa.key].last)
         refuse("PnLower", pn < sa.lowest)
         sa.lowest, sa.next = pn, max(sa.next, pn)
 
@@ -325,7 +336,7 @@ class Endpoint:
         self.counters[name] = (self.counters[name] + by) % 2**64
 
     def iv(self, key, sci, ssci, pn):
-        if not self.is_xpn:
+        if not key.is_xpn:
             return sci + struct.pack(">I", pn)
         return bytes(a ^ b for a, b in zip(key.salt, ssci + struct.pack(">Q", pn)))
 
@@ -345,7 +356,7 @@ class Endpoint:
                 return None, "TooLong"
             self.count("OutPktsUntagged")
             return frame, None
-        an = next((it for it, sa in self.tx.items() if sa.on and sa.next <= self.last), None)
+        an = next((it for it, sa in self.tx.items() if sa.on and not self.is_exhausted(sa)), None)
         if an is None:
             self.count("OutPktsNoSA")
             return None, "NoSA"
@@ -384,7 +395,7 @@ class Endpoint:
         read = read_frame(frame)
         if read == "Untagged":
             return ("NoTag", None, None) if self.mode == "strict" else ("Untagged", frame, None)
-        if read == "Bad" or (read["pn"] == 0 and not self.is_xpn):
+        if read == "Bad":
             return "BadTag", None, None
         e, c = read["tci"] & 8, read["tci"] & 4
         if e and not c:
@@ -423,8 +434,8 @@ class Endpoint:
         return self.channels[0] if len(self.channels) == 1 else None
 
     def recovered(self, sa, low):
-        if not self.is_xpn:
-            return low
+        if not self.keys[sa.key].is_xpn:
+            return low or None
         upper, lowest_low = divmod(sa.lowest, 2**32)
         if low < 2**31 <= lowest_low:
             upper += 1

@@ -339,18 +339,18 @@ def capture_case(rng, corpus):
 
 def back_case(rng, _corpus):
     """Client frames are protected, or what that made of them is validated, which must give them again."""
-    suite = rng.choice(list(expected.SUITES))
+    suite, own, others = (rng.choice(list(expected.SUITES)) for _ in range(3))
     length, is_xpn = expected.SUITES[suite]
     key, sci = rng.randbytes(length).hex(), "0200000000010001"
     first = rng.choice((1, 2**31, 2**32 - 200, *((2**32 + 2**31 - 3, 2**33 - 2) if is_xpn else ())))
     offset = 0 if is_xpn else rng.choice((0, 0, 30, 50))
     form, mode = rng.choice(("auto", "sci", "es")), rng.choice(("int", "conf"))
     sender = (
-        f"end A {suite} {sci} 9248 {form}\nA key 0 {key} {offset} 00000001 {'b7' * 12}\n"
+        f"end A {own} {sci} 9248 {form}\nA key 0 {key} {offset} {suite} 00000001 {'b7' * 12}\n"
         f"A txsa 1 0 {first:x} {mode}\nA txon 1\n"
     ).encode()
     receiver = (
-        f"end A {suite} 0000000000000002 9248 auto\nA key 9 {key} {offset} 00000002 {'b7' * 12}\n"
+        f"end A {others} 0000000000000002 9248 auto\nA key 9 {key} {offset} {suite} 00000002 {'b7' * 12}\n"
         f"A rxsc {sci}\nA rxsa {sci} 1 9 {first:x} 00000001\nA rxon {sci} 1\n"
     ).encode()
     sizes = [rng.choice((2, 3, 31, 47, 48, 49, 63, 64, rng.randrange(2, 1_500))) for _ in range(rng.randrange(1, 30))]

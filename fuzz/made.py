@@ -1,7 +1,8 @@
 """Made scripts: two ends, their keys and associations, and what their managers, their clients and the link then do.
 
 A script is made beside a run of it, so that its lines can name the keys, frames and packet numbers that are there. Most
-have keys on which the ends agree, and some have other salts, offsets, suites or SSCIs at the two ends.
+have keys on which the ends agree, and some have other salts, offsets, suites or SSCIs at the two ends. The suite of a
+key may be another than its end's.
 """
 
 import copy
@@ -21,10 +22,11 @@ class Maker:
         self.create_ends()
         self.watch = promises.Watch(self.ends)
         self.link = self.watch.world.link
+        self.suites = {}
         self.offsets = dict(zip("AB", self.both(0.15, lambda: rng.choice((0, 0, 30, 50)))))
         self.salts = dict(zip("AB", self.both(0.1, lambda: rng.choice((bytes(12), rng.randbytes(12))).hex())))
         self.sscis = {"A": "00000001", "B": rng.choice(["00000002"] * 12 + ["00000001"])}
-        self.first = self.first_number()
+        self.first = {is_xpn: self.first_number(is_xpn) for is_xpn in (False, True)}
         self.set_up()
 
     def both(self, odds, choose):
@@ -45,7 +47,7 @@ class Maker:
 
     def create_ends(self):
         rng = self.rng
-        suites = self.both(0.05, lambda: rng.choice(list(expected.SUITES)))
+        suites = self.both(0.25, lambda: rng.choice(list(expected.SUITES)))
         scis = [(ADDRESSES[0] + "0001", "es"), (ADDRESSES[1] + "0000", "scb")]
         if rng.randrange(40) == 0:
             scis[1] = scis[0]
@@ -53,16 +55,17 @@ class Maker:
         for end, suite, (sci, form) in zip("AB", suites, scis):
             self.add(f"end {end} {suite} {sci} {most} {rng.choice((form, 'auto', 'sci'))}")
 
-    def first_number(self):
-        """The packet number that associations begin at."""
-        extended = (2**32 + 2**31, 2**64 - 4, 2**32 - 2, 2**33 - 3) if self.ends["A"].is_xpn else ()
-        first = self.rng.choice((1, 1, 5, 2**31 - 1, 2**32 - 4, *extended))
-        return min(first, min(it.last for it in self.ends.values()))
+    def first_number(self, is_xpn):
+        """The packet number that associations begin at under keys with extended packet numbers, or under the others."""
+        extended = (2**32 + 2**31, 2**64 - 4, 2**33 - 3) if is_xpn else ()
+        return self.rng.choice((1, 1, 5, 2**31 - 1, 2**32 - 4, 2**32 - 2, *extended))
 
     def set_up(self):
         """Keys, options, and associations in both directions, of which the first is enabled."""
         rng, shift = self.rng, self.rng.choice((0, 0, 0, 10))
         for end in "AB":
+            if rng.randrange(20) == 0:
+                self.replay(end)
             for index in (0, 1):
                 self.install(end, index + shift * (end == "B"), index)
             if rng.randrange(3) == 0:
@@ -70,13 +73,13 @@ class Maker:
             if rng.randrange(2) == 0:
                 self.replay(end)
         for end in "AB":
-            for an, number in enumerate(list(self.ends[end].keys)):
-                self.add(f"{end} txsa {an} {number} {self.first:x} {self.int_or_conf()}")
+            for an, (number, key) in enumerate(list(self.ends[end].keys.items())):
+                self.add(f"{end} txsa {an} {number} {self.first[key.is_xpn]:x} {self.int_or_conf()}")
             self.add(f"{end} txon 0")
         for end in "AB":
             self.add(f"{end} rxsc {self.ends[self.other(end)].sci.hex()}")
             for an in (0, 1):
-                self.listen(end, an, self.first)
+                self.listen(end, an, self.first_of(self.other(end), an))
 
     # What is chosen.
 
@@ -97,8 +100,21 @@ class Maker:
         """The receive channel for the other end, if there is one."""
         return self.ends[end].channel(self.ends[self.other(end)].sci)
 
+    def first_of(self, end, an):
+        """The packet number that a transmit association of this end mostly begins at."""
+        endpoint = self.ends[end]
+        return self.first[an in endpoint.tx and endpoint.keys[endpoint.tx[an].key].is_xpn]
+
+    def suite_of(self, end, index):
+        """The suite of a key at an end: mostly one for both ends, that of an end or another."""
+        if index not in self.suites:
+            own = {it: endpoint.suite for it, endpoint in self.ends.items()}
+            named = dict(zip("AB", self.both(0.05, lambda: self.rng.choice((*own.values(), *expected.SUITES)))))
+            self.suites[index] = own if self.rng.randrange(4) == 0 else named
+        return self.suites[index][end]
+
     def octets_of(self, end, index):
-        return bytes([index]) * self.ends[end].key_length
+        return bytes([index]) * expected.SUITES[self.suite_of(end, index)][0]
 
     def frame_number(self):
         """A link frame, mostly a late one; or the one after the last."""
@@ -120,9 +136,14 @@ class Maker:
     # Lines of one event, and some of the commands that belong together.
 
     def install(self, end, number, index):
-        rest = f" {self.sscis[end]} {self.salts[end]}" if self.ends[end].is_xpn or self.rng.randrange(2) else ""
-        offset = 0 if self.ends[end].is_xpn else self.offsets[end]
-        self.add(f"{end} key {number} {self.octets_of(end, index).hex()} {offset}{rest}")
+        """A key, whose line names its suite if it is not the end's, and sometimes if it is."""
+        suite, rest = self.suite_of(end, index), ""
+        is_xpn = expected.SUITES[suite][1]
+        if suite != self.ends[end].suite or self.rng.randrange(4) == 0:
+            rest = f" {suite}"
+        if is_xpn or self.rng.randrange(2):
+            rest += f" {self.sscis[end]} {self.salts[end]}"
+        self.add(f"{end} key {number} {self.octets_of(end, index).hex()} {0 if is_xpn else self.offsets[end]}{rest}")
 
     def listen(self, end, an, pn):
         """A receive association for one of the other end's, mostly with its key."""
@@ -130,7 +151,7 @@ class Maker:
         octets = peer.keys[peer.tx[an].key].octets if an in peer.tx else None
         numbers = [it for it, key in self.ends[end].keys.items() if key.octets == octets] or [rng.randrange(4)]
         if rng.randrange(20) == 0:
-            numbers = list(self.ends[end].keys)
+            numbers = list(self.ends[end].keys) or numbers
         sci, ssci = peer.sci.hex(), self.sscis[self.other(end)]
         if rng.randrange(20) == 0:
             ssci = self.sscis[end]
@@ -207,7 +228,7 @@ class Maker:
         if not clone.tx:
             return None
         an = self.rng.choice(list(clone.tx))
-        pn = min(clone.last, clone.tx[an].next + self.rng.randrange(3))
+        pn = min(clone.keys[clone.tx[an].key].last, clone.tx[an].next + self.rng.randrange(3))
         client, conf = bytes.fromhex(self.client(end)), self.rng.randrange(2) == 1
         sa = expected.Sa(clone.tx[an].key, pn, conf=conf)
         return clone.protected(client, clone.tag_bits(client[6:12]), an, sa, client[12:])
@@ -239,30 +260,56 @@ class Maker:
 
     def key(self):
         rng, end = self.rng, self.end()
-        length = rng.choice([self.ends[end].key_length] * 9 + [16, 32])
+        suite = rng.choice((self.ends[end].suite, *expected.SUITES))
+        length = rng.choice([expected.SUITES[suite][0]] * 9 + [16, 32])
         number, octets = rng.randrange(5), bytes([rng.randrange(5)]) * length
-        rest = rng.choice(("", f" {self.sscis[end]} {self.salts[end]}"))
+        rest = rng.choice(("", f" {suite}")) + rng.choice(("", f" {self.sscis[end]} {self.salts[end]}"))
         self.add(f"{end} key {number} {octets.hex()} {rng.choice((0, 0, 0, 30, 50, 1))}{rest}")
 
     def retire(self):
         """A key is retired, mostly after its associations are deleted; then it is used or installed again."""
         rng, end = self.rng, self.end()
         endpoint = self.ends[end]
-        number = rng.choice([it for it, key in endpoint.keys.items() if key.first_unused > 1] or list(endpoint.keys))
+        number = self.used_key(end)
         if rng.randrange(4):
-            for an in [it for it, sa in endpoint.tx.items() if sa.key == number]:
-                self.add(f"{end} txdel {an}")
-            rows = [(it.sci.hex(), an) for it in endpoint.channels for an, sa in it.sas.items() if sa.key == number]
-            for sci, an in rows:
-                self.add(f"{end} rxdel {sci} {an}")
+            self.free(end, number)
         self.add(f"{end} retire {number}")
-        octets = endpoint.keys[number].octets.hex()
+        if number not in endpoint.keys:
+            return
+        key = endpoint.keys[number]
         for again in rng.sample((number, rng.randrange(256)), rng.randrange(1, 3)):
-            an = self.free_an(end)
-            self.add(f"{end} key {again} {octets} 0 {self.sscis[end]} {self.salts[end]}")
-            self.add(f"{end} txsa {an} {again} {self.first:x} {self.int_or_conf()}")
+            an, suite = self.free_an(end), rng.choice(("", f" {key.suite}"))
+            self.add(f"{end} key {again} {key.octets.hex()} 0{suite} {self.sscis[end]} {self.salts[end]}")
+            self.add(f"{end} txsa {an} {again} {self.first[key.is_xpn]:x} {self.int_or_conf()}")
             self.add(f"{end} txon {an}")
             self.send(end)
+
+    def used_key(self, end):
+        """The number of a key, mostly of one under which a frame was protected."""
+        keys = self.ends[end].keys
+        return self.rng.choice([it for it, key in keys.items() if key.first_unused > 1] or list(keys) or [0])
+
+    def free(self, end, number):
+        """The associations under a key are deleted."""
+        endpoint = self.ends[end]
+        for an in [it for it, sa in endpoint.tx.items() if sa.key == number]:
+            self.add(f"{end} txdel {an}")
+        rows = [(it.sci.hex(), an) for it in endpoint.channels for an, sa in it.sas.items() if sa.key == number]
+        for sci, an in rows:
+            self.add(f"{end} rxdel {sci} {an}")
+
+    def widen(self):
+        """A window at the limit of extended packet numbers, beside keys that have them, and after those are retired."""
+        rng, end = self.rng, self.end()
+        wide = rng.choice((2**30 - 1, 2**30, 2**30, 2**32 - 1))
+        self.add(f"{end} replay on {wide}")
+        self.install(end, rng.randrange(2, 6), rng.randrange(2, 6))
+        for number in [it for it, key in self.ends[end].keys.items() if key.is_xpn and not key.retired]:
+            if rng.randrange(8):
+                self.free(end, number)
+                self.add(f"{end} retire {number}")
+        self.add(f"{end} replay {rng.choice(('on', 'off'))} {wide}")
+        self.install(end, rng.randrange(6, 9), rng.randrange(6, 9))
 
     # Associations.
 
@@ -280,10 +327,10 @@ class Maker:
         endpoint = self.ends[end]
         an = self.an_of(endpoint.tx)
         sa = endpoint.tx.get(an)
-        number = sa.key if sa else rng.choice(list(endpoint.keys))
-        key = endpoint.keys[number]
-        far = (2**31, 2**32) if endpoint.is_xpn else ()
-        pn = key.first_unused + rng.choice((-2, -1, -1, 0, 0, 1, 3, *far))
+        number = sa.key if sa else self.used_key(end)
+        key = endpoint.keys.get(number)
+        far = (2**31, 2**32) if key and key.is_xpn else ()
+        pn = (key.first_unused if key else 1) + rng.choice((-2, -1, -1, 0, 0, 1, 3, *far))
         is_deleted = rng.randrange(6) > 0
         if is_deleted:
             self.add(f"{end} txdel {an}")
@@ -304,7 +351,8 @@ class Maker:
         numbers = {it: self.rng.choice((index, index, index + 100)) for it in "AB"}
         for it in "AB":
             self.install(it, numbers[it], index)
-        self.add(f"{end} txsa {an} {numbers[end]} {self.rng.choice((1, self.first)):x} {self.int_or_conf()}")
+        first = self.first[expected.SUITES[self.suite_of(end, index)][1]]
+        self.add(f"{end} txsa {an} {numbers[end]} {self.rng.choice((1, first)):x} {self.int_or_conf()}")
         self.again(self.other(end), an)
         self.add(f"{end} txon {an}")
         self.send(end)
@@ -314,12 +362,13 @@ class Maker:
         rng, end = self.rng, end or self.end()
         peer = self.ends[self.other(end)]
         an = self.an_of(peer.tx) if an is None else an
-        here = peer.tx[an].next if an in peer.tx else self.first
+        first = self.first_of(self.other(end), an)
+        here = peer.tx[an].next if an in peer.tx else first
         if self.channel(end) is None:
             self.add(f"{end} rxsc {peer.sci.hex()}")
         elif an in self.channel(end).sas:
             self.add(f"{end} rxdel {peer.sci.hex()} {an}")
-        self.listen(end, an, here + rng.choice((-3, -1, -1, 0, 0, 1, self.first - here)))
+        self.listen(end, an, here + rng.choice((-3, -1, -1, 0, 0, 1, first - here)))
 
     def receive(self):
         rng, end = self.rng, self.end()
@@ -333,8 +382,9 @@ class Maker:
         channel = self.channel(end)
         an = self.an_of(channel.sas if channel else ())
         sa = channel.sas.get(an) if channel else None
-        far = (2**31, 2**32) if self.first > 1 else ()
-        pn = (sa.lowest if sa else self.first) + rng.choice((-1, 0, 1, 1, 2, *far))
+        first = self.first_of(self.other(end), an)
+        far = (2**31, 2**32) if first > 1 else ()
+        pn = (sa.lowest if sa else first) + rng.choice((-1, 0, 1, 1, 2, *far))
         self.add(f"{end} rxlow {self.ends[self.other(end)].sci.hex()} {an} {max(pn, 0) % 2**64:x}")
 
     def channels(self):
@@ -384,6 +434,7 @@ WEIGHTS = {
     Maker.option: 4,
     Maker.key: 4,
     Maker.retire: 2,
+    Maker.widen: 2,
     Maker.transmit: 4,
     Maker.remake: 5,
     Maker.roll: 3,

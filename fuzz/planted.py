@@ -82,12 +82,12 @@ PLANTED = [
     ),
     (
         "a receive association of the own SSCI",
-        'refuse("SsciOwn", self.is_xpn and ssci == key.ssci)',
+        'refuse("SsciOwn", key.is_xpn and ssci == key.ssci)',
         "pass",
     ),
     (
         "an exhausted association is enabled",
-        'refuse("Exhausted", self.tx[an].next > self.last)',
+        'refuse("Exhausted", self.is_exhausted(self.tx[an]))',
         "pass",
     ),
     (
@@ -126,9 +126,59 @@ PLANTED = [
         'if read["tci"] & 0x10 and not read["tci"] & 0x40:',
     ),
     (
-        "number 0 under a suite of 32 bits",
-        'or (read["pn"] == 0 and not self.is_xpn)',
-        "",
+        "number 0 under a key of 32-bit ones",
+        "return low or None",
+        "return low",
+    ),
+    (
+        "by the endpoint's suite number 0 is a fault of the SecTAG",
+        'if read == "Bad":',
+        'if read == "Bad" or (read["pn"] == 0 and not SUITES[self.suite][1]):',
+    ),
+    (
+        "the IV is that of the endpoint's suite",
+        'if not key.is_xpn:\n            return sci + struct.pack(">I", pn)',
+        'if not SUITES[self.suite][1]:\n            return sci + struct.pack(">I", pn % 2**32)',
+    ),
+    (
+        "no number is extended where those of the endpoint's suite are not",
+        "if not self.keys[sa.key].is_xpn:",
+        "if not (self.keys[sa.key].is_xpn and SUITES[self.suite][1]):",
+    ),
+    (
+        "a 32-bit number is extended where those of the endpoint's suite are",
+        "return low or None",
+        "return None if SUITES[self.suite][1] and low < 2**31 <= sa.lowest % 2**32 else low or None",
+    ),
+    (
+        "no number is above the last one of the endpoint's suite",
+        "return sa.next > self.keys[sa.key].last",
+        "return sa.next > min(self.keys[sa.key].last, 2**64 - 1 if SUITES[self.suite][1] else 2**32 - 1)",
+    ),
+    (
+        "the endpoint's suite is the limit of the window",
+        "is_narrow = any(it.is_xpn and not it.retired for it in self.keys.values())",
+        "is_narrow = SUITES[self.suite][1]",
+    ),
+    (
+        "a retired key of extended numbers is a limit of the window",
+        "it.is_xpn and not it.retired for it",
+        "it.is_xpn for it",
+    ),
+    (
+        "a key of extended numbers beside a wide window",
+        'refuse("Window", is_xpn and self.window > 2**30 - 1)',
+        "pass",
+    ),
+    (
+        "a key without a suite is one of gcm128",
+        "else self.suite\n",
+        'else "gcm128"\n',
+    ),
+    (
+        "a key has the length of the endpoint's suite",
+        'refuse("KeyLength", len(octets) != key_length)',
+        'refuse("KeyLength", len(octets) != SUITES[self.suite][0])',
     ),
     (
         "the offset counts for frames of integrity only",
@@ -152,7 +202,7 @@ PLANTED = [
     ),
     (
         "a key of any length is taken",
-        'refuse("KeyLength", len(octets) != self.key_length)',
+        'refuse("KeyLength", len(octets) != key_length)',
         "pass",
     ),
     (
@@ -236,6 +286,12 @@ BREAKING = [
     ),
     (
         "seals",
+        "the IV is that of the endpoint's suite",
+        'if not key.is_xpn:\n            return sci + struct.pack(">I", pn)',
+        'if not SUITES[self.suite][1]:\n            return sci + struct.pack(">I", pn % 2**32)',
+    ),
+    (
+        "seals",
         "the key does not note that a number is used",
         "sa.next, key.first_unused = pn + 1, pn + 1",
         "sa.next = pn + 1",
@@ -261,7 +317,7 @@ BREAKING = [
     (
         "origin",
         "a receive association of the own SSCI",
-        'refuse("SsciOwn", self.is_xpn and ssci == key.ssci)',
+        'refuse("SsciOwn", key.is_xpn and ssci == key.ssci)',
         "pass",
     ),
     (
@@ -299,6 +355,12 @@ BREAKING = [
         "an extended number keeps the upper half of the lowest one",
         "            upper += 1\n",
         "            pass\n",
+    ),
+    (
+        "acceptance",
+        "no number is extended where those of the endpoint's suite are not",
+        "if not self.keys[sa.key].is_xpn:",
+        "if not (self.keys[sa.key].is_xpn and SUITES[self.suite][1]):",
     ),
     (
         "acceptance",

@@ -101,12 +101,10 @@ class Watch:
 
     def keys_agree(self):
         """Have such keys the same suite and, if packet numbers are extended, the same salt?"""
-        is_xpn = self.ends["A"].is_xpn
-        is_one_suite = is_xpn == self.ends["B"].is_xpn
-        return all(is_one_suite and (not is_xpn or x.salt == y.salt) for x, y in self.shared_keys())
+        return all(x.suite == y.suite and (not x.is_xpn or x.salt == y.salt) for x, y in self.shared_keys())
 
     def keys_differ_in_ssci(self):
-        return not self.ends["A"].is_xpn or all(x.ssci != y.ssci for x, y in self.shared_keys())
+        return all(not x.is_xpn or x.ssci != y.ssci for x, y in self.shared_keys())
 
     # Promises 2 to 4.
 
@@ -135,7 +133,7 @@ class Watch:
         if delivered and channel:
             sa = channel.sas[frame[14] & 3]
             log = next(it for it in self.logs[end] if it.sa is sa)
-            number = recovered(endpoint, lowest[id(sa)], int.from_bytes(frame[16:20], "big"))
+            number = recovered(endpoint.keys[sa.key], lowest[id(sa)], int.from_bytes(frame[16:20], "big"))
             self.delivered(end, log, bytes.fromhex(delivered[0]), number, bool(opened))
         return told
 
@@ -166,11 +164,11 @@ class Watch:
         if endpoint.mode == "disabled" or sci_read(endpoint, frame) != sender.sci or sa is None or not sa.on:
             return False
         key = endpoint.keys[sa.key]
-        if (key.octets, key.offset, endpoint.is_xpn) != (sent.key.octets, sent.key.offset, sender.is_xpn):
+        if (key.octets, key.offset, key.suite) != (sent.key.octets, sent.key.offset, sent.key.suite):
             return False
-        if endpoint.is_xpn and (key.salt, sa.ssci) != (sent.key.salt, sent.key.ssci):
+        if key.is_xpn and (key.salt, sa.ssci) != (sent.key.salt, sent.key.ssci):
             return False
-        return sa.lowest <= sent.number and (not endpoint.is_xpn or sent.number < sa.lowest + 2**31)
+        return sa.lowest <= sent.number and (not key.is_xpn or sent.number < sa.lowest + 2**31)
 
 
 def holds(promise, holding, seen):
@@ -179,7 +177,7 @@ def holds(promise, holding, seen):
 
 
 def iv_of(endpoint, key, number):
-    if not endpoint.is_xpn:
+    if not key.is_xpn:
         return endpoint.sci + number.to_bytes(4, "big")
     return bytes(a ^ b for a, b in zip(key.salt, key.ssci + number.to_bytes(8, "big")))
 
@@ -203,9 +201,9 @@ def sci_read(endpoint, frame):
     return endpoint.channels[0].sci if len(endpoint.channels) == 1 else None
 
 
-def recovered(endpoint, lowest, low):
-    """The packet number of a frame whose SecTAG has this PN (docs/ENDPOINT.md, receive associations)."""
-    if not endpoint.is_xpn:
+def recovered(key, lowest, low):
+    """The packet number of a frame under this key whose SecTAG has this PN (docs/ENDPOINT.md, receive associations)."""
+    if not key.is_xpn:
         return low
     upper = lowest >> 32
     return (upper + (low < 2**31 <= lowest % 2**32) << 32) + low
