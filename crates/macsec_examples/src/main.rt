@@ -10,7 +10,7 @@ use std::fs;
 use std::process::ExitCode;
 
 /// The names of the scripts.
-const EXAMPLES: [&str; 52] = [
+const EXAMPLES: [&str; 56] = [
     "tour",
     "blanks-and-comments",
     "first-frame-gcm256",
@@ -35,6 +35,10 @@ const EXAMPLES: [&str; 52] = [
     "short-length",
     "window",
     "rollover",
+    "rollover-to-extended-numbers",
+    "rollover-and-back",
+    "suites-of-keys",
+    "window-beside-extended-keys",
     "padding",
     "exhaustion",
     "extended-numbers",
