@@ -56,6 +56,7 @@ fn endpoint(alloc: Global, sci: Sci) -> anyhow::Result<Secy> {
             salt: [0; 12],
             ssci: 0,
             offset: 0,
+            suite: None,
         }),
     )?;
     Ok(secy)

@@ -34,6 +34,7 @@ fn key() -> Command {
         salt: [0; 12],
         ssci: 0,
         offset: 0,
+        suite: None,
     })
 }
 

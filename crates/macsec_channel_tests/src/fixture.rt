@@ -21,7 +21,8 @@ pub fn key_table(alloc: Global) -> Result<KeyTable, Fail> {
         salt: [0; 12],
         ssci: 0,
         offset: 0,
+        suite: None,
     };
-    keys.install(Suite::Gcm128, &key)?;
+    keys.install(Suite::Gcm128, &key, 0)?;
     Ok(keys)
 }

@@ -5,9 +5,9 @@ ghost use Rattle.macsec_rx.specs.Commands.{HaveRxKeys};
 
 use crate::fixture::{an, key_table};
 use macsec_rx::{Judged, Mode, RxChannels, RxOptions, RxRow, Verdict};
-use macsec_suite::{KeyTable, Refusal, Suite};
+use macsec_suite::{KeyTable, Refusal};
 use macsec_tag::reading::read;
-use macsec_tag::{Read, Sci};
+use macsec_tag::{An, Read, Sci};
 use macsec_vectors::{CLIENT_54, CLIENT_60, LINK_54, LINK_60, PACKET_NUMBER, SCI};
 use std::process::Abort;
 use std::test::Fail;
@@ -42,6 +42,15 @@ fn row(next: u64, lowest: u64, on: bool) -> Result<RxRow, Fail> {
     })
 }
 
+/// Replay protection with a window of 1, in this mode.
+fn options(mode: Mode) -> RxOptions {
+    RxOptions {
+        mode,
+        replay: true,
+        window: 1,
+    }
+}
+
 /// The delivered frame, as it stands in the slice.
 fn delivered_octets(judged: Judged, out: &[u8]) -> Option<&[u8]> {
     let (place, length) = judged.delivered?;
@@ -58,12 +67,6 @@ fn check_frame(
     verdict: Verdict,
     client: Option<&[u8]>,
 ) -> Result<(), Fail> {
-    let options = RxOptions {
-        suite: Suite::Gcm128,
-        mode,
-        replay: true,
-        window: 1,
-    };
     let Read::Tagged(mpdu) = read(link) else {
         panic!(rt; "the frame isn't tagged");
     };
@@ -72,7 +75,7 @@ fn check_frame(
     assert!(rt; tag_length <= 16 && data_length <= 9_204);
     let mut channels = channel_on(keys)?;
     let mut out = [0; 9_248];
-    let judged = channels.judge(keys, &options, &mpdu, &mut out);
+    let judged = channels.judge(keys, &options(mode), &mpdu, &mut out);
     assert_eq!(rt; judged.verdict, verdict);
     assert_eq!(rt; judged.row, Some((SENDER, an()?)));
     assert_eq!(rt; delivered_octets(judged, &out), client);
@@ -94,6 +97,50 @@ fn frames_of_the_standard(rt: HostRuntime) -> Result<(), Fail> {
         (LINK_60.as_slice(), Mode::Disabled, Verdict::NotValid, None),
     ] {
         check_frame(&rt, &keys, link, mode, verdict, client)?;
+    }
+    Ok(())
+}
+
+/// A test frame with this octet of TCI and AN, and PN 0.
+fn frame_of_0(tci_an: u8) -> [u8; 86] {
+    let mut link = LINK_54;
+    link[14] = tci_an;
+    link[16..20].copy_from_slice(&[0; 4]);
+    link
+}
+
+/// The verdict of a new association on a frame in Strict, and the association that the frame is for.
+fn verdict_on(
+    rt: &impl Abort,
+    keys: &KeyTable,
+    link: &[u8],
+) -> Result<(Verdict, Option<(Sci, An)>), Fail> {
+    let Read::Tagged(mpdu) = read(link) else {
+        panic!(rt; "the frame isn't tagged");
+    };
+    let tag_length = mpdu.tag_bytes().len();
+    let data_length = mpdu.secure_data().len();
+    assert!(rt; tag_length <= 16 && data_length <= 9_204);
+    let mut channels = channel_on(keys)?;
+    let mut out = [0; 9_248];
+    let judged = channels.judge(keys, &options(Mode::Strict), &mpdu, &mut out);
+    Ok((judged.verdict, judged.row))
+}
+
+/// PN 0 is at fault under the key of an association with packet numbers of 32 bits, so not before E without C, and not
+/// without an association.
+#[test]
+fn packet_number_0(rt: HostRuntime) -> Result<(), Fail> {
+    let keys = key_table(rt.alloc())?;
+    let row = Some((SENDER, an()?));
+    for (tci_an, wanted) in [
+        (0x22, (Verdict::BadTag, row)),
+        (0x2e, (Verdict::BadTag, row)),
+        (0x2a, (Verdict::Reserved, None)),
+        (0x21, (Verdict::NoSaError, None)),
+    ] {
+        let link = frame_of_0(tci_an);
+        assert_eq!(&rt; verdict_on(&rt, &keys, &link)?, wanted, "{tci_an:x}");
     }
     Ok(())
 }

@@ -45,6 +45,7 @@ pub fn key(number: u8, ssci: u32) -> Command {
         salt: [0; 12],
         ssci,
         offset: 0,
+        suite: None,
     })
 }
 

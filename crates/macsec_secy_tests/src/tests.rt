@@ -25,6 +25,7 @@ const SENDERS_KEY: NewKey = NewKey {
     salt: [0x12, 0x15, 0x35, 0x25, 0xc0, 0x89, 0x5e, 0x80, 0, 0, 0, 0],
     ssci: 1,
     offset: 0,
+    suite: None,
 };
 
 const EXTENDED_NUMBER: u64 = 0x1_b2c2_8465;
@@ -187,16 +188,16 @@ fn options(rt: HostRuntime) {
     assert!(rt; endpoint(&rt, rt.alloc(), SENDER, &commands).options() == last);
 }
 
-/// The receiver of the test frames: its association 2 is for them, and its association 3 begins with the last
-/// packet number.
+/// The receiver of the test frames, whose key is of another suite than its own: its association 2 is for them, and
+/// its association 3 begins with the last packet number.
 fn receiver(rt: &impl Abort, alloc: Global) -> Secy {
     let config = EndConfig {
-        suite: Suite::Xpn128,
         sci: Sci([0, 0, 0, 0, 0, 0, 0, 2]),
         ..SENDER
     };
     let key = NewKey {
         ssci: 2,
+        suite: Some(Suite::Xpn128),
         ..SENDERS_KEY
     };
     let sci = SENDER.sci;

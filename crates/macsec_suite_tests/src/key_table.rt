@@ -6,11 +6,13 @@ use macsec_suite::{KeyTable, NewKey, Refusal, Suite};
 use macsec_vectors::KEY_128;
 use std::test::Fail;
 
-/// A call that changes a table.
+/// A call that changes a table, whose default suite is GCM-AES-128.
 #[derive(Clone, Copy, Debug)]
 enum Call {
-    /// Installs a key of this number and these bytes under GCM-AES-128.
+    /// Installs a key of this number and these bytes, which names no suite, beside a window of 0.
     Install(u8, [u8; 16]),
+    /// Installs a key of this number, whose bytes are all that number, and of this suite beside this window.
+    InstallOf(u8, Suite, u64),
     /// Retires the key of this number, of which this says whether it is in use.
     Retire(u8, bool),
     /// Notes that a packet number was used under the key of this number, where it is there.
@@ -25,13 +27,28 @@ fn key_of(number: u8, bytes: [u8; 16], offset: u8) -> NewKey {
         salt: [0; 12],
         ssci: 0,
         offset,
+        suite: None,
+    }
+}
+
+/// The same with the offset 0 and of this suite.
+fn key_of_suite(number: u8, bytes: [u8; 16], suite: Suite) -> NewKey {
+    NewKey {
+        suite: Some(suite),
+        ..key_of(number, bytes, 0)
     }
 }
 
 /// What a table answers to a call.
 fn answer_to(table: &mut KeyTable, call: Call) -> Result<(), Refusal> {
     match call {
-        Call::Install(number, bytes) => table.install(Suite::Gcm128, &key_of(number, bytes, 0)),
+        Call::Install(number, bytes) => {
+            table.install(Suite::Gcm128, &key_of(number, bytes, 0), 0)
+        }
+        Call::InstallOf(number, suite, window) => {
+            let key = key_of_suite(number, [number; 16], suite);
+            table.install(Suite::Gcm128, &key, window)
+        }
         Call::Retire(number, in_use) => table.retire(number, in_use),
         Call::Note(number, pn) => {
             if table.key(number).is_some() {
@@ -112,7 +129,7 @@ fn calls_in_a_row(rt: HostRuntime) -> Result<(), Fail> {
 
 /// What an empty table answers to the installation of a key of 128 bits and offset 40.
 fn answer_to_offset_40(table: &mut KeyTable, suite: Suite) -> Result<(), Refusal> {
-    table.install(suite, &key_of(0, KEY_128, 40))
+    table.install(suite, &key_of(0, KEY_128, 40), 0)
 }
 
 #[test]
@@ -147,5 +164,68 @@ fn room_for_every_number(rt: HostRuntime) -> Result<(), Fail> {
         answer_to(&mut table, Call::Install(7, KEY_128)),
         Err(Refusal::KeyNumberUsed)
     );
+    Ok(())
+}
+
+/// The suite of the key that is found by a number.
+fn suite_found(table: &KeyTable, number: u8) -> Option<Suite> {
+    table.key(number).map(|row| row.suite_key.suite())
+}
+
+/// The widest replay window beside the keys of a table.
+fn widest_window(table: &KeyTable) -> u64 {
+    table.widest_window()
+}
+
+/// Calls, with what a table answers to them one after another, and the widest replay window after each.
+fn calls_with_suites() -> [(Call, Result<(), Refusal>, u64); 8] {
+    let (short, extended) = (0xffff_ffff, 0x3fff_ffff);
+    [
+        (Call::Install(0, KEY_128), Ok(()), short),
+        (
+            Call::InstallOf(1, Suite::Gcm256, short),
+            Err(Refusal::KeyLength),
+            short,
+        ),
+        (
+            Call::InstallOf(1, Suite::Xpn128, extended + 1),
+            Err(Refusal::Window),
+            short,
+        ),
+        (
+            Call::InstallOf(0, Suite::Xpn128, extended + 1),
+            Err(Refusal::KeyNumberUsed),
+            short,
+        ),
+        (
+            Call::InstallOf(1, Suite::Xpn128, extended),
+            Ok(()),
+            extended,
+        ),
+        (
+            Call::InstallOf(2, Suite::Gcm128, extended + 1),
+            Ok(()),
+            extended,
+        ),
+        (Call::Retire(2, false), Ok(()), extended),
+        (Call::Retire(1, false), Ok(()), short),
+    ]
+}
+
+#[test]
+fn suites_of_their_own(rt: HostRuntime) -> Result<(), Fail> {
+    let mut table = KeyTable::new(rt.alloc())?;
+    for (call, answer, widest) in calls_with_suites() {
+        assert_eq!(&rt; answer_to(&mut table, call), answer, "{call:?}");
+        assert_eq!(&rt; widest_window(&table), widest, "after {call:?}");
+    }
+    for (number, suite) in [
+        (0, Some(Suite::Gcm128)),
+        (1, Some(Suite::Xpn128)),
+        (2, Some(Suite::Gcm128)),
+        (3, None),
+    ] {
+        assert_eq!(&rt; suite_found(&table, number), suite);
+    }
     Ok(())
 }

@@ -1,5 +1,5 @@
 -- The endpoints that are ready to send and to receive: the first state after a list of commands.
-use Rattle.std.specs.Prelude.{ℕ, List, [], ◌∷◌, replicate, true}
+use Rattle.std.specs.Prelude.{ℕ, List, [], ◌∷◌, replicate, true, None}
 use Rattle.macsec_aes.specs.declared.Key.TheVariants.{K128}
 use Rattle.macsec_tag.specs.declared.identifiers.Sci.{Sci}
 use Rattle.macsec_suite.specs.declared.key_row.NewKey.{NewKey}
@@ -16,7 +16,7 @@ after_commands s [] = s
 after_commands s (c ∷ commands) = after_commands (step s (operator_command c)).1 commands
 
 abbrev pub key_of : List ℕ → NewKey
-key_of bytes = record { number = 0; bytes = K128 bytes; salt = replicate 12 0; ssci = 0; offset = 0 }
+key_of bytes = record { number = 0; bytes = K128 bytes; salt = replicate 12 0; ssci = 0; offset = 0; suite = None }
 
 abbrev pub ready_sender : Sci → List ℕ → State
 ready_sender sci bytes =

@@ -35,6 +35,7 @@ pub fn key_of(bytes: [u8; 16]) -> NewKey
         salt: [0; 12],
         ssci: 0,
         offset: 0,
+        suite: None,
     }
 }
 
