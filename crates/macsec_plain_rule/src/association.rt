@@ -102,10 +102,10 @@ impl Association {
         Ok(())
     }
 
-    /// The packet number that the 32 bits of a SecTAG stand for.
+    /// The packet number that the 32 bits of a SecTAG stand for, if packet numbers are extended or not.
     pub fn recovered(&self, plant: Option<Plant>, xpn: bool, low: u32) -> Option<u64> {
         if !xpn {
-            return Some(u64::from(low));
+            return (low != 0).then_some(u64::from(low));
         }
         let near = if plant == Some(Plant::ByNext) {
             self.row.next

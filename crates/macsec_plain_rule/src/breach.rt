@@ -84,31 +84,31 @@ pub fn due<'a>(end: &PlainEnd, other: &'a PlainEnd, frame: &[u8]) -> Option<&'a 
         return None;
     }
     let (_, made) = end.enabled(&mpdu)?;
-    let same_suite = end.config.suite == other.config.suite;
-    if same_suite && end.has_key_of(made, seal) && is_in_time(end, made, seal.number) {
+    if end.has_key_of(made, seal) && is_in_time(made, seal) {
         Some(seal)
     } else {
         None
     }
 }
 
-/// Is this packet number acceptable to an association, and one that is recovered from its lower half?
-fn is_in_time(end: &PlainEnd, made: &Association, number: u64) -> bool {
-    let number = u128::from(number);
+/// Is the packet number of a seal acceptable to an association, and one that is recovered from its lower half?
+fn is_in_time(made: &Association, seal: &Seal) -> bool {
+    let number = u128::from(seal.number);
     let lowest = made.row.lowest;
-    number >= lowest && (!end.config.suite.is_xpn() || number - lowest < 1 << 31)
+    number >= lowest && (!seal.suite.is_xpn() || number - lowest < 1 << 31)
 }
 
 impl PlainEnd {
-    /// Would an association open what was sealed under this key, by its bytes, offset, salt and SSCI?
+    /// Would an association open what was sealed under this key, by its suite, bytes, offset, salt and SSCI?
     fn has_key_of(&self, made: &Association, seal: &Seal) -> bool {
         let Some(held) = self.key(made.row.key) else {
             return false;
         };
         let (own, key) = (held.key, seal.key);
-        own.bytes == key.bytes
+        held.suite == seal.suite
+            && own.bytes == key.bytes
             && own.offset == key.offset
-            && (!self.config.suite.is_xpn() || (own.salt == key.salt && made.row.ssci == key.ssci))
+            && (!seal.suite.is_xpn() || (own.salt == key.salt && made.row.ssci == key.ssci))
     }
 }
 

@@ -4,7 +4,7 @@ use crate::Plant;
 use crate::association::Association;
 use crate::plain_end::PlainEnd;
 use crate::sending::{Seal, Use, iv};
-use macsec_link::{Mode, Sci, Verdict};
+use macsec_link::{Mode, Sci, Suite, Verdict};
 use macsec_tag::reading::read;
 use macsec_tag::{Mpdu, Read};
 use std::alloc::{AllocError, Global};
@@ -64,7 +64,7 @@ impl PlainEnd {
     ) -> Result<Hearing, AllocError> {
         let tag = mpdu.tag();
         let (pn, e, c) = (tag.pn(), tag.e(), tag.c());
-        if !self.config.suite.is_xpn() && pn == 0 {
+        if self.plant == Some(Plant::ZeroFirst) && self.is_short_zero(mpdu) {
             return Ok(Hearing::unread(Verdict::BadTag, None));
         }
         if e && !c {
@@ -73,7 +73,8 @@ impl PlainEnd {
         let Some((place, made)) = self.enabled(mpdu) else {
             return self.judge_unknown(mpdu, c);
         };
-        let Some(number) = made.recovered(self.plant, self.config.suite.is_xpn(), pn) else {
+        let xpn = self.recovers_by(made).is_xpn();
+        let Some(number) = made.recovered(self.plant, xpn, pn) else {
             return Ok(Hearing::unread(Verdict::BadTag, None));
         };
         let opens = self.opens(made, number, covered(frame, mpdu), other);
@@ -91,6 +92,23 @@ impl PlainEnd {
             octets: mpdu.secure_data().len(),
             controlled,
         })
+    }
+
+    /// The suite by which packet numbers of an association are recovered.
+    fn recovers_by(&self, made: &Association) -> Suite {
+        if self.plant == Some(Plant::RecoveryByDefault) {
+            self.config.suite
+        } else {
+            self.suite_of(made.row.key)
+        }
+    }
+
+    /// Has a frame PN 0 in an association with packet numbers of 32 bits?
+    fn is_short_zero(&self, mpdu: &Mpdu) -> bool {
+        match self.enabled(mpdu) {
+            Some((_, made)) => mpdu.tag().pn() == 0 && !self.suite_of(made.row.key).is_xpn(),
+            None => false,
+        }
     }
 
     /// Judges a frame that is of no enabled association.
@@ -153,7 +171,7 @@ impl PlainEnd {
         let sender = made.row;
         let iv = iv(
             self.plant,
-            self.config.suite,
+            self.iv_suite(&row),
             sender.sci,
             sender.ssci,
             row.key.salt,

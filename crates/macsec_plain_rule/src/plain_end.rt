@@ -4,14 +4,15 @@ use crate::Plant;
 use crate::association::Association;
 use crate::counting::{no_counters, no_tx_counters};
 use crate::sending::Seal;
-use macsec_link::{Command, EndConfig, Mode, NewKey, Refusal, Sci};
+use macsec_link::{Command, EndConfig, Mode, NewKey, Refusal, Sci, Suite};
 use macsec_secy::{An, ChannelCounters, Counters, Options, RxCounters, TxCounters, TxRow};
 use std::alloc::{AllocError, Global};
 
-/// A key: what was installed, whether it is retired, and its first unused packet number.
+/// A key: what was installed, its suite, whether it is retired, and its first unused packet number.
 #[derive(Clone, Copy)]
 pub struct PlainKey {
     pub key: NewKey,
+    pub suite: Suite,
     pub retired: bool,
     pub first_unused: u128,
 }
@@ -73,6 +74,28 @@ impl PlainEnd {
             }
         }
         None
+    }
+
+    /// The suite of a new key: the one that it names, or that of the end.
+    pub fn suite_for(&self, key: &NewKey) -> Suite {
+        key.suite.unwrap_or(self.config.suite)
+    }
+
+    /// The suite of the key of this number, which is installed.
+    pub fn suite_of(&self, number: u8) -> Suite {
+        match self.key(number) {
+            Some(row) => row.suite,
+            None => self.config.suite,
+        }
+    }
+
+    /// The last packet number under the key of this number.
+    pub fn last_under(&self, number: u8) -> u64 {
+        if self.plant == Some(Plant::LastByDefault) {
+            self.config.suite.last()
+        } else {
+            self.suite_of(number).last()
+        }
     }
 
     /// The transmit association of this number.
@@ -155,8 +178,10 @@ impl PlainEnd {
     }
 
     fn install(&mut self, key: NewKey) -> Result<(), AllocError> {
+        let suite = self.suite_for(&key);
         self.keys.push(PlainKey {
             key,
+            suite,
             retired: false,
             first_unused: 1,
         })?;

@@ -29,6 +29,12 @@ pub enum Plant {
     ByNext,
     /// The IV has the lower 32 bits of the packet number only.
     ShortIv,
+    /// The IV is formed by the end's own suite, whichever the key has.
+    IvByDefault,
+    /// Packet numbers are recovered by the end's own suite.
+    RecoveryByDefault,
+    /// The last packet number is that of the end's own suite.
+    LastByDefault,
     /// No frame is ever delivered to an end.
     NoDelivery,
     /// The SCI of a SecTAG has another last octet.
@@ -39,6 +45,10 @@ pub enum Plant {
     OctetsUncounted,
     /// A new receive channel is the first.
     FirstChannel,
+    /// A retired key with extended packet numbers still keeps the window narrow.
+    RetiredHolds,
+    /// PN 0 under a key with packet numbers of 32 bits is at fault before E without C is looked at.
+    ZeroFirst,
     /// The log of what is delivered has no entry.
     LostDelivery,
     /// A frame that is sent is in the log of the next key.
@@ -47,7 +57,7 @@ pub enum Plant {
 
 impl Plant {
     /// Those that break a promise or a rule of reception: a search of the plain rule alone finds them.
-    pub const BREAKING: [Plant; 14] = [
+    pub const BREAKING: [Plant; 17] = [
         Plant::NumberAgain,
         Plant::KeyAgain,
         Plant::OwnChannel,
@@ -61,15 +71,20 @@ impl Plant {
         Plant::SameUpperHalf,
         Plant::ByNext,
         Plant::ShortIv,
+        Plant::IvByDefault,
+        Plant::RecoveryByDefault,
+        Plant::LastByDefault,
         Plant::NoDelivery,
     ];
 
     /// Those that break none: only the comparison with the code finds them, and the last two only that of logs.
-    pub const COMPARED: [Plant; 6] = [
+    pub const COMPARED: [Plant; 8] = [
         Plant::SciOctet,
         Plant::LateUncounted,
         Plant::OctetsUncounted,
         Plant::FirstChannel,
+        Plant::RetiredHolds,
+        Plant::ZeroFirst,
         Plant::LostDelivery,
         Plant::OtherLog,
     ];
@@ -90,11 +105,16 @@ impl Plant {
             Plant::SameUpperHalf => "same-upper-half",
             Plant::ByNext => "by-next",
             Plant::ShortIv => "short-iv",
+            Plant::IvByDefault => "iv-by-default",
+            Plant::RecoveryByDefault => "recovery-by-default",
+            Plant::LastByDefault => "last-by-default",
             Plant::NoDelivery => "no-delivery",
             Plant::SciOctet => "sci-octet",
             Plant::LateUncounted => "late-uncounted",
             Plant::OctetsUncounted => "octets-uncounted",
             Plant::FirstChannel => "first-channel",
+            Plant::RetiredHolds => "retired-holds",
+            Plant::ZeroFirst => "zero-first",
             Plant::LostDelivery => "lost-delivery",
             Plant::OtherLog => "other-log",
         }

@@ -14,7 +14,7 @@ impl PlainEnd {
         match *command {
             Command::Protect(_) | Command::Validate(_) => None,
             Command::Replay { window, .. } => refused_if(
-                window > self.config.suite.widest_window(),
+                window >= 1 << 32 || self.is_too_wide(window),
                 Refusal::Window,
             ),
             Command::Tag(form) => refused_if(self.is_unfit(form), Refusal::SciForm),
@@ -43,7 +43,7 @@ impl PlainEnd {
             }
             Command::RxLow { sci, an, pn } => self
                 .missing_row(sci, an)
-                .or(self.out_of_range(pn))
+                .or(self.out_of_range_at(sci, an, pn))
                 .or(refused_if(self.is_below(sci, an, pn), Refusal::PnLower)),
         }
     }
@@ -57,17 +57,31 @@ impl PlainEnd {
         }
     }
 
+    /// Is this window too wide beside the keys?
+    fn is_too_wide(&self, window: u64) -> bool {
+        for row in self.keys.iter() {
+            let passes = row.retired && self.plant != Some(Plant::RetiredHolds);
+            if row.suite.is_xpn() && window >= 1 << 30 && !passes {
+                return true;
+            }
+        }
+        false
+    }
+
     fn key_refusal(&self, key: &NewKey) -> Option<Refusal> {
+        let suite = self.suite_for(key);
         let length = match key.bytes {
             Key::K128(_) => 16,
             Key::K256(_) => 32,
         };
         let good_offset = key.offset == 0
-            || (!self.config.suite.is_xpn() && (key.offset == 30 || key.offset == 50));
-        refused_if(length != self.config.suite.key_length(), Refusal::KeyLength)
+            || (!suite.is_xpn() && (key.offset == 30 || key.offset == 50));
+        let too_wide = suite.is_xpn() && self.options.window >= 1 << 30;
+        refused_if(length != suite.key_length(), Refusal::KeyLength)
             .or(refused_if(!good_offset, Refusal::Offset))
             .or(refused_if(self.key(key.number).is_some(), Refusal::KeyNumberUsed))
             .or(refused_if(self.has_bytes(&key.bytes), Refusal::KeyRepeated))
+            .or(refused_if(too_wide, Refusal::Window))
     }
 
     fn has_bytes(&self, bytes: &Key) -> bool {
@@ -115,7 +129,7 @@ impl PlainEnd {
         self.unusable_key(key)
             .or(refused_if(self.sends_under(key), Refusal::KeyInUse))
             .or(refused_if(self.tx_row(an).is_some(), Refusal::AnTaken))
-            .or(self.out_of_range(next))
+            .or(self.out_of_range(key, next))
             .or(refused_if(below, Refusal::PnFloor))
     }
 
@@ -123,7 +137,7 @@ impl PlainEnd {
         match self.tx_row(an) {
             None => Some(Refusal::NoSa),
             Some(row) => refused_if(
-                row.next > u128::from(self.config.suite.last()),
+                row.next > u128::from(self.last_under(row.key)),
                 Refusal::Exhausted,
             ),
         }
@@ -149,7 +163,7 @@ impl PlainEnd {
         self.unusable_key(key)
             .or(self.missing_channel(sci))
             .or(refused_if(self.rx_row(sci, an).is_some(), Refusal::AnTaken))
-            .or(self.out_of_range(lowest))
+            .or(self.out_of_range(key, lowest))
     }
 
     fn ssci_refusal(&self, key: u8, ssci: u32) -> Option<Refusal> {
@@ -158,13 +172,18 @@ impl PlainEnd {
             None => false,
         };
         refused_if(
-            self.config.suite.is_xpn() && own && self.plant != Some(Plant::OwnSsci),
+            self.suite_of(key).is_xpn() && own && self.plant != Some(Plant::OwnSsci),
             Refusal::SsciOwn,
         )
     }
 
-    fn out_of_range(&self, pn: u64) -> Option<Refusal> {
-        refused_if(pn == 0 || pn > self.config.suite.last(), Refusal::PnRange)
+    fn out_of_range(&self, key: u8, pn: u64) -> Option<Refusal> {
+        refused_if(pn == 0 || pn > self.last_under(key), Refusal::PnRange)
+    }
+
+    fn out_of_range_at(&self, sci: Sci, an: An, pn: u64) -> Option<Refusal> {
+        let (_, made) = self.rx_row(sci, an)?;
+        self.out_of_range(made.row.key, pn)
     }
 
     fn is_below(&self, sci: Sci, an: An, pn: u64) -> bool {

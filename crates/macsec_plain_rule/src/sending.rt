@@ -2,7 +2,7 @@
 //! they are, and the ICV is the number of the seal.
 
 use crate::Plant;
-use crate::plain_end::PlainEnd;
+use crate::plain_end::{PlainEnd, PlainKey};
 use macsec_link::{DropReason, Key, NewKey, Sci, Suite, TagForm};
 use macsec_secy::TxRow;
 use macsec_suite::iv_of;
@@ -15,12 +15,13 @@ pub struct Use {
     pub iv: [u8; 12],
 }
 
-/// A frame that was protected: its use of the cipher, with which key and packet number, whether it is encrypted, the client
-/// frame, and the link frame.
+/// A frame that was protected: its use of the cipher, with which key of which suite and which packet number, whether
+/// it is encrypted, the client frame, and the link frame.
 #[derive(Drop)]
 pub struct Seal {
     pub used: Use,
     pub key: NewKey,
+    pub suite: Suite,
     pub number: u64,
     pub encrypted: bool,
     pub client: Vec<u8>,
@@ -71,7 +72,7 @@ pub fn iv(
     salt: [u8; 12],
     pn: u64,
 ) -> [u8; 12] {
-    let number = if plant == Some(Plant::ShortIv) {
+    let number = if plant == Some(Plant::ShortIv) || !suite.is_xpn() {
         pn & 0xffff_ffff
     } else {
         pn
@@ -88,7 +89,7 @@ impl PlainEnd {
         if !self.options.protect {
             return Ok(Sending::Dropped(DropReason::TooLong));
         }
-        let Some((row, key, number)) = self.sending_row() else {
+        let Some((row, held, number)) = self.sending_row() else {
             return Ok(Sending::Dropped(DropReason::NoSa));
         };
         let frame = self.sealed_frame(row, number, client, seal)?;
@@ -97,8 +98,9 @@ impl PlainEnd {
         }
         self.note_used(row.an, row.key, number);
         let seal = Seal {
-            used: self.used(&key, number),
-            key: self.noted_key(key),
+            used: self.used(&held, number),
+            key: self.noted_key(held.key),
+            suite: held.suite,
             number,
             encrypted: row.conf,
             client: client.to_vec(self.alloc)?,
@@ -125,13 +127,22 @@ impl PlainEnd {
         }
     }
 
+    /// The suite by which IVs are formed under a key.
+    pub fn iv_suite(&self, held: &PlainKey) -> Suite {
+        if self.plant == Some(Plant::IvByDefault) {
+            self.config.suite
+        } else {
+            held.suite
+        }
+    }
+
     /// The use of the cipher for a packet number under a key.
-    fn used(&self, key: &NewKey, number: u64) -> Use {
-        let config = self.config;
+    fn used(&self, held: &PlainKey, number: u64) -> Use {
+        let key = held.key;
         let iv = iv(
             self.plant,
-            config.suite,
-            config.sci,
+            self.iv_suite(held),
+            self.config.sci,
             key.ssci,
             key.salt,
             number,
@@ -140,14 +151,14 @@ impl PlainEnd {
     }
 
     /// The enabled association, its key and its packet number, if it has one left.
-    fn sending_row(&self) -> Option<(TxRow, NewKey, u64)> {
+    fn sending_row(&self) -> Option<(TxRow, PlainKey, u64)> {
         let row = self.enabled_tx()?;
         let number = u64::try_from(row.next).ok()?;
-        if number > self.config.suite.last() {
+        if number > self.last_under(row.key) {
             return None;
         }
         let held = self.key(row.key)?;
-        Some((row, held.key, number))
+        Some((row, held, number))
     }
 
     /// The enabled transmit association.

@@ -21,7 +21,9 @@ const VERDICTS: [Verdict; 12] = [
 ];
 
 /// The refusals that the alphabets can bring about, by number.
-const REFUSALS: [Refusal; 15] = [
+const REFUSALS: [Refusal; 19] = [
+    Refusal::KeyLength,
+    Refusal::Offset,
     Refusal::KeyNumberUsed,
     Refusal::KeyRepeated,
     Refusal::NoKey,
@@ -32,9 +34,11 @@ const REFUSALS: [Refusal; 15] = [
     Refusal::NoSc,
     Refusal::AnTaken,
     Refusal::NoSa,
+    Refusal::PnRange,
     Refusal::PnLower,
     Refusal::PnFloor,
     Refusal::SsciOwn,
+    Refusal::Window,
     Refusal::SciForm,
     Refusal::Exhausted,
 ];
@@ -54,7 +58,7 @@ pub struct Coverage {
     dropped: u64,
     faults: u64,
     verdicts: [u64; 12],
-    refusals: [u64; 15],
+    refusals: [u64; 19],
 }
 
 impl Coverage {
@@ -72,7 +76,7 @@ impl Coverage {
             dropped: 0,
             faults: 0,
             verdicts: [0; 12],
-            refusals: [0; 15],
+            refusals: [0; 19],
         }
     }
 
@@ -106,7 +110,7 @@ fn add(count: &mut u64, is_counted: bool) {
     *count = count.saturating_add(u64::from(is_counted));
 }
 
-fn count_refusal(counts: &mut [u64; 15], refusal: Refusal) {
+fn count_refusal(counts: &mut [u64; 19], refusal: Refusal) {
     for (other, count) in REFUSALS.iter().zip(counts.iter_mut()) {
         add(count, *other == refusal);
     }

@@ -13,11 +13,14 @@ pub const SCI_B: Sci = Sci([2, 0, 0, 0, 0, 2, 0, 1]);
 /// The SCI of a third end, which neither sends nor receives.
 pub const SCI_C: Sci = Sci([2, 0, 0, 0, 0, 3, 0, 1]);
 
-/// The bytes of two keys.
-const BYTES: [u8; 2] = [0x2b, 0x3c];
+/// The bytes of three keys.
+const BYTES: [u8; 3] = [0x2b, 0x3c, 0x4d];
 
 /// The last packet number of 32 bits.
 const LAST_32: u64 = 0xffff_ffff;
+
+/// The first window that is too wide for extended packet numbers.
+const TOO_WIDE: u64 = 1 << 30;
 
 /// A small world.
 #[derive(Clone, Copy)]
@@ -48,11 +51,13 @@ pub enum Scenario {
     Tags,
     /// Unlike offsets at the ends, and frames that no end protected.
     Offsets,
+    /// The change from a key of one suite to that of another and back, at ends of unlike suites.
+    Suites,
 }
 
 impl Scenario {
     /// All of them.
-    pub const ALL: [Scenario; 13] = [
+    pub const ALL: [Scenario; 14] = [
         Scenario::Numbers,
         Scenario::Keys,
         Scenario::ExtendedNumbers,
@@ -66,6 +71,7 @@ impl Scenario {
         Scenario::Rollover,
         Scenario::Tags,
         Scenario::Offsets,
+        Scenario::Suites,
     ];
 
     /// Its name.
@@ -84,16 +90,21 @@ impl Scenario {
             Scenario::Rollover => "rollover",
             Scenario::Tags => "tags",
             Scenario::Offsets => "offsets",
+            Scenario::Suites => "suites",
         }
     }
 
-    /// The suite of both ends.
-    pub fn suite(self) -> Suite {
-        match self {
-            Scenario::ExtendedNumbers
-            | Scenario::ExtendedReflection
-            | Scenario::Recovery
-            | Scenario::ExtendedLast => Suite::Xpn128,
+    /// The suite of an end, which its keys have that name none.
+    fn suite(self, end: End) -> Suite {
+        match (self, end) {
+            (Scenario::Suites, End::A)
+            | (
+                Scenario::ExtendedNumbers
+                | Scenario::ExtendedReflection
+                | Scenario::Recovery
+                | Scenario::ExtendedLast,
+                _,
+            ) => Suite::Xpn128,
             _ => Suite::Gcm128,
         }
     }
@@ -105,7 +116,7 @@ impl Scenario {
             _ => TagForm::Sci,
         };
         EndConfig {
-            suite: self.suite(),
+            suite: self.suite(end),
             sci: sci_of(end),
             max_frame: 1518,
             form,
@@ -122,11 +133,12 @@ impl Scenario {
         }
     }
 
-    /// The confidentiality offset of the first key at A; at B it is 0.
-    fn first_offset(self) -> u8 {
+    /// The first key at A; that at B has the offset 0 and names no suite.
+    fn first_key(self) -> Move {
         match self {
-            Scenario::Offsets => 30,
-            _ => 0,
+            Scenario::Offsets => key_at(End::A, 0, 0, 30),
+            Scenario::Suites => key_of(End::A, 0, 0, 0, Some(Suite::Gcm128)),
+            _ => key(End::A, 0, 0),
         }
     }
 
@@ -135,13 +147,7 @@ impl Scenario {
         let conf = matches!(self, Scenario::Modes);
         let mut base = self.later_base(alloc)?;
         let [tx_sa, tx_on] = sending(End::A, self.first(), conf);
-        let offset = self.first_offset();
-        for first in [
-            tx_on,
-            tx_sa,
-            key(End::B, 0, 0),
-            key_at(End::A, 0, 0, offset),
-        ] {
+        for first in [tx_on, tx_sa, key(End::B, 0, 0), self.first_key()] {
             base.insert(0, first)?;
         }
         Ok(base)
@@ -156,6 +162,7 @@ impl Scenario {
             Scenario::ExtendedReflection => both_sent_to_a().to_vec(alloc),
             Scenario::Rollover => two_associations(self.first()).to_vec(alloc),
             Scenario::Offsets => unlike_offsets().to_vec(alloc),
+            Scenario::Suites => unlike_suites().to_vec(alloc),
             _ => two_sent(self.first()).to_vec(alloc),
         }
     }
@@ -176,6 +183,7 @@ impl Scenario {
             Scenario::Rollover => rollover().to_vec(alloc),
             Scenario::Tags => tags().to_vec(alloc),
             Scenario::Offsets => offsets().to_vec(alloc),
+            Scenario::Suites => suites().to_vec(alloc),
         }
     }
 }
@@ -205,13 +213,18 @@ fn at_b(command: Command) -> Move {
     Move::Command(End::B, command)
 }
 
-/// A key of this number at an end, with the first or the second bytes. The own SSCI of A is 1, that of B 2.
+/// A key of this number at an end, with the bytes of this place. The own SSCI of A is 1, that of B 2.
 fn key(end: End, number: u8, bytes: usize) -> Move {
     key_at(end, number, bytes, 0)
 }
 
 /// The same with this confidentiality offset.
 fn key_at(end: End, number: u8, bytes: usize, offset: u8) -> Move {
+    key_of(end, number, bytes, offset, None)
+}
+
+/// The same of this suite, or of that of the end.
+fn key_of(end: End, number: u8, bytes: usize, offset: u8, suite: Option<Suite>) -> Move {
     let ssci = match end {
         End::A => 1,
         End::B => 2,
@@ -225,6 +238,7 @@ fn key_at(end: End, number: u8, bytes: usize, offset: u8) -> Move {
             salt: [0x5a; 12],
             ssci,
             offset,
+            suite,
         }),
     )
 }
@@ -347,6 +361,27 @@ fn unlike_offsets() -> [Move; 8] {
     ]
 }
 
+/// B receives from A under two associations, whose keys are of GCM-AES-128 and GCM-AES-XPN-128. A has sent a frame
+/// under the first, and two about 2^32 under the second, and has deleted the first.
+fn unlike_suites() -> [Move; 14] {
+    [
+        at_b(Command::RxSc(SCI_A)),
+        rx_sa(End::B, SCI_A, false, 0, 1, 1),
+        at_b(Command::RxOn(SCI_A, an(false))),
+        key(End::A, 1, 1),
+        key_of(End::B, 1, 1, 0, Some(Suite::Xpn128)),
+        tx_sa(true, 1, LAST_32),
+        rx_sa(End::B, SCI_A, true, 1, 1, LAST_32),
+        at_b(Command::RxOn(SCI_A, an(true))),
+        Move::Send(End::A),
+        at_a(Command::TxOn(an(true))),
+        Move::Send(End::A),
+        Move::Send(End::A),
+        at_a(Command::TxDel(an(false))),
+        at_a(Command::RxSc(SCI_B)),
+    ]
+}
+
 /// B sets its replay protection and window.
 fn window(protect: bool, window: u64) -> Move {
     at_b(Command::Replay { protect, window })
@@ -370,12 +405,24 @@ fn numbers() -> [Move; 13] {
     ]
 }
 
-fn keys() -> [Move; 10] {
+fn keys() -> [Move; 15] {
     [
         Move::Send(End::A),
         key(End::A, 1, 0),
         key(End::A, 1, 1),
         key(End::A, 2, 0),
+        // A key of 128 bits is none of GCM-AES-256, and extended packet numbers go with the offset 0 alone.
+        key_of(End::A, 1, 1, 0, Some(Suite::Gcm256)),
+        key_of(End::A, 1, 1, 0, Some(Suite::Xpn128)),
+        key_of(End::A, 2, 2, 30, Some(Suite::Xpn128)),
+        at_a(Command::Replay {
+            protect: true,
+            window: TOO_WIDE - 1,
+        }),
+        at_a(Command::Replay {
+            protect: true,
+            window: TOO_WIDE,
+        }),
         tx_sa(false, 0, 2),
         tx_sa(false, 1, 1),
         tx_sa(true, 2, 1),
@@ -578,5 +625,27 @@ fn offsets() -> [Move; 13] {
         at_a(Command::TxOn(an(false))),
         at_a(Command::TxOn(an(true))),
         at_b(Command::Validate(Mode::Check)),
+    ]
+}
+
+fn suites() -> [Move; 14] {
+    [
+        Move::Send(End::A),
+        Move::Deliver(End::B, 0),
+        Move::Deliver(End::B, 1),
+        Move::Deliver(End::B, 2),
+        Move::Deliver(End::B, 3),
+        Move::Deliver(End::A, 3),
+        // A goes back to the key of GCM-AES-128, which has no packet number above 2^32 - 1.
+        tx_sa(false, 0, 2),
+        tx_sa(false, 0, (1 << 32) + 1),
+        at_a(Command::TxOn(an(false))),
+        // The packet number of the first frame becomes 0, and its SecTAG has E alone.
+        Move::Alter(0, 19, 0),
+        Move::Alter(3, 14, 0x28),
+        // B's own SSCI counts under the key of GCM-AES-XPN-128 alone.
+        at_b(Command::RxDel(SCI_A, an(true))),
+        rx_sa(End::B, SCI_A, true, 1, 2, 1),
+        rx_sa(End::B, SCI_A, true, 0, 2, 1),
     ]
 }

@@ -56,12 +56,7 @@ struct EndText(EndConfig);
 impl fmt::Display for EndText {
     fn fmt<W: fmt::Write>(&self, f: &mut fmt::Formatter<W>) -> fmt::Result {
         let EndText(config) = *self;
-        let suite = match config.suite {
-            Suite::Gcm128 => "gcm128",
-            Suite::Gcm256 => "gcm256",
-            Suite::Xpn128 => "xpn128",
-            Suite::Xpn256 => "xpn256",
-        };
+        let suite = suite_name(config.suite);
         let form = form_name(config.form);
         write!(
             f,
@@ -69,6 +64,15 @@ impl fmt::Display for EndText {
             Hex(&config.sci.0),
             config.max_frame
         )
+    }
+}
+
+fn suite_name(suite: Suite) -> &'static str {
+    match suite {
+        Suite::Gcm128 => "gcm128",
+        Suite::Gcm256 => "gcm256",
+        Suite::Xpn128 => "xpn128",
+        Suite::Xpn256 => "xpn256",
     }
 }
 
@@ -185,6 +189,10 @@ impl fmt::Display for KeyWords {
             Key::K128(bytes) => write!(f, "{} {}", key.number, Hex(bytes))?,
             Key::K256(bytes) => write!(f, "{} {}", key.number, Hex(bytes))?,
         }
-        write!(f, " {} {:08x} {}", key.offset, key.ssci, Hex(&key.salt))
+        write!(f, " {}", key.offset)?;
+        if let Some(suite) = key.suite {
+            write!(f, " {}", suite_name(suite))?;
+        }
+        write!(f, " {:08x} {}", key.ssci, Hex(&key.salt))
     }
 }
