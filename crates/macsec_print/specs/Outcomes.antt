@@ -8,6 +8,7 @@ use Rattle.macsec_link.specs.declared.Outcome.{Outcome}
 use Rattle.macsec_link.specs.declared.Outcome.TheVariants.{Done, Refused, Made, Dropped, Heard}
 use Rattle.macsec_link.specs.declared.WorldFault.{WorldFault}
 use Rattle.macsec_link.specs.declared.WorldFault.TheVariants as world
+use Rattle.macsec_link.specs.FaultNumbers.{number_of_world_fault}
 use Rattle.macsec_print.specs.Refusals.{refusal_text}
 
 -- why nothing is sent for a client frame
@@ -15,15 +16,19 @@ abbrev pub drop_text : DropReason → List ℕ
 drop_text reason.NoSa = codes "NoSA"
 drop_text reason.TooLong = codes "TooLong"
 
--- a fault of an event by its number and its name; no line prints the first and the last
+-- no line prints the first and the last
+abbrev pub world_fault_name : WorldFault → List ℕ
+world_fault_name world.Memory = codes "Memory"
+world_fault_name world.NoFrame = codes "NoFrame"
+world_fault_name world.LinkFull = codes "LinkFull"
+world_fault_name world.AlterRange = codes "AlterRange"
+world_fault_name world.Short = codes "Short"
+world_fault_name world.Long = codes "Long"
+world_fault_name (world.Make e fault) = codes "Make"
+
+-- a fault of an event as it is printed: by its number and its name
 abbrev pub world_fault_text : WorldFault → List ℕ
-world_fault_text world.Memory = codes "1 Memory"
-world_fault_text world.NoFrame = codes "2 NoFrame"
-world_fault_text world.LinkFull = codes "3 LinkFull"
-world_fault_text world.AlterRange = codes "4 AlterRange"
-world_fault_text world.Short = codes "5 Short"
-world_fault_text world.Long = codes "6 Long"
-world_fault_text (world.Make e fault) = codes "7 Make"
+world_fault_text fault = decimal (number_of_world_fault fault) ++ codes " " ++ world_fault_name fault
 
 -- the octets of a frame, if there is one, and the line's end
 abbrev pub end_text : Option (List ℕ) → List ℕ

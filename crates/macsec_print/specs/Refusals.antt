@@ -1,27 +1,31 @@
--- The numbers and the names by which refusals are printed.
-use Rattle.std.specs.Prelude.{ℕ, List, codes}
+-- The names of refusals, and how they are printed.
+use Rattle.std.specs.Prelude.{ℕ, List, ◌++◌, decimal, codes}
 use Rattle.macsec_suite.specs.declared.refusal.Refusal.{Refusal}
 use Rattle.macsec_suite.specs.declared.refusal.Refusal.TheVariants.{KeyLength, Offset, KeyNumberUsed, KeyRepeated, NoKey, KeyRetired, KeyInUse, OwnSci, ScTaken, ScFull, NoSc, AnTaken, NoSa, PnRange, PnLower, PnFloor, SsciOwn, Window, SciForm, Exhausted}
+use Rattle.macsec_suite.specs.RefusalNumbers.{number_of_refusal}
 
--- a refusal as it is printed
+abbrev pub refusal_name : Refusal → List ℕ
+refusal_name KeyLength = codes "KeyLength"
+refusal_name Offset = codes "Offset"
+refusal_name KeyNumberUsed = codes "KeyNumberUsed"
+refusal_name KeyRepeated = codes "KeyRepeated"
+refusal_name NoKey = codes "NoKey"
+refusal_name KeyRetired = codes "KeyRetired"
+refusal_name KeyInUse = codes "KeyInUse"
+refusal_name OwnSci = codes "OwnSci"
+refusal_name ScTaken = codes "ScTaken"
+refusal_name ScFull = codes "ScFull"
+refusal_name NoSc = codes "NoSc"
+refusal_name AnTaken = codes "AnTaken"
+refusal_name NoSa = codes "NoSa"
+refusal_name PnRange = codes "PnRange"
+refusal_name PnLower = codes "PnLower"
+refusal_name PnFloor = codes "PnFloor"
+refusal_name SsciOwn = codes "SsciOwn"
+refusal_name Window = codes "Window"
+refusal_name SciForm = codes "SciForm"
+refusal_name Exhausted = codes "Exhausted"
+
+-- a refusal as it is printed: by its number and its name
 abbrev pub refusal_text : Refusal → List ℕ
-refusal_text KeyLength = codes "1 KeyLength"
-refusal_text Offset = codes "2 Offset"
-refusal_text KeyNumberUsed = codes "3 KeyNumberUsed"
-refusal_text KeyRepeated = codes "4 KeyRepeated"
-refusal_text NoKey = codes "5 NoKey"
-refusal_text KeyRetired = codes "6 KeyRetired"
-refusal_text KeyInUse = codes "7 KeyInUse"
-refusal_text OwnSci = codes "8 OwnSci"
-refusal_text ScTaken = codes "9 ScTaken"
-refusal_text ScFull = codes "10 ScFull"
-refusal_text NoSc = codes "11 NoSc"
-refusal_text AnTaken = codes "12 AnTaken"
-refusal_text NoSa = codes "13 NoSa"
-refusal_text PnRange = codes "14 PnRange"
-refusal_text PnLower = codes "15 PnLower"
-refusal_text PnFloor = codes "16 PnFloor"
-refusal_text SsciOwn = codes "17 SsciOwn"
-refusal_text Window = codes "18 Window"
-refusal_text SciForm = codes "19 SciForm"
-refusal_text Exhausted = codes "20 Exhausted"
+refusal_text refusal = decimal (number_of_refusal refusal) ++ codes " " ++ refusal_name refusal

@@ -4,8 +4,8 @@ ghost use Rattle.std.specs.Prelude.{◌≡◌, option_copied, is_some, true, IfE
 ghost use Rattle.std.specs.Io.KnownBytes.{Appends};
 ghost use Rattle.macsec_link.specs.declared.Outcome.TheVariants as outcome;
 ghost use Rattle.macsec_lines.specs.declared.faults.ScriptFault.TheVariants.{Write};
-ghost use Rattle.macsec_print.specs.Outcomes.{drop_text, end_text, is_made, is_told, outcome_text, world_fault_text};
-ghost use Rattle.macsec_print.specs.Refusals.{refusal_text};
+ghost use Rattle.macsec_print.specs.Outcomes.{drop_text, end_text, is_made, is_told, outcome_text, world_fault_name};
+ghost use Rattle.macsec_print.specs.Refusals.{refusal_name};
 ghost use Rattle.macsec_print.specs.Printing.{Prints};
 
 use crate::writing::{write_fault, write_hex};
@@ -13,31 +13,31 @@ use macsec_lines::ScriptFault;
 use macsec_link::{DropReason, Frame, Outcome, Refusal, Verdict, WorldFault};
 use std::io::{self, Write};
 
-/// A refusal as it is printed: its number and its name.
-fn refusal_text(refusal: Refusal) -> &'static str
-    ensures { result.now ≡ refusal_text refusal }
+/// The name of a refusal.
+fn refusal_name(refusal: Refusal) -> &'static str
+    ensures { result.now ≡ refusal_name refusal }
 {
     match refusal {
-        Refusal::KeyLength => "1 KeyLength",
-        Refusal::Offset => "2 Offset",
-        Refusal::KeyNumberUsed => "3 KeyNumberUsed",
-        Refusal::KeyRepeated => "4 KeyRepeated",
-        Refusal::NoKey => "5 NoKey",
-        Refusal::KeyRetired => "6 KeyRetired",
-        Refusal::KeyInUse => "7 KeyInUse",
-        Refusal::OwnSci => "8 OwnSci",
-        Refusal::ScTaken => "9 ScTaken",
-        Refusal::ScFull => "10 ScFull",
-        Refusal::NoSc => "11 NoSc",
-        Refusal::AnTaken => "12 AnTaken",
-        Refusal::NoSa => "13 NoSa",
-        Refusal::PnRange => "14 PnRange",
-        Refusal::PnLower => "15 PnLower",
-        Refusal::PnFloor => "16 PnFloor",
-        Refusal::SsciOwn => "17 SsciOwn",
-        Refusal::Window => "18 Window",
-        Refusal::SciForm => "19 SciForm",
-        Refusal::Exhausted => "20 Exhausted",
+        Refusal::KeyLength => "KeyLength",
+        Refusal::Offset => "Offset",
+        Refusal::KeyNumberUsed => "KeyNumberUsed",
+        Refusal::KeyRepeated => "KeyRepeated",
+        Refusal::NoKey => "NoKey",
+        Refusal::KeyRetired => "KeyRetired",
+        Refusal::KeyInUse => "KeyInUse",
+        Refusal::OwnSci => "OwnSci",
+        Refusal::ScTaken => "ScTaken",
+        Refusal::ScFull => "ScFull",
+        Refusal::NoSc => "NoSc",
+        Refusal::AnTaken => "AnTaken",
+        Refusal::NoSa => "NoSa",
+        Refusal::PnRange => "PnRange",
+        Refusal::PnLower => "PnLower",
+        Refusal::PnFloor => "PnFloor",
+        Refusal::SsciOwn => "SsciOwn",
+        Refusal::Window => "Window",
+        Refusal::SciForm => "SciForm",
+        Refusal::Exhausted => "Exhausted",
     }
 }
 
@@ -51,19 +51,37 @@ pub fn drop_text(reason: DropReason) -> &'static str
     }
 }
 
-/// A fault of an event as it is printed: its number and its name.
-fn world_fault_text(fault: WorldFault) -> &'static str
-    ensures { result.now ≡ world_fault_text fault }
+/// The name of a fault of an event.
+fn world_fault_name(fault: WorldFault) -> &'static str
+    ensures { result.now ≡ world_fault_name fault }
 {
     match fault {
-        WorldFault::Memory => "1 Memory",
-        WorldFault::NoFrame => "2 NoFrame",
-        WorldFault::LinkFull => "3 LinkFull",
-        WorldFault::AlterRange => "4 AlterRange",
-        WorldFault::Short => "5 Short",
-        WorldFault::Long => "6 Long",
-        WorldFault::Make(_, _) => "7 Make",
+        WorldFault::Memory => "Memory",
+        WorldFault::NoFrame => "NoFrame",
+        WorldFault::LinkFull => "LinkFull",
+        WorldFault::AlterRange => "AlterRange",
+        WorldFault::Short => "Short",
+        WorldFault::Long => "Long",
+        WorldFault::Make(_, _) => "Make",
     }
+}
+
+/// Writes the line of a command that was refused: the refusal's number and its name.
+fn write_refused<W: Write>(writer: &mut W, line: u32, refusal: Refusal) -> io::Result<()>
+    ensures { OnOk result (Appends (W.contents writer.old) (W.contents writer.new) (outcome_text line None (Ok (outcome.Refused refusal)))) }
+{
+    let number = refusal.number();
+    let name = refusal_name(refusal);
+    writeln!(writer, "{line} refused {number} {name}")
+}
+
+/// Writes the line of an event that is a fault: the fault's number and its name.
+fn write_world_fault<W: Write>(writer: &mut W, line: u32, fault: WorldFault) -> io::Result<()>
+    ensures { OnOk result (Appends (W.contents writer.old) (W.contents writer.new) (outcome_text line None (Err fault))) }
+{
+    let number = fault.number();
+    let name = world_fault_name(fault);
+    writeln!(writer, "{line} fault {number} {name}")
 }
 
 /// Writes the octets of a frame, if there is one, and the end of the line.
@@ -114,10 +132,7 @@ fn write_outcome<W: Write>(
 {
     match outcome {
         Ok(Outcome::Done) => writeln!(writer, "{line} done"),
-        Ok(Outcome::Refused(refusal)) => {
-            let text = refusal_text(*refusal);
-            writeln!(writer, "{line} refused {text}")
-        }
+        Ok(Outcome::Refused(refusal)) => write_refused(writer, line, *refusal),
         Ok(Outcome::Made(n)) => write_made(writer, line, *n, frame),
         Ok(Outcome::Dropped(reason)) => {
             let text = drop_text(*reason);
@@ -129,10 +144,7 @@ fn write_outcome<W: Write>(
                 controlled,
             },
         ) => write_heard(writer, line, *verdict, controlled),
-        Err(fault) => {
-            let text = world_fault_text(*fault);
-            writeln!(writer, "{line} fault {text}")
-        }
+        Err(fault) => write_world_fault(writer, line, *fault),
     }
 }
 
