@@ -11,17 +11,13 @@ use Rattle.macsec_suite.specs.Keys.{PreparedKey}
 use Rattle.macsec_suite.specs.Parts.{aad_and_plaintext, clear_length}
 use Rattle.macsec_suite.specs.InPlace.{clear_and_rest, validated_octets}
 use Rattle.macsec_suite.specs.Laws.{PartsInPlace}
-use Rattle.macsec_rx.specs.Delivered.{HasFixedLengths, frame_with, opened_under}
+use Rattle.macsec_rx.specs.Delivered.{HasFixedLengths, frame_with, opened_under, received_octets}
 
 -- the laws of the lower layers, as their calls give them
 pub record LowerLaws : Type 0 where
   pub parts : (offset : ℕ) (e : Bool) (da sa : List ℕ) (tag : Tag) (user_data : List ℕ) → PartsInPlace offset e da sa tag user_data
   pub undoes : OpenUndoesSeal
   pub lengths : SealedLengths
-
--- DA, SA, SecTAG, Secure Data and ICV concatenated
-abbrev pub laid_out : MpduParts → List ℕ
-laid_out p = p.da ++ p.sa ++ encoding p.tag ++ p.secure_data ++ p.icv
 
 -- what is authenticated only, and the ciphertext
 abbrev parts_of : PreparedKey → MpduParts → List ℕ × List ℕ
@@ -36,20 +32,20 @@ head_long p fixed = omega (arith, length-append (p.da ++ p.sa) (encoding p.tag),
 
 -- what the definition over places opens is what the definition over parts opens
 validated_is : LowerLaws → (key : PreparedKey) (iv : List ℕ) (p : MpduParts) → HasFixedLengths p
-    → validated_octets key iv p.tag.e (data_place p) (data_place p + length p.secure_data) (laid_out p) ≡
+    → validated_octets key iv p.tag.e (data_place p) (data_place p + length p.secure_data) (received_octets p) ≡
     option_map (λ plaintext. (parts_of key p).0 ++ plaintext ++ p.icv) (opened_under key iv p)
 validated_is laws key iv p fixed =
     let head : List ℕ = p.da ++ p.sa ++ encoding p.tag in
     let n : ℕ = data_place p in
     let e : ℕ = n + length p.secure_data in
     let long : length (head ++ p.secure_data) ≡ e = omega (arith, length-append head p.secure_data, head_long p fixed) in
-    let front : take e (laid_out p) ≡ head ++ p.secure_data = ap (λ (j : ℕ). take j (laid_out p)) (sym long) ∙ take-append_seam (head ++ p.secure_data) p.icv in
-    let back : drop e (laid_out p) ≡ p.icv = ap (λ (j : ℕ). drop j (laid_out p)) (sym long) ∙ drop-append_seam (head ++ p.secure_data) p.icv in
+    let front : take e (received_octets p) ≡ head ++ p.secure_data = ap (λ (j : ℕ). take j (received_octets p)) (sym long) ∙ take-append_seam (head ++ p.secure_data) p.icv in
+    let back : drop e (received_octets p) ≡ p.icv = ap (λ (j : ℕ). drop j (received_octets p)) (sym long) ∙ drop-append_seam (head ++ p.secure_data) p.icv in
     let whole_icv : take 16 p.icv ≡ p.icv = ap (λ (j : ℕ). take j p.icv) (sym fixed.icv) ∙ all p.icv in
-    let cut : clear_and_rest key.offset p.tag.e n (take e (laid_out p)) ≡ parts_of key p =
+    let cut : clear_and_rest key.offset p.tag.e n (take e (received_octets p)) ≡ parts_of key p =
     ap (clear_and_rest key.offset p.tag.e n) front
     ∙ laws.parts key.offset p.tag.e p.da p.sa p.tag p.secure_data fixed.da fixed.sa in
-    ap (λ (ac : List ℕ × List ℕ). option_map (λ plaintext. ac.0 ++ plaintext ++ drop e (laid_out p)) (open_of key.bytes iv ac.0 ac.1 (take 16 (drop e (laid_out p))))) cut
+    ap (λ (ac : List ℕ × List ℕ). option_map (λ plaintext. ac.0 ++ plaintext ++ drop e (received_octets p)) (open_of key.bytes iv ac.0 ac.1 (take 16 (drop e (received_octets p))))) cut
     ∙ ap (λ (tail : List ℕ). option_map (λ plaintext. (parts_of key p).0 ++ plaintext ++ tail) (open_of key.bytes iv (parts_of key p).0 (parts_of key p).1 (take 16 tail))) back
     ∙ ap (λ (tag : List ℕ). option_map (λ plaintext. (parts_of key p).0 ++ plaintext ++ p.icv) (open_of key.bytes iv (parts_of key p).0 (parts_of key p).1 tag)) whole_icv
   where
@@ -57,7 +53,7 @@ validated_is laws key iv p fixed =
     all xs = ap (λ (ys : List ℕ). take (length xs) ys) (sym (append-nil xs)) ∙ take-append_seam xs []
 
 pub refused : LowerLaws → (key : PreparedKey) (iv : List ℕ) (p : MpduParts) → HasFixedLengths p
-    → validated_octets key iv p.tag.e (data_place p) (data_place p + length p.secure_data) (laid_out p) ≡ None
+    → validated_octets key iv p.tag.e (data_place p) (data_place p + length p.secure_data) (received_octets p) ≡ None
     → option_map (frame_with key p) (opened_under key iv p) ≡ None
 refused laws key iv p fixed e = by (opened_under key iv p) refl (sym (validated_is laws key iv p fixed) ∙ e)
   where
@@ -76,7 +72,7 @@ regrouped : (head clear plaintext icv rest : List ℕ) → (((head ++ clear) ++ 
 regrouped head clear plaintext icv rest = simp append_assoc
 
 pub opened : LowerLaws → (key : PreparedKey) (iv : List ℕ) (p : MpduParts) (new rest : List ℕ) → HasFixedLengths p
-    → validated_octets key iv p.tag.e (data_place p) (data_place p + length p.secure_data) (laid_out p) ≡ Some new
+    → validated_octets key iv p.tag.e (data_place p) (data_place p + length p.secure_data) (received_octets p) ≡ Some new
     → option_map (frame_with key p) (opened_under key iv p) ≡ Some ((p.da ++ p.sa) ++ take (length p.secure_data) (drop (data_place p) (new ++ rest)))
 opened laws key iv p new rest fixed e = by (opened_under key iv p) refl (sym (validated_is laws key iv p fixed) ∙ e)
   where

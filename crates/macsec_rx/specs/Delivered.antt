@@ -1,11 +1,12 @@
--- What is delivered of a frame that is opened, by its prepared key and its IV, and the place of what is delivered of any
--- frame.
-use Rattle.std.specs.Prelude.{◌≡◌, ℕ, ◌+◌, List, ◌++◌, length, take, Option, IfSome}
+-- What is delivered of a frame that is opened, by its prepared key and its IV; the place of what is delivered of any
+-- frame; and what a slice holds when nothing is delivered.
+use Rattle.std.specs.Prelude.{◌≡◌, ◌⊎◌, ℕ, ◌+◌, List, ◌++◌, length, take, drop, Option, IfSome}
 use Rattle.macsec_gcm.specs.Gcm.{open_of}
 use Rattle.macsec_tag.specs.Tag.{encoding}
 use Rattle.macsec_tag.specs.Frame.{MpduParts}
 use Rattle.macsec_suite.specs.Keys.{PreparedKey}
 use Rattle.macsec_suite.specs.Parts.{aad_and_plaintext, clear_length}
+use Rattle.macsec_rx.specs.Limits.{unpadded_length}
 
 -- the parts of every frame have these lengths
 pub record HasFixedLengths (p : MpduParts) : Type 0 where
@@ -32,3 +33,12 @@ delivered_place p = (length (encoding p.tag), 12 + length p.secure_data)
 -- what is delivered of a frame, if anything is, is at that place
 abbrev pub IsInPlace : Option (ℕ × ℕ) → MpduParts → Type 0
 IsInPlace delivered p = IfSome delivered (λ at. at ≡ delivered_place p)
+
+-- a frame without its padding as it was received: DA, SA, SecTAG, Secure Data and ICV
+abbrev pub received_octets : MpduParts → List ℕ
+received_octets p = p.da ++ p.sa ++ encoding p.tag ++ p.secure_data ++ p.icv
+
+-- a slice is as it was, or it has those octets at its start and else what it had: so nothing of the frame that was
+-- decrypted
+abbrev pub LeavesReceived : List ℕ → List ℕ → MpduParts → Type 0
+LeavesReceived old new p = (new ≡ old) ⊎ (new ≡ received_octets p ++ drop (unpadded_length p) old)

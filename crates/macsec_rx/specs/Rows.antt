@@ -1,7 +1,6 @@
 -- What holds of receive channels and their associations.
 use Rattle.std.specs.Prelude.{◌≡◌, ◌^◌, ◌<◌, ◌≤◌, List, [], ◌∷◌, length, None, true, false}
 use Rattle.macsec_tag.specs.declared.identifiers.Sci.{Sci}
-use Rattle.macsec_tag.specs.Laws.{AreOctets}
 use Rattle.macsec_commands.specs.Scis.{IsSci}
 use Rattle.macsec_rx.specs.declared.RxRow.{RxRow}
 use Rattle.macsec_rx.specs.Limits.{max_channel_count, max_association_count}

@@ -1,11 +1,11 @@
 //! What is delivered of a frame: DA, SA and data, concatenated in a slice.
 
-ghost use Rattle.std.specs.Prelude.{◌≡◌, ◌≤◌, ◌+◌, ◌++◌, drop, length, option_map, take, IfSome};
+ghost use Rattle.std.specs.Prelude.{◌≡◌, ◌≤◌, ◌+◌, ◌++◌, ℕ, drop, length, option_map, take, IfNone, IfSome};
 ghost use Rattle.macsec_gcm.specs.Gcm.{max_plaintext_len};
 ghost use Rattle.macsec_tag.specs.Tag.{encoding};
 ghost use Rattle.macsec_rx.specs.Limits.{unpadded_length};
 ghost use Rattle.macsec_rx.specs.Judge.{bare_frame, octets_at};
-ghost use Rattle.macsec_rx.specs.Delivered.{HasFixedLengths, IsInPlace, delivered_place, frame_with, opened_under};
+ghost use Rattle.macsec_rx.specs.Delivered.{HasFixedLengths, IsInPlace, LeavesReceived, delivered_place, frame_with, opened_under, received_octets};
 
 use macsec_gcm::laws::{open_undoes_seal, sealed_lengths};
 use macsec_suite::laws::parts_in_place;
@@ -17,7 +17,7 @@ fn put(part: &[u8], at: usize, out: &mut [u8]) -> usize
     requires { at + length part.now ≤ length out.old }
     ensures end { result ≡ at + length part.now }
     ensures octets { take result out.new ≡ take at out.old ++ part.now }
-    ensures rest { drop result out.new ≡ drop result out.old }
+    ensures rest { (n : ℕ) → result ≤ n → drop n out.new ≡ drop n out.old }
 {
     let end = at + part.len();
     out[at..end].copy_from_slice(part);
@@ -28,8 +28,8 @@ fn put(part: &[u8], at: usize, out: &mut [u8]) -> usize
 fn lay_out(mpdu: &Mpdu<'_>, out: &mut [u8]) -> usize
     requires { unpadded_length mpdu.now ≤ length out.old }
     ensures length { result ≡ unpadded_length mpdu.now }
-    ensures octets { take result out.new ≡
-        mpdu.now.da ++ mpdu.now.sa ++ encoding mpdu.now.tag ++ mpdu.now.secure_data ++ mpdu.now.icv }
+    ensures octets { take result out.new ≡ received_octets mpdu.now }
+    ensures rest { drop result out.new ≡ drop result out.old }
     ensures lengths { HasFixedLengths mpdu.now }
 {
     let addresses = put(mpdu.addresses(), 0, out);
@@ -64,7 +64,8 @@ pub fn deliver_bare(mpdu: &Mpdu<'_>, out: &mut [u8]) -> (usize, usize)
     deliver(mpdu, out)
 }
 
-/// Delivers the frame with its plaintext if the ICV is valid under the key and the IV, and else nothing.
+/// Delivers the frame with its plaintext if the ICV is valid under the key and the IV, and else nothing: then nothing
+/// of it that was decrypted is in `out`.
 pub fn deliver_opened(
     key: &SuiteKey,
     iv: &[u8; 12],
@@ -77,6 +78,7 @@ pub fn deliver_opened(
         option_map (frame_with key.now mpdu.now) (opened_under key.now iv.now mpdu.now) }
     ensures within { IfSome result (λ at. at.0 + at.1 ≤ length out.new) }
     ensures place { IsInPlace result mpdu.now }
+    ensures undelivered { IfNone result (LeavesReceived out.old out.new mpdu.now) }
 {
     // Laws that the proof cites; the calls do nothing.
     parts_in_place();

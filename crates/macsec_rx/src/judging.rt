@@ -1,6 +1,6 @@
 //! The verdict on a tagged frame (IEEE 802.1AE, 10.6).
 
-ghost use Rattle.std.specs.Prelude.{◌≡◌, ◌≤◌, ◌+◌, ◌&&◌, ℕ, List, IfSome, IsSome, None, Some, length, option_map};
+ghost use Rattle.std.specs.Prelude.{◌≡◌, ◌≤◌, ◌+◌, ◌&&◌, ℕ, List, IfNone, IfSome, IsSome, None, Some, length, option_map};
 ghost use Rattle.macsec_gcm.specs.Gcm.{max_plaintext_len};
 ghost use Rattle.macsec_suite.specs.KeyRows.{InstalledKey, key_row};
 ghost use Rattle.macsec_pn.specs.Numbers.{is_late};
@@ -11,7 +11,7 @@ ghost use Rattle.macsec_rx.specs.Limits.{unpadded_length};
 ghost use Rattle.macsec_rx.specs.Channels.{with_rx};
 ghost use Rattle.macsec_rx.specs.Commands.{HaveRxKeys};
 ghost use Rattle.macsec_rx.specs.Judge.{is_bad_number, is_disabled, is_strict, judge_number, judge_opened, judge_row, judge_tagged, judge_tagged_row, number_of_frame, octets_at, plaintext_of, rows_after};
-ghost use Rattle.macsec_rx.specs.Delivered.{IsInPlace, frame_with, opened_under};
+ghost use Rattle.macsec_rx.specs.Delivered.{IsInPlace, LeavesReceived, frame_with, opened_under};
 ghost use Rattle.macsec_rx.specs.Rows.{AreChannels};
 ghost use Rattle.macsec_rx.specs.Judged.{ShowsJudgement, ShowsOutcome};
 
@@ -64,8 +64,9 @@ impl Outcome {
 
 impl RxChannels {
     /// The verdict on a tagged frame of at most 9,248 octets without its padding. If the packet number is accepted, the
-    /// packet numbers of its association change. What is delivered is in `out`, which has 9,248 octets or more. The key
-    /// of each association is in the table.
+    /// packet numbers of its association change. What is delivered is in `out`, which has 9,248 octets or more. If
+    /// nothing is delivered, `out` is as it was, but for the frame as it was received, which may be at its start. The
+    /// key of each association is in the table.
     pub fn judge(
         &mut self,
         keys: &KeyTable,
@@ -78,6 +79,7 @@ impl RxChannels {
         requires room { max_frame_len ≤ length out.old }
         ensures judged { ShowsJudgement result out.new (judge_tagged options.now keys.now self.old mpdu.now) }
         ensures place { IsInPlace result.delivered mpdu.now }
+        ensures undelivered { IfNone result.delivered (LeavesReceived out.old out.new mpdu.now) }
         ensures numbers { self.new ≡ record self.old { rows = rows_after options.now.window (judge_tagged options.now keys.now self.old mpdu.now) self.old.rows } }
         ensures channels { AreChannels self.new }
     {
@@ -144,6 +146,7 @@ fn judge_tagged_row(
     ensures outcome { ShowsOutcome result out.new (judge_tagged_row options.now keys.now mpdu.now row.now) }
     ensures row { IfSome result.accepted (λ n. (judge_tagged_row options.now keys.now mpdu.now row.now).row ≡ row.now) }
     ensures place { IsInPlace result.judged.delivered mpdu.now }
+    ensures undelivered { IfNone result.judged.delivered (LeavesReceived out.old out.new mpdu.now) }
 {
     let tag = mpdu.tag();
     if tag.e() && !tag.c() {
@@ -166,6 +169,7 @@ fn judge_row(
     ensures outcome { ShowsOutcome result out.new (judge_row options.now keys.now mpdu.now row.now) }
     ensures row { IfSome result.accepted (λ n. (judge_row options.now keys.now mpdu.now row.now).row ≡ row.now) }
     ensures place { IsInPlace result.judged.delivered mpdu.now }
+    ensures undelivered { IfNone result.judged.delivered (LeavesReceived out.old out.new mpdu.now) }
 {
     match row {
         Some(row) => judge_known(keys, options, row, mpdu, out),
@@ -179,6 +183,7 @@ fn judge_unknown(options: &RxOptions, mpdu: &Mpdu<'_>, out: &mut [u8]) -> Outcom
     ensures outcome { (keys : List InstalledKey) → ShowsOutcome result out.new (judge_row options.now keys mpdu.now None) }
     ensures row { result.accepted ≡ None }
     ensures place { IsInPlace result.judged.delivered mpdu.now }
+    ensures undelivered { IfNone result.judged.delivered (out.new ≡ out.old) }
 {
     if is_strict(options.mode) || mpdu.tag().c() {
         return Outcome::without_row(Verdict::NoSaError, None);
@@ -200,6 +205,7 @@ fn judge_known(
     ensures outcome { ShowsOutcome result out.new (judge_row options.now keys.now mpdu.now (Some row.now)) }
     ensures row { IfSome result.accepted (λ n. (judge_row options.now keys.now mpdu.now (Some row.now)).row ≡ Some row.now) }
     ensures place { IsInPlace result.judged.delivered mpdu.now }
+    ensures undelivered { IfNone result.judged.delivered (LeavesReceived out.old out.new mpdu.now) }
 {
     let key = keys.key(row.key).unwrap();
     let Some(number) = number_of_frame(key.suite_key.suite(), row, mpdu.tag().pn()) else {
@@ -238,6 +244,7 @@ fn judge_number(
     ensures outcome { (first_unused : ℕ) → ShowsOutcome result out.new (judge_number options.now (row_shown key.now first_unused) row.now mpdu.now (Some number)) }
     ensures row { (first_unused : ℕ) → IfSome result.accepted (λ n. (judge_number options.now (row_shown key.now first_unused) row.now mpdu.now (Some number)).row ≡ Some row.now) }
     ensures place { IsInPlace result.judged.delivered mpdu.now }
+    ensures undelivered { IfNone result.judged.delivered (LeavesReceived out.old out.new mpdu.now) }
 {
     if is_dropped_late(options, row, number) {
         return Outcome::at_row(row, Verdict::Late, None, None);
@@ -272,6 +279,7 @@ fn judge_validated(
     ensures outcome { (first_unused : ℕ) → ShowsOutcome result out.new (judge_opened options.now (row_shown key.now first_unused) row.now number mpdu.now (plaintext_of (row_shown key.now first_unused) row.now number mpdu.now)) }
     ensures row { (first_unused : ℕ) → IfSome result.accepted (λ n. (judge_opened options.now (row_shown key.now first_unused) row.now number mpdu.now (plaintext_of (row_shown key.now first_unused) row.now number mpdu.now)).row ≡ Some row.now) }
     ensures place { IsInPlace result.judged.delivered mpdu.now }
+    ensures undelivered { IfNone result.judged.delivered (LeavesReceived out.old out.new mpdu.now) }
 {
     match open(key, row, number, mpdu, out) {
         Some(delivered) => {
@@ -302,6 +310,7 @@ fn open(
         option_map (frame_with key.now.suite_key mpdu.now) (opened_under key.now.suite_key iv mpdu.now) }
     ensures within { IfSome result (λ at. at.0 + at.1 ≤ length out.new) }
     ensures place { IsInPlace result mpdu.now }
+    ensures undelivered { IfNone result (LeavesReceived out.old out.new mpdu.now) }
 {
     let iv = iv_of(
         key.suite_key.suite(),
@@ -319,6 +328,7 @@ fn judge_invalid(options: &RxOptions, row: &RxRow, mpdu: &Mpdu<'_>, out: &mut [u
     ensures outcome { (key : InstalledKey) (number : ℕ) → ShowsOutcome result out.new (judge_opened options.now key row.now number mpdu.now None) }
     ensures accepted { result.accepted ≡ None }
     ensures place { IsInPlace result.judged.delivered mpdu.now }
+    ensures undelivered { IfNone result.judged.delivered (out.new ≡ out.old) }
 {
     if mpdu.tag().c() || is_strict(options.mode) {
         return Outcome::at_row(row, Verdict::NotValid, None, None);

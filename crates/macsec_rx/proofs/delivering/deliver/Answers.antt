@@ -19,7 +19,7 @@ returns-clause-octets c =
     let front_long : length (take n out) ≡ n = length-take-le n out (omega (arith, c.requires, tag_long)) in
     placed new (take n out) addresses (drop (n + 12) out) n 12 m front_long c.addresses.ensures.length
     (ap (λ (j : ℕ). take j new) (sym end) ∙ c.put.ensures.octets)
-    (ap (λ (j : ℕ). drop j new) (sym end) ∙ c.put.ensures.rest ∙ ap (λ (j : ℕ). drop j out) end)
+    (c.put.ensures.rest (n + 12) (omega (arith, end)))
     ∙ ap (λ (xs : List ℕ). xs ++ take m (drop (n + 12) out)) c.addresses.ensures.octets
     ∙ ap (λ (j : ℕ). (p.da ++ p.sa) ++ take j (drop (n + 12) out)) m_is
     ∙ ap (λ (j : ℕ). (p.da ++ p.sa) ++ take (length p.secure_data) (drop j out)) place

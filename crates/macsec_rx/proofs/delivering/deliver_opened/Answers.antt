@@ -3,7 +3,8 @@
 use Rattle.std.proofs.Common.{◌≡◌, ◌+◌, length, drop, ap, sym, ◌∙◌}
 use Rattle.std.specs.Prelude.{Some, None}
 use Rattle.macsec_suite.specs.InPlace.{validated_octets}
-use Rattle.macsec_rx.proofs.Opened.{LowerLaws, data_place, laid_out, opened, refused}
+use Rattle.macsec_rx.specs.Delivered.{received_octets}
+use Rattle.macsec_rx.proofs.Opened.{LowerLaws, data_place, opened, refused}
 use Rattle.macsec_rx.proofs.delivering.deliver_opened.Goals as goal
 
 pub returns-then-validate_in_place-clause-octets :
@@ -11,7 +12,7 @@ pub returns-then-validate_in_place-clause-octets :
 returns-then-validate_in_place-clause-octets c =
     let p = c.args.mpdu.now in
     let laws : LowerLaws = record { parts = c.parts_in_place.ensures; undoes = c.open_undoes_seal.ensures; lengths = c.sealed_lengths.ensures } in
-    let genuine : validated_octets c.args.key.now c.args.iv.now p.tag.e (data_place p) (data_place p + length p.secure_data) (laid_out p) ≡ Some c.validate_in_place.new.frame =
+    let genuine : validated_octets c.args.key.now c.args.iv.now p.tag.e (data_place p) (data_place p + length p.secure_data) (received_octets p) ≡ Some c.validate_in_place.new.frame =
     rw (c.e.ensures, c.length.ensures.length, c.secure_data-data_length.ensures, c.lay_out-end.ensures.octets, c.tag-tag.ensures) at c.if-validate_in_place.ensures.genuine in
     ap Some c.deliver.ensures.octets
     ∙ sym (opened laws c.args.key.now c.args.iv.now p c.validate_in_place.new.frame (drop c.lay_out-end.result c.lay_out-end.new.out) c.lay_out-end.ensures.lengths genuine)
@@ -21,6 +22,6 @@ pub returns-else-validate_in_place-clause-octets :
 returns-else-validate_in_place-clause-octets c =
     let p = c.args.mpdu.now in
     let laws : LowerLaws = record { parts = c.parts_in_place.ensures; undoes = c.open_undoes_seal.ensures; lengths = c.sealed_lengths.ensures } in
-    let false_frame : validated_octets c.args.key.now c.args.iv.now p.tag.e (data_place p) (data_place p + length p.secure_data) (laid_out p) ≡ None =
+    let false_frame : validated_octets c.args.key.now c.args.iv.now p.tag.e (data_place p) (data_place p + length p.secure_data) (received_octets p) ≡ None =
     rw (c.e.ensures, c.length.ensures.length, c.secure_data-data_length.ensures, c.lay_out-end.ensures.octets, c.tag-tag.ensures) at c.if-validate_in_place.ensures.false_frame in
     sym (refused laws c.args.key.now c.args.iv.now p c.lay_out-end.ensures.lengths false_frame)

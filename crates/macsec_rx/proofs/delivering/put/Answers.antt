@@ -3,7 +3,7 @@ use Rattle.std.proofs.lemmas.Slice.{drop-put_mid}
 use Rattle.macsec_rx.proofs.delivering.put.Goals as goal
 
 pub returns-clause-rest : goal.returns-clause-rest
-returns-clause-rest c =
+returns-clause-rest c = λ n behind.
     let at = c.args.at in
-    let n = length c.args.part.now in
-    drop-put_mid at (at + n - at) c.args.out.now c.copy_from_slice.new.self (at + n) (omega arith) (omega (arith, c.requires)) (search rules)
+    let k = length c.args.part.now in
+    drop-put_mid at (at + k - at) c.args.out.now c.copy_from_slice.new.self n (omega (arith, behind)) (omega (arith, c.requires)) (search rules)
