@@ -7,11 +7,8 @@ ghost use Rattle.macsec_commands.specs.declared.event.Event.{Event};
 ghost use Rattle.macsec_link.specs.World.{WorldState};
 ghost use Rattle.macsec_link.specs.Step.{world_after, world_step};
 ghost use Rattle.macsec_link.specs.Sound.{IsSound};
-ghost use Rattle.macsec_link.specs.Beginnings.{AreSound, AtEachMoment, StaysSound};
-ghost use Rattle.macsec_link.specs.UniqueIvs.{RepeatsNoIv, SealsEachFrame};
-ghost use Rattle.macsec_link.specs.Window.{KeepsWindow, MarksEachFrame};
-ghost use Rattle.macsec_link.specs.Acceptance.{AcceptsInTime};
-ghost use Rattle.macsec_link.specs.Origin.{ComesFromOther, ComesInOrder};
+ghost use Rattle.macsec_link.specs.Beginnings.{AreSound, StaysSound};
+ghost use Rattle.macsec_link.specs.Promises.{KeepsPromises};
 
 use macsec_secy::laws::{accepts_sent, delivers_in_time, keys_stay, protects_frames, rx_rows_stay};
 use macsec_suite::laws::equal_ivs;
@@ -19,15 +16,9 @@ use macsec_tag::laws::reads_by_grammar;
 
 /// The four promises, of every list of events at whose moments the world is sound; `World::run` says what each promises.
 pub fn promises()
-    ensures unique_ivs { (a b : EndConfig) (events : List Event) → AreSound a b events → AtEachMoment RepeatsNoIv a b events }
-    ensures seals { (a b : EndConfig) (events : List Event) → AreSound a b events → AtEachMoment SealsEachFrame a b events }
-    ensures window { (a b : EndConfig) (events : List Event) → AreSound a b events → KeepsWindow a b events }
-    ensures marks { (a b : EndConfig) (events : List Event) → AreSound a b events → AtEachMoment MarksEachFrame a b events }
-    ensures origin { (a b : EndConfig) (events : List Event) → AreSound a b events → AtEachMoment ComesFromOther a b events }
-    ensures order { (a b : EndConfig) (events : List Event) → AreSound a b events → AtEachMoment ComesInOrder a b events }
-    ensures acceptance { (a b : EndConfig) (events : List Event) → AreSound a b events → AcceptsInTime a b events }
+    ensures { (a b : EndConfig) (events : List Event) → AreSound a b events → KeepsPromises a b events }
 {
-    // Laws that the proofs cite.
+    // Laws that the proof cites.
     reads_by_grammar();
     equal_ivs();
     keys_stay();
