@@ -1,4 +1,7 @@
 pub mod Examples
 pub mod GoodEnds
+pub mod TextOfWorlds
+pub mod Promised
 pub mod Runs
+pub mod TwoEnds
 pub mod Unwritten

@@ -1,51 +1,94 @@
--- Printing line by line.
-use Rattle.std.proofs.Common.{◌≡◌, ℕ, ◌+◌, ◌<◌, List, ◌∷◌, ◌++◌, drop, get_or, length, sym, ◌∙◌, ap, append_assoc}
-use Rattle.std.proofs.lemmas.List.{drop_more}
+-- Lines that are carried out one after another: what was written, and the worlds.
+use Rattle.std.proofs.Common.{◌≡◌, ℕ, ◌+◌, ◌<◌, List, [], ◌∷◌, ◌++◌, take, drop, get_or, length, refl, sym, ◌∙◌, ap, subst, append_assoc, append-nil}
+use Rattle.std.proofs.lemmas.List.{drop_more, take_more, take-append-drop}
 use Rattle.std.specs.Prelude.{Option, Err}
 use Rattle.std.specs.Io.KnownBytes.{Appends}
-use Rattle.std.proofs.KnownBytes.{Appends-trans}
+use Rattle.std.proofs.KnownBytes.{Appends-nil, Appends-trans}
+use Rattle.macsec_commands.specs.declared.event.Event.{Event}
 use Rattle.macsec_link.specs.World.{WorldState}
+use Rattle.macsec_link.specs.Step.{world_after, world_step}
+use Rattle.macsec_link.specs.Sound.{IsSound}
+use Rattle.macsec_link.specs.Beginnings.{StaysSound}
+use Rattle.macsec_lines.specs.declared.lines.Line.{Line}
+use Rattle.macsec_lines.specs.declared.lines.Line.TheVariants as line
 use Rattle.macsec_lines.specs.declared.faults.ScriptFault.{ScriptFault}
 use Rattle.macsec_lines.specs.declared.faults.ScriptFault.TheVariants.{Memory, Write}
 use Rattle.macsec_lines.specs.Scripts.{NumberedLine}
-use Rattle.macsec_script.specs.Printed.{line_step, text_from}
 use Rattle.macsec_print.specs.Printing.{Prints}
+use Rattle.macsec_script.specs.Printed.{line_step, text_from}
+use Rattle.macsec_script.specs.Promised.{event_of, events_of, text_after}
+use Rattle.macsec_script.proofs.TextOfWorlds.{events_with, text_of_worlds, text_with, world_with}
 
--- written so far, with what is still to come, is the whole
-abbrev pub IsOnTheWay : List ℕ → Option (List ℕ) → Option (List ℕ) → WorldState → List NumberedLine → Type 0
-IsOnTheWay whole old mid w lines = (text : List ℕ) × Appends old mid text × (text ++ text_from w lines ≡ whole)
+-- ---- one more line
 
--- the front of the lines that are left
-first_left : (lines : List NumberedLine) (i : ℕ) (entry : NumberedLine) → entry ≡ get_or lines i entry → i < length lines → drop i lines ≡ entry ∷ drop (i + 1) lines
-first_left lines i entry item within = drop_more lines i entry within ∙ ap (λ e. e ∷ drop (i + 1) lines) (sym item)
+-- the law of one more event
+abbrev pub StepIsSound : Type 0
+StepIsSound = (w : WorldState) (events : List Event) (event : Event) → StaysSound w events → IsSound (world_step (world_after w events) event).1 → StaysSound w (events ++ event ∷ [])
 
--- one more line was printed
-pub one_more : (whole : List ℕ) (old mid new : Option (List ℕ)) (w after : WorldState) (lines : List NumberedLine) (i : ℕ) (entry : NumberedLine) →
-    entry ≡ get_or lines i entry → i < length lines → IsOnTheWay whole old mid w (drop i lines) →
-    Appends mid new (line_step w entry.0 entry.1).0 → after ≡ (line_step w entry.0 entry.1).1 → IsOnTheWay whole old new after (drop (i + 1) lines)
-one_more whole old mid new w after lines i entry item within way adds same =
-    let piece = (line_step w entry.0 entry.1).0 in (
-      way.0 ++ piece,
-      Appends-trans old mid new way.0 piece way.1 adds,
-      ap (λ v. (way.0 ++ piece) ++ text_from v (drop (i + 1) lines)) same
-          ∙ append_assoc way.0 piece (text_from (line_step w entry.0 entry.1).1 (drop (i + 1) lines))
-          ∙ sym (ap (λ left. way.0 ++ text_from w left) (first_left lines i entry item within)) ∙ way.2,
-    )
+-- the lines were carried out: their text was written; this is the world after their events; and from a sound world on it
+-- is sound, and was at each moment
+pub record CarriedOut (start : WorldState) (before : List NumberedLine) (old mid : Option (List ℕ)) (w : WorldState) : Type 0 where
+  pub written : Appends old mid (text_from start before)
+  pub world : w ≡ world_after start (events_of before)
+  pub sound : IsSound start → IsSound w
+  pub stays : IsSound start → StaysSound start (events_of before)
 
--- the last line was not printed to its end
-pub given_up : (whole : List ℕ) (old mid new : Option (List ℕ)) (w : WorldState) (lines : List NumberedLine) (i : ℕ) (entry : NumberedLine) →
-    entry ≡ get_or lines i entry → i < length lines → IsOnTheWay whole old mid w (drop i lines) →
-    (f : ScriptFault) → Prints (line_step w entry.0 entry.1).0 mid new (Err f) → Prints whole old new (Err f)
-given_up whole old mid new w lines i entry item within way Memory h =
-    let after = text_from (line_step w entry.0 entry.1).1 (drop (i + 1) lines) in (
-      way.0 ++ h.0,
+pub none_yet : (start : WorldState) (old : Option (List ℕ)) → (IsSound start → StaysSound start []) → CarriedOut start [] old old start
+none_yet start old stays = record { written = Appends-nil old; world = refl; sound = λ sound. sound; stays = stays }
+
+stays_with : StepIsSound → (start : WorldState) (events : List Event) (n : ℕ) (said : Line) → IsSound (line_step (world_after start events) n said).1 →
+    StaysSound start events → StaysSound start (events ++ event_of said)
+stays_with law start events n (line.End e config) sound stays = subst (StaysSound start) (sym (append-nil events)) stays
+stays_with law start events n (line.Event event) sound stays = law start events event stays sound
+stays_with law start events n (line.Counters e) sound stays = subst (StaysSound start) (sym (append-nil events)) stays
+stays_with law start events n (line.Numbers e) sound stays = subst (StaysSound start) (sym (append-nil events)) stays
+
+with_line : StepIsSound → (start : WorldState) (before : List NumberedLine) (entry : NumberedLine) (old mid new : Option (List ℕ)) (w after : WorldState) →
+    Appends mid new (line_step w entry.0 entry.1).0 → after ≡ (line_step w entry.0 entry.1).1 → (IsSound w → IsSound after) →
+    CarriedOut start before old mid w → CarriedOut start (before ++ entry ∷ []) old new after
+with_line law start before entry old mid new w after adds same keeps so_far =
+    let here = world_after start (events_of before) in
+    let after_is : after ≡ (line_step here entry.0 entry.1).1 = same ∙ ap (λ v. (line_step v entry.0 entry.1).1) so_far.world in
+    let adds_here : Appends mid new (text_after start before entry) = subst (λ v. Appends mid new (line_step v entry.0 entry.1).0) so_far.world adds in
+    record {
+      written = subst (Appends old new) (sym (text_with start before entry)) (Appends-trans old mid new (text_from start before) (text_after start before entry) so_far.written adds_here);
+      world = after_is ∙ world_with start before entry;
+      sound = λ sound. keeps (so_far.sound sound);
+      stays = λ sound. subst (StaysSound start) (sym (events_with before entry))
+          (stays_with law start (events_of before) entry.0 entry.1 (subst IsSound after_is (keeps (so_far.sound sound))) (so_far.stays sound));
+    }
+
+-- one more line of those that are taken
+pub one_more : StepIsSound → (start : WorldState) (lines : List NumberedLine) (i : ℕ) (entry : NumberedLine) (old mid new : Option (List ℕ)) (w after : WorldState) →
+    entry ≡ get_or lines i entry → i < length lines → Appends mid new (line_step w entry.0 entry.1).0 → after ≡ (line_step w entry.0 entry.1).1 →
+    (IsSound w → IsSound after) → CarriedOut start (take i lines) old mid w → CarriedOut start (take (i + 1) lines) old new after
+one_more law start lines i entry old mid new w after item within adds same keeps so_far =
+    subst (λ before. CarriedOut start before old new after) (sym (take_more lines i entry within ∙ ap (λ x. take i lines ++ x ∷ []) (sym item)))
+    (with_line law start (take i lines) entry old mid new w after adds same keeps so_far)
+
+-- ---- the last line was not printed to its end
+
+-- a line among the lines
+lines_at : (lines : List NumberedLine) (i : ℕ) (entry : NumberedLine) → entry ≡ get_or lines i entry → i < length lines → lines ≡ take i lines ++ entry ∷ drop (i + 1) lines
+lines_at lines i entry item within =
+    sym (take-append-drop i lines) ∙ ap (λ rest. take i lines ++ rest) (drop_more lines i entry within ∙ ap (λ e. e ∷ drop (i + 1) lines) (sym item))
+
+pub given_up : (start : WorldState) (lines : List NumberedLine) (i : ℕ) (entry : NumberedLine) (old mid new : Option (List ℕ)) (w : WorldState) →
+    entry ≡ get_or lines i entry → i < length lines → CarriedOut start (take i lines) old mid w →
+    (f : ScriptFault) → Prints (line_step w entry.0 entry.1).0 mid new (Err f) → Prints (text_from start lines) old new (Err f)
+given_up start lines i entry old mid new w item within so_far Memory h =
+    let front = text_from start (take i lines) in
+    let after = text_from (world_after start (events_of (take i lines ++ entry ∷ []))) (drop (i + 1) lines) in
+    let piece_is : text_after start (take i lines) entry ≡ h.0 ++ h.1.0 = ap (λ v. (line_step v entry.0 entry.1).0) (sym so_far.world) ∙ h.1.1 in (
+      front ++ h.0,
       (
         h.1.0 ++ after,
-        sym way.2 ∙ ap (λ left. way.0 ++ text_from w left) (first_left lines i entry item within)
-            ∙ ap (λ piece. way.0 ++ (piece ++ after)) h.1.1
-            ∙ ap (λ more. way.0 ++ more) (append_assoc h.0 h.1.0 after) ∙ sym (append_assoc way.0 h.0 (h.1.0 ++ after)),
+        ap (text_from start) (lines_at lines i entry item within)
+            ∙ text_of_worlds start (take i lines) entry (drop (i + 1) lines)
+            ∙ ap (λ piece. front ++ (piece ++ after)) piece_is
+            ∙ ap (λ more. front ++ more) (append_assoc h.0 h.1.0 after) ∙ sym (append_assoc front h.0 (h.1.0 ++ after)),
       ),
-      Appends-trans old mid new way.0 h.0 way.1 h.2,
+      Appends-trans old mid new front h.0 so_far.written h.2,
     )
-given_up whole old mid new w lines i entry item within way Write h = tt
-given_up whole old mid new w lines i entry item within way other h = h
+given_up start lines i entry old mid new w item within so_far Write h = tt
+given_up start lines i entry old mid new w item within so_far other h = h

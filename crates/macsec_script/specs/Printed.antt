@@ -61,6 +61,7 @@ two_ends [] = None
 two_ends (first ∷ []) = None
 two_ends (first ∷ second ∷ said) = two_ends_of (a_config first.1) (b_config second.1) said
 
+-- the text of a run; without two ends there are no lines, if the script has no fault (`laws::script_has_ends`)
 abbrev pub text_of_run : Option TwoEnds → List ℕ
 text_of_run None = []
 text_of_run (Some run) = text_from (new_world run.0 run.1) run.2

@@ -1,11 +1,24 @@
 //! Laws of scripts, of their definitions alone: each is the contract of a function with an empty body.
 
 ghost use Rattle.std.specs.Prelude.{ℕ, List};
+ghost use Rattle.macsec_link.specs.World.{WorldState};
 ghost use Rattle.macsec_lines.specs.declared.script.Place.{Place};
 ghost use Rattle.macsec_lines.specs.Scripts.{NumberedLine};
 ghost use Rattle.macsec_script.specs.Laws.{ParsedFit};
+ghost use Rattle.macsec_script.specs.Promised.{HasNoneOrEnds, IsTextOfWorlds};
 
 /// Of each configuration in the lines of a text without a fault, an endpoint can be created.
 pub fn parsed_lines_fit()
     ensures { (first : Place) (text : List ℕ) (lines : List NumberedLine) → ParsedFit first text lines }
+{}
+
+/// A script without a fault has no lines, or its first two configure the ends.
+pub fn script_has_ends()
+    ensures { (text : List ℕ) (lines : List NumberedLine) → HasNoneOrEnds text lines }
+{}
+
+/// Each line of a script is printed of the world after the events of the lines before it: so the text is that of the
+/// worlds of one list of events, of which `run_script` says that the promises hold.
+pub fn prints_of_worlds()
+    ensures { (w : WorldState) (before : List NumberedLine) (line : NumberedLine) (more : List NumberedLine) → IsTextOfWorlds w before line more }
 {}

@@ -1,14 +1,18 @@
 //! A script from a reader, and what it prints to a writer.
 
 ghost use Rattle.std.specs.Prelude.{◌≡◌, ◌≤◌, length, IfSome, IfErr, OnOk, MatchResult, None, option_copied, option_map};
+ghost use Rattle.macsec_link.specs.Sound.{IsSound};
+ghost use Rattle.macsec_link.specs.Beginnings.{StaysSound};
 ghost use Rattle.macsec_link.specs.Answers.{make_fault};
 ghost use Rattle.macsec_lines.specs.declared.lines.Line.TheVariants as line;
 ghost use Rattle.macsec_lines.specs.Limits.{max_script_len};
 ghost use Rattle.macsec_script.specs.Printed.{a_config, b_config, two_ends, frame_made, line_step, text_from, text_of};
+ghost use Rattle.macsec_script.specs.Promised.{ArePromised, IsPromised, events_of};
 ghost use Rattle.macsec_script.specs.Runs.{RunGives, LeavesText, IsInputFault};
 ghost use Rattle.macsec_print.specs.Printing.{Prints};
 
 use macsec_lines::{Line, MAX_SCRIPT_LEN, ScriptFault, parse_script};
+use macsec_link::laws::{promises, worlds_are_sound};
 use macsec_link::{End, EndConfig, Event, Outcome, World, WorldFault};
 use macsec_print::{Label, print_counters, print_numbers, print_outcome, write_fault};
 use std::alloc::Global;
@@ -23,6 +27,9 @@ pub fn run_script<R: Read, W: Write>(
 ) -> Result<(), ScriptFault>
     ensures run { IfSome (R.remaining reader.old) (λ script. RunGives script (W.contents writer.old) (W.contents writer.new) result) }
     ensures unwritten { IfErr result (λ fault. LeavesText (W.contents writer.old) (W.contents writer.new) fault) }
+    // The four promises hold of the run of the script's two ends over the events of its lines, whose worlds the text
+    // shows (`laws::prints_of_worlds`).
+    ensures promised { OnOk result (IfSome (R.remaining reader.old) IsPromised) }
 {
     let text = read_text(alloc, reader)?;
     let lines = parse_script(alloc, text.as_slice())?;
@@ -61,8 +68,10 @@ fn print_script<W: Write>(
     lines: &[(u32, Line)],
 ) -> Result<(), ScriptFault>
     requires { IfSome (two_ends lines.now) (λ run. make_fault run.0 run.1 ≡ None) }
-    ensures { Prints (text_of lines.now) (W.contents writer.old) (W.contents writer.new) result }
+    ensures text { Prints (text_of lines.now) (W.contents writer.old) (W.contents writer.new) result }
+    ensures promised { OnOk result (ArePromised lines.now) }
 {
+    promises();
     let Some((a, b, said)) = two_ends(lines) else {
         return Ok(());
     };
@@ -106,15 +115,17 @@ fn config_of_b(line: &Line) -> Option<EndConfig>
     }
 }
 
-/// Prints what the lines say, one after another.
+/// Prints what the lines say, one after another, and takes their steps.
 fn print_lines<W: Write>(
     alloc: Global,
     world: &mut World,
     writer: &mut W,
     lines: &[(u32, Line)],
 ) -> Result<(), ScriptFault>
-    ensures { Prints (text_from world.old lines.now) (W.contents writer.old) (W.contents writer.new) result }
+    ensures text { Prints (text_from world.old lines.now) (W.contents writer.old) (W.contents writer.new) result }
+    ensures sound { OnOk result (IsSound world.old → StaysSound world.old (events_of lines.now)) }
 {
+    worlds_are_sound();
     let mut room = Vec::new(alloc);
     for (n, line) in lines {
         print_line(&mut room, world, writer, *n, line)?;
@@ -132,6 +143,7 @@ fn print_line<W: Write>(
 ) -> Result<(), ScriptFault>
     ensures text { Prints (line_step world.old n line.now).0 (W.contents writer.old) (W.contents writer.new) result }
     ensures world { OnOk result (world.new ≡ (line_step world.old n line.now).1) }
+    ensures sound { IsSound world.old → IsSound world.new }
 {
     room.clear();
     if show(world, room, n, line).is_err() {
@@ -144,6 +156,7 @@ fn print_line<W: Write>(
 fn show<W: Write>(world: &mut World, writer: &mut W, n: u32, line: &Line) -> Result<(), ScriptFault>
     ensures text { Prints (line_step world.old n line.now).0 (W.contents writer.old) (W.contents writer.new) result }
     ensures world { OnOk result (world.new ≡ (line_step world.old n line.now).1) }
+    ensures sound { IsSound world.old → IsSound world.new }
 {
     match line {
         Line::End(_, _) => Ok(()),
@@ -162,6 +175,7 @@ fn print_event<W: Write>(
 ) -> Result<(), ScriptFault>
     ensures text { Prints (line_step world.old n (line.Event event.now)).0 (W.contents writer.old) (W.contents writer.new) result }
     ensures world { OnOk result (world.new ≡ (line_step world.old n (line.Event event.now)).1) }
+    ensures sound { IsSound world.new }
 {
     let outcome = world.step(event);
     if let Err(WorldFault::Memory) = outcome {

@@ -1,14 +1,33 @@
-use Rattle.std.proofs.Common.{arith}
+use Rattle.std.proofs.Common.{List, arith, subst}
+use Rattle.std.proofs.lemmas.List.{take_all}
 use Rattle.std.proofs.lemmas.Result.{err_from_is_err_and}
-use Rattle.macsec_script.proofs.Runs.{one_more, given_up}
+use Rattle.std.specs.Io.KnownBytes.{Appends}
+use Rattle.macsec_link.specs.Beginnings.{StaysSound}
+use Rattle.macsec_lines.specs.Scripts.{NumberedLine}
+use Rattle.macsec_script.specs.Printed.{text_from}
+use Rattle.macsec_script.specs.Promised.{events_of}
+use Rattle.macsec_script.proofs.Runs.{given_up, none_yet, one_more}
 use Rattle.macsec_script.proofs.running.print_lines.Goals as goal
+
+pub loop-n-init : goal.loop-n-init
+loop-n-init g c = none_yet c.args.world.now _ (c.worlds_are_sound.ensures.start c.args.world.now)
 
 pub loop-n-preserved : goal.loop-n-preserved
 loop-n-preserved g c =
-    one_more _ _ _ _ _ _ c.args.lines.now c.loop-n.n-index _ c.loop-n-item.is (omega arith) c.loop-n.invariant
-    c.in_ok-print_line.ensures.text c.in_ok-print_line.ensures.world
+    one_more c.worlds_are_sound.ensures.step c.args.world.now c.args.lines.now c.loop-n.n-index _ _ _ _ _ _ c.loop-n-item.is (omega arith)
+    c.in_ok-print_line.ensures.text c.in_ok-print_line.ensures.world c.in_ok-print_line.ensures.sound c.loop-n.invariant
 
-pub returns-in_err-print_line : goal.returns-in_err-print_line
-returns-in_err-print_line g c =
+pub returns-in_err-print_line-clause-text : goal.returns-in_err-print_line-clause-text
+returns-in_err-print_line-clause-text g c =
     let p = err_from_is_err_and c.from_residual.result c.from_residual.ensures.1 in
-    rw (p.1, p.2) (given_up _ _ _ _ _ c.args.lines.now c.loop-n.n-index _ c.loop-n-item.is (omega arith) c.loop-n.invariant _ c.in_err-print_line.ensures.text)
+    rw (p.1, p.2) (given_up c.args.world.now c.args.lines.now c.loop-n.n-index _ _ _ _ _ c.loop-n-item.is (omega arith) c.loop-n.invariant _ c.in_err-print_line.ensures.text)
+
+pub returns-clause-text : goal.returns-clause-text
+returns-clause-text g c =
+    subst (λ (lines : List NumberedLine). Appends (g.W.Write.contents c.args.writer.now) (g.W.Write.contents c.loop-n.writer) (text_from c.args.world.now lines))
+    (take_all c.loop-n.n-index c.args.lines.now c.loop-n-test.false) c.loop-n.invariant.written
+
+pub returns-clause-sound : goal.returns-clause-sound
+returns-clause-sound g c = λ sound.
+    subst (λ (lines : List NumberedLine). StaysSound c.args.world.now (events_of lines)) (take_all c.loop-n.n-index c.args.lines.now c.loop-n-test.false)
+    (c.loop-n.invariant.stays sound)

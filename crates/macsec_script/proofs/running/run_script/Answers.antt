@@ -1,6 +1,7 @@
 use Rattle.std.proofs.KnownBytes.{Keeps-refl}
 use Rattle.std.proofs.lemmas.Result.{err_from_is_err_and}
 use Rattle.macsec_script.proofs.GoodEnds.{script_ends_good}
+use Rattle.macsec_script.proofs.Promised.{script_promised}
 use Rattle.macsec_script.proofs.Unwritten.{at_fault_read, after_running, left_alone, only_written}
 use Rattle.macsec_script.proofs.running.run_script.Goals as goal
 
@@ -18,10 +19,15 @@ returns-in_err-lines-clause-unwritten g c =
 pub returns-clause-run : goal.returns-clause-run
 returns-clause-run g c =
     after_running _ c.in_ok-text.text.items _ c.in_ok-lines.lines.items _ _ _ c.in_ok-text.ensures c.as_slice.ensures.value
-    c.in_ok-lines.ensures c.as_slice-2.ensures.value _ c.print_script.ensures
+    c.in_ok-lines.ensures c.as_slice-2.ensures.value _ c.print_script.ensures.text
 
 pub returns-clause-unwritten : goal.returns-clause-unwritten
-returns-clause-unwritten g c = only_written _ _ _ c.print_script.result c.print_script.ensures
+returns-clause-unwritten g c = only_written _ _ _ c.print_script.result c.print_script.ensures.text
+
+pub returns-clause-promised : goal.returns-clause-promised
+returns-clause-promised g c =
+    script_promised _ c.in_ok-text.text.items _ c.in_ok-lines.lines.items _ c.in_ok-text.ensures c.as_slice.ensures.value
+    c.in_ok-lines.ensures c.as_slice-2.ensures.value _ c.print_script.ensures.promised
 
 pub print_script-requires : goal.print_script-requires
 print_script-requires g c = script_ends_good c.as_slice.result.now c.in_ok-lines.lines.items _ c.in_ok-lines.ensures c.as_slice-2.ensures.value

@@ -1,0 +1,6 @@
+use Rattle.macsec_script.proofs.Promised.{lines_promised}
+use Rattle.macsec_script.proofs.running.print_script.Goals as goal
+
+pub returns-clause-promised : goal.returns-clause-promised
+returns-clause-promised g c =
+    lines_promised c.promises.ensures c.args.lines.now _ _ _ _ c.in-Some.ensures c.in-Ok.ensures.made.1 c.in-Ok.ensures.sound c.print_lines.result c.print_lines.ensures.sound

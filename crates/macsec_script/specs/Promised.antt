@@ -1,0 +1,45 @@
+-- The four promises on the run of a script: of its two ends, over the events of its lines.
+use Rattle.std.specs.Prelude.{◌≡◌, ◌⊎◌, ℕ, List, [], ◌∷◌, ◌++◌, IfOk, IfSome, IsSome, Ok}
+use Rattle.macsec_commands.specs.declared.event.Event.{Event}
+use Rattle.macsec_link.specs.World.{WorldState}
+use Rattle.macsec_link.specs.Step.{world_after}
+use Rattle.macsec_link.specs.Promises.{KeepsPromises}
+use Rattle.macsec_lines.specs.declared.lines.Line.{Line}
+use Rattle.macsec_lines.specs.declared.lines.Line.TheVariants as line
+use Rattle.macsec_lines.specs.Scripts.{NumberedLine, script_of}
+use Rattle.macsec_script.specs.Printed.{line_step, text_from, two_ends}
+
+-- the event of a line, if it is one
+abbrev pub event_of : Line → List Event
+event_of (line.Event event) = event ∷ []
+event_of other = []
+
+-- the events of the lines, in their order
+abbrev pub events_of : List NumberedLine → List Event
+events_of [] = []
+events_of ((n, said) ∷ more) = event_of said ++ events_of more
+
+-- the promises hold of the run of the lines' two ends over the events of all lines after theirs
+abbrev pub ArePromised : List NumberedLine → Type 0
+ArePromised lines = IfSome (two_ends lines) (λ run. KeepsPromises run.0 run.1 (events_of run.2))
+
+-- so they do of the lines of a script without a fault
+abbrev pub IsPromised : List ℕ → Type 0
+IsPromised script = IfOk (script_of script) ArePromised
+
+-- ---- what the text has to do with those events
+
+-- what a line prints after the lines before it: it is printed of the world after their events
+abbrev pub text_after : WorldState → List NumberedLine → NumberedLine → List ℕ
+text_after w before said = (line_step (world_after w (events_of before)) said.0 said.1).0
+
+-- the text of lines is that of the lines before one of them, then what this one prints, then the text of the lines
+-- after it, from the world after all those events
+abbrev pub IsTextOfWorlds : WorldState → List NumberedLine → NumberedLine → List NumberedLine → Type 0
+IsTextOfWorlds w before said more =
+    text_from w (before ++ said ∷ more) ≡
+    text_from w before ++ (text_after w before said ++ text_from (world_after w (events_of (before ++ said ∷ []))) more)
+
+-- a script without a fault has no lines, or its first two configure the ends
+abbrev pub HasNoneOrEnds : List ℕ → List NumberedLine → Type 0
+HasNoneOrEnds text lines = script_of text ≡ Ok lines → (lines ≡ []) ⊎ IsSome (two_ends lines)
