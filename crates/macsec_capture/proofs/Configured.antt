@@ -1,7 +1,6 @@
 -- A run from its configuration on.
 use Rattle.std.proofs.Common.{◌≡◌, ℕ, List, [], ◌∷◌, refl, sym, ap, subst, ◌∙◌}
 use Rattle.std.specs.Prelude.{true, not, is_some, Option, Some, None, Result, Ok, Err, IfSome, option_map}
-use Rattle.std.proofs.KnownBytes.{Appends-nil, Keeps-refl}
 use Rattle.macsec_commands.specs.declared.config.EndConfig.{EndConfig}
 use Rattle.macsec_commands.specs.declared.fault.NewFault.{NewFault}
 use Rattle.macsec_commands.specs.Configs.{config_fault}
@@ -18,13 +17,8 @@ use Rattle.macsec_capture.specs.declared.Direction.{Direction}
 use Rattle.macsec_capture.specs.declared.fault.CaptureFault.{CaptureFault}
 use Rattle.macsec_capture.specs.declared.fault.CaptureFault.TheVariants.{Script}
 use Rattle.macsec_capture.specs.Captured.{captured, captured_at, captured_by, one_end}
-use Rattle.macsec_capture.specs.Runs.{CaptureGives, Grows, LeavesBoth, ReadsConfig, Stays, Written}
-
-Stays-same : (w : Written) → Stays w w
-Stays-same w = record { output = Keeps-refl w.output; text = Keeps-refl w.text }
-
-Grows-nothing : (w : Written) → Grows w w [] []
-Grows-nothing w = record { output = Appends-nil w.output; text = Appends-nil w.text }
+use Rattle.macsec_capture.specs.Runs.{CaptureGives, LeavesBoth, ReadsConfig, Stays, Written}
+use Rattle.macsec_capture.proofs.Grown.{Stays-same}
 
 -- ---- an endpoint can be created
 

@@ -1,5 +1,10 @@
 pub mod Carried
 pub mod Configured
+pub mod Ended
+pub mod Ends
+pub mod Formats
+pub mod Grown
 pub mod Lengths
+pub mod Stops
 pub mod Taken
 pub mod Whole

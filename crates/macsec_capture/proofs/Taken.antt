@@ -1,7 +1,9 @@
 -- Records one after another.
-use Rattle.std.proofs.Common.{◌≡◌, ℕ, ◌+◌, List, [], ◌∷◌, ◌++◌, refl, sym, ap, subst, ◌∙◌, append_assoc, append-nil}
+use Rattle.std.proofs.Common.{◌≡◌, ℕ, ◌+◌, ◌≤◌, List, [], ◌∷◌, ◌++◌, length, take, refl, sym, ap, subst, ◌∙◌, append_assoc, append-nil, arith, length-append}
 use Rattle.std.specs.Prelude.{Option, Some, None, Ok, Err}
-use Rattle.std.proofs.KnownBytes.{Appends-nil, Appends-trans}
+use Rattle.std.proofs.lemmas.List.{take_at}
+use Rattle.std.specs.Io.KnownBytes.{Appends}
+use Rattle.std.proofs.KnownBytes.{Appends-trans}
 use Rattle.macsec_secy.specs.State.{State}
 use Rattle.macsec_pcap.specs.declared.fault.PcapFault.{PcapFault}
 use Rattle.macsec_pcap.specs.declared.fault.PcapFault.TheVariants.{Magic, Version, LinkType, CutHeader, CutRecord, RecordLength, Read, Write, Memory, RecordCount}
@@ -12,67 +14,69 @@ use Rattle.macsec_pcap.specs.Reading.{Ahead, over, failed, holds, untold, Answer
 use Rattle.macsec_capture.specs.declared.Direction.{Direction}
 use Rattle.macsec_capture.specs.declared.fault.CaptureFault.{CaptureFault}
 use Rattle.macsec_capture.specs.declared.fault.CaptureFault.TheVariants.{Script, Pcap}
-use Rattle.macsec_capture.specs.Captured.{Part, record_part, records_part}
-use Rattle.macsec_capture.specs.Runs.{Adds, Grows, IsWriteFault, RunsHeld, RunsRecords, Written}
+use Rattle.macsec_capture.specs.Captured.{Part, and_after, nothing, record_part, records_part}
+use Rattle.macsec_capture.specs.Runs.{Adds, AfterSome, FailsIn, Grows, IsLateFault, RunsHeld, RunsRecords, Written}
+use Rattle.macsec_capture.proofs.Grown.{Grows-more, Grows-nothing}
 
--- what was written, with what is still to come, is the whole
-pub record IsOnTheWay (direction : Direction) (whole : Part) (old now : Written) (s : State) (k : ℕ) (rest : List CaptureRecord) : Type 0 where
-  pub output : List ℕ
-  pub text : List ℕ
-  pub grows : Grows old now output text
-  pub outputs : output ++ (records_part direction s k rest).output ≡ whole.output
-  pub texts : text ++ (records_part direction s k rest).text ≡ whole.text
-  pub state : (records_part direction s k rest).state ≡ whole.state
+-- ---- what records write, with one more behind them
 
--- the same for the records that a reader holds, if they are known
+same_part : (a b : Part) → a.output ≡ b.output → a.text ≡ b.text → a.state ≡ b.state → a ≡ b
+same_part a b o t s =
+    ap (λ (xs : List ℕ). record { output = xs; text = a.text; state = a.state }) o
+    ∙ ap (λ (xs : List ℕ). record { output = b.output; text = xs; state = a.state }) t
+    ∙ ap (λ (v : State). record { output = b.output; text = b.text; state = v }) s
+
+part_more : (direction : Direction) (s : State) (k j : ℕ) (xs : List CaptureRecord) (r : CaptureRecord) → j ≡ k + length xs →
+    records_part direction s k (xs ++ r ∷ []) ≡ and_after (records_part direction s k xs) (λ after. record_part direction after j r)
+part_more direction s k j [] r same =
+    let here : k ≡ j = omega (arith, same) in
+    same_part (records_part direction s k (r ∷ [])) (and_after (nothing s) (λ after. record_part direction after j r))
+    (append-nil (record_part direction s k r).output ∙ ap (λ n. (record_part direction s n r).output) here)
+    (append-nil (record_part direction s k r).text ∙ ap (λ n. (record_part direction s n r).text) here)
+    (ap (λ n. (record_part direction s n r).state) here)
+part_more direction s k j (x ∷ xs) r same =
+    let first = record_part direction s k x in
+    let front = records_part direction first.state (k + 1) xs in
+    let last = record_part direction front.state j r in
+    let more = part_more direction first.state (k + 1) j xs r (omega (arith, same)) in
+    same_part (records_part direction s k ((x ∷ xs) ++ r ∷ [])) (and_after (records_part direction s k (x ∷ xs)) (λ after. record_part direction after j r))
+    (ap (λ (p : Part). first.output ++ p.output) more ∙ sym (append_assoc first.output front.output last.output))
+    (ap (λ (p : Part). first.text ++ p.text) more ∙ sym (append_assoc first.text front.text last.text))
+    (ap (λ (p : Part). p.state) more)
+
+-- ---- the records that were taken
+
+-- what was written is what the first k records write, and the reader holds the others
 pub record IsHeld (direction : Direction) (first : State) (capture : Capture) (left : Ahead) (old now : Written) (s : State) (k : ℕ) : Type 0 where
+  pub front : List CaptureRecord
   pub rest : List CaptureRecord
+  pub all : capture.records ≡ front ++ rest
+  pub count : length front ≡ k
   pub ahead : left ≡ holds (record { records = rest; fault = capture.fault })
-  pub way : IsOnTheWay direction (records_part direction first 0 capture.records) old now s k rest
+  pub adds : Adds (records_part direction first 0 front) old now s
 
+-- the same, if it is known what lies ahead of the reader
 abbrev pub AreTaken : Direction → State → Ahead → Ahead → Written → Written → State → ℕ → Type 0
 AreTaken direction first (holds capture) ahead old now s k = IsHeld direction first capture ahead old now s k
 AreTaken direction first untold ahead old now s k = Unit {0}
 AreTaken direction first over ahead old now s k = Unit {0}
 AreTaken direction first (failed fault) ahead old now s k = Unit {0}
 
-Grows-nothing : (w : Written) → Grows w w [] []
-Grows-nothing w = record { output = Appends-nil w.output; text = Appends-nil w.text }
-
-Grows-more : (a b c : Written) (xs ys us vs : List ℕ) → Grows a b xs us → Grows b c ys vs → Grows a c (xs ++ ys) (us ++ vs)
-Grows-more a b c xs ys us vs first second = record {
-  output = Appends-trans a.output b.output c.output xs ys first.output second.output;
-  text = Appends-trans a.text b.text c.text us vs first.text second.text;
-}
-
 -- no record was taken yet
 pub none_taken : (direction : Direction) (s : State) (ahead : Ahead) (w : Written) → AreTaken direction s ahead ahead w w s 0
 none_taken direction s (holds capture) w = record {
+  front = [];
   rest = capture.records;
+  all = refl;
+  count = refl;
   ahead = refl;
-  way = record { output = []; text = []; grows = Grows-nothing w; outputs = refl; texts = refl; state = refl };
+  adds = record { grows = Grows-nothing w; state = refl };
 }
 none_taken direction s untold w = tt
 none_taken direction s over w = tt
 none_taken direction s (failed fault) w = tt
 
 -- ---- one more record
-
-one_more : (direction : Direction) (whole : Part) (old now new : Written) (s after : State) (k : ℕ) (r : CaptureRecord) (rest : List CaptureRecord) →
-    IsOnTheWay direction whole old now s k (r ∷ rest) → Adds (record_part direction s k r) now new after →
-    IsOnTheWay direction whole old new after (k + 1) rest
-one_more direction whole old now new s after k r rest way adds =
-    let part = record_part direction s k r in
-    let from : State → Part = λ v. records_part direction v (k + 1) rest in record {
-      output = way.output ++ part.output;
-      text = way.text ++ part.text;
-      grows = Grows-more old now new way.output part.output way.text part.text way.grows adds.grows;
-      outputs = ap (λ v. (way.output ++ part.output) ++ (from v).output) adds.state
-          ∙ append_assoc way.output part.output (from part.state).output ∙ way.outputs;
-      texts = ap (λ v. (way.text ++ part.text) ++ (from v).text) adds.state
-          ∙ append_assoc way.text part.text (from part.state).text ∙ way.texts;
-      state = ap (λ v. (from v).state) adds.state ∙ way.state;
-    }
 
 -- what the reader returned was the first of the records that are left
 first_held : (rest : List CaptureRecord) (end : Option PcapFault) (r : CaptureRecord) → Ok (Some r) ≡ first_of (record { records = rest; fault = end }) →
@@ -81,18 +85,50 @@ first_held [] None r same = cc
 first_held [] (Some fault) r same = cc
 first_held (first ∷ more) end r same = let is : first ≡ r = cc in (more, ap (λ x. x ∷ more) is)
 
+-- the records before the one that was returned, it, and those after it
+record Next (direction : Direction) (first : State) (capture : Capture) (left : Ahead) (old now : Written) (s : State) (k : ℕ) (r : CaptureRecord) : Type 0 where
+  front : List CaptureRecord
+  more : List CaptureRecord
+  all : capture.records ≡ (front ++ r ∷ []) ++ more
+  count : length front ≡ k
+  ahead : left ≡ holds (record { records = r ∷ more; fault = capture.fault })
+  adds : Adds (records_part direction first 0 front) old now s
+
+next_held : (direction : Direction) (first : State) (capture : Capture) (ahead : Ahead) (old now : Written) (s : State) (k : ℕ) (r : CaptureRecord) →
+    IsHeld direction first capture ahead old now s k → Answers ahead (Ok (Some r)) → Next direction first capture ahead old now s k r
+next_held direction first capture ahead old now s k r held answer =
+    let answered : Ok (Some r) ≡ first_of (record { records = held.rest; fault = capture.fault }) = subst (λ a. Answers a (Ok (Some r))) held.ahead answer in
+    let found = first_held held.rest capture.fault r answered in record {
+      front = held.front;
+      more = found.0;
+      all = held.all ∙ ap (λ rs. held.front ++ rs) found.1 ∙ sym (append_assoc held.front (r ∷ []) found.0);
+      count = held.count;
+      ahead = held.ahead ∙ ap (λ rs. holds (record { records = rs; fault = capture.fault })) found.1;
+      adds = held.adds;
+    }
+
+-- the number of the record is that of those before it
+with_next : (direction : Direction) (first : State) (front : List CaptureRecord) (k : ℕ) (r : CaptureRecord) → length front ≡ k →
+    records_part direction first 0 (front ++ r ∷ []) ≡ and_after (records_part direction first 0 front) (λ after. record_part direction after k r)
+with_next direction first front k r count = part_more direction first 0 k front r (omega (arith, count))
+
 held_more : (direction : Direction) (first : State) (capture : Capture) (ahead next : Ahead) (old now new : Written) (s after : State) (k : ℕ) (r : CaptureRecord) →
     IsHeld direction first capture ahead old now s k → Answers ahead (Ok (Some r)) → IsAhead (ahead_after ahead (Ok (Some r))) next →
     Adds (record_part direction s k r) now new after → IsHeld direction first capture next old new after (k + 1)
 held_more direction first capture ahead next old now new s after k r held answer left adds =
-    let answered : Ok (Some r) ≡ first_of (record { records = held.rest; fault = capture.fault }) = subst (λ a. Answers a (Ok (Some r))) held.ahead answer in
-    let found = first_held held.rest capture.fault r answered in
-    let stands : ahead ≡ holds (record { records = r ∷ found.0; fault = capture.fault }) =
-    held.ahead ∙ ap (λ rs. holds (record { records = rs; fault = capture.fault })) found.1 in record {
-      rest = found.0;
-      ahead = subst (λ a. IsAhead (ahead_after a (Ok (Some r))) next) stands left;
-      way = one_more direction (records_part direction first 0 capture.records) old now new s after k r found.0
-          (subst (IsOnTheWay direction (records_part direction first 0 capture.records) old now s k) found.1 held.way) adds;
+    let at = next_held direction first capture ahead old now s k r held answer in
+    let part = records_part direction first 0 at.front in
+    let piece : Adds (record_part direction part.state k r) now new after = subst (λ v. Adds (record_part direction v k r) now new after) at.adds.state adds in
+    let last = record_part direction part.state k r in record {
+      front = at.front ++ r ∷ [];
+      rest = at.more;
+      all = at.all;
+      count = length-append at.front (r ∷ []) ∙ ap (λ n. n + 1) at.count;
+      ahead = subst (λ a. IsAhead (ahead_after a (Ok (Some r))) next) at.ahead left;
+      adds = subst (λ (p : Part). Adds p old new after) (sym (with_next direction first at.front k r at.count)) (record {
+        grows = Grows-more old now new part.output last.output part.text last.text at.adds.grows piece.grows;
+        state = piece.state;
+      });
     }
 
 pub taken_more : (direction : Direction) (first : State) (begins ahead next : Ahead) (old now new : Written) (s after : State) (k : ℕ) (r : CaptureRecord) →
@@ -122,22 +158,18 @@ over_at_fault [] (Some other) fault same = (refl, cc)
 over_at_fault (first ∷ more) end fault same = cc
 
 -- all records were taken
-whole_at_end : (direction : Direction) (whole : Part) (old now : Written) (s : State) (k : ℕ) (rest : List CaptureRecord) →
-    IsOnTheWay direction whole old now s k rest → rest ≡ [] → Adds whole old now s
-whole_at_end direction whole old now s k rest way none =
-    let last = subst (IsOnTheWay direction whole old now s k) none way in record {
-      grows = subst (λ xs. Grows old now xs whole.text) (sym (append-nil last.output) ∙ last.outputs)
-          (subst (Grows old now last.output) (sym (append-nil last.text) ∙ last.texts) last.grows);
-      state = last.state;
-    }
+whole_at_end : (direction : Direction) (first : State) (capture : Capture) (ahead : Ahead) (old now : Written) (s : State) (k : ℕ) →
+    (held : IsHeld direction first capture ahead old now s k) → held.rest ≡ [] → Adds (records_part direction first 0 capture.records) old now s
+whole_at_end direction first capture ahead old now s k held none =
+    let all : capture.records ≡ held.front = held.all ∙ ap (λ rs. held.front ++ rs) none ∙ append-nil held.front in
+    subst (λ rs. Adds (records_part direction first 0 rs) old now s) (sym all) held.adds
 
 held_end : (direction : Direction) (first : State) (capture : Capture) (ahead : Ahead) (old now : Written) (s : State) (k : ℕ) →
-    IsHeld direction first capture ahead old now s k → Answers ahead (Ok None) →
-    RunsHeld (records_part direction first 0 capture.records) capture.fault old now s (Ok tt)
+    IsHeld direction first capture ahead old now s k → Answers ahead (Ok None) → RunsHeld direction first capture old now s (Ok tt)
 held_end direction first capture ahead old now s k held answer =
     let answered : Ok None ≡ first_of (record { records = held.rest; fault = capture.fault }) = subst (λ a. Answers a (Ok None)) held.ahead answer in
     let ended = over_at_none held.rest capture.fault answered in
-    (ended.1, whole_at_end direction (records_part direction first 0 capture.records) old now s k held.rest held.way ended.0)
+    (ended.1, whole_at_end direction first capture ahead old now s k held ended.0)
 
 pub taken_end : (direction : Direction) (first : State) (begins ahead : Ahead) (old now : Written) (s : State) (k : ℕ) →
     AreTaken direction first begins ahead old now s k → Answers ahead (Ok None) → RunsRecords direction first begins old now s (Ok tt)
@@ -146,57 +178,76 @@ taken_end direction first untold ahead old now s k taken answer = tt
 taken_end direction first over ahead old now s k taken answer = tt
 taken_end direction first (failed fault) ahead old now s k taken answer = tt
 
+-- ---- a stop
+
+-- what holds of the part of some first records
+after_front : (direction : Direction) (s : State) (records front rest : List CaptureRecord) (P : Part → Type 0) → records ≡ front ++ rest →
+    P (records_part direction s 0 front) → AfterSome direction s records P
+after_front direction s records front rest P all met =
+    let long : length records ≡ length front + length rest = ap (λ (rs : List CaptureRecord). length rs) all ∙ length-append front rest in
+    let is : take (length front) records ≡ front = ap (λ rs. take (length front) rs) all ∙ take_at front rest (length front) refl in
+    (length front, omega (arith, long), subst (λ rs. P (records_part direction s 0 rs)) (sym is) met)
+
 -- ---- a fault of the reader
 
-at_fault : (direction : Direction) (whole : Part) (end : Option PcapFault) (old now : Written) (s : State) (k : ℕ) (rest : List CaptureRecord) →
-    IsOnTheWay direction whole old now s k rest → (fault : PcapFault) → Err fault ≡ first_of (record { records = rest; fault = end }) →
-    (end ≡ Some fault) × Adds whole old now s
-at_fault direction whole end old now s k rest way fault answer =
-    let ended = over_at_fault rest end fault answer in (ended.1, whole_at_end direction whole old now s k rest way ended.0)
+at_fault : (direction : Direction) (first : State) (capture : Capture) (ahead : Ahead) (old now : Written) (s : State) (k : ℕ) →
+    (held : IsHeld direction first capture ahead old now s k) → (fault : PcapFault) → Err fault ≡ first_of (record { records = held.rest; fault = capture.fault }) →
+    (capture.fault ≡ Some fault) × Adds (records_part direction first 0 capture.records) old now s
+at_fault direction first capture ahead old now s k held fault answer =
+    let ended = over_at_fault held.rest capture.fault fault answer in (ended.1, whole_at_end direction first capture ahead old now s k held ended.0)
 
-unless_read : (direction : Direction) (whole : Part) (end : Option PcapFault) (old now : Written) (s : State) (k : ℕ) (rest : List CaptureRecord) →
-    IsOnTheWay direction whole old now s k rest → (fault : PcapFault) → UnlessRead (first_of (record { records = rest; fault = end })) (Err fault) →
-    RunsHeld whole end old now s (Err (Pcap fault))
-unless_read direction whole end old now s k rest way Read answer = record {
-  some_octets = way.output;
-  some_lines = way.text;
-  output = ((records_part direction s k rest).output, sym way.outputs);
-  text = ((records_part direction s k rest).text, sym way.texts);
-  grows = way.grows;
-}
-unless_read direction whole end old now s k rest way Write answer = tt
-unless_read direction whole end old now s k rest way Magic answer = at_fault direction whole end old now s k rest way Magic answer
-unless_read direction whole end old now s k rest way Version answer = at_fault direction whole end old now s k rest way Version answer
-unless_read direction whole end old now s k rest way LinkType answer = at_fault direction whole end old now s k rest way LinkType answer
-unless_read direction whole end old now s k rest way CutHeader answer = at_fault direction whole end old now s k rest way CutHeader answer
-unless_read direction whole end old now s k rest way CutRecord answer = at_fault direction whole end old now s k rest way CutRecord answer
-unless_read direction whole end old now s k rest way RecordLength answer = at_fault direction whole end old now s k rest way RecordLength answer
-unless_read direction whole end old now s k rest way Memory answer = at_fault direction whole end old now s k rest way Memory answer
-unless_read direction whole end old now s k rest way RecordCount answer = at_fault direction whole end old now s k rest way RecordCount answer
-
-held_fault : (direction : Direction) (first : State) (capture : Capture) (ahead : Ahead) (old now : Written) (s : State) (k : ℕ) (fault : PcapFault) →
-    IsHeld direction first capture ahead old now s k → Answers ahead (Err fault) →
-    RunsHeld (records_part direction first 0 capture.records) capture.fault old now s (Err (Pcap fault))
-held_fault direction first capture ahead old now s k fault held answer =
-    unless_read direction (records_part direction first 0 capture.records) capture.fault old now s k held.rest held.way fault
-    (subst (λ a. Answers a (Err fault)) held.ahead answer)
+unless_read : (direction : Direction) (first : State) (capture : Capture) (ahead : Ahead) (old now : Written) (s : State) (k : ℕ) →
+    (held : IsHeld direction first capture ahead old now s k) → (fault : PcapFault) →
+    UnlessRead (first_of (record { records = held.rest; fault = capture.fault })) (Err fault) → RunsHeld direction first capture old now s (Err (Pcap fault))
+unless_read direction first capture ahead old now s k held Read answer =
+    after_front direction first capture.records held.front held.rest (λ part. Grows old now part.output part.text) held.all held.adds.grows
+unless_read direction first capture ahead old now s k held Write answer =
+    after_front direction first capture.records held.front held.rest (λ part. Appends old.text now.text part.text) held.all held.adds.grows.text
+unless_read direction first capture ahead old now s k held Magic answer = at_fault direction first capture ahead old now s k held Magic answer
+unless_read direction first capture ahead old now s k held Version answer = at_fault direction first capture ahead old now s k held Version answer
+unless_read direction first capture ahead old now s k held LinkType answer = at_fault direction first capture ahead old now s k held LinkType answer
+unless_read direction first capture ahead old now s k held CutHeader answer = at_fault direction first capture ahead old now s k held CutHeader answer
+unless_read direction first capture ahead old now s k held CutRecord answer = at_fault direction first capture ahead old now s k held CutRecord answer
+unless_read direction first capture ahead old now s k held RecordLength answer = at_fault direction first capture ahead old now s k held RecordLength answer
+unless_read direction first capture ahead old now s k held Memory answer = at_fault direction first capture ahead old now s k held Memory answer
+unless_read direction first capture ahead old now s k held RecordCount answer = at_fault direction first capture ahead old now s k held RecordCount answer
 
 pub taken_fault : (direction : Direction) (first : State) (begins ahead : Ahead) (old now : Written) (s : State) (k : ℕ) (fault : PcapFault) →
     AreTaken direction first begins ahead old now s k → Answers ahead (Err fault) → RunsRecords direction first begins old now s (Err (Pcap fault))
-taken_fault direction first (holds capture) ahead old now s k fault taken answer = held_fault direction first capture ahead old now s k fault taken answer
+taken_fault direction first (holds capture) ahead old now s k fault taken answer =
+    unless_read direction first capture ahead old now s k taken fault (subst (λ a. Answers a (Err fault)) taken.ahead answer)
 taken_fault direction first untold ahead old now s k fault taken answer = tt
 taken_fault direction first over ahead old now s k fault taken answer = tt
 taken_fault direction first (failed other) ahead old now s k fault taken answer = tt
 
 -- ---- a writer that failed
 
-held_write : (part : Part) (end : Option PcapFault) (old now : Written) (s : State) (fault : CaptureFault) → IsWriteFault fault → RunsHeld part end old now s (Err fault)
-held_write part end old now s (Script fault) is = is
-held_write part end old now s (Pcap fault) is = subst (λ f. RunsHeld part end old now s (Err (Pcap f))) (sym is) tt
+held_write : (direction : Direction) (first : State) (capture : Capture) (ahead : Ahead) (old now new : Written) (s after : State) (k : ℕ) (r : CaptureRecord) (fault : CaptureFault) →
+    IsHeld direction first capture ahead old now s k → Answers ahead (Ok (Some r)) → FailsIn (record_part direction s k r) now new fault →
+    RunsHeld direction first capture old new after (Err fault)
+held_write direction first capture ahead old now new s after k r (Script fault) held answer fails =
+    (fails.0, after_front direction first capture.records held.front held.rest (λ part. Appends old.output new.output part.output) held.all
+      (subst (λ o. Appends old.output o (records_part direction first 0 held.front).output) (sym fails.1) held.adds.grows.output))
+held_write direction first capture ahead old now new s after k r (Pcap fault) held answer fails =
+    let at = next_held direction first capture ahead old now s k r held answer in
+    let part = records_part direction first 0 at.front in
+    let piece : Appends now.text new.text (record_part direction part.state k r).text =
+    subst (λ v. Appends now.text new.text (record_part direction v k r).text) at.adds.state fails.1 in
+    let lines : Appends old.text new.text (records_part direction first 0 (at.front ++ r ∷ [])).text =
+    subst (λ (p : Part). Appends old.text new.text p.text) (sym (with_next direction first at.front k r at.count))
+    (Appends-trans old.text now.text new.text part.text (record_part direction part.state k r).text at.adds.grows.text piece) in
+    subst (λ f. RunsHeld direction first capture old new after (Err (Pcap f))) (sym fails.0)
+    (after_front direction first capture.records (at.front ++ r ∷ []) at.more (λ p. Appends old.text new.text p.text) at.all lines)
 
-pub taken_write : (direction : Direction) (first : State) (begins : Ahead) (old now : Written) (s : State) (fault : CaptureFault) →
-    IsWriteFault fault → RunsRecords direction first begins old now s (Err fault)
-taken_write direction first (holds capture) old now s fault is = held_write (records_part direction first 0 capture.records) capture.fault old now s fault is
-taken_write direction first untold old now s fault is = tt
-taken_write direction first over old now s fault is = tt
-taken_write direction first (failed other) old now s fault is = tt
+pub taken_write : (direction : Direction) (first : State) (begins ahead : Ahead) (old now new : Written) (s after : State) (k : ℕ) (r : CaptureRecord) (fault : CaptureFault) →
+    AreTaken direction first begins ahead old now s k → Answers ahead (Ok (Some r)) → FailsIn (record_part direction s k r) now new fault →
+    RunsRecords direction first begins old new after (Err fault)
+taken_write direction first (holds capture) ahead old now new s after k r fault taken answer fails =
+    held_write direction first capture ahead old now new s after k r fault taken answer fails
+taken_write direction first untold ahead old now new s after k r fault taken answer fails = tt
+taken_write direction first over ahead old now new s after k r fault taken answer fails = tt
+taken_write direction first (failed other) ahead old now new s after k r fault taken answer fails = tt
+
+pub late : (part : Part) (now new : Written) (fault : CaptureFault) → FailsIn part now new fault → IsLateFault fault
+late part now new (Script fault) fails = fails.0
+late part now new (Pcap fault) fails = tt

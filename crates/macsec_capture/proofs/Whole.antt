@@ -1,8 +1,8 @@
 -- A run over a whole file, from its parts.
-use Rattle.std.proofs.Common.{◌≡◌, ℕ, List, [], ◌++◌, refl, sym, ap, subst, ◌∙◌, append_assoc, append-nil}
+use Rattle.std.proofs.Common.{◌≡◌, ℕ, List, [], ◌++◌, length, map, refl, sym, ap, subst, ◌∙◌, append_assoc, append-nil, arith}
 use Rattle.std.specs.Prelude.{Option, Some, None, Result, Ok, Err, IfErr, IfSome, option_map}
-use Rattle.std.specs.Io.KnownBytes.{Appends}
-use Rattle.std.proofs.KnownBytes.{Appends-nil, Appends-trans}
+use Rattle.std.specs.Io.KnownBytes.{Appends, Keeps}
+use Rattle.std.proofs.KnownBytes.{Appends-kept, Appends-nil, Appends-trans, Keeps-refl}
 use Rattle.macsec_commands.specs.declared.config.EndConfig.{EndConfig}
 use Rattle.macsec_secy.specs.State.{State, start}
 use Rattle.macsec_lines.specs.Scripts.{NumberedLine}
@@ -10,134 +10,147 @@ use Rattle.macsec_lines.specs.declared.faults.ScriptFault.{ScriptFault}
 use Rattle.macsec_lines.specs.declared.faults.ScriptFault.TheVariants as script
 use Rattle.macsec_print.specs.declared.counters.Label.TheVariants.{End}
 use Rattle.macsec_print.specs.Counters.{counters_text}
-use Rattle.macsec_print.specs.Printing.{Begins}
 use Rattle.macsec_pcap.specs.declared.fault.PcapFault.{PcapFault}
 use Rattle.macsec_pcap.specs.declared.fault.PcapFault.TheVariants.{Magic, Version, LinkType, CutHeader, CutRecord, RecordLength, Read, Write, Memory, RecordCount}
-use Rattle.macsec_pcap.specs.Captures.{CaptureFile, file_of}
 use Rattle.macsec_pcap.specs.declared.form.Resolution.{Resolution}
+use Rattle.macsec_pcap.specs.Captures.{CaptureFile, file_of}
 use Rattle.macsec_pcap.specs.Reading.{Opens, Reading, opened}
 use Rattle.macsec_pcap.specs.Written.{header_octets}
 use Rattle.macsec_capture.specs.declared.Direction.{Direction}
 use Rattle.macsec_capture.specs.declared.fault.CaptureFault.{CaptureFault}
 use Rattle.macsec_capture.specs.declared.fault.CaptureFault.TheVariants.{Script, Pcap}
-use Rattle.macsec_capture.specs.Captured.{Captured, Part, captured_after, captured_at, captured_file, commands_part, last_lines, nothing, records_part}
-use Rattle.macsec_capture.specs.Runs.{Adds, CaptureGives, Cuts, Grows, IsConfigured, IsLateFault, RunsHeld, RunsRecords, Written}
+use Rattle.macsec_capture.specs.Captured.{Captured, Part, Stop, captured_after, captured_at, commands_part, last_lines, nothing, records_part, stop_behind, stops_of}
+use Rattle.macsec_capture.specs.Runs.{Adds, AfterSome, AtFirst, AtSome, CaptureGives, Grows, IsLateFault, RunsHeld, RunsRecords, TakesFile, Written, behind_header, flushed_end, known}
+use Rattle.macsec_capture.proofs.Formats.{IsNotMemory, file_format}
+use Rattle.macsec_capture.proofs.Grown.{Grows-kept, Grows-more, Grows-nothing, Kept, fault_kept}
+use Rattle.macsec_capture.proofs.Stops.{at_first, at_last, first_put, put_before, some_at_first, some_behind, some_put, stops_put}
 
--- ---- texts that begin others
-
-begins_whole : (xs : List ℕ) → Begins xs xs
-begins_whole xs = ([], sym (append-nil xs))
-
-begins_behind : (front xs ys : List ℕ) → Begins xs ys → Begins (front ++ xs) (front ++ ys)
-begins_behind front xs ys begun = (begun.0, ap (λ zs. front ++ zs) begun.1 ∙ sym (append_assoc front xs begun.0))
-
-begins_before : (xs ys more : List ℕ) → Begins xs ys → Begins xs (ys ++ more)
-begins_before xs ys more begun = (begun.0 ++ more, ap (λ zs. zs ++ more) begun.1 ∙ append_assoc xs begun.0 more)
-
-abbrev pub known : Option (List ℕ) → Option (List ℕ) → Written
-known octets lines = record { output = octets; text = lines }
-
-Grows-nothing : (w : Written) → Grows w w [] []
-Grows-nothing w = record { output = Appends-nil w.output; text = Appends-nil w.text }
-
-Grows-more : (a b c : Written) (xs ys us vs : List ℕ) → Grows a b xs us → Grows b c ys vs → Grows a c (xs ++ ys) (us ++ vs)
-Grows-more a b c xs ys us vs first second = record {
-  output = Appends-trans a.output b.output c.output xs ys first.output second.output;
-  text = Appends-trans a.text b.text c.text us vs first.text second.text;
-}
-
--- ---- no fault of a file is one of the configuration
-
-configured_file : (end : Option PcapFault) → IsConfigured (option_map Pcap end)
-configured_file None = tt
-configured_file (Some fault) = tt
-
-configured_after : (direction : Direction) (ready : Part) (file : Result CaptureFile PcapFault) → IsConfigured (captured_after direction ready file).fault
-configured_after direction ready (Err fault) = tt
-configured_after direction ready (Ok file) = configured_file file.capture.fault
+-- what is written of a file, its commands aside
+abbrev pub of_file : Direction → State → CaptureFile → Captured
+of_file direction s file = captured_after direction (nothing s) (Ok file)
 
 -- ---- the records of a file, behind its header
 
--- what is written of a file with these records
-abbrev of_parts : List ℕ → Part → Option PcapFault → Captured
-of_parts header part end = record { output = header ++ part.output; text = part.text ++ last_lines end part.state; fault = option_map Pcap end }
+abbrev records_of_file : Direction → State → CaptureFile → Part
+records_of_file direction s file = records_part direction s 0 file.capture.records
 
-all_but_fault : (header : List ℕ) (part : Part) (end : Option PcapFault) (old mid new : Written) (after : State) (fault : PcapFault) →
-    Grows old mid header [] → (end ≡ Some fault) × Adds part mid new after →
-    ((of_parts header part end).fault ≡ Some (Pcap fault)) × Grows old new (of_parts header part end).output (of_parts header part end).text
-all_but_fault header part end old mid new after fault first ended =
+at_stop : (direction : Direction) (s : State) (file : CaptureFile) (P : Part → Type 0) (Q : Stop → Type 0) →
+    ((part : Part) → P part → Q (record { output = header_octets file.resolution ++ part.output; text = part.text })) →
+    AfterSome direction s file.capture.records P → AtSome (stops_of direction (nothing s) (Ok file)) Q
+at_stop direction s file P Q holds at = some_behind direction (nothing s) file at.0 Q at.1 (holds _ at.2)
+
+all_but_fault : (direction : Direction) (s : State) (file : CaptureFile) (old mid new : Written) (after : State) (fault : PcapFault) →
+    Grows old mid (header_octets file.resolution) [] → (file.capture.fault ≡ Some fault) × Adds (records_of_file direction s file) mid new after →
+    ((of_file direction s file).fault ≡ Some (Pcap fault)) × Grows old new (of_file direction s file).output (of_file direction s file).text
+all_but_fault direction s file old mid new after fault first ended =
+    let part = records_of_file direction s file in
+    let header = header_octets file.resolution in
     let grown : Grows old new (header ++ part.output) part.text = Grows-more old mid new header part.output [] part.text first ended.1.grows in
-    let lines : part.text ≡ part.text ++ last_lines end part.state = sym (ap (λ e. part.text ++ last_lines e part.state) ended.0 ∙ append-nil part.text) in
+    let lines : part.text ≡ part.text ++ last_lines file.capture.fault part.state =
+    sym (ap (λ e. part.text ++ last_lines e part.state) ended.0 ∙ append-nil part.text) in
     (ap (option_map Pcap) ended.0, subst (Grows old new (header ++ part.output)) lines grown)
 
-at_memory : (header : List ℕ) (part : Part) (end : Option PcapFault) (old mid new : Written) (after : State) →
-    Grows old mid header [] → Adds part mid new after → Cuts old new (of_parts header part end).output (of_parts header part end).text
-at_memory header part end old mid new after first adds = record {
-  some_octets = header ++ part.output;
-  some_lines = part.text;
-  output = begins_whole (header ++ part.output);
-  text = begins_before part.text part.text (last_lines end part.state) (begins_whole part.text);
-  grows = Grows-more old mid new header part.output [] part.text first adds.grows;
-}
+-- the input, the output or the text ends the run
+held_fault : (direction : Direction) (s : State) (file : CaptureFile) (old mid new : Written) (after : State) →
+    Grows old mid (header_octets file.resolution) [] → IsNotMemory file.capture.fault → (fault : PcapFault) →
+    RunsHeld direction s file.capture mid new after (Err (Pcap fault)) → CaptureGives (of_file direction s file) old new (Err (Pcap fault))
+held_fault direction s file old mid new after first format Read runs =
+    at_stop direction s file _ _ (λ part grows. Grows-more old mid new (header_octets file.resolution) part.output [] part.text first grows) runs
+held_fault direction s file old mid new after first format Write runs =
+    at_stop direction s file _ _ (λ part adds. Appends-trans old.text mid.text new.text [] part.text first.text adds) runs
+held_fault direction s file old mid new after first format Memory runs = absurd (subst IsNotMemory runs.0 format)
+held_fault direction s file old mid new after first format Magic runs = all_but_fault direction s file old mid new after Magic first runs
+held_fault direction s file old mid new after first format Version runs = all_but_fault direction s file old mid new after Version first runs
+held_fault direction s file old mid new after first format LinkType runs = all_but_fault direction s file old mid new after LinkType first runs
+held_fault direction s file old mid new after first format CutHeader runs = all_but_fault direction s file old mid new after CutHeader first runs
+held_fault direction s file old mid new after first format CutRecord runs = all_but_fault direction s file old mid new after CutRecord first runs
+held_fault direction s file old mid new after first format RecordLength runs = all_but_fault direction s file old mid new after RecordLength first runs
+held_fault direction s file old mid new after first format RecordCount runs = all_but_fault direction s file old mid new after RecordCount first runs
 
-at_read : (header : List ℕ) (part : Part) (end : Option PcapFault) (old mid new : Written) →
-    Grows old mid header [] → Cuts mid new part.output part.text → Cuts old new (of_parts header part end).output (of_parts header part end).text
-at_read header part end old mid new first cut = record {
-  some_octets = header ++ cut.some_octets;
-  some_lines = cut.some_lines;
-  output = begins_behind header cut.some_octets part.output cut.output;
-  text = begins_before cut.some_lines part.text (last_lines end part.state) cut.text;
-  grows = Grows-more old mid new header cut.some_octets [] cut.some_lines first cut.grows;
-}
+held_script : (direction : Direction) (s : State) (file : CaptureFile) (old mid new : Written) → Grows old mid (header_octets file.resolution) [] →
+    (fault : ScriptFault) → fault ≡ script.Write → AfterSome direction s file.capture.records (λ part. Appends mid.output new.output part.output) →
+    CaptureGives (of_file direction s file) old new (Err (Script fault))
+held_script direction s file old mid new first fault is at =
+    subst (λ f. CaptureGives (of_file direction s file) old new (Err (Script f))) (sym is)
+    (at_stop direction s file _ _ (λ part adds. Appends-trans old.output mid.output new.output (header_octets file.resolution) part.output first.output adds) at)
 
--- a run that a fault ends
-pub held_gives : (header : List ℕ) (part : Part) (end : Option PcapFault) (old mid new : Written) (after : State) → Grows old mid header [] →
-    (fault : CaptureFault) → RunsHeld part end mid new after (Err fault) → CaptureGives (of_parts header part end) old new (Err fault)
-held_gives header part end old mid new after first (Script script.Write) runs = configured_file end
-held_gives header part end old mid new after first (Script script.Memory) runs = cc
-held_gives header part end old mid new after first (Script script.Read) runs = cc
-held_gives header part end old mid new after first (Script script.ScriptLong) runs = cc
-held_gives header part end old mid new after first (Script (script.Word n)) runs = cc
-held_gives header part end old mid new after first (Script (script.Count n)) runs = cc
-held_gives header part end old mid new after first (Script (script.Hex n)) runs = cc
-held_gives header part end old mid new after first (Script (script.Number n)) runs = cc
-held_gives header part end old mid new after first (Script (script.Ends n)) runs = cc
-held_gives header part end old mid new after first (Script (script.LineLong n)) runs = cc
-held_gives header part end old mid new after first (Pcap Read) runs = (configured_file end, at_read header part end old mid new first runs)
-held_gives header part end old mid new after first (Pcap Memory) runs = (configured_file end, at_memory header part end old mid new after first runs.1)
-held_gives header part end old mid new after first (Pcap Write) runs = configured_file end
-held_gives header part end old mid new after first (Pcap Magic) runs = all_but_fault header part end old mid new after Magic first runs
-held_gives header part end old mid new after first (Pcap Version) runs = all_but_fault header part end old mid new after Version first runs
-held_gives header part end old mid new after first (Pcap LinkType) runs = all_but_fault header part end old mid new after LinkType first runs
-held_gives header part end old mid new after first (Pcap CutHeader) runs = all_but_fault header part end old mid new after CutHeader first runs
-held_gives header part end old mid new after first (Pcap CutRecord) runs = all_but_fault header part end old mid new after CutRecord first runs
-held_gives header part end old mid new after first (Pcap RecordLength) runs = all_but_fault header part end old mid new after RecordLength first runs
-held_gives header part end old mid new after first (Pcap RecordCount) runs = all_but_fault header part end old mid new after RecordCount first runs
+held_takes : (direction : Direction) (s : State) (file : CaptureFile) (old mid new : Written) (after : State) (answer : Result (Unit {0}) CaptureFault) →
+    Grows old mid (header_octets file.resolution) [] → IsNotMemory file.capture.fault → RunsHeld direction s file.capture mid new after answer →
+    TakesFile direction s file old new after answer
+held_takes direction s file old mid new after (Ok done) first format runs =
+    let part = records_of_file direction s file in
+    (runs.0, record { grows = Grows-more old mid new (header_octets file.resolution) part.output [] part.text first runs.1.grows; state = runs.1.state })
+held_takes direction s file old mid new after (Err (Script fault)) first format runs = held_script direction s file old mid new first fault runs.0 runs.1
+held_takes direction s file old mid new after (Err (Pcap fault)) first format runs = held_fault direction s file old mid new after first format fault runs
 
--- a run to the end, with the counters after it
-pub counted_gives : (header : List ℕ) (part : Part) (end : Option PcapFault) (old mid next new : Written) (after : State) → Grows old mid header [] →
-    RunsHeld part end mid next after (Ok tt) → new.output ≡ next.output → Appends next.text new.text (counters_text End after) →
-    CaptureGives (of_parts header part end) old new (Ok tt)
-counted_gives header part end old mid next new after first runs same prints =
-    let counters : counters_text End after ≡ last_lines end part.state = ap (counters_text End) runs.1.state ∙ sym (ap (λ e. last_lines e part.state) runs.0) in
-    let grown : Grows old next (header ++ part.output) part.text = Grows-more old mid next header part.output [] part.text first runs.1.grows in (
-      ap (option_map Pcap) runs.0,
+-- the header is the file's, and the reader holds its records
+pub taken_of_file : (direction : Direction) (s : State) (reader : Reading) (unit : Resolution) (o m n x t u : Option (List ℕ)) (after : State) (answer : Result (Unit {0}) CaptureFault) →
+    x ≡ n → unit ≡ reader.resolution → Appends o m (header_octets unit) → RunsRecords direction s reader.ahead (known m t) (known n u) after answer →
+    (octets : List ℕ) (file : CaptureFile) → file_of octets ≡ Ok file → reader ≡ opened file → TakesFile direction s file (known o t) (known x u) after answer
+taken_of_file direction s reader unit o m n x t u after answer back same adds runs octets file read stands =
+    subst (λ held. TakesFile direction s file (known o t) (known held u) after answer) (sym back)
+    (held_takes direction s file (known o t) (known m t) (known n u) after answer
+      (record { output = subst (λ u. Appends o m (header_octets u)) (same ∙ ap (λ (r : Reading). r.resolution) stands) adds; text = Appends-nil t })
+      (file_format octets file read) (subst (λ (r : Reading). RunsRecords direction s r.ahead (known m t) (known n u) after answer) stands runs))
+
+-- the header can't be written
+pub headless : (direction : Direction) (s : State) (reader : Reading) (o m t : Option (List ℕ)) (fault : PcapFault) → fault ≡ Write →
+    (octets : List ℕ) (file : CaptureFile) → file_of octets ≡ Ok file → reader ≡ opened file →
+    TakesFile direction s file (known o t) (known m t) s (Err (Pcap fault))
+headless direction s reader o m t fault is octets file read stands =
+    subst (λ f. TakesFile direction s file (known o t) (known m t) s (Err (Pcap f))) (sym is)
+    (some_at_first direction (nothing s) (Ok file) (λ stop. Appends t t stop.text) (Appends-nil t))
+
+-- ---- the flush of the output, and the counters
+
+-- the output was flushed
+flushed_file : {E : Type 0} (direction : Direction) (s : State) (file : CaptureFile) (old mid new : Written) (after : State) → Kept mid new →
+    (written : Result (Unit {0}) CaptureFault) (flushed : Result (Unit {0}) E) →
+    TakesFile direction s file old mid after written → TakesFile direction s file old new after (flushed_end written flushed)
+flushed_file direction s file old mid new after kept (Err fault) flushed takes = fault_kept (of_file direction s file) old mid new kept fault takes
+flushed_file direction s file old mid new after kept (Ok done) (Err error) takes =
+    at_last direction (nothing s) file (λ stop. Appends old.text new.text stop.text)
+    (Appends-kept old.text mid.text new.text (records_of_file direction s file).text takes.1.grows.text kept.text)
+flushed_file direction s file old mid new after kept (Ok done) (Ok flushed) takes = (
+  takes.0,
+  record {
+    grows = Grows-kept old mid new (behind_header file (records_of_file direction s file)).output (records_of_file direction s file).text kept takes.1.grows;
+    state = takes.1.state;
+  },
+)
+
+pub flushed : {E : Type 0} (direction : Direction) (s : State) (reader : Reading) (o m n t u : Option (List ℕ)) (after : State) → Keeps m n →
+    (written : Result (Unit {0}) CaptureFault) (ended : Result (Unit {0}) E) →
+    ((octets : List ℕ) (file : CaptureFile) → file_of octets ≡ Ok file → reader ≡ opened file → TakesFile direction s file (known o t) (known m u) after written) →
+    (octets : List ℕ) (file : CaptureFile) → file_of octets ≡ Ok file → reader ≡ opened file →
+    TakesFile direction s file (known o t) (known n u) after (flushed_end written ended)
+flushed direction s reader o m n t u after keeps written ended takes octets file read stands =
+    flushed_file direction s file (known o t) (known m u) (known n u) after (record { output = keeps; text = Keeps-refl u }) written ended
+    (takes octets file read stands)
+
+-- the counters can't be printed
+pub uncounted : (direction : Direction) (s : State) (file : CaptureFile) (o n t u v : Option (List ℕ)) (after : State) (fault : ScriptFault) → fault ≡ script.Write →
+    TakesFile direction s file (known o t) (known n u) after (Ok tt) → CaptureGives (of_file direction s file) (known o t) (known n v) (Err (Script fault))
+uncounted direction s file o n t u v after fault is takes =
+    subst (λ f. CaptureGives (of_file direction s file) (known o t) (known n v) (Err (Script f))) (sym is)
+    (at_last direction (nothing s) file (λ stop. Appends o n stop.output) takes.1.grows.output)
+
+-- they are printed
+pub counted : (direction : Direction) (s : State) (file : CaptureFile) (o n t u v : Option (List ℕ)) (after : State) →
+    TakesFile direction s file (known o t) (known n u) after (Ok tt) → Appends u v (counters_text End after) →
+    CaptureGives (of_file direction s file) (known o t) (known n v) (Ok tt)
+counted direction s file o n t u v after takes prints =
+    let part = records_of_file direction s file in
+    let lines : counters_text End after ≡ last_lines file.capture.fault part.state =
+    ap (counters_text End) takes.1.state ∙ sym (ap (λ e. last_lines e part.state) takes.0) in (
+      ap (option_map Pcap) takes.0,
       record {
-        output = subst (λ o. Appends old.output o (header ++ part.output)) (sym same) grown.output;
-        text = Appends-trans old.text next.text new.text part.text (last_lines end part.state) grown.text (subst (Appends next.text new.text) counters prints);
+        output = takes.1.grows.output;
+        text = Appends-trans t u v part.text (last_lines file.capture.fault part.state) takes.1.grows.text (subst (Appends u v) lines prints);
       },
     )
 
--- ---- a file with a fault in its header
-
-nothing_of : (whole : Captured) (w : Written) → Cuts w w whole.output whole.text
-nothing_of whole w = record {
-  some_octets = [];
-  some_lines = [];
-  output = (whole.output, refl);
-  text = (whole.text, refl);
-  grows = Grows-nothing w;
-}
+-- ---- a file that was not opened
 
 header_fault : (direction : Direction) (s : State) (file : Result CaptureFile PcapFault) (w : Written) (fault : PcapFault) → Err fault ≡ file →
     ((captured_after direction (nothing s) file).fault ≡ Some (Pcap fault))
@@ -146,12 +159,21 @@ header_fault direction s file w fault same =
     let at : Result CaptureFile PcapFault → Captured = captured_after direction (nothing s) in
     subst (λ f. ((at f).fault ≡ Some (Pcap fault)) × Grows w w (at f).output (at f).text) same (refl, Grows-nothing w)
 
--- the reader was not opened
+same_stops : (direction : Direction) (ready : Part) (file : Result CaptureFile PcapFault) → stops_of direction ready file ≡ (captured_after direction ready file).stops
+same_stops direction ready (Err fault) = refl
+same_stops direction ready (Ok file) = refl
+
 unopened_gives : (direction : Direction) (s : State) (octets : List ℕ) (w : Written) (fault : PcapFault) →
     Opens octets (Err fault) → CaptureGives (captured_after direction (nothing s) (file_of octets)) w w (Err (Pcap fault))
-unopened_gives direction s octets w Read h = (configured_after direction (nothing s) (file_of octets), nothing_of (captured_after direction (nothing s) (file_of octets)) w)
-unopened_gives direction s octets w Memory h = (configured_after direction (nothing s) (file_of octets), nothing_of (captured_after direction (nothing s) (file_of octets)) w)
-unopened_gives direction s octets w Write h = configured_after direction (nothing s) (file_of octets)
+unopened_gives direction s octets w Read h =
+    subst (λ stops. AtSome stops (λ stop. Grows w w stop.output stop.text)) (same_stops direction (nothing s) (file_of octets))
+    (some_at_first direction (nothing s) (file_of octets) (λ stop. Grows w w stop.output stop.text) (Grows-nothing w))
+unopened_gives direction s octets w Memory h =
+    subst (λ stops. AtFirst stops (λ stop. Grows w w stop.output stop.text)) (same_stops direction (nothing s) (file_of octets))
+    (at_first direction (nothing s) (file_of octets) (λ stop. Grows w w stop.output stop.text) (Grows-nothing w))
+unopened_gives direction s octets w Write h =
+    subst (λ stops. AtSome stops (λ stop. Appends w.text w.text stop.text)) (same_stops direction (nothing s) (file_of octets))
+    (some_at_first direction (nothing s) (file_of octets) (λ stop. Appends w.text w.text stop.text) (Appends-nil w.text))
 unopened_gives direction s octets w Magic h = header_fault direction s (file_of octets) w Magic h
 unopened_gives direction s octets w Version h = header_fault direction s (file_of octets) w Version h
 unopened_gives direction s octets w LinkType h = header_fault direction s (file_of octets) w LinkType h
@@ -167,54 +189,19 @@ unopened direction s (Some octets) w fault h = unopened_gives direction s octets
 
 -- ---- a file that was opened
 
--- what is written of a file, its commands aside
-abbrev pub of_file : Direction → State → CaptureFile → Captured
-of_file direction s file = captured_file direction (nothing s) file (records_part direction s 0 file.capture.records)
-
 pub opened_gives : (direction : Direction) (s : State) (input : Option (List ℕ)) (reader : Reading) (old new : Written) (answer : Result (Unit {0}) CaptureFault) →
-    IfSome input (λ file. Opens file (Ok reader)) → ((file : CaptureFile) → reader ≡ opened file → CaptureGives (of_file direction s file) old new answer) →
+    IfSome input (λ file. Opens file (Ok reader)) →
+    ((octets : List ℕ) (file : CaptureFile) → file_of octets ≡ Ok file → reader ≡ opened file → CaptureGives (of_file direction s file) old new answer) →
     IfSome input (λ file. CaptureGives (captured_after direction (nothing s) (file_of file)) old new answer)
 opened_gives direction s None reader old new answer opens gives = tt
 opened_gives direction s (Some octets) reader old new answer opens gives =
-    subst (λ f. CaptureGives (captured_after direction (nothing s) f) old new answer) (sym opens.1) (gives opens.0 opens.2)
-
--- the header, and what the reader holds, are the file's
-header_of_file : (reader : Reading) (unit : Resolution) (file : CaptureFile) (o m t : Option (List ℕ)) → reader ≡ opened file → unit ≡ reader.resolution →
-    Appends o m (header_octets unit) → Grows (known o t) (known m t) (header_octets file.resolution) []
-header_of_file reader unit file o m t stands same adds = record {
-  output = subst (λ u. Appends o m (header_octets u)) (same ∙ ap (λ (r : Reading). r.resolution) stands) adds;
-  text = Appends-nil t;
-}
-
-held_of_file : (direction : Direction) (s : State) (reader : Reading) (file : CaptureFile) (old new : Written) (after : State) (answer : Result (Unit {0}) CaptureFault) →
-    reader ≡ opened file → RunsRecords direction s reader.ahead old new after answer →
-    RunsHeld (records_part direction s 0 file.capture.records) file.capture.fault old new after answer
-held_of_file direction s reader file old new after answer stands runs =
-    subst (λ (r : Reading). RunsRecords direction s r.ahead old new after answer) stands runs
-
-pub fault_of_file : (direction : Direction) (s : State) (reader : Reading) (unit : Resolution) (o m n x t u : Option (List ℕ)) (after : State) (fault : CaptureFault) →
-    x ≡ n → unit ≡ reader.resolution → Appends o m (header_octets unit) → RunsRecords direction s reader.ahead (known m t) (known n u) after (Err fault) →
-    (file : CaptureFile) → reader ≡ opened file → CaptureGives (of_file direction s file) (known o t) (known x u) (Err fault)
-fault_of_file direction s reader unit o m n x t u after fault back same adds runs file stands =
-    subst (λ held. CaptureGives (of_file direction s file) (known o t) (known held u) (Err fault)) (sym back)
-    (held_gives (header_octets file.resolution) (records_part direction s 0 file.capture.records) file.capture.fault (known o t) (known m t) (known n u) after
-    (header_of_file reader unit file o m t stands same adds) fault
-    (held_of_file direction s reader file (known m t) (known n u) after (Err fault) stands runs))
-
-pub end_of_file : (direction : Direction) (s : State) (reader : Reading) (unit : Resolution) (o m n x t u v : Option (List ℕ)) (after : State) →
-    x ≡ n → unit ≡ reader.resolution → Appends o m (header_octets unit) → RunsRecords direction s reader.ahead (known m t) (known n u) after (Ok tt) →
-    Appends u v (counters_text End after) →
-    (file : CaptureFile) → reader ≡ opened file → CaptureGives (of_file direction s file) (known o t) (known x v) (Ok tt)
-end_of_file direction s reader unit o m n x t u v after back same adds runs prints file stands =
-    counted_gives (header_octets file.resolution) (records_part direction s 0 file.capture.records) file.capture.fault
-    (known o t) (known m t) (known n u) (known x v) after (header_of_file reader unit file o m t stands same adds)
-    (held_of_file direction s reader file (known m t) (known n u) after (Ok tt) stands runs) back prints
+    subst (λ f. CaptureGives (captured_after direction (nothing s) f) old new answer) (sym opens.1) (gives octets opens.0 opens.1 opens.2)
 
 -- ---- behind what the commands printed
 
 -- the same with lines in front of the text
 abbrev behind : List ℕ → Captured → Captured
-behind lines whole = record { output = whole.output; text = lines ++ whole.text; fault = whole.fault }
+behind lines whole = record { output = whole.output; text = lines ++ whole.text; fault = whole.fault; stops = map (put_before lines) whole.stops }
 
 behind_grown : (lines : List ℕ) (octets said : List ℕ) (old mid new : Written) → mid.output ≡ old.output → Appends old.text mid.text lines →
     Grows mid new octets said → Grows old new octets (lines ++ said)
@@ -223,21 +210,14 @@ behind_grown lines octets said old mid new same prints grown = record {
   text = Appends-trans old.text mid.text new.text lines said prints grown.text;
 }
 
-behind_cut : (lines : List ℕ) (octets said : List ℕ) (old mid new : Written) → mid.output ≡ old.output → Appends old.text mid.text lines →
-    Cuts mid new octets said → Cuts old new octets (lines ++ said)
-behind_cut lines octets said old mid new same prints cut = record {
-  some_octets = cut.some_octets;
-  some_lines = lines ++ cut.some_lines;
-  output = cut.output;
-  text = begins_behind lines cut.some_lines said cut.text;
-  grows = behind_grown lines cut.some_octets cut.some_lines old mid new same prints cut.grows;
-}
-
 behind_fault : (lines : List ℕ) (whole : Captured) (old mid new : Written) → mid.output ≡ old.output → Appends old.text mid.text lines →
     (fault : PcapFault) → CaptureGives whole mid new (Err (Pcap fault)) → CaptureGives (behind lines whole) old new (Err (Pcap fault))
-behind_fault lines whole old mid new same prints Read gives = (gives.0, behind_cut lines whole.output whole.text old mid new same prints gives.1)
-behind_fault lines whole old mid new same prints Memory gives = (gives.0, behind_cut lines whole.output whole.text old mid new same prints gives.1)
-behind_fault lines whole old mid new same prints Write gives = gives
+behind_fault lines whole old mid new same prints Read gives =
+    some_put lines whole.stops _ _ (λ stop grown. behind_grown lines stop.output stop.text old mid new same prints grown) gives
+behind_fault lines whole old mid new same prints Memory gives =
+    first_put lines whole.stops _ _ (λ stop grown. behind_grown lines stop.output stop.text old mid new same prints grown) gives
+behind_fault lines whole old mid new same prints Write gives =
+    some_put lines whole.stops _ _ (λ stop adds. Appends-trans old.text mid.text new.text lines stop.text prints adds) gives
 behind_fault lines whole old mid new same prints Magic gives = (gives.0, behind_grown lines whole.output whole.text old mid new same prints gives.1)
 behind_fault lines whole old mid new same prints Version gives = (gives.0, behind_grown lines whole.output whole.text old mid new same prints gives.1)
 behind_fault lines whole old mid new same prints LinkType gives = (gives.0, behind_grown lines whole.output whole.text old mid new same prints gives.1)
@@ -246,22 +226,28 @@ behind_fault lines whole old mid new same prints CutRecord gives = (gives.0, beh
 behind_fault lines whole old mid new same prints RecordLength gives = (gives.0, behind_grown lines whole.output whole.text old mid new same prints gives.1)
 behind_fault lines whole old mid new same prints RecordCount gives = (gives.0, behind_grown lines whole.output whole.text old mid new same prints gives.1)
 
-behind_script : (lines : List ℕ) (whole : Captured) (old mid new : Written) (fault : ScriptFault) → fault ≡ script.Write →
+behind_script : (lines : List ℕ) (whole : Captured) (old mid new : Written) → mid.output ≡ old.output → (fault : ScriptFault) → fault ≡ script.Write →
     CaptureGives whole mid new (Err (Script fault)) → CaptureGives (behind lines whole) old new (Err (Script fault))
-behind_script lines whole old mid new fault is gives =
+behind_script lines whole old mid new same fault is gives =
     subst (λ f. CaptureGives (behind lines whole) old new (Err (Script f))) (sym is)
-    (subst (λ f. CaptureGives whole mid new (Err (Script f))) is gives)
+    (some_put lines whole.stops _ (λ stop. Appends old.output new.output stop.output) (λ stop adds. subst (λ o. Appends o new.output stop.output) same adds)
+      (subst (λ f. CaptureGives whole mid new (Err (Script f))) is gives))
 
 behind_gives : (lines : List ℕ) (whole : Captured) (old mid new : Written) → mid.output ≡ old.output → Appends old.text mid.text lines →
     (answer : Result (Unit {0}) CaptureFault) → IfErr answer IsLateFault → CaptureGives whole mid new answer → CaptureGives (behind lines whole) old new answer
 behind_gives lines whole old mid new same prints (Ok done) late gives = (gives.0, behind_grown lines whole.output whole.text old mid new same prints gives.1)
-behind_gives lines whole old mid new same prints (Err (Script fault)) late gives = behind_script lines whole old mid new fault late gives
+behind_gives lines whole old mid new same prints (Err (Script fault)) late gives = behind_script lines whole old mid new same fault late gives
 behind_gives lines whole old mid new same prints (Err (Pcap fault)) late gives = behind_fault lines whole old mid new same prints fault gives
 
 captured_after-behind : (direction : Direction) (ready : Part) (file : Result CaptureFile PcapFault) →
     behind ready.text (captured_after direction (nothing ready.state) file) ≡ captured_after direction ready file
-captured_after-behind direction ready (Err fault) = ap (λ xs. record { output = []; text = xs; fault = Some (Pcap fault) }) (append-nil ready.text)
-captured_after-behind direction ready (Ok file) = refl
+captured_after-behind direction ready (Err fault) =
+    ap (λ (xs : List ℕ). record { output = []; text = xs; fault = Some (Pcap fault); stops = map (put_before ready.text) (stops_of direction (nothing ready.state) (Err fault)) })
+    (append-nil ready.text)
+    ∙ ap (λ (stops : List Stop). record { output = []; text = ready.text; fault = Some (Pcap fault); stops = stops }) (stops_put direction ready (Err fault))
+captured_after-behind direction ready (Ok file) =
+    let whole = captured_after direction ready (Ok file) in
+    ap (λ (stops : List Stop). record { output = whole.output; text = whole.text; fault = whole.fault; stops = stops }) (stops_put direction ready (Ok file))
 
 -- the commands were carried out, and then the file was taken
 pub ready_gives : (direction : Direction) (ready : Part) (s : State) (file : Result CaptureFile PcapFault) (old mid new : Written) → s ≡ ready.state →
@@ -280,3 +266,13 @@ configured_gives direction config commands first s None o n t m u answer created
 configured_gives direction config commands first s (Some file) o n t m u answer created same adds late gives =
     ready_gives direction (commands_part (start config) commands) s (file_of file) (known o t) (known o m) (known n u)
     (same ∙ ap (λ v. (commands_part v commands).state) created) refl (subst (λ v. Appends t m (commands_part v commands).text) created adds) answer late gives
+
+-- the commands can't be printed
+pub unprinted : (direction : Direction) (config : EndConfig) (commands : List NumberedLine) (input o t u : Option (List ℕ)) (fault : ScriptFault) → fault ≡ script.Write →
+    IfSome input (λ file. CaptureGives (captured_at direction (Some (config, commands)) file) (known o t) (known o u) (Err (Script fault)))
+unprinted direction config commands None o t u fault is = tt
+unprinted direction config commands (Some file) o t u fault is =
+    let ready = commands_part (start config) commands in
+    subst (λ f. CaptureGives (captured_at direction (Some (config, commands)) file) (known o t) (known o u) (Err (Script f))) (sym is)
+    (subst (λ stops. AtSome stops (λ stop. Appends o o stop.output)) (same_stops direction ready (file_of file))
+      (some_at_first direction ready (file_of file) (λ stop. Appends o o stop.output) (Appends-nil o)))

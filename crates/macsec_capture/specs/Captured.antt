@@ -1,5 +1,6 @@
 -- What a run over a capture file writes: the output file, and the text.
-use Rattle.std.specs.Prelude.{ℕ, ◌+◌, List, [], ◌∷◌, ◌++◌, Option, Some, None, Result, Ok, Err, option_map}
+use Rattle.std.specs.Prelude.{ℕ, ◌+◌, List, [], ◌∷◌, ◌++◌, length, map, take, Option, Some, None, Result, Ok, Err, option_map}
+use Rattle.std.specs.List.{range_with_len}
 use Rattle.macsec_commands.specs.declared.config.EndConfig.{EndConfig}
 use Rattle.macsec_secy.specs.State.{State, start}
 use Rattle.macsec_secy.specs.Step.{Input, client_frame, link_frame, operator_command, Output, refused, leaves, received, step}
@@ -102,15 +103,41 @@ abbrev pub records_part : Direction → State → ℕ → List CaptureRecord →
 records_part direction s k [] = nothing s
 records_part direction s k (r ∷ more) = and_after (record_part direction s k r) (λ after. records_part direction after (k + 1) more)
 
+-- ---- the stops
+
+-- where a device that fails can end a run: what is written by then
+pub record Stop : Type 0 where
+  pub output : List ℕ
+  pub text : List ℕ
+
+-- behind the commands
+abbrev pub first_stop : Part → Stop
+first_stop ready = record { output = []; text = ready.text }
+
+-- behind the output's header and these first records
+abbrev pub stop_after : Part → CaptureFile → Part → Stop
+stop_after ready file records = record { output = header_octets file.resolution ++ records.output; text = ready.text ++ records.text }
+
+-- behind the first n records
+abbrev pub stop_behind : Direction → Part → CaptureFile → ℕ → Stop
+stop_behind direction ready file n = stop_after ready file (records_part direction ready.state 0 (take n file.capture.records))
+
+-- all of them, in order: behind the commands; and of a file without a fault in its header, behind 0 records, 1, .. and all
+abbrev pub stops_of : Direction → Part → Result CaptureFile PcapFault → List Stop
+stops_of direction ready (Err fault) = first_stop ready ∷ []
+stops_of direction ready (Ok file) =
+    first_stop ready ∷ map (stop_behind direction ready file) (range_with_len 0 (length file.capture.records + 1))
+
 -- ---- the run
 
--- what is written, and the fault that ends the run, if one does
+-- what is written, the fault that ends the run, if one does, and the stops; a configuration with a fault has none
 pub record Captured : Type 0 where
   pub output : List ℕ
   pub text : List ℕ
   pub fault : Option CaptureFault
+  pub stops : List Stop
 
--- the counters after the last record, unless the file has a fault
+-- the counters after the last record, unless the file has a fault; they are behind every stop
 abbrev pub last_lines : Option PcapFault → State → List ℕ
 last_lines None s = counters_text End s
 last_lines (Some fault) s = []
@@ -121,22 +148,28 @@ captured_file direction ready file records = record {
   output = header_octets file.resolution ++ records.output;
   text = ready.text ++ (records.text ++ last_lines file.capture.fault records.state);
   fault = option_map Pcap file.capture.fault;
+  stops = stops_of direction ready (Ok file);
 }
 
 -- behind what the commands of the configuration printed
 abbrev pub captured_after : Direction → Part → Result CaptureFile PcapFault → Captured
-captured_after direction ready (Err fault) = record { output = []; text = ready.text; fault = Some (Pcap fault) }
+captured_after direction ready (Err fault) = record {
+  output = [];
+  text = ready.text;
+  fault = Some (Pcap fault);
+  stops = stops_of direction ready (Err fault);
+}
 captured_after direction ready (Ok file) =
     captured_file direction ready file (records_part direction ready.state 0 file.capture.records)
 
--- no configuration without a fault has no end
+-- every configuration without a fault has an end (`configs_have_an_end`)
 abbrev pub captured_at : Direction → Option (EndConfig × List NumberedLine) → List ℕ → Captured
-captured_at direction None file = record { output = []; text = []; fault = None }
+captured_at direction None file = record { output = []; text = []; fault = None; stops = record { output = []; text = [] } ∷ [] }
 captured_at direction (Some (config, commands)) file =
     captured_after direction (commands_part (start config) commands) (file_of file)
 
 abbrev pub captured_by : Direction → Result (List NumberedLine) ScriptFault → List ℕ → Captured
-captured_by direction (Err fault) file = record { output = []; text = []; fault = Some (Script fault) }
+captured_by direction (Err fault) file = record { output = []; text = []; fault = Some (Script fault); stops = [] }
 captured_by direction (Ok lines) file = captured_at direction (one_end lines) file
 
 -- a run in this direction by a configuration over a capture file

@@ -4,6 +4,7 @@
 
 mod commands;
 mod fault;
+pub mod laws;
 mod lines;
 mod records;
 mod running;

@@ -8,8 +8,10 @@ ghost use Rattle.std.specs.Io.KnownBytes.{Appends};
 ghost use Rattle.macsec_pcap.specs.Answers.{shown};
 ghost use Rattle.macsec_pcap.specs.Limits.{max_record_length, max_records};
 ghost use Rattle.macsec_pcap.specs.Writing.{contents, fault_of, lent};
+ghost use Rattle.macsec_pcap.specs.declared.fault.PcapFault.TheVariants.{Write};
+ghost use Rattle.macsec_capture.specs.declared.fault.CaptureFault.TheVariants.{Pcap};
 ghost use Rattle.macsec_capture.specs.Captured.{frame_of_output, frame_part, record_of_frame, record_part};
-ghost use Rattle.macsec_capture.specs.Runs.{IsLateFault, IsWriteFault, RunsRecords};
+ghost use Rattle.macsec_capture.specs.Runs.{FailsIn, IsLateFault, RunsRecords, known};
 
 use crate::lines::{write_partial, write_received, write_sent};
 use crate::{CaptureFault, Direction};
@@ -31,8 +33,8 @@ pub(crate) fn run_records<R: Read, W: Write, T: Write>(
     requires places { reader.old.places ≡ max_records }
     requires no_fault { fault_of writer.old ≡ None }
     ensures lent { (lent writer.new).ghost_name ≡ (lent writer.old).ghost_name }
-    ensures records { RunsRecords direction endpoint.old reader.old.ahead (record { output = contents W.contents writer.old; text = T.contents text.old })
-        (record { output = contents W.contents writer.new; text = T.contents text.new }) endpoint.new result }
+    ensures records { RunsRecords direction endpoint.old reader.old.ahead (known (contents W.contents writer.old) (T.contents text.old))
+        (known (contents W.contents writer.new) (T.contents text.new)) endpoint.new result }
     ensures fault { IfErr result IsLateFault }
 {
     for k in 0..MAX_RECORDS + 1 {
@@ -61,7 +63,8 @@ fn run_record<W: Write, T: Write>(
     ensures text { OnOk result (Appends (T.contents text.old) (T.contents text.new) (record_part direction endpoint.old k (shown «record».now)).text) }
     ensures state { OnOk result (endpoint.new ≡ (record_part direction endpoint.old k (shown «record».now)).state) }
     ensures sound { OnOk result (IsSound endpoint.new) }
-    ensures fault { IfErr result IsWriteFault }
+    ensures fault { IfErr result (FailsIn (record_part direction endpoint.old k (shown «record».now)) (known (contents W.contents writer.old) (T.contents text.old))
+        (known (contents W.contents writer.new) (T.contents text.new))) }
 {
     match (record.body, direction) {
         (Body::Partial, _) => {
@@ -94,7 +97,8 @@ fn protect_frame<W: Write, T: Write>(
     ensures text { OnOk result (Appends (T.contents text.old) (T.contents text.new) (frame_part k (shown «record».now) (step endpoint.old (client_frame frame.now))).text) }
     ensures state { OnOk result (endpoint.new ≡ (step endpoint.old (client_frame frame.now)).1) }
     ensures sound { OnOk result (IsSound endpoint.new) }
-    ensures fault { IfErr result IsWriteFault }
+    ensures fault { IfErr result (FailsIn (frame_part k (shown «record».now) (step endpoint.old (client_frame frame.now))) (known (contents W.contents writer.old) (T.contents text.old))
+        (known (contents W.contents writer.new) (T.contents text.new))) }
 {
     lengths_of_frames();
     let sent = endpoint.send(frame);
@@ -120,7 +124,8 @@ fn validate_frame<W: Write, T: Write>(
     ensures text { OnOk result (Appends (T.contents text.old) (T.contents text.new) (frame_part k (shown «record».now) (step endpoint.old (link_frame frame.now))).text) }
     ensures state { OnOk result (endpoint.new ≡ (step endpoint.old (link_frame frame.now)).1) }
     ensures sound { OnOk result (IsSound endpoint.new) }
-    ensures fault { IfErr result IsWriteFault }
+    ensures fault { IfErr result (FailsIn (frame_part k (shown «record».now) (step endpoint.old (link_frame frame.now))) (known (contents W.contents writer.old) (T.contents text.old))
+        (known (contents W.contents writer.new) (T.contents text.new))) }
 {
     lengths_of_frames();
     let received = endpoint.receive(frame);
@@ -160,7 +165,7 @@ fn write_frame<W: Write>(
     ensures lent { (lent writer.new).ghost_name ≡ (lent writer.old).ghost_name }
     ensures no_fault { OnOk result (fault_of writer.new ≡ None) }
     ensures output { OnOk result (Appends (contents W.contents writer.old) (contents W.contents writer.new) (record_of_frame (shown «record».now) (option_copied frame.entry))) }
-    ensures fault { IfErr result IsWriteFault }
+    ensures fault { IfErr result (λ fault. fault ≡ Pcap Write) }
 {
     let Some(frame) = frame else {
         return Ok(());

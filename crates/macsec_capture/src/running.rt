@@ -1,6 +1,6 @@
 //! A run over a capture file: by a configuration, from a reader to a writer, with a text.
 
-ghost use Rattle.std.specs.Prelude.{◌≡◌, IfErr, IfOk, IfSome, None, Some};
+ghost use Rattle.std.specs.Prelude.{◌≡◌, ℕ, List, IfErr, IfOk, IfSome, None, Ok, Some};
 ghost use Rattle.macsec_commands.specs.Configs.{config_fault};
 ghost use Rattle.macsec_secy.specs.Sound.{IsSound};
 ghost use Rattle.macsec_lines.specs.Fields.{map_ok};
@@ -8,29 +8,33 @@ ghost use Rattle.macsec_pcap.specs.Captures.{CaptureFile, file_of};
 ghost use Rattle.macsec_pcap.specs.Limits.{max_records};
 ghost use Rattle.macsec_pcap.specs.Reading.{opened};
 ghost use Rattle.macsec_script.specs.Laws.{AreFit};
-ghost use Rattle.macsec_capture.specs.Captured.{captured, captured_after, captured_at, captured_file, nothing, records_part};
-ghost use Rattle.macsec_capture.specs.Runs.{CaptureGives, IsLateFault, LeavesBoth, ReadsConfig};
+ghost use Rattle.macsec_capture.specs.Captured.{captured, captured_after, captured_at, nothing};
+ghost use Rattle.macsec_capture.specs.Runs.{CaptureGives, IsLateFault, LeavesBoth, ReadsConfig, TakesFile, flushed_end};
 
 use crate::commands::{endpoint_of, one_end, run_commands};
 use crate::records::run_records;
 use crate::{CaptureFault, Direction};
 use macsec_lines::{Line, parse_config};
 use macsec_link::EndConfig;
-use macsec_pcap::{PcapReader, PcapWriter};
+use macsec_pcap::{PcapFault, PcapReader, PcapWriter};
 use macsec_print::{Label, print_counters};
 use macsec_script::laws::parsed_lines_fit;
 use macsec_script::{ScriptFault, read_text};
 use macsec_secy::Secy;
 use std::alloc::Global;
-use std::io::{Read, Write};
+use std::io::{self, Read, Write};
 
 /// Runs an endpoint over a capture file: reads and parses its configuration whole, carries out the configuration's
 /// commands and prints their outcomes, reads the header of the input, writes that of the output, and takes the records
 /// of the input in order. A frame goes through the endpoint in this direction, and what is sent or delivered is written
-/// with the record's time; the text has a line for each record, and then the endpoint's counters. Returns the first
-/// fault: a fault of the configuration, having written nothing; a fault of the input's format, having written all that
-/// comes before it; or `Memory`, `Read` or `Write`, in `Script` for the configuration and the text, in `Pcap` for the input
-/// and the output.
+/// with the record's time; the text has a line for each record, before its frame is written. Once the records are taken,
+/// or one of them can't be, the output is flushed; the text is not. Then the text has the endpoint's counters.
+///
+/// Returns the first fault: a fault of the configuration, having written nothing; a fault of the input's format, having
+/// written all that comes before it; or `Memory`, `Read` or `Write`, in `Script` for the configuration and the text, in
+/// `Pcap` for the input and the output. There are no counters with any fault in `Pcap`. With `Pcap(Memory)` and
+/// `Pcap(Read)` both writers have what they have at a stop of the run: behind the commands, behind the output's header or
+/// behind a record. With `Pcap(Write)` the text has that, and with `Script(Write)` the output.
 pub fn run_capture<C: Read, R: Read, W: Write, T: Write>(
     alloc: Global,
     direction: Direction,
@@ -114,14 +118,65 @@ fn run_opened<R: Read, W: Write, T: Write>(
 ) -> Result<(), CaptureFault>
     requires sound { IsSound endpoint.old }
     requires places { reader.old.places ≡ max_records }
-    ensures run { (file : CaptureFile) → reader.old ≡ opened file →
-        CaptureGives (captured_file direction (nothing endpoint.old) file (records_part direction endpoint.old 0 file.capture.records))
-        (record { output = W.contents output.old; text = T.contents text.old })
+    ensures run { (octets : List ℕ) (file : CaptureFile) → file_of octets ≡ Ok file → reader.old ≡ opened file →
+        CaptureGives (captured_after direction (nothing endpoint.old) (Ok file)) (record { output = W.contents output.old; text = T.contents text.old })
         (record { output = W.contents output.new; text = T.contents text.new }) result }
     ensures fault { IfErr result IsLateFault }
 {
-    let mut writer = PcapWriter::new(output, reader.resolution())?;
-    run_records(direction, endpoint, reader, &mut writer, text)?;
+    write_and_flush(direction, endpoint, reader, output, text)?;
     print_counters(text, Label::End, endpoint)?;
     Ok(())
+}
+
+/// Writes the output and flushes it, also where it is not written to its end.
+fn write_and_flush<R: Read, W: Write, T: Write>(
+    direction: Direction,
+    endpoint: &mut Secy,
+    reader: &mut PcapReader<R>,
+    output: &mut W,
+    text: &mut T,
+) -> Result<(), CaptureFault>
+    requires sound { IsSound endpoint.old }
+    requires places { reader.old.places ≡ max_records }
+    ensures run { (octets : List ℕ) (file : CaptureFile) → file_of octets ≡ Ok file → reader.old ≡ opened file →
+        TakesFile direction endpoint.old file (record { output = W.contents output.old; text = T.contents text.old })
+        (record { output = W.contents output.new; text = T.contents text.new }) endpoint.new result }
+    ensures fault { IfErr result IsLateFault }
+{
+    let written = write_output(direction, endpoint, reader, output, text);
+    let flushed = output.flush();
+    records_end(written, flushed)
+}
+
+/// How records end whose output was flushed: by their own fault, if they have one, else by that of the flush.
+fn records_end(
+    written: Result<(), CaptureFault>,
+    flushed: io::Result<()>,
+) -> Result<(), CaptureFault>
+    ensures { result ≡ flushed_end written flushed }
+{
+    written?;
+    match flushed {
+        Ok(()) => Ok(()),
+        Err(_) => Err(CaptureFault::Pcap(PcapFault::Write)),
+    }
+}
+
+/// Writes the header of the output, takes the records, and writes what comes of them.
+fn write_output<R: Read, W: Write, T: Write>(
+    direction: Direction,
+    endpoint: &mut Secy,
+    reader: &mut PcapReader<R>,
+    output: &mut W,
+    text: &mut T,
+) -> Result<(), CaptureFault>
+    requires sound { IsSound endpoint.old }
+    requires places { reader.old.places ≡ max_records }
+    ensures run { (octets : List ℕ) (file : CaptureFile) → file_of octets ≡ Ok file → reader.old ≡ opened file →
+        TakesFile direction endpoint.old file (record { output = W.contents output.old; text = T.contents text.old })
+        (record { output = W.contents output.new; text = T.contents text.new }) endpoint.new result }
+    ensures fault { IfErr result IsLateFault }
+{
+    let mut writer = PcapWriter::new(output, reader.resolution())?;
+    run_records(direction, endpoint, reader, &mut writer, text)
 }

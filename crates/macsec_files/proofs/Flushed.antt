@@ -1,70 +1,49 @@
--- A run whose output and text are flushed returns and writes what it does without.
+-- A run whose text is flushed returns and writes what it does without.
 use Rattle.std.proofs.Common.{◌≡◌, ℕ, List, Option, Some, None, Result, Ok, Err}
 use Rattle.std.specs.Prelude.{IfErr, IfSome}
 use Rattle.std.specs.Io.KnownBytes.{Keeps}
-use Rattle.std.proofs.KnownBytes.{Appends-kept, Keeps-trans}
+use Rattle.std.proofs.KnownBytes.{Keeps-refl}
 use Rattle.macsec_lines.specs.declared.faults.ScriptFault.TheVariants as script
-use Rattle.macsec_pcap.specs.declared.fault.PcapFault.TheVariants as pcap
+use Rattle.macsec_capture.specs.declared.Direction.{Direction}
 use Rattle.macsec_capture.specs.declared.fault.CaptureFault.{CaptureFault}
 use Rattle.macsec_capture.specs.declared.fault.CaptureFault.TheVariants.{Script, Pcap}
-use Rattle.macsec_capture.specs.Captured.{Captured}
-use Rattle.macsec_capture.specs.Runs.{CaptureGives, Cuts, Grows, IsConfigured, LeavesBoth, Stays, Written}
+use Rattle.macsec_capture.specs.Captured.{captured}
+use Rattle.macsec_capture.specs.Runs.{CaptureGives, Grows, LeavesBoth, Written}
+use Rattle.macsec_capture.proofs.Ended.{written_whole}
+use Rattle.macsec_capture.proofs.Grown.{Grows-kept, Kept, Stays-kept, fault_kept}
 use Rattle.macsec_files.specs.Captures.{capture_end}
 
--- both writers are as they were before their flushes
-record Kept (mid new : Written) : Type 0 where
-  output : Keeps mid.output new.output
-  text : Keeps mid.text new.text
+abbrev known : Option (List ℕ) → Option (List ℕ) → Written
+known octets lines = record { output = octets; text = lines }
 
-grown : {old mid new : Written} {octets lines : List ℕ} → Kept mid new → Grows old mid octets lines → Grows old new octets lines
-grown kept grows = record { output = Appends-kept _ _ _ _ grows.output kept.output; text = Appends-kept _ _ _ _ grows.text kept.text }
+-- the output is not touched by the flush of the text
+kept : (octets mid new : Option (List ℕ)) → Keeps mid new → Kept (known octets mid) (known octets new)
+kept octets mid new keeps = record { output = Keeps-refl octets; text = keeps }
 
-stayed : {old mid new : Written} → Kept mid new → Stays old mid → Stays old new
-stayed kept stays = record { output = Keeps-trans _ _ _ stays.output kept.output; text = Keeps-trans _ _ _ stays.text kept.text }
-
-cut : {old mid new : Written} {octets lines : List ℕ} → Kept mid new → Cuts old mid octets lines → Cuts old new octets lines
-cut kept cuts = record {
-  some_octets = cuts.some_octets;
-  some_lines = cuts.some_lines;
-  output = cuts.output;
-  text = cuts.text;
-  grows = grown kept cuts.grows;
-}
-
-configured : (fault : Option CaptureFault) → fault ≡ None → IsConfigured fault
-configured None is = tt
-configured (Some fault) is = cc
-
-given : {E : Type 0} (whole : Captured) (old mid new : Written) → Kept mid new → (done : Result (Unit {0}) CaptureFault) (output text : Result (Unit {0}) E) →
-    CaptureGives whole old mid done → CaptureGives whole old new (capture_end done output text)
-given whole old mid new kept (Ok done) (Err error) text gives = configured whole.fault gives.0
-given whole old mid new kept (Ok done) (Ok first) (Err error) gives = configured whole.fault gives.0
-given whole old mid new kept (Ok done) (Ok first) (Ok also) gives = (gives.0, grown kept gives.1)
-given whole old mid new kept (Err (Script script.Memory)) output text gives = stayed kept gives
-given whole old mid new kept (Err (Script script.Read)) output text gives = stayed kept gives
-given whole old mid new kept (Err (Script script.Write)) output text gives = gives
-given whole old mid new kept (Err (Script fault)) output text gives = (gives.0, stayed kept gives.1)
-given whole old mid new kept (Err (Pcap pcap.Read)) output text gives = (gives.0, cut kept gives.1)
-given whole old mid new kept (Err (Pcap pcap.Memory)) output text gives = (gives.0, cut kept gives.1)
-given whole old mid new kept (Err (Pcap pcap.Write)) output text gives = gives
-given whole old mid new kept (Err (Pcap fault)) output text gives = (gives.0, grown kept gives.1)
+given : {E : Type 0} (direction : Direction) (config file : List ℕ) (old mid new : Written) → Kept mid new → (done : Result (Unit {0}) CaptureFault) (text : Result (Unit {0}) E) →
+    CaptureGives (captured direction config file) old mid done → CaptureGives (captured direction config file) old new (capture_end done text)
+given direction config file old mid new keeps (Err fault) text gives = fault_kept (captured direction config file) old mid new keeps fault gives
+given direction config file old mid new keeps (Ok done) (Err error) gives =
+    let whole = captured direction config file in
+    written_whole direction config file old new gives.0 (Grows-kept old mid new whole.output whole.text keeps gives.1)
+given direction config file old mid new keeps (Ok done) (Ok flushed) gives =
+    let whole = captured direction config file in (gives.0, Grows-kept old mid new whole.output whole.text keeps gives.1)
 
 -- the same if the readers' octets are known
-pub flushed : {E : Type 0} (known_config known_file : Option (List ℕ)) (meant : List ℕ → List ℕ → Captured) (old mid new : Written) →
-    Keeps mid.output new.output → Keeps mid.text new.text → (done : Result (Unit {0}) CaptureFault) (output text : Result (Unit {0}) E) →
-    IfSome known_config (λ config. IfSome known_file (λ file. CaptureGives (meant config file) old mid done)) →
-    IfSome known_config (λ config. IfSome known_file (λ file. CaptureGives (meant config file) old new (capture_end done output text)))
-flushed None known_file meant old mid new o t done output text gives = tt
-flushed (Some config) None meant old mid new o t done output text gives = tt
-flushed (Some config) (Some file) meant old mid new o t done output text gives =
-    given (meant config file) old mid new (record { output = o; text = t }) done output text gives
+pub flushed : {E : Type 0} (direction : Direction) (config file : Option (List ℕ)) (old : Written) (octets mid new : Option (List ℕ)) → Keeps mid new →
+    (done : Result (Unit {0}) CaptureFault) (text : Result (Unit {0}) E) →
+    IfSome config (λ c. IfSome file (λ f. CaptureGives (captured direction c f) old (known octets mid) done)) →
+    IfSome config (λ c. IfSome file (λ f. CaptureGives (captured direction c f) old (known octets new) (capture_end done text)))
+flushed direction None file old octets mid new keeps done text gives = tt
+flushed direction (Some c) None old octets mid new keeps done text gives = tt
+flushed direction (Some c) (Some f) old octets mid new keeps done text gives =
+    given direction c f old (known octets mid) (known octets new) (kept octets mid new keeps) done text gives
 
 -- what is unwritten stays so
-pub unwritten : {E : Type 0} (old mid new : Written) → Keeps mid.output new.output → Keeps mid.text new.text → (done : Result (Unit {0}) CaptureFault)
-    (output text : Result (Unit {0}) E) → IfErr done (LeavesBoth old mid) → IfErr (capture_end done output text) (LeavesBoth old new)
-unwritten old mid new o t (Ok done) (Err error) text leaves = tt
-unwritten old mid new o t (Ok done) (Ok first) (Err error) leaves = tt
-unwritten old mid new o t (Ok done) (Ok first) (Ok also) leaves = tt
-unwritten old mid new o t (Err (Script script.Write)) output text leaves = tt
-unwritten old mid new o t (Err (Script fault)) output text leaves = stayed (record { output = o; text = t }) leaves
-unwritten old mid new o t (Err (Pcap fault)) output text leaves = tt
+pub unwritten : {E : Type 0} (old : Written) (octets mid new : Option (List ℕ)) → Keeps mid new → (done : Result (Unit {0}) CaptureFault) (text : Result (Unit {0}) E) →
+    IfErr done (LeavesBoth old (known octets mid)) → IfErr (capture_end done text) (LeavesBoth old (known octets new))
+unwritten old octets mid new keeps (Ok done) (Err error) leaves = tt
+unwritten old octets mid new keeps (Ok done) (Ok flushed) leaves = tt
+unwritten old octets mid new keeps (Err (Script script.Write)) text leaves = tt
+unwritten old octets mid new keeps (Err (Script fault)) text leaves = Stays-kept old (known octets mid) (known octets new) (kept octets mid new keeps) leaves
+unwritten old octets mid new keeps (Err (Pcap fault)) text leaves = tt

@@ -2,19 +2,17 @@
 use Rattle.std.specs.Prelude.{◌≡◌, ◌⊎◌, ℕ, List, Option, Result, Ok, Err}
 use Rattle.std.specs.Io.KnownBytes.{Keeps}
 use Rattle.macsec_lines.specs.declared.faults.ScriptFault.TheVariants as script
-use Rattle.macsec_pcap.specs.declared.fault.PcapFault.TheVariants as pcap
 use Rattle.macsec_capture.specs.declared.fault.CaptureFault.{CaptureFault}
 use Rattle.macsec_capture.specs.declared.fault.CaptureFault.TheVariants as capture
 use Rattle.macsec_files.specs.declared.captures.CapturePaths.{CapturePaths}
 use Rattle.macsec_files.specs.declared.failures.Failure.{Failure}
 use Rattle.macsec_files.specs.declared.failures.Failure.TheVariants.{Usage, CannotOpen, Script, Pcap}
 
--- a run ends by its own fault, else by that of the output's flush, else by that of the text's
-abbrev pub capture_end : {E : Type 0} → Result (Unit {0}) CaptureFault → Result (Unit {0}) E → Result (Unit {0}) E → Result (Unit {0}) CaptureFault
-capture_end (Err fault) output text = Err fault
-capture_end (Ok done) (Err error) text = Err (capture.Pcap pcap.Write)
-capture_end (Ok done) (Ok flushed) (Err error) = Err (capture.Script script.Write)
-capture_end (Ok done) (Ok flushed) (Ok also) = Ok tt
+-- a run ends by its own fault, else by that of the text's flush
+abbrev pub capture_end : {E : Type 0} → Result (Unit {0}) CaptureFault → Result (Unit {0}) E → Result (Unit {0}) CaptureFault
+capture_end (Err fault) text = Err fault
+capture_end (Ok done) (Err error) = Err (capture.Script script.Write)
+capture_end (Ok done) (Ok flushed) = Ok tt
 
 -- the arguments are valid, and only one of the three files can't be opened
 abbrev pub CaptureFailsAs : CapturePaths → Failure → Type 0

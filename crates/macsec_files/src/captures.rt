@@ -25,23 +25,18 @@ pub struct CapturePaths<'a> {
     pub output: &'a str,
 }
 
-/// How a run ends whose output and text were flushed: by its own fault, if it has one, else by that of a flush.
-fn capture_end(
-    done: Result<(), CaptureFault>,
-    output: io::Result<()>,
-    text: io::Result<()>,
-) -> Result<(), CaptureFault>
-    ensures { result ≡ capture_end done output text }
+/// How a run ends whose text was flushed: by its own fault, if it has one, else by that of the flush.
+fn capture_end(done: Result<(), CaptureFault>, text: io::Result<()>) -> Result<(), CaptureFault>
+    ensures { result ≡ capture_end done text }
 {
     done?;
-    match (output, text) {
-        (Ok(()), Ok(())) => Ok(()),
-        (Ok(()), Err(_)) => Err(CaptureFault::Script(ScriptFault::Write)),
-        (Err(_), _) => Err(CaptureFault::Pcap(PcapFault::Write)),
+    match text {
+        Ok(()) => Ok(()),
+        Err(_) => Err(CaptureFault::Script(ScriptFault::Write)),
     }
 }
 
-/// Runs a capture like `run_capture`, and flushes the output and the text.
+/// Runs a capture like `run_capture`, which flushes the output, and flushes the text.
 fn run_and_flush<C: Read, R: Read, W: Write, T: Write>(
     alloc: Global,
     direction: Direction,
@@ -57,9 +52,8 @@ fn run_and_flush<C: Read, R: Read, W: Write, T: Write>(
         (record { output = W.contents output.new; text = T.contents text.new })) }
 {
     let done = run_capture(alloc, direction, config, input, output, text);
-    let output_flushed = output.flush();
-    let text_flushed = text.flush();
-    capture_end(done, output_flushed, text_flushed)
+    let flushed = text.flush();
+    capture_end(done, flushed)
 }
 
 /// Runs a capture like `run_capture` over the files of these paths, through buffers, and flushes what was written. The

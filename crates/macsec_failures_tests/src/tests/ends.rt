@@ -82,16 +82,17 @@ fn flushes_of_scripts_that_fail(rt: HostRuntime) {
     assert_eq!(&rt; told.as_slice(), "macsec: line 1: Word\n".as_bytes());
 }
 
-/// How a capture ends that is written to this file, and whose text's flush fails if it is to: its status, and what is told.
+/// How a capture ends that is written to this file, and whose text's flush fails if it is to: its status, what is told,
+/// and whether the line of the second record is the last one of the text, with no counters behind it.
 fn end_of_capture(
     rt: &HostRuntime,
     direction: Direction,
     output: &str,
     flush_fails: bool,
-) -> (u8, Vec<u8>) {
-    let (config, input) = match direction {
-        Direction::Protect => ("sender", "client"),
-        Direction::Validate => ("receiver", "link"),
+) -> (u8, Vec<u8>, bool) {
+    let (config, input, last) = match direction {
+        Direction::Protect => ("sender", "client", "record 1 link 46\n"),
+        Direction::Validate => ("receiver", "link", "record 1 OK 14\n"),
     };
     let paths = CapturePaths {
         config,
@@ -104,10 +105,10 @@ fn end_of_capture(
         &mut told,
         capture_named(rt, rt.alloc(), direction, paths, &mut text),
     );
-    (status, told)
+    (status, told, text.written().ends_with(last.as_bytes()))
 }
 
-/// The same of an output on a full device, and of the text of a capture.
+/// The same of an output on a full device, behind which there are no counters, and of the text of a capture.
 #[test]
 fn flushes_of_captures_that_fail(rt: HostRuntime) -> Result<(), Fail> {
     let alloc = rt.alloc();
@@ -116,13 +117,14 @@ fn flushes_of_captures_that_fail(rt: HostRuntime) -> Result<(), Fail> {
     fs::write(&rt, "client", client_file(alloc)?.as_slice())?;
     fs::write(&rt, "link", link_file(alloc)?.as_slice())?;
     for direction in [Direction::Protect, Direction::Validate] {
-        for (output, flush_fails, wanted) in [
-            ("/dev/full", false, "macsec: pcap Write\n"),
-            ("written", true, "macsec: Write\n"),
-            ("/dev/full", true, "macsec: pcap Write\n"),
+        for (output, flush_fails, wanted, ends_with_record) in [
+            ("/dev/full", false, "macsec: pcap Write\n", true),
+            ("written", true, "macsec: Write\n", false),
+            ("/dev/full", true, "macsec: pcap Write\n", true),
         ] {
-            let (found, told) = end_of_capture(&rt, direction, output, flush_fails);
-            assert_eq!(&rt; (found, told.as_slice()), (1, wanted.as_bytes()));
+            let (status, told, ended) = end_of_capture(&rt, direction, output, flush_fails);
+            assert_eq!(&rt; (status, told.as_slice()), (1, wanted.as_bytes()));
+            assert_eq!(&rt; ended, ends_with_record, "{output}");
         }
     }
     for name in ["sender", "receiver", "client", "link", "written"] {

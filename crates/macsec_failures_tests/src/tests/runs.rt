@@ -290,3 +290,78 @@ fn devices_of_a_validation(rt: HostRuntime) -> Result<(), Fail> {
     let task = Task::Capture(Direction::Validate);
     check_devices(&rt, rt.alloc(), task, &OF_VALIDATION)
 }
+
+/// The flush of which writer fails.
+#[derive(Clone, Copy, Debug, PartialEq, Eq)]
+enum Flush {
+    OfOutput,
+    OfText,
+}
+
+/// A run of a capture of which a flush fails.
+fn flush_run(
+    alloc: Global,
+    direction: Direction,
+    config: &str,
+    file: &[u8],
+    flush: Flush,
+) -> Run {
+    let mut config = config.as_bytes();
+    let mut input = FailingReader::new(file, 16, Fails::Never);
+    let mut output = FailingWriter::new(alloc, Fails::Never, flush == Flush::OfOutput);
+    let mut text = FailingWriter::new(alloc, Fails::Never, flush == Flush::OfText);
+    let (of, name) = of_capture(run_capture(
+        alloc,
+        direction,
+        &mut config,
+        &mut input,
+        &mut output,
+        &mut text,
+    ));
+    Run {
+        of,
+        name,
+        calls: input.calls(),
+        calls_after: input.calls_after(),
+        output,
+        text,
+    }
+}
+
+/// A run whose flush fails answers this, and is at the stop behind so many steps.
+fn check_flush(
+    rt: &impl Abort,
+    alloc: Global,
+    direction: Direction,
+    file: &[u8],
+    flush: Flush,
+    (of, name, steps): (&str, &str, usize),
+) -> Result<(), Fail> {
+    let task = Task::Capture(direction);
+    let stop = Stop::behind(alloc, task.steps(), steps)?;
+    let found = flush_run(alloc, direction, task.source(), file, flush);
+    assert!(rt; answers(&found, of, name), "{flush:?}");
+    assert_eq!(rt; found.output.written(), stop.output.as_slice(), "{flush:?}");
+    assert_eq!(rt; found.text.written(), stop.text.as_bytes(), "{flush:?}");
+    Ok(())
+}
+
+/// If the output can't be flushed behind the records, there are no counters. A fault of the input comes before that of
+/// the flush. The text is not flushed.
+#[test]
+fn flushes_of_a_capture(rt: HostRuntime) -> Result<(), Fail> {
+    let alloc = rt.alloc();
+    for direction in [Direction::Protect, Direction::Validate] {
+        let file = Task::Capture(direction).input(alloc)?;
+        let file = file.as_slice();
+        let cut = &file[..file.len() - 1];
+        for (file, flush, wanted) in [
+            (file, Flush::OfOutput, ("pcap", "Write", 4)),
+            (cut, Flush::OfOutput, ("pcap", "CutRecord", 3)),
+            (file, Flush::OfText, ("", "", 5)),
+        ] {
+            check_flush(&rt, alloc, direction, file, flush, wanted)?;
+        }
+    }
+    Ok(())
+}

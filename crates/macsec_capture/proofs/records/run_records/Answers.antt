@@ -1,8 +1,9 @@
 use Rattle.std.proofs.Common.{◌≡◌, ◌∙◌, arith, refl, rules, subst}
+use Rattle.std.proofs.lemmas.Result.{err_from_is_err_and}
 use Rattle.std.specs.Prelude.{Ok, Some}
 use Rattle.macsec_pcap.specs.Answers.{answer_of}
 use Rattle.macsec_pcap.specs.Reading.{Answers, IsAfter}
-use Rattle.macsec_capture.proofs.Taken.{none_taken, taken_more}
+use Rattle.macsec_capture.proofs.Taken.{none_taken, taken_more, taken_write}
 use Rattle.macsec_capture.proofs.records.run_records.Goals as goal
 
 pub loop-k-init : goal.loop-k-init
@@ -23,3 +24,11 @@ loop-k-preserved g c =
       it.no_fault,
       c.run_record.ensures.lent ∙ inv.4,
     )
+
+pub returns-in_err-run_record-clause-records : goal.returns-in_err-run_record-clause-records
+returns-in_err-run_record-clause-records g c =
+    let p = err_from_is_err_and c.from_residual-in_err-run_record.result c.from_residual-in_err-run_record.ensures.1 in
+    let got : c.next.result ≡ Ok (Some c.in-Some.record) = search rules in
+    rw (p.1, p.2)
+    (taken_write _ _ _ _ _ _ _ _ _ _ _ _ c.loop-k.invariant.0 (subst (λ a. Answers c.loop-k.reader.ahead (answer_of a)) got c.next.ensures.answer)
+      c.in_err-run_record.ensures.fault)

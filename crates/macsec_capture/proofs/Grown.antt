@@ -1,0 +1,62 @@
+-- What is appended to the output and to the text, piece after piece.
+use Rattle.std.proofs.Common.{◌≡◌, ℕ, List, [], ◌∷◌, ◌++◌}
+use Rattle.std.specs.Io.KnownBytes.{Keeps}
+use Rattle.std.specs.Prelude.{Result, Err}
+use Rattle.std.proofs.KnownBytes.{Appends-kept, Appends-nil, Appends-trans, Keeps-refl, Keeps-trans}
+use Rattle.macsec_lines.specs.declared.faults.ScriptFault.TheVariants as script
+use Rattle.macsec_pcap.specs.declared.fault.PcapFault.TheVariants.{Magic, Version, LinkType, CutHeader, CutRecord, RecordLength, Read, Write, Memory, RecordCount}
+use Rattle.macsec_capture.specs.declared.fault.CaptureFault.{CaptureFault}
+use Rattle.macsec_capture.specs.declared.fault.CaptureFault.TheVariants.{Script, Pcap}
+use Rattle.macsec_capture.specs.Captured.{Captured, Stop}
+use Rattle.macsec_capture.specs.Runs.{AtFirst, AtSome, CaptureGives, Grows, Stays, Written}
+
+pub Stays-same : (w : Written) → Stays w w
+Stays-same w = record { output = Keeps-refl w.output; text = Keeps-refl w.text }
+
+pub Grows-nothing : (w : Written) → Grows w w [] []
+Grows-nothing w = record { output = Appends-nil w.output; text = Appends-nil w.text }
+
+pub Grows-more : (a b c : Written) (xs ys us vs : List ℕ) → Grows a b xs us → Grows b c ys vs → Grows a c (xs ++ ys) (us ++ vs)
+Grows-more a b c xs ys us vs first second = record {
+  output = Appends-trans a.output b.output c.output xs ys first.output second.output;
+  text = Appends-trans a.text b.text c.text us vs first.text second.text;
+}
+
+-- ---- writers that keep what they have, as a flush does
+
+pub record Kept (mid new : Written) : Type 0 where
+  pub output : Keeps mid.output new.output
+  pub text : Keeps mid.text new.text
+
+pub Grows-kept : (old mid new : Written) (octets lines : List ℕ) → Kept mid new → Grows old mid octets lines → Grows old new octets lines
+Grows-kept old mid new octets lines kept grows = record {
+  output = Appends-kept old.output mid.output new.output octets grows.output kept.output;
+  text = Appends-kept old.text mid.text new.text lines grows.text kept.text;
+}
+
+pub Stays-kept : (old mid new : Written) → Kept mid new → Stays old mid → Stays old new
+Stays-kept old mid new kept stays = record {
+  output = Keeps-trans old.output mid.output new.output stays.output kept.output;
+  text = Keeps-trans old.text mid.text new.text stays.text kept.text;
+}
+
+first_kept : (stops : List Stop) (P Q : Stop → Type 0) → ((stop : Stop) → P stop → Q stop) → AtFirst stops P → AtFirst stops Q
+first_kept [] P Q keeps at = absurd at
+first_kept (stop ∷ more) P Q keeps at = keeps stop at
+
+some_kept : (stops : List Stop) (P Q : Stop → Type 0) → ((stop : Stop) → P stop → Q stop) → AtSome stops P → AtSome stops Q
+some_kept stops P Q keeps at = (at.0, at.1, keeps at.0 at.2)
+
+-- a fault ends a run as before
+pub fault_kept : (whole : Captured) (old mid new : Written) → Kept mid new → (fault : CaptureFault) →
+    CaptureGives whole old mid (Err fault) → CaptureGives whole old new (Err fault)
+fault_kept whole old mid new kept (Script script.Memory) gives = Stays-kept old mid new kept gives
+fault_kept whole old mid new kept (Script script.Read) gives = Stays-kept old mid new kept gives
+fault_kept whole old mid new kept (Script script.Write) gives =
+    some_kept whole.stops _ _ (λ stop at. Appends-kept old.output mid.output new.output stop.output at kept.output) gives
+fault_kept whole old mid new kept (Script fault) gives = (gives.0, Stays-kept old mid new kept gives.1)
+fault_kept whole old mid new kept (Pcap Memory) gives = first_kept whole.stops _ _ (λ stop at. Grows-kept old mid new stop.output stop.text kept at) gives
+fault_kept whole old mid new kept (Pcap Read) gives = some_kept whole.stops _ _ (λ stop at. Grows-kept old mid new stop.output stop.text kept at) gives
+fault_kept whole old mid new kept (Pcap Write) gives =
+    some_kept whole.stops _ _ (λ stop at. Appends-kept old.text mid.text new.text stop.text at kept.text) gives
+fault_kept whole old mid new kept (Pcap fault) gives = (gives.0, Grows-kept old mid new whole.output whole.text kept gives.1)
