@@ -5,8 +5,8 @@ use Rattle.macsec_files.proofs.captures.run_and_flush.Goals as goal
 pub returns-clause-run : goal.returns-clause-run
 returns-clause-run g c = rw c.capture_end.ensures
     (flushed c.args.direction (g.C.Read.remaining c.args.config.now) (g.R.Read.remaining c.args.input.now) _ _ _ _
-    c.flush.ensures.bytes c.run_capture-done.result _ c.run_capture-done.ensures.run)
+    c.flush-flushed.ensures.bytes c.run_capture-done.result _ c.run_capture-done.ensures.run)
 
 pub returns-clause-unwritten : goal.returns-clause-unwritten
 returns-clause-unwritten g c = rw c.capture_end.ensures
-    (unwritten _ _ _ _ c.flush.ensures.bytes c.run_capture-done.result _ c.run_capture-done.ensures.unwritten)
+    (unwritten _ _ _ _ c.flush-flushed.ensures.bytes c.run_capture-done.result _ c.run_capture-done.ensures.unwritten)
