@@ -1,8 +1,12 @@
 -- How the program ends by its words, and what is told of an end.
 use Rattle.std.specs.Prelude.{◌≡◌, ◌⊎◌, ℕ, List, codes, Option, IsSome, OnOk, Result, Ok, Err}
 use Rattle.std.specs.Io.KnownBytes.{Appends}
+use Rattle.std.specs.declared.io.ErrorKind.{ErrorKind}
+use Rattle.std.specs.declared.io.ErrorKind.TheVariants.{OutOfMemory}
 use Rattle.clap.specs.Words.{Text}
+use Rattle.macsec_lines.specs.declared.faults.ScriptFault.TheVariants.{Memory}
 use Rattle.macsec_files.specs.declared.failures.Failure.{Failure}
+use Rattle.macsec_files.specs.declared.failures.Failure.TheVariants.{Script, Usage}
 use Rattle.macsec_files.specs.Failures.{FailsAsOpening, told_status, told_text}
 use Rattle.macsec_arguments.specs.Words.{FailsBy, asked}
 
@@ -10,6 +14,19 @@ use Rattle.macsec_arguments.specs.Words.{FailsBy, asked}
 abbrev pub EndsBy : List Text → Result (Unit {0}) Failure → Type 0
 EndsBy words (Ok done) = IsSome (asked words)
 EndsBy words (Err failure) = (FailsBy words failure) ⊎ (FailsAsOpening (codes "/") failure)
+
+-- the failure of words that can't be read: there is no memory, or one of them is not UTF-8
+abbrev pub unread_failure : ErrorKind → Failure
+unread_failure OutOfMemory = Script Memory
+unread_failure _ = Usage
+
+abbrev pub IsUnread : ErrorKind → Result (Unit {0}) Failure → Type 0
+IsUnread kind ended = ended ≡ Err (unread_failure kind)
+
+-- some words make it end so, or words that can't be read
+pub data EndsAtAll (ended : Result (Unit {0}) Failure) : Type 0 where
+  by_words : (words : List Text) → EndsBy words ended → EndsAtAll ended
+  unread : (kind : ErrorKind) → IsUnread kind ended → EndsAtAll ended
 
 -- of one of these ends, this is the status, and its text is what was written if it was taken
 pub record IsTold {E : Type 0} (Ends : Result (Unit {0}) Failure → Type 0) (old new : Option (List ℕ)) (status : ℕ)

@@ -1,7 +1,8 @@
 //! The whole program but for its `main`: what it does by its words, what it tells of that, and its status.
 
-ghost use Rattle.std.specs.Prelude.{map, string_bytes, ⊤};
-ghost use Rattle.macsec_arguments.specs.Ends.{EndsBy, IsTold};
+ghost use Rattle.std.specs.Prelude.{map, string_bytes, IfErr, IfOk};
+ghost use Rattle.std.specs.IoError.{error_kind};
+ghost use Rattle.macsec_arguments.specs.Ends.{EndsAtAll, EndsBy, IsTold, IsUnread};
 
 use crate::run_words;
 use macsec_files::{Failure, failure_of_words, open_stand_ins, tell};
@@ -10,11 +11,24 @@ use std::io::{self, Write};
 
 /// The program `macsec`: does what its own words ask for, and tells on `errors` how that ended, as `run_and_tell` does.
 pub fn run_program<W: Write>(rt: &HostRuntime, errors: &mut W) -> (u8, io::Result<()>)
-    ensures { IsTold (λ _. ⊤) (W.contents errors.old) (W.contents errors.new) result.0 result.1 }
+    ensures { IsTold EndsAtAll (W.contents errors.old) (W.contents errors.new) result.0 result.1 }
 {
-    match own_words(rt) {
+    let own = own_words(rt);
+    run_own(rt, &own, errors)
+}
+
+/// Does the same by words that were read, or could not be.
+fn run_own<W: Write>(
+    rt: &HostRuntime,
+    own: &io::Result<Vec<String>>,
+    errors: &mut W,
+) -> (u8, io::Result<()>)
+    ensures read { IfOk own.now (λ words. IsTold (EndsBy (map string_bytes words.items)) (W.contents errors.old) (W.contents errors.new) result.0 result.1) }
+    ensures unread { IfErr own.now (λ error. IsTold (IsUnread (error_kind error)) (W.contents errors.old) (W.contents errors.new) result.0 result.1) }
+{
+    match own {
         Ok(words) => run_and_tell(rt, words.as_slice(), errors),
-        Err(error) => tell(errors, Err(failure_of_words(&error))),
+        Err(error) => tell(errors, Err(failure_of_words(error))),
     }
 }
 
