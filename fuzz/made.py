@@ -113,6 +113,13 @@ class Maker:
             self.suites[index] = own if self.rng.randrange(4) == 0 else named
         return self.suites[index][end]
 
+    def change_numbers(self, end, index):
+        """A key that is new gets a suite with extended packet numbers if those that the end sends are not, or without."""
+        endpoint = self.ends[end]
+        is_xpn = any(sa.on and endpoint.keys[sa.key].is_xpn for sa in endpoint.tx.values())
+        suite = self.rng.choice([it for it, (_, extended) in expected.SUITES.items() if extended != is_xpn])
+        self.suites.setdefault(index, {"A": suite, "B": suite})
+
     def octets_of(self, end, index):
         return bytes([index]) * expected.SUITES[self.suite_of(end, index)][0]
 
@@ -346,8 +353,10 @@ class Maker:
 
     def roll(self):
         """Both ends install a key, and an end's traffic goes over to it."""
-        end, index = self.end(), self.rng.randrange(2, 6)
+        end, index = self.end(), self.rng.randrange(2, 8)
         an = self.free_an(end)
+        if self.rng.randrange(2):
+            self.change_numbers(end, index)
         numbers = {it: self.rng.choice((index, index, index + 100)) for it in "AB"}
         for it in "AB":
             self.install(it, numbers[it], index)
@@ -437,7 +446,7 @@ WEIGHTS = {
     Maker.widen: 2,
     Maker.transmit: 4,
     Maker.remake: 5,
-    Maker.roll: 3,
+    Maker.roll: 5,
     Maker.again: 3,
     Maker.receive: 4,
     Maker.raise_lowest: 3,

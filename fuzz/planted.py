@@ -176,6 +176,21 @@ PLANTED = [
         'else "gcm128"\n',
     ),
     (
+        "a key's octets are taken again under another suite",
+        "it.octets == octets for it",
+        "(it.octets, it.suite) == (octets, suite) for it",
+    ),
+    (
+        "no transmit association begins above the last number of the endpoint's suite",
+        'not 1 <= pn <= key.last)\n        refuse("PnFloor"',
+        'not 1 <= pn <= (2**32 - 1, key.last)[SUITES[self.suite][1]])\n        refuse("PnFloor"',
+    ),
+    (
+        "a receive association of the own SSCI is refused with 32-bit numbers too",
+        'refuse("SsciOwn", key.is_xpn and ssci == key.ssci)',
+        'refuse("SsciOwn", ssci == key.ssci)',
+    ),
+    (
         "a key has the length of the endpoint's suite",
         'refuse("KeyLength", len(octets) != key_length)',
         'refuse("KeyLength", len(octets) != SUITES[self.suite][0])',
