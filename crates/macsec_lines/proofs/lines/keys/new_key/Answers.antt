@@ -3,6 +3,7 @@
 use Rattle.std.proofs.Common.{arith}
 use Rattle.std.proofs.lemmas.Grind.{common_steps}
 use Rattle.macsec_lines.proofs.lines.keys.new_key.Goals as goal
+use Rattle.macsec_lines.proofs.lines.keys.new_key.Goals.{in-len3, in-len4, in-len5, in-len6}
 
 pub returns-in_err-number : goal.returns-in_err-number
 returns-in_err-number c = grind (arith, common_steps)
@@ -21,3 +22,12 @@ returns-in_err-ssci-in-Some-more c = grind (arith, common_steps)
 
 pub returns-in_err-salt-in-Some-more : goal.returns-in_err-salt-in-Some-more
 returns-in_err-salt-in-Some-more c = grind (arith, common_steps)
+
+pub returns : goal.returns
+returns c =
+    elim c.if-words-lt4.branch [
+      | in-len3 w ↦ grind (arith, common_steps)
+      | in-len4 w ↦ grind (arith, common_steps)
+      | in-len5 w ↦ grind (arith, common_steps)
+      | in-len6 w ↦ grind (arith, common_steps)
+    ]
