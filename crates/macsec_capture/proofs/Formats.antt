@@ -27,8 +27,8 @@ within_format order zero octets = chosen (length octets == 0) (Ok None) (Err Rec
 within_format order (suc places) octets =
     chosen (length octets == 0) (Ok None) _ tt
     (chosen (nat_lt (length octets) record_header_length) (Err CutRecord) _ tt
-      (chosen (nat_lt max_record_length (captured_length order octets)) (Err RecordLength) _ tt
-        (chosen (nat_lt (length octets) (record_length order octets)) (Err CutRecord) _ tt tt)))
+    (chosen (nat_lt max_record_length (captured_length order octets)) (Err RecordLength) _ tt
+    (chosen (nat_lt (length octets) (record_length order octets)) (Err CutRecord) _ tt tt)))
 
 begun_format : (begun : Result (Option (CaptureRecord × List ℕ)) PcapFault) (more : List ℕ → Capture) → FaultIsNotMemory begun →
     ((rest : List ℕ) → IsNotMemory (more rest).fault) → IsNotMemory (begun_by begun more).fault

@@ -39,9 +39,12 @@ pub some_behind : (direction : Direction) (ready : Part) (file : CaptureFile) (n
     P (stop_behind direction ready file n) → AtSome (stops_of direction ready (Ok file)) P
 some_behind direction ready file n P within holds =
     let all = map (stop_behind direction ready file) (range_with_len 0 (length file.capture.records + 1)) in
-    let stop = stop_behind direction ready file n in
-    (stop, Contains-append_right (first_stop ready ∷ []) all stop
-      (contains_number (stop_behind direction ready file) n (length file.capture.records + 1) (omega (arith, within))), holds)
+    let stop = stop_behind direction ready file n in (
+      stop,
+      Contains-append_right (first_stop ready ∷ []) all stop
+          (contains_number (stop_behind direction ready file) n (length file.capture.records + 1) (omega (arith, within))),
+      holds,
+    )
 
 -- the last one is behind all records
 pub at_last : (direction : Direction) (ready : Part) (file : CaptureFile) (P : Stop → Type 0) →

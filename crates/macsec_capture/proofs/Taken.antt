@@ -225,9 +225,11 @@ taken_fault direction first (failed other) ahead old now s k fault taken answer 
 held_write : (direction : Direction) (first : State) (capture : Capture) (ahead : Ahead) (old now new : Written) (s after : State) (k : ℕ) (r : CaptureRecord) (fault : CaptureFault) →
     IsHeld direction first capture ahead old now s k → Answers ahead (Ok (Some r)) → FailsIn (record_part direction s k r) now new fault →
     RunsHeld direction first capture old new after (Err fault)
-held_write direction first capture ahead old now new s after k r (Script fault) held answer fails =
-    (fails.0, after_front direction first capture.records held.front held.rest (λ part. Appends old.output new.output part.output) held.all
-      (subst (λ o. Appends old.output o (records_part direction first 0 held.front).output) (sym fails.1) held.adds.grows.output))
+held_write direction first capture ahead old now new s after k r (Script fault) held answer fails = (
+  fails.0,
+  after_front direction first capture.records held.front held.rest (λ part. Appends old.output new.output part.output) held.all
+      (subst (λ o. Appends old.output o (records_part direction first 0 held.front).output) (sym fails.1) held.adds.grows.output),
+)
 held_write direction first capture ahead old now new s after k r (Pcap fault) held answer fails =
     let at = next_held direction first capture ahead old now s k r held answer in
     let part = records_part direction first 0 at.front in

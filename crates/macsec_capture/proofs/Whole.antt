@@ -90,8 +90,8 @@ pub taken_of_file : (direction : Direction) (s : State) (reader : Reading) (unit
 taken_of_file direction s reader unit o m n x t u after answer back same adds runs octets file read stands =
     subst (λ held. TakesFile direction s file (known o t) (known held u) after answer) (sym back)
     (held_takes direction s file (known o t) (known m t) (known n u) after answer
-      (record { output = subst (λ u. Appends o m (header_octets u)) (same ∙ ap (λ (r : Reading). r.resolution) stands) adds; text = Appends-nil t })
-      (file_format octets file read) (subst (λ (r : Reading). RunsRecords direction s r.ahead (known m t) (known n u) after answer) stands runs))
+    (record { output = subst (λ u. Appends o m (header_octets u)) (same ∙ ap (λ (r : Reading). r.resolution) stands) adds; text = Appends-nil t })
+    (file_format octets file read) (subst (λ (r : Reading). RunsRecords direction s r.ahead (known m t) (known n u) after answer) stands runs))
 
 -- the header can't be written
 pub headless : (direction : Direction) (s : State) (reader : Reading) (o m t : Option (List ℕ)) (fault : PcapFault) → fault ≡ Write →
@@ -231,7 +231,7 @@ behind_script : (lines : List ℕ) (whole : Captured) (old mid new : Written) �
 behind_script lines whole old mid new same fault is gives =
     subst (λ f. CaptureGives (behind lines whole) old new (Err (Script f))) (sym is)
     (some_put lines whole.stops _ (λ stop. Appends old.output new.output stop.output) (λ stop adds. subst (λ o. Appends o new.output stop.output) same adds)
-      (subst (λ f. CaptureGives whole mid new (Err (Script f))) is gives))
+    (subst (λ f. CaptureGives whole mid new (Err (Script f))) is gives))
 
 behind_gives : (lines : List ℕ) (whole : Captured) (old mid new : Written) → mid.output ≡ old.output → Appends old.text mid.text lines →
     (answer : Result (Unit {0}) CaptureFault) → IfErr answer IsLateFault → CaptureGives whole mid new answer → CaptureGives (behind lines whole) old new answer
@@ -275,4 +275,4 @@ unprinted direction config commands (Some file) o t u fault is =
     let ready = commands_part (start config) commands in
     subst (λ f. CaptureGives (captured_at direction (Some (config, commands)) file) (known o t) (known o u) (Err (Script f))) (sym is)
     (subst (λ stops. AtSome stops (λ stop. Appends o o stop.output)) (same_stops direction ready (file_of file))
-      (some_at_first direction ready (file_of file) (λ stop. Appends o o stop.output) (Appends-nil o)))
+    (some_at_first direction ready (file_of file) (λ stop. Appends o o stop.output) (Appends-nil o)))

@@ -127,14 +127,28 @@ fn files_there_and_back(rt: HostRuntime) -> Result<(), Fail> {
 fn outputs_of_faults_are_emptied(rt: HostRuntime) -> Result<(), Fail> {
     let alloc = rt.alloc();
     write_file(&rt, "begins", SENDER.as_bytes())?;
-    write_file(&rt, "ends", b"end A gcm128 0200000000010001 1518 sci\nA key 0 00 0\n")?;
+    write_file(
+        &rt,
+        "ends",
+        b"end A gcm128 0200000000010001 1518 sci\nA key 0 00 0\n",
+    )?;
     write_file(&rt, "headed", octets(alloc, &[MICRO, RECORD])?.as_slice())?;
     write_file(&rt, "headless", octets(alloc, &["d4c3b2a1"])?.as_slice())?;
     write_file(&rt, "other", octets(alloc, &["00"; 24])?.as_slice())?;
     for (names, status, told, printed) in [
         (["ends", "headed", "filled"], 2, "macsec: line 2: Hex\n", ""),
-        (["begins", "headless", "filled"], 1, "macsec: pcap CutHeader\n", SENDER_DONE),
-        (["begins", "other", "filled"], 1, "macsec: pcap Magic\n", SENDER_DONE),
+        (
+            ["begins", "headless", "filled"],
+            1,
+            "macsec: pcap CutHeader\n",
+            SENDER_DONE,
+        ),
+        (
+            ["begins", "other", "filled"],
+            1,
+            "macsec: pcap Magic\n",
+            SENDER_DONE,
+        ),
     ] {
         for direction in [Direction::Protect, Direction::Validate] {
             write_file(&rt, "filled", RECEIVER.as_bytes())?;
@@ -144,6 +158,9 @@ fn outputs_of_faults_are_emptied(rt: HostRuntime) -> Result<(), Fail> {
             assert!(&rt; fs::read(&rt, "filled")?.is_empty());
         }
     }
-    remove_files(&rt, &["begins", "ends", "headed", "headless", "other", "filled"])?;
+    remove_files(
+        &rt,
+        &["begins", "ends", "headed", "headless", "other", "filled"],
+    )?;
     Ok(())
 }

@@ -299,13 +299,7 @@ enum Flush {
 }
 
 /// A run of a capture of which a flush fails.
-fn flush_run(
-    alloc: Global,
-    direction: Direction,
-    config: &str,
-    file: &[u8],
-    flush: Flush,
-) -> Run {
+fn flush_run(alloc: Global, direction: Direction, config: &str, file: &[u8], flush: Flush) -> Run {
     let mut config = config.as_bytes();
     let mut input = FailingReader::new(file, 16, Fails::Never);
     let mut output = FailingWriter::new(alloc, Fails::Never, flush == Flush::OfOutput);
@@ -354,7 +348,7 @@ fn flushes_of_a_capture(rt: HostRuntime) -> Result<(), Fail> {
     for direction in [Direction::Protect, Direction::Validate] {
         let file = Task::Capture(direction).input(alloc)?;
         let file = file.as_slice();
-        let cut = &file[..file.len() - 1];
+        let cut = &file[..file.len().saturating_sub(1)];
         for (file, flush, wanted) in [
             (file, Flush::OfOutput, ("pcap", "Write", 4)),
             (cut, Flush::OfOutput, ("pcap", "CutRecord", 3)),

@@ -31,4 +31,4 @@ returns-in_err-run_record-clause-records g c =
     let got : c.next.result ≡ Ok (Some c.in-Some.record) = search rules in
     rw (p.1, p.2)
     (taken_write _ _ _ _ _ _ _ _ _ _ _ _ c.loop-k.invariant.0 (subst (λ a. Answers c.loop-k.reader.ahead (answer_of a)) got c.next.ensures.answer)
-      c.in_err-run_record.ensures.fault)
+    c.in_err-run_record.ensures.fault)
