@@ -13,7 +13,7 @@ type Faulty = (&'static str, LineFault);
 
 /// The first word, and after an end's letter the second, comes first, then the number of words, and then the words
 /// from left to right.
-const LINES_AT_FAULT: [Faulty; 31] = [
+const LINES_AT_FAULT: [Faulty; 35] = [
     ("B frob", LineFault::Word),
     ("C send 00", LineFault::Word),
     ("send 00", LineFault::Word),
@@ -25,6 +25,14 @@ const LINES_AT_FAULT: [Faulty; 31] = [
     ("A validate loose", LineFault::Word),
     ("A tag none", LineFault::Word),
     ("A txsa 0 0 1 none", LineFault::Word),
+    (
+        "A key 0 ad7a2bd03eac835a6f620fdcb506b345 0 00000001",
+        LineFault::Word,
+    ),
+    (
+        "A key 0 ad7a2bd03eac835a6f620fdcb506b345 0 xpn192 1 g",
+        LineFault::Word,
+    ),
     ("A", LineFault::Count),
     ("A send", LineFault::Count),
     ("A replay on", LineFault::Count),
@@ -32,7 +40,11 @@ const LINES_AT_FAULT: [Faulty; 31] = [
     ("end C", LineFault::Count),
     ("B counters 1", LineFault::Count),
     (
-        "A key 0 ad7a2bd03eac835a6f620fdcb506b345 0 00000001",
+        "A key 256 ad7a2bd03eac835a6f620fdcb506b345",
+        LineFault::Count,
+    ),
+    (
+        "A key 256 ad7a2bd03eac835a6f620fdcb506b345 0 xpn128 00000001 12153525c0895e8000000000 0",
         LineFault::Count,
     ),
     ("A send 0", LineFault::Hex),
@@ -41,6 +53,10 @@ const LINES_AT_FAULT: [Faulty; 31] = [
     ("alter 0 0 100", LineFault::Hex),
     ("A txsa 0 0 00000000000000001 int", LineFault::Hex),
     ("B rxsa 12153524c0895e8 4 256 0", LineFault::Hex),
+    (
+        "A key 0 ad7a2bd03eac835a6f620fdcb506b345 0 xpn128 00000001",
+        LineFault::Hex,
+    ),
     (
         "A key 4096 ad7a2bd03eac835a6f620fdcb506b345 0",
         LineFault::Number,
