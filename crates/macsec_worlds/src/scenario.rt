@@ -362,7 +362,7 @@ fn unlike_offsets() -> [Move; 8] {
 }
 
 /// B receives from A under two associations, whose keys are of GCM-AES-128 and GCM-AES-XPN-128. A has sent a frame
-/// under the first, and two about 2^32 under the second, and has deleted the first.
+/// under the first, and two about 2^32 under the second, and has deleted the first. A fourth frame is the first with PN 0.
 fn unlike_suites() -> [Move; 14] {
     [
         at_b(Command::RxSc(SCI_A)),
@@ -378,7 +378,8 @@ fn unlike_suites() -> [Move; 14] {
         Move::Send(End::A),
         Move::Send(End::A),
         at_a(Command::TxDel(an(false))),
-        at_a(Command::RxSc(SCI_B)),
+        // The packet number of the first frame becomes 0.
+        Move::Alter(0, 19, 0),
     ]
 }
 
@@ -635,13 +636,13 @@ fn suites() -> [Move; 14] {
         Move::Deliver(End::B, 1),
         Move::Deliver(End::B, 2),
         Move::Deliver(End::B, 3),
+        Move::Deliver(End::B, 4),
         Move::Deliver(End::A, 3),
         // A goes back to the key of GCM-AES-128, which has no packet number above 2^32 - 1.
         tx_sa(false, 0, 2),
         tx_sa(false, 0, (1 << 32) + 1),
         at_a(Command::TxOn(an(false))),
-        // The packet number of the first frame becomes 0, and its SecTAG has E alone.
-        Move::Alter(0, 19, 0),
+        // The frame with PN 0 has E alone.
         Move::Alter(3, 14, 0x28),
         // B's own SSCI counts under the key of GCM-AES-XPN-128 alone.
         at_b(Command::RxDel(SCI_A, an(true))),
