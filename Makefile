@@ -36,6 +36,7 @@ check: toolchain
 	@mkdir -p build
 	cp crates/macsec_cli/out/macsec_cli build/macsec
 	cp crates/macsec_cli/out/macsec_cli.by-rattle build/macsec-rattle
+	tools/stored-runs
 	python3 fuzz/fuzz.py --inputs $(GATE_INPUTS) --seed $(SEED)
 	python3 fuzz/planted.py --inputs $(GATE_INPUTS) --seed $(SEED)
 	tools/failures memory
