@@ -6,18 +6,19 @@
 # make search        looks for counter-examples to what is promised of two ends and their link
 # make fuzz          gives mutated inputs to the program as both compilers build it
 # make failures      makes files and streams fail, refuses memory, and lists the calls that take it
+# make stored-runs   compares the program's answers with stored ones
 # make peer          compares frames with Scapy's, which has to be installed
 # make kept-frames   sees that callers which keep a frame over the next call are refused
 # make lanes-used    sees that the cipher is built of its lanes, powers and pieces
 # make clean         removes build/
-# fuzz, failures and peer prove and build the program first.
+# fuzz, failures, stored-runs and peer prove and build the program first.
 RT := $(shell command -v rt 2>/dev/null)
 SOURCES := crates.txt $(shell find crates -name out -prune -o -type f \( -name '*.rt' -o -name '*.antt' \) -print)
 INPUTS := 100000
 GATE_INPUTS := 2000
 SEED := 1
 
-.PHONY: all try run check bench search fuzz failures peer kept-frames lanes-used toolchain clean
+.PHONY: all try run check bench search fuzz failures stored-runs peer kept-frames lanes-used toolchain clean
 
 all: build/macsec
 
@@ -53,6 +54,9 @@ fuzz: build/macsec build/macsec-rattle
 
 failures: build/macsec
 	tools/failures
+
+stored-runs: build/macsec
+	tools/stored-runs
 
 peer: build/macsec
 	tools/peer
