@@ -20,7 +20,8 @@ few_words_for_a_key : printed_text (codes "end A gcm128 12153524c0895e81 1518 sc
 unfolding hex_on_literals
 few_words_for_a_key = refl
 
-ssci_without_salt : printed_text (both_ends ++ codes "A key 0 ad7a2bd03eac835a6f620fdcb506b345 0 00000001\n") ≡ Err (script.Count 3)
+-- of six words the last is a suite
+ssci_without_salt : printed_text (both_ends ++ codes "A key 0 ad7a2bd03eac835a6f620fdcb506b345 0 00000001\n") ≡ Err (script.Word 3)
 unfolding hex_on_literals
 ssci_without_salt = refl
 
@@ -68,7 +69,7 @@ windows : printed_text (both_ends ++ codes "A replay on 4294967295\nA replay off
 unfolding hex_on_literals digits
 windows = refl
 
--- extended packet numbers: a key has no offset, the window is narrower, and packet numbers have 64 bits
+-- extended packet numbers: a key has no offset, and packet numbers have 64 bits
 abbrev pub extended_ends : List ℕ
 extended_ends = codes "end A xpn128 12153524c0895e81 1518 sci\nend B xpn128 0000000000000002 1518 auto\n"
 
@@ -76,9 +77,14 @@ extended_offset : printed_text (extended_ends ++ codes "A key 0 ad7a2bd03eac835a
 unfolding hex_on_literals digits
 extended_offset = refl
 
-extended_windows : printed_text (extended_ends ++ codes "A replay on 1073741823\nA replay on 1073741824\n") ≡ Ok (codes "3 done\n4 refused 18 Window\n")
+-- beside a key of extended packet numbers the window is narrower, of the ends' suite or of its own
+extended_windows : printed_text (extended_ends ++ codes "A replay on 1073741823\nA key 0 ad7a2bd03eac835a6f620fdcb506b345 0\nA replay on 1073741824\n") ≡ Ok (codes "3 done\n4 done\n5 refused 18 Window\n")
 unfolding hex_on_literals digits
 extended_windows = refl
+
+window_before_the_key : printed_text (both_ends ++ codes "A replay on 1073741824\nA key 0 ad7a2bd03eac835a6f620fdcb506b345 0 xpn128\nA replay on 1073741823\nA key 0 ad7a2bd03eac835a6f620fdcb506b345 0 xpn128\n") ≡ Ok (codes "3 done\n4 refused 18 Window\n5 done\n6 done\n")
+unfolding hex_on_literals digits
+window_before_the_key = refl
 
 extended_numbers : printed_text (extended_ends ++ codes "A key 0 ad7a2bd03eac835a6f620fdcb506b345 0\nA txsa 0 0 0 int\nA txsa 0 0 100000000 int\nA txdel 0\nA txsa 0 0 ffffffffffffffff int\n") ≡ Ok (codes "3 done\n4 refused 14 PnRange\n5 done\n6 done\n7 done\n")
 unfolding hex_on_literals digits
