@@ -29,18 +29,18 @@ try: toolchain
 run: build/macsec
 	@build/macsec run - < crates/macsec_examples/data/tour.macsec
 
-# Every proof from nothing, the must-fail edits, the tests and the programs, and beside them what needs no proof; then
-# the program that was proved, as both compilers built it.
+# Every proof from nothing, the must-fail edits, the tests and the programs, and beside them, on processors that wait,
+# what needs no proof; then the program that was proved, as both compilers built it.
 check: toolchain
 	tools/failures calls
-	tools/kept-frames & frames=$$!; tools/lanes-used & lanes=$$!; rt ci && wait $$frames && wait $$lanes
+	tools/kept-frames & frames=$$!; tools/lanes-used & lanes=$$!; nice tools/failures memory & memory=$$!; \
+	    rt ci && wait $$frames && wait $$lanes && wait $$memory
 	@mkdir -p build
 	cp crates/macsec_cli/out/macsec_cli build/macsec
 	cp crates/macsec_cli/out/macsec_cli.by-rattle build/macsec-rattle
 	tools/stored-runs
 	python3 fuzz/fuzz.py --inputs $(GATE_INPUTS) --seed $(SEED)
 	python3 fuzz/planted.py --inputs $(GATE_INPUTS) --seed $(SEED)
-	tools/failures memory
 
 bench: toolchain
 	cd crates/macsec_bench && rt run -- measure
@@ -67,18 +67,14 @@ kept-frames: toolchain
 lanes-used: toolchain
 	tools/lanes-used
 
-# The program is built once it is proved; here it is run on an empty script, which prints nothing.
+# The program, proved and then built by LLVM.
 build/macsec: $(SOURCES) | toolchain
 	@echo "proving and building build/macsec: from nothing many minutes, with a line for each crate" >&2
-	@tools/prove macsec_cli
-	@cd crates/macsec_cli && rt run -- run - < /dev/null >&2
-	@mkdir -p build
-	@cp crates/macsec_cli/out/macsec_cli build/macsec
+	@tools/prove
 
 # The program as Rattle's own compiler builds it.
 build/macsec-rattle: $(SOURCES) | toolchain build/macsec
-	@cd crates/macsec_cli && rt run --backend rattle -- run - < /dev/null >&2
-	@cp crates/macsec_cli/out/macsec_cli build/macsec-rattle
+	@tools/prove --by-rattle
 
 toolchain:
 ifeq ($(RT),)
