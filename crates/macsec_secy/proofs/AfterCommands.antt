@@ -53,7 +53,7 @@ none_hold (line ∷ lines) e = by_test line.1 (none_hold lines) e
     by_test true later e' = cc
     by_test false later e' = (refl, later e')
 
-true_from_not : (b : Bool) → not b ≡ false → b ≡ true
+pub true_from_not : (b : Bool) → not b ≡ false → b ≡ true
 true_from_not true e = refl
 true_from_not false e = cc
 

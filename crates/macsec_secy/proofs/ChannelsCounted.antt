@@ -1,5 +1,5 @@
 -- Each channel keeps its counters, and they are in the order of the channels.
-use Rattle.std.proofs.Common.{◌≡◌, ℕ, Bool, true, false, List, [], ◌∷◌, map, filter, length, refl, ap, ◌∙◌}
+use Rattle.std.proofs.Common.{◌≡◌, ℕ, suc, Bool, true, false, List, [], ◌∷◌, map, filter, length, refl, ap, ◌∙◌}
 use Rattle.std.specs.Prelude.{not, if◌then◌else◌, Option, Some, None}
 use Rattle.std.specs.List.{refill}
 use Rattle.std.proofs.lemmas.List.{length-map}
@@ -9,24 +9,20 @@ use Rattle.macsec_rx.specs.declared.RxRow.{RxRow}
 use Rattle.macsec_rx.specs.Channels.{same_sci}
 use Rattle.macsec_rx.specs.Judge.{Judgement}
 use Rattle.macsec_secy.specs.declared.counters.ChannelCounters.{ChannelCounters}
-use Rattle.macsec_secy.specs.Counting.{count_at, count_in_channel}
+use Rattle.macsec_secy.specs.Counting.{at_channel, count_in_channel}
 use Rattle.macsec_secy.specs.Reception.{counted_at_row, is_counted_by_channel, rx_packet_counted}
-use Rattle.macsec_secy.specs.Verdicts.{counted_at_place}
+use Rattle.macsec_secy.specs.Verdicts.{at_first, counted_at_place}
 use Rattle.macsec_secy.specs.Sound.{sci_of_counters}
+use Rattle.macsec_secy.proofs.KeysKept.{field_kept}
 use Rattle.macsec_secy.proofs.Lent.{left_in_place}
 
--- counting keeps the SCI
-sci_kept : (verdict : Verdict) (sci : Sci) (row : ChannelCounters) → (count_at verdict sci row).sci ≡ row.sci
-sci_kept verdict sci row = by_test (same_sci row.sci sci)
-  where
-    by_test : (test : Bool) → (if test then record row { counters = count_in_channel verdict row.counters } else row).sci ≡ row.sci
-    by_test true = refl
-    by_test false = refl
-
-scis_kept : (verdict : Verdict) (sci : Sci) (rows : List ChannelCounters) → map sci_of_counters (map (count_at verdict sci) rows) ≡ map sci_of_counters rows
-scis_kept verdict sci [] = refl
-scis_kept verdict sci (row ∷ rows) =
-    ap (λ s. s ∷ map sci_of_counters (map (count_at verdict sci) rows)) (sci_kept verdict sci row) ∙ ap (λ ss. row.sci ∷ ss) (scis_kept verdict sci rows)
+-- a change of a channel's counters keeps its SCI
+pub scis_kept : (change : ChannelCounters → ChannelCounters) → ((row : ChannelCounters) → (change row).sci ≡ row.sci) → (sci : Sci) (rows : List ChannelCounters) →
+    map sci_of_counters (map (at_channel change sci) rows) ≡ map sci_of_counters rows
+scis_kept change same sci [] = refl
+scis_kept change same sci (row ∷ rows) =
+    ap (λ s. s ∷ map sci_of_counters (map (at_channel change sci) rows)) (field_kept sci_of_counters change same (same_sci row.sci sci) row) ∙
+    ap (λ ss. row.sci ∷ ss) (scis_kept change same sci rows)
 
 pub after_judging : (j : Judgement) (rows : List ChannelCounters) → map sci_of_counters (rx_packet_counted j rows) ≡ map sci_of_counters rows
 after_judging j rows = by_parts (is_counted_by_channel j) j.row
@@ -34,7 +30,7 @@ after_judging j rows = by_parts (is_counted_by_channel j) j.row
     by_parts : (b : Bool) (row : Option RxRow) → map sci_of_counters (if b then counted_at_row j.verdict row rows else rows) ≡ map sci_of_counters rows
     by_parts false row = refl
     by_parts true None = refl
-    by_parts true (Some row) = scis_kept j.verdict row.sci rows
+    by_parts true (Some row) = scis_kept (count_in_channel j.verdict row.an) (λ r. refl) row.sci rows
 
 -- a channel is deleted
 pub without_counters : (sci : Sci) (rows : List ChannelCounters) →
@@ -49,9 +45,24 @@ without_counters sci (row ∷ rows) = by_test (not (same_sci row.sci sci)) (with
     by_test false later = later
 
 -- counting keeps the number of channels
+length-at_first : (change : ChannelCounters → ChannelCounters) (sci : Sci) (rows : List ChannelCounters) → length (at_first change sci rows) ≡ length rows
+length-at_first change sci [] = refl
+length-at_first change sci (row ∷ rows) = by_test (same_sci row.sci sci) (length-at_first change sci rows)
+  where
+    by_test : (b : Bool) → length (at_first change sci rows) ≡ length rows → length (if b then change row ∷ rows else row ∷ at_first change sci rows) ≡ suc (length rows)
+    by_test true later = refl
+    by_test false later = ap suc later
+
 length_kept : (verdict : Verdict) (place : Option (Sci × ℕ)) (rows : List ChannelCounters) → length (counted_at_place verdict place rows) ≡ length rows
 length_kept verdict None rows = refl
-length_kept verdict (Some place) rows = length-map rows (count_at verdict place.0)
+length_kept verdict (Some place) rows = length-at_first (count_in_channel verdict place.1) place.0 rows
+
+-- the channels that were borrowed as a slice to change one of them
+pub changed_again : (old lent new : List ChannelCounters) (change : ChannelCounters → ChannelCounters) (sci : Sci) → lent ≡ old → new ≡ map (at_channel change sci) lent →
+    refill (length old) old new ≡ map (at_channel change sci) old
+changed_again old lent new change sci same changed =
+    let left : new ≡ map (at_channel change sci) old = changed ∙ ap (map (at_channel change sci)) same in
+    left_in_place (length old) old new (ap length left ∙ length-map old (at_channel change sci)) ∙ left
 
 -- the counters that were borrowed as a slice are afterwards as the borrower left them
 pub counted_again : (old lent new : List ChannelCounters) (verdict : Verdict) (place : Option (Sci × ℕ)) → lent ≡ old → new ≡ counted_at_place verdict place lent →

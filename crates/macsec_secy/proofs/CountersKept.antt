@@ -1,5 +1,5 @@
 -- Counters have 64 bits, whatever is counted.
-use Rattle.std.proofs.Common.{ℕ, ◌<◌, ◌^◌, Bool, true, false, List, arith}
+use Rattle.std.proofs.Common.{ℕ, ◌<◌, ◌^◌, Bool, true, false, List, map, arith}
 use Rattle.std.specs.Prelude.{if◌then◌else◌, nat_le, Option, Some, None}
 use Rattle.std.specs.List.{All}
 use Rattle.std.proofs.lemmas.List.Elements.{All-map, All-weaker}
@@ -17,7 +17,7 @@ use Rattle.macsec_secy.specs.declared.counters.TxCounters.{TxCounters}
 use Rattle.macsec_secy.specs.declared.counters.RxCounters.{RxCounters}
 use Rattle.macsec_secy.specs.declared.counters.ChannelCounters.{ChannelCounters}
 use Rattle.macsec_secy.specs.State.{no_counters, no_rx_counters, no_tx_counters}
-use Rattle.macsec_secy.specs.Counting.{plus, count_at, count_in_channel, count_leaving, count_octets, count_octets_received, count_packet, count_protected}
+use Rattle.macsec_secy.specs.Counting.{at_channel, plus, count_in_channel, count_verdict, count_leaving, count_octets, count_octets_received, count_packet, count_protected}
 use Rattle.macsec_secy.specs.Reception.{counted_at_row, data_counted, is_counted_by_channel, octets_counted, packet_counted, rx_packet_counted}
 use Rattle.macsec_secy.specs.Sound.{AreCounters, AreRxCounters, AreTxCounters}
 
@@ -93,7 +93,7 @@ after_reading j r c are =
     let packets = either AreCounters (is_counted_by_channel j) c (count_packet j.verdict c) are (after_packet j.verdict c are) in
     either AreCounters (nat_le 11 j.step) (data_counted r (packet_counted j c)) (packet_counted j c) (after_data r (packet_counted j c) packets) packets
 
-after_channel : (verdict : Verdict) (c : RxCounters) → AreRxCounters c → AreRxCounters (count_in_channel verdict c)
+after_channel : (verdict : Verdict) (c : RxCounters) → AreRxCounters c → AreRxCounters (count_verdict verdict c)
 after_channel Passed c are = assumption (wraps c.in_pkts_ok 1)
 after_channel Unchecked c are = assumption (wraps c.in_pkts_unchecked 1)
 after_channel Delayed c are = assumption (wraps c.in_pkts_delayed 1)
@@ -107,16 +107,17 @@ after_channel Reserved c are = are
 after_channel NoSa c are = are
 after_channel NoSaError c are = are
 
-after_count_at : (verdict : Verdict) (sci : Sci) (row : ChannelCounters) → AreRxCounters row.counters → AreRxCounters (count_at verdict sci row).counters
-after_count_at verdict sci row are =
-    either (λ (r : ChannelCounters). AreRxCounters r.counters) (same_sci row.sci sci) (record row { counters = count_in_channel verdict row.counters }) row
-    (after_channel verdict row.counters are) are
+-- a change of a channel's counters
+pub after_change : (change : ChannelCounters → ChannelCounters) → ((row : ChannelCounters) → AreRxCounters row.counters → AreRxCounters (change row).counters) → (sci : Sci) (rows : List ChannelCounters) →
+    AreChannelCounters rows → AreChannelCounters (map (at_channel change sci) rows)
+after_change change good sci rows are =
+    All-map (λ (r : ChannelCounters). AreRxCounters r.counters) (at_channel change sci) rows
+    (All-weaker (λ (r : ChannelCounters). AreRxCounters r.counters) (λ r. AreRxCounters (at_channel change sci r).counters)
+    (λ r are'. either (λ (c : ChannelCounters). AreRxCounters c.counters) (same_sci r.sci sci) (change r) r (good r are') are') rows are)
 
 after_counting : (verdict : Verdict) (row : Option RxRow) (rows : List ChannelCounters) → AreChannelCounters rows → AreChannelCounters (counted_at_row verdict row rows)
 after_counting verdict None rows are = are
-after_counting verdict (Some row) rows are =
-    All-map (λ (r : ChannelCounters). AreRxCounters r.counters) (count_at verdict row.sci) rows
-    (All-weaker (λ (r : ChannelCounters). AreRxCounters r.counters) (λ r. AreRxCounters (count_at verdict row.sci r).counters) (after_count_at verdict row.sci) rows are)
+after_counting verdict (Some row) rows are = after_change (count_in_channel verdict row.an) (λ r are'. after_channel verdict r.counters are') row.sci rows are
 
 pub after_judgement : (j : Judgement) (rows : List ChannelCounters) → AreChannelCounters rows → AreChannelCounters (rx_packet_counted j rows)
 after_judgement j rows are =

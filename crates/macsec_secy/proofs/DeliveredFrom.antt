@@ -33,7 +33,7 @@ octets_same : (xs : List ℕ) → same_octets xs xs ≡ true
 octets_same [] = refl
 octets_same (x ∷ xs) = rw (eq-eqb x x refl, octets_same xs) refl
 
-at_own_place : (row : RxRow) → is_at row.sci row.an row ≡ true
+pub at_own_place : (row : RxRow) → is_at row.sci row.an row ≡ true
 at_own_place row = rw (octets_same row.sci.0, eq-eqb row.an row.an refl) refl
 
 -- it is not at the place of any other

@@ -11,12 +11,11 @@ use Rattle.macsec_tag.specs.Table.{Reading, untagged, bad, tagged, reading}
 use Rattle.macsec_pn.specs.Numbers.{is_late}
 use Rattle.macsec_suite.specs.declared.refusal.Refusal.{Refusal}
 use Rattle.macsec_suite.specs.KeyRows.{InstalledKey, the_key}
-use Rattle.macsec_suite.specs.Suites.{is_xpn}
 use Rattle.macsec_tx.specs.Transmit.{Leaving, plain, protected, no_sa, too_long}
 use Rattle.macsec_rx.specs.declared.RxOptions.{RxOptions}
 use Rattle.macsec_rx.specs.declared.RxRow.{RxRow}
 use Rattle.macsec_rx.specs.declared.Verdict.{Verdict}
-use Rattle.macsec_rx.specs.declared.Verdict.TheVariants.{Untagged, NoTag, BadTag, Reserved, NoSa, NoSaError, Late, NotValid, Unchecked, Delayed, Invalid, Passed}
+use Rattle.macsec_rx.specs.declared.Verdict.TheVariants.{Untagged, NoTag, Reserved, NoSa, NoSaError, Late, NotValid, Unchecked, Delayed, Invalid, Passed}
 use Rattle.macsec_rx.specs.Channels.{is_at}
 use Rattle.macsec_rx.specs.Commands.{has_channel}
 use Rattle.macsec_rx.specs.Judge.{Judgement, at_row, bare_frame, in_use, is_disabled, is_strict, judge_number, judge_opened, judge_row, judge_tagged_row, number_of_frame, opened_frame, plaintext_of, sci_of, without_row}
@@ -27,13 +26,13 @@ use Rattle.macsec_secy.specs.declared.counters.Counters.{Counters}
 use Rattle.macsec_secy.specs.declared.counters.ChannelCounters.{ChannelCounters}
 use Rattle.macsec_secy.specs.declared.fault.FrameFault.{FrameFault}
 use Rattle.macsec_secy.specs.State.{State, rx_options}
-use Rattle.macsec_secy.specs.Counting.{plus, count_at, count_leaving, count_octets_received}
+use Rattle.macsec_secy.specs.Counting.{at_channel, count_in_channel, count_leaving, count_octets_received, plus, with_association, without_association}
 use Rattle.macsec_secy.specs.Reception.{data_counted, judge_reading, judgement_of, octets_counted, packet_counted, rx_packet_counted, state_after_receiving}
 use Rattle.macsec_secy.specs.Commands.{effect, refusal, unless_refused}
 use Rattle.macsec_secy.specs.Step.{Output, operator_command, client_frame, link_frame, frame_fault, received_output, sending_of, sent_output, state_after_sending, unless_fault}
 use Rattle.macsec_secy.specs.Sound.{IsSound, sci_of_counters}
 use Rattle.macsec_secy.specs.Sums.{AddsFrames, frames_counted, packets_of, removes_channel}
-use Rattle.macsec_secy.proofs.Sums.{IsOneMore, IsOneMore-add_left, IsOneMore-channels_packets, IsOneMore-raised_part, RaisesOne, RaisesOne-Delayed, RaisesOne-Invalid, RaisesOne-Late, RaisesOne-NotValid, RaisesOne-Passed, RaisesOne-Unchecked, channels_packets, mod-as_plus_0}
+use Rattle.macsec_secy.proofs.Sums.{IsOneMore, IsOneMore-add_left, IsOneMore-channels_packets, IsOneMore-raised_part, RaisesOne, RaisesOne-Delayed, RaisesOne-Invalid, RaisesOne-Late, RaisesOne-NotValid, RaisesOne-Passed, RaisesOne-Unchecked, channels_packets, channels_packets-at_channel, mod-as_plus_0}
 
 -- ---- what the judgement raises
 
@@ -48,22 +47,22 @@ record HasCounters (rows : List ChannelCounters) (sci : Sci) : Type 0 where
   there : has_channel (map sci_of_counters rows) sci ≡ true
 
 -- its channel counts it
-in_channel : (rows : List ChannelCounters) (sci : Sci) → HasCounters rows sci → (verdict : Verdict) → RaisesOne verdict → (packets : ℕ) →
-    IsOneMore (packets + channels_packets (map (count_at verdict sci) rows)) (packets + channels_packets rows)
-in_channel rows sci has verdict raises packets = IsOneMore-add_left packets _ _ (IsOneMore-channels_packets verdict raises sci rows has.distinct has.there)
+in_channel : (rows : List ChannelCounters) (row : RxRow) → HasCounters rows row.sci → (verdict : Verdict) → RaisesOne verdict → (packets : ℕ) →
+    IsOneMore (packets + channels_packets (map (at_channel (count_in_channel verdict row.an) row.sci) rows)) (packets + channels_packets rows)
+in_channel rows row has verdict raises packets = IsOneMore-add_left packets _ _ (IsOneMore-channels_packets verdict raises row.sci row.an rows has.distinct has.there)
 
 once_opened : (rows : List ChannelCounters) (options : RxOptions) (key : InstalledKey) (row : RxRow) (number : ℕ) (p : MpduParts) (o : Option (List ℕ)) →
     HasCounters rows row.sci → IsCountedOnce rows (judge_opened options key row number p o)
 once_opened rows options key row number p None has = by_test (p.tag.c || is_strict options.mode)
   where
     by_test : (b : Bool) → IsCountedOnce rows (if b then at_row row number 11 NotValid None else at_row row number 12 Invalid (Some (bare_frame p)))
-    by_test true c = in_channel rows row.sci has NotValid RaisesOne-NotValid (packets_of c)
-    by_test false c = in_channel rows row.sci has Invalid RaisesOne-Invalid (packets_of c)
+    by_test true c = in_channel rows row has NotValid RaisesOne-NotValid (packets_of c)
+    by_test false c = in_channel rows row has Invalid RaisesOne-Invalid (packets_of c)
 once_opened rows options key row number p (Some plaintext) has = by_test (is_late row.lowest number)
   where
     by_test : (b : Bool) → IsCountedOnce rows (at_row row number 13 (if b then Delayed else Passed) (Some (opened_frame key p plaintext)))
-    by_test true c = in_channel rows row.sci has Delayed RaisesOne-Delayed (packets_of c)
-    by_test false c = in_channel rows row.sci has Passed RaisesOne-Passed (packets_of c)
+    by_test true c = in_channel rows row has Delayed RaisesOne-Delayed (packets_of c)
+    by_test false c = in_channel rows row has Passed RaisesOne-Passed (packets_of c)
 
 once_numbered : (rows : List ChannelCounters) (options : RxOptions) (key : InstalledKey) (row : RxRow) (p : MpduParts) (number : Option ℕ) →
     HasCounters rows row.sci → IsCountedOnce rows (judge_number options key row p number)
@@ -76,10 +75,10 @@ once_numbered rows options key row p (Some number) has =
         else if unusable then at_row row number 9 NotValid None
         else if disabled then at_row row number 10 (if late then Delayed else Unchecked) (Some (bare_frame p))
         else judge_opened options key row number p (plaintext_of key row number p))
-    by_tests true unusable disabled late c = in_channel rows row.sci has Late RaisesOne-Late (packets_of c)
-    by_tests false true disabled late c = in_channel rows row.sci has NotValid RaisesOne-NotValid (packets_of c)
-    by_tests false false true true c = in_channel rows row.sci has Delayed RaisesOne-Delayed (packets_of c)
-    by_tests false false true false c = in_channel rows row.sci has Unchecked RaisesOne-Unchecked (packets_of c)
+    by_tests true unusable disabled late c = in_channel rows row has Late RaisesOne-Late (packets_of c)
+    by_tests false true disabled late c = in_channel rows row has NotValid RaisesOne-NotValid (packets_of c)
+    by_tests false false true true c = in_channel rows row has Delayed RaisesOne-Delayed (packets_of c)
+    by_tests false false true false c = in_channel rows row has Unchecked RaisesOne-Unchecked (packets_of c)
     by_tests false false false late c = once_opened rows options key row number p (plaintext_of key row number p) has c
 
 once_of_row : (rows : List ChannelCounters) (options : RxOptions) (keys : List InstalledKey) (p : MpduParts) (row : Option RxRow) →
@@ -107,7 +106,7 @@ all_of_channels scis [] are = All-nil (λ row. has_channel scis row.sci ≡ true
 all_of_channels scis (row ∷ rows) are = All-cons (λ r. has_channel scis r.sci ≡ true) row rows are.0.channel (all_of_channels scis rows are.2)
 
 -- what holds of all associations holds of the one that is enabled for a frame
-of_in_use : (P : RxRow → Type 0) (rows : List RxRow) (an : ℕ) (sci : Option Sci) → All P rows → IfSome (in_use rows an sci) P
+pub of_in_use : (P : RxRow → Type 0) (rows : List RxRow) (an : ℕ) (sci : Option Sci) → All P rows → IfSome (in_use rows an sci) P
 of_in_use P rows an None all = tt
 of_in_use P [] an (Some sci) all = tt
 of_in_use P (row ∷ rows) an (Some sci) all =
@@ -198,11 +197,13 @@ after_command s (RxScDel sci) allowed = by_refusal (refusal s (RxScDel sci)) all
     by_refusal : (r : Option Refusal) → not (is_some r) ≡ false → frames_counted (unless_refused r s (RxScDel sci)) ≡ plus (frames_counted s) 0
     by_refusal None allowed' = cc
     by_refusal (Some r) allowed' = mod-as_plus_0 _
-after_command s (RxSa sci an key ssci lowest) allowed = keeps s (RxSa sci an key ssci lowest) refl
+after_command s (RxSa sci an key ssci lowest) allowed =
+    keeps s (RxSa sci an key ssci lowest) (ap (λ n. (packets_of s.counters + n) % 2 ^ 64) (channels_packets-at_channel (with_association an) (λ row. refl) sci s.rx_counters))
 after_command s (RxOn sci an) allowed = keeps s (RxOn sci an) refl
 after_command s (RxOff sci an) allowed = keeps s (RxOff sci an) refl
 after_command s (RxLow sci an pn) allowed = keeps s (RxLow sci an pn) refl
-after_command s (RxDel sci an) allowed = keeps s (RxDel sci an) refl
+after_command s (RxDel sci an) allowed =
+    keeps s (RxDel sci an) (ap (λ n. (packets_of s.counters + n) % 2 ^ 64) (channels_packets-at_channel (without_association an) (λ row. refl) sci s.rx_counters))
 
 -- ---- the law
 

@@ -1,6 +1,9 @@
 pub mod KeysKept
 pub mod RxKeysKept
 pub mod Lent
+pub mod FirstChannel
+pub mod AddedCounters
+pub mod JudgedRow
 pub mod ChannelsCounted
 pub mod Steps
 pub mod SentFrames
@@ -8,6 +11,8 @@ pub mod TaggedFrames
 pub mod Limits
 pub mod Sums
 pub mod CountersKept
+pub mod AssociationsKept
+pub mod AssociationsShown
 pub mod StaysSound
 pub mod WidestWindow
 pub mod FramesCounted

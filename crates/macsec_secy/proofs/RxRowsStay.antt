@@ -57,13 +57,13 @@ at_one_place f keeps sci an = record {
 above-with_rx : (f : RxRow → RxRow) → KeepsPlace f → (of_sci : Sci) (of_an : ℕ) (rows : List RxRow) (sci : Sci) (an n : ℕ) → IsAbove rows sci an n → IsAbove (with_rx f of_sci of_an rows) sci an n
 above-with_rx f keeps of_sci of_an rows sci an n it = above-map (at_place f of_sci of_an) (at_one_place f keeps of_sci of_an) rows sci an n it
 
-narrows : (window : ℕ) → KeepsPlace (row_narrowed window)
+pub narrows : (window : ℕ) → KeepsPlace (row_narrowed window)
 narrows window = record { sci = λ row. refl; an = λ row. refl; next = λ row. omega arith }
 
-switches : (on : Bool) → KeepsPlace (row_switched on)
+pub switches : (on : Bool) → KeepsPlace (row_switched on)
 switches on = record { sci = λ row. refl; an = λ row. refl; next = λ row. omega arith }
 
-raises : (pn : ℕ) → KeepsPlace (row_raised pn)
+pub raises : (pn : ℕ) → KeepsPlace (row_raised pn)
 raises pn = record { sci = λ row. refl; an = λ row. refl; next = λ row. omega arith }
 
 pub accepts : (window number : ℕ) → KeepsPlace (row_accepting window number)
@@ -100,14 +100,14 @@ above_left : (keep : RxRow → Bool) (rows : List RxRow) (sci : Sci) (an n : ℕ
 above_left keep rows sci an n kept it = record { row = it.row; there = row_left keep rows sci an kept it.row it.there; above = it.above }
 
 -- the associations that a deletion of another one, or of another channel, leaves
-not_deleted : (sci of_sci : Sci) (an of_an : ℕ) → (same_sci sci of_sci && an == of_an) ≡ false → (row : RxRow) → is_at sci an row ≡ true → not (is_at of_sci of_an row) ≡ true
+pub not_deleted : (sci of_sci : Sci) (an of_an : ℕ) → (same_sci sci of_sci && an == of_an) ≡ false → (row : RxRow) → is_at sci an row ≡ true → not (is_at of_sci of_an row) ≡ true
 not_deleted sci of_sci an of_an other row here =
     let parts = and_parts (same_sci row.sci sci) (row.an == an) here in
     let same : is_at of_sci of_an row ≡ (same_sci sci of_sci && an == of_an) =
     ap (λ t. same_sci t of_sci && row.an == of_an) (one_sci row.sci sci parts.0) ∙ ap (λ m. same_sci sci of_sci && m == of_an) (eqb-true row.an an parts.1) in
     ap not (same ∙ other)
 
-not_of_channel : (sci of_sci : Sci) (an : ℕ) → same_sci sci of_sci ≡ false → (row : RxRow) → is_at sci an row ≡ true → not (same_sci row.sci of_sci) ≡ true
+pub not_of_channel : (sci of_sci : Sci) (an : ℕ) → same_sci sci of_sci ≡ false → (row : RxRow) → is_at sci an row ≡ true → not (same_sci row.sci of_sci) ≡ true
 not_of_channel sci of_sci an other row here =
     let parts = and_parts (same_sci row.sci sci) (row.an == an) here in
     ap (λ t. not (same_sci t of_sci)) (one_sci row.sci sci parts.0) ∙ ap not other

@@ -1,10 +1,9 @@
 -- An endpoint stays sound, whatever comes in, where its tables keep what holds of their rows.
-use Rattle.std.proofs.Common.{◌≡◌, ℕ, ◌≤◌, true, false, List, [], ◌∷◌, ◌++◌, map, filter, refl, ap, sym, subst, ◌∙◌, arith}
-use Rattle.std.specs.Prelude.{◌==◌, not, Option, Some, None, IsSome, Result, Ok, Err, OnOk, OnErr}
-use Rattle.std.specs.List.{All}
+use Rattle.std.proofs.Common.{◌≡◌, ℕ, ◌≤◌, true, false, List, [], ◌∷◌, ◌++◌, filter, refl, ap, sym, subst, ◌∙◌, arith}
+use Rattle.std.specs.Prelude.{not, Option, Some, None, IsSome, Result, Ok, Err, OnOk, OnErr}
 use Rattle.std.proofs.lemmas.Bool.{ltb-false}
 use Rattle.std.proofs.lemmas.List.{map-append}
-use Rattle.std.proofs.lemmas.List.Elements.{All-append, All-cons, All-filter, All-map, All-nil, All-weaker}
+use Rattle.std.proofs.lemmas.List.Elements.{All-append, All-cons, All-filter, All-nil}
 use Rattle.macsec_tag.specs.Table.{reading}
 use Rattle.macsec_suite.specs.declared.refusal.Refusal.{Refusal}
 use Rattle.macsec_suite.specs.KeyRows.{AreKeyRows, InstalledKey, key_row, new_row, suite_of, widest_beside}
@@ -14,29 +13,31 @@ use Rattle.macsec_tx.specs.declared.TxRow.{TxRow}
 use Rattle.macsec_tx.specs.Rows.{AreTxRows}
 use Rattle.macsec_rx.specs.declared.RxRow.{RxRow}
 use Rattle.macsec_rx.specs.Channels.{Channels, same_sci}
-use Rattle.macsec_rx.specs.Judge.{Judgement}
+use Rattle.macsec_rx.specs.Commands.{has_rx}
 use Rattle.macsec_rx.specs.Rows.{AreChannels}
 use Rattle.macsec_commands.specs.Scis.{IsSci}
 use Rattle.macsec_secy.specs.declared.counters.ChannelCounters.{ChannelCounters}
 use Rattle.macsec_commands.specs.declared.config.EndConfig.{EndConfig}
 use Rattle.macsec_commands.specs.declared.command.Command.{Command}
 use Rattle.macsec_commands.specs.declared.command.Command.TheVariants.{Protect, Validate, Replay, Tag, Key, Retire, TxSa, TxOn, TxOff, TxDel, RxSc, RxScDel, RxSa, RxOn, RxOff, RxLow, RxDel}
-use Rattle.macsec_secy.specs.State.{State, no_rx_counters, start}
+use Rattle.macsec_secy.specs.State.{State, start}
 use Rattle.macsec_commands.specs.Configs.{config_fault}
 use Rattle.macsec_secy.specs.Commands.{effect, refusal, refusals, state_after_command, unless_refused}
 use Rattle.macsec_secy.specs.declared.fault.FrameFault.{FrameFault}
 use Rattle.macsec_secy.specs.Reception.{judgement_of, state_after_receiving}
 use Rattle.macsec_secy.specs.Step.{Output, client_frame, link_frame, frame_fault, received_output, sending_of, sent_output, state_after_sending, step, unless_fault}
 use Rattle.macsec_secy.specs.Agrees.{Agrees}
-use Rattle.macsec_secy.specs.Sound.{AreRxCounters, IsSound, sci_of_counters}
+use Rattle.macsec_secy.specs.Counting.{new_channel_counters, with_association, without_association}
+use Rattle.macsec_secy.specs.Sound.{AreOfAssociations, AreRxCounters, IsSound, sci_of_counters}
 use Rattle.macsec_secy.proofs.Limits.{good_limit}
-use Rattle.macsec_secy.proofs.AfterCommands.{none_hold}
+use Rattle.macsec_secy.proofs.AfterCommands.{none_hold, true_from_not}
+use Rattle.macsec_secy.proofs.AssociationsKept as counted
 use Rattle.macsec_secy.proofs.KeysKept as tx
 use Rattle.macsec_secy.proofs.RxKeysKept as rx
 use Rattle.macsec_secy.proofs.StaysAgreed as rows
 use Rattle.macsec_secy.proofs.WidestWindow as widest
-use Rattle.macsec_secy.proofs.ChannelsCounted.{after_judging, without_counters}
-use Rattle.macsec_secy.proofs.CountersKept.{after_judgement, after_leaving, after_protected, after_reading, no_rx_counted, no_tx_counted, none_counted}
+use Rattle.macsec_secy.proofs.ChannelsCounted.{after_judging, scis_kept, without_counters}
+use Rattle.macsec_secy.proofs.CountersKept.{after_change, after_judgement, after_leaving, after_protected, after_reading, no_rx_counted, no_tx_counted, none_counted}
 
 -- what holds of the rows of an endpoint's tables
 pub record TablesHold (s : State) : Type 0 where
@@ -59,6 +60,7 @@ at_start config good own tables =
       none_counted,
       no_tx_counted,
       All-nil (λ (row : ChannelCounters). AreRxCounters row.counters),
+      All-nil (AreOfAssociations []),
       rows.at_start config,
     )
 
@@ -70,7 +72,7 @@ effect_is_sound s (Validate mode) e tables agrees sound = assumption
 effect_is_sound s (Replay protect window) e tables agrees sound =
     let none = none_hold (refusals s (Replay protect window)) e in
     let within : window ≤ widest_beside s.keys = ltb-false (widest_beside s.keys) window none.0 in
-    assumption (within, rx.with_all_narrowed s.keys s.rx window sound.rx_keys)
+    assumption (within, rx.with_all_narrowed s.keys s.rx window sound.rx_keys, counted.with_all_narrowed s.rx.rows s.rx_counters window sound.associations)
 effect_is_sound s (Tag form) e tables agrees sound = assumption
 effect_is_sound s (Key key) e tables agrees sound =
     let suite = suite_of s.config.suite key in
@@ -92,8 +94,10 @@ effect_is_sound s (TxOn an) e tables agrees sound = assumption (tx.with_one_on s
 effect_is_sound s (TxOff an) e tables agrees sound = assumption (tx.with_one_off s.keys s.tx an sound.tx_keys)
 effect_is_sound s (TxDel an) e tables agrees sound = assumption (tx.without_one s.keys s.tx an sound.tx_keys)
 effect_is_sound s (RxSc sci) e tables agrees sound =
-    let new : ChannelCounters = record { sci = sci; counters = no_rx_counters } in
+    let new = new_channel_counters sci in
+    let none = none_hold (refusals s (RxSc sci)) e in
     assumption (
+      counted.with_another_channel s.rx.scis s.rx.rows s.rx_counters sci sound.rx.rows none.1.0 sound.associations,
       map-append sci_of_counters s.rx_counters (new ∷ []) ∙ ap (λ scis. scis ++ sci ∷ []) sound.channels,
       All-append (λ row. AreRxCounters row.counters) s.rx_counters (new ∷ []) sound.rx_counters
           (All-cons (λ row. AreRxCounters row.counters) new [] no_rx_counted (All-nil (λ row. AreRxCounters row.counters))),
@@ -103,12 +107,31 @@ effect_is_sound s (RxScDel sci) e tables agrees sound =
       rx.without_channel_of s.keys s.rx sci sound.rx_keys,
       without_counters sci s.rx_counters ∙ ap (filter (λ t. not (same_sci t sci))) sound.channels,
       All-filter (λ row. not (same_sci row.sci sci)) (λ row. AreRxCounters row.counters) s.rx_counters sound.rx_counters,
+      counted.without_a_channel s.rx.rows s.rx_counters sci sound.associations,
     )
-effect_is_sound s (RxSa sci an key ssci lowest) e tables agrees sound = assumption (rx.with_one_more s.keys s.rx sci an key ssci lowest e sound.rx_keys)
-effect_is_sound s (RxOn sci an) e tables agrees sound = assumption (rx.with_one_switched s.keys s.rx sci an true sound.rx_keys)
-effect_is_sound s (RxOff sci an) e tables agrees sound = assumption (rx.with_one_switched s.keys s.rx sci an false sound.rx_keys)
-effect_is_sound s (RxLow sci an pn) e tables agrees sound = assumption (rx.with_one_raised s.keys s.rx sci an pn sound.rx_keys)
-effect_is_sound s (RxDel sci an) e tables agrees sound = assumption (rx.without_one s.keys s.rx sci an sound.rx_keys)
+effect_is_sound s (RxSa sci an key ssci lowest) e tables agrees sound =
+    let none = none_hold (refusals s (RxSa sci an key ssci lowest)) e in
+    let new : RxRow = record { sci = sci; an = an; key = key; ssci = ssci; next = lowest; lowest = lowest; on = false } in
+    assumption (
+      rx.with_one_more s.keys s.rx sci an key ssci lowest e sound.rx_keys,
+      scis_kept (with_association an) (λ row. refl) sci s.rx_counters ∙ sound.channels,
+      after_change (with_association an) (λ row are. are) sci s.rx_counters sound.rx_counters,
+      counted.with_another_association s.rx.scis s.rx.rows s.rx_counters new tables.rx.rows none.1.1.1.0 sound.associations,
+    )
+effect_is_sound s (RxOn sci an) e tables agrees sound =
+    assumption (rx.with_one_switched s.keys s.rx sci an true sound.rx_keys, counted.with_one_switched s.rx.rows s.rx_counters sci an true sound.associations)
+effect_is_sound s (RxOff sci an) e tables agrees sound =
+    assumption (rx.with_one_switched s.keys s.rx sci an false sound.rx_keys, counted.with_one_switched s.rx.rows s.rx_counters sci an false sound.associations)
+effect_is_sound s (RxLow sci an pn) e tables agrees sound =
+    assumption (rx.with_one_raised s.keys s.rx sci an pn sound.rx_keys, counted.with_one_raised s.rx.rows s.rx_counters sci an pn sound.associations)
+effect_is_sound s (RxDel sci an) e tables agrees sound =
+    let none = none_hold (refusals s (RxDel sci an)) e in
+    assumption (
+      rx.without_one s.keys s.rx sci an sound.rx_keys,
+      scis_kept (without_association an) (λ row. refl) sci s.rx_counters ∙ sound.channels,
+      after_change (without_association an) (λ row are. are) sci s.rx_counters sound.rx_counters,
+      counted.without_an_association s.rx.rows s.rx_counters sci an (true_from_not (has_rx s.rx.rows sci an) none.1.0) sound.associations,
+    )
 
 pub after_effect : (s : State) (c : Command) → refusal s c ≡ None → TablesHold (effect s c) → IsSound s → IsSound (effect s c)
 after_effect s c e tables sound = effect_is_sound s c e tables (rows.after_effect s c e sound.agrees) sound
@@ -164,9 +187,12 @@ after_sending s frame sent tables agrees sound =
       after_protected sent.by frame s.tx_counters sound.tx_counters,
     )
 
-after_receiving : (s : State) (frame : List ℕ) (j : Judgement) → TablesHold (state_after_receiving s frame j) → Agrees (state_after_receiving s frame j) → IsSound s → IsSound (state_after_receiving s frame j)
-after_receiving s frame j tables agrees sound =
+after_receiving : (s : State) (frame : List ℕ) → TablesHold (state_after_receiving s frame (judgement_of s frame)) → Agrees (state_after_receiving s frame (judgement_of s frame)) → IsSound s →
+    IsSound (state_after_receiving s frame (judgement_of s frame))
+after_receiving s frame tables agrees sound =
+    let j = judgement_of s frame in
     assumption (
+      counted.after_receiving s frame sound.associations,
       rx.after_receiving s.keys s.options.window j s.rx.rows sound.rx_keys,
       after_judging j s.rx_counters ∙ sound.channels,
       after_reading j (reading frame) s.counters sound.counters,
@@ -187,4 +213,4 @@ after_client_frame s frame tables sound =
 pub after_link_frame : (s : State) (frame : List ℕ) → TablesHold (step s (link_frame frame)).1 → IsSound s → IsSound (step s (link_frame frame)).1
 after_link_frame s frame tables sound =
     frame_keeps s (state_after_receiving s frame (judgement_of s frame)) (received_output frame (judgement_of s frame))
-    (λ hold agrees. after_receiving s frame (judgement_of s frame) hold agrees sound) (frame_fault frame) tables (rows.after_step s (link_frame frame) sound.agrees) sound
+    (λ hold agrees. after_receiving s frame hold agrees sound) (frame_fault frame) tables (rows.after_step s (link_frame frame) sound.agrees) sound

@@ -15,7 +15,7 @@ use Rattle.macsec_rx.specs.Commands.{has_channel}
 use Rattle.macsec_rx.specs.Rows.{AreScis}
 use Rattle.macsec_secy.specs.declared.counters.RxCounters.{RxCounters}
 use Rattle.macsec_secy.specs.declared.counters.ChannelCounters.{ChannelCounters}
-use Rattle.macsec_secy.specs.Counting.{plus, count_at, count_in_channel}
+use Rattle.macsec_secy.specs.Counting.{at_channel, count_in_channel, count_verdict, plus}
 use Rattle.macsec_secy.specs.Sums.{channel_packets_of}
 use Rattle.macsec_secy.specs.Sound.{sci_of_counters}
 
@@ -56,7 +56,7 @@ mod-as_plus_0 n = omega arith
 
 -- a verdict raises the sum of its channel
 abbrev pub RaisesOne : Verdict → Type 0
-RaisesOne verdict = (c : RxCounters) → IsOneMore (channel_packets_of (count_in_channel verdict c)) (channel_packets_of c)
+RaisesOne verdict = (c : RxCounters) → IsOneMore (channel_packets_of (count_verdict verdict c)) (channel_packets_of c)
 
 pub RaisesOne-Late : RaisesOne Late
 RaisesOne-Late c = IsOneMore-raised_part _ _ c.in_pkts_late (omega arith)
@@ -80,30 +80,51 @@ RaisesOne-Passed c = IsOneMore-raised_part _ _ c.in_pkts_ok (omega arith)
 abbrev pub channels_packets : List ChannelCounters → ℕ
 channels_packets rows = sum_by (λ row. channel_packets_of row.counters) rows
 
--- where no channel has the SCI nothing is counted
-map-count_at_elsewhere : (verdict : Verdict) (sci : Sci) (rows : List ChannelCounters) → has_channel (map sci_of_counters rows) sci ≡ false → map (count_at verdict sci) rows ≡ rows
-map-count_at_elsewhere verdict sci [] none = refl
-map-count_at_elsewhere verdict sci (row ∷ rows) none =
+-- where no channel has the SCI nothing is changed
+pub map-at_channel_elsewhere : (change : ChannelCounters → ChannelCounters) (sci : Sci) (rows : List ChannelCounters) → has_channel (map sci_of_counters rows) sci ≡ false →
+    map (at_channel change sci) rows ≡ rows
+map-at_channel_elsewhere change sci [] none = refl
+map-at_channel_elsewhere change sci (row ∷ rows) none =
     let parts = or_parts (same_sci row.sci sci) (has_channel (map sci_of_counters rows) sci) none in
-    ap (λ b. (if b then record row { counters = count_in_channel verdict row.counters } else row) ∷ map (count_at verdict sci) rows) parts.0
-    ∙ ap (λ rs. row ∷ rs) (map-count_at_elsewhere verdict sci rows parts.1)
+    ap (λ b. (if b then change row else row) ∷ map (at_channel change sci) rows) parts.0
+    ∙ ap (λ rs. row ∷ rs) (map-at_channel_elsewhere change sci rows parts.1)
 
 -- where one channel has it, it alone counts the frame
-pub IsOneMore-channels_packets : (verdict : Verdict) → RaisesOne verdict → (sci : Sci) (rows : List ChannelCounters) → AreScis (map sci_of_counters rows) →
-    has_channel (map sci_of_counters rows) sci ≡ true → IsOneMore (channels_packets (map (count_at verdict sci) rows)) (channels_packets rows)
-IsOneMore-channels_packets verdict raises sci [] distinct there = cc
-IsOneMore-channels_packets verdict raises sci (row ∷ rows) distinct there =
-    rw (sum_by-cons counted (count_at verdict sci row) (map (count_at verdict sci) rows), sum_by-cons counted row rows)
-    (by_test (same_sci row.sci sci) refl (IsOneMore-channels_packets verdict raises sci rows distinct.2) there)
+pub IsOneMore-channels_packets : (verdict : Verdict) → RaisesOne verdict → (sci : Sci) (an : ℕ) (rows : List ChannelCounters) → AreScis (map sci_of_counters rows) →
+    has_channel (map sci_of_counters rows) sci ≡ true → IsOneMore (channels_packets (map (at_channel (count_in_channel verdict an) sci) rows)) (channels_packets rows)
+IsOneMore-channels_packets verdict raises sci an [] distinct there = cc
+IsOneMore-channels_packets verdict raises sci an (row ∷ rows) distinct there =
+    rw (sum_by-cons counted (after row) (map after rows), sum_by-cons counted row rows)
+    (by_test (same_sci row.sci sci) refl (IsOneMore-channels_packets verdict raises sci an rows distinct.2) there)
   where
     counted : ChannelCounters → ℕ
     counted r = channel_packets_of r.counters
 
-    by_test : (b : Bool) → same_sci row.sci sci ≡ b → (has_channel (map sci_of_counters rows) sci ≡ true → IsOneMore (channels_packets (map (count_at verdict sci) rows)) (channels_packets rows)) →
+    after : ChannelCounters → ChannelCounters
+    after r = at_channel (count_in_channel verdict an) sci r
+
+    by_test : (b : Bool) → same_sci row.sci sci ≡ b → (has_channel (map sci_of_counters rows) sci ≡ true → IsOneMore (channels_packets (map after rows)) (channels_packets rows)) →
         (b || has_channel (map sci_of_counters rows) sci) ≡ true →
-        IsOneMore (channel_packets_of (if b then record row { counters = count_in_channel verdict row.counters } else row).counters + channels_packets (map (count_at verdict sci) rows))
+        IsOneMore (channel_packets_of (if b then count_in_channel verdict an row else row).counters + channels_packets (map after rows))
         (channel_packets_of row.counters + channels_packets rows)
     by_test true same later there' =
         let none : has_channel (map sci_of_counters rows) sci ≡ false = ap (has_channel (map sci_of_counters rows)) (sym (one_sci row.sci sci same)) ∙ distinct.1 in
-        rw (map-count_at_elsewhere verdict sci rows none) (IsOneMore-add_right _ (channel_packets_of row.counters) (channels_packets rows) (raises row.counters))
+        rw (map-at_channel_elsewhere (count_in_channel verdict an) sci rows none) (IsOneMore-add_right _ (channel_packets_of row.counters) (channels_packets rows) (raises row.counters))
     by_test false other later there' = IsOneMore-add_left (channel_packets_of row.counters) _ _ (later there')
+
+-- a change that keeps what each channel has counted keeps the sum
+pub channels_packets-at_channel : (change : ChannelCounters → ChannelCounters) → ((row : ChannelCounters) → (change row).counters ≡ row.counters) → (sci : Sci) (rows : List ChannelCounters) →
+    channels_packets (map (at_channel change sci) rows) ≡ channels_packets rows
+channels_packets-at_channel change keeps sci [] = refl
+channels_packets-at_channel change keeps sci (row ∷ rows) =
+    sum_by-cons counted (at_channel change sci row) (map (at_channel change sci) rows) ∙
+    ap (λ n. n + channels_packets (map (at_channel change sci) rows)) (by_test (same_sci row.sci sci)) ∙
+    ap (λ n. counted row + n) (channels_packets-at_channel change keeps sci rows) ∙
+    sym (sum_by-cons counted row rows)
+  where
+    counted : ChannelCounters → ℕ
+    counted r = channel_packets_of r.counters
+
+    by_test : (b : Bool) → counted (if b then change row else row) ≡ counted row
+    by_test true = ap channel_packets_of (keeps row)
+    by_test false = refl

@@ -1,5 +1,5 @@
 -- What the calls of an endpoint return, as outputs of the machine.
-use Rattle.std.specs.Prelude.{◌≡◌, ℕ, List, Option, Some, None, Result, Ok, Err, option_map, find}
+use Rattle.std.specs.Prelude.{◌≡◌, ℕ, List, Option, Some, None, Result, Ok, Err, option_and_then, option_map, find}
 use Rattle.std.specs.Borrow.{Bor}
 use Rattle.macsec_suite.specs.declared.refusal.Refusal.{Refusal}
 use Rattle.macsec_commands.specs.declared.config.EndConfig.{EndConfig}
@@ -15,6 +15,7 @@ use Rattle.macsec_tag.specs.declared.identifiers.Sci.{Sci}
 use Rattle.macsec_rx.specs.Channels.{same_sci}
 use Rattle.macsec_secy.specs.declared.counters.RxCounters.{RxCounters}
 use Rattle.macsec_secy.specs.declared.counters.ChannelCounters.{ChannelCounters}
+use Rattle.macsec_secy.specs.Counting.{counters_at}
 use Rattle.macsec_secy.specs.State.{State, start}
 use Rattle.macsec_commands.specs.Configs.{config_fault}
 use Rattle.macsec_secy.specs.Step.{Output, done, refused, leaves, dropped_no_sa, dropped_too_long, received, fault}
@@ -52,6 +53,19 @@ MakesEndpoint config (Err Memory) = config_fault config ≡ None
 MakesEndpoint config (Err MaxFrame) = config_fault config ≡ Some MaxFrame
 MakesEndpoint config (Err SciForm) = config_fault config ≡ Some SciForm
 
+-- what the channel with this SCI and its associations have counted, where there is one
+abbrev pub channel_counters_of : List ChannelCounters → Sci → Option ChannelCounters
+channel_counters_of rows sci = find (λ row. same_sci row.sci sci) rows
+
 -- the counters of a channel, where there is one
 abbrev pub rx_counters_of : List ChannelCounters → Sci → Option RxCounters
-rx_counters_of rows sci = option_map (λ (row : ChannelCounters). row.counters) (find (λ row. same_sci row.sci sci) rows)
+rx_counters_of rows sci = option_map (λ (row : ChannelCounters). row.counters) (channel_counters_of rows sci)
+
+-- the counters of its association of this number, where there is one
+abbrev pub rx_sa_counters_of : List ChannelCounters → Sci → ℕ → Option RxCounters
+rx_sa_counters_of rows sci an =
+    option_and_then (λ (row : ChannelCounters). counters_at row.associations an) (channel_counters_of rows sci)
+
+-- what its deleted associations had counted, where there is a channel
+abbrev pub rx_removed_of : List ChannelCounters → Sci → Option RxCounters
+rx_removed_of rows sci = option_map (λ (row : ChannelCounters). row.removed) (channel_counters_of rows sci)

@@ -1,6 +1,6 @@
 -- Management commands: why each is refused, in the order of the tests, and what it does
 -- (IEEE 802.1AE, 10.7).
-use Rattle.std.specs.Prelude.{ℕ, List, [], ◌∷◌, ◌++◌, filter, nat_lt, Bool, true, false, not, ◌||◌, Option, Some, None}
+use Rattle.std.specs.Prelude.{ℕ, List, [], ◌∷◌, ◌++◌, filter, map, nat_lt, Bool, true, false, not, ◌||◌, Option, Some, None}
 use Rattle.macsec_suite.specs.KeyRows.{keys_with, keys_retiring, suite_of, widest_beside}
 use Rattle.macsec_suite.specs.declared.refusal.Refusal.{Refusal}
 use Rattle.macsec_suite.specs.declared.refusal.Refusal.TheVariants.{Window, SciForm}
@@ -11,7 +11,8 @@ use Rattle.macsec_rx.specs.Commands.{channels_narrowed, rx_low_refusals, rx_row_
 use Rattle.macsec_commands.specs.declared.command.Command.{Command}
 use Rattle.macsec_commands.specs.declared.command.Command.TheVariants.{Protect, Validate, Replay, Tag, Key, Retire, TxSa, TxOn, TxOff, TxDel, RxSc, RxScDel, RxSa, RxOn, RxOff, RxLow, RxDel}
 use Rattle.macsec_commands.specs.Configs.{is_unfit}
-use Rattle.macsec_secy.specs.State.{State, no_rx_counters}
+use Rattle.macsec_secy.specs.State.{State}
+use Rattle.macsec_secy.specs.Counting.{at_channel, new_channel_counters, with_association, without_association}
 
 -- an association uses the key
 abbrev pub uses : State → ℕ → Bool
@@ -54,17 +55,23 @@ effect s (TxOff an) = record s { tx = with_tx_off s.tx an }
 effect s (TxDel an) = record s { tx = without_tx s.tx an }
 effect s (RxSc sci) = record s {
   rx = with_channel s.rx sci;
-  rx_counters = s.rx_counters ++ record { sci = sci; counters = no_rx_counters } ∷ [];
+  rx_counters = s.rx_counters ++ new_channel_counters sci ∷ [];
 }
 effect s (RxScDel sci) = record s {
   rx = without_channel s.rx sci;
   rx_counters = filter (λ row. not (same_sci row.sci sci)) s.rx_counters;
 }
-effect s (RxSa sci an key ssci lowest) = record s { rx = with_rx_sa s.rx sci an key ssci lowest }
+effect s (RxSa sci an key ssci lowest) = record s {
+  rx = with_rx_sa s.rx sci an key ssci lowest;
+  rx_counters = map (at_channel (with_association an) sci) s.rx_counters;
+}
 effect s (RxOn sci an) = record s { rx = with_rx_on s.rx sci an true }
 effect s (RxOff sci an) = record s { rx = with_rx_on s.rx sci an false }
 effect s (RxLow sci an pn) = record s { rx = with_rx_low s.rx sci an pn }
-effect s (RxDel sci an) = record s { rx = without_rx s.rx sci an }
+effect s (RxDel sci an) = record s {
+  rx = without_rx s.rx sci an;
+  rx_counters = map (at_channel (without_association an) sci) s.rx_counters;
+}
 
 -- why a command is refused, where it is
 abbrev pub refusal : State → Command → Option Refusal

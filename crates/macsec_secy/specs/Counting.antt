@@ -1,5 +1,5 @@
 -- Counters, of 64 bits: which of them a client frame raises, and which a link frame (IEEE 802.1AE, 10.7).
-use Rattle.std.specs.Prelude.{ℕ, ◌+◌, ◌-◌, ◌%◌, ◌^◌, List, length, Bool, if◌then◌else◌, Option, Some, None}
+use Rattle.std.specs.Prelude.{ℕ, ◌+◌, ◌-◌, ◌%◌, ◌^◌, List, [], ◌∷◌, length, slice_index_or, slice_set, Bool, if◌then◌else◌, Option, Some, None, option_map, unwrap_or}
 use Rattle.macsec_tx.specs.declared.TxRow.{TxRow}
 use Rattle.macsec_tx.specs.Transmit.{Leaving, plain, protected, no_sa, too_long}
 use Rattle.macsec_secy.specs.declared.counters.Counters.{Counters}
@@ -10,6 +10,7 @@ use Rattle.macsec_rx.specs.Channels.{same_sci}
 use Rattle.macsec_secy.specs.declared.counters.TxCounters.{TxCounters}
 use Rattle.macsec_secy.specs.declared.counters.RxCounters.{RxCounters}
 use Rattle.macsec_secy.specs.declared.counters.ChannelCounters.{ChannelCounters}
+use Rattle.macsec_secy.specs.State.{no_rx_counters}
 
 -- a counter raised by n
 abbrev pub plus : ℕ → ℕ → ℕ
@@ -54,27 +55,82 @@ count_packet Delayed c = c
 count_packet Invalid c = c
 count_packet Passed c = c
 
--- a channel's counter of a verdict
-abbrev pub count_in_channel : Verdict → RxCounters → RxCounters
-count_in_channel Passed c = record c { in_pkts_ok = plus c.in_pkts_ok 1 }
-count_in_channel Unchecked c = record c { in_pkts_unchecked = plus c.in_pkts_unchecked 1 }
-count_in_channel Delayed c = record c { in_pkts_delayed = plus c.in_pkts_delayed 1 }
-count_in_channel Late c = record c { in_pkts_late = plus c.in_pkts_late 1 }
-count_in_channel Invalid c = record c { in_pkts_invalid = plus c.in_pkts_invalid 1 }
-count_in_channel NotValid c = record c { in_pkts_not_valid = plus c.in_pkts_not_valid 1 }
-count_in_channel Untagged c = c
-count_in_channel NoTag c = c
-count_in_channel BadTag c = c
-count_in_channel Reserved c = c
-count_in_channel NoSa c = c
-count_in_channel NoSaError c = c
+-- the counter of a verdict, of a channel or of an association
+abbrev pub count_verdict : Verdict → RxCounters → RxCounters
+count_verdict Passed c = record c { in_pkts_ok = plus c.in_pkts_ok 1 }
+count_verdict Unchecked c = record c { in_pkts_unchecked = plus c.in_pkts_unchecked 1 }
+count_verdict Delayed c = record c { in_pkts_delayed = plus c.in_pkts_delayed 1 }
+count_verdict Late c = record c { in_pkts_late = plus c.in_pkts_late 1 }
+count_verdict Invalid c = record c { in_pkts_invalid = plus c.in_pkts_invalid 1 }
+count_verdict NotValid c = record c { in_pkts_not_valid = plus c.in_pkts_not_valid 1 }
+count_verdict Untagged c = c
+count_verdict NoTag c = c
+count_verdict BadTag c = c
+count_verdict Reserved c = c
+count_verdict NoSa c = c
+count_verdict NoSaError c = c
 
-abbrev pub count_at : Verdict → Sci → ChannelCounters → ChannelCounters
-count_at verdict sci row =
-    if same_sci row.sci sci then record row { counters = count_in_channel verdict row.counters } else row
+-- the counters of the association of this number, if there is one
+abbrev pub counters_at : List (Option RxCounters) → ℕ → Option RxCounters
+counters_at associations an = slice_index_or associations an None
+
+-- the verdict is counted by the association of this number
+abbrev pub count_in_association : Verdict → ℕ → List (Option RxCounters) → List (Option RxCounters)
+count_in_association verdict an associations =
+    slice_set associations an (option_map (count_verdict verdict) (counters_at associations an))
+
+-- and by its channel
+abbrev pub count_in_channel : Verdict → ℕ → ChannelCounters → ChannelCounters
+count_in_channel verdict an row = record row {
+  counters = count_verdict verdict row.counters;
+  associations = count_in_association verdict an row.associations;
+}
+
+-- a change of the counters of the channel with this SCI
+abbrev pub at_channel : (ChannelCounters → ChannelCounters) → Sci → ChannelCounters → ChannelCounters
+at_channel change sci row = if same_sci row.sci sci then change row else row
 
 -- the endpoint's counters of the octets that the cipher was applied to
 abbrev pub count_octets_received : Bool → ℕ → Counters → Counters
 count_octets_received e octets c =
     if e then record c { in_octets_decrypted = plus c.in_octets_decrypted octets }
     else record c { in_octets_validated = plus c.in_octets_validated octets }
+
+-- ---- receive associations that are created and deleted
+
+-- the sums of the counters, name by name
+abbrev pub added : RxCounters → RxCounters → RxCounters
+added a b = record {
+  in_pkts_ok = plus a.in_pkts_ok b.in_pkts_ok;
+  in_pkts_unchecked = plus a.in_pkts_unchecked b.in_pkts_unchecked;
+  in_pkts_delayed = plus a.in_pkts_delayed b.in_pkts_delayed;
+  in_pkts_late = plus a.in_pkts_late b.in_pkts_late;
+  in_pkts_invalid = plus a.in_pkts_invalid b.in_pkts_invalid;
+  in_pkts_not_valid = plus a.in_pkts_not_valid b.in_pkts_not_valid;
+}
+
+-- the sums over the associations that there are
+abbrev pub sum_of : List (Option RxCounters) → RxCounters
+sum_of [] = no_rx_counters
+sum_of (None ∷ associations) = sum_of associations
+sum_of (Some counters ∷ associations) = added counters (sum_of associations)
+
+-- a channel is created without associations, and has counted nothing
+abbrev pub new_channel_counters : Sci → ChannelCounters
+new_channel_counters sci = record {
+  sci = sci;
+  counters = no_rx_counters;
+  associations = None ∷ None ∷ None ∷ None ∷ [];
+  removed = no_rx_counters;
+}
+
+-- an association is created, and has counted nothing
+abbrev pub with_association : ℕ → ChannelCounters → ChannelCounters
+with_association an row = record row { associations = slice_set row.associations an (Some no_rx_counters) }
+
+-- an association is deleted, and what it has counted is added to what the deleted ones had counted
+abbrev pub without_association : ℕ → ChannelCounters → ChannelCounters
+without_association an row = record row {
+  associations = slice_set row.associations an None;
+  removed = added row.removed (unwrap_or (counters_at row.associations an) no_rx_counters);
+}

@@ -11,6 +11,7 @@ pub mod Frames
 pub mod Sums
 pub mod Laws
 pub mod Answers
+pub mod AssociationSums
 pub mod Rests
 pub mod Accepts
 pub mod Kept

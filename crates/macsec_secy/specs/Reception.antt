@@ -8,7 +8,7 @@ use Rattle.macsec_rx.specs.Judge.{Judgement, is_strict, judge_tagged, rows_after
 use Rattle.macsec_secy.specs.declared.counters.Counters.{Counters}
 use Rattle.macsec_secy.specs.declared.counters.ChannelCounters.{ChannelCounters}
 use Rattle.macsec_secy.specs.State.{State, rx_options}
-use Rattle.macsec_secy.specs.Counting.{count_at, count_octets_received, count_packet}
+use Rattle.macsec_secy.specs.Counting.{at_channel, count_in_channel, count_octets_received, count_packet}
 
 -- steps 1 to 3 of a frame that is not tagged, and the steps of one that is
 abbrev pub judge_reading : State → List ℕ → Reading → Judgement
@@ -20,7 +20,7 @@ judge_reading s frame (tagged p) = judge_tagged (rx_options s) s.keys s.rx p
 abbrev pub judgement_of : State → List ℕ → Judgement
 judgement_of s frame = judge_reading s frame (reading frame)
 
--- from step 8 on the counter of the verdict is the channel's, and before it the endpoint's
+-- from step 8 on the counter of the verdict is the channel's and its association's, and before it the endpoint's
 abbrev pub is_counted_by_channel : Judgement → Bool
 is_counted_by_channel j = nat_le 8 j.step
 
@@ -29,7 +29,7 @@ packet_counted j c = if is_counted_by_channel j then c else count_packet j.verdi
 
 abbrev pub counted_at_row : Verdict → Option RxRow → List ChannelCounters → List ChannelCounters
 counted_at_row verdict None rows = rows
-counted_at_row verdict (Some row) rows = map (count_at verdict row.sci) rows
+counted_at_row verdict (Some row) rows = map (at_channel (count_in_channel verdict row.an) row.sci) rows
 
 abbrev pub rx_packet_counted : Judgement → List ChannelCounters → List ChannelCounters
 rx_packet_counted j rows = if is_counted_by_channel j then counted_at_row j.verdict j.row rows else rows

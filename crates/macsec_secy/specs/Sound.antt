@@ -1,12 +1,14 @@
 -- What holds of an endpoint at all times.
-use Rattle.std.specs.Prelude.{◌≡◌, ◌<◌, ◌≤◌, ◌^◌, ℕ, map}
+use Rattle.std.specs.Prelude.{◌≡◌, ◌<◌, ◌≤◌, ◌^◌, ℕ, List, length, map, is_some}
 use Rattle.std.specs.List.{All}
 use Rattle.macsec_tag.specs.declared.identifiers.Sci.{Sci}
 use Rattle.macsec_suite.specs.KeyRows.{AreKeyRows, widest_beside}
 use Rattle.macsec_tag.specs.Limits.{max_frame_len}
 use Rattle.macsec_tx.specs.Commands.{HaveKeys}
 use Rattle.macsec_tx.specs.Rows.{AreTxRows}
-use Rattle.macsec_rx.specs.Commands.{HaveRxKeys}
+use Rattle.macsec_rx.specs.Limits.{max_association_count}
+use Rattle.macsec_rx.specs.Commands.{HaveRxKeys, has_rx}
+use Rattle.macsec_rx.specs.declared.RxRow.{RxRow}
 use Rattle.macsec_rx.specs.Rows.{AreChannels}
 use Rattle.macsec_commands.specs.Scis.{IsSci}
 use Rattle.macsec_secy.specs.declared.counters.Counters.{Counters}
@@ -15,6 +17,7 @@ use Rattle.macsec_secy.specs.declared.counters.RxCounters.{RxCounters}
 use Rattle.macsec_secy.specs.declared.counters.ChannelCounters.{ChannelCounters}
 use Rattle.macsec_secy.specs.Agrees.{Agrees}
 use Rattle.macsec_commands.specs.Limits.{min_max_frame}
+use Rattle.macsec_secy.specs.Counting.{added, counters_at, sum_of}
 use Rattle.macsec_secy.specs.State.{State}
 
 abbrev pub sci_of_counters : ChannelCounters → Sci
@@ -41,7 +44,7 @@ pub record AreTxCounters (c : TxCounters) : Type 0 where
   pub out_octets_protected : c.out_octets_protected < 2 ^ 64
   pub out_octets_encrypted : c.out_octets_encrypted < 2 ^ 64
 
--- and those of a receive channel
+-- those of a receive channel
 pub record AreRxCounters (c : RxCounters) : Type 0 where
   pub in_pkts_ok : c.in_pkts_ok < 2 ^ 64
   pub in_pkts_unchecked : c.in_pkts_unchecked < 2 ^ 64
@@ -50,10 +53,17 @@ pub record AreRxCounters (c : RxCounters) : Type 0 where
   pub in_pkts_invalid : c.in_pkts_invalid < 2 ^ 64
   pub in_pkts_not_valid : c.in_pkts_not_valid < 2 ^ 64
 
+-- a channel has counters for an association of each number exactly where there is one, and its own are the sums of
+-- theirs and of what its deleted associations had counted
+pub record AreOfAssociations (rows : List RxRow) (c : ChannelCounters) : Type 0 where
+  pub count : length c.associations ≡ max_association_count
+  pub there : (an : ℕ) → is_some (counters_at c.associations an) ≡ has_rx rows c.sci an
+  pub sum : c.counters ≡ added (sum_of c.associations) c.removed
+
 -- the largest frame of the configuration has 64 to 9,248 octets, and the endpoint's SCI has 8; keys, transmit
 -- associations and receive channels have their bounds; the replay window is not too wide beside the keys; the key of
 -- each association is in the table; each channel has its counters, in the order of the channels; the counters have 64
--- bits; and the rows of the tables agree with one another
+-- bits; a channel's are the sums of its associations'; and the rows of the tables agree with one another
 pub record IsSound (s : State) : Type 0 where
   pub max_frame_least : min_max_frame ≤ s.config.max_frame
   pub max_frame_most : s.config.max_frame ≤ max_frame_len
@@ -68,6 +78,7 @@ pub record IsSound (s : State) : Type 0 where
   pub counters : AreCounters s.counters
   pub tx_counters : AreTxCounters s.tx_counters
   pub rx_counters : All (λ row. AreRxCounters row.counters) s.rx_counters
+  pub associations : All (AreOfAssociations s.rx.rows) s.rx_counters
   pub agrees : Agrees s
 
 -- it is sound, and its buffer holds the longest frame

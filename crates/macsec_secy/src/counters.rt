@@ -2,6 +2,9 @@
 
 use crate::Sci;
 
+/// The most associations of a channel, as many as there are association numbers.
+pub(crate) const ASSOCIATION_COUNT: usize = 4;
+
 /// The endpoint's counters, modulo 2^64.
 #[derive(Clone, Copy, PartialEq, Eq, Debug)]
 pub struct Counters {
@@ -27,7 +30,7 @@ pub struct TxCounters {
     pub out_octets_encrypted: u64,
 }
 
-/// The counters of a receive channel, modulo 2^64 (10.7).
+/// The counters of a receive channel, or of a receive association, modulo 2^64 (10.7).
 #[derive(Clone, Copy, PartialEq, Eq, Debug, Default)]
 pub struct RxCounters {
     pub in_pkts_ok: u64,
@@ -38,9 +41,14 @@ pub struct RxCounters {
     pub in_pkts_not_valid: u64,
 }
 
-/// The counters of the receive channel of this SCI.
+/// The counters of the receive channel of this SCI and of its associations.
 #[derive(Clone, Copy, PartialEq, Eq, Debug, Default)]
 pub struct ChannelCounters {
     pub sci: Sci,
+    /// What the channel has counted.
     pub counters: RxCounters,
+    /// What each association has counted since its creation, by association number.
+    pub associations: [Option<RxCounters>; ASSOCIATION_COUNT],
+    /// What the channel's deleted associations had counted: the sums.
+    pub removed: RxCounters,
 }

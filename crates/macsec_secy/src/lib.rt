@@ -10,6 +10,7 @@ ghost use Rattle.macsec_secy.specs.Sound.{IsSound};
 ghost use Rattle.macsec_secy.specs.Sums.{AddsFrames};
 
 mod answers;
+mod associations;
 mod counters;
 mod counting;
 mod fault;
@@ -21,6 +22,7 @@ mod showing;
 
 pub use answers::{DropReason, Received, Sent};
 use arrayvec::ArrayVec;
+use associations::count_at_row;
 pub use counters::{ChannelCounters, Counters, RxCounters, TxCounters};
 pub use fault::FrameFault;
 pub use macsec_commands::{
@@ -36,9 +38,7 @@ use macsec_tag::{ADDRESSES_LENGTH, MIN_FRAME_LEN, Read};
 pub use macsec_tx::TxRow;
 use macsec_tx::{TxChannel, TxResult};
 pub use options::Options;
-use receiving::{
-    count_at_row, delivered_octets, delivered_untagged, sci_and_number, verdict_on_untagged,
-};
+use receiving::{delivered_octets, delivered_untagged, sci_and_number, verdict_on_untagged};
 use std::alloc::Global;
 use std::marker::Model;
 
@@ -168,7 +168,7 @@ impl Secy {
             Command::RxOn(sci, an) => self.rx.rx_on(sci, an),
             Command::RxOff(sci, an) => self.rx.rx_off(sci, an),
             Command::RxLow { sci, an, pn } => self.rx.rx_low(&self.keys, sci, an, pn),
-            Command::RxDel(sci, an) => self.rx.rx_del(sci, an),
+            Command::RxDel(sci, an) => self.rx_del(sci, an),
         }
     }
 

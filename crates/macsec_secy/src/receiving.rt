@@ -1,16 +1,17 @@
 //! The endpoint's own part of reception: its channels' counters, and what it hands to its channels.
 
-ghost use Rattle.std.specs.Prelude.{◌≡◌, ◌+◌, ◌≤◌, map, length, option_map, IfSome};
+ghost use Rattle.std.specs.Prelude.{◌≡◌, ◌+◌, ◌≤◌, length, option_map, IfSome};
 ghost use Rattle.macsec_suite.specs.Refusals.{refusal_of};
 ghost use Rattle.macsec_commands.specs.declared.command.Command.TheVariants as by;
-ghost use Rattle.macsec_secy.specs.State.{no_rx_counters, rx_options};
+ghost use Rattle.macsec_secy.specs.State.{rx_options};
 ghost use Rattle.macsec_rx.specs.Judge.{octets_at};
-ghost use Rattle.macsec_secy.specs.Counting.{count_at, count_in_channel, count_packet};
-ghost use Rattle.macsec_secy.specs.Verdicts.{counted_at_place, counted_by, delivered_untagged, is_opened, verdict_on_untagged};
+ghost use Rattle.macsec_secy.specs.Counting.{count_packet};
+ghost use Rattle.macsec_secy.specs.Verdicts.{counted_by, delivered_untagged, is_opened, verdict_on_untagged};
 ghost use Rattle.macsec_secy.specs.Sound.{IsSound};
 ghost use Rattle.macsec_secy.specs.Commands.{refusal, state_after_command};
 
-use crate::{An, ChannelCounters, Counters, Mode, Refusal, RxCounters, Sci, Secy, Verdict};
+use crate::associations::{add_association, remove_association};
+use crate::{An, ChannelCounters, Counters, Mode, Refusal, Sci, Secy, Verdict};
 use macsec_rx::{Judged, RxOptions};
 
 impl Secy {
@@ -21,14 +22,11 @@ impl Secy {
         ensures sound { IsSound self.new }
     {
         self.rx.rx_sc(self.config.sci, sci)?;
-        self.rx_counters.push(ChannelCounters {
-            sci,
-            counters: RxCounters::zero(),
-        });
+        self.rx_counters.push(ChannelCounters::new(sci));
         Ok(())
     }
 
-    /// Deletes a receive channel and its counters.
+    /// Deletes a receive channel and its counters, those of its associations too.
     pub(crate) fn rx_sc_del(&mut self, sci: Sci) -> Result<(), Refusal>
         ensures refusal { refusal_of result ≡ refusal self.old (by.RxScDel sci) }
         ensures after { self.new ≡ state_after_command self.old (by.RxScDel sci) }
@@ -39,7 +37,7 @@ impl Secy {
         Ok(())
     }
 
-    /// Creates a receive association, disabled.
+    /// Creates a receive association, disabled, with counters of 0.
     pub(crate) fn rx_sa(
         &mut self,
         sci: Sci,
@@ -52,7 +50,21 @@ impl Secy {
         ensures after { self.new ≡ state_after_command self.old (by.RxSa sci an key ssci lowest) }
         ensures sound { IsSound self.new }
     {
-        self.rx.rx_sa(&self.keys, sci, an, key, ssci, lowest)
+        self.rx.rx_sa(&self.keys, sci, an, key, ssci, lowest)?;
+        add_association(self.rx_counters.as_mut_slice(), sci, an);
+        Ok(())
+    }
+
+    /// Deletes a receive association. What it has counted is added to what the deleted associations of its channel had
+    /// counted.
+    pub(crate) fn rx_del(&mut self, sci: Sci, an: An) -> Result<(), Refusal>
+        ensures refusal { refusal_of result ≡ refusal self.old (by.RxDel sci an) }
+        ensures after { self.new ≡ state_after_command self.old (by.RxDel sci an) }
+        ensures sound { IsSound self.new }
+    {
+        self.rx.rx_del(sci, an)?;
+        remove_association(self.rx_counters.as_mut_slice(), sci, an);
+        Ok(())
     }
 
     /// What reception depends on.
@@ -110,75 +122,6 @@ fn is_opened(mode: Mode, verdict: Verdict) -> bool
         Verdict::Invalid | Verdict::Passed => true,
         Verdict::NotValid | Verdict::Delayed => mode != Mode::Disabled,
         _ => false,
-    }
-}
-
-impl RxCounters {
-    /// Counters of 0.
-    pub(crate) fn zero() -> RxCounters
-        ensures { result ≡ no_rx_counters }
-    {
-        RxCounters {
-            in_pkts_ok: 0,
-            in_pkts_unchecked: 0,
-            in_pkts_delayed: 0,
-            in_pkts_late: 0,
-            in_pkts_invalid: 0,
-            in_pkts_not_valid: 0,
-        }
-    }
-
-    /// The counters with a frame of a verdict counted, if a channel counts it.
-    fn with(self, verdict: Verdict) -> RxCounters
-        ensures { result ≡ count_in_channel verdict self }
-    {
-        let mut counters = self;
-        match verdict {
-            Verdict::Passed => counters.in_pkts_ok = self.in_pkts_ok.wrapping_add(1),
-            Verdict::Unchecked => {
-                counters.in_pkts_unchecked = self.in_pkts_unchecked.wrapping_add(1);
-            }
-            Verdict::Delayed => counters.in_pkts_delayed = self.in_pkts_delayed.wrapping_add(1),
-            Verdict::Late => counters.in_pkts_late = self.in_pkts_late.wrapping_add(1),
-            Verdict::Invalid => counters.in_pkts_invalid = self.in_pkts_invalid.wrapping_add(1),
-            Verdict::NotValid => {
-                counters.in_pkts_not_valid = self.in_pkts_not_valid.wrapping_add(1);
-            }
-            _ => {}
-        }
-        counters
-    }
-}
-
-/// The counters of a channel, with a frame counted if the channel has this SCI.
-fn row_counting(row: ChannelCounters, verdict: Verdict, sci: Sci) -> ChannelCounters
-    ensures { result ≡ count_at verdict sci row }
-{
-    if row.sci == sci {
-        ChannelCounters {
-            counters: row.counters.with(verdict),
-            ..row
-        }
-    } else {
-        row
-    }
-}
-
-/// Counts a frame at the channel with this SCI.
-fn count_at(rows: &mut [ChannelCounters], verdict: Verdict, sci: Sci)
-    ensures { rows.new ≡ map (count_at verdict sci) rows.old }
-{
-    for row in rows.iter_mut() {
-        *row = row_counting(*row, verdict, sci);
-    }
-}
-
-/// Counts a frame at the channel of its association, if it has one.
-pub(crate) fn count_at_row(rows: &mut [ChannelCounters], verdict: Verdict, row: Option<(Sci, An)>)
-    ensures { rows.new ≡ counted_at_place verdict row rows.old }
-{
-    if let Some((sci, _)) = row {
-        count_at(rows, verdict, sci);
     }
 }
 

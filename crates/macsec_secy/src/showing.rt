@@ -1,12 +1,17 @@
 //! What an endpoint shows of its state.
 
-ghost use Rattle.std.specs.Prelude.{◌≡◌, ◌≤◌, length, slice_get};
+ghost use Rattle.std.specs.Prelude.{◌≡◌, ◌≤◌, is_some, length, slice_get};
 ghost use Rattle.macsec_tx.specs.Transmit.{tx_row};
 ghost use Rattle.macsec_rx.specs.Channels.{rx_row};
 ghost use Rattle.macsec_rx.specs.Limits.{max_channel_count};
-ghost use Rattle.macsec_secy.specs.Answers.{rx_counters_of};
+ghost use Rattle.macsec_rx.specs.Commands.{has_rx};
+ghost use Rattle.macsec_secy.specs.Answers.{channel_counters_of, rx_counters_of, rx_removed_of, rx_sa_counters_of};
+ghost use Rattle.macsec_secy.specs.AssociationSums.{rx_sums_of};
+ghost use Rattle.macsec_secy.specs.Sound.{IsSound};
 
-use crate::{An, Counters, Options, RxCounters, RxRow, Sci, Secy, TxCounters, TxRow};
+use crate::{
+    An, ChannelCounters, Counters, Options, RxCounters, RxRow, Sci, Secy, TxCounters, TxRow,
+};
 
 impl Secy {
     /// The options.
@@ -37,12 +42,45 @@ impl Secy {
         self.tx.row(an)
     }
 
-    /// The counters of the receive channel with this SCI, if there is one.
+    /// The counters of the receive channel with this SCI, if there is one. Each is, modulo 2^64, the sum over the
+    /// channel's associations of theirs, as `rx_sa_counters` returns them, and of `rx_removed` (10.7).
     pub fn rx_counters(&self, sci: Sci) -> Option<RxCounters>
-        ensures { result ≡ rx_counters_of self.now.rx_counters sci }
+        ensures counters { result ≡ rx_counters_of self.now.rx_counters sci }
+        ensures sum { result ≡ rx_sums_of self.now.rx_counters sci }
     {
-        let row = self.rx_counters.iter().find(|row| row.sci == sci)?;
-        Some(row.counters)
+        let channel = self.channel_counters(sci)?;
+        Some(channel.counters)
+    }
+
+    /// The counters of the receive association of this channel and of this number since its creation, if there is one.
+    pub fn rx_sa_counters(&self, sci: Sci, an: An) -> Option<RxCounters>
+        ensures counters { result ≡ rx_sa_counters_of self.now.rx_counters sci an }
+        ensures there { is_some result ≡ has_rx self.now.rx.rows sci an }
+    {
+        let channel = self.channel_counters(sci)?;
+        channel.associations[usize::from(an.number())]
+    }
+
+    /// What the deleted associations of the receive channel with this SCI had counted, if there is one: the sums, modulo
+    /// 2^64, since the channel was created.
+    pub fn rx_removed(&self, sci: Sci) -> Option<RxCounters>
+        ensures { result ≡ rx_removed_of self.now.rx_counters sci }
+    {
+        let channel = self.channel_counters(sci)?;
+        Some(channel.removed)
+    }
+
+    /// What the receive channel with this SCI and its associations have counted, if there is one.
+    fn channel_counters(&self, sci: Sci) -> Option<ChannelCounters>
+        ensures row { result ≡ channel_counters_of self.now.rx_counters sci }
+        ensures sound { IsSound self.now }
+    {
+        for row in self.rx_counters.as_slice() {
+            if row.sci == sci {
+                return Some(*row);
+            }
+        }
+        None
     }
 
     /// The SCI of the receive channel at this place in the order of creation, from 0, if there is one. There are at

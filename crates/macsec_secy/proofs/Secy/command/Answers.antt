@@ -116,18 +116,6 @@ invariant_of-self-in-RxLow c =
 pub returns-in-RxLow-clause-sound : goal.returns-in-RxLow-clause-sound
 returns-in-RxLow-clause-sound c = (invariant_of-self-in-RxLow c).sound
 
-pub invariant_of-self-in-RxDel : goal.invariant_of-self-in-RxDel
-invariant_of-self-in-RxDel c =
-    let s = c.self-in-RxDel in
-    record {
-      sound = by_rx (the_view s.inside) (by.RxDel c.in-RxDel.sci c.in-RxDel.an) c.rx_del.new.self _ c.rx_del.result c.rx_del.ensures.refusal c.rx_del.ensures.done c.rx_del.ensures.unchanged refl
-          c.rx_del.ensures.channels s.invariant.sound;
-      room = s.invariant.room;
-    }
-
-pub returns-in-RxDel-clause-sound : goal.returns-in-RxDel-clause-sound
-returns-in-RxDel-clause-sound c = (invariant_of-self-in-RxDel c).sound
-
 pub returns-in-TxOn-clause-sum : goal.returns-in-TxOn-clause-sum
 returns-in-TxOn-clause-sum c = command_adds c.args.self.now c.args.command.now
 

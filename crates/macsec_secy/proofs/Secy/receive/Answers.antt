@@ -1,10 +1,11 @@
-use Rattle.std.proofs.Common.{◌≡◌, ◌∙◌, ℕ, List, ap, length, refl, rules, subst, sym}
+use Rattle.std.proofs.Common.{◌≡◌, ◌∙◌, ℕ, List, ap, length, map, refl, rules, subst, sym}
 use Rattle.std.specs.Prelude.{None, option_map}
 use Rattle.macsec_tag.specs.Table.{reading, tagged}
 use Rattle.macsec_rx.specs.Judge.{judge_tagged, octets_at, place_of}
 use Rattle.macsec_secy.specs.contracts.Secy.{the_view}
 use Rattle.macsec_secy.specs.State.{State}
-use Rattle.macsec_secy.specs.Sound.{IsSound}
+use Rattle.macsec_rx.specs.Rows.{AreScis}
+use Rattle.macsec_secy.specs.Sound.{IsSound, sci_of_counters}
 use Rattle.macsec_secy.specs.Step.{frame_fault, link_frame, step}
 use Rattle.macsec_secy.specs.Sums.{AddsFrames}
 use Rattle.macsec_secy.specs.Verdicts.{counted_by}
@@ -33,7 +34,8 @@ invariant_of-self-in-Tagged c =
     let counters : c.count_tagged.new.self ≡ after = rw (c.count_tagged.ensures, c.e.ensures, c.tag.ensures, c.secure_data.ensures) (refl {a = after}) in
     let counted = counted_again s.inside.rx_counters.items c.as_mut_slice-in-Tagged.result.now c.count_at_row.new.rows c.judge-judged.result.verdict c.judge-judged.result.row
     c.as_mut_slice-in-Tagged.ensures.value c.count_at_row.ensures in
-    let left = left_by_parts (the_view s.inside) c.args.frame.now c.in-Tagged.mpdu reads fits c.rx_options-options.result c.judge-judged.result.verdict c.judge-judged.result.row
+    let distinct : AreScis (map sci_of_counters s.inside.rx_counters.items) = rw s.invariant.sound.channels s.invariant.sound.rx.scis in
+    let left = left_by_parts (the_view s.inside) c.args.frame.now c.in-Tagged.mpdu reads fits distinct c.rx_options-options.result c.judge-judged.result.verdict c.judge-judged.result.row
     c.judge-judged.new.self c.count_tagged.new.self _ c.rx_options-options.ensures shows.verdict shows.row c.judge-judged.ensures.numbers counters counted in
     let tables = subst TablesHold left (record { keys = s.invariant.sound.keys; tx = s.invariant.sound.tx; rx = c.judge-judged.ensures.channels }) in
     record { sound = subst IsSound (sym left) (after_link_frame (the_view s.inside) c.args.frame.now tables s.invariant.sound); room = s.invariant.room }
@@ -66,7 +68,8 @@ returns-in-Tagged c =
     let counters : c.count_tagged.new.self ≡ after = rw (c.count_tagged.ensures, c.e.ensures, c.tag.ensures, c.secure_data.ensures) (refl {a = after}) in
     let counted = counted_again s.inside.rx_counters.items c.as_mut_slice-in-Tagged.result.now c.count_at_row.new.rows c.judge-judged.result.verdict c.judge-judged.result.row
     c.as_mut_slice-in-Tagged.ensures.value c.count_at_row.ensures in
-    let left = left_by_parts (the_view s.inside) c.args.frame.now c.in-Tagged.mpdu reads fits c.rx_options-options.result c.judge-judged.result.verdict c.judge-judged.result.row
+    let distinct : AreScis (map sci_of_counters s.inside.rx_counters.items) = rw s.invariant.sound.channels s.invariant.sound.rx.scis in
+    let left = left_by_parts (the_view s.inside) c.args.frame.now c.in-Tagged.mpdu reads fits distinct c.rx_options-options.result c.judge-judged.result.verdict c.judge-judged.result.row
     c.judge-judged.new.self c.count_tagged.new.self _ options shows.verdict shows.row c.judge-judged.ensures.numbers counters counted in
     let tables = subst TablesHold left (record { keys = s.invariant.sound.keys; tx = s.invariant.sound.tx; rx = c.judge-judged.ensures.channels }) in (
       (refl, λ x. tt, left ∙ ap (λ t. (step t (link_frame c.args.frame.now)).1) s.view_is),

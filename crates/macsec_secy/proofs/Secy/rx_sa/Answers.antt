@@ -1,23 +1,37 @@
-use Rattle.std.proofs.Common.{refl, rules}
+use Rattle.std.proofs.Common.{◌≡◌, ◌∙◌, ap, map, length, subst, sym}
+use Rattle.std.specs.List.{refill}
+use Rattle.macsec_rx.specs.Rows.{AreChannels}
 use Rattle.macsec_commands.specs.declared.command.Command.TheVariants as by
+use Rattle.macsec_secy.specs.Commands.{state_after_command, unless_refused}
+use Rattle.macsec_secy.specs.Counting.{at_channel, with_association}
 use Rattle.macsec_secy.specs.contracts.Secy.{the_view}
-use Rattle.macsec_secy.proofs.StaysSound.{by_rx}
+use Rattle.macsec_secy.proofs.ChannelsCounted.{changed_again}
+use Rattle.macsec_secy.proofs.StaysSound.{after_effect}
+use Rattle.macsec_secy.proofs.Secy.rx_sa.Goals.{After-add_association}
 use Rattle.macsec_secy.proofs.Secy.rx_sa.Goals as goal
 
-pub invariant_of-self : goal.invariant_of-self
-invariant_of-self c =
+counters_left : (c : After-add_association) → refill (length c.self.inside.rx_counters.items) c.self.inside.rx_counters.items c.add_association.new.rows ≡
+    map (at_channel (with_association c.args.an) c.args.sci) c.self.inside.rx_counters.items
+counters_left c =
+    changed_again c.self.inside.rx_counters.items c.as_mut_slice.result.now c.add_association.new.rows (with_association c.args.an) c.args.sci
+    c.as_mut_slice.ensures.value c.add_association.ensures
+
+pub invariant_of-self-2 : goal.invariant_of-self-2
+invariant_of-self-2 c =
     let s = c.self in
+    let sound = s.invariant.sound in
+    let done = c.in_ok-rx_sa.ensures in
     record {
-      sound = by_rx (the_view s.inside) (by.RxSa c.args.sci c.args.an c.args.key c.args.ssci c.args.lowest) c.rx_sa.new.self _ c.rx_sa.result c.rx_sa.ensures.refusal c.rx_sa.ensures.done c.rx_sa.ensures.unchanged refl
-          c.rx_sa.ensures.channels s.invariant.sound;
+      sound = rw (done.done, counters_left (goal.at.invariant_of-self-2 c).After-add_association) (after_effect (the_view s.inside) (by.RxSa c.args.sci c.args.an c.args.key c.args.ssci c.args.lowest) (sym done.refusal)
+          (record { keys = sound.keys; tx = sound.tx; rx = subst AreChannels done.done done.channels }) sound);
       room = s.invariant.room;
     }
 
-pub returns-clause-refusal : goal.returns-clause-refusal
-returns-clause-refusal c = search rules
-
 pub returns-clause-after : goal.returns-clause-after
-returns-clause-after c = search rules
+returns-clause-after c =
+    rw (c.in_ok-rx_sa.ensures.done, counters_left (goal.at.returns-clause-after c).After-add_association)
+    (ap (λ r. unless_refused r (the_view c.self.inside) (by.RxSa c.args.sci c.args.an c.args.key c.args.ssci c.args.lowest)) c.in_ok-rx_sa.ensures.refusal ∙
+    ap (λ s. state_after_command s (by.RxSa c.args.sci c.args.an c.args.key c.args.ssci c.args.lowest)) c.self.view_is)
 
 pub returns-clause-sound : goal.returns-clause-sound
-returns-clause-sound c = (invariant_of-self c).sound
+returns-clause-sound c = (invariant_of-self-2 c).sound

@@ -11,7 +11,7 @@ invariant_of-self-2 c =
     let sound = s.invariant.sound in
     let made = c.in_ok-rx_sc.ensures in
     record {
-      sound = rw (made.done, c.push.ensures.items, c.zero.ensures) (after_effect (the_view s.inside) (by.RxSc c.args.sci) (sym made.refusal)
+      sound = rw (made.done, c.push.ensures.items, c.new.ensures) (after_effect (the_view s.inside) (by.RxSc c.args.sci) (sym made.refusal)
           (record { keys = sound.keys; tx = sound.tx; rx = subst AreChannels made.done made.channels }) sound);
       room = s.invariant.room;
     }

@@ -1,0 +1,59 @@
+-- What an endpoint shows of the counters of associations: they are there exactly where the association is, and their
+-- sums are the channel's.
+use Rattle.std.proofs.Common.{◌≡◌, ◌∙◌, ℕ, Bool, true, false, List, [], ◌∷◌, map, length, refl, ap, sym, arith}
+use Rattle.std.specs.Prelude.{◌||◌, if◌then◌else◌, is_some, option_and_then, option_map, Option, Some, None}
+use Rattle.macsec_tag.specs.declared.identifiers.Sci.{Sci}
+use Rattle.macsec_rx.specs.Channels.{same_sci}
+use Rattle.macsec_rx.specs.Commands.{has_channel, has_rx}
+use Rattle.macsec_secy.specs.declared.counters.RxCounters.{RxCounters}
+use Rattle.macsec_secy.specs.declared.counters.ChannelCounters.{ChannelCounters}
+use Rattle.macsec_secy.specs.Answers.{channel_counters_of, rx_counters_of, rx_sa_counters_of}
+use Rattle.macsec_secy.specs.AssociationSums.{association_numbers, rx_sums_of}
+use Rattle.macsec_secy.specs.Counting.{added, counters_at, sum_of}
+use Rattle.macsec_secy.specs.Sound.{AreOfAssociations, IsSound, sci_of_counters}
+use Rattle.macsec_secy.specs.State.{State}
+use Rattle.macsec_secy.proofs.AssociationsKept.{has_rx-no_channel}
+use Rattle.macsec_secy.proofs.InUse.{found}
+use Rattle.macsec_secy.proofs.Sums.{one_sci}
+
+-- four are the ones of the four numbers
+of_four : (associations : List (Option RxCounters)) → length associations ≡ 4 → map (counters_at associations) association_numbers ≡ associations
+of_four [] count = absurd (omega (arith, count))
+of_four (a ∷ []) count = absurd (omega (arith, count))
+of_four (a ∷ b ∷ []) count = absurd (omega (arith, count))
+of_four (a ∷ b ∷ c ∷ []) count = absurd (omega (arith, count))
+of_four (a ∷ b ∷ c ∷ d ∷ []) count = refl
+of_four (a ∷ b ∷ c ∷ d ∷ e ∷ rest) count = absurd (omega (arith, count))
+
+pub shown_sums : (s : State) → IsSound s → (sci : Sci) → rx_counters_of s.rx_counters sci ≡ rx_sums_of s.rx_counters sci
+shown_sums s sound sci = by_channel (channel_counters_of s.rx_counters sci) refl
+  where
+    by_channel : (o : Option ChannelCounters) → channel_counters_of s.rx_counters sci ≡ o →
+        option_map (λ (row : ChannelCounters). row.counters) o ≡
+        option_map (added (sum_of (map (λ an. option_and_then (λ (row : ChannelCounters). counters_at row.associations an) o) association_numbers)))
+        (option_map (λ (row : ChannelCounters). row.removed) o)
+    by_channel None is = refl
+    by_channel (Some c) is =
+        let of = (found (λ (row : ChannelCounters). same_sci row.sci sci) (AreOfAssociations s.rx.rows) s.rx_counters c sound.associations is).holds in
+        ap Some (of.sum ∙ ap (λ associations. added (sum_of associations) c.removed) (sym (of_four c.associations of.count)))
+
+no_channel : (channels : List ChannelCounters) (sci : Sci) → channel_counters_of channels sci ≡ None → has_channel (map sci_of_counters channels) sci ≡ false
+no_channel [] sci none = refl
+no_channel (c ∷ channels) sci none = by_test (same_sci c.sci sci) (no_channel channels sci) none
+  where
+    by_test : (b : Bool) → (channel_counters_of channels sci ≡ None → has_channel (map sci_of_counters channels) sci ≡ false) →
+        (if b then Some c else channel_counters_of channels sci) ≡ None → (b || has_channel (map sci_of_counters channels) sci) ≡ false
+    by_test true later none' = cc
+    by_test false later none' = later none'
+
+pub shown_there : (s : State) → IsSound s → (sci : Sci) (an : ℕ) → is_some (rx_sa_counters_of s.rx_counters sci an) ≡ has_rx s.rx.rows sci an
+shown_there s sound sci an = by_channel (channel_counters_of s.rx_counters sci) refl
+  where
+    by_channel : (o : Option ChannelCounters) → channel_counters_of s.rx_counters sci ≡ o →
+        is_some (option_and_then (λ (row : ChannelCounters). counters_at row.associations an) o) ≡ has_rx s.rx.rows sci an
+    by_channel None is =
+        let none = no_channel s.rx_counters sci is in
+        sym (has_rx-no_channel s.rx.scis s.rx.rows sci an sound.rx.rows (ap (λ scis. has_channel scis sci) (sym sound.channels) ∙ none))
+    by_channel (Some c) is =
+        let it = found (λ (row : ChannelCounters). same_sci row.sci sci) (AreOfAssociations s.rx.rows) s.rx_counters c sound.associations is in
+        it.holds.there an ∙ ap (λ t. has_rx s.rx.rows t an) (one_sci c.sci sci it.passes)

@@ -1,0 +1,37 @@
+use Rattle.std.proofs.Common.{◌≡◌, ◌∙◌, ap, map, length, subst, sym}
+use Rattle.std.specs.List.{refill}
+use Rattle.macsec_rx.specs.Rows.{AreChannels}
+use Rattle.macsec_commands.specs.declared.command.Command.TheVariants as by
+use Rattle.macsec_secy.specs.Commands.{state_after_command, unless_refused}
+use Rattle.macsec_secy.specs.Counting.{at_channel, without_association}
+use Rattle.macsec_secy.specs.contracts.Secy.{the_view}
+use Rattle.macsec_secy.proofs.ChannelsCounted.{changed_again}
+use Rattle.macsec_secy.proofs.StaysSound.{after_effect}
+use Rattle.macsec_secy.proofs.Secy.rx_del.Goals.{After-remove_association}
+use Rattle.macsec_secy.proofs.Secy.rx_del.Goals as goal
+
+counters_left : (c : After-remove_association) → refill (length c.self.inside.rx_counters.items) c.self.inside.rx_counters.items c.remove_association.new.rows ≡
+    map (at_channel (without_association c.args.an) c.args.sci) c.self.inside.rx_counters.items
+counters_left c =
+    changed_again c.self.inside.rx_counters.items c.as_mut_slice.result.now c.remove_association.new.rows (without_association c.args.an) c.args.sci
+    c.as_mut_slice.ensures.value c.remove_association.ensures
+
+pub invariant_of-self-2 : goal.invariant_of-self-2
+invariant_of-self-2 c =
+    let s = c.self in
+    let sound = s.invariant.sound in
+    let done = c.in_ok-rx_del.ensures in
+    record {
+      sound = rw (done.done, counters_left (goal.at.invariant_of-self-2 c).After-remove_association) (after_effect (the_view s.inside) (by.RxDel c.args.sci c.args.an) (sym done.refusal)
+          (record { keys = sound.keys; tx = sound.tx; rx = subst AreChannels done.done done.channels }) sound);
+      room = s.invariant.room;
+    }
+
+pub returns-clause-after : goal.returns-clause-after
+returns-clause-after c =
+    rw (c.in_ok-rx_del.ensures.done, counters_left (goal.at.returns-clause-after c).After-remove_association)
+    (ap (λ r. unless_refused r (the_view c.self.inside) (by.RxDel c.args.sci c.args.an)) c.in_ok-rx_del.ensures.refusal ∙
+    ap (λ s. state_after_command s (by.RxDel c.args.sci c.args.an)) c.self.view_is)
+
+pub returns-clause-sound : goal.returns-clause-sound
+returns-clause-sound c = (invariant_of-self-2 c).sound

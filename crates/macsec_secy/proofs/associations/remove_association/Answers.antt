@@ -1,0 +1,11 @@
+use Rattle.std.proofs.Common.{arith}
+use Rattle.std.proofs.lemmas.List.{get_or_default}
+use Rattle.std.proofs.lemmas.List.Edits.{map_over_more}
+use Rattle.macsec_secy.specs.Counting.{at_channel, without_association}
+use Rattle.macsec_secy.proofs.associations.remove_association.Goals as goal
+
+pub loop-row-preserved : goal.loop-row-preserved
+loop-row-preserved c =
+    rw c.remove.ensures
+    (map_over_more (at_channel (without_association c.args.an) c.args.sci) c.args.rows.now c.loop-row.rows c.loop-row.row-index _ (omega arith) c.loop-row.invariant
+    (get_or_default c.loop-row.rows c.loop-row.row-index _ _ (omega arith)))

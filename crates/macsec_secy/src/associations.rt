@@ -1,0 +1,147 @@
+//! The counters of receive channels and of their associations (IEEE 802.1AE, 10.7).
+
+ghost use Rattle.std.specs.Prelude.{◌≡◌, map};
+ghost use Rattle.macsec_secy.specs.State.{no_rx_counters};
+ghost use Rattle.macsec_secy.specs.Counting.{added, at_channel, count_in_channel, count_verdict, new_channel_counters, with_association, without_association};
+ghost use Rattle.macsec_secy.specs.Verdicts.{at_first, counted_at_place};
+
+use crate::counters::ASSOCIATION_COUNT;
+use crate::{An, ChannelCounters, RxCounters, Sci, Verdict};
+
+impl RxCounters {
+    /// Counters of 0.
+    pub(crate) fn zero() -> RxCounters
+        ensures { result ≡ no_rx_counters }
+    {
+        RxCounters {
+            in_pkts_ok: 0,
+            in_pkts_unchecked: 0,
+            in_pkts_delayed: 0,
+            in_pkts_late: 0,
+            in_pkts_invalid: 0,
+            in_pkts_not_valid: 0,
+        }
+    }
+
+    /// The counters with a frame of a verdict counted, if channels and associations count it.
+    fn with(self, verdict: Verdict) -> RxCounters
+        ensures { result ≡ count_verdict verdict self }
+    {
+        let mut counters = self;
+        match verdict {
+            Verdict::Passed => counters.in_pkts_ok = self.in_pkts_ok.wrapping_add(1),
+            Verdict::Unchecked => {
+                counters.in_pkts_unchecked = self.in_pkts_unchecked.wrapping_add(1);
+            }
+            Verdict::Delayed => counters.in_pkts_delayed = self.in_pkts_delayed.wrapping_add(1),
+            Verdict::Late => counters.in_pkts_late = self.in_pkts_late.wrapping_add(1),
+            Verdict::Invalid => counters.in_pkts_invalid = self.in_pkts_invalid.wrapping_add(1),
+            Verdict::NotValid => {
+                counters.in_pkts_not_valid = self.in_pkts_not_valid.wrapping_add(1);
+            }
+            _ => {}
+        }
+        counters
+    }
+
+    /// The sums of these counters and others.
+    fn plus(self, other: RxCounters) -> RxCounters
+        ensures { result ≡ added self other }
+    {
+        RxCounters {
+            in_pkts_ok: self.in_pkts_ok.wrapping_add(other.in_pkts_ok),
+            in_pkts_unchecked: self.in_pkts_unchecked.wrapping_add(other.in_pkts_unchecked),
+            in_pkts_delayed: self.in_pkts_delayed.wrapping_add(other.in_pkts_delayed),
+            in_pkts_late: self.in_pkts_late.wrapping_add(other.in_pkts_late),
+            in_pkts_invalid: self.in_pkts_invalid.wrapping_add(other.in_pkts_invalid),
+            in_pkts_not_valid: self.in_pkts_not_valid.wrapping_add(other.in_pkts_not_valid),
+        }
+    }
+}
+
+impl ChannelCounters {
+    /// The counters of a channel without associations: 0.
+    pub(crate) fn new(sci: Sci) -> ChannelCounters
+        ensures { result ≡ new_channel_counters sci }
+    {
+        ChannelCounters {
+            sci,
+            counters: RxCounters::zero(),
+            associations: [None; ASSOCIATION_COUNT],
+            removed: RxCounters::zero(),
+        }
+    }
+
+    /// Counts a frame of the association of this number: there and in the channel.
+    fn count(&mut self, verdict: Verdict, an: An)
+        ensures { self.new ≡ count_in_channel verdict an self.old }
+    {
+        let place = usize::from(an.number());
+        self.counters = self.counters.with(verdict);
+        if let Some(counters) = self.associations[place] {
+            self.associations[place] = Some(counters.with(verdict));
+        }
+    }
+
+    /// Begins to count for a new association of this number, if the channel has this SCI.
+    fn add(&mut self, sci: Sci, an: An)
+        ensures { self.new ≡ at_channel (with_association an) sci self.old }
+    {
+        if self.sci == sci {
+            self.associations[usize::from(an.number())] = Some(RxCounters::zero());
+        }
+    }
+
+    /// Adds what the association of this number has counted to what the deleted ones had counted, if the channel has this
+    /// SCI.
+    fn remove(&mut self, sci: Sci, an: An)
+        ensures { self.new ≡ at_channel (without_association an) sci self.old }
+    {
+        if self.sci == sci {
+            let place = usize::from(an.number());
+            let counted = self.associations[place].unwrap_or(RxCounters::zero());
+            self.removed = self.removed.plus(counted);
+            self.associations[place] = None;
+        }
+    }
+}
+
+/// Begins to count for a new association of this channel and of this number.
+pub(crate) fn add_association(rows: &mut [ChannelCounters], sci: Sci, an: An)
+    ensures { rows.new ≡ map (at_channel (with_association an) sci) rows.old }
+{
+    for row in rows.iter_mut() {
+        row.add(sci, an);
+    }
+}
+
+/// Adds what the association of this channel and of this number has counted to what the channel's deleted ones had
+/// counted.
+pub(crate) fn remove_association(rows: &mut [ChannelCounters], sci: Sci, an: An)
+    ensures { rows.new ≡ map (at_channel (without_association an) sci) rows.old }
+{
+    for row in rows.iter_mut() {
+        row.remove(sci, an);
+    }
+}
+
+/// Counts a frame at the channel with this SCI and at its association of this number, and touches no other.
+fn count_at(rows: &mut [ChannelCounters], verdict: Verdict, sci: Sci, an: An)
+    ensures { rows.new ≡ at_first (count_in_channel verdict an) sci rows.old }
+{
+    for row in rows.iter_mut() {
+        if row.sci == sci {
+            row.count(verdict, an);
+            return;
+        }
+    }
+}
+
+/// Counts a frame at its association and at the channel of that, if it has one.
+pub(crate) fn count_at_row(rows: &mut [ChannelCounters], verdict: Verdict, row: Option<(Sci, An)>)
+    ensures { rows.new ≡ counted_at_place verdict row rows.old }
+{
+    if let Some((sci, an)) = row {
+        count_at(rows, verdict, sci, an);
+    }
+}
