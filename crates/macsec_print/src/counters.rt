@@ -2,15 +2,14 @@
 
 ghost use Rattle.std.specs.Prelude.{◌≡◌, flat_map, map, IfErr, OnOk, Some};
 ghost use Rattle.std.specs.Io.KnownBytes.{Appends};
-ghost use Rattle.macsec_secy.specs.Answers.{rx_counters_of};
 ghost use Rattle.macsec_lines.specs.declared.faults.ScriptFault.TheVariants.{Write};
-ghost use Rattle.macsec_print.specs.Counters.{channel_counters, counter_text, counters_text, own_counters, rx_counter_text, rx_counters_text};
+ghost use Rattle.macsec_print.specs.Counters.{associations_text, channel_counters, channel_text, counter_text, counters_text, own_counters, rx_counter_text, rx_counters_text, sa_counter_text, sa_counters_text};
 ghost use Rattle.macsec_print.specs.Printing.{Prints};
 
-use crate::numbers::MAX_CHANNEL_COUNT;
+use crate::numbers::{MAX_CHANNEL_COUNT, association_numbers};
 use crate::writing::{write_fault, write_hex};
 use macsec_lines::ScriptFault;
-use macsec_link::{Sci, Secy};
+use macsec_link::{An, Sci, Secy};
 use macsec_secy::{Counters, RxCounters, TxCounters};
 use std::fmt;
 use std::io::{self, Write};
@@ -61,7 +60,7 @@ fn own_counters(own: Counters, tx: TxCounters) -> [NamedCounter; 15]
     ]
 }
 
-/// The counters of a receive channel, by their names.
+/// The counters of a receive channel, or of a receive association, by their names.
 fn channel_counters(counters: RxCounters) -> [NamedCounter; 6]
     ensures { map (λ c. (c.0.now, c.1)) result ≡ channel_counters counters }
 {
@@ -137,15 +136,91 @@ fn write_channel<W: Write>(
     }
 }
 
+/// Writes the line of a counter of a receive association.
+fn write_sa_counter<W: Write>(
+    writer: &mut W,
+    label: Label,
+    sci: Sci,
+    an: u8,
+    name: &str,
+    value: u64,
+) -> io::Result<()>
+    ensures { OnOk result (Appends (W.contents writer.old) (W.contents writer.new) (sa_counter_text label sci an (name.now, value))) }
+{
+    write!(writer, "{label} ")?;
+    write_hex(writer, &sci.0)?;
+    writeln!(writer, " {an} {name} {value}")
+}
+
+/// Writes the lines of counters of a receive association.
+fn write_sa<W: Write>(
+    writer: &mut W,
+    label: Label,
+    sci: Sci,
+    an: u8,
+    counters: &[NamedCounter],
+) -> io::Result<()>
+    ensures { OnOk result (Appends (W.contents writer.old) (W.contents writer.new) (flat_map (sa_counter_text label sci an) (map (λ c. (c.0.now, c.1)) counters.now))) }
+{
+    for (name, value) in counters {
+        write_sa_counter(writer, label, sci, an, name, *value)?;
+    }
+    Ok(())
+}
+
+/// Writes the lines of a receive association, if there is one.
+fn write_association<W: Write>(
+    writer: &mut W,
+    label: Label,
+    sci: Sci,
+    an: An,
+    counters: Option<RxCounters>,
+) -> io::Result<()>
+    ensures { OnOk result (Appends (W.contents writer.old) (W.contents writer.new) (sa_counters_text label sci an counters)) }
+{
+    match counters {
+        Some(counters) => write_sa(writer, label, sci, an.number(), &channel_counters(counters)),
+        None => Ok(()),
+    }
+}
+
+/// Writes the lines of the associations of a receive channel, by their numbers.
+fn write_associations<W: Write>(
+    writer: &mut W,
+    label: Label,
+    endpoint: &Secy,
+    sci: Sci,
+) -> io::Result<()>
+    ensures { OnOk result (Appends (W.contents writer.old) (W.contents writer.new) (associations_text label endpoint.now sci)) }
+{
+    for an in association_numbers() {
+        write_association(writer, label, sci, an, endpoint.rx_sa_counters(sci, an))?;
+    }
+    Ok(())
+}
+
+/// Writes the lines of a receive channel, and then of its associations.
+fn write_channel_and_associations<W: Write>(
+    writer: &mut W,
+    label: Label,
+    endpoint: &Secy,
+    sci: Sci,
+) -> io::Result<()>
+    ensures { OnOk result (Appends (W.contents writer.old) (W.contents writer.new) (channel_text label endpoint.now sci)) }
+{
+    write_channel(writer, label, sci, endpoint.rx_counters(sci))?;
+    write_associations(writer, label, endpoint, sci)
+}
+
 /// Writes the lines of the receive channels, in the order of their creation.
 fn write_channels<W: Write>(writer: &mut W, label: Label, endpoint: &Secy) -> io::Result<()>
-    ensures { OnOk result (Appends (W.contents writer.old) (W.contents writer.new) (flat_map (λ sci. rx_counters_text label sci (rx_counters_of endpoint.now.rx_counters sci)) endpoint.now.rx.scis)) }
+    ensures { OnOk result (Appends (W.contents writer.old) (W.contents writer.new) (flat_map (channel_text label endpoint.now) endpoint.now.rx.scis)) }
 {
     for place in 0..MAX_CHANNEL_COUNT {
         let Some(sci) = endpoint.rx_channel(place) else {
             return Ok(());
         };
-        write_channel(writer, label, sci, endpoint.rx_counters(sci))?;
+        write_channel_and_associations(writer, label, endpoint, sci)?;
     }
     Ok(())
 }
@@ -160,8 +235,8 @@ fn write_counters<W: Write>(writer: &mut W, label: Label, endpoint: &Secy) -> io
 }
 
 /// Prints the counters of an endpoint behind a label: a line for each of its own, then for each of its transmit
-/// channel, and then for each of the receive channels in the order of their creation. It takes no memory, and fails
-/// only if the writer does.
+/// channel, and then for each of the receive channels in the order of their creation, each with its associations by
+/// their numbers. It takes no memory, and fails only if the writer does.
 pub fn print_counters<W: Write>(
     writer: &mut W,
     label: Label,

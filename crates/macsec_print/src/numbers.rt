@@ -50,7 +50,7 @@ fn mode_text(conf: bool) -> &'static str
 }
 
 /// The association numbers.
-fn association_numbers() -> [An; 4]
+pub(crate) fn association_numbers() -> [An; 4]
     ensures { result ≡ association_numbers }
 {
     [

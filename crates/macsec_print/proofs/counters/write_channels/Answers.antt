@@ -1,8 +1,7 @@
 use Rattle.std.proofs.Common.{arith, sym}
 use Rattle.std.proofs.lemmas.Grind.{common_steps}
 use Rattle.std.proofs.lemmas.Option.{slice_get_within, get_or_from_slice_get}
-use Rattle.macsec_secy.specs.Answers.{rx_counters_of}
-use Rattle.macsec_print.specs.Counters.{rx_counters_text}
+use Rattle.macsec_print.specs.Counters.{channel_text}
 use Rattle.macsec_print.proofs.Pieces.{one_more_piece}
 use Rattle.macsec_print.proofs.counters.write_channels.Goals as goal
 
@@ -11,8 +10,8 @@ loop-place-preserved g c =
     let scis = c.args.endpoint.now.rx.scis in let sci = c.in-Some.sci in let there = sym c.in-Some.ensures.sci in
     record {
       text =
-          one_more_piece (λ sci. rx_counters_text c.args.label sci (rx_counters_of c.args.endpoint.now.rx_counters sci)) scis c.loop-place.place sci _ _ _ (slice_get_within scis c.loop-place.place sci there)
-          c.loop-place.invariant.text (rw (get_or_from_slice_get scis c.loop-place.place sci sci there) (rw c.rx_counters.ensures at c.in_ok-write_channel.ensures));
+          one_more_piece (channel_text c.args.label c.args.endpoint.now) scis c.loop-place.place sci _ _ _ (slice_get_within scis c.loop-place.place sci there)
+          c.loop-place.invariant.text (rw (get_or_from_slice_get scis c.loop-place.place sci sci there) c.in_ok-write_channel_and_associations.ensures);
       count = λ some. c.in-Some.ensures.count;
     }
 

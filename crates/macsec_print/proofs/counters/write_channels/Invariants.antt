@@ -2,8 +2,7 @@ use Rattle.std.proofs.Common.{◌<◌, ◌≤◌, length, take}
 use Rattle.std.specs.Prelude.{flat_map}
 use Rattle.std.specs.Io.KnownBytes.{Appends}
 use Rattle.macsec_rx.specs.Limits.{max_channel_count}
-use Rattle.macsec_secy.specs.Answers.{rx_counters_of}
-use Rattle.macsec_print.specs.Counters.{rx_counters_text}
+use Rattle.macsec_print.specs.Counters.{channel_text}
 use Rattle.macsec_print.proofs.counters.write_channels.Given as goal
 
 -- the lines of the channels before the place are written, and a place that was asked for has told how many
@@ -12,6 +11,6 @@ abbrev pub invariant-loop-place : goal.invariant-loop-place
 invariant-loop-place g l = record {
   text :
       Appends (g.W.Write.contents l.initial.writer) (g.W.Write.contents l.writer)
-      (flat_map (λ sci. rx_counters_text l.label sci (rx_counters_of l.endpoint.rx_counters sci)) (take l.place l.endpoint.rx.scis));
+      (flat_map (channel_text l.label l.endpoint) (take l.place l.endpoint.rx.scis));
   count : 0 < l.place → length l.endpoint.rx.scis ≤ max_channel_count;
 }
