@@ -21,6 +21,7 @@ use Rattle.macsec_rx.specs.Judge.{in_use, sci_of}
 use Rattle.macsec_commands.specs.declared.command.Command.TheVariants.{RxLow, RxOff, RxSc, Validate}
 use Rattle.macsec_commands.specs.declared.config.EndConfig.{EndConfig}
 use Rattle.macsec_secy.specs.Accepts.{CanAccept}
+use Rattle.macsec_secy.specs.Counting.{new_channel_counters}
 use Rattle.macsec_secy.specs.State.{State, first_options, no_rx_counters, start, tx_options}
 use Rattle.macsec_secy.specs.Step.{frame_fault, sending_of}
 use Rattle.macsec_commands.specs.declared.event.End.{End}
@@ -38,7 +39,7 @@ use Rattle.macsec_ends.specs.Logs.{no_sent_logs}
 use Rattle.macsec_link.specs.Trace.{Trace}
 use Rattle.macsec_premises.proofs.SealedFrames.{Sealed, aad_sent, frame_with, sealed, tag_of, with_tag}
 use Rattle.macsec_premises.proofs.TracedSteps.{send_step, sent_by, trace_sent}
-use Rattle.macsec_premises.proofs.WorkedEnds.{Fails, client, config, installed_key, log, new_key, no_salt, receives_from, rx_from, sci_a, sci_b, sends_from, tx_from}
+use Rattle.macsec_premises.proofs.WorkedEnds.{Fails, client, config, counts, installed_key, log, new_key, no_salt, receives_from, rx_from, sci_a, sci_b, sends_from, tx_from}
 
 -- the premises by name
 pub data Premise : Type 0 where
@@ -155,7 +156,7 @@ abbrev pub state_b : EndConfig → RxRow → State
 state_b b rx = record (start b) {
   keys = key_row b.suite 2 ∷ [];
   rx = record { scis = sci_a ∷ []; rows = rx ∷ [] };
-  rx_counters = record { sci = sci_a; counters = no_rx_counters } ∷ [];
+  rx_counters = counts no_rx_counters ∷ [];
 }
 
 -- the world before the frame is sent, with this state of B's endpoint
@@ -234,7 +235,7 @@ sci_c = record { 0 = 2 ∷ 0 ∷ 0 ∷ 0 ∷ 0 ∷ 3 ∷ 0 ∷ 1 ∷ [] }
 abbrev two_channels : State
 two_channels = record (state_b gcm_b (rx_from 1)) {
   rx = record { scis = sci_a ∷ sci_c ∷ []; rows = rx_from 1 ∷ [] };
-  rx_counters = record { sci = sci_a; counters = no_rx_counters } ∷ record { sci = sci_c; counters = no_rx_counters } ∷ [];
+  rx_counters = counts no_rx_counters ∷ new_channel_counters sci_c ∷ [];
 }
 
 has_no_channel : (tag : List ℕ) → (world_step (world_sent (world_before without_sci 1 two_channels) (tx_from 1) (frame_from without_sci 1 tag)) (Deliver B 0)).0 ≡ heard NoSaError None

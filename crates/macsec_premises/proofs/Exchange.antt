@@ -34,7 +34,7 @@ use Rattle.macsec_link.specs.Trace.{Mark, Trace, new_trace, trace_after, trace_s
 use Rattle.macsec_link.proofs.Moments.{world_of_trace}
 use Rattle.macsec_premises.proofs.SealedFrames.{Sealed, aad_sent, frame_with, items, opens, parts_with, sealed, tag_of, with_tag}
 use Rattle.macsec_premises.proofs.TracedSteps.{AtEach, WhileLive, after_both, at_moment, deliver_step, each_append, each_next, genuine_append, genuine_at, genuine_next, send_step, sent_by}
-use Rattle.macsec_premises.proofs.WorkedEnds.{config, installed_key, log, new_key, no_salt, of_two, receives_from, rx_from, sci_a, sci_b, sends_from, tx_from}
+use Rattle.macsec_premises.proofs.WorkedEnds.{config, counts, installed_key, log, new_key, no_salt, of_two, receives_from, rx_from, sci_a, sci_b, sends_from, tx_from}
 
 abbrev pub config_a : EndConfig
 config_a = config Gcm128 sci_a
@@ -60,8 +60,8 @@ exchange = Send A (client 1) ∷ Deliver B 0 ∷ second_exchange
 abbrev pub key_row : ℕ → ℕ → InstalledKey
 key_row ssci first_unused = installed_key Gcm128 no_salt ssci first_unused
 
--- with these options of B, A has sent up to n; B's association, the octets that B validated, and its channel's counters; what
--- A's client sent, what B delivered, and the link's frames
+-- with these options of B, A has sent up to n; B's association, the octets that B validated, what it and its channel
+-- have counted; what A's client sent, what B delivered, and the link's frames
 abbrev pub trace_at : Options → ℕ → RxRow → ℕ → RxCounters → List (List ℕ) → List (List ℕ) → List (List ℕ) → List CipherUse → List Mark → Trace
 trace_at options n row m counted sent delivered frames seals marks = record {
   world = record {
@@ -80,7 +80,7 @@ trace_at options n row m counted sent delivered frames seals marks = record {
         keys = key_row 2 1 ∷ [];
         rx = record { scis = sci_a ∷ []; rows = row ∷ [] };
         counters = record no_counters { in_octets_validated = m };
-        rx_counters = record { sci = sci_a; counters = counted } ∷ [];
+        rx_counters = counts counted ∷ [];
       };
       sent = no_sent_logs;
       delivered = log delivered ∷ [];

@@ -34,7 +34,7 @@ use Rattle.macsec_premises.proofs.IvPremises.{AgreeOnSuite, AgreeOnSuites}
 use Rattle.macsec_link.proofs.Moments.{world_of_trace}
 use Rattle.macsec_premises.proofs.SealedFrames.{Sealed, aad_sent, frame_with, items, opens, parts_with, sealed, tag_of, with_tag}
 use Rattle.macsec_premises.proofs.TracedSteps.{AtEach, WhileLive, world_of, after_both, at_moment, deliver_step, each_append, each_next, genuine_append, genuine_at, genuine_next, send_step, sent_by}
-use Rattle.macsec_premises.proofs.WorkedEnds.{Fails, config, installed_key, log, new_key, no_salt, of_two, receives_from, rx_from, sci_a, sci_b, sends_from, tx_from}
+use Rattle.macsec_premises.proofs.WorkedEnds.{Fails, config, counts, installed_key, log, new_key, no_salt, of_two, receives_from, rx_from, sci_a, sci_b, sends_from, tx_from}
 
 abbrev xpn_a : EndConfig
 xpn_a = config Xpn128 sci_a
@@ -89,7 +89,7 @@ trace_at n unused row m sent delivered frames seals marks = record {
         keys = key_row salt_b 2 1 ∷ [];
         rx = record { scis = sci_a ∷ []; rows = row ∷ [] };
         counters = record no_counters { in_octets_validated = 2 * m };
-        rx_counters = record { sci = sci_a; counters = record no_rx_counters { in_pkts_ok = m } } ∷ [];
+        rx_counters = counts (record no_rx_counters { in_pkts_ok = m }) ∷ [];
       };
       sent = no_sent_logs;
       delivered = log delivered ∷ [];

@@ -1,6 +1,6 @@
 -- The ends of worked runs: their configurations and keys, and the commands by which association 0 sends or receives.
 use Rattle.std.proofs.Common.{◌≡◌, ◌≢◌, ◌⊎◌, inl, inr, ℕ, true, false, List, [], ◌∷◌, ◌++◌, ap, get_or, subst, Contains}
-use Rattle.std.specs.Prelude.{replicate, Bool, None}
+use Rattle.std.specs.Prelude.{replicate, Bool, Some, None}
 use Rattle.macsec_aes.specs.declared.Key.TheVariants.{K128}
 use Rattle.macsec_tag.specs.declared.identifiers.Sci.{Sci}
 use Rattle.macsec_suite.specs.declared.key_row.NewKey.{NewKey}
@@ -15,6 +15,9 @@ use Rattle.macsec_commands.specs.declared.event.End.{End}
 use Rattle.macsec_commands.specs.declared.event.End.TheVariants.{A, B}
 use Rattle.macsec_commands.specs.declared.event.Event.{Event}
 use Rattle.macsec_commands.specs.declared.event.Event.TheVariants.{Command, Send}
+use Rattle.macsec_secy.specs.declared.counters.RxCounters.{RxCounters}
+use Rattle.macsec_secy.specs.declared.counters.ChannelCounters.{ChannelCounters}
+use Rattle.macsec_secy.specs.Counting.{new_channel_counters}
 use Rattle.macsec_link.specs.Answers.{make_fault}
 use Rattle.macsec_ends.specs.Logs.{DeliveryLog}
 use Rattle.macsec_link.proofs.Members.{member}
@@ -66,6 +69,10 @@ tx_from next = record { an = 0; key = 0; next = next; conf = false; on = true }
 
 abbrev pub rx_from : ℕ → RxRow
 rx_from next = record { sci = sci_a; an = 0; key = 0; ssci = 1; next = next; lowest = next; on = true }
+
+-- what the latter and its channel have counted
+abbrev pub counts : RxCounters → ChannelCounters
+counts counted = record (new_channel_counters sci_a) { counters = counted; associations = Some counted ∷ None ∷ None ∷ None ∷ [] }
 
 -- what was delivered from the latter
 abbrev pub log : List (List ℕ) → DeliveryLog
