@@ -21,7 +21,7 @@ SECY_COUNTERS = (
     "InOctetsDecrypted OutPktsUntagged OutPktsTooLong OutPktsNoSA OutPktsProtected OutPktsEncrypted "
     "OutOctetsProtected OutOctetsEncrypted"
 ).split()
-CHANNEL_COUNTERS = ["InPkts" + it for it in "OK Unchecked Delayed Late Invalid NotValid".split()]
+RX_COUNTERS = ["InPkts" + it for it in "OK Unchecked Delayed Late Invalid NotValid".split()]
 
 
 class LineFault(Exception):
@@ -193,6 +193,7 @@ class Sa:
 
     def __init__(self, key, next_pn, ssci=None, conf=None):
         self.key, self.next, self.lowest, self.ssci, self.conf, self.on = key, next_pn, next_pn, ssci, conf, False
+        self.counters = dict.fromkeys(RX_COUNTERS, 0)
 
 
 class Key:
@@ -205,7 +206,7 @@ class Key:
 
 class Channel:
     def __init__(self, sci):
-        self.sci, self.sas, self.counters = sci, {}, dict.fromkeys(CHANNEL_COUNTERS, 0)
+        self.sci, self.sas, self.counters = sci, {}, dict.fromkeys(RX_COUNTERS, 0)
 
 
 class Endpoint:
@@ -383,15 +384,13 @@ class Endpoint:
 
     def receive(self, frame):
         """The verdict on a link frame, and what is delivered at the controlled port or None."""
-        verdict, delivered, channel = self.judged(frame)
-        if channel is not None:
-            channel.counters["InPkts" + verdict] = (channel.counters["InPkts" + verdict] + 1) % 2**64
-        else:
-            self.count("InPkts" + verdict)
+        verdict, delivered, counting = self.judged(frame)
+        for it in counting or (self,):
+            it.counters["InPkts" + verdict] = (it.counters["InPkts" + verdict] + 1) % 2**64
         return verdict, delivered
 
     def judged(self, frame):
-        """The verdict, what is delivered, and the channel that counts it or None."""
+        """The verdict, what is delivered, and the channel and its association that count it or None."""
         read = read_frame(frame)
         if read == "Untagged":
             return ("NoTag", None, None) if self.mode == "strict" else ("Untagged", frame, None)
@@ -411,18 +410,19 @@ class Endpoint:
         if pn is None:
             return "BadTag", None, None
         is_late = pn < sa.lowest
+        counting = (channel, sa)
         if self.replay and is_late:
-            return "Late", None, channel
+            return "Late", None, counting
         if self.mode == "disabled":
             if c:
-                return "NotValid", None, channel
-            return "Delayed" if is_late else "Unchecked", plain, channel
+                return "NotValid", None, counting
+            return "Delayed" if is_late else "Unchecked", plain, counting
         opened = self.opened(read, frame, channel.sci, sa, pn)
         if opened is None:
-            return ("NotValid", None, channel) if c or self.mode == "strict" else ("Invalid", plain, channel)
+            return ("NotValid", None, counting) if c or self.mode == "strict" else ("Invalid", plain, counting)
         sa.next = max(sa.next, pn + 1)
         sa.lowest = max(sa.lowest, sa.next - self.window)
-        return "Delayed" if is_late else "OK", frame[:12] + opened, channel
+        return "Delayed" if is_late else "OK", frame[:12] + opened, counting
 
     def channel_of(self, read, frame):
         if read["sci"] is not None:
@@ -455,7 +455,10 @@ class Endpoint:
     def counter_lines(self, label):
         lines = [f"{label} {name} {self.counters[name]}" for name in SECY_COUNTERS]
         for channel in self.channels:
-            lines += [f"{label} {channel.sci.hex()} {name} {channel.counters[name]}" for name in CHANNEL_COUNTERS]
+            sci = channel.sci.hex()
+            lines += [f"{label} {sci} {name} {channel.counters[name]}" for name in RX_COUNTERS]
+            for an, sa in sorted(channel.sas.items()):
+                lines += [f"{label} {sci} {an} {name} {sa.counters[name]}" for name in RX_COUNTERS]
         return lines
 
     def number_lines(self, label):

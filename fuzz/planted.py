@@ -206,8 +206,23 @@ PLANTED = [
         'if self.mode == "strict" else ("Invalid"',
     ),
     (
+        "a frame is counted by its channel alone",
+        "for it in counting or (self,):",
+        "for it in counting[:1] if counting else (self,):",
+    ),
+    (
+        "a frame is counted by its association alone",
+        "for it in counting or (self,):",
+        "for it in counting[1:] if counting else (self,):",
+    ),
+    (
+        "a new association begins with what the channel has counted",
+        "        channel.sas[an] = Sa(number, pn, ssci=ssci)\n",
+        "        channel.sas[an] = Sa(number, pn, ssci=ssci)\n        channel.sas[an].counters = dict(channel.counters)\n",
+    ),
+    (
         "encrypted data are delivered unopened",
-        '            if c:\n                return "NotValid", None, channel\n',
+        '            if c:\n                return "NotValid", None, counting\n',
         "",
     ),
     (
@@ -392,8 +407,8 @@ BREAKING = [
     (
         "acceptance",
         "data are delivered as they were received",
-        "frame[:12] + opened, channel",
-        "plain, channel",
+        "frame[:12] + opened, counting",
+        "plain, counting",
     ),
 ]
 
