@@ -17,8 +17,7 @@ use Rattle.macsec_secy.specs.State.{State}
 use Rattle.macsec_secy.specs.Sound as endpoint
 use Rattle.macsec_secy.specs.Commands.{effect, refusal, unless_refused}
 use Rattle.macsec_secy.specs.Reception.{judgement_of, state_after_receiving}
-use Rattle.macsec_secy.specs.Step.{Input, operator_command, client_frame, link_frame, uncontrolled_frame, Output, command_output, done, refused, leaves, dropped_no_sa, dropped_too_long, received, fault, frame_fault, received_output, sending_of, sent_output, state_after_sending, step}
-use Rattle.macsec_secy.specs.Step as machine
+use Rattle.macsec_secy.specs.Step.{Input, operator_command, client_frame, link_frame, uncontrolled_frame, Output, command_output, done, refused, leaves, dropped_no_sa, dropped_too_long, received, fault, frame_fault, received_output, sending_of, sent_output, state_after_sending, step, unless_fault}
 use Rattle.macsec_ends.specs.Answers.{EndHappens}
 use Rattle.macsec_ends.specs.Logs.{AreLogged, DeliveryLog, SentLogs, association_of_log, association_of_row, delivered_after, is_live_at, live_logs, log_closing, log_delivering, logs_after_command, sent_after, with_first}
 use Rattle.macsec_ends.specs.Sound.{IsSoundEnd}
@@ -166,19 +165,19 @@ delivered_logged rows logs frame verdict (Some row) (Some delivered) logged = de
 -- ---- every input
 
 frame_logged : (s : State) (frame : List ℕ) (f : Option FrameFault) (logs : List DeliveryLog) → AreLogged s.rx.rows logs →
-    AreLogged (machine.unless_fault f s (received_output frame (judgement_of s frame), state_after_receiving s frame (judgement_of s frame))).1.rx.rows
-    (delivered_after (link_frame frame) (machine.unless_fault f s (received_output frame (judgement_of s frame), state_after_receiving s frame (judgement_of s frame))).0 logs)
+    AreLogged (unless_fault f s (received_output frame (judgement_of s frame), state_after_receiving s frame (judgement_of s frame))).1.rx.rows
+    (delivered_after (link_frame frame) (unless_fault f s (received_output frame (judgement_of s frame), state_after_receiving s frame (judgement_of s frame))).0 logs)
 frame_logged s frame None logs logged =
     let j = judgement_of s frame in
     delivered_logged (rows_after s.options.window j s.rx.rows) logs frame j.verdict j.row j.delivered (accepted_logged s.options.window (accepted_number j) j.row s.rx.rows logs logged)
 frame_logged s frame (Some f) logs logged = logged
 
 sent_logged : (s : State) (frame : List ℕ) (f : Option FrameFault) (logs : List DeliveryLog) → AreLogged s.rx.rows logs →
-    AreLogged (machine.unless_fault f s (sent_output frame (sending_of s frame).leaving, state_after_sending s frame (sending_of s frame))).1.rx.rows logs
+    AreLogged (unless_fault f s (sent_output frame (sending_of s frame).leaving, state_after_sending s frame (sending_of s frame))).1.rx.rows logs
 sent_logged s frame None logs logged = logged
 sent_logged s frame (Some f) logs logged = logged
 
-uncontrolled_logged : (s : State) (frame : List ℕ) (f : Option FrameFault) (logs : List DeliveryLog) → AreLogged s.rx.rows logs → AreLogged (machine.unless_fault f s (leaves frame None, s)).1.rx.rows logs
+uncontrolled_logged : (s : State) (frame : List ℕ) (f : Option FrameFault) (logs : List DeliveryLog) → AreLogged s.rx.rows logs → AreLogged (unless_fault f s (leaves frame None, s)).1.rx.rows logs
 uncontrolled_logged s frame None logs logged = logged
 uncontrolled_logged s frame (Some f) logs logged = logged
 
