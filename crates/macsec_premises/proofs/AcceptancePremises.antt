@@ -6,7 +6,6 @@ use Rattle.std.proofs.lemmas.List.{take_all, take_at}
 use Rattle.macsec_tag.specs.declared.identifiers.Sci.{Sci}
 use Rattle.macsec_tag.specs.Frame.{MpduParts, in_a_row}
 use Rattle.macsec_suite.specs.declared.suite.Suite.{Suite}
-use Rattle.macsec_suite.specs.declared.suite.Suite.TheVariants.{Gcm128, Xpn128}
 use Rattle.macsec_suite.specs.KeyRows.{InstalledKey, the_key}
 use Rattle.macsec_suite.specs.Suites.{is_xpn}
 use Rattle.macsec_commands.specs.declared.form.TagForm.TheVariants as form
@@ -39,7 +38,7 @@ use Rattle.macsec_ends.specs.Logs.{no_sent_logs}
 use Rattle.macsec_link.specs.Trace.{Trace}
 use Rattle.macsec_premises.proofs.SealedFrames.{Sealed, aad_sent, frame_with, sealed, tag_of, with_tag}
 use Rattle.macsec_premises.proofs.TracedSteps.{send_step, sent_by, trace_sent}
-use Rattle.macsec_premises.proofs.WorkedEnds.{Fails, client, config, counts, installed_key, log, new_key, no_salt, receives_from, rx_from, sci_a, sci_b, sends_from, tx_from}
+use Rattle.macsec_premises.proofs.WorkedEnds.{Fails, client, counts, gcm_a, gcm_b, installed_key, log, new_key, no_salt, receives_from, rx_from, sci_a, sends_from, tx_from, xpn_a, xpn_b}
 
 -- the premises by name
 pub data Premise : Type 0 where
@@ -197,12 +196,6 @@ abbrev pub HoldsIn : EndConfig → ℕ → State → RxRow → Premise → Type 
 HoldsIn a next b rx r =
     Holds (world_before a next b).a.state b (tx_from next) rx (parts_sent (tx_options (start a)) (key_row a.suite 1) (tx_from next) client) r
 
-abbrev pub gcm_a : EndConfig
-gcm_a = config Gcm128 sci_a
-
-abbrev pub gcm_b : EndConfig
-gcm_b = config Gcm128 sci_b
-
 -- ---- B is in mode Disabled
 
 abbrev disabled : State
@@ -297,9 +290,6 @@ in_time_needed = (
 
 -- ---- A has extended packet numbers and sends 2^32, whose lower half is 0; B has 32-bit ones, of which 0 is none
 
-abbrev pub xpn_a : EndConfig
-xpn_a = config Xpn128 sci_a
-
 is_zero : (tag : List ℕ) → (world_step (world_sent (world_before xpn_a (2 ^ 32) (state_b gcm_b (rx_from (2 ^ 32 - 1)))) (tx_from (2 ^ 32)) (frame_from xpn_a (2 ^ 32) tag)) (Deliver B 0)).0 ≡ heard BadTag None
 is_zero tag = refl
 
@@ -318,9 +308,6 @@ suite_needed = (
 )
 
 -- ---- A sends 2^32, and B's association goes from 1 on: it recovers 0, which is no packet number
-
-abbrev pub xpn_b : EndConfig
-xpn_b = config Xpn128 sci_b
 
 is_far : (tag : List ℕ) → (world_step (world_sent (world_before xpn_a (2 ^ 32) (state_b xpn_b (rx_from 1))) (tx_from (2 ^ 32)) (frame_from xpn_a (2 ^ 32) tag)) (Deliver B 0)).0 ≡ heard BadTag None
 is_far tag = refl

@@ -31,11 +31,11 @@ use Rattle.macsec_commands.specs.declared.event.Event.TheVariants.{Deliver, Send
 use Rattle.macsec_ends.specs.Logs.{no_sent_logs}
 use Rattle.macsec_link.specs.Step.{world_step}
 use Rattle.macsec_link.specs.World.{WorldState}
-use Rattle.macsec_premises.proofs.AcceptancePremises.{Holds, HoldsIn, LawWithout, Premise, SameBytes, SameOffset, each_but, fails_by, frame_from, gcm_a, gcm_b, heard, key_row, seals_as_frame, state_b, tag_from, world_before, world_sent}
+use Rattle.macsec_premises.proofs.AcceptancePremises.{Holds, HoldsIn, LawWithout, Premise, SameBytes, SameOffset, each_but, fails_by, frame_from, heard, key_row, seals_as_frame, state_b, tag_from, world_before, world_sent}
 use Rattle.macsec_premises.proofs.KeyPremises.{answered, cover}
 use Rattle.macsec_premises.proofs.SealedFrames.{Sealed, aad_sent, closes, first, first_differs, frame_with, items, rest, sealed, tag_of, with_tag}
 use Rattle.macsec_premises.proofs.TracedSteps.{sent_by}
-use Rattle.macsec_premises.proofs.WorkedEnds.{Fails, client, new_key, no_salt, receives_from, rx_from, sci_a, sends_from, tx_from}
+use Rattle.macsec_premises.proofs.WorkedEnds.{Fails, bytes, client, gcm_a, gcm_b, new_key, no_salt, receives_from, rx_from, sci_a, sends_from, tx_from}
 
 -- ---- a tag by its hash
 
@@ -63,9 +63,6 @@ unfolding tag_of seal_of gctr
 of_empty key iv aad = refl
 
 -- ---- AES, of the block of zeros and of the counter block, under A's key and under another one
-
-abbrev bytes : List ℕ
-bytes = replicate 16 7
 
 abbrev other_bytes : List ℕ
 other_bytes = replicate 16 8

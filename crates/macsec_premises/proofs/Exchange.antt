@@ -14,7 +14,6 @@ use Rattle.macsec_tx.specs.Transmit.{tag_sent}
 use Rattle.macsec_rx.specs.declared.RxRow.{RxRow}
 use Rattle.macsec_rx.specs.declared.Verdict.TheVariants.{Passed}
 use Rattle.macsec_rx.specs.Judge.{at_row, judge_opened}
-use Rattle.macsec_commands.specs.declared.config.EndConfig.{EndConfig}
 use Rattle.macsec_secy.specs.Reception.{judgement_of}
 use Rattle.macsec_secy.specs.declared.options.Options.{Options}
 use Rattle.macsec_secy.specs.declared.counters.RxCounters.{RxCounters}
@@ -34,13 +33,7 @@ use Rattle.macsec_link.specs.Trace.{Mark, Trace, new_trace, trace_after, trace_s
 use Rattle.macsec_link.proofs.Moments.{world_of_trace}
 use Rattle.macsec_premises.proofs.SealedFrames.{Sealed, aad_sent, frame_with, items, opens, parts_with, sealed, tag_of, with_tag}
 use Rattle.macsec_premises.proofs.TracedSteps.{AtEach, WhileLive, after_both, at_moment, deliver_step, each_append, each_next, genuine_append, genuine_at, genuine_next, send_step, sent_by}
-use Rattle.macsec_premises.proofs.WorkedEnds.{config, counts, installed_key, log, new_key, no_salt, of_two, receives_from, rx_from, sci_a, sci_b, sends_from, tx_from}
-
-abbrev pub config_a : EndConfig
-config_a = config Gcm128 sci_a
-
-abbrev pub config_b : EndConfig
-config_b = config Gcm128 sci_b
+use Rattle.macsec_premises.proofs.WorkedEnds.{bytes, counts, gcm_a, gcm_b, installed_key, log, new_key, no_salt, of_two, receives_from, rx_from, sci_a, sends_from, tx_from}
 
 -- a client's frame with two octets of data
 abbrev pub client : ℕ → List ℕ
@@ -66,7 +59,7 @@ abbrev pub trace_at : Options → ℕ → RxRow → ℕ → RxCounters → List 
 trace_at options n row m counted sent delivered frames seals marks = record {
   world = record {
     a = record {
-      state = record (start config_a) {
+      state = record (start gcm_a) {
         keys = key_row 1 (n + 1) ∷ [];
         tx = tx_from (n + 1) ∷ [];
         tx_counters = record no_tx_counters { out_pkts_protected = n; out_octets_protected = 2 * n };
@@ -75,7 +68,7 @@ trace_at options n row m counted sent delivered frames seals marks = record {
       delivered = [];
     };
     b = record {
-      state = record (start config_b) {
+      state = record (start gcm_b) {
         options = options;
         keys = key_row 2 1 ∷ [];
         rx = record { scis = sci_a ∷ []; rows = row ∷ [] };
@@ -94,21 +87,18 @@ trace_at options n row m counted sent delivered frames seals marks = record {
 -- A has sent up to n, and B has accepted up to m
 abbrev pub at_numbers : ℕ → ℕ → List (List ℕ) → List (List ℕ) → List (List ℕ) → List CipherUse → List Mark → Trace
 at_numbers n m sent delivered frames seals marks =
-    trace_at (first_options config_b) n (rx_from (m + 1)) (2 * m) (record no_rx_counters { in_pkts_ok = m }) sent delivered frames seals marks
+    trace_at (first_options gcm_b) n (rx_from (m + 1)) (2 * m) (record no_rx_counters { in_pkts_ok = m }) sent delivered frames seals marks
 
 abbrev pub ready : Trace
 ready = at_numbers 0 0 [] [] [] [] []
 
-pub is_ready : trace_after (new_trace config_a config_b) commands ≡ ready
+pub is_ready : trace_after (new_trace gcm_a gcm_b) commands ≡ ready
 is_ready = refl
 
 -- ---- what A seals
 
 abbrev pub options : TxOptions
-options = tx_options (start config_a)
-
-abbrev pub bytes : List ℕ
-bytes = replicate 16 7
+options = tx_options (start gcm_a)
 
 abbrev pub iv : ℕ → List ℕ
 iv number = iv_of Gcm128 sci_a 1 no_salt number
@@ -125,6 +115,16 @@ use_with number frame it = cipher_use (key_row 1 number) (iv number) (parts_with
 
 abbrev pub tag : ℕ → List ℕ → List ℕ
 tag number frame = tag_of bytes (iv number) (aad number frame)
+
+-- this tag opens A's frame of this number
+abbrev pub Opens : ℕ → List ℕ → Type 0
+Opens number t = open_of bytes (iv number) (aad number (client number)) [] (items 16 t) ≡ Some []
+
+abbrev pub first_tag : List ℕ
+first_tag = tag 1 (client 1)
+
+pub first_opens : Opens 1 first_tag
+first_opens = opens bytes (iv 1) (aad 1 (client 1))
 
 abbrev pub link_frame_of : ℕ → List ℕ → List ℕ → List ℕ
 link_frame_of number frame tag = link_frame_with number frame (with_tag tag)
@@ -147,7 +147,7 @@ first_sent =
     ∙ ap (λ (it : Sealed). at_numbers 1 0 (client 1 ∷ []) [] (link_frame_of 1 (client 1) (tag 1 (client 1)) ∷ []) (use_with 1 (client 1) it ∷ []) [])
     (sealed bytes (iv 1) (aad 1 (client 1)))
 
-pub first_judged : (t : List ℕ) → open_of bytes (iv 1) (aad 1 (client 1)) [] (items 16 t) ≡ Some [] →
+pub first_judged : (t : List ℕ) → Opens 1 t →
     judgement_of ready.world.b.state (link_frame_of 1 (client 1) t) ≡ at_row (rx_from 1) 1 13 Passed (Some (client 1))
 first_judged t is = ap (judge_opened (rx_options ready.world.b.state) (key_row 2 1) (rx_from 1) 1 (parts_at (link_frame_of 1 (client 1) t))) is
 
@@ -157,10 +157,10 @@ after_first t = at_numbers 1 0 (client 1 ∷ []) [] (link_frame_of 1 (client 1) 
 abbrev heard_first : List ℕ → Trace
 heard_first t = at_numbers 1 1 (client 1 ∷ []) (client 1 ∷ []) (link_frame_of 1 (client 1) t ∷ []) (use_of 1 (client 1) t ∷ []) (mark 1 ∷ [])
 
-first_heard : (t : List ℕ) → open_of bytes (iv 1) (aad 1 (client 1)) [] (items 16 t) ≡ Some [] → trace_step (after_first t) (Deliver B 0) ≡ heard_first t
+first_heard : (t : List ℕ) → Opens 1 t → trace_step (after_first t) (Deliver B 0) ≡ heard_first t
 first_heard t is = deliver_step (after_first t) 0 (link_frame_of 1 (client 1) t) (at_row (rx_from 1) 1 13 Passed (Some (client 1))) refl refl refl (first_judged t is)
 
-first_genuine : (t : List ℕ) → open_of bytes (iv 1) (aad 1 (client 1)) [] (items 16 t) ≡ Some [] → IsGenuineAt (after_first t) (Deliver B 0)
+first_genuine : (t : List ℕ) → Opens 1 t → IsGenuineAt (after_first t) (Deliver B 0)
 first_genuine t is =
     genuine_at ready.world.b.state (link_frame_of 1 (client 1) t) (at_row (rx_from 1) 1 13 Passed (Some (client 1))) (after_first t).seals (first_judged t is)
     (0, omega arith, refl)
@@ -191,14 +191,14 @@ second_sent t =
     (use_of 1 (client 1) t ∷ use_with 2 (client 2) it ∷ []) (mark 1 ∷ []))
     (sealed bytes (iv 2) (aad 2 (client 2)))
 
-second_judged : (t u : List ℕ) → open_of bytes (iv 2) (aad 2 (client 2)) [] (items 16 u) ≡ Some [] →
+second_judged : (t u : List ℕ) → Opens 2 u →
     judgement_of (after_second t u).world.b.state (link_frame_of 2 (client 2) u) ≡ at_row (rx_from 2) 2 13 Passed (Some (client 2))
 second_judged t u is = ap (judge_opened (rx_options (after_second t u).world.b.state) (key_row 2 1) (rx_from 2) 2 (parts_at (link_frame_of 2 (client 2) u))) is
 
-second_heard : (t u : List ℕ) → open_of bytes (iv 2) (aad 2 (client 2)) [] (items 16 u) ≡ Some [] → trace_step (after_second t u) (Deliver B 1) ≡ heard_second t u
+second_heard : (t u : List ℕ) → Opens 2 u → trace_step (after_second t u) (Deliver B 1) ≡ heard_second t u
 second_heard t u is = deliver_step (after_second t u) 1 (link_frame_of 2 (client 2) u) (at_row (rx_from 2) 2 13 Passed (Some (client 2))) refl refl refl (second_judged t u is)
 
-second_genuine : (t u : List ℕ) → open_of bytes (iv 2) (aad 2 (client 2)) [] (items 16 u) ≡ Some [] → IsGenuineAt (after_second t u) (Deliver B 1)
+second_genuine : (t u : List ℕ) → Opens 2 u → IsGenuineAt (after_second t u) (Deliver B 1)
 second_genuine t u is =
     genuine_at (after_second t u).world.b.state (link_frame_of 2 (client 2) u) (at_row (rx_from 2) 2 13 Passed (Some (client 2))) (after_second t u).seals (second_judged t u is)
     (1, omega arith, refl)
@@ -209,61 +209,55 @@ abbrev pub events : List Event
 events = commands ++ exchange
 
 abbrev pub last_world : WorldState
-last_world = world_after (new_world config_a config_b) events
+last_world = world_after (new_world gcm_a gcm_b) events
 
 -- what the laws on origin and order ask of B's association, and what it delivers: so neither is empty
 pub record MeetsPremises : Type 0 where
-  pub made : make_fault config_a config_b ≡ None
-  pub genuine : IsGenuine (new_trace config_a config_b) events
+  pub made : make_fault gcm_a gcm_b ≡ None
+  pub genuine : IsGenuine (new_trace gcm_a gcm_b) events
   pub agree : AgreeOnKeys last_world
-  pub strict : WhileThere config_a config_b events B 0 IsStrict
-  pub in_order : WhileThere config_a config_b events B 0 HasStrictOrder
+  pub strict : WhileThere gcm_a gcm_b events B 0 IsStrict
+  pub in_order : WhileThere gcm_a gcm_b events B 0 HasStrictOrder
   pub sent : sent_under last_world.a.sent 0 ≡ client 1 ∷ client 2 ∷ []
   pub delivered : slice_get last_world.b.delivered 0 ≡ Some (log (client 1 ∷ client 2 ∷ []))
-
-abbrev first_tag : List ℕ
-first_tag = tag 1 (client 1)
 
 abbrev second_tag : List ℕ
 second_tag = tag 2 (client 2)
 
-first_opens : open_of bytes (iv 1) (aad 1 (client 1)) [] (items 16 first_tag) ≡ Some []
-first_opens = opens bytes (iv 1) (aad 1 (client 1))
-
-second_opens : open_of bytes (iv 2) (aad 2 (client 2)) [] (items 16 second_tag) ≡ Some []
+second_opens : Opens 2 second_tag
 second_opens = opens bytes (iv 2) (aad 2 (client 2))
 
-is_genuine : IsGenuine (new_trace config_a config_b) events
+is_genuine : IsGenuine (new_trace gcm_a gcm_b) events
 is_genuine =
-    genuine_append (new_trace config_a config_b) ready commands exchange (tt, (tt, (tt, (tt, (tt, (tt, (tt, tt))))))) is_ready
+    genuine_append (new_trace gcm_a gcm_b) ready commands exchange (tt, (tt, (tt, (tt, (tt, (tt, (tt, tt))))))) is_ready
     (genuine_next ready (after_first first_tag) (Send A (client 1)) (Deliver B 0 ∷ second_exchange) (tt {0}) first_sent
     (genuine_next (after_first first_tag) (heard_first first_tag) (Deliver B 0) second_exchange (first_genuine first_tag first_opens) (first_heard first_tag first_opens)
     (genuine_next (heard_first first_tag) (after_second first_tag second_tag) (Send A (client 2)) (Deliver B 1 ∷ []) (tt {0}) (second_sent first_tag)
     (genuine_next (after_second first_tag second_tag) (heard_second first_tag second_tag) (Deliver B 1) [] (second_genuine first_tag second_tag second_opens) (second_heard first_tag second_tag second_opens) (tt {0})))))
 
-trace_ends : trace_after (new_trace config_a config_b) events ≡ heard_second first_tag second_tag
+trace_ends : trace_after (new_trace gcm_a gcm_b) events ≡ heard_second first_tag second_tag
 trace_ends =
-    after_both (new_trace config_a config_b) ready commands exchange is_ready
+    after_both (new_trace gcm_a gcm_b) ready commands exchange is_ready
     ∙ ap (λ (t : Trace). trace_after t (Deliver B 0 ∷ second_exchange)) first_sent
     ∙ ap (λ (t : Trace). trace_after t second_exchange) (first_heard first_tag first_opens)
     ∙ ap (λ (t : Trace). trace_after t (Deliver B 1 ∷ [])) (second_sent first_tag)
     ∙ second_heard first_tag second_tag second_opens
 
 last_world_is : last_world ≡ (heard_second first_tag second_tag).world
-last_world_is = sym (world_of_trace (new_trace config_a config_b) events) ∙ ap (λ (t : Trace). t.world) trace_ends
+last_world_is = sym (world_of_trace (new_trace gcm_a gcm_b) events) ∙ ap (λ (t : Trace). t.world) trace_ends
 
 -- B's options are those of the making at each moment
-each_moment : (P : State → Type 0) → ((s : State) → s.options ≡ first_options config_b → P s) → AtEach (WhileLive P) (new_world config_a config_b) events
+each_moment : (P : State → Type 0) → ((s : State) → s.options ≡ first_options gcm_b → P s) → AtEach (WhileLive P) (new_world gcm_a gcm_b) events
 each_moment P so =
-    each_append (WhileLive P) (new_world config_a config_b) ready.world commands exchange
-    (tt, (tt, (tt, (tt, (tt, (tt, (λ live. so _ refl, tt))))))) (sym (world_of_trace (new_trace config_a config_b) commands) ∙ ap (λ (t : Trace). t.world) is_ready)
+    each_append (WhileLive P) (new_world gcm_a gcm_b) ready.world commands exchange
+    (tt, (tt, (tt, (tt, (tt, (tt, (λ live. so _ refl, tt))))))) (sym (world_of_trace (new_trace gcm_a gcm_b) commands) ∙ ap (λ (t : Trace). t.world) is_ready)
     (each_next (WhileLive P) ready.world (after_first first_tag).world (Send A (client 1)) (Deliver B 0 ∷ second_exchange) (λ live. so _ refl) (ap (λ (t : Trace). t.world) first_sent)
     (each_next (WhileLive P) (after_first first_tag).world (heard_first first_tag).world (Deliver B 0) second_exchange (λ live. so _ refl) (ap (λ (t : Trace). t.world) (first_heard first_tag first_opens))
     (each_next (WhileLive P) (heard_first first_tag).world (after_second first_tag second_tag).world (Send A (client 2)) (Deliver B 1 ∷ []) (λ live. so _ refl) (ap (λ (t : Trace). t.world) (second_sent first_tag))
     (each_next (WhileLive P) (after_second first_tag second_tag).world (heard_second first_tag second_tag).world (Deliver B 1) [] (λ live. so _ refl) (ap (λ (t : Trace). t.world) (second_heard first_tag second_tag second_opens)) (λ live. so _ refl)))))
 
-while_there : (P : State → Type 0) → ((s : State) → s.options ≡ first_options config_b → P s) → WhileThere config_a config_b events B 0 P
-while_there P so k within = at_moment (WhileLive P) (new_world config_a config_b) events (each_moment P so) k within
+while_there : (P : State → Type 0) → ((s : State) → s.options ≡ first_options gcm_b → P s) → WhileThere gcm_a gcm_b events B 0 P
+while_there P so k within = at_moment (WhileLive P) (new_world gcm_a gcm_b) events (each_moment P so) k within
 
 pub meets_premises : MeetsPremises
 meets_premises = record {

@@ -4,7 +4,7 @@ use Rattle.std.proofs.Common.{◌≡◌, ◌≢◌, ℕ, true, List, [], ◌∷�
 use Rattle.std.specs.Prelude.{replicate}
 use Rattle.macsec_gcm.specs.Octets.{sum_with_stream}
 use Rattle.macsec_tag.specs.declared.identifiers.Sci.{Sci}
-use Rattle.macsec_suite.specs.declared.suite.Suite.TheVariants.{Gcm128, Xpn128}
+use Rattle.macsec_suite.specs.declared.suite.Suite.TheVariants.{Gcm128}
 use Rattle.macsec_suite.specs.CipherUses.{CipherUse}
 use Rattle.macsec_suite.specs.Suites.{is_xpn}
 use Rattle.macsec_suite.specs.KeyRows.{InstalledKey}
@@ -15,7 +15,7 @@ use Rattle.macsec_link.specs.Step.{world_after}
 use Rattle.macsec_link.specs.Trace.{trace_of}
 use Rattle.macsec_link.specs.UniqueIvs.{HasOtherIv}
 use Rattle.macsec_link.specs.World.{WorldState, new_world}
-use Rattle.macsec_premises.proofs.WorkedEnds.{Fails, both_send, config, new_key, no_salt, of_two, sci_a, sci_b, scis_differ}
+use Rattle.macsec_premises.proofs.WorkedEnds.{Fails, both_send, config, gcm_a, new_key, no_salt, of_two, sci_a, sci_b, scis_differ, xpn_a, xpn_b}
 
 abbrev no_use : CipherUse
 no_use = record { key = []; iv = []; aad = []; ciphertext = []; tag = [] }
@@ -38,7 +38,7 @@ HaveOtherSscis x y = x.bytes ≡ y.bytes → is_xpn x.suite ≡ true → x.ssci 
 abbrev pub LawForOneSci : EndConfig → EndConfig → List Event → Type 0
 LawForOneSci a b events = AgreeAtEnd a b events → DifferAtEnd a b events → RepeatsNone a b events
 
-pub other_scis_needed : Fails LawForOneSci (config Gcm128 sci_a) (config Gcm128 sci_a) (both_send (new_key no_salt 1) (new_key no_salt 2))
+pub other_scis_needed : Fails LawForOneSci gcm_a gcm_a (both_send (new_key no_salt 1) (new_key no_salt 2))
 other_scis_needed = (
   refl,
   λ law.
@@ -68,7 +68,7 @@ sci_read = record { 0 = 0x12 ∷ 0x15 ∷ 0x35 ∷ 0x24 ∷ 0xc0 ∷ 0x89 ∷ 0x
 abbrev salt_read : List ℕ
 salt_read = 0x12 ∷ 0x15 ∷ 0x35 ∷ 0x26 ∷ 0xc0 ∷ 0x89 ∷ 0x5e ∷ 0x81 ∷ 0 ∷ 0 ∷ 0 ∷ 0 ∷ []
 
-pub same_suite_needed : Fails LawForOtherSuites (config Gcm128 sci_read) (config Xpn128 sci_b) (both_send (new_key salt_read 1) (new_key salt_read 2))
+pub same_suite_needed : Fails LawForOtherSuites (config Gcm128 sci_read) xpn_b (both_send (new_key salt_read 1) (new_key salt_read 2))
 unfolding sum_with_stream
 same_suite_needed = (
   refl,
@@ -93,7 +93,7 @@ abbrev pub LawForOtherSalts : EndConfig → EndConfig → List Event → Type 0
 LawForOtherSalts a b events =
     a.sci ≢ b.sci → AgreeOnSuites (world_after (new_world a b) events) → DifferAtEnd a b events → RepeatsNone a b events
 
-pub same_salt_needed : Fails LawForOtherSalts (config Xpn128 sci_a) (config Xpn128 sci_b) (both_send (new_key no_salt 1) (new_key (0 ∷ 0 ∷ 0 ∷ 3 ∷ replicate 8 0) 2))
+pub same_salt_needed : Fails LawForOtherSalts xpn_a xpn_b (both_send (new_key no_salt 1) (new_key (0 ∷ 0 ∷ 0 ∷ 3 ∷ replicate 8 0) 2))
 unfolding sum_with_stream
 same_salt_needed = (
   refl,
@@ -111,7 +111,7 @@ same_salt_needed = (
 abbrev pub LawForOneSsci : EndConfig → EndConfig → List Event → Type 0
 LawForOneSsci a b events = a.sci ≢ b.sci → AgreeAtEnd a b events → RepeatsNone a b events
 
-pub other_sscis_needed : Fails LawForOneSsci (config Xpn128 sci_a) (config Xpn128 sci_b) (both_send (new_key no_salt 1) (new_key no_salt 1))
+pub other_sscis_needed : Fails LawForOneSsci xpn_a xpn_b (both_send (new_key no_salt 1) (new_key no_salt 1))
 unfolding sum_with_stream
 other_sscis_needed = (
   refl,

@@ -23,11 +23,11 @@ use Rattle.macsec_commands.specs.declared.event.Event.TheVariants.{Deliver, Send
 use Rattle.macsec_link.specs.Faults.{fault_of}
 use Rattle.macsec_link.specs.Step.{world_step}
 use Rattle.macsec_link.specs.World.{WorldState, frame_at}
-use Rattle.macsec_premises.proofs.AcceptancePremises.{HoldsIn, LawWithout, SameSalt, SameSsci, each_but, fails_by, frame_from, heard, key_row, seals_as_frame, state_b, tag_from, world_before, world_sent, xpn_a, xpn_b}
+use Rattle.macsec_premises.proofs.AcceptancePremises.{HoldsIn, LawWithout, SameSalt, SameSsci, each_but, fails_by, frame_from, heard, key_row, seals_as_frame, state_b, tag_from, world_before, world_sent}
 use Rattle.macsec_premises.proofs.Ivs.{xor_same}
 use Rattle.macsec_premises.proofs.SealedFrames.{aad_sent, closes, first, items, rest, tag_of}
 use Rattle.macsec_premises.proofs.TracedSteps.{sent_by}
-use Rattle.macsec_premises.proofs.WorkedEnds.{Fails, client, new_key, no_salt, receives_from, rx_from, sci_a, sends_from, tx_from}
+use Rattle.macsec_premises.proofs.WorkedEnds.{Fails, bytes, client, new_key, no_salt, receives_from, rx_from, sci_a, sends_from, tx_from, xpn_a, xpn_b}
 
 -- ---- tags under two IVs
 
@@ -45,9 +45,6 @@ stays_closed key iv other aad differ =
     (ne_eqb (first (tag_of key iv aad)) (first (tag_of key other aad)) (λ same. differ (same_cover key iv other aad same)))
 
 -- ---- the IVs
-
-abbrev bytes : List ℕ
-bytes = replicate 16 7
 
 abbrev aad : List ℕ
 aad = aad_sent (tx_options (start xpn_a)) (key_row Xpn128 1) (tx_from 1) client

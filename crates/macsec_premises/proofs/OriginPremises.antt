@@ -5,7 +5,6 @@ use Rattle.std.proofs.Common.{◌≡◌, ◌⊎◌, inl, inr, ℕ, zero, suc, �
 use Rattle.std.specs.Prelude.{◌==◌, replicate, Some}
 use Rattle.std.proofs.lemmas.Bool.{ne_eqb}
 use Rattle.std.proofs.lemmas.List.{take_all}
-use Rattle.macsec_gcm.specs.Gcm.{open_of}
 use Rattle.macsec_tag.specs.Table.{parts_at}
 use Rattle.macsec_suite.specs.KeyRows.{InstalledKey}
 use Rattle.macsec_commands.specs.declared.mode.Mode.TheVariants.{Check, Strict}
@@ -27,11 +26,11 @@ use Rattle.macsec_link.specs.Origin.{HasStrictOrder, IsStrict, IsSubsequence, Wa
 use Rattle.macsec_link.specs.Step.{world_after, world_at}
 use Rattle.macsec_link.specs.Trace.{Trace, new_trace, trace_after, trace_step}
 use Rattle.macsec_link.specs.World.{WorldState, end_of, new_world}
-use Rattle.macsec_premises.proofs.Exchange.{aad, at_numbers, bytes, client, commands, config_a, config_b, first_judged, is_ready, iv, key_row, link_frame_of, link_frame_with, mark, ready, tag, trace_at}
+use Rattle.macsec_premises.proofs.Exchange.{Opens, aad, at_numbers, client, commands, first_judged, first_opens, first_tag, is_ready, iv, key_row, link_frame_of, link_frame_with, mark, ready, trace_at}
 use Rattle.macsec_link.proofs.Moments.{world_of_trace}
-use Rattle.macsec_premises.proofs.SealedFrames.{closes, first, items, opens, tag_of}
+use Rattle.macsec_premises.proofs.SealedFrames.{closes, first, tag_of}
 use Rattle.macsec_premises.proofs.TracedSteps.{AtEach, WhileLive, world_of, after_both, at_moment, deliver_step, each_append, each_next, genuine_append, genuine_at, genuine_next}
-use Rattle.macsec_premises.proofs.WorkedEnds.{Fails, of_two, only, rx_from}
+use Rattle.macsec_premises.proofs.WorkedEnds.{Fails, bytes, gcm_a, gcm_b, of_two, only, rx_from}
 
 -- A has sent nothing
 sent_none : (y : InstalledKey) → Contains (key_row 1 1 ∷ []) y → Contains (sent_under no_sent_logs y.number) (client 1) → ⊥
@@ -45,12 +44,6 @@ no_subsequence_of_none x ([], rising, found) = cc
 no_subsequence_of_none x (place ∷ places, rising, found) = cc
 
 -- ---- a frame is injected that fits B's key
-
-abbrev first_tag : List ℕ
-first_tag = tag 1 (client 1)
-
-abbrev Opens : List ℕ → Type 0
-Opens t = open_of bytes (iv 1) (aad 1 (client 1)) [] (items 16 t) ≡ Some []
 
 abbrev forging : List ℕ → List Event
 forging t = Inject (link_frame_of 1 (client 1) t) ∷ Deliver B 0 ∷ []
@@ -67,42 +60,39 @@ deceived t = at_numbers 0 1 [] (client 1 ∷ []) (link_frame_of 1 (client 1) t �
 is_injected : (t : List ℕ) → trace_step ready (Inject (link_frame_of 1 (client 1) t)) ≡ injected t
 is_injected t = refl
 
-is_deceived : (t : List ℕ) → Opens t → trace_step (injected t) (Deliver B 0) ≡ deceived t
+is_deceived : (t : List ℕ) → Opens 1 t → trace_step (injected t) (Deliver B 0) ≡ deceived t
 is_deceived t is = deliver_step (injected t) 0 (link_frame_of 1 (client 1) t) (at_row (rx_from 1) 1 13 Passed (Some (client 1))) refl refl refl (first_judged t is)
 
-is_open : Opens first_tag
-is_open = opens bytes (iv 1) (aad 1 (client 1))
-
-trace_ends : trace_after (new_trace config_a config_b) forged ≡ deceived first_tag
+trace_ends : trace_after (new_trace gcm_a gcm_b) forged ≡ deceived first_tag
 trace_ends =
-    after_both (new_trace config_a config_b) ready commands (forging first_tag) is_ready
+    after_both (new_trace gcm_a gcm_b) ready commands (forging first_tag) is_ready
     ∙ ap (λ (t : Trace). trace_after t (Deliver B 0 ∷ [])) (is_injected first_tag)
-    ∙ is_deceived first_tag is_open
+    ∙ is_deceived first_tag first_opens
 
-last_world_is : world_after (new_world config_a config_b) forged ≡ (deceived first_tag).world
-last_world_is = sym (world_of_trace (new_trace config_a config_b) forged) ∙ ap world_of trace_ends
+last_world_is : world_after (new_world gcm_a gcm_b) forged ≡ (deceived first_tag).world
+last_world_is = sym (world_of_trace (new_trace gcm_a gcm_b) forged) ∙ ap world_of trace_ends
 
-each_moment : (P : State → Type 0) → ((s : State) → s.options ≡ first_options config_b → P s) → AtEach (WhileLive P) (new_world config_a config_b) forged
+each_moment : (P : State → Type 0) → ((s : State) → s.options ≡ first_options gcm_b → P s) → AtEach (WhileLive P) (new_world gcm_a gcm_b) forged
 each_moment P so =
-    each_append (WhileLive P) (new_world config_a config_b) ready.world commands (forging first_tag)
+    each_append (WhileLive P) (new_world gcm_a gcm_b) ready.world commands (forging first_tag)
     (tt, (tt, (tt, (tt, (tt, (tt, (λ live. so _ refl, tt)))))))
-    (sym (world_of_trace (new_trace config_a config_b) commands) ∙ ap world_of is_ready)
+    (sym (world_of_trace (new_trace gcm_a gcm_b) commands) ∙ ap world_of is_ready)
     (each_next (WhileLive P) ready.world (injected first_tag).world (Inject (link_frame_of 1 (client 1) first_tag)) (Deliver B 0 ∷ []) (λ live. so _ refl) (ap world_of (is_injected first_tag))
-    (each_next (WhileLive P) (injected first_tag).world (deceived first_tag).world (Deliver B 0) [] (λ live. so _ refl) (ap world_of (is_deceived first_tag is_open)) (λ live. so _ refl)))
+    (each_next (WhileLive P) (injected first_tag).world (deceived first_tag).world (Deliver B 0) [] (λ live. so _ refl) (ap world_of (is_deceived first_tag first_opens)) (λ live. so _ refl)))
 
-while_there : (P : State → Type 0) → ((s : State) → s.options ≡ first_options config_b → P s) → WhileThere config_a config_b forged B 0 P
-while_there P so k within = at_moment (WhileLive P) (new_world config_a config_b) forged (each_moment P so) k within
+while_there : (P : State → Type 0) → ((s : State) → s.options ≡ first_options gcm_b → P s) → WhileThere gcm_a gcm_b forged B 0 P
+while_there P so k within = at_moment (WhileLive P) (new_world gcm_a gcm_b) forged (each_moment P so) k within
 
 -- the law on origin without the premise that no tag is forged
 abbrev pub OriginWhereForged : EndConfig → EndConfig → List Event → Type 0
 OriginWhereForged a b events = (e : End) (i k : ℕ) → WhileThere a b events e i IsStrict → k ≤ length events → WasSentByOther (world_at a b events k) e i
 
-pub genuineness_needed : Fails OriginWhereForged config_a config_b forged
+pub genuineness_needed : Fails OriginWhereForged gcm_a gcm_b forged
 genuineness_needed = (
   refl,
   λ law.
       let sent : WasSentByOther (deceived first_tag).world B 0 =
-      subst (λ (w : WorldState). WasSentByOther w B 0) (ap (world_after (new_world config_a config_b)) (take_all (length forged) forged (omega arith)) ∙ last_world_is)
+      subst (λ (w : WorldState). WasSentByOther w B 0) (ap (world_after (new_world gcm_a gcm_b)) (take_all (length forged) forged (omega arith)) ∙ last_world_is)
       (law B 0 (length forged) (while_there IsStrict (λ s is. ap (λ (o : Options). o.mode) is)) (omega arith)) in
       let it = sent 0 [] (omega arith) in
       sent_none it.0 it.1 it.3,
@@ -115,7 +105,7 @@ OrderWhereForged a b events =
     (e : End) (i : ℕ) → WhileThere a b events e i IsStrict → WhileThere a b events e i HasStrictOrder →
     WasSentInOrder (world_after (new_world a b) events) e i
 
-pub genuineness_needed_for_order : Fails OrderWhereForged config_a config_b forged
+pub genuineness_needed_for_order : Fails OrderWhereForged gcm_a gcm_b forged
 genuineness_needed_for_order = (
   refl,
   λ law.
@@ -130,7 +120,7 @@ genuineness_needed_for_order = (
 -- ---- in mode Check
 
 abbrev pub options_check : Options
-options_check = record (first_options config_b) { mode = Check }
+options_check = record (first_options gcm_b) { mode = Check }
 
 abbrev pub commands_check : List Event
 commands_check = commands ++ Command B (Validate Check) ∷ []
@@ -138,77 +128,79 @@ commands_check = commands ++ Command B (Validate Check) ∷ []
 abbrev pub in_check : Trace
 in_check = trace_at options_check 0 (rx_from 1) 0 no_rx_counters [] [] [] [] []
 
-pub is_in_check : trace_after (new_trace config_a config_b) commands_check ≡ in_check
+pub is_in_check : trace_after (new_trace gcm_a gcm_b) commands_check ≡ in_check
 is_in_check = refl
 
 -- an ICV of this octet and fifteen zeros
 abbrev pub icv_of : ℕ → List ℕ
 icv_of octet = octet ∷ replicate 15 0
 
-abbrev guessed : ℕ → List ℕ
-guessed octet = link_frame_with 1 (client 1) ([], icv_of octet)
+-- A's frame of this number with such an ICV
+abbrev pub guessed : ℕ → ℕ → List ℕ
+guessed number octet = link_frame_with number (client number) ([], icv_of octet)
+
+-- its own ICV begins with another octet
+abbrev pub IsOther : ℕ → ℕ → Type 0
+IsOther number octet = (first (tag_of bytes (iv number) (aad number (client number))) == octet) ≡ false
 
 -- then B is strict again
 abbrev back : List Event
 back = Command B (Validate Strict) ∷ []
 
 abbrev guessing : ℕ → List Event
-guessing octet = Inject (guessed octet) ∷ Deliver B 0 ∷ back
+guessing octet = Inject (guessed 1 octet) ∷ Deliver B 0 ∷ back
 
 abbrev guess : ℕ → List Event
 guess octet = commands_check ++ guessing octet
 
 abbrev on_link : ℕ → Trace
-on_link octet = trace_at options_check 0 (rx_from 1) 0 no_rx_counters [] [] (guessed octet ∷ []) [] []
+on_link octet = trace_at options_check 0 (rx_from 1) 0 no_rx_counters [] [] (guessed 1 octet ∷ []) [] []
 
 abbrev unvalidated : ℕ → Trace
 unvalidated octet =
-    trace_at options_check 0 (rx_from 1) 2 (record no_rx_counters { in_pkts_invalid = 1 }) [] (client 1 ∷ []) (guessed octet ∷ []) [] (record (mark 1) { validated = false } ∷ [])
+    trace_at options_check 0 (rx_from 1) 2 (record no_rx_counters { in_pkts_invalid = 1 }) [] (client 1 ∷ []) (guessed 1 octet ∷ []) [] (record (mark 1) { validated = false } ∷ [])
 
 abbrev strict_again : ℕ → Trace
-strict_again octet = record (unvalidated octet) { world = record (unvalidated octet).world { b = record (unvalidated octet).world.b { state = record (unvalidated octet).world.b.state { options = first_options config_b } } } }
+strict_again octet = record (unvalidated octet) { world = record (unvalidated octet).world { b = record (unvalidated octet).world.b { state = record (unvalidated octet).world.b.state { options = first_options gcm_b } } } }
 
-abbrev IsOther : ℕ → Type 0
-IsOther octet = (first (tag_of bytes (iv 1) (aad 1 (client 1))) == octet) ≡ false
-
-guess_judged : (octet : ℕ) → IsOther octet → judgement_of in_check.world.b.state (guessed octet) ≡ at_row (rx_from 1) 1 12 Invalid (Some (client 1))
+guess_judged : (octet : ℕ) → IsOther 1 octet → judgement_of in_check.world.b.state (guessed 1 octet) ≡ at_row (rx_from 1) 1 12 Invalid (Some (client 1))
 guess_judged octet other =
-    ap (judge_opened (rx_options in_check.world.b.state) (key_row 2 1) (rx_from 1) 1 (parts_at (guessed octet))) (closes bytes (iv 1) (aad 1 (client 1)) octet (replicate 15 0) other)
+    ap (judge_opened (rx_options in_check.world.b.state) (key_row 2 1) (rx_from 1) 1 (parts_at (guessed 1 octet))) (closes bytes (iv 1) (aad 1 (client 1)) octet (replicate 15 0) other)
 
-is_on_link : (octet : ℕ) → trace_step in_check (Inject (guessed octet)) ≡ on_link octet
+is_on_link : (octet : ℕ) → trace_step in_check (Inject (guessed 1 octet)) ≡ on_link octet
 is_on_link octet = refl
 
-is_unvalidated : (octet : ℕ) → IsOther octet → trace_step (on_link octet) (Deliver B 0) ≡ unvalidated octet
-is_unvalidated octet other = deliver_step (on_link octet) 0 (guessed octet) (at_row (rx_from 1) 1 12 Invalid (Some (client 1))) refl refl refl (guess_judged octet other)
+is_unvalidated : (octet : ℕ) → IsOther 1 octet → trace_step (on_link octet) (Deliver B 0) ≡ unvalidated octet
+is_unvalidated octet other = deliver_step (on_link octet) 0 (guessed 1 octet) (at_row (rx_from 1) 1 12 Invalid (Some (client 1))) refl refl refl (guess_judged octet other)
 
 is_strict_again : (octet : ℕ) → trace_step (unvalidated octet) (Command B (Validate Strict)) ≡ strict_again octet
 is_strict_again octet = refl
 
-nothing_opens : (octet : ℕ) → IsOther octet → IsGenuineAt (on_link octet) (Deliver B 0)
-nothing_opens octet other = genuine_at in_check.world.b.state (guessed octet) (at_row (rx_from 1) 1 12 Invalid (Some (client 1))) [] (guess_judged octet other) tt
+nothing_opens : (octet : ℕ) → IsOther 1 octet → IsGenuineAt (on_link octet) (Deliver B 0)
+nothing_opens octet other = genuine_at in_check.world.b.state (guessed 1 octet) (at_row (rx_from 1) 1 12 Invalid (Some (client 1))) [] (guess_judged octet other) tt
 
-guess_genuine : (octet : ℕ) → IsOther octet → IsGenuine (new_trace config_a config_b) (guess octet)
+guess_genuine : (octet : ℕ) → IsOther 1 octet → IsGenuine (new_trace gcm_a gcm_b) (guess octet)
 guess_genuine octet other =
-    genuine_append (new_trace config_a config_b) in_check commands_check (guessing octet) (tt, (tt, (tt, (tt, (tt, (tt, (tt, (tt, tt)))))))) is_in_check
-    (genuine_next in_check (on_link octet) (Inject (guessed octet)) (Deliver B 0 ∷ back) (tt {0}) (is_on_link octet)
+    genuine_append (new_trace gcm_a gcm_b) in_check commands_check (guessing octet) (tt, (tt, (tt, (tt, (tt, (tt, (tt, (tt, tt)))))))) is_in_check
+    (genuine_next in_check (on_link octet) (Inject (guessed 1 octet)) (Deliver B 0 ∷ back) (tt {0}) (is_on_link octet)
     (genuine_next (on_link octet) (unvalidated octet) (Deliver B 0) back (nothing_opens octet other) (is_unvalidated octet other)
     (genuine_next (unvalidated octet) (strict_again octet) (Command B (Validate Strict)) [] (tt {0}) (is_strict_again octet) (tt {0}))))
 
-guess_ends : (octet : ℕ) → IsOther octet → world_after (new_world config_a config_b) (guess octet) ≡ (strict_again octet).world
+guess_ends : (octet : ℕ) → IsOther 1 octet → world_after (new_world gcm_a gcm_b) (guess octet) ≡ (strict_again octet).world
 guess_ends octet other =
-    sym (world_of_trace (new_trace config_a config_b) (guess octet))
+    sym (world_of_trace (new_trace gcm_a gcm_b) (guess octet))
     ∙ ap world_of
-    (after_both (new_trace config_a config_b) in_check commands_check (guessing octet) is_in_check
+    (after_both (new_trace gcm_a gcm_b) in_check commands_check (guessing octet) is_in_check
     ∙ ap (λ (t : Trace). trace_after t (Deliver B 0 ∷ back)) (is_on_link octet)
     ∙ ap (λ (t : Trace). trace_after t back) (is_unvalidated octet other)
     ∙ is_strict_again octet)
 
-each_in_check : (octet : ℕ) → IsOther octet → AtEach (WhileLive HasStrictOrder) (new_world config_a config_b) (guess octet)
+each_in_check : (octet : ℕ) → IsOther 1 octet → AtEach (WhileLive HasStrictOrder) (new_world gcm_a gcm_b) (guess octet)
 each_in_check octet other =
-    each_append (WhileLive HasStrictOrder) (new_world config_a config_b) in_check.world commands_check (guessing octet)
+    each_append (WhileLive HasStrictOrder) (new_world gcm_a gcm_b) in_check.world commands_check (guessing octet)
     (tt, (tt, (tt, (tt, (tt, (tt, (λ live. record { replay = refl; window = refl }, (λ live. record { replay = refl; window = refl }, tt))))))))
-    (sym (world_of_trace (new_trace config_a config_b) commands_check) ∙ ap world_of is_in_check)
-    (each_next (WhileLive HasStrictOrder) in_check.world (on_link octet).world (Inject (guessed octet)) (Deliver B 0 ∷ back) (λ live. record { replay = refl; window = refl }) (ap world_of (is_on_link octet))
+    (sym (world_of_trace (new_trace gcm_a gcm_b) commands_check) ∙ ap world_of is_in_check)
+    (each_next (WhileLive HasStrictOrder) in_check.world (on_link octet).world (Inject (guessed 1 octet)) (Deliver B 0 ∷ back) (λ live. record { replay = refl; window = refl }) (ap world_of (is_on_link octet))
     (each_next (WhileLive HasStrictOrder) (on_link octet).world (unvalidated octet).world (Deliver B 0) back (λ live. record { replay = refl; window = refl }) (ap world_of (is_unvalidated octet other))
     (each_next (WhileLive HasStrictOrder) (unvalidated octet).world (strict_again octet).world (Command B (Validate Strict)) [] (λ live. record { replay = refl; window = refl }) (ap world_of (is_strict_again octet))
     (λ live. record { replay = refl; window = refl }))))
@@ -218,7 +210,7 @@ abbrev pub OriginWhereStrictAtEnd : EndConfig → EndConfig → List Event → T
 OriginWhereStrictAtEnd a b events =
     IsGenuine (new_trace a b) events → (e : End) (i : ℕ) → IsStrict (end_of (world_after (new_world a b) events) e).state → WasSentByOther (world_after (new_world a b) events) e i
 
-origin_fails : (octet : ℕ) → IsOther octet → Fails OriginWhereStrictAtEnd config_a config_b (guess octet)
+origin_fails : (octet : ℕ) → IsOther 1 octet → Fails OriginWhereStrictAtEnd gcm_a gcm_b (guess octet)
 origin_fails octet other = (
   refl,
   λ law.
@@ -236,7 +228,7 @@ OrderWhereStrictAtEnd a b events =
     (e : End) (i : ℕ) → IsStrict (end_of (world_after (new_world a b) events) e).state → WhileThere a b events e i HasStrictOrder →
     WasSentInOrder (world_after (new_world a b) events) e i
 
-order_fails : (octet : ℕ) → IsOther octet → Fails OrderWhereStrictAtEnd config_a config_b (guess octet)
+order_fails : (octet : ℕ) → IsOther 1 octet → Fails OrderWhereStrictAtEnd gcm_a gcm_b (guess octet)
 order_fails octet other = (
   refl,
   λ law.
@@ -245,25 +237,26 @@ order_fails octet other = (
       subst (λ (w : WorldState). WasSentInOrder w B 0) ends
       (law (guess_genuine octet other) (subst AgreeOnKeys (sym ends) (of_two (λ x y. x.bytes ≡ y.bytes → AgreeOnKey x y) _ _ (λ same. record { suite = refl; salt = λ xpn. refl }))) B 0
       (subst (λ (w : WorldState). IsStrict w.b.state) (sym ends) refl)
-      (λ k within. at_moment (WhileLive HasStrictOrder) (new_world config_a config_b) (guess octet) (each_in_check octet other) k within)) in
+      (λ k within. at_moment (WhileLive HasStrictOrder) (new_world gcm_a gcm_b) (guess octet) (each_in_check octet other) k within)) in
       no_subsequence_of_none (client 1) (in_order (key_row 1 1) (0, omega arith, refl) refl),
 )
 
 -- no number is both 0 and 1
-pub zero_or_one : (n : ℕ) → ((n == 0) ≡ false) ⊎ ((n == 1) ≡ false)
+zero_or_one : (n : ℕ) → ((n == 0) ≡ false) ⊎ ((n == 1) ≡ false)
 zero_or_one zero = inr refl
 zero_or_one (suc n) = inl (ne_eqb (suc n) 0 (λ same. omega (arith, same)))
 
--- of the frames whose ICVs are 0 and 1 with zeros behind, one at least is delivered as Invalid
-of_one : (P : ℕ → Type 0) → ((octet : ℕ) → IsOther octet → P octet) → P 0 ⊎ P 1
-of_one P goes = by_octet (zero_or_one (first (tag_of bytes (iv 1) (aad 1 (client 1)))))
+-- of the frames of this number whose ICVs are 0 and 1 with zeros behind, one at least is not A's own
+pub of_one : (number : ℕ) (P : ℕ → Type 0) → ((octet : ℕ) → IsOther number octet → P octet) → P 0 ⊎ P 1
+of_one number P goes = by_octet (zero_or_one (first (tag_of bytes (iv number) (aad number (client number)))))
   where
-    by_octet : IsOther 0 ⊎ IsOther 1 → P 0 ⊎ P 1
+    by_octet : IsOther number 0 ⊎ IsOther number 1 → P 0 ⊎ P 1
     by_octet (inl other) = inl (goes 0 other)
     by_octet (inr other) = inr (goes 1 other)
 
-pub strictness_needed : Fails OriginWhereStrictAtEnd config_a config_b (guess 0) ⊎ Fails OriginWhereStrictAtEnd config_a config_b (guess 1)
-strictness_needed = of_one (λ octet. Fails OriginWhereStrictAtEnd config_a config_b (guess octet)) origin_fails
+-- and that one is delivered as Invalid
+pub strictness_needed : Fails OriginWhereStrictAtEnd gcm_a gcm_b (guess 0) ⊎ Fails OriginWhereStrictAtEnd gcm_a gcm_b (guess 1)
+strictness_needed = of_one 1 (λ octet. Fails OriginWhereStrictAtEnd gcm_a gcm_b (guess octet)) origin_fails
 
-pub strictness_needed_for_order : Fails OrderWhereStrictAtEnd config_a config_b (guess 0) ⊎ Fails OrderWhereStrictAtEnd config_a config_b (guess 1)
-strictness_needed_for_order = of_one (λ octet. Fails OrderWhereStrictAtEnd config_a config_b (guess octet)) order_fails
+pub strictness_needed_for_order : Fails OrderWhereStrictAtEnd gcm_a gcm_b (guess 0) ⊎ Fails OrderWhereStrictAtEnd gcm_a gcm_b (guess 1)
+strictness_needed_for_order = of_one 1 (λ octet. Fails OrderWhereStrictAtEnd gcm_a gcm_b (guess octet)) order_fails

@@ -3,10 +3,9 @@
 -- ends, with 32-bit packet numbers also under one SSCI and two salts. An end that was strict until its association was
 -- deleted may leave mode Strict then.
 use Rattle.std.proofs.Common.{◌≡◌, ◌≢◌, ℕ, Bool, true, false, List, [], ◌∷◌, ◌++◌, length, refl, sym, subst, arith}
-use Rattle.std.specs.Prelude.{◌==◌, if◌then◌else◌, replicate, slice_get, Option, Some, None, IfSome, Contains}
+use Rattle.std.specs.Prelude.{◌==◌, if◌then◌else◌, replicate, Option, Some, None, IfSome, Contains}
 use Rattle.macsec_tag.specs.Table.{Reading, bad, tagged, untagged}
 use Rattle.macsec_tag.specs.Table as table
-use Rattle.macsec_suite.specs.declared.suite.Suite.TheVariants.{Gcm128, Xpn128}
 use Rattle.macsec_suite.specs.KeyRows.{InstalledKey}
 use Rattle.macsec_suite.specs.Suites.{is_xpn}
 use Rattle.macsec_commands.specs.declared.mode.Mode.TheVariants.{Check}
@@ -26,9 +25,9 @@ use Rattle.macsec_link.specs.Keys.{AgreeOnKey, AgreeOnKeys, DifferInSsci}
 use Rattle.macsec_link.specs.Origin.{IsStrict, WhileThere}
 use Rattle.macsec_link.specs.Step.{world_after}
 use Rattle.macsec_link.specs.Trace.{Trace, use_to_open_by, trace_of}
-use Rattle.macsec_link.specs.World.{WorldState, end_of, frame_at, new_world}
-use Rattle.macsec_premises.proofs.TracedSteps.{at_moment}
-use Rattle.macsec_premises.proofs.WorkedEnds.{both_send, config, new_key, no_salt, of_two, receives_from, sci_a, sci_b, scis_differ}
+use Rattle.macsec_link.specs.World.{end_of, frame_at, new_world}
+use Rattle.macsec_premises.proofs.TracedSteps.{WhileLive, at_moment}
+use Rattle.macsec_premises.proofs.WorkedEnds.{both_send, gcm_a, gcm_b, new_key, no_salt, of_two, receives_from, sci_a, sci_b, scis_differ, xpn_a, xpn_b}
 
 -- a frame of which step 13 of reception does not decide asks for nothing
 pub nothing_asked : (t : Trace) (e : End) (n : ℕ) → ((judgement_of (end_of t.world e).state (frame_at t.world n)).step == 13) ≡ false → IsGenuineAt t (Deliver e n)
@@ -63,7 +62,7 @@ pub record MeetIvPremises (a b : EndConfig) (events : List Event) : Type 0 where
   pub two_seals : length (trace_of a b events).seals ≡ 2
 
 -- with 32-bit packet numbers, also where the ends have one SSCI and two salts
-pub one_ssci_of_32_bits : MeetIvPremises (config Gcm128 sci_a) (config Gcm128 sci_b) (both_send (new_key no_salt 0) (new_key (1 ∷ replicate 11 0) 0))
+pub one_ssci_of_32_bits : MeetIvPremises gcm_a gcm_b (both_send (new_key no_salt 0) (new_key (1 ∷ replicate 11 0) 0))
 one_ssci_of_32_bits = record {
   made = refl;
   scis = scis_differ sci_a sci_b (λ same. omega (arith, same));
@@ -73,7 +72,7 @@ one_ssci_of_32_bits = record {
 }
 
 -- with extended ones
-pub two_sscis : MeetIvPremises (config Xpn128 sci_a) (config Xpn128 sci_b) (both_send (new_key no_salt 1) (new_key no_salt 2))
+pub two_sscis : MeetIvPremises xpn_a xpn_b (both_send (new_key no_salt 1) (new_key no_salt 2))
 two_sscis = record {
   made = refl;
   scis = scis_differ sci_a sci_b (λ same. omega (arith, same));
@@ -87,10 +86,7 @@ two_sscis = record {
 abbrev strict_until_deleted : List Event
 strict_until_deleted = receives_from B (new_key no_salt 2) sci_a 1 1 ++ Command B (RxDel sci_a 0) ∷ Command B (Validate Check) ∷ []
 
-abbrev IsStrictThere : WorldState → Type 0
-IsStrictThere w = IfSome (slice_get w.b.delivered 0) (λ log. log.live ≡ true → IsStrict w.b.state)
-
-pub strict_while_there : WhileThere (config Gcm128 sci_a) (config Gcm128 sci_b) strict_until_deleted B 0 IsStrict
+pub strict_while_there : WhileThere gcm_a gcm_b strict_until_deleted B 0 IsStrict
 strict_while_there k within =
-    at_moment IsStrictThere (new_world (config Gcm128 sci_a) (config Gcm128 sci_b)) strict_until_deleted
+    at_moment (WhileLive IsStrict) (new_world gcm_a gcm_b) strict_until_deleted
     (tt, (tt, (tt, ((λ live. refl), ((λ live. refl), ((λ live. refl), (λ live. cc))))))) k within

@@ -34,13 +34,7 @@ use Rattle.macsec_premises.proofs.IvPremises.{AgreeOnSuite, AgreeOnSuites}
 use Rattle.macsec_link.proofs.Moments.{world_of_trace}
 use Rattle.macsec_premises.proofs.SealedFrames.{Sealed, aad_sent, frame_with, items, opens, parts_with, sealed, tag_of, with_tag}
 use Rattle.macsec_premises.proofs.TracedSteps.{AtEach, WhileLive, world_of, after_both, at_moment, deliver_step, each_append, each_next, genuine_append, genuine_at, genuine_next, send_step, sent_by}
-use Rattle.macsec_premises.proofs.WorkedEnds.{Fails, config, counts, installed_key, log, new_key, no_salt, of_two, receives_from, rx_from, sci_a, sci_b, sends_from, tx_from}
-
-abbrev xpn_a : EndConfig
-xpn_a = config Xpn128 sci_a
-
-abbrev xpn_b : EndConfig
-xpn_b = config Xpn128 sci_b
+use Rattle.macsec_premises.proofs.WorkedEnds.{Fails, bytes, counts, installed_key, log, new_key, no_salt, of_two, receives_from, rx_from, sci_a, sends_from, tx_from, xpn_a, xpn_b}
 
 -- B's salt turns the lowest bit of the upper half
 abbrev salt_b : List ℕ
@@ -107,9 +101,6 @@ is_ready : trace_after (new_trace xpn_a xpn_b) commands ≡ ready
 is_ready = refl
 
 -- ---- what A seals: its frames number 0, 1 and 2
-
-abbrev bytes : List ℕ
-bytes = replicate 16 7
 
 abbrev iv : ℕ → List ℕ
 iv n = iv_of Xpn128 sci_a 1 no_salt (number n)

@@ -3,7 +3,6 @@
 -- afterwards. With it off the later packet number is not above the earlier one either.
 use Rattle.std.proofs.Common.{◌≡◌, ℕ, zero, suc, ◌+◌, ◌<◌, Bool, true, false, List, [], ◌∷◌, ◌++◌, refl, ap, sym, subst, ◌∙◌, arith, AllPairs}
 use Rattle.std.specs.Prelude.{Some}
-use Rattle.macsec_gcm.specs.Gcm.{open_of}
 use Rattle.macsec_tag.specs.Table.{parts_at}
 use Rattle.macsec_rx.specs.declared.RxRow.{RxRow}
 use Rattle.macsec_rx.specs.declared.Verdict.{Verdict}
@@ -26,12 +25,12 @@ use Rattle.macsec_link.specs.Origin.{HasStrictOrder, IsStrict, IsSubsequence, Wa
 use Rattle.macsec_link.specs.Step.{world_after}
 use Rattle.macsec_link.specs.Trace.{Mark, Trace, marks_of, new_trace, trace_after, trace_of, trace_step}
 use Rattle.macsec_link.specs.World.{WorldState, end_of, new_world}
-use Rattle.macsec_premises.proofs.Exchange.{aad, bytes, client, config_a, config_b, iv, key_row, link_frame_of, link_frame_with, tag, trace_at, use_of, use_with}
+use Rattle.macsec_premises.proofs.Exchange.{Opens, aad, client, first_opens, first_tag, iv, key_row, link_frame_of, link_frame_with, trace_at, use_of, use_with}
 use Rattle.macsec_premises.proofs.Exchange as exchange
 use Rattle.macsec_link.proofs.Moments.{world_of_trace}
-use Rattle.macsec_premises.proofs.SealedFrames.{Sealed, items, opens, sealed}
+use Rattle.macsec_premises.proofs.SealedFrames.{Sealed, sealed}
 use Rattle.macsec_premises.proofs.TracedSteps.{AtEach, WhileLive, after_both, at_moment, deliver_step, each_append, each_next, genuine_append, genuine_at, genuine_next, send_step, sent_by}
-use Rattle.macsec_premises.proofs.WorkedEnds.{Fails, of_two, rx_from, tx_from}
+use Rattle.macsec_premises.proofs.WorkedEnds.{Fails, bytes, gcm_a, gcm_b, of_two, rx_from, tx_from}
 
 -- with replay protection on the window is 1, and with it off 0
 abbrev window : Bool → ℕ
@@ -54,7 +53,7 @@ events replay = commands replay ++ Send A (client 1) ∷ twice
 -- ---- the ends
 
 abbrev options_of : Bool → Options
-options_of replay = record (first_options config_b) { replay = replay; window = window replay }
+options_of replay = record (first_options gcm_b) { replay = replay; window = window replay }
 
 -- the lowest acceptable packet number after number 1
 abbrev lowest : Bool → ℕ
@@ -76,7 +75,7 @@ counted_again false = record no_rx_counters { in_pkts_ok = 1; in_pkts_delayed = 
 abbrev ready : Bool → Trace
 ready replay = trace_at (options_of replay) 0 (rx_from 1) 0 no_rx_counters [] [] [] [] []
 
-is_ready : (replay : Bool) → trace_after (new_trace config_a config_b) (commands replay) ≡ ready replay
+is_ready : (replay : Bool) → trace_after (new_trace gcm_a gcm_b) (commands replay) ≡ ready replay
 is_ready true = refl
 is_ready false = refl
 
@@ -100,12 +99,9 @@ after_twice replay t = one_sent replay (heard_row replay) 4 (counted_again repla
 
 abbrev at_end : Bool → List ℕ → Trace
 at_end replay t =
-    trace_at (first_options config_b) 1 (rx_from 2) 4 (counted_again replay) (client 1 ∷ []) (client 1 ∷ client 1 ∷ []) (frame t ∷ []) (use_of 1 (client 1) t ∷ []) (mark replay ∷ mark replay ∷ [])
+    trace_at (first_options gcm_b) 1 (rx_from 2) 4 (counted_again replay) (client 1 ∷ []) (client 1 ∷ client 1 ∷ []) (frame t ∷ []) (use_of 1 (client 1) t ∷ []) (mark replay ∷ mark replay ∷ [])
 
 -- ---- the steps
-
-abbrev first_tag : List ℕ
-first_tag = tag 1 (client 1)
 
 sends : (replay : Bool) → sending_of (ready replay).world.a.state (client 1) ≡ sent_by (tx_from 1) (frame first_tag)
 sends replay = ap (λ (it : Sealed). sent_by (tx_from 1) (link_frame_with 1 (client 1) it)) (sealed bytes (iv 1) (aad 1 (client 1)))
@@ -116,31 +112,28 @@ is_sent replay =
     ∙ ap (λ (it : Sealed). trace_at (options_of replay) 1 (rx_from 1) 0 no_rx_counters (client 1 ∷ []) [] (frame first_tag ∷ []) (use_with 1 (client 1) it ∷ []) [])
     (sealed bytes (iv 1) (aad 1 (client 1)))
 
-abbrev Opens : List ℕ → Type 0
-Opens t = open_of bytes (iv 1) (aad 1 (client 1)) [] (items 16 t) ≡ Some []
-
-once_judged : (replay : Bool) (t : List ℕ) → Opens t → judgement_of (after_sending replay t).world.b.state (frame t) ≡ at_row (rx_from 1) 1 13 Passed (Some (client 1))
+once_judged : (replay : Bool) (t : List ℕ) → Opens 1 t → judgement_of (after_sending replay t).world.b.state (frame t) ≡ at_row (rx_from 1) 1 13 Passed (Some (client 1))
 once_judged true t is = ap (judge_opened (rx_options (after_sending true t).world.b.state) (key_row 2 1) (rx_from 1) 1 (parts_at (frame t))) is
 once_judged false t is = ap (judge_opened (rx_options (after_sending false t).world.b.state) (key_row 2 1) (rx_from 1) 1 (parts_at (frame t))) is
 
-once_heard : (replay : Bool) (t : List ℕ) → Opens t → trace_step (after_sending replay t) (Deliver B 0) ≡ after_once replay t
+once_heard : (replay : Bool) (t : List ℕ) → Opens 1 t → trace_step (after_sending replay t) (Deliver B 0) ≡ after_once replay t
 once_heard true t is = deliver_step (after_sending true t) 0 (frame t) (at_row (rx_from 1) 1 13 Passed (Some (client 1))) refl refl refl (once_judged true t is)
 once_heard false t is = deliver_step (after_sending false t) 0 (frame t) (at_row (rx_from 1) 1 13 Passed (Some (client 1))) refl refl refl (once_judged false t is)
 
-once_genuine : (replay : Bool) (t : List ℕ) → Opens t → IsGenuineAt (after_sending replay t) (Deliver B 0)
+once_genuine : (replay : Bool) (t : List ℕ) → Opens 1 t → IsGenuineAt (after_sending replay t) (Deliver B 0)
 once_genuine replay t is =
     genuine_at (after_sending replay t).world.b.state (frame t) (at_row (rx_from 1) 1 13 Passed (Some (client 1))) (after_sending replay t).seals (once_judged replay t is)
     (0, omega arith, refl)
 
-again_judged : (replay : Bool) (t : List ℕ) → Opens t → judgement_of (after_once replay t).world.b.state (frame t) ≡ at_row (heard_row replay) 1 13 (again replay) (Some (client 1))
+again_judged : (replay : Bool) (t : List ℕ) → Opens 1 t → judgement_of (after_once replay t).world.b.state (frame t) ≡ at_row (heard_row replay) 1 13 (again replay) (Some (client 1))
 again_judged true t is = ap (judge_opened (rx_options (after_once true t).world.b.state) (key_row 2 1) (heard_row true) 1 (parts_at (frame t))) is
 again_judged false t is = ap (judge_opened (rx_options (after_once false t).world.b.state) (key_row 2 1) (heard_row false) 1 (parts_at (frame t))) is
 
-again_heard : (replay : Bool) (t : List ℕ) → Opens t → trace_step (after_once replay t) (Deliver B 0) ≡ after_twice replay t
+again_heard : (replay : Bool) (t : List ℕ) → Opens 1 t → trace_step (after_once replay t) (Deliver B 0) ≡ after_twice replay t
 again_heard true t is = deliver_step (after_once true t) 0 (frame t) (at_row (heard_row true) 1 13 Passed (Some (client 1))) refl refl refl (again_judged true t is)
 again_heard false t is = deliver_step (after_once false t) 0 (frame t) (at_row (heard_row false) 1 13 Delayed (Some (client 1))) refl refl refl (again_judged false t is)
 
-again_genuine : (replay : Bool) (t : List ℕ) → Opens t → IsGenuineAt (after_once replay t) (Deliver B 0)
+again_genuine : (replay : Bool) (t : List ℕ) → Opens 1 t → IsGenuineAt (after_once replay t) (Deliver B 0)
 again_genuine replay t is =
     genuine_at (after_once replay t).world.b.state (frame t) (at_row (heard_row replay) 1 13 (again replay) (Some (client 1))) (after_once replay t).seals (again_judged replay t is)
     (0, omega arith, refl)
@@ -151,43 +144,40 @@ is_back false t = refl
 
 -- ---- the run
 
-is_open : Opens first_tag
-is_open = opens bytes (iv 1) (aad 1 (client 1))
-
-is_genuine : (replay : Bool) → IsGenuine (new_trace config_a config_b) (events replay)
+is_genuine : (replay : Bool) → IsGenuine (new_trace gcm_a gcm_b) (events replay)
 is_genuine replay =
-    genuine_append (new_trace config_a config_b) (ready replay) (commands replay) (Send A (client 1) ∷ twice) (tt, (tt, (tt, (tt, (tt, (tt, (tt, (tt, tt)))))))) (is_ready replay)
+    genuine_append (new_trace gcm_a gcm_b) (ready replay) (commands replay) (Send A (client 1) ∷ twice) (tt, (tt, (tt, (tt, (tt, (tt, (tt, (tt, tt)))))))) (is_ready replay)
     (genuine_next (ready replay) (after_sending replay first_tag) (Send A (client 1)) twice (tt {0}) (is_sent replay)
-    (genuine_next (after_sending replay first_tag) (after_once replay first_tag) (Deliver B 0) (Deliver B 0 ∷ back) (once_genuine replay first_tag is_open) (once_heard replay first_tag is_open)
-    (genuine_next (after_once replay first_tag) (after_twice replay first_tag) (Deliver B 0) back (again_genuine replay first_tag is_open) (again_heard replay first_tag is_open)
+    (genuine_next (after_sending replay first_tag) (after_once replay first_tag) (Deliver B 0) (Deliver B 0 ∷ back) (once_genuine replay first_tag first_opens) (once_heard replay first_tag first_opens)
+    (genuine_next (after_once replay first_tag) (after_twice replay first_tag) (Deliver B 0) back (again_genuine replay first_tag first_opens) (again_heard replay first_tag first_opens)
     (genuine_next (after_twice replay first_tag) (at_end replay first_tag) (Command B (Replay true 0)) [] (tt {0}) (is_back replay first_tag) (tt {0})))))
 
-trace_ends : (replay : Bool) → trace_of config_a config_b (events replay) ≡ at_end replay first_tag
+trace_ends : (replay : Bool) → trace_of gcm_a gcm_b (events replay) ≡ at_end replay first_tag
 trace_ends replay =
-    after_both (new_trace config_a config_b) (ready replay) (commands replay) (Send A (client 1) ∷ twice) (is_ready replay)
+    after_both (new_trace gcm_a gcm_b) (ready replay) (commands replay) (Send A (client 1) ∷ twice) (is_ready replay)
     ∙ ap (λ (t : Trace). trace_after t twice) (is_sent replay)
-    ∙ ap (λ (t : Trace). trace_after t (Deliver B 0 ∷ back)) (once_heard replay first_tag is_open)
-    ∙ ap (λ (t : Trace). trace_after t back) (again_heard replay first_tag is_open)
+    ∙ ap (λ (t : Trace). trace_after t (Deliver B 0 ∷ back)) (once_heard replay first_tag first_opens)
+    ∙ ap (λ (t : Trace). trace_after t back) (again_heard replay first_tag first_opens)
     ∙ is_back replay first_tag
 
-last_world_is : (replay : Bool) → world_after (new_world config_a config_b) (events replay) ≡ (at_end replay first_tag).world
-last_world_is replay = sym (world_of_trace (new_trace config_a config_b) (events replay)) ∙ ap (λ (t : Trace). t.world) (trace_ends replay)
+last_world_is : (replay : Bool) → world_after (new_world gcm_a gcm_b) (events replay) ≡ (at_end replay first_tag).world
+last_world_is replay = sym (world_of_trace (new_trace gcm_a gcm_b) (events replay)) ∙ ap (λ (t : Trace). t.world) (trace_ends replay)
 
 -- B is strict all the while, and its options are these from its association's making on, but for replay and window
-each_moment : (replay : Bool) (P : State → Type 0) → ((s : State) → s.options ≡ first_options config_b → P s) → ((s : State) → s.options ≡ options_of replay → P s) →
-    AtEach (WhileLive P) (new_world config_a config_b) (events replay)
+each_moment : (replay : Bool) (P : State → Type 0) → ((s : State) → s.options ≡ first_options gcm_b → P s) → ((s : State) → s.options ≡ options_of replay → P s) →
+    AtEach (WhileLive P) (new_world gcm_a gcm_b) (events replay)
 each_moment replay P first so =
-    each_append (WhileLive P) (new_world config_a config_b) (ready replay).world (commands replay) (Send A (client 1) ∷ twice)
+    each_append (WhileLive P) (new_world gcm_a gcm_b) (ready replay).world (commands replay) (Send A (client 1) ∷ twice)
     (tt, (tt, (tt, (tt, (tt, (tt, (λ live. first _ refl, (λ live. first _ refl, tt))))))))
-    (sym (world_of_trace (new_trace config_a config_b) (commands replay)) ∙ ap (λ (t : Trace). t.world) (is_ready replay))
+    (sym (world_of_trace (new_trace gcm_a gcm_b) (commands replay)) ∙ ap (λ (t : Trace). t.world) (is_ready replay))
     (each_next (WhileLive P) (ready replay).world (after_sending replay first_tag).world (Send A (client 1)) twice (λ live. so _ refl) (ap (λ (t : Trace). t.world) (is_sent replay))
-    (each_next (WhileLive P) (after_sending replay first_tag).world (after_once replay first_tag).world (Deliver B 0) (Deliver B 0 ∷ back) (λ live. so _ refl) (ap (λ (t : Trace). t.world) (once_heard replay first_tag is_open))
-    (each_next (WhileLive P) (after_once replay first_tag).world (after_twice replay first_tag).world (Deliver B 0) back (λ live. so _ refl) (ap (λ (t : Trace). t.world) (again_heard replay first_tag is_open))
+    (each_next (WhileLive P) (after_sending replay first_tag).world (after_once replay first_tag).world (Deliver B 0) (Deliver B 0 ∷ back) (λ live. so _ refl) (ap (λ (t : Trace). t.world) (once_heard replay first_tag first_opens))
+    (each_next (WhileLive P) (after_once replay first_tag).world (after_twice replay first_tag).world (Deliver B 0) back (λ live. so _ refl) (ap (λ (t : Trace). t.world) (again_heard replay first_tag first_opens))
     (each_next (WhileLive P) (after_twice replay first_tag).world (at_end replay first_tag).world (Command B (Replay true 0)) [] (λ live. so _ refl) (ap (λ (t : Trace). t.world) (is_back replay first_tag)) (λ live. first _ refl)))))
 
-while_there : (replay : Bool) (P : State → Type 0) → ((s : State) → s.options ≡ first_options config_b → P s) → ((s : State) → s.options ≡ options_of replay → P s) →
-    WhileThere config_a config_b (events replay) B 0 P
-while_there replay P first so k within = at_moment (WhileLive P) (new_world config_a config_b) (events replay) (each_moment replay P first so) k within
+while_there : (replay : Bool) (P : State → Type 0) → ((s : State) → s.options ≡ first_options gcm_b → P s) → ((s : State) → s.options ≡ options_of replay → P s) →
+    WhileThere gcm_a gcm_b (events replay) B 0 P
+while_there replay P first so k within = at_moment (WhileLive P) (new_world gcm_a gcm_b) (events replay) (each_moment replay P first so) k within
 
 -- one frame sent, delivered twice, is no subsequence
 no_subsequence : (x : List ℕ) → IsSubsequence (x ∷ x ∷ []) (x ∷ []) → ⊥
@@ -213,11 +203,11 @@ OrderWithRest replay a b events =
 keys_agree : (replay : Bool) → AgreeOnKeys (at_end replay first_tag).world
 keys_agree replay = of_two (λ x y. x.bytes ≡ y.bytes → AgreeOnKey x y) _ _ (λ same. record { suite = refl; salt = λ xpn. refl })
 
-has_rest : (replay : Bool) → WhileThere config_a config_b (events replay) B 0 (HasRest replay)
+has_rest : (replay : Bool) → WhileThere gcm_a gcm_b (events replay) B 0 (HasRest replay)
 has_rest true = while_there true (HasRest true) (λ s is. ap (λ (o : Options). o.replay) is) (λ s is. ap (λ (o : Options). o.replay) is)
 has_rest false = while_there false (HasRest false) (λ s is. ap (λ (o : Options). o.window) is) (λ s is. ap (λ (o : Options). o.window) is)
 
-order_fails : (replay : Bool) → OrderWithRest replay config_a config_b (events replay) → ⊥
+order_fails : (replay : Bool) → OrderWithRest replay gcm_a gcm_b (events replay) → ⊥
 order_fails replay law =
     let in_order : WasSentInOrder (at_end replay first_tag).world B 0 =
     subst (λ (w : WorldState). WasSentInOrder w B 0) (last_world_is replay)
@@ -227,10 +217,10 @@ order_fails replay law =
     no_subsequence (client 1) (in_order (key_row 1 2) (0, omega arith, refl) refl)
 
 -- a window of 1 is too wide
-pub window_of_0_needed : Fails (OrderWithRest true) config_a config_b (events true)
+pub window_of_0_needed : Fails (OrderWithRest true) gcm_a gcm_b (events true)
 window_of_0_needed = (refl, order_fails true)
 
-pub protection_needed : Fails (OrderWithRest false) config_a config_b (events false)
+pub protection_needed : Fails (OrderWithRest false) gcm_a gcm_b (events false)
 protection_needed = (refl, order_fails false)
 
 -- ---- the law on windows
@@ -242,7 +232,7 @@ IsWithinWindowOff earlier later = earlier.validated ≡ true → earlier.number 
 abbrev pub WindowWhereOff : EndConfig → EndConfig → List Event → Type 0
 WindowWhereOff a b events = (e : End) (i : ℕ) → AllPairs IsWithinWindowOff (marks_of (trace_of a b events) e i)
 
-pub protection_needed_for_window : Fails WindowWhereOff config_a config_b (events false)
+pub protection_needed_for_window : Fails WindowWhereOff gcm_a gcm_b (events false)
 protection_needed_for_window = (
   refl,
   λ law.

@@ -5,6 +5,7 @@ use Rattle.macsec_aes.specs.declared.Key.TheVariants.{K128}
 use Rattle.macsec_tag.specs.declared.identifiers.Sci.{Sci}
 use Rattle.macsec_suite.specs.declared.key_row.NewKey.{NewKey}
 use Rattle.macsec_suite.specs.declared.suite.Suite.{Suite}
+use Rattle.macsec_suite.specs.declared.suite.Suite.TheVariants.{Gcm128, Xpn128}
 use Rattle.macsec_suite.specs.KeyRows.{InstalledKey}
 use Rattle.macsec_commands.specs.declared.form.TagForm.TheVariants as form
 use Rattle.macsec_tx.specs.declared.TxRow.{TxRow}
@@ -35,12 +36,27 @@ scis_differ s t differ same = differ (ap (λ (x : Sci). get_or x.0 5 0) same)
 abbrev pub config : Suite → Sci → EndConfig
 config suite sci = record { suite = suite; sci = sci; max_frame = 1518; form = form.Sci }
 
+abbrev pub gcm_a : EndConfig
+gcm_a = config Gcm128 sci_a
+
+abbrev pub gcm_b : EndConfig
+gcm_b = config Gcm128 sci_b
+
+abbrev pub xpn_a : EndConfig
+xpn_a = config Xpn128 sci_a
+
+abbrev pub xpn_b : EndConfig
+xpn_b = config Xpn128 sci_b
+
 abbrev pub no_salt : List ℕ
 no_salt = replicate 12 0
 
 -- key 0, of the same bytes at both ends
+abbrev pub bytes : List ℕ
+bytes = replicate 16 7
+
 abbrev pub new_key : List ℕ → ℕ → NewKey
-new_key salt ssci = record { number = 0; bytes = K128 (replicate 16 7); salt = salt; ssci = ssci; offset = 0; suite = None }
+new_key salt ssci = record { number = 0; bytes = K128 bytes; salt = salt; ssci = ssci; offset = 0; suite = None }
 
 -- a client's frame of two octets of data
 abbrev pub client : List ℕ
@@ -81,7 +97,7 @@ log frames = record { sci = sci_a; an = 0; key = 0; live = true; frames = frames
 -- key 0 as it is installed
 abbrev pub installed_key : Suite → List ℕ → ℕ → ℕ → InstalledKey
 installed_key suite salt ssci first_unused =
-    record { number = 0; suite = suite; bytes = replicate 16 7; salt = salt; ssci = ssci; offset = 0; first_unused = first_unused; retired = false }
+    record { number = 0; suite = suite; bytes = bytes; salt = salt; ssci = ssci; offset = 0; first_unused = first_unused; retired = false }
 
 pub only : {X : Type 0} (key x : X) → Contains (key ∷ []) x → key ≡ x
 only key x there = by_place (member (key ∷ []) x there)
