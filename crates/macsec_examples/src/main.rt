@@ -10,7 +10,7 @@ use std::fs;
 use std::process::ExitCode;
 
 /// The names of the scripts.
-const EXAMPLES: [&str; 56] = [
+const EXAMPLES: [&str; 57] = [
     "tour",
     "blanks-and-comments",
     "first-frame-gcm256",
@@ -57,6 +57,7 @@ const EXAMPLES: [&str; 56] = [
     "receive-commands",
     "order-of-refusals",
     "associations-of-two-channels",
+    "association-counters",
     "no-association",
     "validation",
     "c-without-e",
