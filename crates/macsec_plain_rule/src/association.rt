@@ -3,16 +3,17 @@
 use crate::Plant;
 use crate::hearing::Hearing;
 use macsec_link::{Sci, Verdict};
-use macsec_secy::{An, Options, RxRow};
+use macsec_secy::{An, Options, RxCounters, RxRow};
 use std::alloc::{AllocError, Global};
 
-/// A receive association that an end created, and its marks: whether it still exists, whether the end was strict and
+/// A receive association that an end created, what it has counted, and its marks: whether it still exists, whether the end was strict and
 /// whether it had replay protection with a window of 0 all that time, the next and the lowest acceptable packet number when
 /// they were looked at last, the greatest validated packet number, the place of the latest delivered frame among those that
 /// the other end sealed, and the delivered frames.
 #[derive(Drop)]
 pub struct Association {
     pub row: RxRow,
+    pub counters: RxCounters,
     pub live: bool,
     pub strict: bool,
     pub ordered: bool,
@@ -35,6 +36,7 @@ impl Association {
                 lowest: u128::from(lowest),
                 on: false,
             },
+            counters: RxCounters::default(),
             live: true,
             strict: true,
             ordered: true,

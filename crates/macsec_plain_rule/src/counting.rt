@@ -4,8 +4,16 @@ use crate::Plant;
 use crate::hearing::Hearing;
 use crate::plain_end::PlainEnd;
 use crate::sending::Sending;
-use macsec_link::{DropReason, Mode, Verdict};
+use macsec_link::{DropReason, Mode, Sci, Verdict};
 use macsec_secy::{Counters, RxCounters, TxCounters};
+
+/// A receive channel: what it has counted, and what its deleted associations had counted.
+#[derive(Clone, Copy)]
+pub struct PlainChannel {
+    pub sci: Sci,
+    pub counters: RxCounters,
+    pub removed: RxCounters,
+}
 
 /// The counters of a new end.
 pub fn no_counters() -> Counters {
@@ -52,7 +60,19 @@ fn end_counter(counters: &mut Counters, verdict: Verdict) -> Option<&mut u64> {
     }
 }
 
-/// The counter of a verdict that a channel counts.
+/// The sums of two associations' counters.
+pub fn sums(a: RxCounters, b: RxCounters) -> RxCounters {
+    RxCounters {
+        in_pkts_ok: a.in_pkts_ok.wrapping_add(b.in_pkts_ok),
+        in_pkts_unchecked: a.in_pkts_unchecked.wrapping_add(b.in_pkts_unchecked),
+        in_pkts_delayed: a.in_pkts_delayed.wrapping_add(b.in_pkts_delayed),
+        in_pkts_late: a.in_pkts_late.wrapping_add(b.in_pkts_late),
+        in_pkts_invalid: a.in_pkts_invalid.wrapping_add(b.in_pkts_invalid),
+        in_pkts_not_valid: a.in_pkts_not_valid.wrapping_add(b.in_pkts_not_valid),
+    }
+}
+
+/// The counter of a verdict that an association and its channel count.
 fn channel_counter(counters: &mut RxCounters, verdict: Verdict) -> Option<&mut u64> {
     match verdict {
         Verdict::Passed => Some(&mut counters.in_pkts_ok),
@@ -95,6 +115,9 @@ impl PlainEnd {
         let sci = made.row.sci;
         let is_counted = self.plant != Some(Plant::LateUncounted)
             || hearing.verdict != Verdict::Late;
+        if is_counted {
+            self.count_in_association(hearing);
+        }
         for channel in self.channels.iter_mut() {
             if channel.sci == sci && is_counted {
                 if let Some(counter) = channel_counter(&mut channel.counters, hearing.verdict) {
@@ -103,6 +126,17 @@ impl PlainEnd {
             }
         }
         self.count_octets(hearing);
+    }
+
+    /// Counts a link frame at its association.
+    fn count_in_association(&mut self, hearing: &Hearing) {
+        for (place, made) in self.rx.iter_mut().enumerate() {
+            if hearing.place == Some(place) {
+                if let Some(counter) = channel_counter(&mut made.counters, hearing.verdict) {
+                    add(counter, 1);
+                }
+            }
+        }
     }
 
     /// Counts the octets of the data of a frame to which the cipher was applied.

@@ -14,6 +14,7 @@ mod sending;
 
 pub use association::Association;
 pub use breach::Breach;
+pub use counting::PlainChannel;
 pub use plain_end::PlainEnd;
 pub use plain_world::{Answer, PlainWorld, Step};
 pub use plant::Plant;

@@ -2,10 +2,10 @@
 
 use crate::Plant;
 use crate::association::Association;
-use crate::counting::{no_counters, no_tx_counters};
+use crate::counting::{PlainChannel, no_counters, no_tx_counters, sums};
 use crate::sending::Seal;
 use macsec_link::{Command, EndConfig, Mode, NewKey, Refusal, Sci, Suite};
-use macsec_secy::{An, ChannelCounters, Counters, Options, RxCounters, TxCounters, TxRow};
+use macsec_secy::{An, Counters, Options, RxCounters, TxCounters, TxRow};
 use std::alloc::{AllocError, Global};
 
 /// A key: what was installed, its suite, whether it is retired, and its first unused packet number.
@@ -35,7 +35,7 @@ pub struct PlainEnd {
     pub options: Options,
     pub(crate) keys: Vec<PlainKey>,
     pub(crate) tx: Vec<TxRow>,
-    pub channels: Vec<ChannelCounters>,
+    pub channels: Vec<PlainChannel>,
     pub counters: Counters,
     pub tx_counters: TxCounters,
     pub rx: Vec<Association>,
@@ -246,19 +246,28 @@ impl PlainEnd {
         }
     }
 
+    /// Deletes a receive association. Its channel keeps what it has counted.
     fn delete(&mut self, sci: Sci, an: An) {
+        let mut counted = RxCounters::default();
         for made in self.rx.iter_mut() {
             if made.is(sci, an) {
                 made.live = false;
+                counted = made.counters;
+            }
+        }
+        for channel in self.channels.iter_mut() {
+            if channel.sci == sci {
+                channel.removed = sums(channel.removed, counted);
             }
         }
     }
 
     /// Creates a channel, the last.
     fn create_channel(&mut self, sci: Sci) -> Result<(), AllocError> {
-        let channel = ChannelCounters {
+        let channel = PlainChannel {
             sci,
             counters: RxCounters::default(),
+            removed: RxCounters::default(),
         };
         if self.plant == Some(Plant::FirstChannel) {
             self.channels.insert(0, channel)?;

@@ -70,7 +70,7 @@ fn ends_agree(end: &Secy, plain: &PlainEnd) -> bool {
         && channels_agree(end, plain)
 }
 
-/// Are an end's associations the same, with their packet numbers?
+/// Are an end's associations the same, with their packet numbers and, for reception, their counters?
 fn rows_agree(end: &Secy, plain: &PlainEnd) -> bool {
     for number in 0..4u8 {
         let Some(an) = An::new(number) else {
@@ -80,11 +80,11 @@ fn rows_agree(end: &Secy, plain: &PlainEnd) -> bool {
             return false;
         }
         for sci in [SCI_A, SCI_B, SCI_C] {
-            let row = match plain.rx_row(sci, an) {
-                Some((_, made)) => Some(made.row),
-                None => None,
+            let (row, counters) = match plain.rx_row(sci, an) {
+                Some((_, made)) => (Some(made.row), Some(made.counters)),
+                None => (None, None),
             };
-            if end.rx_row(sci, an) != row {
+            if end.rx_row(sci, an) != row || end.rx_sa_counters(sci, an) != counters {
                 return false;
             }
         }
@@ -98,7 +98,8 @@ fn channels_agree(end: &Secy, plain: &PlainEnd) -> bool {
         let agree = match (end.rx_channel(place), plain.channels.get(place)) {
             (None, None) => true,
             (Some(sci), Some(channel)) => sci == channel.sci
-                && end.rx_counters(sci) == Some(channel.counters),
+                && end.rx_counters(sci) == Some(channel.counters)
+                && end.rx_removed(sci) == Some(channel.removed),
             _ => false,
         };
         if !agree {
