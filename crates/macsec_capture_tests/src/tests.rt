@@ -52,7 +52,7 @@ const TWO_IN: &str =
     "end InPktsUntagged 0\nend InPktsNoTag 0\nend InPktsBadTag 0\nend InPktsReserved 0\nend InPktsNoSA 0\nend InPktsNoSAError 0\nend InOctetsValidated 4\nend InOctetsDecrypted 0\nend OutPktsUntagged 0\nend OutPktsTooLong 0\n";
 
 const CHANNEL: &str =
-    "end 0200000000010001 InPktsOK 2\nend 0200000000010001 InPktsUnchecked 0\nend 0200000000010001 InPktsDelayed 0\nend 0200000000010001 InPktsLate 0\nend 0200000000010001 InPktsInvalid 0\nend 0200000000010001 InPktsNotValid 0\n";
+    "end 0200000000010001 InPktsOK 2\nend 0200000000010001 InPktsUnchecked 0\nend 0200000000010001 InPktsDelayed 0\nend 0200000000010001 InPktsLate 0\nend 0200000000010001 InPktsInvalid 0\nend 0200000000010001 InPktsNotValid 0\nend 0200000000010001 0 InPktsOK 2\nend 0200000000010001 0 InPktsUnchecked 0\nend 0200000000010001 0 InPktsDelayed 0\nend 0200000000010001 0 InPktsLate 0\nend 0200000000010001 0 InPktsInvalid 0\nend 0200000000010001 0 InPktsNotValid 0\n";
 
 /// What is sent for the client frame of the record with packet numbers 1 and 2, in records, with any ICV.
 const SENT_1: &str =

@@ -67,6 +67,7 @@ struct Shown {
     counters: Counters,
     tx_counters: TxCounters,
     rx_counters: Option<RxCounters>,
+    rx_sa_counters: Option<RxCounters>,
     tx_row: Option<TxRow>,
     rx_row: Option<RxRow>,
 }
@@ -78,6 +79,7 @@ fn state_of(rt: &impl Abort, world: &World, end: End) -> Shown {
         counters: secy.counters(),
         tx_counters: secy.tx_counters(),
         rx_counters: secy.rx_counters(A.sci),
+        rx_sa_counters: secy.rx_sa_counters(A.sci, an(rt, 0)),
         tx_row: secy.tx_row(an(rt, 0)),
         rx_row: secy.rx_row(A.sci, an(rt, 0)),
     }
@@ -88,6 +90,7 @@ fn assert_counted(rt: &impl Abort, a: Shown, b: Shown) {
     assert_eq!(rt; a.tx_counters.out_pkts_encrypted, 1);
     assert_eq!(rt; a.tx_row.map(|row| row.next), Some(2));
     assert_eq!(rt; b.rx_counters.map(|counters| counters.in_pkts_ok), Some(1));
+    assert_eq!(rt; b.rx_sa_counters, b.rx_counters);
     assert_eq!(rt; b.rx_row.map(|row| row.next), Some(2));
 }
 

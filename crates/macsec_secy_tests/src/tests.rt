@@ -1,9 +1,9 @@
 //! What no clause says, and no script can show: the faults of configurations and of frames, the options, the key
-//! under which a frame is sent, and the association that a received frame is for.
+//! under which a frame is sent, the association that a received frame is for, and what deleted ones had counted.
 
 use macsec_secy::{
-    An, Command, DropReason, EndConfig, FrameFault, Key, Mode, NewFault, NewKey, Options, Sci,
-    Secy, Sent, Suite, TagForm, Verdict,
+    An, Command, DropReason, EndConfig, FrameFault, Key, Mode, NewFault, NewKey, Options,
+    RxCounters, Sci, Secy, Sent, Suite, TagForm, Verdict,
 };
 use macsec_vectors::{CLIENT_54, CLIENT_60, KEY_128, LINK_54, LINK_60, SCI};
 use std::alloc::Global;
@@ -315,4 +315,57 @@ fn associations_of_frames(rt: HostRuntime) {
         carry_out(&rt, &mut secy, &command);
         assert_received(&rt, &mut secy, link, wanted);
     }
+}
+
+/// The passed and the late frames among what was counted.
+fn passed_and_late(counters: Option<RxCounters>) -> Option<(u64, u64)> {
+    let counters = counters?;
+    Some((counters.in_pkts_ok, counters.in_pkts_late))
+}
+
+/// So many frames were passed and late in the sender's channel, in its association 2, and in its deleted associations.
+fn assert_counted(
+    rt: &impl Abort,
+    secy: &Secy,
+    channel: (u64, u64),
+    association: Option<(u64, u64)>,
+    removed: (u64, u64),
+) {
+    let sci = SENDER.sci;
+    assert_eq!(rt; passed_and_late(secy.rx_counters(sci)), Some(channel));
+    assert_eq!(rt;
+        passed_and_late(secy.rx_sa_counters(sci, an(rt, 2))),
+        association
+    );
+    assert_eq!(rt; passed_and_late(secy.rx_removed(sci)), Some(removed));
+}
+
+/// What a deleted association had counted stays with its channel, and a new one of its number begins at 0.
+#[test]
+fn counters_of_deleted_associations(rt: HostRuntime) {
+    let mut secy = receiver(&rt, rt.alloc());
+    let sci = SENDER.sci;
+    let two = an(&rt, 2);
+    let passed = (Verdict::Passed, OF_2, Some(&CLIENT_60[..]));
+    assert_received(&rt, &mut secy, &LINK_60, passed);
+    assert_received(&rt, &mut secy, &LINK_54, (Verdict::Late, OF_2, None));
+    assert_counted(&rt, &secy, (1, 1), Some((1, 1)), (0, 0));
+    carry_out(&rt, &mut secy, &Command::RxDel(sci, two));
+    assert_counted(&rt, &secy, (1, 1), None, (1, 1));
+    let again = Command::RxSa {
+        sci,
+        an: two,
+        key: 5,
+        ssci: 1,
+        lowest: EXTENDED_NUMBER,
+    };
+    carry_out(&rt, &mut secy, &again);
+    carry_out(&rt, &mut secy, &Command::RxOn(sci, two));
+    assert_counted(&rt, &secy, (1, 1), Some((0, 0)), (1, 1));
+    assert_received(&rt, &mut secy, &LINK_60, passed);
+    assert_counted(&rt, &secy, (2, 1), Some((1, 0)), (1, 1));
+    carry_out(&rt, &mut secy, &Command::RxScDel(sci));
+    assert!(&rt; secy.rx_removed(sci).is_none());
+    carry_out(&rt, &mut secy, &Command::RxSc(sci));
+    assert_counted(&rt, &secy, (0, 0), None, (0, 0));
 }

@@ -59,12 +59,12 @@ const OF_VALIDATION: [Device; 4] = [
         Place::Text,
         "script",
         "Write",
-        &[(8, 0), (7, 2), (7, 3), (180, 4)],
+        &[(8, 0), (7, 2), (7, 3), (282, 4)],
     ),
 ];
 
-/// So many calls of a device are made to fail: all but those for the counters of the channel, at the end of a
-/// validation.
+/// So many calls of a device are made to fail: all but those for the counters of the channel and of its association, at
+/// the end of a validation.
 const CHECKED_CALLS: usize = 112;
 
 /// What a run answers, how often its device was called, before it failed or ended and after, and what was written: to
