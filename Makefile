@@ -1,6 +1,7 @@
 # make try           builds the program before any proof, in about a minute, and runs it on the tour
 # make               proves and builds the program, build/macsec
 # make run           does the same, and runs it on the tour
+# make install       copies the program and its manual page to PREFIX, /usr/local if nothing else is said, under DESTDIR
 # make check         the gate
 # make bench         measures the cipher, frames, scripts and a full link
 # make search        looks for counter-examples to what is promised of two ends and their link
@@ -11,14 +12,15 @@
 # make kept-frames   sees that callers which keep a frame over the next call are refused
 # make lanes-used    sees that the cipher is built of its lanes, powers and pieces
 # make clean         removes build/
-# fuzz, failures, stored-runs and peer prove and build the program first.
+# install, fuzz, failures, stored-runs and peer prove and build the program first.
 RT := $(shell command -v rt 2>/dev/null)
 SOURCES := crates.txt $(shell find crates -name out -prune -o -type f \( -name '*.rt' -o -name '*.antt' \) -print)
 INPUTS := 100000
 GATE_INPUTS := 2000
 SEED := 1
+PREFIX ?= /usr/local
 
-.PHONY: all try run check bench search fuzz failures stored-runs peer kept-frames lanes-used toolchain clean
+.PHONY: all try run install check bench search fuzz failures stored-runs peer kept-frames lanes-used toolchain clean
 
 all: build/macsec
 
@@ -28,6 +30,11 @@ try: toolchain
 
 run: build/macsec
 	@build/macsec run - < crates/macsec_examples/data/tour.macsec
+
+install: build/macsec
+	install -d "$(DESTDIR)$(PREFIX)/bin" "$(DESTDIR)$(PREFIX)/share/man/man1"
+	install -m 755 build/macsec "$(DESTDIR)$(PREFIX)/bin/macsec"
+	install -m 644 man/macsec.1 "$(DESTDIR)$(PREFIX)/share/man/man1/macsec.1"
 
 # Every proof from nothing, the must-fail edits, the tests and the programs, and beside them, on processors that wait,
 # what needs no proof; then the program that was proved, as both compilers built it.
