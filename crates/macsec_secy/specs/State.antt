@@ -16,7 +16,7 @@ use Rattle.macsec_secy.specs.declared.counters.ChannelCounters.{ChannelCounters}
 
 -- the configuration; the options; the keys, in the order of their installation; the transmit associations, in the order
 -- of their creation; the receive channels with their associations; the counters of the endpoint, of its transmit
--- channel, and of each receive channel
+-- channel, and of each receive channel with its associations
 pub record State : Type 0 where
   pub config : EndConfig
   pub options : Options
