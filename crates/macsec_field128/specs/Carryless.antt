@@ -17,7 +17,7 @@ residue z = sum_below 255 (λ i. bit_at z (254 - i) * iterate times_x i (2 ^ 127
 abbrev pub CarrylessAddsInFirst : Type 0
 CarrylessAddsInFirst = (a b c : ℕ) → carryless (bit_xor a b) c ≡ bit_xor (carryless a c) (carryless b c)
 
--- and in its second
+-- the product without carries keeps sums in its second factor
 abbrev pub CarrylessAddsInSecond : Type 0
 CarrylessAddsInSecond = (a b c : ℕ) → carryless a (bit_xor b c) ≡ bit_xor (carryless a b) (carryless a c)
 
@@ -29,7 +29,7 @@ CarrylessOfOne = (b : ℕ) → carryless 1 b ≡ b
 abbrev pub CarrylessMovesWithFirst : Type 0
 CarrylessMovesWithFirst = (m k a b : ℕ) → m + k ≤ 128 → a < 2 ^ m → carryless (a * 2 ^ k) b ≡ carryless a b * 2 ^ k
 
--- and with the second
+-- the product without carries moves with its second factor
 abbrev pub CarrylessMovesWithSecond : Type 0
 CarrylessMovesWithSecond = (k a b : ℕ) → carryless a (b * 2 ^ k) ≡ carryless a b * 2 ^ k
 

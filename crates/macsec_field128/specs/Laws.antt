@@ -6,7 +6,7 @@ use Rattle.macsec_field128.specs.Field.{block_product}
 abbrev pub AddsInFirst : Type 0
 AddsInFirst = (a b c : ℕ) → block_product (bit_xor a b) c ≡ bit_xor (block_product a c) (block_product b c)
 
--- and in its second
+-- the product of blocks keeps sums in its second factor
 abbrev pub AddsInSecond : Type 0
 AddsInSecond = (a b c : ℕ) → block_product a (bit_xor b c) ≡ bit_xor (block_product a b) (block_product a c)
 

@@ -1,4 +1,12 @@
 //! The field of 2^128 elements in which GCM hashes (SP 800-38D, 6.3).
+//!
+//! Proved: `add` is the bitwise xor, and `times_x` the shift with reduction. `mul` is the sum, over the bits set in the
+//! first block, of the second one multiplied by x as often as the bit's position from the left says. `residue` is the
+//! element that a polynomial of 255 coefficients is.
+//!
+//! Laws of these definitions (`laws`): the product keeps sums in both places, and is a block of 128 bits; that of three
+//! blocks does not depend on which two are multiplied first; that of two blocks is the residue of their product without
+//! carries; products without carries and residues keep sums.
 #![tactic(auto)]
 
 ghost use Rattle.std.specs.Prelude.{◌≡◌, ◌+◌, ◌*◌, ◌^◌, bit_xor};
@@ -6,8 +14,6 @@ ghost use Rattle.macsec_field128.specs.Carryless.{residue};
 ghost use Rattle.macsec_field128.specs.Field.{block_product, times_x};
 
 pub mod laws;
-#[cfg(test)]
-mod tests;
 
 /// An element of the field. Its leftmost bit is the most significant one.
 #[derive(Clone, Copy, PartialEq, Eq)]

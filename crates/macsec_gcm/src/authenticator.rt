@@ -58,7 +58,7 @@ impl Authenticator {
         self.ciphertext_len = self.ciphertext_len.saturating_add(piece.len() as u64);
     }
 
-    /// The tag.
+    /// The authentication tag of all that was taken in.
     pub fn tag(&self) -> [u8; 16]
         ensures { (key j0 aad text : List ℕ) → HasAuthenticated self.now key j0 aad text
             → length aad ≤ max_aad_len → length text ≤ max_plaintext_len

@@ -23,7 +23,7 @@ fn write_sixteen(schedule: &Schedule, first: [u8; 16], octets: &mut [u8]) -> [u8
     next
 }
 
-/// Writes that of eight counter blocks.
+/// Writes the key stream of eight counter blocks, from `first` on, and returns the counter block after them.
 fn write_eight(schedule: &Schedule, first: [u8; 16], octets: &mut [u8]) -> [u8; 16]
     requires { length octets.old ≡ 128 }
     ensures stream { (k : ℕ) → k < 128 → slice_index octets.new k ≡ key_stream schedule.now first k }

@@ -1,4 +1,20 @@
 //! AES-GCM with IVs of 96 bits and tags of 128 bits (SP 800-38D).
+//!
+//! Proved, of texts of at most 68,719,476,704 octets with at most 2^61 - 1 octets of additional data (both are
+//! conditions on the caller): `GcmKey::seal` is authenticated encryption, ciphertext and tag. `GcmKey::open` returns
+//! true exactly when some plaintext seals to the ciphertext and the tag, and then that plaintext has replaced the
+//! ciphertext; when it returns false, the text is unchanged. Contracts see a `GcmKey` as its key's octets, so none of
+//! another key can stand in its place. By the laws (`laws`) key, IV, additional data and ciphertext determine the
+//! plaintext. `inc32` adds one to the last four octets modulo 2^32, and leaves the first twelve.
+//!
+//! Proved, of texts in pieces (`specs/Pieces.antt`): if a sealer has taken in the text T, then after a call with the
+//! piece P it has taken in T followed by P. `Sealer::data` leaves the next octets of the ciphertext, and
+//! `Sealer::finish` gives the tag of all pieces. `Opener::finish` gives an `Unlocked` exactly where the joined pieces
+//! open, and `check` changes none. `Unlocked::data` leaves the next octets of the plaintext, where the pieces joined
+//! are those that were checked. The lengths are conditions of what `finish` gives. Of additional data that come after
+//! an octet of the text no clause says what the tag is.
+//!
+//! No contract speaks of time, nor says that lanes are used.
 #![tactic(auto)]
 
 ghost use Rattle.std.specs.Prelude.{◌≡◌, ◌≤◌, ℕ, List, length, if◌then◌else◌};
@@ -17,8 +33,6 @@ mod hash;
 mod key_stream;
 pub mod laws;
 mod pieces;
-#[cfg(test)]
-mod tests;
 
 pub use counter_blocks::inc32;
 pub use pieces::{Opener, Sealer, Unlocked};
@@ -79,7 +93,7 @@ impl GcmKey {
         ensures refused { OnFalse result
             ((p : List ℕ) → seal_of self.now iv.now aad.now p ≡ (text.old, tag.now) → ⊥) }
         ensures unchanged { OnFalse result (text.new ≡ text.old) }
-        // The same as one function, for the layers above.
+        // Both cases, said by the one function that opens, for the layers above.
         ensures gives { open_of self.now iv.now aad.now text.old tag.now
             ≡ (if result then Some text.new else None) }
     {

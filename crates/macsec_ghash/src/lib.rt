@@ -1,4 +1,11 @@
 //! GHASH, the hash of GCM (SP 800-38D, 6.4).
+//!
+//! Proved: for `PlainHash` and `LaneHash`, and for whatever else meets the interface `Hash128`, and for every list of
+//! absorbed pieces, `value` is GHASH of the pieces' blocks in order, each piece padded with zeros to whole blocks. Both
+//! meet the one contract of `Hash128`, so they return the same. Laws (`laws`) state GHASH by its steps, and that of
+//! several blocks at once as a sum of products with powers of the key.
+//!
+//! No contract speaks of time, nor says that lanes are used.
 #![tactic(auto)]
 
 ghost use Rattle.std.specs.Prelude.{◌≡◌, ◌≤◌, ℕ, List, [], ◌++◌, length};
@@ -9,8 +16,6 @@ use macsec_field128::{Block, add, mul};
 mod lane_hash;
 mod lanes;
 pub mod laws;
-#[cfg(test)]
-mod tests;
 
 pub use lane_hash::LaneHash;
 

@@ -1,11 +1,15 @@
 //! Packet numbers (IEEE 802.1AE, 10.5 and 10.6).
+//!
+//! Proved: `TxNumbers::take` returns the next packet number and adds one to it, or, if all up to the last are used,
+//! returns none and changes nothing. Of `RxNumbers`: when a number is late; what accepting, raising and narrowing make
+//! of the numbers (raising is to one that is not below the lowest acceptable: a condition on the caller); and which
+//! number a frame has. That is the PN of its SecTAG, or, if packet numbers are extended, the one that the rule of
+//! recovery gives (`recovered_number`), or none. So every number from 1 to 2^64 - 1 that is the lowest acceptable one
+//! or less than 2^31 above it is recovered from its lower half.
 #![tactic(auto)]
 
 ghost use Rattle.std.specs.Prelude.{◌≡◌, ◌+◌, ◌%◌, ◌^◌, ◌<◌, ◌≤◌, ℕ, true, IfNone, OnSome, Some, SomeIff};
 ghost use Rattle.macsec_pn.specs.Numbers.{accept, is_late, narrow, raise, recovered_number};
-
-#[cfg(test)]
-mod tests;
 
 /// The packet number that a transmit association uses next (10.5.2).
 #[derive(Clone, Copy, PartialEq, Eq, Debug)]

@@ -1,6 +1,7 @@
 //! GHASH by two test cases of the GCM specification, and in lanes as block by block.
 
-use super::*;
+use macsec_field128::Block;
+use macsec_ghash::{Hash128, LaneHash, PlainHash};
 
 const SUBKEY: Block = Block(0x66e9_4bd4_ef8a_2c3b_884c_fa59_ca34_2b2e);
 

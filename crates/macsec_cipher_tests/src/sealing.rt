@@ -3,9 +3,10 @@
 
 ghost use Rattle.std.specs.Prelude.{◌≤◌, length};
 
-use super::*;
-use crate::counter_blocks::pre_counter_block;
-use macsec_ghash::PlainHash;
+use macsec_aes::{Key, Schedule, encrypt};
+use macsec_field128::Block;
+use macsec_gcm::{GcmKey, Opener, Sealer, inc32};
+use macsec_ghash::{Hash128, PlainHash};
 
 fn tag_of_nothing(key: Key) -> [u8; 16] {
     GcmKey::new(key).seal(&[0; 12], &[], &mut [])
@@ -115,7 +116,9 @@ fn inc32_wraps(rt: HostRuntime) {
 /// Seals block by block, without lanes.
 fn seal_by_blocks(key: &Key, iv: &[u8; 12], aad: &[u8], text: &mut [u8]) -> [u8; 16] {
     let schedule = Schedule::expand(key);
-    let j0 = pre_counter_block(iv);
+    let mut j0 = [0; 16];
+    j0[..12].copy_from_slice(iv);
+    j0[15] = 1;
     let mut counter = j0;
     for piece in text.chunks_mut(16) {
         let next = inc32(counter);

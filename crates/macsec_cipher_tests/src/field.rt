@@ -1,6 +1,6 @@
 //! Sums and products of blocks, one of which is that of a test case of the GCM specification.
 
-use super::*;
+use macsec_field128::{Block, add, mul, residue, times_x};
 
 const ONE: Block = Block(1 << 127);
 
