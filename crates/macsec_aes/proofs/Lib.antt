@@ -3,3 +3,4 @@ pub mod States
 pub mod Expansion
 pub mod Products
 pub mod Inverses
+pub mod SBox

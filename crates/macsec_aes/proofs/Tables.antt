@@ -3,16 +3,8 @@ use Rattle.std.proofs.Common.{sym, ◌*◌, ◌/◌, ◌%◌, ◌^◌, bit_xor, 
 use Rattle.std.proofs.lemmas.List.FromFn.{get_or-map-range_with_len}
 use Rattle.std.specs.Fn.{iterate}
 use Rattle.std.specs.List.{range_with_len}
-use Rattle.macsec_aes.specs.declared.TheConstants.{ROUND_CONSTANTS, S_BOX}
-use Rattle.macsec_aes.specs.Field.{polynomial_product, remainder, sum_below, s_box, affine_transformation, inverse, byte_product}
-
-pub S_BOX_lem : S_BOX ≡ map s_box (range_with_len 0 256)
-unfolding s_box affine_transformation inverse byte_product polynomial_product remainder sum_below
-S_BOX_lem = refl
-
-pub S_BOX_at : (a : ℕ) → a < 256 → get_or S_BOX a 0 ≡ s_box a
-S_BOX_at a lt = ap (λ (t : List ℕ). get_or t a 0) S_BOX_lem
-    ∙ get_or-map-range_with_len s_box 0 256 a a 0 lt (search rules)
+use Rattle.macsec_aes.specs.declared.TheConstants.{ROUND_CONSTANTS}
+use Rattle.macsec_aes.specs.Field.{polynomial_product, remainder, sum_below, byte_product}
 
 -- two functions that agree on a table agree below its length
 pub same_below : (f g : ℕ → ℕ) (n : ℕ) → map f (range_with_len 0 n) ≡ map g (range_with_len 0 n) → (a : ℕ) → a < n → f a ≡ g a

@@ -1,4 +1,11 @@
 //! AES, the block cipher of FIPS 197, for keys of 128 and 256 bits, one block of 16 bytes at a time.
+//!
+//! Proved: `encrypt` after `Schedule::expand` is AES of FIPS 197, for both lengths of keys and every block. Contracts
+//! see a `Schedule` as its key's bytes, so no schedule of another key can stand in its place. `sub` is the S-box: the
+//! affine transformation of the inverse, which is the byte whose product with the given one is 1 (0 for 0). The law
+//! `laws::one_inverse` says that each byte but 0 has exactly one such byte.
+//!
+//! No contract speaks of time. `encrypt` and `Schedule::expand` look the S-box up in a table.
 #![tactic(auto)]
 
 ghost use Rattle.std.specs.Prelude.{◌≡◌, ◌+◌, ◌*◌, ◌/◌, ◌%◌, ◌<◌, ◌≤◌, ◌⊎◌, length, bit_xor, slice_index};
@@ -10,8 +17,6 @@ use std::array;
 use std::marker::Model;
 
 pub mod laws;
-#[cfg(test)]
-mod tests;
 
 /// A key of 128 or 256 bits: its 16 or 32 bytes, in the order of FIPS 197, 3.3.
 #[derive(Clone, Copy, PartialEq, Eq)]

@@ -21,13 +21,6 @@ below_eight P p0 p1 p2 p3 p4 p5 p6 p7 k h =
     subst P place (below_two (λ q. (r : ℕ) → r < 4 → P (4 * q + r))
     (below_four _ p0 p1 p2 p3) (below_four _ p4 p5 p6 p7) (k / 4) (omega arith) (k % 4) (omega arith))
 
-pub below_sixteen : (P : ℕ → Type 0) → P 0 → P 1 → P 2 → P 3 → P 4 → P 5 → P 6 → P 7
-    → P 8 → P 9 → P 10 → P 11 → P 12 → P 13 → P 14 → P 15 → (k : ℕ) → k < 16 → P k
-below_sixteen P p0 p1 p2 p3 p4 p5 p6 p7 p8 p9 p10 p11 p12 p13 p14 p15 k h =
-    let place : 8 * (k / 8) + k % 8 ≡ k = omega arith in
-    subst P place (below_two (λ q. (r : ℕ) → r < 8 → P (8 * q + r))
-    (below_eight _ p0 p1 p2 p3 p4 p5 p6 p7) (below_eight _ p8 p9 p10 p11 p12 p13 p14 p15) (k / 8) (omega arith) (k % 8) (omega arith))
-
 -- two functions that agree on a table agree below its length
 pub same_below : (f g : ℕ → ℕ) (n : ℕ) → map f (range_with_len 0 n) ≡ map g (range_with_len 0 n) → (a : ℕ) → a < n → f a ≡ g a
 same_below f g n e a lt =

@@ -1,8 +1,9 @@
 -- The circuit of the S-box, and that each part of it computes what its definition says, by computation over all of its
 -- inputs: nibbles, or what the part before it computes of each byte.
-use Rattle.std.proofs.Common.{◌≡◌, List, [], ◌∷◌, ◌++◌, map, refl}
+use Rattle.std.proofs.Common.{◌≡◌, List, [], ◌∷◌, ◌++◌, map, refl, ◌∙◌}
 use Rattle.std.specs.List.{range_with_len}
-use Rattle.macsec_aes.specs.Field.{sum_below, polynomial_product, remainder, byte_product, inverse, affine_transformation, s_box}
+use Rattle.macsec_aes.specs.Field.{sum_below, polynomial_product, remainder, byte_product, s_box}
+use Rattle.macsec_aes.proofs.SBox.{S_BOX_lem}
 use Rattle.macsec_aes_lanes.specs.Planes.{number}
 use Rattle.macsec_aes_lanes.specs.Tower.{linear, element_of_nibble, nibble_of_element, square, norm, nibble_inverse, sums, factors, products}
 use Rattle.macsec_aes_lanes.proofs.Gates.{Gate, Input, Add, And, Ones, bits_of, table, table_from}
@@ -159,5 +160,5 @@ gates_of_affine_of_products =
     r7 ∷ r6 ∷ r5 ∷ r4 ∷ r3 ∷ r2 ∷ r1 ∷ r0 ∷ []
 
 pub computes_affine : table_from (λ x. bits_of 18 (products x)) gates_of_affine_of_products ≡ map s_box (range_with_len 0 256)
-unfolding number products sums factors linear sum_below s_box affine_transformation norm square nibble_of_element byte_product polynomial_product remainder nibble_inverse element_of_nibble inverse
-computes_affine = refl
+unfolding number products sums factors linear sum_below norm square nibble_of_element byte_product polynomial_product remainder nibble_inverse element_of_nibble
+computes_affine = refl ∙ S_BOX_lem

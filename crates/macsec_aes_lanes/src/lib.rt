@@ -1,4 +1,9 @@
 //! AES, the block cipher of FIPS 197, on eight or sixteen blocks at a time, in lanes of vectors and with no table.
+//!
+//! Proved: `encrypt8` and `encrypt16` put AES of it in the place of each of eight and of sixteen blocks, under the key
+//! of a schedule: AES as `macsec_aes` defines it and its `encrypt` computes it.
+//!
+//! No contract speaks of time. The code looks no table up, though the schedule that it is given was made with one.
 #![tactic(auto)]
 
 ghost use Rattle.std.specs.Prelude.{◌≡◌, ℕ, ◌<◌, [], length, map, slice_index_or};
@@ -9,8 +14,6 @@ use macsec_aes::Schedule;
 mod lanes;
 mod planes;
 mod state;
-#[cfg(test)]
-mod tests;
 mod tower;
 
 use state::{add_round_key, blocks_of, mix_columns, shift_rows, states_of, sub_bytes};
@@ -34,17 +37,12 @@ pub fn encrypt8(schedule: &Schedule, blocks: &mut [[u8; 16]; 8])
 pub fn encrypt16(schedule: &Schedule, blocks: &mut [[u8; 16]; 16])
     ensures { blocks.new ≡ map (aes schedule.now) blocks.old }
 {
-    let mut first = [
-        blocks[0], blocks[1], blocks[2], blocks[3], blocks[4], blocks[5], blocks[6], blocks[7],
-    ];
-    let mut second = [
-        blocks[8], blocks[9], blocks[10], blocks[11], blocks[12], blocks[13], blocks[14],
-        blocks[15],
-    ];
+    let mut first = [[0; 16]; 8];
+    let mut second = [[0; 16]; 8];
+    first.copy_from_slice(&blocks[..8]);
+    second.copy_from_slice(&blocks[8..]);
     encrypt8(schedule, &mut first);
     encrypt8(schedule, &mut second);
-    *blocks = [
-        first[0], first[1], first[2], first[3], first[4], first[5], first[6], first[7], second[0],
-        second[1], second[2], second[3], second[4], second[5], second[6], second[7],
-    ];
+    blocks[..8].copy_from_slice(&first);
+    blocks[8..].copy_from_slice(&second);
 }

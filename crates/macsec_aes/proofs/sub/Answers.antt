@@ -1,5 +1,5 @@
 use Rattle.std.proofs.Common.{arith}
-use Rattle.macsec_aes.proofs.Tables.{S_BOX_at}
+use Rattle.macsec_aes.proofs.SBox.{S_BOX_at}
 use Rattle.macsec_aes.proofs.sub.Goals as goal
 
 pub returns : goal.returns
