@@ -185,6 +185,11 @@ tagged_by frame octets h =
 
 -- ---- the parts that the code cuts
 
+-- the tag at its position with a packet number and an SCI that are those there
+pub tag_cut : (frame : List ℕ) (pn : ℕ) (sci : Option Sci) → pn ≡ (sec_tag_at frame).pn → sci ≡ (sec_tag_at frame).sci →
+    record { es = has_bit es_bit frame; scb = has_bit scb_bit frame; e = has_bit e_bit frame; c = has_bit c_bit frame; an = bit_and (slice_index frame 14) 3; sl = slice_index frame 15; pn = pn; sci = sci } ≡ sec_tag_at frame
+tag_cut frame pn sci e_pn e_sci = rw (e_pn, e_sci) refl
+
 -- the addresses cut from the first twelve octets
 front_twelve : (frame : List ℕ) → 20 ≤ length frame → (take 6 (take 12 frame) ≡ take 6 frame) × (drop 6 (take 12 frame) ≡ take 6 (drop 6 frame))
 front_twelve frame long =

@@ -1,7 +1,7 @@
 -- How a frame reads by the table, and how by the grammar: the same.
-use Rattle.std.proofs.Common.{◌≡◌, ℕ, ◌+◌, ◌≤◌, Bool, true, false, not, ◌&&◌, ◌||◌, List, length, refl, arith, ap, sym, subst, ◌∙◌}
+use Rattle.std.proofs.Common.{◌≡◌, ℕ, ◌+◌, ◌<◌, ◌≤◌, Bool, true, false, not, ◌&&◌, ◌||◌, List, length, refl, arith, ap, sym, subst, ◌∙◌}
 use Rattle.std.specs.Prelude.{slice_index, nat_lt, nat_le, if◌then◌else◌, ◌↔◌, Option, Some, None}
-use Rattle.std.proofs.lemmas.Bool.{ltb-false, leb-false, le-ltb, lt-leb}
+use Rattle.std.proofs.lemmas.Bool.{ltb-false, leb-false, le-ltb, lt-leb, lt-ltb}
 use Rattle.std.proofs.lemmas.Bool.Decides.{nat_tests}
 use Rattle.macsec_tag.specs.declared.fault.TagFault.{TagFault}
 use Rattle.macsec_tag.specs.declared.fault.TagFault.TheVariants.{Cut, Version, SciBits, ShortBits, Length}
@@ -67,7 +67,7 @@ bits_by true true scb h = cc
 bits_by false es scb h = (λ e. cc, λ e. cc)
 
 -- a frame with the EtherType and no fault passes the tests
-stands_without_fault : (frame : List ℕ) → has_macsec_ethertype frame ≡ true → tag_fault frame ≡ None → StandsAsTagged frame
+pub stands_without_fault : (frame : List ℕ) → has_macsec_ethertype frame ≡ true → tag_fault frame ≡ None → StandsAsTagged frame
 stands_without_fault frame ethertype h =
     let n = length frame in
     let sc = has_bit sc_bit frame in
@@ -105,6 +105,14 @@ reads_untagged frame = (
   λ u. rw (le-ltb (length frame) 14 u.long, u.ethertype) refl,
 )
 
+-- a frame that is too short reads as cut
+pub reads_short : (frame : List ℕ) → length frame < 14 → bad Cut ≡ reading frame
+reads_short frame short = rw (lt-ltb (length frame) 14 short) refl
+
+-- a frame with the EtherType reads as its first fault, or as tagged
+pub reads_with : (frame : List ℕ) → 14 ≤ length frame → has_macsec_ethertype frame ≡ true → (found : Option TagFault) → found ≡ tag_fault frame → reading_with frame found ≡ reading frame
+reads_with frame long ethertype found same = rw (le-ltb (length frame) 14 long, ethertype) (ap (reading_with frame) same)
+
 -- ---- by the grammar
 
 -- the parts concatenated are read again
@@ -136,8 +144,13 @@ reads_by_grammar frame octets = record {
   is_untagged = reads_untagged frame;
 }
 
--- so does a result that is the table's
-pub answered_by : (frame : List ℕ) (answer : Reading) → AreOctets frame → answer ≡ reading frame → (p : MpduParts) → (answer ≡ tagged p) ↔ IsTagged frame p
-answered_by frame answer octets same p =
+-- so does an answer that is the table's
+pub answered_tagged_by : (frame : List ℕ) (answer : Reading) → AreOctets frame → answer ≡ reading frame → (p : MpduParts) → (answer ≡ tagged p) ↔ IsTagged frame p
+answered_tagged_by frame answer octets same p =
     let law = (reads_by_grammar frame octets).is_tagged p in
+    (λ h. law.0 (sym same ∙ h), λ h. same ∙ law.1 h)
+
+pub answered_untagged_by : (frame : List ℕ) (answer : Reading) → answer ≡ reading frame → (answer ≡ untagged) ↔ IsUntagged frame
+answered_untagged_by frame answer same =
+    let law = reads_untagged frame in
     (λ h. law.0 (sym same ∙ h), λ h. same ∙ law.1 h)

@@ -1,6 +1,6 @@
 //! Reading a frame, by the positions of its octets.
 
-ghost use Rattle.std.specs.Prelude.{◌≡◌, ◌≤◌, ◌+◌, ◌↔◌, length, true, IfNone};
+ghost use Rattle.std.specs.Prelude.{◌≡◌, ◌≤◌, ◌+◌, ◌↔◌, length, true};
 ghost use Rattle.macsec_tag.specs.Frame.{MpduParts, IsTagged, IsUntagged, has_macsec_ethertype};
 ghost use Rattle.macsec_tag.specs.Table.{reading, untagged, tagged, tag_fault, sec_tag_at, parts_at, tag_length_at, after_tag, data_length_at, has_wrong_length};
 ghost use Rattle.macsec_tag.specs.Standing.{StandsAsTagged};
@@ -20,10 +20,17 @@ pub fn read(frame: &[u8]) -> Read<'_>
     // In any other case the fault is the first one of the table.
     ensures table { reading_of result ≡ reading frame.now }
 {
+    read_by_positions(frame)
+}
+
+/// Reads a frame as the table says.
+fn read_by_positions(frame: &[u8]) -> Read<'_>
+    ensures { reading_of result ≡ reading frame.now }
+{
     if frame.len() < MIN_FRAME_LEN {
         return Read::Bad(TagFault::Cut);
     }
-    if BigEndian::read_u16(&frame[ADDRESSES_LENGTH..]) != MACSEC_ETHERTYPE {
+    if !has_macsec_ethertype(frame) {
         return Read::Untagged;
     }
     match fault_of(frame) {
@@ -32,11 +39,18 @@ pub fn read(frame: &[u8]) -> Read<'_>
     }
 }
 
+/// Does the MACsec EtherType follow the addresses?
+fn has_macsec_ethertype(frame: &[u8]) -> bool
+    requires { 14 ≤ length frame.now }
+    ensures { result ≡ has_macsec_ethertype frame.now }
+{
+    BigEndian::read_u16(&frame[ADDRESSES_LENGTH..]) == MACSEC_ETHERTYPE
+}
+
 /// The first fault of a frame with the MACsec EtherType.
 fn fault_of(frame: &[u8]) -> Option<TagFault>
     requires { has_macsec_ethertype frame.now ≡ true }
-    ensures fault { result ≡ tag_fault frame.now }
-    ensures none { IfNone result (StandsAsTagged frame.now) }
+    ensures { result ≡ tag_fault frame.now }
 {
     if frame.len() < SCI_PLACE {
         return Some(TagFault::Cut);
@@ -144,7 +158,7 @@ fn sec_tag(frame: &[u8]) -> SecTag
         c: tci & C_BIT != 0,
         an: An(tci & 3),
         sl: frame[SL_PLACE],
-        pn: BigEndian::read_u32(&frame[PN_PLACE..]),
+        pn: BigEndian::read_u32(&frame[PN_PLACE..SCI_PLACE]),
         sci: sci(frame),
     }
 }

@@ -23,7 +23,7 @@ pub(crate) const E_BIT: u8 = 0x08;
 pub(crate) const C_BIT: u8 = 0x04;
 
 /// A SecTAG (9.3). Contracts see it as the record of its fields.
-#[derive(Clone, Copy, PartialEq, Eq, Debug)]
+#[derive(Clone, Copy)]
 pub struct SecTag {
     pub(crate) es: bool,
     pub(crate) scb: bool,
