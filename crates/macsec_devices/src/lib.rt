@@ -1,4 +1,7 @@
 //! Readers and writers over memory that fail when they are told to, for tests of those that read and write.
+//!
+//! Proved: which calls of a device fail (`Fails::fails_at`): of a reader these and no others, of a writer these and
+//! perhaps others for want of memory; which octets a device has left, or has; what it shows.
 #![tactic(auto)]
 
 mod reader;
@@ -13,11 +16,11 @@ pub use writer::FailingWriter;
 /// Which calls of a device fail. Calls are numbered from 0.
 #[derive(Clone, Copy, Debug)]
 pub enum Fails {
-    /// None.
+    /// No call fails.
     Never,
-    /// The one of this number, and no other.
+    /// The call of this number fails, and no other.
     At(usize),
-    /// Those from this number on.
+    /// The calls from this number on fail.
     From(usize),
 }
 

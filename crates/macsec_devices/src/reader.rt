@@ -75,9 +75,7 @@ impl Read for FailingReader<'_> {
         let count = self.rest.len().min(buf.len()).min(self.piece.max(1));
         buf[..count].copy_from_slice(&self.rest[..count]);
         self.rest = &self.rest[count..];
-        if count == 0 {
-            self.has_ended = true;
-        }
+        self.has_ended |= count == 0;
         Ok(count)
     }
 }

@@ -131,3 +131,18 @@ pub steps_fault : (now : Reading) (form : Form) (course : Course) (places : ℕ)
 steps_fault now form course places old new room fault is same taken =
     subst (λ r. Steps r (Err fault) (standing form (Failed fault) places new)) (going now form course places old is same)
     (record { resolution = refl; places = refl; ahead = refl }, answers_fault form.order places old new room fault taken)
+
+-- the call on a reader that has returned the end, or a fault
+pub steps_ended : (now : Reading) (form : Form) (course : Course) (places : ℕ) (octets : Option (List ℕ)) →
+    course ≡ Ended → standing form course places octets ≡ now → Steps now (Ok None) (standing form course places octets)
+steps_ended now form course places octets is same =
+    subst (λ r. Steps r (Ok None) (standing form course places octets)) same
+    (subst (λ c. Steps (standing form c places octets) (Ok None) (standing form c places octets)) (sym is)
+    (record { resolution = refl; places = refl; ahead = refl }, refl))
+
+pub steps_failed : (now : Reading) (form : Form) (course : Course) (places : ℕ) (octets : Option (List ℕ)) (fault : PcapFault) →
+    course ≡ Failed fault → standing form course places octets ≡ now → Steps now (Err fault) (standing form course places octets)
+steps_failed now form course places octets fault is same =
+    subst (λ r. Steps r (Err fault) (standing form course places octets)) same
+    (subst (λ c. Steps (standing form c places octets) (Err fault) (standing form c places octets)) (sym is)
+    (record { resolution = refl; places = refl; ahead = refl }, refl))

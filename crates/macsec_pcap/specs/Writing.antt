@@ -1,6 +1,7 @@
 -- A writer of a capture file, and what its calls return and write.
 use Rattle.std.specs.Prelude.{ℕ, ◌≡◌, ◌≤◌, ◌<◌, List, length, Option, Some, None, Result, Ok, Err}
 use Rattle.std.specs.Borrow.{MutBor}
+use Rattle.std.specs.Io.{StartsWith}
 use Rattle.std.specs.Io.KnownBytes.{Appends, Keeps}
 use Rattle.macsec_pcap.specs.declared.fault.PcapFault.{PcapFault}
 use Rattle.macsec_pcap.specs.declared.fault.PcapFault.TheVariants.{RecordLength, Write}
@@ -20,11 +21,16 @@ lent writer = writer.destination
 abbrev pub contents : {W : Type 0} → (W → Option (List ℕ)) → PcapWriter W → Option (List ℕ)
 contents held writer = held (lent writer).now
 
--- of a write of a record: nothing is written of one that is too long
+-- known octets grow by the first of these: by none, by some or by all
+abbrev pub AppendsFront : Option (List ℕ) → Option (List ℕ) → List ℕ → Type 0
+AppendsFront old new octets = (front : List ℕ) × StartsWith octets front × Appends old new front
+
+-- of a write of a record: nothing is written of one that is too long, and no other octets of one of which a write fails
 abbrev pub WritesRecord : Option (List ℕ) → Option (List ℕ) → ℕ → ℕ → List ℕ → Result (Unit {0}) PcapFault → Type 0
 WritesRecord old new seconds fraction frame (Ok done) = (length frame ≤ max_record_length) × Appends old new (record_octets seconds fraction frame)
 WritesRecord old new seconds fraction frame (Err RecordLength) = (max_record_length < length frame) × Keeps old new
-WritesRecord old new seconds fraction frame (Err fault) = (fault ≡ Write) × (length frame ≤ max_record_length)
+WritesRecord old new seconds fraction frame (Err fault) =
+    (fault ≡ Write) × (length frame ≤ max_record_length) × AppendsFront old new (record_octets seconds fraction frame)
 
 -- of `write`: a fault that was returned before is returned again, and then nothing is written
 abbrev pub Writes : Option PcapFault → Option (List ℕ) → Option (List ℕ) → ℕ → ℕ → List ℕ → Result (Unit {0}) PcapFault → Type 0

@@ -22,7 +22,7 @@ pub enum Resolution {
 }
 
 /// The order of the octets of a number.
-#[derive(Clone, Copy, PartialEq, Eq, Debug)]
+#[derive(Clone, Copy)]
 pub(crate) enum Order {
     /// The highest octet first.
     Big,

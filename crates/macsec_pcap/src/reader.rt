@@ -19,11 +19,11 @@ use std::marker::Model;
 /// How far a reader has come.
 #[derive(Clone, Copy)]
 pub(crate) enum Course {
-    /// It is at a record's place.
+    /// The reader is at a record's place.
     Going,
-    /// It has returned that the file has ended.
+    /// The reader has returned that the file has ended.
     Ended,
-    /// It has returned this fault.
+    /// The reader has returned this fault.
     Failed(PcapFault),
 }
 

@@ -19,7 +19,7 @@ pub const MAX_RECORD_LEN: usize = 262_144;
 pub const MAX_RECORDS: u32 = 16_777_216;
 
 /// A record of a capture file.
-#[derive(Clone, Copy, Debug)]
+#[derive(Clone, Copy)]
 pub struct Record<'a> {
     /// The time of the frame in whole seconds.
     pub seconds: u32,
@@ -30,9 +30,9 @@ pub struct Record<'a> {
 }
 
 /// The frame of a record.
-#[derive(Clone, Copy, Debug)]
+#[derive(Clone, Copy)]
 pub enum Body<'a> {
-    /// The frame, 0 to 262,144 octets.
+    /// The frame, of at most `MAX_RECORD_LEN` octets.
     Whole(&'a [u8]),
     /// Not all of the frame was captured.
     Partial,

@@ -1,9 +1,9 @@
 //! The writer of capture files.
 
-ghost use Rattle.std.specs.Prelude.{◌≡◌, IfErr, IfOk, MatchResult, None, Ok, Err};
+ghost use Rattle.std.specs.Prelude.{◌≡◌, IfErr, IfOk, None, OnErr, OnOk};
 ghost use Rattle.std.specs.Result.{result_err};
 ghost use Rattle.std.specs.Io.KnownBytes.{Appends};
-ghost use Rattle.macsec_pcap.specs.Writing.{Writes, WritesRecord, contents, fault_of, lent};
+ghost use Rattle.macsec_pcap.specs.Writing.{AppendsFront, Writes, WritesRecord, contents, fault_of, lent};
 ghost use Rattle.macsec_pcap.specs.Written.{header_octets, record_head};
 
 use crate::PcapFault;
@@ -11,7 +11,7 @@ use crate::form::Resolution;
 use crate::header::{ETHERNET, HEADER_LEN, VERSION};
 use crate::records::{MAX_RECORD_LEN, RECORD_HEADER_LEN};
 use byteorder::{ByteOrder, LittleEndian};
-use std::io::{self, Write};
+use std::io::{ErrorKind, Write};
 
 /// The snapshot length of a written file.
 const SNAPSHOT_LEN: u32 = 65_535;
@@ -35,15 +35,25 @@ impl<'a, W: Write> PcapWriter<'a, W> {
         ensures no_fault { IfOk result (λ writer. fault_of writer ≡ None) }
         ensures fault { IfErr result (λ fault. fault ≡ PcapFault.Write) }
     {
-        write_fault(destination.write_all(&header(resolution)))?;
-        Ok(PcapWriter {
-            destination,
-            fault: None,
-        })
+        write_header(destination, resolution)?;
+        Ok(PcapWriter::behind_header(destination))
     }
 
-    /// Writes a record of this time and frame, of at most 262,144 octets. Returns `RecordLength` for a longer one,
-    /// having written nothing, or `Write`; either is returned by each later call too, which writes nothing.
+    /// A writer of the records of a file whose header was written.
+    pub fn behind_header(destination: &'a mut W) -> PcapWriter<'a, W>
+        ensures lent { (lent result).ghost_name ≡ destination.entry.ghost_name }
+        ensures header { contents W.contents result ≡ W.contents destination.old }
+        ensures no_fault { fault_of result ≡ None }
+    {
+        PcapWriter {
+            destination,
+            fault: None,
+        }
+    }
+
+    /// Writes a record of this time and frame, of at most `MAX_RECORD_LEN` octets. Returns `RecordLength` for a longer
+    /// one, having written nothing, or `Write`, having written a front of the record at most; either is returned by each
+    /// later call too, which writes nothing.
     pub fn write(&mut self, seconds: u32, fraction: u32, frame: &[u8]) -> Result<(), PcapFault>
         ensures lent { (lent self.new).ghost_name ≡ (lent self.old).ghost_name }
         ensures written { Writes (fault_of self.old) (contents W.contents self.old) (contents W.contents self.new) seconds fraction frame.now result }
@@ -56,6 +66,15 @@ impl<'a, W: Write> PcapWriter<'a, W> {
         self.fault = written.err();
         written
     }
+}
+
+/// Writes the header of a file with times in this unit, or a front of it and returns `Write`.
+pub fn write_header<W: Write>(destination: &mut W, resolution: Resolution) -> Result<(), PcapFault>
+    ensures whole { OnOk result (Appends (W.contents destination.old) (W.contents destination.new) (header_octets resolution)) }
+    ensures fault { IfErr result (λ fault. fault ≡ PcapFault.Write) }
+    ensures cut { OnErr result (AppendsFront (W.contents destination.old) (W.contents destination.new) (header_octets resolution)) }
+{
+    write_octets(destination, &header(resolution))
 }
 
 /// Writes a record, if it isn't too long.
@@ -71,8 +90,29 @@ fn write_record<W: Write>(
         return Err(PcapFault::RecordLength);
     }
     let head = record_head(seconds, fraction, frame.len() as u32);
-    write_fault(destination.write_all(&head))?;
-    write_fault(destination.write_all(frame))
+    write_octets(destination, &head)?;
+    write_octets(destination, frame)
+}
+
+/// Writes these octets, or a front of them and returns `Write`. A write that is interrupted is tried again.
+fn write_octets<W: Write>(destination: &mut W, octets: &[u8]) -> Result<(), PcapFault>
+    ensures whole { OnOk result (Appends (W.contents destination.old) (W.contents destination.new) octets.now) }
+    ensures fault { IfErr result (λ fault. fault ≡ PcapFault.Write) }
+    ensures cut { OnErr result (AppendsFront (W.contents destination.old) (W.contents destination.new) octets.now) }
+{
+    let mut rest = octets;
+    for _ in 0..u64::MAX {
+        if rest.is_empty() {
+            return Ok(());
+        }
+        match destination.write(rest) {
+            Ok(0) => return Err(PcapFault::Write),
+            Ok(count) => rest = &rest[count..],
+            Err(error) if error.kind() == ErrorKind::Interrupted => {}
+            Err(_) => return Err(PcapFault::Write),
+        }
+    }
+    Err(PcapFault::Write)
 }
 
 /// The header of a file with times in this unit.
@@ -98,14 +138,4 @@ fn record_head(seconds: u32, fraction: u32, len: u32) -> [u8; RECORD_HEADER_LEN]
     LittleEndian::write_u32(&mut octets[8..], len);
     LittleEndian::write_u32(&mut octets[12..], len);
     octets
-}
-
-/// A write that failed, as a fault.
-fn write_fault(written: io::Result<()>) -> Result<(), PcapFault>
-    ensures { MatchResult written (λ _. result ≡ Ok tt) (λ _. result ≡ Err PcapFault.Write) }
-{
-    match written {
-        Ok(()) => Ok(()),
-        Err(_) => Err(PcapFault::Write),
-    }
 }

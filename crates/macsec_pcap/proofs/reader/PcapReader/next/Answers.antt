@@ -1,7 +1,7 @@
 use Rattle.std.proofs.Common.{◌≡◌, ◌∙◌, ap, arith, length, refl}
 use Rattle.std.proofs.lemmas.List.{take_at}
 use Rattle.macsec_pcap.specs.Answers.{record_in, shown}
-use Rattle.macsec_pcap.proofs.Ahead.{steps_end, steps_fault, steps_record}
+use Rattle.macsec_pcap.proofs.Ahead.{steps_end, steps_ended, steps_failed, steps_fault, steps_record}
 use Rattle.macsec_pcap.proofs.reader.PcapReader.next.Goals as goal
 
 pub returns-in-Ok-Some : goal.returns-in-Ok-Some
@@ -31,3 +31,18 @@ returns-in-Err g c =
     let steps = steps_fault c.args.self.now s.form s.course s.places (octets s.source) (octets c.take_record.new.source) c.take_record.new.room c.in-Err.fault
     c.in-Going.is c.self.view_is c.in-Err.ensures.taken in
     ((refl, λ x. tt, steps.0), record { after = tt; answer = steps.1 })
+
+pub returns-in-Ended : goal.returns-in-Ended
+returns-in-Ended g c =
+    let s = c.self.inside in
+    let steps = steps_ended c.args.self.now s.form s.course s.places (g.R.Read.remaining s.source) c.in-Ended.is c.self.view_is in
+    ((refl, λ x. tt, steps.0), record { after = tt; answer = steps.1 })
+
+pub returns-in-Failed : goal.returns-in-Failed
+returns-in-Failed g c =
+    let s = c.self.inside in
+    let steps = steps_failed c.args.self.now s.form s.course s.places (g.R.Read.remaining s.source) c.in-Failed.fault c.in-Failed.is c.self.view_is in
+    ((refl, λ x. tt, steps.0), record { after = tt; answer = steps.1 })
+
+pub take_record-requires : goal.take_record-requires
+take_record-requires g c = omega arith

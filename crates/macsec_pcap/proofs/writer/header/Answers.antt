@@ -1,0 +1,7 @@
+-- The numbers that are written one behind the other; this proof is here for speed.
+use Rattle.std.proofs.Common.{arith}
+use Rattle.std.proofs.lemmas.Grind.{common_steps}
+use Rattle.macsec_pcap.proofs.writer.header.Goals as goal
+
+pub returns : goal.returns
+returns c = grind (arith, common_steps)

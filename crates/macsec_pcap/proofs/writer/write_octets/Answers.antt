@@ -1,0 +1,15 @@
+use Rattle.std.proofs.Common.{◌≡◌, [], drop_of_length-le, rules}
+use Rattle.macsec_pcap.proofs.WrittenRecords.{all_written, more_written, still_written}
+use Rattle.macsec_pcap.proofs.writer.write_octets.Goals as goal
+use Rattle.macsec_pcap.proofs.writer.write_octets.Goals.{in-Ok, in-Err}
+
+pub loop-preserved : goal.loop-preserved
+loop-preserved g c = elim c.match-write.branch [
+  | in-Ok w ↦ rw w.rest-is (more_written _ _ _ _ c.loop.rest.now w.in-Ok.count c.loop.invariant w.in-Ok.ensures.bytes)
+  | in-Err w ↦ rw w.rest-is (still_written _ _ _ _ _ c.loop.invariant w.in-Err.ensures.bytes)
+]
+
+pub returns-then-is_empty-clause-whole : goal.returns-then-is_empty-clause-whole
+returns-then-is_empty-clause-whole g c =
+    let empty : c.loop.rest.now ≡ [] = drop_of_length-le c.loop.rest.now {i = 0} (search rules) in
+    all_written _ _ _ c.loop.rest.now c.loop.invariant empty
