@@ -1,13 +1,14 @@
 -- The index of a table of keys, and a change of the one row that it finds.
-use Rattle.std.proofs.Common.{◌≡◌, ℕ, ◌<◌, ◌+◌, Bool, true, false, cond, List, [], ◌∷◌, ◌++◌, map, length, zero, suc, get_or, refl, sym, ap, ◌∙◌, arith, inl, inr, subst, eq-eqb, get_or-set_other, get_or-set_same, length-append}
+use Rattle.std.proofs.Common.{◌≡◌, ℕ, ◌<◌, ◌+◌, Bool, true, false, cond, List, [], ◌∷◌, ◌++◌, map, length, zero, suc, get_or, refl, sym, ap, ◌∙◌, arith, inl, inr, subst, eq-eqb, get_or-set_other, get_or-set_same, length-append, length-set}
 use Rattle.std.specs.Prelude.{Option, Some, None, IsSome, option_map, slice_get, ◌==◌}
-use Rattle.std.proofs.Math.ListN.{set}
-use Rattle.std.proofs.lemmas.List.{length-map, map-set}
+use Rattle.std.proofs.Math.ListN.{replicate, set}
+use Rattle.std.proofs.lemmas.List.{get_or-replicate, length-map, length-replicate, map-set}
 use Rattle.std.proofs.lemmas.List.Elements.{All-set}
 use Rattle.std.proofs.lemmas.Option.{slice_get-map, slice_get_read, slice_get_within}
 use Rattle.std.proofs.lemmas.Bool.{ne_eqb, eqb-true, eqb-false}
 use Rattle.std.proofs.lemmas.Bool.Decides.{eqb_tells}
-use Rattle.macsec_suite.specs.KeyRows.{AreKeyRows, InstalledKey, IsKeyRow, at_number, key_row, max_key_count, with_key}
+use Rattle.macsec_suite.specs.KeyRows.{AreKeyRows, InstalledKey, IsKeyRow, at_number, key_row, with_key}
+use Rattle.macsec_suite.specs.KeyNumbers.{max_key_count}
 use Rattle.macsec_suite.specs.KeyTables.{HasOwnKey, IsIndex, stored_row}
 use Rattle.macsec_suite.specs.declared.key_table.StoredKey.{StoredKey}
 use Rattle.macsec_suite.proofs.KeyLemmas.{AreKeyRows-map, AreStoredKeys, cond_none, kept-at_number, number-at_number}
@@ -15,10 +16,11 @@ use Rattle.macsec_suite.proofs.KeyLemmas.{AreKeyRows-map, AreStoredKeys, cond_no
 -- ---- the index
 
 -- there is no key yet
-pub IsIndex-none : (places : List ℕ) → ((n : ℕ) → n < max_key_count → get_or places n 0 ≡ max_key_count) → IsIndex places []
+pub IsIndex-none : (places : List ℕ) → places ≡ replicate max_key_count max_key_count → IsIndex places []
 IsIndex-none places free = record {
+  covers = ap length free ∙ length-replicate max_key_count max_key_count;
   finds = λ n small. refl;
-  within = λ n small there. absurd (omega (arith, free n small));
+  within = λ n small there. absurd (omega (arith, ap (λ (all : List ℕ). get_or all n 0) free, get_or-replicate max_key_count n max_key_count 0 small));
 }
 
 -- the row of a number, among rows whose numbers a change keeps
@@ -38,6 +40,7 @@ key_row-map f same (row ∷ rows) n =
 pub IsIndex-map : (f : InstalledKey → InstalledKey) → ((row : InstalledKey) → (f row).number ≡ row.number) → (places : List ℕ) (rows : List InstalledKey) →
     IsIndex places rows → IsIndex places (map f rows)
 IsIndex-map f same places rows index = record {
+  covers = index.covers;
   finds = λ n small. key_row-map f same rows n ∙ ap (option_map f) (index.finds n small) ∙ sym (slice_get-map f rows (get_or places n 0));
   within = λ n small there. omega (arith, index.within n small there, length-map rows f);
 }
@@ -64,8 +67,9 @@ key_row-push_other (row ∷ rows) new n other = ap (λ rest. cond (row.number ==
 
 -- a key of a new number is at the end, and is found there
 pub IsIndex-push : (places : List ℕ) (rows : List InstalledKey) (new : InstalledKey) → IsIndex places rows → length rows < max_key_count →
-    new.number < length places → key_row rows new.number ≡ None → IsIndex (set places new.number (length rows)) (rows ++ new ∷ [])
+    new.number < max_key_count → key_row rows new.number ≡ None → IsIndex (set places new.number (length rows)) (rows ++ new ∷ [])
 IsIndex-push places rows new index room small free = record {
+  covers = length-set places new.number (length rows) ∙ index.covers;
   finds = λ n fits. elim (eqb_tells n new.number) [ inl same ↦ subst (λ m. key_row more m ≡ slice_get more (place m)) (sym same.1) found | inr other ↦ kept n fits other.1 ];
   within = λ n fits there. elim (eqb_tells n new.number) [ inl same ↦ subst (λ m. place m < length more) (sym same.1) last | inr other ↦ still n fits other.1 there ];
 }
@@ -77,7 +81,7 @@ IsIndex-push places rows new index room small free = record {
     place n = get_or (set places new.number (length rows)) n 0
 
     at_end : place new.number ≡ length rows
-    at_end = get_or-set_same places new.number (length rows) 0 small
+    at_end = get_or-set_same places new.number (length rows) 0 (omega (arith, small, index.covers))
 
     longer : length more ≡ length rows + 1
     longer = length-append rows (new ∷ [])

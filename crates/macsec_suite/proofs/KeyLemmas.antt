@@ -7,7 +7,8 @@ use Rattle.std.proofs.lemmas.List.Elements.{All-push}
 use Rattle.std.proofs.lemmas.Map.Steps.{length-le_from_distinct_below}
 use Rattle.std.proofs.lemmas.Bool.{ne_eqb, eqb-false}
 use Rattle.std.proofs.lemmas.Bool.Decides.{eqb_tells}
-use Rattle.macsec_suite.specs.KeyRows.{AreKeyRows, InstalledKey, IsKeyRow, at_number, is_extended, key_row, max_key_count}
+use Rattle.macsec_suite.specs.KeyRows.{AreKeyRows, InstalledKey, IsKeyRow, at_number, is_extended, key_row}
+use Rattle.macsec_suite.specs.KeyNumbers.{max_key_count}
 use Rattle.macsec_suite.specs.Refusals.{is_repeated}
 use Rattle.macsec_gcm.specs.Octets.{same_octets}
 use Rattle.macsec_suite.specs.KeyTables.{HasOwnKey, stored_row}

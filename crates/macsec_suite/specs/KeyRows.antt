@@ -5,12 +5,9 @@ use Rattle.macsec_aes.specs.Keys.{key_bytes}
 use Rattle.macsec_suite.specs.declared.key_row.NewKey.{NewKey}
 use Rattle.macsec_suite.specs.declared.suite.Suite.{Suite}
 use Rattle.macsec_suite.specs.declared.suite.Suite.TheVariants.{Gcm128}
+pub use Rattle.macsec_suite.specs.KeyNumbers.{max_key_count}
 use Rattle.macsec_suite.specs.Keys.{PreparedKey}
 use Rattle.macsec_suite.specs.Suites.{is_xpn, key_length, widest_extended_window, widest_short_window}
-
--- the most keys of an endpoint; their numbers are below this one
-abbrev pub max_key_count : ℕ
-max_key_count = 256
 
 -- a key that was installed: its number, its suite, its bytes, its salt, the endpoint's own SSCI, its confidentiality
 -- offset, its first unused packet number (1, and then one past the last that was used under it), and whether it is
@@ -91,7 +88,7 @@ is_extended row = is_xpn row.suite && not row.retired
 abbrev pub widest_beside : List InstalledKey → ℕ
 widest_beside rows = if list_any is_extended rows then widest_extended_window else widest_short_window
 
--- what holds of every key's row: its number is below 256, it has as many bytes as its suite requires, its salt has
+-- what holds of every key's row: its number is below 4,096, it has as many bytes as its suite requires, its salt has
 -- twelve octets, its SSCI 32 bits, and its first unused packet number is at least 1 and at most one past the last of 64
 -- bits
 pub record IsKeyRow (row : InstalledKey) : Type 0 where

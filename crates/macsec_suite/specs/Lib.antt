@@ -6,6 +6,7 @@ pub mod Parts
 pub mod InPlace
 pub mod Laws
 pub mod IvLaws
+pub mod KeyNumbers
 pub mod KeyRows
 pub mod CipherUses
 pub mod Refusals

@@ -9,18 +9,19 @@ ghost use Rattle.macsec_suite.specs.KeyTables.{HasOwnKey, first_unused_of, row_s
 ghost use Rattle.macsec_suite.specs.Suites.{key_length};
 ghost use Rattle.macsec_suite.specs.Refusals.{first_refusal, install_refusals, is_repeated, refusal_of, retire_refusals};
 
+use crate::key_number::MAX_KEY_COUNT;
 use crate::suite::{WIDEST_EXTENDED_WINDOW, WIDEST_SHORT_WINDOW};
 use crate::suite_key::octets_of;
-use crate::{KeyRow, NewKey, Refusal, Suite, SuiteFault, SuiteKey};
+use crate::{KeyNumber, KeyRow, NewKey, Refusal, Suite, SuiteFault, SuiteKey};
 use macsec_aes::Key;
 use std::alloc::{AllocError, Global};
 use std::marker::Model;
 
-/// The most keys of an endpoint.
-const MAX_KEY_COUNT: usize = 256;
+/// How many keys have a place.
+const PLACE_COUNT: usize = MAX_KEY_COUNT as usize;
 
-/// The index of a key that is not in the table: there are no more than 256 keys.
-const NO_PLACE: u16 = 256;
+/// The index of a key that is not in the table: there are no more keys than this.
+const NO_PLACE: u16 = MAX_KEY_COUNT;
 
 /// An installed key and the first packet number that was never used under it.
 #[derive(Drop)]
@@ -35,13 +36,14 @@ pub struct StoredKey {
 pub struct KeyTable {
     rows: Vec<StoredKey>,
     /// The index of each number's key among the rows.
-    places: [u16; 256],
+    places: Vec<u16>,
 }
 
 impl Model for KeyTable {
     ghost use Rattle.std.specs.Prelude.{◌≤◌, List, map, vec_capacity};
     ghost use Rattle.std.specs.List.{All};
-    ghost use Rattle.macsec_suite.specs.KeyRows.{AreKeyRows, InstalledKey, max_key_count};
+    ghost use Rattle.macsec_suite.specs.KeyNumbers.{max_key_count};
+    ghost use Rattle.macsec_suite.specs.KeyRows.{AreKeyRows, InstalledKey};
     ghost use Rattle.macsec_suite.specs.KeyTables.{HasOwnKey, IsIndex, stored_row};
 
     ghost Value = { List InstalledKey };
@@ -51,17 +53,17 @@ impl Model for KeyTable {
     // There is space for all the keys that an endpoint can have, their numbers are distinct, each is prepared from its
     // own bytes, and each is found by its number.
     ghost invariant = { λ t. (max_key_count ≤ vec_capacity t.rows) × AreKeyRows (map stored_row t.rows.items)
-        × All (λ s. HasOwnKey s.row) t.rows.items × IsIndex t.places (map stored_row t.rows.items) };
+        × All (λ s. HasOwnKey s.row) t.rows.items × IsIndex t.places.items (map stored_row t.rows.items) };
 }
 
 impl KeyTable {
-    /// A table without a key, with space for 256.
+    /// A table without a key, with space for 4,096.
     pub fn new(alloc: Global) -> Result<KeyTable, AllocError>
         ensures { IfOk result (λ t. t ≡ []) }
     {
         Ok(KeyTable {
-            rows: Vec::with_capacity(alloc, MAX_KEY_COUNT)?,
-            places: [NO_PLACE; 256],
+            rows: Vec::with_capacity(alloc, PLACE_COUNT)?,
+            places: vec![in alloc; NO_PLACE; PLACE_COUNT]?,
         })
     }
 
@@ -90,7 +92,10 @@ impl KeyTable {
             return Err(Refusal::Window);
         }
         self.append(KeyRow {
-            key: *key,
+            key: NewKey {
+                suite: Some(suite),
+                ..*key
+            },
             suite_key,
             retired: false,
         });
@@ -99,7 +104,7 @@ impl KeyTable {
 
     /// Retires a key: no new association may use it from then on. `in_use` says whether an association uses it. Refused
     /// with the first of `NoKey`, `KeyRetired` and `KeyInUse` that applies.
-    pub fn retire(&mut self, number: u8, in_use: bool) -> Result<(), Refusal>
+    pub fn retire(&mut self, number: KeyNumber, in_use: bool) -> Result<(), Refusal>
         ensures refusal { refusal_of result ≡ first_refusal (retire_refusals self.old number in_use) }
         ensures done { OnOk result (self.new ≡ keys_retiring self.old number) }
         ensures unchanged { OnErr result (self.new ≡ self.old) }
@@ -121,7 +126,7 @@ impl KeyTable {
     }
 
     /// The row of the key of this number; its prepared key is that of its own suite, bytes and offset.
-    pub fn key(&self, number: u8) -> Option<&KeyRow>
+    pub fn key(&self, number: KeyNumber) -> Option<&KeyRow>
         ensures row { MatchOption result (key_row self.now number ≡ None)
             (λ r. key_row self.now number ≡ Some (row_shown r.now (the_key self.now number).first_unused)) }
         ensures prepared { IfSome result (λ r. HasOwnKey r.now) }
@@ -131,7 +136,7 @@ impl KeyTable {
     }
 
     /// The first packet number that was never used under the key of this number.
-    pub fn first_unused(&self, number: u8) -> Option<u128>
+    pub fn first_unused(&self, number: KeyNumber) -> Option<u128>
         ensures { result ≡ option_map first_unused_of (key_row self.now number) }
     {
         let stored = self.stored(number)?;
@@ -162,7 +167,7 @@ impl KeyTable {
 
     /// Notes that the packet number `pn` was used under the key of this number, which is in the table. The first unused
     /// one becomes `pn` + 1, even if a greater one was noted before. So numbers are noted in rising order.
-    pub fn note_used(&mut self, number: u8, pn: u64)
+    pub fn note_used(&mut self, number: KeyNumber, pn: u64)
         requires { IsSome (key_row self.old number) }
         ensures noted { self.new ≡ keys_noting self.old number pn }
         ensures rows { AreKeyRows self.new }
@@ -173,7 +178,7 @@ impl KeyTable {
     }
 
     /// The key of this number.
-    fn stored(&self, number: u8) -> Option<&StoredKey>
+    fn stored(&self, number: KeyNumber) -> Option<&StoredKey>
         ensures row { MatchOption result (key_row self.now number ≡ None)
             (λ s. key_row self.now number ≡ Some (stored_row s.now)) }
         ensures prepared { IfSome result (λ s. HasOwnKey s.now.row) }
@@ -182,10 +187,10 @@ impl KeyTable {
     }
 
     /// The index of the key of this number among the rows; past their end if there is none.
-    fn place_of(&self, number: u8) -> usize
+    fn place_of(&self, number: KeyNumber) -> usize
         ensures { key_row self.now number ≡ slice_get self.now result }
     {
-        self.places[number as usize] as usize
+        usize::from(self.places[usize::from(number.number())])
     }
 
     /// Was a key of these bytes installed?
@@ -206,7 +211,7 @@ impl KeyTable {
         ensures added { self.new ≡ self.old ++ row_shown added 1 ∷ [] }
         ensures rows { AreKeyRows self.new }
     {
-        self.places[added.key.number as usize] = self.rows.len() as u16;
+        self.places[added.number()] = self.rows.len() as u16;
         self.rows
             .push(StoredKey {
                 row: added,

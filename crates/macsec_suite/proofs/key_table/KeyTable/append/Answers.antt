@@ -8,12 +8,13 @@ use Rattle.std.proofs.lemmas.Slice.{pushed}
 use Rattle.macsec_suite.specs.declared.key_table.StoredKey.{StoredKey}
 use Rattle.macsec_suite.proofs.KeyLemmas.{has_room, AreStoredKeys, AreStoredKeys-push}
 use Rattle.macsec_suite.proofs.KeyIndex.{IsIndex-push}
-use Rattle.macsec_suite.specs.KeyRows.{IsKeyRow, key_row, max_key_count}
+use Rattle.macsec_suite.specs.KeyNumbers.{max_key_count}
+use Rattle.macsec_suite.specs.KeyRows.{IsKeyRow, key_row}
 use Rattle.macsec_suite.specs.KeyTables.{IsIndex, stored_row}
 use Rattle.macsec_suite.proofs.key_table.KeyTable.append.Goals as goal
 
-pub overflow_cast-self : goal.overflow_cast-self
-overflow_cast-self c =
+pub overflow_cast-len : goal.overflow_cast-len
+overflow_cast-len c =
     omega (arith, has_room c.self.inside.rows.items c.args.added.key.number c.self.invariant.1 (rw c.self.view_is c.requires.free) (omega arith))
 
 pub unwrap-requires : goal.unwrap-requires
@@ -31,12 +32,12 @@ invariant_of-self c =
     let kept = subst AreStoredKeys items all in
     let rows = map stored_row keys in
     let room : length rows < max_key_count = omega (arith, has_room keys c.args.added.key.number c.self.invariant.1 free (omega arith), length-map keys stored_row) in
-    let found : IsIndex (set c.self.inside.places c.args.added.key.number (length rows)) (rows ++ stored_row new ∷ []) =
-    IsIndex-push c.self.inside.places rows (stored_row new) c.self.invariant.3 room (omega arith) free in
+    let found : IsIndex (set c.self.inside.places.items c.args.added.key.number (length rows)) (rows ++ stored_row new ∷ []) =
+    IsIndex-push c.self.inside.places.items rows (stored_row new) c.self.invariant.3 room (omega arith) free in
     let same : rows ++ stored_row new ∷ [] ≡ map stored_row c.push.new.self.items = sym (map-append stored_row keys (new ∷ [])) ∙ ap (map stored_row) items in
-    let places : set c.self.inside.places c.args.added.key.number (length rows) ≡ set c.self.inside.places c.args.added.key.number c.len.result =
-    ap (set c.self.inside.places c.args.added.key.number) (omega (arith, length-map keys stored_row)) in
-    (omega arith, kept.0, kept.1, subst (λ p. IsIndex p (map stored_row c.push.new.self.items)) places (subst (IsIndex (set c.self.inside.places c.args.added.key.number (length rows))) same found))
+    let places : set c.self.inside.places.items c.args.added.key.number (length rows) ≡ set c.self.inside.places.items c.number.result c.len.result =
+    rw c.number.ensures.value (ap (set c.self.inside.places.items c.args.added.key.number) (omega (arith, length-map keys stored_row))) in
+    (omega arith, kept.0, kept.1, subst (λ p. IsIndex p (map stored_row c.push.new.self.items)) places (subst (IsIndex (set c.self.inside.places.items c.args.added.key.number (length rows))) same found))
 
 pub returns-clause-rows : goal.returns-clause-rows
 returns-clause-rows c = (invariant_of-self c).1

@@ -6,14 +6,14 @@ use Rattle.macsec_suite.specs.KeyRows.{keys_noting, row_noting}
 use Rattle.macsec_suite.proofs.KeyIndex.{IsChanged, IsChanged-set}
 use Rattle.macsec_suite.proofs.key_table.KeyTable.note_used.Goals as goal
 
-is_changed : (c : goal.After-self-1) → IsChanged (row_noting c.args.pn) c.args.number c.self.inside.places c.self.inside.rows.items
+is_changed : (c : goal.After-self-1) → IsChanged (row_noting c.args.pn) c.args.number c.self.inside.places.items c.self.inside.rows.items
     (set c.self.inside.rows.items c.place_of-place.result (record { row = c.index_mut-stored.result.now.row; first_unused = c.from.result + 1 }))
 is_changed c =
     let keys = c.self.inside.rows.items in
     let place = c.place_of-place.result in
     IsChanged-set (row_noting c.args.pn) (λ row. refl)
     (λ row is. record { number = is.number; bytes = is.bytes; salt = is.salt; ssci = is.ssci; first_unused_least = omega arith; first_unused = omega (arith, c.ranges.pn.fits) })
-    c.args.number place c.self.inside.places keys c.index_mut-stored.result.now _ (c.self.invariant.1, c.self.invariant.2) c.self.invariant.3
+    c.args.number place c.self.inside.places.items keys c.index_mut-stored.result.now _ (c.self.invariant.1, c.self.invariant.2) c.self.invariant.3
     (rw c.self.view_is c.place_of-place.ensures) (rw c.self.view_is c.requires) c.index_mut-stored.ensures.value (rw c.from.ensures refl) (λ own. own)
 
 pub invariant_of-self : goal.invariant_of-self

@@ -1,0 +1,48 @@
+//! The number of a key.
+
+ghost use Rattle.std.specs.Prelude.{◌≡◌, ◌<◌, ◌↔◌, IsSome, IfSome};
+ghost use Rattle.macsec_suite.specs.KeyNumbers.{max_key_count};
+
+use std::marker::Model;
+
+/// The most keys of an endpoint; their numbers are below this one.
+pub(crate) const MAX_KEY_COUNT: u16 = 4096;
+
+/// The number by which associations name a key of their endpoint, 0 to 4,095.
+#[derive(Clone, Copy, PartialEq, Eq, Debug, Default)]
+pub struct KeyNumber(pub(crate) u16);
+
+impl Model for KeyNumber {
+    ghost use Rattle.std.specs.Prelude.{ℕ, ◌<◌};
+    ghost use Rattle.macsec_suite.specs.KeyNumbers.{max_key_count};
+
+    ghost Value = { ℕ };
+
+    ghost view = { λ k. k.0 };
+
+    ghost invariant = { λ k. k.0 < max_key_count };
+
+    ghost inverse = { λ n. record { 0 = n } };
+}
+
+impl KeyNumber {
+    /// The key number `n`, or `None` for 4,096 and more.
+    pub fn new(n: u16) -> Option<KeyNumber>
+        ensures valid { IsSome result ↔ (n < max_key_count) }
+        ensures value { IfSome result (λ key. key ≡ n) }
+    {
+        if n < MAX_KEY_COUNT {
+            Some(KeyNumber(n))
+        } else {
+            None
+        }
+    }
+
+    /// The number, 0 to 4,095.
+    pub fn number(self) -> u16
+        ensures value { result ≡ self }
+        ensures below { result < max_key_count }
+    {
+        self.0
+    }
+}
