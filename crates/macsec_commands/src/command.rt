@@ -1,6 +1,6 @@
 //! Management commands (IEEE 802.1AE, 10.7).
 
-use crate::{An, Mode, NewKey, Sci, TagForm};
+use crate::{An, KeyNumber, Mode, NewKey, Sci, TagForm};
 
 /// A management command.
 #[derive(Clone, Copy)]
@@ -19,11 +19,11 @@ pub enum Command {
     /// Install a key.
     Key(NewKey),
     /// Retire the key of this number: no new association may use it.
-    Retire(u8),
+    Retire(KeyNumber),
     /// Create a transmit association, disabled, whose first packet number is `next`; it encrypts if `conf` is true.
     TxSa {
         an: An,
-        key: u8,
+        key: KeyNumber,
         next: u64,
         conf: bool,
     },
@@ -41,7 +41,7 @@ pub enum Command {
     RxSa {
         sci: Sci,
         an: An,
-        key: u8,
+        key: KeyNumber,
         ssci: u32,
         lowest: u64,
     },

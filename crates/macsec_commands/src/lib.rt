@@ -1,4 +1,7 @@
 //! What is said to an endpoint and to the link: configurations, commands, frames and events.
+//!
+//! Proved: `EndConfig::fault` is the first fault of a configuration (`specs/Configs.antt`); `is_unfit` says which tag
+//! forms do not fit an SCI; a `Frame` is the list of its octets.
 #![tactic(auto)]
 
 mod command;
@@ -16,6 +19,6 @@ pub use fault::NewFault;
 pub use form::{TagForm, is_unfit};
 pub use frame::Frame;
 pub use macsec_aes::Key;
-pub use macsec_suite::{NewKey, Suite};
+pub use macsec_suite::{KeyNumber, NewKey, Suite};
 pub use macsec_tag::{An, MAX_FRAME_LEN, Sci};
 pub use mode::Mode;

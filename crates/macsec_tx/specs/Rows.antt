@@ -1,13 +1,14 @@
 -- What holds of the associations of a transmit channel.
 use Rattle.std.specs.Prelude.{◌≡◌, ◌^◌, ◌<◌, ◌≤◌, List, [], ◌∷◌, None}
+use Rattle.macsec_suite.specs.KeyNumbers.{max_key_count}
 use Rattle.macsec_tx.specs.declared.TxRow.{TxRow}
 use Rattle.macsec_tx.specs.Transmit.{tx_row}
 
--- the association number is 0 to 3, the number of its key has 8 bits, and the next packet number is at
--- least 1 and at most one past the last of 64 bits
+-- the association number is 0 to 3, the number of its key is below 4,096, and the next packet number is at least 1 and
+-- at most one past the last of 64 bits
 pub record IsTxRow (row : TxRow) : Type 0 where
   pub an : row.an < 4
-  pub key : row.key < 256
+  pub key : row.key < max_key_count
   pub next_least : 1 ≤ row.next
   pub next : row.next ≤ 2 ^ 64
 

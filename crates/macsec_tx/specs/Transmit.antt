@@ -112,7 +112,7 @@ sending options keys rows frame =
 abbrev pub next_used : TxRow → TxRow
 next_used row = record row { next = row.next + 1 }
 
--- the same of the association of this number, while another is as it was
+-- the association of this number has used its packet number, and another is as it was
 abbrev pub used_at : ℕ → TxRow → TxRow
 used_at an row = if row.an == an then next_used row else row
 

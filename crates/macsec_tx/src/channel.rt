@@ -9,7 +9,7 @@ ghost use Rattle.macsec_tx.specs.Commands.{HaveKeys, off_at, switch_to, tx_off_r
 
 use crate::TxRow;
 use arrayvec::ArrayVec;
-use macsec_suite::{KeyTable, Refusal};
+use macsec_suite::{KeyNumber, KeyTable, Refusal};
 use macsec_tag::An;
 use std::marker::Model;
 
@@ -68,7 +68,7 @@ impl TxChannel {
     }
 
     /// Does an association use the key of this number?
-    pub fn uses(&self, key: u8) -> bool
+    pub fn uses(&self, key: KeyNumber) -> bool
         ensures { result ≡ tx_uses self.now key }
     {
         self.rows.iter().any(|row| row.key == key)
@@ -80,7 +80,7 @@ impl TxChannel {
         &mut self,
         keys: &KeyTable,
         an: An,
-        key: u8,
+        key: KeyNumber,
         next: u64,
         conf: bool,
     ) -> Result<(), Refusal>

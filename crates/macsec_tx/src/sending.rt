@@ -20,9 +20,9 @@ use macsec_suite::{KeyRow, KeyTable, SuiteKey, iv_of, protect_in_place};
 use macsec_tag::{ADDRESSES_LENGTH, ICV_LENGTH, Sci, SecTag, write_tag};
 
 impl TxChannel {
-    /// What is sent for a client frame of 14 to 9,248 octets. A protected frame is at the start of `out`, which has
-    /// 9,248 octets or more. The key of each association is in the table, and the largest frame is at most 9,248
-    /// octets.
+    /// What is sent for a client frame of `MIN_FRAME_LEN` to `MAX_FRAME_LEN` octets. A protected frame is at the start
+    /// of `out`, which has `MAX_FRAME_LEN` octets or more. The key of each association is in the table, and the largest
+    /// frame has at most as many.
     pub fn next_frame(
         &mut self,
         keys: &mut KeyTable,
