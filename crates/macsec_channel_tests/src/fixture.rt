@@ -1,7 +1,7 @@
 //! What the tests share: the association number and the key of the test frames.
 
 use macsec_aes::Key;
-use macsec_suite::{KeyTable, NewKey, Suite};
+use macsec_suite::{KeyNumber, KeyTable, NewKey, Suite};
 use macsec_tag::An;
 use macsec_vectors::KEY_128;
 use std::alloc::Global;
@@ -12,11 +12,21 @@ pub fn an() -> Result<An, Fail> {
     Ok(An::new(2).ok_or("an association number is 0 to 3")?)
 }
 
-/// A table of the key of the test frames, of the number 0.
+/// The number of the key of the test frames.
+pub fn key_number() -> KeyNumber {
+    KeyNumber::new(0).unwrap()
+}
+
+/// The number of no key.
+pub fn unused_number() -> KeyNumber {
+    KeyNumber::new(256).unwrap()
+}
+
+/// A table of the key of the test frames.
 pub fn key_table(alloc: Global) -> Result<KeyTable, Fail> {
     let mut keys = KeyTable::new(alloc)?;
     let key = NewKey {
-        number: 0,
+        number: key_number(),
         bytes: Key::K128(KEY_128),
         salt: [0; 12],
         ssci: 0,

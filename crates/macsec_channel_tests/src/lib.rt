@@ -6,6 +6,8 @@
 #[cfg(test)]
 mod fixture;
 #[cfg(test)]
+mod numbers;
+#[cfg(test)]
 mod receiving;
 #[cfg(test)]
 mod sending;

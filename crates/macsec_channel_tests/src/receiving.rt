@@ -3,7 +3,7 @@
 ghost use Rattle.std.specs.Prelude.{IfOk};
 ghost use Rattle.macsec_rx.specs.Commands.{HaveRxKeys};
 
-use crate::fixture::{an, key_table};
+use crate::fixture::{an, key_number, key_table, unused_number};
 use macsec_rx::{Judged, Mode, RxChannels, RxOptions, RxRow, Verdict};
 use macsec_suite::{KeyTable, Refusal};
 use macsec_tag::reading::read;
@@ -24,7 +24,14 @@ fn channel_on(keys: &KeyTable) -> Result<RxChannels, Fail>
 {
     let mut channels = RxChannels::new();
     channels.rx_sc(OWN, SENDER)?;
-    channels.rx_sa(keys, SENDER, an()?, 0, 0, u64::from(PACKET_NUMBER))?;
+    channels.rx_sa(
+        keys,
+        SENDER,
+        an()?,
+        key_number(),
+        0,
+        u64::from(PACKET_NUMBER),
+    )?;
     channels.rx_on(SENDER, an()?)?;
     Ok(channels)
 }
@@ -34,7 +41,7 @@ fn row(next: u64, lowest: u64, on: bool) -> Result<RxRow, Fail> {
     Ok(RxRow {
         sci: SENDER,
         an: an()?,
-        key: 0,
+        key: key_number(),
         ssci: 0,
         next: u128::from(next),
         lowest: u128::from(lowest),
@@ -162,10 +169,10 @@ fn commands(rt: HostRuntime) -> Result<(), Fail> {
         channels.row(SENDER, an()?),
         Some(row(raised, raised, false)?)
     );
-    assert!(&rt; channels.uses(0) && !channels.uses(1));
+    assert!(&rt; channels.uses(key_number()) && !channels.uses(unused_number()));
     assert_eq!(&rt; channels.rx_del(SENDER, an()?), Ok(()));
     assert_eq!(&rt; channels.rx_del(SENDER, an()?), Err(Refusal::NoSa));
-    assert!(&rt; !channels.uses(0));
+    assert!(&rt; !channels.uses(key_number()));
     assert_eq!(&rt; channels.channel(0), Some(SENDER));
     assert_eq!(&rt; channels.rx_sc_del(SENDER), Ok(()));
     assert_eq!(&rt; channels.channel(0), None);

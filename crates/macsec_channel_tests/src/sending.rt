@@ -3,7 +3,7 @@
 ghost use Rattle.std.specs.Prelude.{IfOk};
 ghost use Rattle.macsec_tx.specs.Commands.{HaveKeys};
 
-use crate::fixture::{an, key_table};
+use crate::fixture::{an, key_number, key_table, unused_number};
 use macsec_suite::{KeyTable, Refusal};
 use macsec_tag::Sci;
 use macsec_tx::{TagForm, TxChannel, TxOptions, TxResult, TxRow};
@@ -24,7 +24,7 @@ fn channel_on(keys: &KeyTable, conf: bool) -> Result<TxChannel, Fail>
     ensures { IfOk result (λ channel. HaveKeys keys.now channel) }
 {
     let mut channel = TxChannel::new();
-    channel.tx_sa(keys, an()?, 0, u64::from(PACKET_NUMBER), conf)?;
+    channel.tx_sa(keys, an()?, key_number(), u64::from(PACKET_NUMBER), conf)?;
     channel.tx_on(keys, an()?)?;
     Ok(channel)
 }
@@ -40,11 +40,17 @@ fn frames_of_the_standard(rt: HostRuntime) -> Result<(), Fail> {
         let mut out = [0; 9248];
         let sent = channel.next_frame(&mut keys, &OPTIONS, client, &mut out);
         let len = link.len();
-        assert_eq!(&rt; sent, TxResult::Made { len, key: 0 });
+        assert_eq!(&rt;
+            sent,
+            TxResult::Made {
+                len,
+                key: key_number()
+            }
+        );
         assert_eq!(&rt; out.get(..len), Some(link));
         let next = u128::from(PACKET_NUMBER) + 1;
         assert_eq!(&rt; channel.row(an()?).map(|row| row.next), Some(next));
-        assert_eq!(&rt; keys.first_unused(0), Some(next));
+        assert_eq!(&rt; keys.first_unused(key_number()), Some(next));
     }
     Ok(())
 }
@@ -55,17 +61,17 @@ fn commands(rt: HostRuntime) -> Result<(), Fail> {
     let mut channel = channel_on(&keys, false)?;
     let row = TxRow {
         an: an()?,
-        key: 0,
+        key: key_number(),
         next: u128::from(PACKET_NUMBER),
         conf: false,
         on: true,
     };
     assert_eq!(&rt; channel.row_on(), Some(row));
-    assert!(&rt; channel.uses(0) && !channel.uses(1));
+    assert!(&rt; channel.uses(key_number()) && !channel.uses(unused_number()));
     assert_eq!(&rt; channel.tx_off(an()?), Ok(()));
     assert_eq!(&rt; channel.row_on(), None);
     assert_eq!(&rt; channel.tx_del(an()?), Ok(()));
     assert_eq!(&rt; channel.tx_del(an()?), Err(Refusal::NoSa));
-    assert!(&rt; !channel.uses(0));
+    assert!(&rt; !channel.uses(key_number()));
     Ok(())
 }

@@ -2,5 +2,6 @@ pub mod Opened
 pub mod Placed
 pub mod Recovered
 pub mod Room
+pub mod RowIndex
 pub mod RxRows
 pub mod Scis

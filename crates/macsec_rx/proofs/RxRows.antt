@@ -24,7 +24,7 @@ found_if_there {B = B} None there P none some = absurd (let no : IsSome {T = B} 
 found_if_there (Some x) there P one some = refl
 
 -- one association is not at the place of the other, nor is that at the place of the one
-is_at-swapped : (row new : RxRow) → is_at new.sci new.an row ≡ false → is_at row.sci row.an new ≡ false
+pub is_at-swapped : (row new : RxRow) → is_at new.sci new.an row ≡ false → is_at row.sci row.an new ≡ false
 is_at-swapped row new other = by_test (is_at row.sci row.an new) refl
   where
     by_test : (b : Bool) → is_at row.sci row.an new ≡ b → b ≡ false
@@ -92,18 +92,7 @@ AreRxRows-filter scis left p still (row ∷ rows) h =
         (record { channel = still row is h.0.channel; an = h.0.an; key = h.0.key; ssci = h.0.ssci; next = h.0.next; lowest_least = h.0.lowest_least; lowest = h.0.lowest }, free, h')
     by_test false is others free h' = h'
 
--- what a change keeps everywhere, it keeps at one place
-pub KeepsPlace-at_place : (f : RxRow → RxRow) → KeepsPlace f → (sci : Sci) (an : ℕ) → KeepsPlace (at_place f sci an)
-KeepsPlace-at_place f same sci an = record { sci = λ row. sci_by row (is_at sci an row); an = λ row. an_by row (is_at sci an row) }
-  where
-    sci_by : (row : RxRow) (b : Bool) → (if b then f row else row).sci ≡ row.sci
-    sci_by row true = same.sci row
-    sci_by row false = refl
-
-    an_by : (row : RxRow) (b : Bool) → (if b then f row else row).an ≡ row.an
-    an_by row true = same.an row
-    an_by row false = refl
-
+-- what a change at one place keeps
 pub IsRxRow-at_place : (scis : List Sci) (f : RxRow → RxRow) → ((row : RxRow) → IsRxRow scis row → IsRxRow scis (f row)) →
     (sci : Sci) (an : ℕ) (row : RxRow) → IsRxRow scis row → IsRxRow scis (at_place f sci an row)
 IsRxRow-at_place scis f good sci an row h = by_test (is_at sci an row)
@@ -112,38 +101,31 @@ IsRxRow-at_place scis f good sci an row h = by_test (is_at sci an row)
     by_test true = good row h
     by_test false = h
 
-pub AreRxRows-switched : (scis : List Sci) (on : Bool) (sci : Sci) (an : ℕ) (rows : List RxRow) → AreRxRows scis rows → AreRxRows scis (map (at_place (row_switched on) sci an) rows)
-AreRxRows-switched scis on sci an =
-    AreRxRows-map scis _ (KeepsPlace-at_place (row_switched on) (record { sci = λ row. refl; an = λ row. refl }) sci an)
-    (IsRxRow-at_place scis (row_switched on) (λ row h. record { channel = h.channel; an = h.an; key = h.key; ssci = h.ssci; next = h.next; lowest_least = h.lowest_least; lowest = h.lowest }) sci an)
+pub IsRxRow-switched : (scis : List Sci) (on : Bool) (row : RxRow) → IsRxRow scis row → IsRxRow scis (row_switched on row)
+IsRxRow-switched scis on row h = record { channel = h.channel; an = h.an; key = h.key; ssci = h.ssci; next = h.next; lowest_least = h.lowest_least; lowest = h.lowest }
 
-pub AreRxRows-raised : (scis : List Sci) (pn : ℕ) (sci : Sci) (an : ℕ) → 1 ≤ pn → pn ≤ 2 ^ 64 → (rows : List RxRow) → AreRxRows scis rows → AreRxRows scis (map (at_place (row_raised pn) sci an) rows)
-AreRxRows-raised scis pn sci an some small =
-    AreRxRows-map scis _ (KeepsPlace-at_place (row_raised pn) (record { sci = λ row. refl; an = λ row. refl }) sci an)
-    (IsRxRow-at_place scis (row_raised pn) (λ row h. record { channel = h.channel; an = h.an; key = h.key; ssci = h.ssci; next = omega (arith, h.next, small); lowest_least = some; lowest = omega arith }) sci an)
+pub IsRxRow-raised : (scis : List Sci) (pn : ℕ) (row : RxRow) → 1 ≤ pn → pn ≤ 2 ^ 64 → IsRxRow scis row → IsRxRow scis (row_raised pn row)
+IsRxRow-raised scis pn row some small h =
+    record { channel = h.channel; an = h.an; key = h.key; ssci = h.ssci; next = omega (arith, h.next, small); lowest_least = some; lowest = omega arith }
+
+pub IsRxRow-accepting : (scis : List Sci) (window number : ℕ) (row : RxRow) → number < 2 ^ 64 → IsRxRow scis row → IsRxRow scis (row_accepting window number row)
+IsRxRow-accepting scis window number row small h =
+    record { channel = h.channel; an = h.an; key = h.key; ssci = h.ssci; next = omega (arith, h.next, small); lowest_least = omega (arith, h.lowest_least); lowest = omega (arith, h.lowest) }
 
 pub AreRxRows-narrowed : (scis : List Sci) (window : ℕ) (rows : List RxRow) → AreRxRows scis rows → AreRxRows scis (map (row_narrowed window) rows)
 AreRxRows-narrowed scis window =
     AreRxRows-map scis _ (record { sci = λ row. refl; an = λ row. refl })
     (λ row h. record { channel = h.channel; an = h.an; key = h.key; ssci = h.ssci; next = h.next; lowest_least = omega (arith, h.lowest_least); lowest = omega (arith, h.lowest) })
 
-pub AreRxRows-accepting : (scis : List Sci) (window number : ℕ) (sci : Sci) (an : ℕ) → number < 2 ^ 64 → (rows : List RxRow) → AreRxRows scis rows → AreRxRows scis (map (at_place (row_accepting window number) sci an) rows)
-AreRxRows-accepting scis window number sci an small =
-    AreRxRows-map scis _ (KeepsPlace-at_place (row_accepting window number) (record { sci = λ row. refl; an = λ row. refl }) sci an)
-    (IsRxRow-at_place scis (row_accepting window number) (λ row h. record { channel = h.channel; an = h.an; key = h.key; ssci = h.ssci; next = omega (arith, h.next, small); lowest_least = omega (arith, h.lowest_least); lowest = omega (arith, h.lowest) }) sci an)
-
 take-length : {X : Type 0} (ws : List X) → take (length ws) ws ≡ ws
 take-length [] = refl
 take-length (w ∷ ws) = ap (λ rest. w ∷ rest) (take-length ws)
 
-refill-same_length : {X : Type 0} (xs ws : List X) → length ws ≡ length xs → refill (length xs) xs ws ≡ ws
+-- what was borrowed as a slice is afterwards as the borrower left it
+pub refill-same_length : {X : Type 0} (xs ws : List X) → length ws ≡ length xs → refill (length xs) xs ws ≡ ws
 refill-same_length xs ws same =
     let fits : length xs ≤ length ws = omega arith in
     rw (← same) (take-append-le (length ws) ws (drop (length ws) xs) (omega arith) ∙ take-length ws)
-
--- what was borrowed as a slice is afterwards as the borrower left it
-pub AreRxRows-refill : (scis : List Sci) (xs ws : List RxRow) → length ws ≡ length xs → AreRxRows scis ws → AreRxRows scis (refill (length xs) xs ws)
-AreRxRows-refill scis xs ws same h = rw (refill-same_length xs ws same) h
 
 -- what holds of every association holds of the one that is found
 pub holds_of_row : (P : RxRow → Type 0) (rows : List RxRow) (sci : Sci) (an : ℕ) (row : RxRow) → All P rows → rx_row rows sci an ≡ Some row → P row

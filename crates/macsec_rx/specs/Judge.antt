@@ -89,7 +89,7 @@ bare_frame p = p.da ++ p.sa ++ p.secure_data
 abbrev pub use_to_open : InstalledKey → RxRow → ℕ → MpduParts → CipherUse
 use_to_open key row number p = cipher_use key (iv_of key.suite row.sci row.ssci key.salt number) p
 
--- its plaintext, if the ICV is valid
+-- the plaintext of a frame, if its ICV is valid
 abbrev pub plaintext_of : InstalledKey → RxRow → ℕ → MpduParts → Option (List ℕ)
 plaintext_of key row number p = plaintext_of_use (use_to_open key row number p)
 

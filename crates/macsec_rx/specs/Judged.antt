@@ -11,7 +11,7 @@ pub record ShowsJudgement (judged : Judged) (out : List ℕ) (j : Judgement) : T
   pub delivered : option_map (octets_at out) judged.delivered ≡ j.delivered
   pub within : IfSome judged.delivered (λ at. at.0 + at.1 ≤ length out)
 
--- and so is the number that is accepted with it
+-- the frame is shown, and so is the number that is accepted with it
 pub record ShowsOutcome (outcome : Outcome) (out : List ℕ) (j : Judgement) : Type 0 where
   pub judged : ShowsJudgement outcome.judged out j
   pub accepted : outcome.accepted ≡ accepted_number j

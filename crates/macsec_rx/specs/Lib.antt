@@ -1,6 +1,7 @@
 pub mod Limits
 pub mod Channels
 pub mod Commands
+pub mod Index
 pub mod Rows
 pub mod Judge
 pub mod Judged

@@ -5,10 +5,14 @@ use Rattle.macsec_tag.specs.Frame.{MpduParts}
 
 -- the most channels of an endpoint, and the most associations of a channel
 abbrev pub max_channel_count : ℕ
-max_channel_count = 8
+max_channel_count = 64
 
 abbrev pub max_association_count : ℕ
 max_association_count = 4
+
+-- the most associations of an endpoint
+abbrev pub max_row_count : ℕ
+max_row_count = 256
 
 -- the octets of a tagged frame without its padding: DA and SA, SecTAG, Secure Data and ICV
 abbrev pub unpadded_length : MpduParts → ℕ

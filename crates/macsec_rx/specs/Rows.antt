@@ -1,19 +1,20 @@
 -- What holds of receive channels and their associations.
 use Rattle.std.specs.Prelude.{◌≡◌, ◌^◌, ◌<◌, ◌≤◌, List, [], ◌∷◌, length, None, true, false}
 use Rattle.macsec_tag.specs.declared.identifiers.Sci.{Sci}
+use Rattle.macsec_suite.specs.KeyNumbers.{max_key_count}
 use Rattle.macsec_commands.specs.Scis.{IsSci}
 use Rattle.macsec_rx.specs.declared.RxRow.{RxRow}
 use Rattle.macsec_rx.specs.Limits.{max_channel_count, max_association_count}
 use Rattle.macsec_rx.specs.Channels.{Channels, rx_row}
 use Rattle.macsec_rx.specs.Commands.{has_channel}
 
--- an association is of a channel, its number is 0 to 3, its key's number is an octet, its SSCI has 32
+-- an association is of a channel, its number is 0 to 3, its key's number is below 4,096, its SSCI has 32
 -- bits, its next packet number is at most one past the last of 64 bits, and its lowest acceptable one is
 -- from 1 to the next
 pub record IsRxRow (scis : List Sci) (row : RxRow) : Type 0 where
   pub channel : has_channel scis row.sci ≡ true
   pub an : row.an < max_association_count
-  pub key : row.key < 256
+  pub key : row.key < max_key_count
   pub ssci : row.ssci < 2 ^ 32
   pub next : row.next ≤ 2 ^ 64
   pub lowest_least : 1 ≤ row.lowest

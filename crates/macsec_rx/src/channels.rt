@@ -1,37 +1,44 @@
 //! The receive channels, and the commands on them and on their associations.
 
-ghost use Rattle.std.specs.Prelude.{◌≡◌, ◌&&◌, length, ◌≤◌, true, map, slice_get, false, IfOk, OnErr, OnOk, Some};
+ghost use Rattle.std.specs.Prelude.{◌≡◌, [], ◌∷◌, ◌++◌, length, true, map, slice_get, slice_set, false, IfOk, IfSome, IsSomeAnd, MatchOption, None, OnErr, OnOk, Some, option_map};
 ghost use Rattle.macsec_suite.specs.Refusals.{first_refusal, refusal_of};
-ghost use Rattle.macsec_rx.specs.Channels.{at_place, is_at, no_channels, rx_row, same_sci, with_rx};
-ghost use Rattle.macsec_rx.specs.Rows.{AreChannels};
+ghost use Rattle.macsec_rx.specs.Channels.{is_at, no_channels, rx_row, with_rx};
+ghost use Rattle.macsec_rx.specs.Rows.{AreChannels, IsRxRow};
 ghost use Rattle.macsec_commands.specs.Scis.{IsSci};
-ghost use Rattle.macsec_rx.specs.Judge.{in_use, only_channel, port_of, row_accepting, sci_of};
-ghost use Rattle.macsec_rx.specs.Commands.{HaveRxKeys, channels_narrowed, has_channel, row_narrowed, row_raised, row_switched, rx_low_refusals, rx_row_refusals, rx_sa_refusals, rx_sc_del_refusals, rx_sc_refusals, rx_uses, with_channel, with_rx_low, with_rx_on, with_rx_sa, without_channel, without_rx};
+ghost use Rattle.macsec_rx.specs.Judge.{in_use, only_channel, port_of, row_accepting, rows_accepting, sci_of};
+ghost use Rattle.macsec_rx.specs.Commands.{HaveRxKeys, channels_narrowed, has_channel, row_narrowed, rx_low_refusals, rx_row_refusals, rx_sa_refusals, rx_sc_del_refusals, rx_sc_refusals, rx_uses, with_channel, with_rx_low, with_rx_on, with_rx_sa, without_channel, without_rx};
 
 use crate::RxRow;
+use crate::index::{channel_place, empty_index, index_of, slot};
 use arrayvec::ArrayVec;
 use macsec_pn::RxNumbers;
-use macsec_suite::{KeyTable, Refusal};
+use macsec_suite::{KeyNumber, KeyTable, Refusal};
 use macsec_tag::{An, Mpdu, Sci};
 use std::marker::Model;
 
-/// The receive channels: up to eight, of four associations each. Contracts see them as the SCIs in the order of their
+/// The receive channels: up to 64, of four associations each. Contracts see them as the SCIs in the order of their
 /// creation, and the associations in the order of theirs.
 #[derive(Drop)]
 pub struct RxChannels {
-    scis: ArrayVec<Sci, 8>,
-    rows: ArrayVec<RxRow, 32>,
+    scis: ArrayVec<Sci, 64>,
+    rows: ArrayVec<RxRow, 256>,
+    /// The place of each association among the rows, by the place of its channel and by its number: so a frame costs the
+    /// same whichever association it is for.
+    places: [u16; 256],
 }
 
 impl Model for RxChannels {
     ghost use Rattle.macsec_rx.specs.Channels.{Channels};
+    ghost use Rattle.macsec_rx.specs.Index.{IsIndex};
     ghost use Rattle.macsec_rx.specs.Rows.{AreChannels};
 
     ghost Value = { Channels };
 
     ghost view = { λ c. record { scis = c.scis.items; rows = c.rows.items } };
 
-    ghost invariant = { λ c. AreChannels (record { scis = c.scis.items; rows = c.rows.items }) };
+    // They are channels and associations as the definition has them, and each association is found in the index.
+    ghost invariant = { λ c. AreChannels (record { scis = c.scis.items; rows = c.rows.items })
+        × IsIndex c.scis.items c.rows.items c.places };
 }
 
 impl RxChannels {
@@ -43,6 +50,7 @@ impl RxChannels {
         RxChannels {
             scis: ArrayVec::new(),
             rows: ArrayVec::new(),
+            places: empty_index(),
         }
     }
 
@@ -57,16 +65,25 @@ impl RxChannels {
     pub fn row(&self, sci: Sci, an: An) -> Option<RxRow>
         ensures { result ≡ rx_row self.now.rows sci an }
     {
-        for row in self.rows.as_slice() {
-            if is_at(row, sci, an) {
-                return Some(*row);
-            }
-        }
-        None
+        let (_, row) = self.found(sci, an)?;
+        Some(row)
+    }
+
+    /// The association of this channel and of this number and its place, if there is one.
+    fn found(&self, sci: Sci, an: An) -> Option<(usize, RxRow)>
+        ensures row { MatchOption result (rx_row self.now.rows sci an ≡ None) (λ f. rx_row self.now.rows sci an ≡ Some f.1) }
+        ensures place { IfSome result (λ f. slice_get self.now.rows f.0 ≡ Some f.1) }
+        ensures channels { AreChannels self.now }
+    {
+        let rows = self.rows.as_slice();
+        let channel = channel_place(self.scis.as_slice(), sci)?;
+        let place = usize::from(self.places[slot(channel, an)]);
+        let row = rows.get(place)?;
+        Some((place, *row))
     }
 
     /// Does an association use the key of this number?
-    pub fn uses(&self, key: u8) -> bool
+    pub fn uses(&self, key: KeyNumber) -> bool
         ensures { result ≡ rx_uses self.now.rows key }
     {
         self.rows.iter().any(|row| row.key == key)
@@ -76,8 +93,9 @@ impl RxChannels {
     fn has_channel(&self, sci: Sci) -> bool
         ensures there { result ≡ has_channel self.now.scis sci }
         ensures sci { IsSci sci }
+        ensures channels { AreChannels self.now }
     {
-        self.scis.iter().any(|s| *s == sci)
+        channel_place(self.scis.as_slice(), sci).is_some()
     }
 
     /// Creates a channel, the last. Refused with the first of `OwnSci`, `ScTaken` and `ScFull` that applies.
@@ -114,6 +132,7 @@ impl RxChannels {
         }
         self.scis.retain(|s| *s != sci);
         self.rows.retain(|row| row.sci != sci);
+        self.places = index_of(self.scis.as_slice(), self.rows.as_slice());
         Ok(())
     }
 
@@ -124,7 +143,7 @@ impl RxChannels {
         keys: &KeyTable,
         sci: Sci,
         an: An,
-        key: u8,
+        key: KeyNumber,
         ssci: u32,
         lowest: u64,
     ) -> Result<(), Refusal>
@@ -157,7 +176,7 @@ impl RxChannels {
             return Err(Refusal::SsciOwn);
         }
         let numbers = RxNumbers::at(lowest);
-        self.rows.push(RxRow {
+        self.append(RxRow {
             sci,
             an,
             key,
@@ -176,8 +195,8 @@ impl RxChannels {
         ensures unchanged { OnErr result (self.new ≡ self.old) }
         ensures channels { AreChannels self.new }
     {
-        self.find(sci, an)?;
-        switch(self.rows.as_mut_slice(), sci, an, true);
+        let (place, row) = self.find(sci, an)?;
+        self.put(place, RxRow { on: true, ..row });
         Ok(())
     }
 
@@ -188,8 +207,8 @@ impl RxChannels {
         ensures unchanged { OnErr result (self.new ≡ self.old) }
         ensures channels { AreChannels self.new }
     {
-        self.find(sci, an)?;
-        switch(self.rows.as_mut_slice(), sci, an, false);
+        let (place, row) = self.find(sci, an)?;
+        self.put(place, RxRow { on: false, ..row });
         Ok(())
     }
 
@@ -202,7 +221,7 @@ impl RxChannels {
         ensures unchanged { OnErr result (self.new ≡ self.old) }
         ensures channels { AreChannels self.new }
     {
-        let row = self.find(sci, an)?;
+        let (place, row) = self.find(sci, an)?;
         let last = keys.key(row.key).unwrap().suite_key.suite().last();
         if pn == 0 || pn > last {
             return Err(Refusal::PnRange);
@@ -210,7 +229,9 @@ impl RxChannels {
         if u128::from(pn) < row.lowest {
             return Err(Refusal::PnLower);
         }
-        raise(self.rows.as_mut_slice(), sci, an, pn);
+        let mut numbers = row.numbers();
+        numbers.raise(pn);
+        self.put(place, row.with_numbers(numbers));
         Ok(())
     }
 
@@ -223,6 +244,7 @@ impl RxChannels {
     {
         self.find(sci, an)?;
         self.rows.retain(|row| !is_at(row, sci, an));
+        self.places = index_of(self.scis.as_slice(), self.rows.as_slice());
         Ok(())
     }
 
@@ -261,41 +283,89 @@ impl RxChannels {
         }
     }
 
-    /// The association that a received frame is for: with its SCI and its association number, and enabled.
-    pub(crate) fn in_use(&self, mpdu: &Mpdu<'_>) -> Option<RxRow>
-        ensures row { result ≡ in_use self.now.rows mpdu.now.tag.an (sci_of self.now.scis mpdu.now) }
+    /// The association that a received frame is for, and its place: with its SCI and its association number, and enabled.
+    pub(crate) fn in_use(&self, mpdu: &Mpdu<'_>) -> Option<(usize, RxRow)>
+        ensures row { option_map (λ f. f.1) result ≡ in_use self.now.rows mpdu.now.tag.an (sci_of self.now.scis mpdu.now) }
+        ensures place { IfSome result (λ f. slice_get self.now.rows f.0 ≡ Some f.1) }
         ensures channels { AreChannels self.now }
     {
-        // Read before the `?`: so the prover knows at each return what holds of the channels.
-        let rows = self.rows.as_slice();
+        // For the prover alone: so it knows at each return what holds of the channels. The compiler deletes the line.
+        let _ = &self.scis;
         let sci = self.sci_of(mpdu)?;
-        let an = mpdu.tag().an();
-        for row in rows {
-            if is_in_use(row, sci, an) {
-                return Some(*row);
-            }
-        }
-        None
+        let (place, row) = self.found(sci, mpdu.tag().an())?;
+        if row.on { Some((place, row)) } else { None }
     }
 
-    /// Records that a frame of this association and with the packet number `number` was accepted, with a replay window.
-    pub(crate) fn accept(&mut self, row: RxRow, number: u64, window: u64)
-        ensures accepted { self.new ≡ record self.old { rows = with_rx (row_accepting window number) row.sci row.an self.old.rows } }
+    /// Records that a frame of an association, which was found with its place, and with the packet number `number` was
+    /// accepted, with a replay window; if there are both.
+    pub(crate) fn accept_at(
+        &mut self,
+        found: &Option<(usize, RxRow)>,
+        number: Option<u64>,
+        window: u64,
+    )
+        requires { IfSome found.now (λ f. slice_get self.old.rows f.0 ≡ Some f.1) }
+        ensures accepted { self.new ≡ record self.old { rows = rows_accepting window number (option_map (λ f. f.1) found.now) self.old.rows } }
         ensures channels { AreChannels self.new }
     {
-        accept(self.rows.as_mut_slice(), row.sci, row.an, number, window);
+        // For the prover alone: from here on it knows what holds of the channels. The compiler deletes the line.
+        let _ = &self.scis;
+        if let Some((place, row)) = found {
+            if let Some(number) = number {
+                self.accept(*place, row, number, window);
+            }
+        }
     }
 
-    /// The association of this channel and of this number. Refused with the first of `NoSc` and `NoSa` that applies.
-    fn find(&self, sci: Sci, an: An) -> Result<RxRow, Refusal>
+    /// Records that a frame of the association at this place and with the packet number `number` was accepted, with a
+    /// replay window.
+    fn accept(&mut self, place: usize, row: &RxRow, number: u64, window: u64)
+        requires { slice_get self.old.rows place ≡ Some row.now }
+        ensures accepted { self.new ≡ record self.old { rows = with_rx (row_accepting window number) row.now.sci row.now.an self.old.rows } }
+        ensures channels { AreChannels self.new }
+    {
+        // For the prover alone: from here on it knows what holds of the channels. The compiler deletes the line.
+        let _ = &self.scis;
+        let mut numbers = row.numbers();
+        numbers.accept(number, window);
+        self.put(place, row.with_numbers(numbers));
+    }
+
+    /// Changes the association at this place, and no other, to one of the same channel and number.
+    fn put(&mut self, place: usize, row: RxRow)
+        requires there { IsSomeAnd (slice_get self.old.rows place) (λ old. (row.sci ≡ old.sci) × (row.an ≡ old.an)) }
+        requires row { IsRxRow self.old.scis row }
+        ensures rows { self.new ≡ record self.old { rows = slice_set self.old.rows place row } }
+        ensures channels { AreChannels self.new }
+    {
+        self.rows.as_mut_slice()[place] = row;
+    }
+
+    /// Puts an association at the end.
+    fn append(&mut self, row: RxRow)
+        requires free { rx_row self.old.rows row.sci row.an ≡ None }
+        requires row { IsRxRow self.old.scis row }
+        ensures rows { self.new ≡ record self.old { rows = self.old.rows ++ row ∷ [] } }
+        ensures channels { AreChannels self.new }
+    {
+        let channel = channel_place(self.scis.as_slice(), row.sci).unwrap();
+        self.places[slot(channel, row.an)] = self.rows.len() as u16;
+        self.rows.push(row);
+    }
+
+    /// The association of this channel and of this number and its place. Refused with the first of `NoSc` and `NoSa` that
+    /// applies.
+    fn find(&self, sci: Sci, an: An) -> Result<(usize, RxRow), Refusal>
         ensures refusal { refusal_of result ≡ first_refusal (rx_row_refusals self.now sci an) }
-        ensures row { IfOk result (λ row. rx_row self.now.rows sci an ≡ Some row) }
+        ensures row { IfOk result (λ f. rx_row self.now.rows sci an ≡ Some f.1) }
+        ensures place { IfOk result (λ f. slice_get self.now.rows f.0 ≡ Some f.1) }
+        ensures channels { AreChannels self.now }
     {
         if !self.has_channel(sci) {
             return Err(Refusal::NoSc);
         }
-        match self.row(sci, an) {
-            Some(row) => Ok(row),
+        match self.found(sci, an) {
+            Some(found) => Ok(found),
             None => Err(Refusal::NoSa),
         }
     }
@@ -308,43 +378,6 @@ fn is_at(row: &RxRow, sci: Sci, an: An) -> bool
     row.sci == sci && row.an.number() == an.number()
 }
 
-/// Is the association of this channel and of this number, and enabled?
-fn is_in_use(row: &RxRow, sci: Sci, an: An) -> bool
-    ensures { result ≡ (is_at sci an row.now && row.now.on) }
-{
-    is_at(row, sci, an) && row.on
-}
-
-/// The association, enabled or disabled if it is of this channel and of this number.
-fn row_switched(row: RxRow, sci: Sci, an: An, on: bool) -> RxRow
-    ensures { result ≡ at_place (row_switched on) sci an row }
-{
-    if is_at(&row, sci, an) {
-        RxRow { on, ..row }
-    } else {
-        row
-    }
-}
-
-/// The association, with its lowest acceptable number raised if it is of this channel and of this number.
-fn row_raised(row: RxRow, sci: Sci, an: An, pn: u64) -> RxRow
-    ensures { result ≡ at_place (row_raised pn) sci an row }
-{
-    // Not by `RxNumbers::raise`: that requires a number that is not below the lowest acceptable one. This is known of
-    // the one row that is meant, and not of each row that this is called for.
-    if is_at(&row, sci, an) {
-        let next = row.next.max(u128::from(pn));
-        let lowest = u128::from(pn);
-        RxRow {
-            next,
-            lowest,
-            ..row
-        }
-    } else {
-        row
-    }
-}
-
 /// The association, narrowed to the replay window.
 fn row_narrowed(row: RxRow, window: u64) -> RxRow
     ensures { result ≡ row_narrowed window row }
@@ -352,24 +385,6 @@ fn row_narrowed(row: RxRow, window: u64) -> RxRow
     let mut numbers = row.numbers();
     numbers.narrow(window);
     row.with_numbers(numbers)
-}
-
-/// Enables or disables the association of this channel and of this number.
-fn switch(rows: &mut [RxRow], sci: Sci, an: An, on: bool)
-    ensures { rows.new ≡ with_rx (row_switched on) sci an rows.old }
-{
-    for row in rows.iter_mut() {
-        *row = row_switched(*row, sci, an, on);
-    }
-}
-
-/// Raises the lowest acceptable number of the association of this channel and of this number.
-fn raise(rows: &mut [RxRow], sci: Sci, an: An, pn: u64)
-    ensures { rows.new ≡ with_rx (row_raised pn) sci an rows.old }
-{
-    for row in rows.iter_mut() {
-        *row = row_raised(*row, sci, an, pn);
-    }
 }
 
 /// Narrows every association to the replay window.
@@ -390,26 +405,4 @@ fn port_of(address: &[u8], port: u8) -> Sci
     octets[..6].copy_from_slice(address);
     octets[7] = port;
     Sci(octets)
-}
-
-/// The association, with a packet number accepted if it is of this channel and of this number.
-fn row_accepting(row: RxRow, sci: Sci, an: An, number: u64, window: u64) -> RxRow
-    ensures { result ≡ at_place (row_accepting window number) sci an row }
-{
-    if is_at(&row, sci, an) {
-        let mut numbers = row.numbers();
-        numbers.accept(number, window);
-        row.with_numbers(numbers)
-    } else {
-        row
-    }
-}
-
-/// Accepts a packet number at the association of this channel and of this number.
-fn accept(rows: &mut [RxRow], sci: Sci, an: An, number: u64, window: u64)
-    ensures { rows.new ≡ with_rx (row_accepting window number) sci an rows.old }
-{
-    for row in rows.iter_mut() {
-        *row = row_accepting(*row, sci, an, number, window);
-    }
 }

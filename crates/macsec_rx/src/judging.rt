@@ -63,10 +63,10 @@ impl Outcome {
 }
 
 impl RxChannels {
-    /// The verdict on a tagged frame of at most 9,248 octets without its padding. If the packet number is accepted, the
-    /// packet numbers of its association change. What is delivered is in `out`, which has 9,248 octets or more. If
-    /// nothing is delivered, `out` is as it was, but for the frame as it was received, which may be at its start. The
-    /// key of each association is in the table.
+    /// The verdict on a tagged frame of at most `MAX_FRAME_LEN` octets without its padding. If the packet number is
+    /// accepted, the packet numbers of its association change. What is delivered is in `out`, which has as many or
+    /// more. If nothing is delivered, `out` is as it was, but for the frame as it was received, which may be at its
+    /// start. The key of each association is in the table.
     pub fn judge(
         &mut self,
         keys: &KeyTable,
@@ -83,14 +83,21 @@ impl RxChannels {
         ensures numbers { self.new ≡ record self.old { rows = rows_after options.now.window (judge_tagged options.now keys.now self.old mpdu.now) self.old.rows } }
         ensures channels { AreChannels self.new }
     {
-        let row = self.in_use(mpdu);
+        let found = self.in_use(mpdu);
+        let row = row_of(&found);
         let outcome = judge_tagged_row(keys, options, &row, mpdu, out);
-        if let Some(row) = row {
-            if let Some(number) = outcome.accepted {
-                self.accept(row, number, options.window);
-            }
-        }
+        self.accept_at(&found, outcome.accepted, options.window);
         outcome.judged
+    }
+}
+
+/// An association that was found with its place, without the place.
+fn row_of(found: &Option<(usize, RxRow)>) -> Option<RxRow>
+    ensures { result ≡ option_map (λ f. f.1) found.now }
+{
+    match found {
+        Some((_, row)) => Some(*row),
+        None => None,
     }
 }
 

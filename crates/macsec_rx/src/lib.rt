@@ -1,4 +1,18 @@
 //! Receive channels and their associations, and the verdict on a tagged frame (IEEE 802.1AE, 10.6 and 10.7).
+//!
+//! Proved: `RxChannels` are the channels in the order of their creation, and their associations. `rx_sc`, `rx_sc_del`,
+//! `rx_sa`, `rx_on`, `rx_off`, `rx_low` and `rx_del` refuse with the first refusal of their lists that applies and then
+//! change nothing; else they do what `specs/Commands.antt` says. `narrow` narrows every association to the replay
+//! window. No two channels have the same SCI, each association is of a channel and has a number of its own there, and
+//! its lowest acceptable packet number is from 1 to its next one, which is at most 2^64.
+//!
+//! Proved: `judge` gives the verdict on a tagged frame, its association, and what is delivered, as the table of
+//! `specs/Judge.antt` says, first step first. The frame delivered is in the caller's slice, and the packet number is
+//! accepted if and only if the ICV was found valid. If nothing is delivered, the slice is as it was, or it begins with
+//! DA, SA, SecTAG, Secure Data and ICV as they were received and is else as it was (`LeavesReceived`). So nothing of
+//! the frame that was decrypted is left in it. What is left outside a frame that is delivered no clause says. The
+//! conditions: each association's key is in the table (so too of `rx_low`), the parts have at most 9,248 octets
+//! together, and the slice has 9,248 or more.
 #![tactic(auto)]
 
 ghost use Rattle.std.specs.Prelude.{◌≡◌, Some};
@@ -7,11 +21,14 @@ ghost use Rattle.macsec_rx.specs.Verdicts.{verdict_name};
 
 mod channels;
 mod delivering;
+mod index;
 mod judging;
 
 pub use channels::RxChannels;
+pub use index::same_sci;
 pub use macsec_commands::Mode;
 use macsec_pn::RxNumbers;
+use macsec_suite::KeyNumber;
 use macsec_tag::{An, Sci};
 use std::fmt;
 
@@ -45,7 +62,7 @@ pub enum Verdict {
 }
 
 impl Verdict {
-    /// Its name.
+    /// Its name, as it is printed.
     pub fn name(self) -> &'static str
         ensures { result.now ≡ verdict_name self }
     {
@@ -85,7 +102,7 @@ pub struct RxOptions {
     pub window: u64,
 }
 
-/// A receive association.
+/// A receive association: a receive SA (secure association, 10.7) of the standard, as one row of `RxChannels`.
 #[derive(Clone, Copy, PartialEq, Eq, Debug, Default)]
 pub struct RxRow {
     /// The SCI of its channel.
@@ -93,7 +110,7 @@ pub struct RxRow {
     /// Its association number.
     pub an: An,
     /// The number of its key.
-    pub key: u8,
+    pub key: KeyNumber,
     /// The SSCI of the sender.
     pub ssci: u32,
     /// The next packet number: past each that was accepted.

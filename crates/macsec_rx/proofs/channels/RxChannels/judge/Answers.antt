@@ -1,7 +1,6 @@
--- The key of the association enabled for the frame is in the table; packet numbers after are those of the judgement.
--- By the lemma that what holds of all associations holds of that one (`RxRows`), and by search.
-use Rattle.std.proofs.Common.{rules}
-use Rattle.std.proofs.Common.{sym, subst}
+-- The key of the association enabled for the frame is in the table.
+-- By the lemma that what holds of all associations holds of that one (`RxRows`).
+use Rattle.std.proofs.Common.{sym, subst, ◌∙◌}
 use Rattle.std.specs.Prelude.{IfSome, IsSome}
 use Rattle.macsec_suite.specs.KeyRows.{key_row}
 use Rattle.macsec_rx.proofs.RxRows.{IfSome-in_use}
@@ -10,9 +9,5 @@ use Rattle.macsec_rx.proofs.channels.RxChannels.judge.Goals as goal
 pub judge_tagged_row-outcome-requires-clause-key_there :
     goal.judge_tagged_row-outcome-requires-clause-key_there
 judge_tagged_row-outcome-requires-clause-key_there c =
-    subst (λ row. IfSome row (λ r. IsSome (key_row c.args.keys.now r.key))) (sym c.in_use-row.ensures.row)
+    subst (λ row. IfSome row (λ r. IsSome (key_row c.args.keys.now r.key))) (sym (c.row_of-row.ensures ∙ c.in_use-found.ensures.row))
     (IfSome-in_use (λ r. IsSome (key_row c.args.keys.now r.key)) _ _ _ c.requires.keys_there)
-
-pub returns-in-Some-accepted-clause-numbers :
-    goal.returns-in-Some-accepted-clause-numbers
-returns-in-Some-accepted-clause-numbers c = search rules

@@ -1,16 +1,23 @@
--- What holds of the channels still holds once every association is narrowed.
--- By the lemma on that change (`RxRows`).
-use Rattle.std.proofs.Common.{length, ap, ◌∙◌}
-use Rattle.macsec_rx.proofs.RxRows.{AreRxRows-narrowed, AreRxRows-refill}
+-- What holds of the channels and of the index still holds once every association is narrowed.
+-- By the lemmas on that change (`RxRows`, `RowIndex`).
+use Rattle.std.proofs.Common.{◌≡◌, length, ap, ◌∙◌, refl, subst, map}
+use Rattle.macsec_rx.specs.Commands.{row_narrowed}
+use Rattle.macsec_rx.specs.Index.{IsIndex}
+use Rattle.macsec_rx.specs.Rows.{AreRxRows}
+use Rattle.macsec_rx.proofs.RowIndex.{IsIndex-map}
+use Rattle.macsec_rx.proofs.RxRows.{AreRxRows-narrowed, refill-same_length}
 use Rattle.macsec_rx.proofs.channels.RxChannels.narrow.Goals as goal
 
 pub invariant_of-self : goal.invariant_of-self
-invariant_of-self c = record {
-  count = c.self.invariant.count;
-  scis = c.self.invariant.scis;
-  rows = AreRxRows-refill _ _ _ (c.narrow.auto.rows ∙ ap length c.as_mut_slice.ensures.value)
-      (rw (c.narrow.ensures, c.as_mut_slice.ensures.value) (AreRxRows-narrowed _ c.args.window _ c.self.invariant.rows));
-}
+invariant_of-self c =
+    let scis = c.self.inside.scis.items in
+    let rows = c.self.inside.rows.items in
+    let narrowed : c.narrow.new.rows ≡ map (row_narrowed c.args.window) rows = c.narrow.ensures ∙ ap (map (row_narrowed c.args.window)) c.as_mut_slice.ensures.value in
+    let after = refill-same_length rows c.narrow.new.rows (c.narrow.auto.rows ∙ ap length c.as_mut_slice.ensures.value) in
+    rw (after, narrowed) (
+      record { count = c.self.invariant.0.count; scis = c.self.invariant.0.scis; rows = AreRxRows-narrowed scis c.args.window rows c.self.invariant.0.rows },
+      IsIndex-map scis (row_narrowed c.args.window) (record { sci = λ row. refl; an = λ row. refl }) rows c.self.inside.places c.self.invariant.1,
+    )
 
 pub returns-clause-channels : goal.returns-clause-channels
-returns-clause-channels c = invariant_of-self c
+returns-clause-channels c = (invariant_of-self c).0

@@ -1,28 +1,42 @@
--- The key of the association is in the table, and what holds of the channels still holds once its numbers are raised.
--- By the lemmas on an association that is found and on that change (`RxRows`).
-use Rattle.std.proofs.Common.{length, ap, ◌∙◌, arith, rules}
+-- The key of the association is in the table, and the association at the place that was found is raised, which is the
+-- change that is defined.
+-- By the lemmas on an association that is found and on a change at a place (`RxRows`, `RowIndex`).
+use Rattle.std.proofs.Common.{◌≡◌, ◌∙◌, ap, refl, arith, rules}
 use Rattle.std.specs.Prelude.{IsSome}
 use Rattle.macsec_suite.specs.KeyRows.{key_row}
-use Rattle.macsec_rx.proofs.RxRows.{AreRxRows-raised, AreRxRows-refill, found_if_there, holds_of_row}
+use Rattle.macsec_pn.specs.Numbers.{raise}
+use Rattle.macsec_rx.specs.Channels.{with_numbers}
+use Rattle.macsec_rx.specs.Commands.{row_raised}
+use Rattle.macsec_rx.proofs.RowIndex.{IsRxRow-at, is_found, with_rx-set}
+use Rattle.macsec_rx.proofs.RxRows.{IsRxRow-raised, found_if_there, holds_of_row}
 use Rattle.macsec_rx.proofs.channels.RxChannels.rx_low.Goals as goal
 
 pub unwrap-requires : goal.unwrap-requires
 unwrap-requires c =
-    let there : IsSome (key_row c.args.keys.now c.in_ok-row.row.key) =
-    holds_of_row (λ row. IsSome (key_row c.args.keys.now row.key)) _ _ _ _ c.requires c.in_ok-row.ensures.row in
+    let there : IsSome (key_row c.args.keys.now c.in_ok-place.row.key) =
+    holds_of_row (λ row. IsSome (key_row c.args.keys.now row.key)) _ _ _ _ c.requires c.in_ok-place.ensures.row in
     found_if_there c.key.result _ _ c.key.ensures.row there
 
-pub invariant_of-self : goal.invariant_of-self
-invariant_of-self c = record {
-  count = c.self.invariant.count;
-  scis = c.self.invariant.scis;
-  rows = AreRxRows-refill _ _ _ (c.raise.auto.rows ∙ ap length c.as_mut_slice.ensures.value)
-      (rw (c.raise.ensures, c.as_mut_slice.ensures.value) (AreRxRows-raised _ c.args.pn c.args.sci c.args.an (omega arith) (omega (arith, c.ranges.pn.fits)) _ c.self.invariant.rows));
-}
+changed : (c : goal.After-with_numbers) → c.with_numbers.result ≡ row_raised c.args.pn c.in_ok-place.row
+changed c = c.with_numbers.ensures ∙ ap (λ n. with_numbers n c.in_ok-place.row) (c.raise.ensures ∙ ap (λ n. raise n c.args.pn) c.numbers-numbers.ensures)
+
+pub put-requires-clause-there : goal.put-requires-clause-there
+put-requires-clause-there c = rw (c.in_ok-place.ensures.place, changed c) (refl, refl)
+
+pub put-requires-clause-row : goal.put-requires-clause-row
+put-requires-clause-row c =
+    rw (changed c)
+    (IsRxRow-raised _ c.args.pn c.in_ok-place.row (omega arith) (omega (arith, c.ranges.pn.fits)) (IsRxRow-at _ _ c.in_ok-place.place c.in_ok-place.row c.in_ok-place.ensures.channels.rows c.in_ok-place.ensures.place))
+
+pub returns-clause-done : goal.returns-clause-done
+returns-clause-done c =
+    let old = c.args.self.now in
+    let same = with_rx-set old.scis (row_raised c.args.pn) old.rows c.args.sci c.args.an c.in_ok-place.place c.in_ok-place.row c.in_ok-place.ensures.channels.rows c.in_ok-place.ensures.place
+    (is_found old.rows c.args.sci c.args.an c.in_ok-place.row c.in_ok-place.ensures.row) in
+    let here : c.with_numbers.result ≡ row_raised c.args.pn c.in_ok-place.row =
+    c.with_numbers.ensures ∙ ap (λ n. with_numbers n c.in_ok-place.row) (c.raise.ensures ∙ ap (λ n. raise n c.args.pn) c.numbers-numbers.ensures) in
+    rw (same, ← here) c.put.ensures.rows
 
 -- For speed: the prover finds this by itself too, but on a mutant it would try more than this search.
 pub returns-clause-refusal : goal.returns-clause-refusal
 returns-clause-refusal c = search rules
-
-pub returns-clause-channels : goal.returns-clause-channels
-returns-clause-channels c = invariant_of-self c

@@ -1,16 +1,21 @@
--- What holds of the channels still holds once an association is enabled.
--- By the lemma on that change (`RxRows`).
-use Rattle.std.proofs.Common.{length, ap, ◌∙◌, true}
-use Rattle.macsec_rx.proofs.RxRows.{AreRxRows-refill, AreRxRows-switched}
+-- The association at the place that was found is enabled, which is the change that is defined.
+-- By the lemma on a change at a place (`RowIndex`).
+use Rattle.std.proofs.Common.{refl, true}
+use Rattle.macsec_rx.specs.Commands.{row_switched}
+use Rattle.macsec_rx.proofs.RowIndex.{IsRxRow-at, is_found, with_rx-set}
+use Rattle.macsec_rx.proofs.RxRows.{IsRxRow-switched}
 use Rattle.macsec_rx.proofs.channels.RxChannels.rx_on.Goals as goal
 
-pub invariant_of-self : goal.invariant_of-self
-invariant_of-self c = record {
-  count = c.self.invariant.count;
-  scis = c.self.invariant.scis;
-  rows = AreRxRows-refill _ _ _ (c.switch.auto.rows ∙ ap length c.as_mut_slice.ensures.value)
-      (rw (c.switch.ensures, c.as_mut_slice.ensures.value) (AreRxRows-switched _ true c.args.sci c.args.an _ c.self.invariant.rows));
-}
+pub put-requires-clause-there : goal.put-requires-clause-there
+put-requires-clause-there c = rw c.in_ok-place.ensures.place (refl, refl)
 
-pub returns-clause-channels : goal.returns-clause-channels
-returns-clause-channels c = invariant_of-self c
+pub put-requires-clause-row : goal.put-requires-clause-row
+put-requires-clause-row c =
+    IsRxRow-switched _ true c.in_ok-place.row (IsRxRow-at _ _ c.in_ok-place.place c.in_ok-place.row c.in_ok-place.ensures.channels.rows c.in_ok-place.ensures.place)
+
+pub returns-clause-done : goal.returns-clause-done
+returns-clause-done c =
+    let old = c.args.self.now in
+    let same = with_rx-set old.scis (row_switched true) old.rows c.args.sci c.args.an c.in_ok-place.place c.in_ok-place.row c.in_ok-place.ensures.channels.rows c.in_ok-place.ensures.place
+    (is_found old.rows c.args.sci c.args.an c.in_ok-place.row c.in_ok-place.ensures.row) in
+    rw same c.put.ensures.rows

@@ -1,7 +1,9 @@
--- What holds of the channels holds with a new one, whose SCI is free.
--- By the lemmas on a channel that joins (`Scis`, `RxRows`).
-use Rattle.std.proofs.Common.{◌≡◌, ◌∙◌, ap, sym, false, rules}
+-- What holds of the channels and of the index holds with a new one, whose SCI is free.
+-- By the lemmas on a channel that joins (`Scis`, `RxRows`, `RowIndex`).
+use Rattle.std.proofs.Common.{◌≡◌, ◌∙◌, ◌<◌, ap, sym, false, length, arith, rules}
 use Rattle.macsec_rx.specs.Commands.{has_channel}
+use Rattle.macsec_rx.proofs.Room.{rows_fit}
+use Rattle.macsec_rx.proofs.RowIndex.{IsIndex-more_channels}
 use Rattle.macsec_rx.proofs.RxRows.{AreRxRows-more_channels}
 use Rattle.macsec_rx.proofs.Scis.{joined_scis, still_channel}
 use Rattle.macsec_rx.proofs.channels.RxChannels.rx_sc.Goals as goal
@@ -9,13 +11,18 @@ use Rattle.macsec_rx.proofs.channels.RxChannels.rx_sc.Goals as goal
 pub invariant_of-self : goal.invariant_of-self
 invariant_of-self c =
     let scis = c.self.inside.scis.items in
+    let rows = c.self.inside.rows.items in
     let free : has_channel scis c.args.sci ≡ false =
     ap (λ v. has_channel v.scis c.args.sci) c.self.view_is ∙ sym c.if-has_channel.ensures.there in
-    rw c.push.ensures.items (record {
-      count = search rules;
-      scis = joined_scis scis c.args.sci c.self.invariant.scis c.has_channel.ensures.sci free;
-      rows = AreRxRows-more_channels scis _ (still_channel scis c.args.sci) _ c.self.invariant.rows;
-    })
+    let few : length scis < 64 = search (rules, arith) in
+    rw c.push.ensures.items (
+      record {
+        count = search rules;
+        scis = joined_scis scis c.args.sci c.self.invariant.0.scis c.has_channel.ensures.sci free;
+        rows = AreRxRows-more_channels scis _ (still_channel scis c.args.sci) _ c.self.invariant.0.rows;
+      },
+      IsIndex-more_channels scis rows c.self.inside.places c.args.sci c.self.invariant.1 c.self.invariant.0.rows few (omega (arith, rows_fit scis rows c.self.invariant.0.rows, few)),
+    )
 
 pub returns-clause-channels : goal.returns-clause-channels
-returns-clause-channels c = invariant_of-self c
+returns-clause-channels c = (invariant_of-self c).0

@@ -1,4 +1,5 @@
--- What is left are the other channels and their associations, and what holds of the channels holds of them.
+-- What is left are the other channels and their associations, what holds of the channels holds of them, and the index is
+-- made anew.
 -- By the contracts of `retain`, which is a filter, and the lemmas on deletion (`Scis`, `RxRows`).
 use Rattle.std.proofs.Common.{◌≡◌, ◌≤◌, ap, rules, arith, length}
 use Rattle.std.specs.Prelude.{filter, not}
@@ -6,30 +7,42 @@ use Rattle.arrayvec.proofs.ArrayVecLemmas.{filter-from_retain}
 use Rattle.std.proofs.lemmas.List.Sums.{count_by-le-length, length-filter}
 use Rattle.macsec_rx.specs.Channels.{same_sci}
 use Rattle.macsec_rx.specs.Commands.{without_channel}
+use Rattle.macsec_rx.specs.Index.{IsIndex}
 use Rattle.macsec_rx.proofs.RxRows.{AreRxRows-filter}
 use Rattle.macsec_rx.proofs.Scis.{kept_scis, other_channel}
 use Rattle.macsec_rx.proofs.channels.RxChannels.rx_sc_del.Goals as goal
 
-kept_channels : (c : goal.After-retain-2) → c.retain.new.self.items ≡ filter (λ s. not (same_sci s c.args.sci)) c.self.inside.scis.items
-kept_channels c = filter-from_retain _ _ _ (λ x b f' y called. search rules) _ _ c.retain.ensures.filtered
-
-kept_rows : (c : goal.After-retain-2) → c.retain-2.new.self.items ≡ filter (λ row. not (same_sci row.sci c.args.sci)) c.self.inside.rows.items
-kept_rows c = filter-from_retain _ _ _ (λ x b f' y called. search rules) _ _ c.retain-2.ensures.filtered
+pub index_of-self-inside-requires-clause-rows : goal.index_of-self-inside-requires-clause-rows
+index_of-self-inside-requires-clause-rows c =
+    let scis = c.self.inside.scis.items in
+    let sci = c.args.sci in
+    let channels : c.retain.new.self.items ≡ filter (λ s. not (same_sci s sci)) scis = filter-from_retain _ _ _ (λ x b f' y called. search rules) _ _ c.retain.ensures.filtered in
+    let kept : c.retain-2.new.self.items ≡ filter (λ row. not (same_sci row.sci sci)) c.self.inside.rows.items = filter-from_retain _ _ _ (λ x b f' y called. search rules) _ _ c.retain-2.ensures.filtered in
+    rw (c.as_slice.ensures.value, c.as_slice-2.ensures.value, channels, kept)
+    (AreRxRows-filter scis _ _ (λ row other there. other_channel scis sci row.sci there other) _ c.self.invariant.0.rows)
 
 pub invariant_of-self : goal.invariant_of-self
 invariant_of-self c =
     let scis = c.self.inside.scis.items in
     let sci = c.args.sci in
+    let channels : c.retain.new.self.items ≡ filter (λ s. not (same_sci s sci)) scis = filter-from_retain _ _ _ (λ x b f' y called. search rules) _ _ c.retain.ensures.filtered in
+    let kept : c.retain-2.new.self.items ≡ filter (λ row. not (same_sci row.sci sci)) c.self.inside.rows.items = filter-from_retain _ _ _ (λ x b f' y called. search rules) _ _ c.retain-2.ensures.filtered in
     let fewer : length (filter (λ s. not (same_sci s sci)) scis) ≤ length scis =
     rw (length-filter (λ s. not (same_sci s sci)) scis) (count_by-le-length (λ s. not (same_sci s sci)) scis) in
-    rw (kept_channels c, kept_rows c) (record {
-      count = omega (arith, fewer, c.self.invariant.count);
-      scis = kept_scis _ scis c.self.invariant.scis;
-      rows = AreRxRows-filter scis _ _ (λ row other there. other_channel scis sci row.sci there other) _ c.self.invariant.rows;
-    })
+    let index : IsIndex c.retain.new.self.items c.retain-2.new.self.items c.index_of-self-inside.result = rw (← c.as_slice.ensures.value, ← c.as_slice-2.ensures.value) c.index_of-self-inside.ensures in (
+      rw (channels, kept) (record {
+        count = omega (arith, fewer, c.self.invariant.0.count);
+        scis = kept_scis _ scis c.self.invariant.0.scis;
+        rows = AreRxRows-filter scis _ _ (λ row other there. other_channel scis sci row.sci there other) _ c.self.invariant.0.rows;
+      }),
+      index,
+    )
 
 pub returns-clause-done : goal.returns-clause-done
-returns-clause-done c = rw (kept_channels c, kept_rows c) (ap (λ v. without_channel v c.args.sci) c.self.view_is)
+returns-clause-done c =
+    let channels : c.retain.new.self.items ≡ filter (λ s. not (same_sci s c.args.sci)) c.self.inside.scis.items = filter-from_retain _ _ _ (λ x b f' y called. search rules) _ _ c.retain.ensures.filtered in
+    let kept : c.retain-2.new.self.items ≡ filter (λ row. not (same_sci row.sci c.args.sci)) c.self.inside.rows.items = filter-from_retain _ _ _ (λ x b f' y called. search rules) _ _ c.retain-2.ensures.filtered in
+    rw (channels, kept) (ap (λ v. without_channel v c.args.sci) c.self.view_is)
 
 pub returns-clause-channels : goal.returns-clause-channels
-returns-clause-channels c = invariant_of-self c
+returns-clause-channels c = (invariant_of-self c).0

@@ -1,0 +1,42 @@
+-- The index finds the association, if there is one, and an SCI without a channel has none.
+-- By the lemmas on the index and on such an SCI (`RowIndex`).
+use Rattle.std.proofs.Common.{◌≡◌, ◌∙◌, ap, sym, arith, true, false, refl}
+use Rattle.std.specs.Prelude.{None, Some, slice_get}
+use Rattle.std.proofs.lemmas.Option.{slice_get_read, slice_get_past}
+use Rattle.macsec_rx.specs.Channels.{rx_row}
+use Rattle.macsec_rx.specs.Commands.{has_channel}
+use Rattle.macsec_rx.proofs.RowIndex.{rx_row-indexed, rx_row-no_channel}
+use Rattle.macsec_rx.proofs.channels.RxChannels.found.Goals as goal
+
+pub returns-in_err-channel-clause-row : goal.returns-in_err-channel-clause-row
+returns-in_err-channel-clause-row c =
+    let none : has_channel c.self.inside.scis.items c.args.sci ≡ false = rw (sym c.as_slice.ensures.value) (sym c.in_err-channel.ensures.there) in
+    let no_row : rx_row c.args.self.now.rows c.args.sci c.args.an ≡ None =
+    ap (λ v. rx_row v.rows c.args.sci c.args.an) (sym c.self.view_is) ∙ rx_row-no_channel c.self.inside.scis.items c.self.inside.rows.items c.args.sci c.args.an c.self.invariant.0.rows none in
+    rw c.from_residual.ensures no_row
+
+pub returns-in_err-row-clause-row : goal.returns-in_err-row-clause-row
+returns-in_err-row-clause-row c =
+    let scis = c.self.inside.scis.items in
+    let rows = c.self.inside.rows.items in
+    let there : has_channel scis c.args.sci ≡ true = rw (sym c.as_slice.ensures.value) (sym c.in_ok-channel.ensures.there) in
+    let found = rx_row-indexed scis rows c.self.inside.places c.args.sci c.args.an c.in_ok-channel.channel c.slot.result c.from-place.result c.self.invariant.1 there c.slot.ensures.number
+    (rw (sym c.as_slice.ensures.value) c.in_ok-channel.ensures.place) c.slot.ensures.slot (omega arith) in
+    let no_row : rx_row c.args.self.now.rows c.args.sci c.args.an ≡ None =
+    ap (λ v. rx_row v.rows c.args.sci c.args.an) (sym c.self.view_is) ∙ found ∙ slice_get_past rows c.from-place.result (grind arith) in
+    rw c.from_residual-in_err-row.ensures no_row
+
+pub returns-clause-row : goal.returns-clause-row
+returns-clause-row c =
+    let scis = c.self.inside.scis.items in
+    let rows = c.self.inside.rows.items in
+    let there : has_channel scis c.args.sci ≡ true = rw (sym c.as_slice.ensures.value) (sym c.in_ok-channel.ensures.there) in
+    let found = rx_row-indexed scis rows c.self.inside.places c.args.sci c.args.an c.in_ok-channel.channel c.slot.result c.from-place.result c.self.invariant.1 there c.slot.ensures.number
+    (rw (sym c.as_slice.ensures.value) c.in_ok-channel.ensures.place) c.slot.ensures.slot (omega arith) in
+    ap (λ v. rx_row v.rows c.args.sci c.args.an) (sym c.self.view_is) ∙ found ∙
+    slice_get_read rows _ c.from-place.result c.in_ok-row.row.now refl (grind arith) (rw c.as_slice-rows.ensures.value at c.in_ok-row.ensures.lookup.1)
+
+pub returns-clause-place : goal.returns-clause-place
+returns-clause-place c =
+    ap (λ v. slice_get v.rows c.from-place.result) (sym c.self.view_is) ∙
+    slice_get_read c.self.inside.rows.items _ c.from-place.result c.in_ok-row.row.now refl (grind arith) (rw c.as_slice-rows.ensures.value at c.in_ok-row.ensures.lookup.1)

@@ -1,0 +1,25 @@
+-- The association for a frame is the one of its channel and its number, if that is enabled.
+-- By the lemmas on that association (`RowIndex`).
+use Rattle.std.proofs.Common.{◌≡◌, ◌∙◌, sym}
+use Rattle.std.specs.Prelude.{Some}
+use Rattle.macsec_rx.specs.Judge.{sci_of}
+use Rattle.macsec_rx.proofs.RowIndex.{in_use-none, in_use-off, in_use-on}
+use Rattle.macsec_rx.proofs.channels.RxChannels.in_use.Goals as goal
+
+pub returns-in_err-place-clause-row : goal.returns-in_err-place-clause-row
+returns-in_err-place-clause-row c =
+    let known : sci_of c.args.self.now.scis c.args.mpdu.now ≡ Some c.in_ok-sci.sci = sym c.sci_of.ensures ∙ c.in_ok-sci.was in
+    let row = rw (c.an.ensures, c.tag.ensures) at c.in_err-place.ensures.row in
+    rw (c.from_residual-in_err-place.ensures, known) (sym (in_use-none c.args.self.now.rows c.in_ok-sci.sci c.args.mpdu.now.tag.an row))
+
+pub returns-then-row-clause-row : goal.returns-then-row-clause-row
+returns-then-row-clause-row c =
+    let known : sci_of c.args.self.now.scis c.args.mpdu.now ≡ Some c.in_ok-sci.sci = sym c.sci_of.ensures ∙ c.in_ok-sci.was in
+    let row = rw (c.an.ensures, c.tag.ensures) at c.in_ok-place.ensures.row in
+    rw known (sym (in_use-on c.args.self.now.scis c.args.self.now.rows c.in_ok-sci.sci c.args.mpdu.now.tag.an c.in_ok-place.row c.found.ensures.channels.rows row c.if-row.true))
+
+pub returns-else-row-clause-row : goal.returns-else-row-clause-row
+returns-else-row-clause-row c =
+    let known : sci_of c.args.self.now.scis c.args.mpdu.now ≡ Some c.in_ok-sci.sci = sym c.sci_of.ensures ∙ c.in_ok-sci.was in
+    let row = rw (c.an.ensures, c.tag.ensures) at c.in_ok-place.ensures.row in
+    rw known (sym (in_use-off c.args.self.now.scis c.args.self.now.rows c.in_ok-sci.sci c.args.mpdu.now.tag.an c.in_ok-place.row c.found.ensures.channels.rows row c.if-row.false))

@@ -1,0 +1,22 @@
+-- What holds of the channels and of the index still holds after a change of one association at its place.
+-- By the lemma on such a change (`ArePut-set` of `RowIndex`).
+use Rattle.std.proofs.Common.{◌≡◌, subst, sym}
+use Rattle.std.specs.Prelude.{IsSomeAnd, slice_get}
+use Rattle.std.proofs.Math.ListN.{set}
+use Rattle.std.proofs.lemmas.List.{length-set}
+use Rattle.macsec_rx.specs.Rows.{IsRxRow}
+use Rattle.macsec_rx.proofs.RowIndex.{ArePut-set}
+use Rattle.macsec_rx.proofs.RxRows.{refill-same_length}
+use Rattle.macsec_rx.proofs.channels.RxChannels.put.Goals as goal
+
+pub invariant_of-self : goal.invariant_of-self
+invariant_of-self c =
+    let rows = c.self.inside.rows.items in
+    let are = ArePut-set c.self.inside.scis.items rows c.self.inside.places c.args.place c.args.row c.self.invariant.0.rows c.self.invariant.1
+    (subst (λ v. IsSomeAnd (slice_get v.rows c.args.place) (λ old. (c.args.row.sci ≡ old.sci) × (c.args.row.an ≡ old.an))) (sym c.self.view_is) c.requires.there)
+    (subst (λ v. IsRxRow v.scis c.args.row) (sym c.self.view_is) c.requires.row) in
+    let after = refill-same_length rows (set rows c.args.place c.args.row) (length-set rows c.args.place c.args.row) in
+    rw (c.as_mut_slice.ensures.value, after) (record { count = c.self.invariant.0.count; scis = c.self.invariant.0.scis; rows = are.are }, are.index)
+
+pub returns-clause-channels : goal.returns-clause-channels
+returns-clause-channels c = (invariant_of-self c).0

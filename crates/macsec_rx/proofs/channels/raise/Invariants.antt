@@ -1,8 +1,0 @@
-use Rattle.std.proofs.Common.{◌≡◌, ◌++◌, map, take, drop}
-use Rattle.macsec_rx.specs.Channels.{at_place}
-use Rattle.macsec_rx.specs.Commands.{row_raised}
-use Rattle.macsec_rx.proofs.channels.raise.Given as goal
-
--- the rows before the index are raised, and the others as they were
-abbrev pub invariant-loop-row : goal.invariant-loop-row
-invariant-loop-row l = l.rows ≡ map (at_place (row_raised l.pn) l.sci l.an) (take l.row-index l.initial.rows) ++ drop l.row-index l.initial.rows

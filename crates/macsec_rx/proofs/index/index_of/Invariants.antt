@@ -1,0 +1,7 @@
+use Rattle.std.proofs.Common.{◌≡◌, length, take}
+use Rattle.macsec_rx.specs.Index.{IsIndex}
+use Rattle.macsec_rx.proofs.index.index_of.Given as goal
+
+-- the associations before the place are in the index
+abbrev pub invariant-loop-place : goal.invariant-loop-place
+invariant-loop-place l = IsIndex l.scis (take l.place l.rows) l.places

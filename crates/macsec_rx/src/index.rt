@@ -1,0 +1,76 @@
+//! The index of the associations: where each is among the rows, by the place of its channel and by its number.
+
+ghost use Rattle.std.specs.Prelude.{◌≡◌, ◌+◌, ◌*◌, ◌<◌, ◌≤◌, List, [], is_some, length, IfSome};
+ghost use Rattle.std.specs.Int.{to_be_bytes, w64};
+ghost use Rattle.macsec_tag.specs.declared.identifiers.Sci.{Sci};
+ghost use Rattle.macsec_rx.specs.Limits.{max_association_count, max_channel_count, max_row_count};
+ghost use Rattle.macsec_rx.specs.Channels.{same_sci};
+ghost use Rattle.macsec_rx.specs.Commands.{has_channel};
+ghost use Rattle.macsec_rx.specs.Index.{IsIndex, channel_place};
+ghost use Rattle.macsec_rx.specs.Rows.{AreRxRows};
+
+use crate::RxRow;
+use macsec_tag::{An, Sci};
+
+/// The place of an association that there is not: there are at most 256.
+const NO_PLACE: u16 = 256;
+
+/// The index of no associations.
+pub(crate) fn empty_index() -> [u16; 256]
+    ensures { (scis : List Sci) → IsIndex scis [] result }
+{
+    [NO_PLACE; 256]
+}
+
+/// The index of these associations of these channels.
+pub(crate) fn index_of(scis: &[Sci], rows: &[RxRow]) -> [u16; 256]
+    requires channels { length scis.now ≤ max_channel_count }
+    requires count { length rows.now ≤ max_row_count }
+    requires rows { AreRxRows scis.now rows.now }
+    ensures { IsIndex scis.now rows.now result }
+{
+    let mut places = empty_index();
+    for (place, row) in rows.iter().enumerate() {
+        let channel = channel_place(scis, row.sci).unwrap();
+        places[slot(channel, row.an)] = place as u16;
+    }
+    places
+}
+
+/// The slot of the association of this number in the index, by the place of its channel.
+pub(crate) fn slot(channel: usize, an: An) -> usize
+    requires { channel < max_channel_count }
+    ensures slot { result ≡ 4 * channel + an }
+    ensures within { result < max_row_count }
+    ensures number { an < max_association_count }
+{
+    4 * channel + usize::from(an.number())
+}
+
+/// The place of the channel with this SCI among the channels, if there is one.
+pub(crate) fn channel_place(scis: &[Sci], sci: Sci) -> Option<usize>
+    ensures there { is_some result ≡ has_channel scis.now sci }
+    ensures place { IfSome result (λ place. place ≡ channel_place scis.now sci) }
+    ensures within { IfSome result (λ place. place < length scis.now) }
+{
+    for (place, s) in scis.iter().enumerate() {
+        if same_sci(*s, sci) {
+            return Some(place);
+        }
+    }
+    None
+}
+
+/// Are the SCIs the same? They are compared as numbers, in one step: the SCI of a frame is compared with up to 64.
+pub fn same_sci(s: Sci, t: Sci) -> bool
+    ensures { result ≡ same_sci s t }
+{
+    number_of(s) == number_of(t)
+}
+
+/// The octets of an SCI as one number.
+fn number_of(sci: Sci) -> u64
+    ensures { to_be_bytes w64 result ≡ sci.0 }
+{
+    u64::from_be_bytes(sci.0)
+}
