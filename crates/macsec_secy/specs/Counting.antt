@@ -79,7 +79,7 @@ abbrev pub count_in_association : Verdict → ℕ → List (Option RxCounters) �
 count_in_association verdict an associations =
     slice_set associations an (option_map (count_verdict verdict) (counters_at associations an))
 
--- and by its channel
+-- the frame is counted by its channel
 abbrev pub count_in_channel : Verdict → ℕ → ChannelCounters → ChannelCounters
 count_in_channel verdict an row = record row {
   counters = count_verdict verdict row.counters;

@@ -3,18 +3,18 @@ use Rattle.std.specs.Prelude.{◌≡◌, ◌≤◌, ◌+◌, ℕ, List, length, 
 use Rattle.macsec_tag.specs.Limits.{min_frame_len, max_frame_len}
 use Rattle.macsec_secy.specs.Step.{Output, done, refused, leaves, dropped_no_sa, dropped_too_long, received, fault}
 
--- the frame has 14 to 9,248 octets
+-- the frame is as long as the shortest one at least, and as the longest one at most
 pub record HasFrameLength (frame : List ℕ) : Type 0 where
   pub least : min_frame_len ≤ length frame
   pub most : length frame ≤ max_frame_len
 
--- of a received frame: it has 14 to 9,248 octets itself, and what is delivered of it at the controlled port, if
--- anything is, has no more octets than it has
+-- a received frame has the length of a frame, and what is delivered of it at the controlled port, if anything is, has
+-- no more octets than it has
 pub record HasReceivedLengths (frame : List ℕ) (delivered : Option (List ℕ)) : Type 0 where
   pub shown : HasFrameLength frame
   pub controlled : IfSome delivered (λ d. length d ≤ length frame)
 
--- a frame that is sent has 14 to 9,248 octets; no other output but that of a received frame has a frame
+-- a frame that is sent has the length of a frame; no other output but that of a received frame has a frame
 abbrev pub HasFrameLengths : Output → Type 0
 HasFrameLengths done = Unit {0}
 HasFrameLengths (refused r) = Unit {0}

@@ -23,7 +23,7 @@ use Rattle.macsec_secy.specs.State.{State}
 abbrev pub sci_of_counters : ChannelCounters → Sci
 sci_of_counters row = row.sci
 
--- the counters have 64 bits: those of an endpoint
+-- the counters of an endpoint are numbers of 64 bits
 pub record AreCounters (c : Counters) : Type 0 where
   pub in_pkts_untagged : c.in_pkts_untagged < 2 ^ 64
   pub in_pkts_no_tag : c.in_pkts_no_tag < 2 ^ 64
@@ -37,14 +37,14 @@ pub record AreCounters (c : Counters) : Type 0 where
   pub out_pkts_too_long : c.out_pkts_too_long < 2 ^ 64
   pub out_pkts_no_sa : c.out_pkts_no_sa < 2 ^ 64
 
--- those of its transmit channel
+-- the counters of the transmit channel are numbers of 64 bits
 pub record AreTxCounters (c : TxCounters) : Type 0 where
   pub out_pkts_protected : c.out_pkts_protected < 2 ^ 64
   pub out_pkts_encrypted : c.out_pkts_encrypted < 2 ^ 64
   pub out_octets_protected : c.out_octets_protected < 2 ^ 64
   pub out_octets_encrypted : c.out_octets_encrypted < 2 ^ 64
 
--- those of a receive channel
+-- the counters of a receive channel or association are numbers of 64 bits
 pub record AreRxCounters (c : RxCounters) : Type 0 where
   pub in_pkts_ok : c.in_pkts_ok < 2 ^ 64
   pub in_pkts_unchecked : c.in_pkts_unchecked < 2 ^ 64
@@ -60,7 +60,7 @@ pub record AreOfAssociations (rows : List RxRow) (c : ChannelCounters) : Type 0 
   pub there : (an : ℕ) → is_some (counters_at c.associations an) ≡ has_rx rows c.sci an
   pub sum : c.counters ≡ added (sum_of c.associations) c.removed
 
--- the largest frame of the configuration has 64 to 9,248 octets, and the endpoint's SCI has 8; keys, transmit
+-- the largest frame of the configuration is within its limits, and the endpoint's SCI has 8 octets; keys, transmit
 -- associations and receive channels have their bounds; the replay window is not too wide beside the keys; the key of
 -- each association is in the table; each channel has its counters, in the order of the channels; the counters have 64
 -- bits; a channel's are the sums of its associations'; and the rows of the tables agree with one another

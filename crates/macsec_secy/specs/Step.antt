@@ -46,7 +46,7 @@ pub data Output : Type 0 where
   received : (verdict : Verdict) → (row : Option (Sci × ℕ)) → (shown : List ℕ) → (controlled : Option (List ℕ)) → Output
   fault : FrameFault → Output
 
--- the fault of a frame that has fewer than 14 octets, or more than 9,248; it changes nothing
+-- the fault of a frame that is shorter than the shortest one, or longer than the longest; it changes nothing
 abbrev pub frame_fault : List ℕ → Option FrameFault
 frame_fault frame =
     if nat_lt (length frame) min_frame_len then Some Short

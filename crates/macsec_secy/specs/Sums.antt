@@ -16,16 +16,16 @@ abbrev pub packets_of : Counters → ℕ
 packets_of c =
     c.in_pkts_untagged + c.in_pkts_no_tag + c.in_pkts_bad_tag + c.in_pkts_reserved + c.in_pkts_no_sa + c.in_pkts_no_sa_error
 
--- and those that a channel counts
+-- the received packets that a channel counts
 abbrev pub channel_packets_of : RxCounters → ℕ
 channel_packets_of c =
     c.in_pkts_ok + c.in_pkts_unchecked + c.in_pkts_delayed + c.in_pkts_late + c.in_pkts_invalid + c.in_pkts_not_valid
 
--- the sum
+-- their sum over the endpoint and its channels, modulo 2^64
 abbrev pub frames_counted : State → ℕ
 frames_counted s = (packets_of s.counters + sum_by (λ row. channel_packets_of row.counters) s.rx_counters) % 2 ^ 64
 
--- by how much an input raises it: a received frame of 14 to 9,248 octets by one
+-- by how much an input raises it: a received frame that is not at fault by one
 abbrev pub frames_added : Input → ℕ
 frames_added (operator_command c) = 0
 frames_added (client_frame frame) = 0

@@ -14,9 +14,9 @@ pub enum DropReason {
 /// What becomes of a client frame.
 #[derive(Drop)]
 pub enum Sent<'a> {
-    /// This frame is sent, protected under the key of this number, or as it is. It borrows from the endpoint's buffer
-    /// or from the caller's frame.
-    Link { frame: &'a [u8], under: Option<u8> },
+    /// This frame is sent, protected under the key of this number, 0 to 4,095, or as it is. It borrows from the
+    /// endpoint's buffer or from the caller's frame.
+    Link { frame: &'a [u8], under: Option<u16> },
     /// Nothing is sent.
     Dropped(DropReason),
 }
@@ -27,6 +27,7 @@ pub struct Received<'a> {
     /// The verdict.
     pub verdict: Verdict,
     /// The association that it is for, by the SCI of its channel and its number, 0 to 3, if the verdict depends on one.
+    /// `Secy::rx_row` returns it.
     pub row: Option<(Sci, u8)>,
     /// The frame at the uncontrolled port: as it came.
     pub uncontrolled: &'a [u8],

@@ -7,6 +7,7 @@ ghost use Rattle.macsec_secy.specs.Verdicts.{at_first, counted_at_place};
 
 use crate::counters::ASSOCIATION_COUNT;
 use crate::{An, ChannelCounters, RxCounters, Sci, Verdict};
+use macsec_rx::same_sci;
 
 impl RxCounters {
     /// Counters of 0.
@@ -130,7 +131,7 @@ fn count_at(rows: &mut [ChannelCounters], verdict: Verdict, sci: Sci, an: An)
     ensures { rows.new ≡ at_first (count_in_channel verdict an) sci rows.old }
 {
     for row in rows.iter_mut() {
-        if row.sci == sci {
+        if same_sci(row.sci, sci) {
             row.count(verdict, an);
             return;
         }

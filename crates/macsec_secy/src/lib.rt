@@ -1,4 +1,21 @@
 //! The endpoint: the MAC security entity (IEEE 802.1AE, clause 10).
+//!
+//! Proved: `Secy::new` gives the start, or `MaxFrame` or `SciForm` exactly when the configuration has them, in this
+//! order, or `Memory`. `command`, `send`, `send_uncontrolled` and `receive` are, for every argument and in every state,
+//! one step of the machine of `specs/Step.antt`: the result, the frames returned, and the state after with all
+//! counters. The calls that read return parts of that state. Each counter that `rx_counters` returns is, modulo 2^64,
+//! the sum of those of the channel's associations (`rx_sa_counters`) and of `rx_removed`. Each link frame of 14 to
+//! 9,248 octets raises the sum of the counters InPkts of the endpoint and its channels by one, modulo 2^64, and no
+//! other call changes that sum but a `command` that deletes a channel (`AddsFrames`). The calls that make or change an
+//! endpoint also state what holds of it at all times (`IsSound`, and in it `Agrees`). By their types only `new` is
+//! handed an allocator.
+//!
+//! Laws of the machine (`laws`). `uses_no_number_twice`: for every list of inputs the packet numbers of the frames that
+//! are sent protected under one key number rise in the order of sending. `accepts_sent`: what another endpoint
+//! protected, also with octets after it if its SL is not 0, gets the verdict `OK` and gives the client frame, if the
+//! conditions of `specs/Accepts.antt` hold. `rows_agree`, `keys_stay` and `rx_rows_stay`: what a step keeps.
+//! `lengths_of_frames` and `lengths_of_protected_frames`; `protects_frames` and `delivers_in_time`: what is known of
+//! the association by which a frame is protected or delivered.
 #![tactic(auto)]
 
 ghost use Rattle.std.specs.Prelude.{◌≡◌, IfOk};
@@ -26,8 +43,8 @@ use associations::count_at_row;
 pub use counters::{ChannelCounters, Counters, RxCounters, TxCounters};
 pub use fault::FrameFault;
 pub use macsec_commands::{
-    An, Command, EndConfig, Key, MAX_FRAME_LEN, MIN_MAX_FRAME, Mode, NewFault, NewKey, Sci, Suite,
-    TagForm,
+    An, Command, EndConfig, Key, KeyNumber, MAX_FRAME_LEN, MIN_MAX_FRAME, Mode, NewFault, NewKey,
+    Sci, Suite, TagForm,
 };
 use macsec_rx::RxChannels;
 pub use macsec_rx::{RxRow, Verdict};
@@ -52,7 +69,7 @@ pub struct Secy {
     rx: RxChannels,
     counters: Counters,
     tx_counters: TxCounters,
-    rx_counters: ArrayVec<ChannelCounters, 8>,
+    rx_counters: ArrayVec<ChannelCounters, 64>,
     room: Vec<u8>,
 }
 
@@ -131,6 +148,17 @@ impl Secy {
         ensures sum { AddsFrames self.old (operator_command command.now) }
         ensures sound { IsSound self.new }
     {
+        // For the prover alone: from here on it knows that the endpoint is sound. The compiler deletes the line.
+        let _ = &self.counters;
+        self.carry_out(command)
+    }
+
+    /// Carries out a management command, or refuses it and changes nothing.
+    fn carry_out(&mut self, command: &Command) -> Result<(), Refusal>
+        ensures output { output_of_command result ≡ (step self.old (operator_command command.now)).0 }
+        ensures after { self.new ≡ (step self.old (operator_command command.now)).1 }
+        ensures sound { IsSound self.new }
+    {
         match *command {
             Command::Protect(on) => {
                 self.options.protect = on;
@@ -197,7 +225,7 @@ impl Secy {
                 self.tx_counters
                     .count(encrypts, (frame.len() - ADDRESSES_LENGTH) as u64);
                 let frame = &self.room.as_slice()[..len];
-                let under = Some(key);
+                let under = Some(key.number());
                 Ok(Sent::Link { frame, under })
             }
             TxResult::NoSa => {
@@ -275,7 +303,7 @@ impl Secy {
         }
     }
 
-    /// The fault of a frame, if it has one: it has fewer than 14 octets, or more than 9,248.
+    /// The fault of a frame, if it has one.
     fn frame_fault(&self, frame: &[u8]) -> Option<FrameFault>
         ensures fault { result ≡ frame_fault frame.now }
         ensures sound { IsSound self.now }

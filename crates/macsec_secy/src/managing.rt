@@ -8,7 +8,7 @@ ghost use Rattle.macsec_secy.specs.State.{tx_options};
 ghost use Rattle.macsec_secy.specs.Sound.{IsSound};
 ghost use Rattle.macsec_secy.specs.Commands.{refusal, state_after_command, uses};
 
-use crate::{Mode, Refusal, Sci, Secy, TagForm};
+use crate::{KeyNumber, Mode, Refusal, Sci, Secy, TagForm};
 use macsec_commands::is_unfit;
 use macsec_tx::TxOptions;
 
@@ -52,7 +52,7 @@ impl Secy {
     }
 
     /// Does an association use the key of this number?
-    pub(crate) fn uses(&self, key: u8) -> bool
+    pub(crate) fn uses(&self, key: KeyNumber) -> bool
         ensures { result ≡ uses self.now key }
     {
         self.tx.uses(key) || self.rx.uses(key)

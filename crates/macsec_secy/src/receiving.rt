@@ -11,7 +11,7 @@ ghost use Rattle.macsec_secy.specs.Sound.{IsSound};
 ghost use Rattle.macsec_secy.specs.Commands.{refusal, state_after_command};
 
 use crate::associations::{add_association, remove_association};
-use crate::{An, ChannelCounters, Counters, Mode, Refusal, Sci, Secy, Verdict};
+use crate::{An, ChannelCounters, Counters, KeyNumber, Mode, Refusal, Sci, Secy, Verdict};
 use macsec_rx::{Judged, RxOptions};
 
 impl Secy {
@@ -42,7 +42,7 @@ impl Secy {
         &mut self,
         sci: Sci,
         an: An,
-        key: u8,
+        key: KeyNumber,
         ssci: u32,
         lowest: u64,
     ) -> Result<(), Refusal>

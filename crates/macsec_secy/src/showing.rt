@@ -14,7 +14,7 @@ use crate::{
 };
 
 impl Secy {
-    /// The options.
+    /// The options that commands set.
     pub fn options(&self) -> Options
         ensures { result ≡ self.now.options }
     {
@@ -35,7 +35,7 @@ impl Secy {
         self.tx_counters
     }
 
-    /// The transmit association of this number, if there is one.
+    /// The transmit association (secure association) of this number, if there is one.
     pub fn tx_row(&self, an: An) -> Option<TxRow>
         ensures { result ≡ tx_row self.now.tx an }
     {
@@ -84,7 +84,7 @@ impl Secy {
     }
 
     /// The SCI of the receive channel at this place in the order of creation, from 0, if there is one. There are at
-    /// most eight.
+    /// most 64.
     pub fn rx_channel(&self, place: usize) -> Option<Sci>
         ensures sci { result ≡ slice_get self.now.rx.scis place }
         ensures count { length self.now.rx.scis ≤ max_channel_count }
@@ -92,7 +92,7 @@ impl Secy {
         self.rx.channel(place)
     }
 
-    /// The receive association of this channel and of this number, if there is one.
+    /// The receive association (secure association) of this channel and of this number, if there is one.
     pub fn rx_row(&self, sci: Sci, an: An) -> Option<RxRow>
         ensures { result ≡ rx_row self.now.rx.rows sci an }
     {

@@ -2,8 +2,8 @@
 //! under which a frame is sent, the association that a received frame is for, and what deleted ones had counted.
 
 use macsec_secy::{
-    An, Command, DropReason, EndConfig, FrameFault, Key, Mode, NewFault, NewKey, Options,
-    RxCounters, Sci, Secy, Sent, Suite, TagForm, Verdict,
+    An, Command, DropReason, EndConfig, FrameFault, Key, KeyNumber, Mode, NewFault, NewKey,
+    Options, RxCounters, Sci, Secy, Sent, Suite, TagForm, Verdict,
 };
 use macsec_vectors::{CLIENT_54, CLIENT_60, KEY_128, LINK_54, LINK_60, SCI};
 use std::alloc::Global;
@@ -15,17 +15,6 @@ const SENDER: EndConfig = EndConfig {
     sci: Sci(SCI),
     max_frame: 1518,
     form: TagForm::Sci,
-};
-
-/// The key of the test frames, at the sender. With its salt, its SSCI and `EXTENDED_NUMBER` the IV is that of the
-/// test frames.
-const SENDERS_KEY: NewKey = NewKey {
-    number: 5,
-    bytes: Key::K128(KEY_128),
-    salt: [0x12, 0x15, 0x35, 0x25, 0xc0, 0x89, 0x5e, 0x80, 0, 0, 0, 0],
-    ssci: 1,
-    offset: 0,
-    suite: None,
 };
 
 const EXTENDED_NUMBER: u64 = 0x1_b2c2_8465;
@@ -40,9 +29,27 @@ const TOO_LONG: Answer = Answer::Dropped(DropReason::TooLong);
 /// What becomes of a client frame: of one that is sent, its octets and its key.
 #[derive(Clone, Copy, PartialEq, Eq, Debug)]
 enum Answer {
-    Sent(usize, Option<u8>),
+    Sent(usize, Option<u16>),
     Dropped(DropReason),
     Fault(FrameFault),
+}
+
+/// The number of the key of the test frames.
+fn key_number() -> KeyNumber {
+    KeyNumber::new(4095).unwrap()
+}
+
+/// The key of the test frames, at the sender. With its salt, its SSCI and `EXTENDED_NUMBER` the IV is that of the
+/// test frames.
+fn senders_key() -> NewKey {
+    NewKey {
+        number: key_number(),
+        bytes: Key::K128(KEY_128),
+        salt: [0x12, 0x15, 0x35, 0x25, 0xc0, 0x89, 0x5e, 0x80, 0, 0, 0, 0],
+        ssci: 1,
+        offset: 0,
+        suite: None,
+    }
 }
 
 fn an(rt: &impl Abort, number: u8) -> An {
@@ -124,10 +131,10 @@ fn lengths_of_frames(rt: HostRuntime) {
     };
     let an = an(&rt, 0);
     let commands = [
-        Command::Key(SENDERS_KEY),
+        Command::Key(senders_key()),
         Command::TxSa {
             an,
-            key: 5,
+            key: key_number(),
             next: 1,
             conf: true,
         },
@@ -137,8 +144,8 @@ fn lengths_of_frames(rt: HostRuntime) {
     let octets = [0; 9249];
     for (protect, length, wanted) in [
         (true, 13, Answer::Fault(FrameFault::Short)),
-        (true, 14, Answer::Sent(46, Some(5))),
-        (true, 9216, Answer::Sent(9248, Some(5))),
+        (true, 14, Answer::Sent(46, Some(4095))),
+        (true, 9216, Answer::Sent(9248, Some(4095))),
         (true, 9217, TOO_LONG),
         (true, 9248, TOO_LONG),
         (true, 9249, Answer::Fault(FrameFault::Long)),
@@ -198,7 +205,7 @@ fn receiver(rt: &impl Abort, alloc: Global) -> Secy {
     let key = NewKey {
         ssci: 2,
         suite: Some(Suite::Xpn128),
-        ..SENDERS_KEY
+        ..senders_key()
     };
     let sci = SENDER.sci;
     let (two, three) = (an(rt, 2), an(rt, 3));
@@ -208,7 +215,7 @@ fn receiver(rt: &impl Abort, alloc: Global) -> Secy {
         Command::RxSa {
             sci,
             an: two,
-            key: 5,
+            key: key_number(),
             ssci: 1,
             lowest: EXTENDED_NUMBER,
         },
@@ -216,7 +223,7 @@ fn receiver(rt: &impl Abort, alloc: Global) -> Secy {
         Command::RxSa {
             sci,
             an: three,
-            key: 5,
+            key: key_number(),
             ssci: 1,
             lowest: u64::MAX,
         },
@@ -355,7 +362,7 @@ fn counters_of_deleted_associations(rt: HostRuntime) {
     let again = Command::RxSa {
         sci,
         an: two,
-        key: 5,
+        key: key_number(),
         ssci: 1,
         lowest: EXTENDED_NUMBER,
     };

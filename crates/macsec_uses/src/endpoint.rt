@@ -8,8 +8,8 @@ ghost use Rattle.macsec_uses.specs.Answers.{octets_leaving, passes};
 ghost use Rattle.macsec_uses.specs.Ready.{key_of, ready_receiver, ready_sender};
 
 use macsec_secy::{
-    An, Command, EndConfig, FrameFault, Key, NewFault, NewKey, Refusal, Sci, Secy, Sent, Suite,
-    TagForm, Verdict,
+    An, Command, EndConfig, FrameFault, Key, KeyNumber, NewFault, NewKey, Refusal, Sci, Secy, Sent,
+    Suite, TagForm, Verdict,
 };
 use std::alloc::Global;
 use thiserror::Error;
@@ -25,12 +25,19 @@ pub enum SetupFault {
     Refused(#[from] Refusal),
 }
 
+/// The number of the key of both ends.
+pub fn key_number() -> KeyNumber
+    ensures { result ≡ 0 }
+{
+    KeyNumber::new(0).unwrap()
+}
+
 /// A key of GCM-AES-128, of number 0, with the confidentiality offset 0.
 pub fn key_of(bytes: [u8; 16]) -> NewKey
     ensures { result ≡ key_of bytes }
 {
     NewKey {
-        number: 0,
+        number: key_number(),
         bytes: Key::K128(bytes),
         salt: [0; 12],
         ssci: 0,
@@ -64,7 +71,7 @@ pub fn sender(alloc: Global, sci: Sci, bytes: [u8; 16]) -> Result<Secy, SetupFau
     secy.command(&Command::Key(key_of(bytes)))?;
     secy.command(&Command::TxSa {
         an,
-        key: 0,
+        key: key_number(),
         next: 1,
         conf: true,
     })?;
@@ -93,7 +100,7 @@ pub fn receiver(alloc: Global, sci: Sci, sender: Sci, bytes: [u8; 16]) -> Result
     secy.command(&Command::RxSa {
         sci: sender,
         an,
-        key: 0,
+        key: key_number(),
         ssci: 0,
         lowest: 1,
     })?;

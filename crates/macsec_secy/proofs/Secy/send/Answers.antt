@@ -52,7 +52,8 @@ returns-in-Made c =
       (refl, λ x. tt, search rules),
       record {
         after = tt;
-        output = ap (λ room. leaves (take c.in-Made.len room) (Some c.in-Made.key)) lent ∙
+        output = ap (λ n. leaves (take c.in-Made.len c.as_slice.result.now) (Some n)) c.number.ensures.value ∙
+            ap (λ room. leaves (take c.in-Made.len room) (Some c.in-Made.key)) lent ∙
             left_protected (the_view s.inside) c.args.frame.now fits c.tx_options-options.result c.tx_options-options.ensures c.in-Made.key (take c.in-Made.len sent.new.out)
             c.in-Made.ensures.leaving.0 ∙
             ap (λ s. (step s (client_frame c.args.frame.now)).0) s.view_is;
