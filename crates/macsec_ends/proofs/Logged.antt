@@ -1,5 +1,5 @@
 -- The live logs of an end are those of its receive associations, whatever comes in.
-use Rattle.std.proofs.Common.{◌≡◌, ℕ, Bool, true, false, cond, List, [], ◌∷◌, ◌++◌, map, filter, length, refl, ap, sym, subst, ◌∙◌}
+use Rattle.std.proofs.Common.{◌≡◌, ℕ, Bool, true, false, cond, List, [], ◌∷◌, ◌++◌, map, filter, refl, ap, sym, subst, ◌∙◌}
 use Rattle.std.specs.Prelude.{◌==◌, ◌&&◌, not, if◌then◌else◌, option_map, Option, Some, None}
 use Rattle.std.proofs.lemmas.List.{map-append}
 use Rattle.std.proofs.lemmas.List.Elements.{filter-append}
@@ -17,12 +17,11 @@ use Rattle.macsec_secy.specs.State.{State}
 use Rattle.macsec_secy.specs.Sound as endpoint
 use Rattle.macsec_secy.specs.Commands.{effect, refusal, unless_refused}
 use Rattle.macsec_secy.specs.Reception.{judgement_of, state_after_receiving}
-use Rattle.macsec_secy.specs.Step.{Input, operator_command, client_frame, link_frame, uncontrolled_frame, Output, command_output, done, refused, leaves, dropped_no_sa, dropped_too_long, received, fault, frame_fault, received_output, sending_of, sent_output, state_after_sending, step, unless_fault}
+use Rattle.macsec_secy.specs.Step.{Input, operator_command, client_frame, link_frame, uncontrolled_frame, Output, command_output, leaves, received, frame_fault, received_output, sending_of, sent_output, state_after_sending, step, unless_fault}
 use Rattle.macsec_ends.specs.Answers.{EndHappens}
-use Rattle.macsec_ends.specs.Logs.{AreLogged, DeliveryLog, SentLogs, association_of_log, association_of_row, delivered_after, is_live_at, live_logs, log_closing, log_delivering, logs_after_command, sent_after, with_first}
+use Rattle.macsec_ends.specs.Logs.{AreLogged, DeliveryLog, association_of_log, association_of_row, delivered_after, is_live_at, live_logs, log_closing, log_delivering, logs_after_command, with_first}
 use Rattle.macsec_ends.specs.Sound.{IsSoundEnd}
 use Rattle.macsec_ends.specs.Ends.{EndState, end_after}
-use Rattle.macsec_ends.proofs.SentLogs.{length-sending}
 
 abbrev Association : Type 0
 Association = Sci × ℕ × ℕ
@@ -192,22 +191,8 @@ input_logged e (link_frame frame) logged = frame_logged e.state frame (frame_fau
 
 -- ---- what holds of an end goes on
 
-length_sent : (input : Input) (output : Output) (logs : SentLogs) → length (sent_after input output logs) ≡ length logs
-length_sent (operator_command c) output logs = refl
-length_sent (client_frame frame) done logs = refl
-length_sent (client_frame frame) (refused r) logs = refl
-length_sent (client_frame frame) (leaves protected None) logs = refl
-length_sent (client_frame frame) (leaves protected (Some key)) logs = length-sending key frame logs
-length_sent (client_frame frame) dropped_no_sa logs = refl
-length_sent (client_frame frame) dropped_too_long logs = refl
-length_sent (client_frame frame) (received verdict row shown controlled) logs = refl
-length_sent (client_frame frame) (fault f) logs = refl
-length_sent (uncontrolled_frame frame) output logs = refl
-length_sent (link_frame frame) output logs = refl
-
 pub sound_after : (old : EndState) (input : Input) (output : Output) (new : EndState) → EndHappens old input output new → IsSoundEnd old → endpoint.IsSound new.state → IsSoundEnd new
 sound_after old input output new happens sound endpoint_sound = record {
   endpoint = endpoint_sound;
-  sent = ap (λ (e : EndState). length e.sent) happens.end ∙ length_sent input (step old.state input).0 old.sent ∙ sound.sent;
   logged = subst IsLoggedEnd (sym happens.end) (input_logged old input sound.logged);
 }

@@ -1,7 +1,7 @@
--- Places in the logs of what is sent: a frame that leaves protected is of a transmit association's key, whose log has one.
-use Rattle.std.proofs.Common.{◌≡◌, ◌∙◌, ℕ, zero, suc, ◌+◌, ◌<◌, Bool, true, false, List, [], ◌∷◌, ap, arith, get_or, length, length-set, refl, set, subst, sym}
-use Rattle.std.specs.Prelude.{◌==◌, if◌then◌else◌, nat_lt, slice_get, vec_capacity, vec_len, Option, Some, None, IfSome}
-use Rattle.std.specs.Global.{Vec}
+-- Places in the logs of what is sent: a frame that leaves protected is under a transmit association's key, of which
+-- there is one.
+use Rattle.std.proofs.Common.{◌≡◌, ◌∙◌, ℕ, zero, suc, ◌+◌, ◌<◌, ◌≤◌, Bool, true, false, List, [], ◌∷◌, ap, arith, get_or, length, refl, set, subst, sym}
+use Rattle.std.specs.Prelude.{◌==◌, if◌then◌else◌, nat_lt, Option, Some, None, IfSome}
 use Rattle.std.proofs.lemmas.Bool.{eq-eqb, eqb-true}
 use Rattle.macsec_suite.specs.KeyRows.{InstalledKey, the_key}
 use Rattle.macsec_suite.specs.Suites.{last_of}
@@ -12,33 +12,61 @@ use Rattle.macsec_tx.specs.Transmit.{Leaving, plain, protected, no_sa, too_long,
 use Rattle.macsec_secy.specs.Sound.{IsSound}
 use Rattle.macsec_secy.specs.State.{State, tx_options}
 use Rattle.macsec_secy.specs.Step.{Output, client_frame, frame_fault, leaves, sending_of, sent_output, state_after_sending, step, unless_fault}
-use Rattle.macsec_ends.specs.Kept.{HasPlace, HavePlaces}
+use Rattle.macsec_ends.specs.Kept.{HasPlace, HavePlaces, KeptSentLog, KeptSentLogs, sent_log_of, spare_under}
+use Rattle.macsec_ends.specs.Logs.{SentLog}
+use Rattle.macsec_ends.proofs.SentLogs.{HasNone, IsPlace}
 
 -- ---- one more place
 
-abbrev pub HasRoom : Vec (Vec ℕ) → Type 0
-HasRoom log = vec_len log < vec_capacity log
+-- the places under a key are those of its log
+pub spare_at : (key spare : ℕ) (logs : List KeptSentLog) (place : ℕ) (d : KeptSentLog) → IsPlace key logs place → spare_under logs spare key ≡ (get_or logs place d).spare
+spare_at key spare [] place d it = absurd it
+spare_at key spare (k ∷ logs) zero d it = rw it refl
+spare_at key spare (k ∷ logs) (suc place) d it = rw it.0 (spare_at key spare logs place d it.1)
 
-abbrev HasRoomAt : List (Vec (Vec ℕ)) → ℕ → Type 0
-HasRoomAt logs key = IfSome (slice_get logs key) HasRoom
+-- or, if there is none, those of a new one
+pub spare_nowhere : (key spare : ℕ) (logs : List KeptSentLog) → HasNone key logs → spare_under logs spare key ≡ spare
+spare_nowhere key spare [] none = refl
+spare_nowhere key spare (k ∷ logs) none = rw none.0 (spare_nowhere key spare logs none.1)
 
-room_made : (logs : List (Vec (Vec ℕ))) (key : ℕ) (new : Vec (Vec ℕ)) → HasRoom new → HasRoomAt (set logs key new) key
-room_made [] key new room = tt
-room_made (l ∷ logs) zero new room = room
-room_made (l ∷ logs) (suc key) new room = room_made logs key new room
+pub spare_made : (key spare : ℕ) (logs : List KeptSentLog) (place : ℕ) (old new : KeptSentLog) → IsPlace key logs place → old ≡ get_or logs place old → new.log ≡ old.log → spare_under (set logs place new) spare key ≡ new.spare
+spare_made key spare [] place old new it is same = absurd it
+spare_made key spare (k ∷ logs) zero old new it is same = rw (same, is, it) refl
+spare_made key spare (k ∷ logs) (suc place) old new it is same = rw it.0 (spare_made key spare logs place old new it.1 is same)
 
-room_stays : (logs : List (Vec (Vec ℕ))) (key k : ℕ) (old new : Vec (Vec ℕ)) → old ≡ get_or logs key old → (HasRoom old → HasRoom new) → HasRoomAt logs k → HasRoomAt (set logs key new) k
-room_stays [] key k old new is room has = has
-room_stays (l ∷ logs) zero zero old new is room has = room (subst HasRoom (sym is) has)
-room_stays (l ∷ logs) zero (suc k) old new is room has = has
-room_stays (l ∷ logs) (suc key) zero old new is room has = has
-room_stays (l ∷ logs) (suc key) (suc k) old new is room has = room_stays logs key k old new is room has
+-- more places of one log, or of a new one, are no fewer of another
+pub spare_stays : (key spare : ℕ) (logs : List KeptSentLog) (place : ℕ) (old new : KeptSentLog) → old ≡ get_or logs place old → new.log ≡ old.log → old.spare ≤ new.spare →
+    spare_under logs spare key ≤ spare_under (set logs place new) spare key
+spare_stays key spare [] place old new is same more = omega arith
+spare_stays key spare (k ∷ logs) zero old new is same more = by_test (new.log.key == key) (ap (λ (log : SentLog). log.key == key) (same ∙ ap sent_log_of is))
+  where
+    by_test : (b : Bool) → b ≡ (k.log.key == key) → spare_under (k ∷ logs) spare key ≤ (if b then new.spare else spare_under logs spare key)
+    by_test true is' = rw (sym is') (omega (arith, more, ap (λ (x : KeptSentLog). x.spare) is))
+    by_test false is' = rw (sym is') (omega arith)
+spare_stays key spare (k ∷ logs) (suc place) old new is same more = by_test (k.log.key == key) (spare_stays key spare logs place old new is same more)
+  where
+    by_test : (b : Bool) → spare_under logs spare key ≤ spare_under (set logs place new) spare key → (if b then k.spare else spare_under logs spare key) ≤ (if b then k.spare else spare_under (set logs place new) spare key)
+    by_test true later = omega arith
+    by_test false later = later
 
-pub place_made : (logs : List (Vec (Vec ℕ))) (key : ℕ) (new : Vec (Vec ℕ)) → key < length logs → HasRoom new → HasPlace (set logs key new) key
-place_made logs key new there room = record { there = omega (arith, there, length-set logs key new); room = room_made logs key new room }
+pub spare_more : (key : ℕ) (spare more : ℕ) (logs : List KeptSentLog) → spare ≤ more → spare_under logs spare key ≤ spare_under logs more key
+spare_more key spare more [] is = is
+spare_more key spare more (k ∷ logs) is = by_test (k.log.key == key) (spare_more key spare more logs is)
+  where
+    by_test : (b : Bool) → spare_under logs spare key ≤ spare_under logs more key → (if b then k.spare else spare_under logs spare key) ≤ (if b then k.spare else spare_under logs more key)
+    by_test true later = omega arith
+    by_test false later = later
 
-pub place_stays : (logs : List (Vec (Vec ℕ))) (key k : ℕ) (old new : Vec (Vec ℕ)) → old ≡ get_or logs key old → (HasRoom old → HasRoom new) → HasPlace logs k → HasPlace (set logs key new) k
-place_stays logs key k old new is room has = record { there = omega (arith, has.there, length-set logs key new); room = room_stays logs key k old new is room has.room }
+-- the place that there is under a key is in its log, or in a new one
+pub place_at : (key : ℕ) (kept now : KeptSentLogs) → kept ≡ now → HasPlace now key → (place : ℕ) (old : KeptSentLog) → IsPlace key kept.logs place → old ≡ get_or kept.logs place old → 1 ≤ old.spare
+place_at key kept now same has place old it is =
+    let here = subst (λ (k : KeptSentLogs). HasPlace k key) (sym same) has in
+    omega (arith, here, spare_at key kept.spare kept.logs place old it, ap (λ (k : KeptSentLog). k.spare) is)
+
+pub place_anew : (key : ℕ) (kept now : KeptSentLogs) → kept ≡ now → HasPlace now key → HasNone key kept.logs → 1 ≤ kept.spare
+place_anew key kept now same has none =
+    let here = subst (λ (k : KeptSentLogs). HasPlace k key) (sym same) has in
+    omega (arith, here, spare_nowhere key kept.spare kept.logs none)
 
 -- ---- the association that sends
 
@@ -62,19 +90,19 @@ on_is_there (first ∷ rows) are = by_on first.on (row_on rows) (on_is_there row
     by_on false (Some row) later = record { an = later.an; there = by_number row later.there (first.an == row.an) refl }
 
 -- the key under which a frame leaves has a place
-abbrev HasPlaceFor : List (Vec (Vec ℕ)) → Leaving → Type 0
-HasPlaceFor logs plain = Unit {0}
-HasPlaceFor logs (protected key made) = HasPlace logs key
-HasPlaceFor logs no_sa = Unit {0}
-HasPlaceFor logs too_long = Unit {0}
+abbrev HasPlaceFor : KeptSentLogs → Leaving → Type 0
+HasPlaceFor kept plain = Unit {0}
+HasPlaceFor kept (protected key made) = HasPlace kept key
+HasPlaceFor kept no_sa = Unit {0}
+HasPlaceFor kept too_long = Unit {0}
 
 -- what goes out for a frame without fault
 output_is : (s : State) (frame : List ℕ) → frame_fault frame ≡ None → step s (client_frame frame) ≡ (sent_output frame (sending_of s frame).leaving, state_after_sending s frame (sending_of s frame))
 output_is s frame fits = ap (λ f. unless_fault f s (sent_output frame (sending_of s frame).leaving, state_after_sending s frame (sending_of s frame))) fits
 
-module _ (logs : List (Vec (Vec ℕ))) where
-  made_by : (options : TxOptions) (keys : List InstalledKey) (frame : List ℕ) (rows : List TxRow) → HavePlaces rows logs → (on : Option TxRow) → IfSome on (IsThere rows) →
-      HasPlaceFor logs (sending_by options keys frame on).leaving
+module _ (kept : KeptSentLogs) where
+  made_by : (options : TxOptions) (keys : List InstalledKey) (frame : List ℕ) (rows : List TxRow) → HavePlaces rows kept → (on : Option TxRow) → IfSome on (IsThere rows) →
+      HasPlaceFor kept (sending_by options keys frame on).leaving
   made_by options keys frame rows have None there = tt
   made_by options keys frame rows have (Some row) there =
       by_tests (nat_lt (last_of (the_key keys row.key).suite) row.next) (nat_lt options.max_frame (length frame + octets_added (tag_sent options row frame)))
@@ -82,29 +110,29 @@ module _ (logs : List (Vec (Vec ℕ))) where
       made : Sending
       made = record { leaving = protected row.key (protected_frame options (the_key keys row.key) row frame); by = Some row }
 
-      place : HasPlace logs row.key
-      place = subst (λ (o : Option TxRow). IfSome o (λ r. HasPlace logs r.key)) there.there (have row.an there.an)
+      place : HasPlace kept row.key
+      place = subst (λ (o : Option TxRow). IfSome o (λ r. HasPlace kept r.key)) there.there (have row.an there.an)
 
-      by_tests : (used long : Bool) → HasPlaceFor logs (if used then not_protected no_sa else if long then not_protected too_long else made).leaving
+      by_tests : (used long : Bool) → HasPlaceFor kept (if used then not_protected no_sa else if long then not_protected too_long else made).leaving
       by_tests true long = tt
       by_tests false true = tt
       by_tests false false = place
 
-  sending_has_place : (s : State) → IsSound s → HavePlaces s.tx logs → (frame : List ℕ) → HasPlaceFor logs (sending_of s frame).leaving
+  sending_has_place : (s : State) → IsSound s → HavePlaces s.tx kept → (frame : List ℕ) → HasPlaceFor kept (sending_of s frame).leaving
   sending_has_place s sound have frame = by_test s.options.protect (nat_lt s.config.max_frame (length frame))
     where
-      by_test : (protects long : Bool) → HasPlaceFor logs (if protects then sending_by (tx_options s) s.keys frame (row_on s.tx) else not_protected (if long then too_long else plain)).leaving
+      by_test : (protects long : Bool) → HasPlaceFor kept (if protects then sending_by (tx_options s) s.keys frame (row_on s.tx) else not_protected (if long then too_long else plain)).leaving
       by_test true long = made_by (tx_options s) s.keys frame s.tx have (row_on s.tx) (on_is_there s.tx sound.tx)
       by_test false true = tt
       by_test false false = tt
 
-  pub sent_has_place : (s : State) → IsSound s → HavePlaces s.tx logs → (frame link_frame : List ℕ) (key : ℕ) → frame_fault frame ≡ None →
-      leaves link_frame (Some key) ≡ (step s (client_frame frame)).0 → HasPlace logs key
+  pub sent_has_place : (s : State) → IsSound s → HavePlaces s.tx kept → (frame link_frame : List ℕ) (key : ℕ) → frame_fault frame ≡ None →
+      leaves link_frame (Some key) ≡ (step s (client_frame frame)).0 → HasPlace kept key
   sent_has_place s sound have frame link_frame key fits is =
       by_leaving (sending_of s frame).leaving (sending_has_place s sound have frame) (is ∙ ap (λ (a : Output × State). a.0) (output_is s frame fits))
     where
-      by_leaving : (leaving : Leaving) → HasPlaceFor logs leaving → leaves link_frame (Some key) ≡ sent_output frame leaving → HasPlace logs key
+      by_leaving : (leaving : Leaving) → HasPlaceFor kept leaving → leaves link_frame (Some key) ≡ sent_output frame leaving → HasPlace kept key
       by_leaving plain place is' = cc
-      by_leaving (protected under made) place is' = let it : under ≡ key = cc in subst (HasPlace logs) it place
+      by_leaving (protected under made) place is' = let it : under ≡ key = cc in subst (HasPlace kept) it place
       by_leaving no_sa place is' = cc
       by_leaving too_long place is' = cc

@@ -29,7 +29,7 @@ abbrev pub output_of_departure : Departure → Output
 output_of_departure (Link frame under) = leaves frame under
 output_of_departure (Dropped reason) = drop_output reason
 
--- what leaves has at most 9,248 octets
+-- what leaves is no longer than a frame may be
 abbrev pub HasLengths : Departure → Type 0
 HasLengths (Link frame under) = length frame ≤ max_frame_len
 HasLengths (Dropped reason) = Unit {0}

@@ -3,7 +3,7 @@ use Rattle.std.specs.Prelude.{List, []}
 use Rattle.macsec_commands.specs.declared.config.EndConfig.{EndConfig}
 use Rattle.macsec_secy.specs.State.{State, start}
 use Rattle.macsec_secy.specs.Step.{Input, Output}
-use Rattle.macsec_ends.specs.Logs.{SentLogs, DeliveryLog, no_sent_logs, sent_after, delivered_after}
+use Rattle.macsec_ends.specs.Logs.{SentLogs, DeliveryLog, sent_after, delivered_after}
 
 -- an endpoint; what its clients sent; and what was delivered, by the accepted commands that create a receive
 -- association, in their order
@@ -14,7 +14,7 @@ pub record EndState : Type 0 where
 
 -- a new end: nothing was sent at it or delivered yet
 abbrev pub new_end : EndConfig → EndState
-new_end config = record { state = start config; sent = no_sent_logs; delivered = [] }
+new_end config = record { state = start config; sent = []; delivered = [] }
 
 -- an end after an input, by the endpoint's output and its state
 abbrev pub end_after : EndState → Input → Output × State → EndState

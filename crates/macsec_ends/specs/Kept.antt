@@ -1,26 +1,41 @@
 -- The octets of frames that are kept, and the places for more of them in the logs of what is sent.
-use Rattle.std.specs.Prelude.{◌<◌, ℕ, List, length, map, slice_get, vec_capacity, vec_len, IfSome}
+use Rattle.std.specs.Prelude.{◌==◌, ◌<◌, ◌≤◌, ℕ, List, [], ◌∷◌, map, if◌then◌else◌, IfSome}
 use Rattle.std.specs.Global.{Vec}
 use Rattle.macsec_tx.specs.declared.TxRow.{TxRow}
 use Rattle.macsec_tx.specs.Transmit.{tx_row}
+use Rattle.macsec_ends.specs.Logs.{SentLog, SentLogs}
 
 -- the octets of each frame
 abbrev pub frames_kept : List (Vec ℕ) → List (List ℕ)
 frames_kept frames = map (λ f. f.items) frames
 
--- the frames of a log, in their order
-abbrev pub log_kept : Vec (Vec ℕ) → List (List ℕ)
-log_kept log = frames_kept log.items
+-- a log, and for how many more frames it has places
+pub record KeptSentLog : Type 0 where
+  pub log : SentLog
+  pub spare : ℕ
 
--- the frames of each log, by the key's number
-abbrev pub logs_kept : List (Vec (Vec ℕ)) → List (List (List ℕ))
-logs_kept logs = map log_kept logs
+-- the logs, and for how many frames a new one has places
+pub record KeptSentLogs : Type 0 where
+  pub logs : List KeptSentLog
+  pub spare : ℕ
 
--- there is a log of this key, and it has a place for one more frame
-pub record HasPlace (logs : List (Vec (Vec ℕ))) (key : ℕ) : Type 0 where
-  pub there : key < length logs
-  pub room : IfSome (slice_get logs key) (λ log. vec_len log < vec_capacity log)
+-- the log alone
+abbrev pub sent_log_of : KeptSentLog → SentLog
+sent_log_of k = k.log
 
--- the log of each transmit association's key has one
-abbrev pub HavePlaces : List TxRow → List (Vec (Vec ℕ)) → Type 0
-HavePlaces rows logs = (an : ℕ) → an < 4 → IfSome (tx_row rows an) (λ row. HasPlace logs row.key)
+-- the logs alone, in their order
+abbrev pub sent_logs_of : KeptSentLogs → SentLogs
+sent_logs_of kept = map sent_log_of kept.logs
+
+-- for how many more frames under the key of this number there are places: in its log, or else in a new one
+abbrev pub spare_under : List KeptSentLog → ℕ → ℕ → ℕ
+spare_under [] spare key = spare
+spare_under (k ∷ logs) spare key = if k.log.key == key then k.spare else spare_under logs spare key
+
+-- there is a place for one more frame under the key of this number
+abbrev pub HasPlace : KeptSentLogs → ℕ → Type 0
+HasPlace kept key = 1 ≤ spare_under kept.logs kept.spare key
+
+-- there is one under the key of each transmit association
+abbrev pub HavePlaces : List TxRow → KeptSentLogs → Type 0
+HavePlaces rows kept = (an : ℕ) → an < 4 → IfSome (tx_row rows an) (λ row. HasPlace kept row.key)

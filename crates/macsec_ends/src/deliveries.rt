@@ -6,7 +6,7 @@ ghost use Rattle.macsec_ends.specs.Logs.{is_live_at, log_closing, log_delivering
 ghost use Rattle.macsec_ends.specs.Kept.{frames_kept};
 ghost use Rattle.macsec_ends.specs.Places.{HasPlaceAt, live_places, logs_of, passes_at};
 
-use macsec_secy::{An, Command, Sci};
+use macsec_secy::{An, Command, KeyNumber, Sci};
 use std::alloc::{AllocError, Global};
 use std::marker::Model;
 
@@ -16,7 +16,7 @@ use std::marker::Model;
 pub(crate) struct Deliveries {
     sci: Sci,
     an: An,
-    key: u8,
+    key: KeyNumber,
     live: bool,
     frames: Vec<Vec<u8>>,
 }
@@ -36,7 +36,7 @@ impl Model for Deliveries {
 
 impl Deliveries {
     /// The log of a new association.
-    fn new(alloc: Global, sci: Sci, an: An, key: u8) -> Deliveries
+    fn new(alloc: Global, sci: Sci, an: An, key: KeyNumber) -> Deliveries
         ensures { result.log ≡ record { sci = sci; an = an; key = key; live = true; frames = [] } }
     {
         Deliveries {

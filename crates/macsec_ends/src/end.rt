@@ -13,40 +13,37 @@ ghost use Rattle.macsec_ends.specs.Sound.{IsSoundEnd};
 
 use crate::Frame;
 use crate::deliveries::{Deliveries, follow_command, push_delivered, reserve_live, reserve_log};
-use crate::sent::{push_at, reserve_places};
+use crate::sent::SentLogs;
 use macsec_secy::laws::{lengths_of_frames, lengths_of_protected_frames};
 use macsec_secy::{
-    Command, DropReason, EndConfig, NewFault, Received, Refusal, Secy, Sent, Verdict,
+    Command, DropReason, EndConfig, KeyNumber, NewFault, Received, Refusal, Secy, Sent, Verdict,
 };
 use std::alloc::{AllocError, Global};
 use std::marker::Model;
 
-/// The numbers of keys.
-const KEY_COUNT: usize = 256;
-
 /// The most octets that protection adds: a SecTAG with its SCI, and the ICV.
 const MOST_ADDED: usize = 32;
 
-/// An endpoint; the frames sent under each key, by its number; the frames delivered from each receive
-/// association, in the order of their creation; and the places of the live ones.
+/// An endpoint; the frames sent under each key; the frames delivered from each receive association, in the order
+/// of their creation; and the places of the live ones.
 #[derive(Drop)]
 pub struct EndLogs {
     secy: Secy,
-    sent: Vec<Vec<Vec<u8>>>,
+    sent: SentLogs,
     delivered: Vec<Deliveries>,
     live: Vec<usize>,
 }
 
-/// What becomes of a client frame.
+/// What becomes of a client frame at an end: it departs, or it is dropped.
 #[derive(Drop)]
 pub enum Departure {
-    /// This frame leaves, under the key of this number, or as it is.
-    Link { frame: Frame, under: Option<u8> },
-    /// Nothing leaves.
+    /// This frame leaves, under the key of this number, 0 to 4,095, or as it is.
+    Link { frame: Frame, under: Option<u16> },
+    /// Nothing leaves, for this reason.
     Dropped(DropReason),
 }
 
-/// What becomes of a link frame: the verdict, and what is delivered at the controlled port.
+/// What becomes of a link frame that an end hears: the verdict, and what is delivered at the controlled port.
 #[derive(Drop)]
 pub struct Hearing {
     pub verdict: Verdict,
@@ -54,17 +51,16 @@ pub struct Hearing {
 }
 
 impl Model for EndLogs {
-    ghost use Rattle.macsec_ends.specs.Kept.{logs_kept};
+    ghost use Rattle.macsec_ends.specs.Kept.{sent_logs_of};
     ghost use Rattle.macsec_ends.specs.Places.{IsKeptEnd, logs_of};
     ghost use Rattle.macsec_ends.specs.Ends.{EndState};
 
     ghost Value = { EndState };
 
-    ghost view = { λ e. record { state = e.secy; sent = logs_kept e.sent.items; delivered = logs_of e.delivered.items } };
+    ghost view = { λ e. record { state = e.secy; sent = sent_logs_of e.sent; delivered = logs_of e.delivered.items } };
 
-    // Its endpoint is sound, there is a log for each key's number, each receive association has its live log, and the
-    // table has the places of these logs.
-    ghost invariant = { λ e. IsKeptEnd (record { state = e.secy; sent = logs_kept e.sent.items; delivered = logs_of e.delivered.items }) e.live.items };
+    // Its endpoint is sound, each receive association has its live log, and the table has the places of these logs.
+    ghost invariant = { λ e. IsKeptEnd (record { state = e.secy; sent = sent_logs_of e.sent; delivered = logs_of e.delivered.items }) e.live.items };
 }
 
 impl EndLogs {
@@ -74,15 +70,9 @@ impl EndLogs {
         ensures sound { IfOk result IsSoundEnd }
     {
         let secy = Secy::new(alloc, config)?;
-        let Ok(mut sent) = Vec::with_capacity(alloc, KEY_COUNT) else {
-            return Err(NewFault::Memory);
-        };
-        for _key in 0..KEY_COUNT {
-            sent.push(Vec::new(alloc)).unwrap();
-        }
         Ok(EndLogs {
             secy,
-            sent,
+            sent: SentLogs::new(alloc),
             delivered: Vec::new(alloc),
             live: Vec::new(alloc),
         })
@@ -124,7 +114,7 @@ impl EndLogs {
         let _count = self.delivered.len();
         let copy = frame.to_vec(alloc)?;
         let mut link_frame = Vec::with_capacity(alloc, frame.len() + MOST_ADDED)?;
-        reserve_places(&mut self.sent, &self.secy)?;
+        self.sent.reserve_places(&self.secy)?;
         match self.secy.send(frame) {
             Ok(
                 Sent::Link {
@@ -133,7 +123,7 @@ impl EndLogs {
                 },
             ) => {
                 link_frame.extend_from_slice(lent).unwrap();
-                push_at(&mut self.sent, key, copy);
+                self.sent.push(alloc, key, copy);
                 let frame = Frame::new(link_frame);
                 let under = Some(key);
                 Ok(Departure::Link { frame, under })
@@ -212,10 +202,10 @@ impl EndLogs {
     }
 
     /// The client frames that were protected under the key of this number, in their order.
-    pub fn sent(&self, key: u8) -> &[Vec<u8>]
+    pub fn sent(&self, key: KeyNumber) -> &[Vec<u8>]
         ensures { frames_kept result.now ≡ sent_under self.now.sent key }
     {
-        self.sent[key as usize].as_slice()
+        self.sent.frames(key.number())
     }
 
     /// The frames delivered from the receive association of this number, from 0 in the order of creation, in

@@ -5,20 +5,19 @@ use Rattle.macsec_secy.specs.Frames.{HasFrameLength, HasFrameLengths, HasLengths
 use Rattle.macsec_secy.specs.Sound.{IsSound}
 use Rattle.macsec_secy.specs.Step.{client_frame, leaves, step}
 use Rattle.macsec_ends.specs.contracts.end.EndLogs.{the_view}
-use Rattle.macsec_ends.specs.Kept.{logs_kept}
+use Rattle.macsec_ends.specs.Kept.{sent_logs_of}
 use Rattle.macsec_ends.specs.Logs.{SentLogs, logs_sending}
 use Rattle.macsec_ends.specs.Places.{logs_of}
 use Rattle.macsec_ends.specs.Sound.{IsSoundEnd}
 use Rattle.macsec_ends.proofs.Logged.{sound_after}
-use Rattle.macsec_ends.proofs.SentLogs.{drops, kept_same, leaves_plain, leaves_under, on_err}
+use Rattle.macsec_ends.proofs.SentLogs.{drops, leaves_plain, leaves_under, on_err}
 use Rattle.macsec_ends.proofs.SentPlaces.{sent_has_place}
 use Rattle.macsec_ends.proofs.end.EndLogs.send.Goals as goal
 
 pub returns-in_err-reserve_places-clause-unchanged : goal.returns-in_err-reserve_places-clause-unchanged
 returns-in_err-reserve_places-clause-unchanged c =
-    let kept = kept_same c.reserve_places.new.logs.items c.self.inside.sent.items c.reserve_places.ensures.same in
     on_err c.from_residual-in_err-reserve_places.result
-    (ap (λ (logs : SentLogs). record { state = c.self.inside.secy; sent = logs; delivered = logs_of c.self.inside.delivered.items }) kept ∙ c.self.view_is)
+    (ap (λ (logs : SentLogs). record { state = c.self.inside.secy; sent = logs; delivered = logs_of c.self.inside.delivered.items }) c.reserve_places.ensures.same ∙ c.self.view_is)
 
 pub unwrap-requires : goal.unwrap-requires
 unwrap-requires c =
@@ -34,12 +33,12 @@ unwrap-requires-in-Ok-Link-default-None c =
     let same : length it.lent.now ≡ length c.args.frame.now = subst (HasLengthsFrom c.args.frame.now) (sym out) (c.lengths_of_protected_frames.ensures c.self.inside.secy c.args.frame.now c.self.invariant.sound.endpoint) in
     c.extend_from_slice-in-Ok-Link-default-None.ensures.succeeds (omega (arith, same, c.in_ok-link_frame.ensures.exact, c.in_ok-link_frame.ensures.len))
 
-pub push_at-requires : goal.push_at-requires
-push_at-requires c =
+pub push-requires : goal.push-requires
+push-requires c =
     let it = c.in-Ok-Link-default-Some in
     let out : leaves it.lent.now (Some it.key) ≡ (step c.self.inside.secy (client_frame c.args.frame.now)).0 = search rules in
     record {
-      place = sent_has_place c.reserve_places.new.logs.items c.self.inside.secy c.self.invariant.sound.endpoint c.in_ok-reserve_places.ensures.places c.args.frame.now it.lent.now it.key c.requires.fits out;
+      place = sent_has_place c.reserve_places.new.self c.self.inside.secy c.self.invariant.sound.endpoint c.in_ok-reserve_places.ensures.places c.args.frame.now it.lent.now it.key c.requires.fits out;
     }
 
 pub returns-in-Ok-Link-default-Some-clause-happens : goal.returns-in-Ok-Link-default-Some-clause-happens
@@ -49,8 +48,7 @@ returns-in-Ok-Link-default-Some-clause-happens c =
     let after : c.send.follows.lender-at-none ≡ (step c.self.inside.secy (client_frame c.args.frame.now)).1 = search rules in
     let made : c.new-frame.result ≡ it.lent.now = search rules in
     let copy : c.in_ok-copy.copy.items ≡ c.args.frame.now = search rules in
-    let kept = kept_same c.reserve_places.new.logs.items c.self.inside.sent.items c.reserve_places.ensures.same in
-    let sent = c.push_at.ensures ∙ ap (λ (f : List ℕ). logs_sending it.key f (logs_kept c.reserve_places.new.logs.items)) copy ∙ ap (logs_sending it.key c.args.frame.now) kept in
+    let sent = c.push.ensures ∙ ap (λ (f : List ℕ). logs_sending it.key f (sent_logs_of c.reserve_places.new.self)) copy ∙ ap (logs_sending it.key c.args.frame.now) c.reserve_places.ensures.same in
     leaves_under (the_view c.self.inside) c.args.frame.now c.send.follows.lender-at-none after c.args.self.now c.self.view_is it.lent.now c.new-frame.result made it.key _ sent out
 
 pub returns-in-Ok-Link-default-Some-clause-most : goal.returns-in-Ok-Link-default-Some-clause-most
@@ -75,8 +73,7 @@ returns-in-Ok-Link-default-None-clause-happens c =
     let out : leaves it.lent.now None ≡ (step c.self.inside.secy (client_frame c.args.frame.now)).0 = search rules in
     let after : c.send.follows.lender-at-none ≡ (step c.self.inside.secy (client_frame c.args.frame.now)).1 = search rules in
     let made : c.new-frame-in-Ok-Link-default-None.result ≡ it.lent.now = search rules in
-    let kept = kept_same c.reserve_places.new.logs.items c.self.inside.sent.items c.reserve_places.ensures.same in
-    leaves_plain (the_view c.self.inside) c.args.frame.now c.send.follows.lender-at-none after c.args.self.now c.self.view_is it.lent.now c.new-frame-in-Ok-Link-default-None.result made _ kept out
+    leaves_plain (the_view c.self.inside) c.args.frame.now c.send.follows.lender-at-none after c.args.self.now c.self.view_is it.lent.now c.new-frame-in-Ok-Link-default-None.result made _ c.reserve_places.ensures.same out
 
 pub returns-in-Ok-Link-default-None-clause-most : goal.returns-in-Ok-Link-default-None-clause-most
 returns-in-Ok-Link-default-None-clause-most c =
@@ -99,8 +96,7 @@ returns-in-Ok-Dropped-clause-happens c =
     let it = c.in-Ok-Dropped in
     let out : drop_output it.reason ≡ (step c.self.inside.secy (client_frame c.args.frame.now)).0 = search rules in
     let after : c.send.follows.lender-at-none ≡ (step c.self.inside.secy (client_frame c.args.frame.now)).1 = search rules in
-    let kept = kept_same c.reserve_places.new.logs.items c.self.inside.sent.items c.reserve_places.ensures.same in
-    drops (the_view c.self.inside) c.args.frame.now c.send.follows.lender-at-none after c.args.self.now c.self.view_is it.reason _ kept out
+    drops (the_view c.self.inside) c.args.frame.now c.send.follows.lender-at-none after c.args.self.now c.self.view_is it.reason _ c.reserve_places.ensures.same out
 
 pub returns-in-Ok-Dropped-clause-sound : goal.returns-in-Ok-Dropped-clause-sound
 returns-in-Ok-Dropped-clause-sound c =
