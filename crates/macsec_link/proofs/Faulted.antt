@@ -12,7 +12,7 @@ use Rattle.macsec_commands.specs.declared.fault.NewFault.{NewFault}
 use Rattle.macsec_commands.specs.Configs.{config_fault}
 use Rattle.macsec_link.specs.Answers.{Happens, RefusesMaking, RunsOutOfMemory, Steps, is_memory, make_fault, make_fault_of}
 use Rattle.macsec_link.specs.Faults.{FaultLine, fault_of, faults}
-use Rattle.macsec_link.specs.Step.{unless_fault}
+use Rattle.macsec_link.specs.Step.{happening_unless_fault}
 use Rattle.macsec_link.specs.World.{WorldState}
 
 abbrev AreNotMemory : List FaultLine → Type 0
@@ -39,8 +39,8 @@ not_memory w (Inject frame) = (refl, (refl, (refl, tt)))
 faulted : (w : WorldState) (event : Event) (fault : WorldFault) → fault_of w event ≡ Some fault → Steps w event (Err fault) w
 faulted w event fault is =
     subst (λ (b : Bool). MatchBool b (RunsOutOfMemory w event w) (Happens w event (Err fault) w)) (sym (first_is_not_memory (faults w event) fault (not_memory w event) is)) (record {
-      answer = ap (λ (o : Option WorldFault). (unless_fault o w event).0) (sym is);
-      world = ap (λ (o : Option WorldFault). (unless_fault o w event).1) (sym is);
+      answer = ap (λ (o : Option WorldFault). (happening_unless_fault o w event).0) (sym is);
+      world = ap (λ (o : Option WorldFault). (happening_unless_fault o w event).1) (sym is);
     })
 
 -- an event whose test returned a fault, which is passed on

@@ -1,8 +1,8 @@
 //! What the tests share: two ends, their commands, and frames.
 
 use macsec_link::{
-    An, Command, End, EndConfig, Event, Frame, Key, NewKey, Outcome, Sci, Suite, TagForm, Verdict,
-    World, WorldFault,
+    An, Command, End, EndConfig, Event, Frame, Key, KeyNumber, NewKey, Outcome, Sci, Suite,
+    TagForm, Verdict, World, WorldFault,
 };
 use macsec_vectors::{KEY_128, SCI};
 use std::alloc::Global;
@@ -35,12 +35,16 @@ pub fn an(rt: &impl Abort, number: u8) -> An {
     An::new(number).expect(rt, "an association number")
 }
 
+pub fn key_number(number: u8) -> KeyNumber {
+    KeyNumber::new(u16::from(number)).unwrap()
+}
+
 /// A key of 128 bits is installed: that of the test frames, but for its last octet.
 pub fn key(number: u8, ssci: u32) -> Command {
     let mut bytes = KEY_128;
     bytes[15] ^= number;
     Command::Key(NewKey {
-        number,
+        number: key_number(number),
         bytes: Key::K128(bytes),
         salt: [0; 12],
         ssci,
@@ -53,7 +57,7 @@ pub fn key(number: u8, ssci: u32) -> Command {
 pub fn tx_sa(an: An, key: u8, conf: bool) -> Command {
     Command::TxSa {
         an,
-        key,
+        key: key_number(key),
         next: 1,
         conf,
     }
@@ -64,7 +68,7 @@ pub fn rx_sa(an: An, key: u8, ssci: u32) -> Command {
     Command::RxSa {
         sci: A.sci,
         an,
-        key,
+        key: key_number(key),
         ssci,
         lowest: 1,
     }

@@ -1,6 +1,6 @@
 //! Ten frames over a link that repeats them, turns their order round and alters them.
 
-use crate::fixture::{Protection, associated, client, frame, result_of, verdict_on};
+use crate::fixture::{Protection, associated, client, frame, key_number, result_of, verdict_on};
 use macsec_link::{End, Event, Outcome, Suite, Verdict, World};
 use std::alloc::Global;
 use std::process::Abort;
@@ -164,7 +164,7 @@ fn are_clients(frames: &[Vec<u8>], lasts: &[u8]) -> bool {
 
 /// All frames were sent, and those with these last octets delivered, in the order of sending.
 fn assert_delivered(rt: &impl Abort, world: &World, lasts: &[u8]) {
-    let sent = world.sent(End::A, 0);
+    let sent = world.sent(End::A, key_number(0));
     let delivered = world.delivered(End::B, 0).expect(rt, "an association");
     assert!(rt; are_clients(sent, &ALL));
     assert!(rt; are_clients(delivered, lasts));

@@ -219,7 +219,10 @@ fn assert_logs(rt: &impl Abort, world: &World) {
         (End::B, 0, &octets[..0]),
     ] {
         assert!(rt;
-            is_log(Some(world.sent(end, key)), Some(clients)),
+            is_log(
+                Some(world.sent(end, fixture::key_number(key))),
+                Some(clients)
+            ),
             "sent under {key}"
         );
     }

@@ -34,7 +34,6 @@ use Rattle.macsec_link.specs.Acceptance.{IsDeliveredAs, IsOnLink}
 use Rattle.macsec_link.specs.Step.{world_after, world_at, world_step}
 use Rattle.macsec_link.specs.World.{WorldState, end_of, new_world, other_end}
 use Rattle.macsec_link.specs.Faults.{fault_of}
-use Rattle.macsec_ends.specs.Logs.{no_sent_logs}
 use Rattle.macsec_link.specs.Trace.{Trace}
 use Rattle.macsec_premises.proofs.SealedFrames.{Sealed, aad_sent, frame_with, sealed, tag_of, with_tag}
 use Rattle.macsec_premises.proofs.TracedSteps.{send_step, sent_by, trace_sent}
@@ -161,8 +160,8 @@ state_b b rx = record (start b) {
 -- the world before the frame is sent, with this state of B's endpoint
 abbrev pub world_before : EndConfig → ℕ → State → WorldState
 world_before a next b = record {
-  a = record { state = record (start a) { keys = key_row a.suite 1 ∷ []; tx = tx_from next ∷ [] }; sent = no_sent_logs; delivered = [] };
-  b = record { state = b; sent = no_sent_logs; delivered = log [] ∷ [] };
+  a = record { state = record (start a) { keys = key_row a.suite 1 ∷ []; tx = tx_from next ∷ [] }; sent = []; delivered = [] };
+  b = record { state = b; sent = []; delivered = log [] ∷ [] };
   frames = [];
 }
 

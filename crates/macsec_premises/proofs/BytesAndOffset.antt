@@ -28,7 +28,6 @@ use Rattle.macsec_secy.specs.State.{State, rx_options, start, tx_options}
 use Rattle.macsec_commands.specs.declared.event.End.TheVariants.{A, B}
 use Rattle.macsec_commands.specs.declared.event.Event.{Event}
 use Rattle.macsec_commands.specs.declared.event.Event.TheVariants.{Deliver, Send}
-use Rattle.macsec_ends.specs.Logs.{no_sent_logs}
 use Rattle.macsec_link.specs.Step.{world_step}
 use Rattle.macsec_link.specs.World.{WorldState}
 use Rattle.macsec_premises.proofs.AcceptancePremises.{Holds, HoldsIn, LawWithout, Premise, SameBytes, SameOffset, each_but, fails_by, frame_from, heard, key_row, seals_as_frame, state_b, tag_from, world_before, world_sent}
@@ -203,7 +202,7 @@ offset_0 = state_b gcm_b (rx_from 1)
 
 abbrev at_offset_30 : WorldState
 at_offset_30 = record (world_before gcm_a 1 offset_0) {
-  a = record { state = record (start gcm_a) { keys = key_30 ∷ []; tx = tx_conf ∷ [] }; sent = no_sent_logs; delivered = [] };
+  a = record { state = record (start gcm_a) { keys = key_30 ∷ []; tx = tx_conf ∷ [] }; sent = []; delivered = [] };
 }
 
 offset_judged : (t : List ℕ) → open_of bytes iv aad_0 user_data (items 16 t) ≡ None → judgement_of offset_0 (frame t) ≡ at_row (rx_from 1) 1 11 NotValid None

@@ -2,7 +2,7 @@
 -- frame comes to B at once, and B delivers both in their order. The cipher is not computed: of a tag it is known that it
 -- has 16 octets and opens.
 use Rattle.std.proofs.Common.{◌≡◌, ℕ, ◌+◌, ◌*◌, List, [], ◌∷◌, ◌++◌, refl, ap, sym, subst, ◌∙◌, arith}
-use Rattle.std.specs.Prelude.{replicate, slice_get, slice_set, true, false, Some, None}
+use Rattle.std.specs.Prelude.{replicate, slice_get, true, false, Some, None}
 use Rattle.macsec_gcm.specs.Gcm.{open_of}
 use Rattle.macsec_tag.specs.Table.{parts_at}
 use Rattle.macsec_suite.specs.declared.suite.Suite.TheVariants.{Gcm128}
@@ -25,7 +25,7 @@ use Rattle.macsec_commands.specs.declared.event.Event.TheVariants.{Deliver, Send
 use Rattle.macsec_link.specs.Genuine.{IsGenuine, IsGenuineAt}
 use Rattle.macsec_link.specs.Answers.{make_fault}
 use Rattle.macsec_link.specs.Keys.{AgreeOnKey, AgreeOnKeys}
-use Rattle.macsec_ends.specs.Logs.{no_sent_logs, sent_under}
+use Rattle.macsec_ends.specs.Logs.{sent_under}
 use Rattle.macsec_link.specs.Origin.{HasStrictOrder, IsStrict, WhileThere}
 use Rattle.macsec_link.specs.Step.{world_after}
 use Rattle.macsec_link.specs.World.{WorldState, new_world}
@@ -33,7 +33,7 @@ use Rattle.macsec_link.specs.Trace.{Mark, Trace, new_trace, trace_after, trace_s
 use Rattle.macsec_link.proofs.Moments.{world_of_trace}
 use Rattle.macsec_premises.proofs.SealedFrames.{Sealed, aad_sent, frame_with, items, opens, parts_with, sealed, tag_of, with_tag}
 use Rattle.macsec_premises.proofs.TracedSteps.{AtEach, WhileLive, after_both, at_moment, deliver_step, each_append, each_next, genuine_append, genuine_at, genuine_next, send_step, sent_by}
-use Rattle.macsec_premises.proofs.WorkedEnds.{bytes, counts, gcm_a, gcm_b, installed_key, log, new_key, no_salt, of_two, receives_from, rx_from, sci_a, sends_from, tx_from}
+use Rattle.macsec_premises.proofs.WorkedEnds.{bytes, counts, gcm_a, gcm_b, installed_key, log, logs_sent, new_key, no_salt, of_two, receives_from, rx_from, sci_a, sends_from, tx_from}
 
 -- a client's frame with two octets of data
 abbrev pub client : ℕ → List ℕ
@@ -64,7 +64,7 @@ trace_at options n row m counted sent delivered frames seals marks = record {
         tx = tx_from (n + 1) ∷ [];
         tx_counters = record no_tx_counters { out_pkts_protected = n; out_octets_protected = 2 * n };
       };
-      sent = slice_set no_sent_logs 0 sent;
+      sent = logs_sent sent;
       delivered = [];
     };
     b = record {
@@ -75,7 +75,7 @@ trace_at options n row m counted sent delivered frames seals marks = record {
         counters = record no_counters { in_octets_validated = m };
         rx_counters = counts counted ∷ [];
       };
-      sent = no_sent_logs;
+      sent = [];
       delivered = log delivered ∷ [];
     };
     frames = frames;

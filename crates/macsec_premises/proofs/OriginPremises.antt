@@ -21,7 +21,7 @@ use Rattle.macsec_commands.specs.declared.event.Event.{Event}
 use Rattle.macsec_commands.specs.declared.event.Event.TheVariants.{Command, Deliver, Inject}
 use Rattle.macsec_link.specs.Genuine.{IsGenuine, IsGenuineAt}
 use Rattle.macsec_link.specs.Keys.{AgreeOnKey, AgreeOnKeys}
-use Rattle.macsec_ends.specs.Logs.{no_sent_logs, sent_under}
+use Rattle.macsec_ends.specs.Logs.{sent_under}
 use Rattle.macsec_link.specs.Origin.{HasStrictOrder, IsStrict, IsSubsequence, WasSentByOther, WasSentInOrder, WhileThere}
 use Rattle.macsec_link.specs.Step.{world_after, world_at}
 use Rattle.macsec_link.specs.Trace.{Trace, new_trace, trace_after, trace_step}
@@ -33,9 +33,9 @@ use Rattle.macsec_premises.proofs.TracedSteps.{AtEach, WhileLive, world_of, afte
 use Rattle.macsec_premises.proofs.WorkedEnds.{Fails, bytes, gcm_a, gcm_b, of_two, only, rx_from}
 
 -- A has sent nothing
-sent_none : (y : InstalledKey) → Contains (key_row 1 1 ∷ []) y → Contains (sent_under no_sent_logs y.number) (client 1) → ⊥
+sent_none : (y : InstalledKey) → Contains (key_row 1 1 ∷ []) y → Contains (sent_under [] y.number) (client 1) → ⊥
 sent_none y there sent =
-    let none : Contains [] (client 1) = subst (λ (k : InstalledKey). Contains (sent_under no_sent_logs k.number) (client 1)) (sym (only (key_row 1 1) y there)) sent in
+    let none : Contains [] (client 1) = subst (λ (k : InstalledKey). Contains (sent_under [] k.number) (client 1)) (sym (only (key_row 1 1) y there)) sent in
     omega (arith, none.1)
 
 -- no frame is among none

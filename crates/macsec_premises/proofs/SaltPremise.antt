@@ -2,7 +2,7 @@
 -- recovers is another one than A's, and the IV may fit all the same. A sends three frames, from ffffffff on; B takes the
 -- third as number 1, and then the first as 1ffffffff.
 use Rattle.std.proofs.Common.{◌≡◌, ◌≢◌, ℕ, get_or, zero, suc, ◌+◌, ◌-◌, ◌*◌, ◌^◌, ◌<◌, false, List, [], ◌∷◌, ◌++◌, refl, ap, sym, subst, ◌∙◌, arith}
-use Rattle.std.specs.Prelude.{replicate, slice_set, Some}
+use Rattle.std.specs.Prelude.{replicate, Some}
 use Rattle.macsec_gcm.specs.Gcm.{open_of}
 use Rattle.macsec_gcm.specs.Octets.{sum_with_stream}
 use Rattle.macsec_tag.specs.Table.{parts_at}
@@ -24,7 +24,6 @@ use Rattle.macsec_commands.specs.declared.event.End.TheVariants.{A, B}
 use Rattle.macsec_commands.specs.declared.event.Event.{Event}
 use Rattle.macsec_commands.specs.declared.event.Event.TheVariants.{Command, Deliver, Send}
 use Rattle.macsec_link.specs.Genuine.{IsGenuine, IsGenuineAt}
-use Rattle.macsec_ends.specs.Logs.{no_sent_logs}
 use Rattle.macsec_link.specs.Origin.{HasStrictOrder, IsStrict, IsSubsequence, WasSentInOrder, WhileThere}
 use Rattle.macsec_link.specs.Step.{world_after}
 use Rattle.macsec_link.specs.Trace.{Mark, Trace, new_trace, trace_after, trace_step}
@@ -34,7 +33,7 @@ use Rattle.macsec_premises.proofs.IvPremises.{AgreeOnSuite, AgreeOnSuites}
 use Rattle.macsec_link.proofs.Moments.{world_of_trace}
 use Rattle.macsec_premises.proofs.SealedFrames.{Sealed, aad_sent, frame_with, items, opens, parts_with, sealed, tag_of, with_tag}
 use Rattle.macsec_premises.proofs.TracedSteps.{AtEach, WhileLive, world_of, after_both, at_moment, deliver_step, each_append, each_next, genuine_append, genuine_at, genuine_next, send_step, sent_by}
-use Rattle.macsec_premises.proofs.WorkedEnds.{Fails, bytes, counts, installed_key, log, new_key, no_salt, of_two, receives_from, rx_from, sci_a, sends_from, tx_from, xpn_a, xpn_b}
+use Rattle.macsec_premises.proofs.WorkedEnds.{Fails, bytes, counts, installed_key, log, logs_sent, new_key, no_salt, of_two, receives_from, rx_from, sci_a, sends_from, tx_from, xpn_a, xpn_b}
 
 -- B's salt turns the lowest bit of the upper half
 abbrev salt_b : List ℕ
@@ -75,7 +74,7 @@ trace_at n unused row m sent delivered frames seals marks = record {
         tx = tx_from (number n) ∷ [];
         tx_counters = record no_tx_counters { out_pkts_protected = n; out_octets_protected = 2 * n };
       };
-      sent = slice_set no_sent_logs 0 sent;
+      sent = logs_sent sent;
       delivered = [];
     };
     b = record {
@@ -85,7 +84,7 @@ trace_at n unused row m sent delivered frames seals marks = record {
         counters = record no_counters { in_octets_validated = 2 * m };
         rx_counters = counts (record no_rx_counters { in_pkts_ok = m }) ∷ [];
       };
-      sent = no_sent_logs;
+      sent = [];
       delivered = log delivered ∷ [];
     };
     frames = frames;

@@ -20,7 +20,7 @@ use Rattle.macsec_secy.specs.declared.counters.RxCounters.{RxCounters}
 use Rattle.macsec_secy.specs.declared.counters.ChannelCounters.{ChannelCounters}
 use Rattle.macsec_secy.specs.Counting.{new_channel_counters}
 use Rattle.macsec_link.specs.Answers.{make_fault}
-use Rattle.macsec_ends.specs.Logs.{DeliveryLog}
+use Rattle.macsec_ends.specs.Logs.{DeliveryLog, SentLogs}
 use Rattle.macsec_link.proofs.Members.{member}
 
 abbrev pub sci_a : Sci
@@ -93,6 +93,11 @@ counts counted = record (new_channel_counters sci_a) { counters = counted; assoc
 -- what was delivered from the latter
 abbrev pub log : List (List ℕ) → DeliveryLog
 log frames = record { sci = sci_a; an = 0; key = 0; live = true; frames = frames }
+
+-- what was sent under key 0, if anything
+abbrev pub logs_sent : List (List ℕ) → SentLogs
+logs_sent [] = []
+logs_sent (frame ∷ frames) = record { key = 0; frames = frame ∷ frames } ∷ []
 
 -- key 0 as it is installed
 abbrev pub installed_key : Suite → List ℕ → ℕ → ℕ → InstalledKey
