@@ -87,10 +87,10 @@ no_window : line_of (codes "A replay off") ≡ Err Count
 no_window = refl
 
 -- the words are counted before any of them is read
-no_offset : line_of (codes "A key 256 ad7a2bd03eac835a6f620fdcb506b345") ≡ Err Count
+no_offset : line_of (codes "A key 4096 ad7a2bd03eac835a6f620fdcb506b345") ≡ Err Count
 no_offset = refl
 
-after_the_salt : line_of (codes "A key 256 ad7a2bd03eac835a6f620fdcb506b345 0 xpn128 00000001 12153525c0895e8000000000 0") ≡ Err Count
+after_the_salt : line_of (codes "A key 4096 ad7a2bd03eac835a6f620fdcb506b345 0 xpn128 00000001 12153525c0895e8000000000 0") ≡ Err Count
 after_the_salt = refl
 
 numbers_of : line_of (codes "A numbers 1") ≡ Err Count
@@ -160,8 +160,8 @@ seventeen_digits = refl
 
 -- ---- numbers out of range
 
-key_256 : line_of (codes "A key 256 ad7a2bd03eac835a6f620fdcb506b345 0") ≡ Err Number
-key_256 = refl
+key_4096 : line_of (codes "A key 4096 ad7a2bd03eac835a6f620fdcb506b345 0") ≡ Err Number
+key_4096 = refl
 
 an_4 : line_of (codes "A txon 4") ≡ Err Number
 an_4 = refl
@@ -184,9 +184,6 @@ twenty_one_digits = refl
 
 wide_window : line_of (codes "A replay off 18446744073709551616") ≡ Err Number
 wide_window = refl
-
-key_4096 : line_of (codes "A key 4096 ad7a2bd03eac835a6f620fdcb506b345 0") ≡ Err Number
-key_4096 = refl
 
 frame_past_32_bits : line_of (codes "B deliver 4294967296") ≡ Err Number
 frame_past_32_bits = refl

@@ -36,7 +36,7 @@ abbrev pub an : Field
 an = number 0 3
 
 abbrev pub key_number : Field
-key_number = number 0 255
+key_number = number 0 4095
 
 abbrev pub offset : Field
 offset = number 0 255

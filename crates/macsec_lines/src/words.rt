@@ -1,6 +1,6 @@
 //! Lines as words, and words as numbers, octets and keywords.
 
-ghost use Rattle.std.specs.Prelude.{◌≡◌, ◌==◌, ◌<◌, ◌-◌, ◌^◌, map, IfSome, IfOk};
+ghost use Rattle.std.specs.Prelude.{◌≡◌, ◌==◌, ◌<◌, ◌-◌, ◌^◌, map, bytes_eq, IfSome, IfOk};
 ghost use Rattle.std.specs.List.{slice_split};
 ghost use Rattle.hex.specs.Hex.{hex_digit_value};
 ghost use Rattle.macsec_lines.specs.Words.{lines_of, words_of, without_return};
@@ -10,7 +10,7 @@ ghost use Rattle.macsec_lines.specs.Readings.{Reads};
 
 use crate::lines::LineFault;
 use hex::FromHexError;
-use macsec_commands::{An, End, Frame, Key, Mode, Sci, Suite, TagForm};
+use macsec_commands::{An, End, Frame, Key, KeyNumber, Mode, Sci, Suite, TagForm};
 use std::alloc::{AllocError, Global};
 
 /// The pieces of a text between its line feeds.
@@ -89,10 +89,13 @@ pub fn association(word: &[u8]) -> Result<An, LineFault>
 }
 
 /// The number of a key.
-pub fn key_number(word: &[u8]) -> Result<u8, LineFault>
-    ensures { result ≡ decimal_in 0 255 word.now }
+pub fn key_number(word: &[u8]) -> Result<KeyNumber, LineFault>
+    ensures { result ≡ decimal_in 0 4095 word.now }
 {
-    Ok(decimal(0, 255, word)? as u8)
+    match KeyNumber::new(decimal(0, 4095, word)? as u16) {
+        Some(number) => Ok(number),
+        None => Err(LineFault::Number),
+    }
 }
 
 /// The number of a link frame, or a place in one.
@@ -196,73 +199,102 @@ pub fn frame(alloc: Global, word: &[u8]) -> Result<Frame, LineFault>
     }
 }
 
+/// Is it the word of these letters?
+pub fn is_word(word: &[u8], letters: &[u8]) -> bool
+    ensures { result ≡ bytes_eq letters.now word.now }
+{
+    letters == word
+}
+
 /// The letter of an end.
 pub fn end(word: &[u8]) -> Result<End, LineFault>
     ensures { result ≡ value_of_keyword ends word.now }
 {
-    match word {
-        b"A" => Ok(End::A),
-        b"B" => Ok(End::B),
-        _ => Err(LineFault::Word),
+    if is_word(word, b"A") {
+        return Ok(End::A);
     }
+    if is_word(word, b"B") {
+        return Ok(End::B);
+    }
+    Err(LineFault::Word)
 }
 
 /// The keyword of a cipher suite.
 pub fn suite(word: &[u8]) -> Result<Suite, LineFault>
     ensures { result ≡ value_of_keyword suites word.now }
 {
-    match word {
-        b"gcm128" => Ok(Suite::Gcm128),
-        b"gcm256" => Ok(Suite::Gcm256),
-        b"xpn128" => Ok(Suite::Xpn128),
-        b"xpn256" => Ok(Suite::Xpn256),
-        _ => Err(LineFault::Word),
+    if is_word(word, b"gcm128") {
+        return Ok(Suite::Gcm128);
     }
+    if is_word(word, b"gcm256") {
+        return Ok(Suite::Gcm256);
+    }
+    if is_word(word, b"xpn128") {
+        return Ok(Suite::Xpn128);
+    }
+    if is_word(word, b"xpn256") {
+        return Ok(Suite::Xpn256);
+    }
+    Err(LineFault::Word)
 }
 
 /// The keyword of a tag form.
 pub fn tag_form(word: &[u8]) -> Result<TagForm, LineFault>
     ensures { result ≡ value_of_keyword forms word.now }
 {
-    match word {
-        b"auto" => Ok(TagForm::Auto),
-        b"sci" => Ok(TagForm::Sci),
-        b"es" => Ok(TagForm::Es),
-        b"scb" => Ok(TagForm::Scb),
-        _ => Err(LineFault::Word),
+    if is_word(word, b"auto") {
+        return Ok(TagForm::Auto);
     }
+    if is_word(word, b"sci") {
+        return Ok(TagForm::Sci);
+    }
+    if is_word(word, b"es") {
+        return Ok(TagForm::Es);
+    }
+    if is_word(word, b"scb") {
+        return Ok(TagForm::Scb);
+    }
+    Err(LineFault::Word)
 }
 
 /// Are the data of a client frame encrypted too?
 pub fn protection(word: &[u8]) -> Result<bool, LineFault>
     ensures { result ≡ value_of_keyword protections word.now }
 {
-    match word {
-        b"int" => Ok(false),
-        b"conf" => Ok(true),
-        _ => Err(LineFault::Word),
+    if is_word(word, b"int") {
+        return Ok(false);
     }
+    if is_word(word, b"conf") {
+        return Ok(true);
+    }
+    Err(LineFault::Word)
 }
 
 /// Is it on?
 pub fn switch(word: &[u8]) -> Result<bool, LineFault>
     ensures { result ≡ value_of_keyword switches word.now }
 {
-    match word {
-        b"on" => Ok(true),
-        b"off" => Ok(false),
-        _ => Err(LineFault::Word),
+    if is_word(word, b"on") {
+        return Ok(true);
     }
+    if is_word(word, b"off") {
+        return Ok(false);
+    }
+    Err(LineFault::Word)
 }
 
 /// The keyword of a mode of validation.
 pub fn validation(word: &[u8]) -> Result<Mode, LineFault>
     ensures { result ≡ value_of_keyword modes word.now }
 {
-    match word {
-        b"disabled" => Ok(Mode::Disabled),
-        b"check" => Ok(Mode::Check),
-        b"strict" => Ok(Mode::Strict),
-        _ => Err(LineFault::Word),
+    if is_word(word, b"disabled") {
+        return Ok(Mode::Disabled);
     }
+    if is_word(word, b"check") {
+        return Ok(Mode::Check);
+    }
+    if is_word(word, b"strict") {
+        return Ok(Mode::Strict);
+    }
+    Err(LineFault::Word)
 }

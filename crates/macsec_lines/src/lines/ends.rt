@@ -5,7 +5,7 @@ ghost use Rattle.macsec_lines.specs.Kinds.{read_line, kinds_of, kinds, end_kinds
 
 use crate::lines::{Line, LineFault};
 use crate::words;
-use crate::words::decimal;
+use crate::words::{decimal, is_word};
 use macsec_commands::{EndConfig, MAX_FRAME_LEN, MIN_MAX_FRAME};
 
 /// An end's configuration, from the words after `end`.
@@ -36,8 +36,8 @@ pub fn end_line(keyword: &[u8], words: &[&[u8]]) -> Option<Result<Line, LineFaul
     ensures some { IfSome result (λ line. line ≡ read_line kinds keyword.now (map (λ w. w.now) words.now)) }
     ensures none { IfNone result (kinds_of end_kinds keyword.now ≡ []) }
 {
-    match keyword {
-        b"end" => Some(configured_end(words)),
-        _ => None,
+    if is_word(keyword, b"end") {
+        return Some(configured_end(words));
     }
+    None
 }

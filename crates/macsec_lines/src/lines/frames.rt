@@ -6,7 +6,7 @@ ghost use Rattle.macsec_lines.specs.Readings.{Reads};
 
 use crate::lines::{Line, LineFault};
 use crate::words;
-use crate::words::frame_number;
+use crate::words::{frame_number, is_word};
 use macsec_commands::{End, Event};
 use std::alloc::Global;
 
@@ -50,10 +50,14 @@ pub fn frame_line(
     ensures some { IfSome result (λ line. Reads (read_line (kinds_at at) keyword.now (map (λ w. w.now) words.now)) line) }
     ensures none { IfNone result (kinds_of (frame_kinds at) keyword.now ≡ []) }
 {
-    match keyword {
-        b"send" => Some(send(alloc, at, words)),
-        b"sendu" => Some(send_uncontrolled(alloc, at, words)),
-        b"deliver" => Some(deliver(at, words)),
-        _ => None,
+    if is_word(keyword, b"send") {
+        return Some(send(alloc, at, words));
     }
+    if is_word(keyword, b"sendu") {
+        return Some(send_uncontrolled(alloc, at, words));
+    }
+    if is_word(keyword, b"deliver") {
+        return Some(deliver(at, words));
+    }
+    None
 }

@@ -5,7 +5,7 @@ ghost use Rattle.macsec_lines.specs.Kinds.{read_line, kinds_at, kinds_of, key_ki
 
 use crate::lines::{Line, LineFault};
 use crate::words;
-use crate::words::{decimal, key_number};
+use crate::words::{decimal, is_word, key_number};
 use macsec_commands::{Command, End, Event, NewKey};
 
 /// The installation of a key, from the words after `key`, whose number says what follows the offset: nothing, a suite,
@@ -65,9 +65,11 @@ pub fn key_line(at: End, keyword: &[u8], words: &[&[u8]]) -> Option<Result<Line,
     ensures some { IfSome result (λ line. line ≡ read_line (kinds_at at) keyword.now (map (λ w. w.now) words.now)) }
     ensures none { IfNone result (kinds_of (key_kinds at) keyword.now ≡ []) }
 {
-    match keyword {
-        b"key" => Some(new_key(at, words)),
-        b"retire" => Some(retire(at, words)),
-        _ => None,
+    if is_word(keyword, b"key") {
+        return Some(new_key(at, words));
     }
+    if is_word(keyword, b"retire") {
+        return Some(retire(at, words));
+    }
+    None
 }

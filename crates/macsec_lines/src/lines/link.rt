@@ -6,7 +6,7 @@ ghost use Rattle.macsec_lines.specs.Readings.{Reads};
 
 use crate::lines::{Line, LineFault};
 use crate::words;
-use crate::words::frame_number;
+use crate::words::{frame_number, is_word};
 use macsec_commands::Event;
 use std::alloc::Global;
 
@@ -48,10 +48,14 @@ pub fn link_line(alloc: Global, keyword: &[u8], words: &[&[u8]]) -> Option<Resul
     ensures some { IfSome result (λ line. Reads (read_line kinds keyword.now (map (λ w. w.now) words.now)) line) }
     ensures none { IfNone result (kinds_of link_kinds keyword.now ≡ []) }
 {
-    match keyword {
-        b"alter" => Some(alter(words)),
-        b"pad" => Some(pad(words)),
-        b"inject" => Some(inject(alloc, words)),
-        _ => None,
+    if is_word(keyword, b"alter") {
+        return Some(alter(words));
     }
+    if is_word(keyword, b"pad") {
+        return Some(pad(words));
+    }
+    if is_word(keyword, b"inject") {
+        return Some(inject(alloc, words));
+    }
+    None
 }

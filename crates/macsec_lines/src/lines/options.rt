@@ -5,7 +5,7 @@ ghost use Rattle.macsec_lines.specs.Kinds.{read_line, kinds_at, kinds_of, protec
 
 use crate::lines::{Line, LineFault};
 use crate::words;
-use crate::words::decimal;
+use crate::words::{decimal, is_word};
 use macsec_commands::{Command, End, Event};
 
 /// Whether frames are protected, from the words after `protect`.
@@ -56,11 +56,13 @@ pub fn protection_line(at: End, keyword: &[u8], words: &[&[u8]]) -> Option<Resul
     ensures some { IfSome result (λ line. line ≡ read_line (kinds_at at) keyword.now (map (λ w. w.now) words.now)) }
     ensures none { IfNone result (kinds_of (protection_kinds at) keyword.now ≡ []) }
 {
-    match keyword {
-        b"protect" => Some(protect(at, words)),
-        b"validate" => Some(validate(at, words)),
-        _ => None,
+    if is_word(keyword, b"protect") {
+        return Some(protect(at, words));
     }
+    if is_word(keyword, b"validate") {
+        return Some(validate(at, words));
+    }
+    None
 }
 
 /// A line that sets another option, from its keyword and the words after it; `None` if the keyword is none of those.
@@ -68,9 +70,11 @@ pub fn option_line(at: End, keyword: &[u8], words: &[&[u8]]) -> Option<Result<Li
     ensures some { IfSome result (λ line. line ≡ read_line (kinds_at at) keyword.now (map (λ w. w.now) words.now)) }
     ensures none { IfNone result (kinds_of (option_kinds at) keyword.now ≡ []) }
 {
-    match keyword {
-        b"replay" => Some(replay(at, words)),
-        b"tag" => Some(tag(at, words)),
-        _ => None,
+    if is_word(keyword, b"replay") {
+        return Some(replay(at, words));
     }
+    if is_word(keyword, b"tag") {
+        return Some(tag(at, words));
+    }
+    None
 }

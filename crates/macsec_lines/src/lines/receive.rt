@@ -5,7 +5,7 @@ ghost use Rattle.macsec_lines.specs.Kinds.{read_line, kinds_at, kinds_of, channe
 
 use crate::lines::{Line, LineFault};
 use crate::words;
-use crate::words::{association, key_number};
+use crate::words::{association, is_word, key_number};
 use macsec_commands::{Command, End, Event};
 
 /// The creation of a receive channel, from the words after `rxsc`.
@@ -112,11 +112,13 @@ pub fn channel_line(at: End, keyword: &[u8], words: &[&[u8]]) -> Option<Result<L
     ensures some { IfSome result (λ line. line ≡ read_line (kinds_at at) keyword.now (map (λ w. w.now) words.now)) }
     ensures none { IfNone result (kinds_of (channel_kinds at) keyword.now ≡ []) }
 {
-    match keyword {
-        b"rxsc" => Some(rx_sc(at, words)),
-        b"rxscdel" => Some(rx_sc_del(at, words)),
-        _ => None,
+    if is_word(keyword, b"rxsc") {
+        return Some(rx_sc(at, words));
     }
+    if is_word(keyword, b"rxscdel") {
+        return Some(rx_sc_del(at, words));
+    }
+    None
 }
 
 /// A line of a receive association, from its keyword and the words after it; `None` if the keyword is none of those.
@@ -124,12 +126,20 @@ pub fn receive_line(at: End, keyword: &[u8], words: &[&[u8]]) -> Option<Result<L
     ensures some { IfSome result (λ line. line ≡ read_line (kinds_at at) keyword.now (map (λ w. w.now) words.now)) }
     ensures none { IfNone result (kinds_of (receive_kinds at) keyword.now ≡ []) }
 {
-    match keyword {
-        b"rxsa" => Some(rx_sa(at, words)),
-        b"rxon" => Some(rx_on(at, words)),
-        b"rxoff" => Some(rx_off(at, words)),
-        b"rxlow" => Some(rx_low(at, words)),
-        b"rxdel" => Some(rx_del(at, words)),
-        _ => None,
+    if is_word(keyword, b"rxsa") {
+        return Some(rx_sa(at, words));
     }
+    if is_word(keyword, b"rxon") {
+        return Some(rx_on(at, words));
+    }
+    if is_word(keyword, b"rxoff") {
+        return Some(rx_off(at, words));
+    }
+    if is_word(keyword, b"rxlow") {
+        return Some(rx_low(at, words));
+    }
+    if is_word(keyword, b"rxdel") {
+        return Some(rx_del(at, words));
+    }
+    None
 }

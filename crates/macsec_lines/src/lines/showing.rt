@@ -4,6 +4,7 @@ ghost use Rattle.std.specs.Prelude.{◌≡◌, [], map, codes, IfSome, IfNone};
 ghost use Rattle.macsec_lines.specs.Kinds.{read_line, kinds_at, kinds_of, show_kinds};
 
 use crate::lines::{Line, LineFault};
+use crate::words::is_word;
 use macsec_commands::End;
 
 /// The showing of counters, from the words after `counters`.
@@ -31,9 +32,11 @@ pub fn show_line(at: End, keyword: &[u8], words: &[&[u8]]) -> Option<Result<Line
     ensures some { IfSome result (λ line. line ≡ read_line (kinds_at at) keyword.now (map (λ w. w.now) words.now)) }
     ensures none { IfNone result (kinds_of (show_kinds at) keyword.now ≡ []) }
 {
-    match keyword {
-        b"counters" => Some(counters(at, words)),
-        b"numbers" => Some(numbers(at, words)),
-        _ => None,
+    if is_word(keyword, b"counters") {
+        return Some(counters(at, words));
     }
+    if is_word(keyword, b"numbers") {
+        return Some(numbers(at, words));
+    }
+    None
 }

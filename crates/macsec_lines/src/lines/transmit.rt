@@ -5,7 +5,7 @@ ghost use Rattle.macsec_lines.specs.Kinds.{read_line, kinds_at, kinds_of, transm
 
 use crate::lines::{Line, LineFault};
 use crate::words;
-use crate::words::{association, key_number};
+use crate::words::{association, is_word, key_number};
 use macsec_commands::{Command, End, Event};
 
 /// The creation of a transmit association, from the words after `txsa`.
@@ -65,11 +65,17 @@ pub fn transmit_line(at: End, keyword: &[u8], words: &[&[u8]]) -> Option<Result<
     ensures some { IfSome result (λ line. line ≡ read_line (kinds_at at) keyword.now (map (λ w. w.now) words.now)) }
     ensures none { IfNone result (kinds_of (transmit_kinds at) keyword.now ≡ []) }
 {
-    match keyword {
-        b"txsa" => Some(tx_sa(at, words)),
-        b"txon" => Some(tx_on(at, words)),
-        b"txoff" => Some(tx_off(at, words)),
-        b"txdel" => Some(tx_del(at, words)),
-        _ => None,
+    if is_word(keyword, b"txsa") {
+        return Some(tx_sa(at, words));
     }
+    if is_word(keyword, b"txon") {
+        return Some(tx_on(at, words));
+    }
+    if is_word(keyword, b"txoff") {
+        return Some(tx_off(at, words));
+    }
+    if is_word(keyword, b"txdel") {
+        return Some(tx_del(at, words));
+    }
+    None
 }

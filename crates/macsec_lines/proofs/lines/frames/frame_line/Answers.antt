@@ -1,14 +1,25 @@
--- By these tactics alone: without these proofs the prover tries others before them, which takes longer, and on a
--- mutant it tries all.
-use Rattle.std.proofs.Common.{rules, tests, arith}
-use Rattle.std.proofs.lemmas.Grind.{common_steps}
+use Rattle.std.proofs.Common.{map, sym, ◌∙◌}
+use Rattle.std.specs.Prelude.{codes}
+use Rattle.macsec_lines.specs.Kinds.{kinds_at, read_line}
+use Rattle.macsec_lines.specs.Readings.{Reads}
+use Rattle.macsec_lines.proofs.Keywords.{at_word, reads_itself}
 use Rattle.macsec_lines.proofs.lines.frames.frame_line.Goals as goal
 
-pub returns-in_default-clause-none : goal.returns-in_default-clause-none
-returns-in_default-clause-none c = search (rules, tests)
+pub returns-then-is_word-clause-some : goal.returns-then-is_word-clause-some
+returns-then-is_word-clause-some c =
+    at_word (λ k. Reads (read_line (kinds_at c.args.at) k (map (λ w. w.now) c.args.words.now)) c.send.result)
+    c.args.keyword.now (codes "send") _ c.is_word.ensures c.if-is_word.true c.send.ensures
 
-pub returns-in-sendu-clause-some : goal.returns-in-sendu-clause-some
-returns-in-sendu-clause-some c = grind (arith, common_steps)
+pub returns-then-is_word-2-clause-some : goal.returns-then-is_word-2-clause-some
+returns-then-is_word-2-clause-some c =
+    at_word (λ k. Reads (read_line (kinds_at c.args.at) k (map (λ w. w.now) c.args.words.now)) c.send_uncontrolled.result)
+    c.args.keyword.now (codes "sendu") _ c.is_word-2.ensures c.if-is_word-2.true c.send_uncontrolled.ensures
 
-pub returns-in-deliver-clause-some : goal.returns-in-deliver-clause-some
-returns-in-deliver-clause-some c = grind (arith, common_steps)
+pub returns-then-is_word-3-clause-some : goal.returns-then-is_word-3-clause-some
+returns-then-is_word-3-clause-some c =
+    at_word (λ k. Reads (read_line (kinds_at c.args.at) k (map (λ w. w.now) c.args.words.now)) c.deliver.result)
+    c.args.keyword.now (codes "deliver") _ c.is_word-3.ensures c.if-is_word-3.true (reads_itself _ _ c.deliver.ensures)
+
+pub returns-clause-none : goal.returns-clause-none
+returns-clause-none c =
+    rw (sym c.is_word.ensures ∙ c.if-is_word.false, sym c.is_word-2.ensures ∙ c.if-is_word-2.false, sym c.is_word-3.ensures ∙ c.if-is_word-3.false)

@@ -1,6 +1,19 @@
-use Rattle.std.proofs.Common.{arith}
-use Rattle.std.proofs.lemmas.Grind.{common_steps}
+use Rattle.std.proofs.Common.{◌≡◌, map, sym, ◌∙◌}
+use Rattle.std.specs.Prelude.{codes}
+use Rattle.macsec_lines.specs.Kinds.{kinds_at, read_line}
+use Rattle.macsec_lines.proofs.Keywords.{at_word}
 use Rattle.macsec_lines.proofs.lines.keys.key_line.Goals as goal
 
-pub returns-in-retire-clause-some : goal.returns-in-retire-clause-some
-returns-in-retire-clause-some c = grind (arith, common_steps)
+pub returns-then-is_word-clause-some : goal.returns-then-is_word-clause-some
+returns-then-is_word-clause-some c =
+    at_word (λ k. c.new_key.result ≡ read_line (kinds_at c.args.at) k (map (λ w. w.now) c.args.words.now))
+    c.args.keyword.now (codes "key") _ c.is_word.ensures c.if-is_word.true c.new_key.ensures
+
+pub returns-then-is_word-2-clause-some : goal.returns-then-is_word-2-clause-some
+returns-then-is_word-2-clause-some c =
+    at_word (λ k. c.retire.result ≡ read_line (kinds_at c.args.at) k (map (λ w. w.now) c.args.words.now))
+    c.args.keyword.now (codes "retire") _ c.is_word-2.ensures c.if-is_word-2.true c.retire.ensures
+
+pub returns-clause-none : goal.returns-clause-none
+returns-clause-none c =
+    rw (sym c.is_word.ensures ∙ c.if-is_word.false, sym c.is_word-2.ensures ∙ c.if-is_word-2.false)

@@ -1,17 +1,34 @@
--- By these tactics alone: without these proofs the prover tries others before them, which takes longer, and on a
--- mutant it tries all.
-use Rattle.std.proofs.Common.{arith}
-use Rattle.std.proofs.lemmas.Grind.{common_steps}
+use Rattle.std.proofs.Common.{◌≡◌, map, sym, ◌∙◌}
+use Rattle.std.specs.Prelude.{codes}
+use Rattle.macsec_lines.specs.Kinds.{kinds_at, read_line}
+use Rattle.macsec_lines.proofs.Keywords.{at_word}
 use Rattle.macsec_lines.proofs.lines.receive.receive_line.Goals as goal
 
-pub returns-in-rxon-clause-some : goal.returns-in-rxon-clause-some
-returns-in-rxon-clause-some c = grind (arith, common_steps)
+pub returns-then-is_word-clause-some : goal.returns-then-is_word-clause-some
+returns-then-is_word-clause-some c =
+    at_word (λ k. c.rx_sa.result ≡ read_line (kinds_at c.args.at) k (map (λ w. w.now) c.args.words.now))
+    c.args.keyword.now (codes "rxsa") _ c.is_word.ensures c.if-is_word.true c.rx_sa.ensures
 
-pub returns-in-rxoff-clause-some : goal.returns-in-rxoff-clause-some
-returns-in-rxoff-clause-some c = grind (arith, common_steps)
+pub returns-then-is_word-2-clause-some : goal.returns-then-is_word-2-clause-some
+returns-then-is_word-2-clause-some c =
+    at_word (λ k. c.rx_on.result ≡ read_line (kinds_at c.args.at) k (map (λ w. w.now) c.args.words.now))
+    c.args.keyword.now (codes "rxon") _ c.is_word-2.ensures c.if-is_word-2.true c.rx_on.ensures
 
-pub returns-in-rxlow-clause-some : goal.returns-in-rxlow-clause-some
-returns-in-rxlow-clause-some c = grind (arith, common_steps)
+pub returns-then-is_word-3-clause-some : goal.returns-then-is_word-3-clause-some
+returns-then-is_word-3-clause-some c =
+    at_word (λ k. c.rx_off.result ≡ read_line (kinds_at c.args.at) k (map (λ w. w.now) c.args.words.now))
+    c.args.keyword.now (codes "rxoff") _ c.is_word-3.ensures c.if-is_word-3.true c.rx_off.ensures
 
-pub returns-in-rxdel-clause-some : goal.returns-in-rxdel-clause-some
-returns-in-rxdel-clause-some c = grind (arith, common_steps)
+pub returns-then-is_word-4-clause-some : goal.returns-then-is_word-4-clause-some
+returns-then-is_word-4-clause-some c =
+    at_word (λ k. c.rx_low.result ≡ read_line (kinds_at c.args.at) k (map (λ w. w.now) c.args.words.now))
+    c.args.keyword.now (codes "rxlow") _ c.is_word-4.ensures c.if-is_word-4.true c.rx_low.ensures
+
+pub returns-then-is_word-5-clause-some : goal.returns-then-is_word-5-clause-some
+returns-then-is_word-5-clause-some c =
+    at_word (λ k. c.rx_del.result ≡ read_line (kinds_at c.args.at) k (map (λ w. w.now) c.args.words.now))
+    c.args.keyword.now (codes "rxdel") _ c.is_word-5.ensures c.if-is_word-5.true c.rx_del.ensures
+
+pub returns-clause-none : goal.returns-clause-none
+returns-clause-none c =
+    rw (sym c.is_word.ensures ∙ c.if-is_word.false, sym c.is_word-2.ensures ∙ c.if-is_word-2.false, sym c.is_word-3.ensures ∙ c.if-is_word-3.false, sym c.is_word-4.ensures ∙ c.if-is_word-4.false, sym c.is_word-5.ensures ∙ c.if-is_word-5.false)

@@ -1,11 +1,19 @@
--- By these tactics alone: without these proofs the prover tries others before them, which takes longer, and on a
--- mutant it tries all.
-use Rattle.std.proofs.Common.{rules, tests, arith}
-use Rattle.std.proofs.lemmas.Grind.{common_steps}
+use Rattle.std.proofs.Common.{◌≡◌, map, sym, ◌∙◌}
+use Rattle.std.specs.Prelude.{codes}
+use Rattle.macsec_lines.specs.Kinds.{kinds_at, read_line}
+use Rattle.macsec_lines.proofs.Keywords.{at_word}
 use Rattle.macsec_lines.proofs.lines.showing.show_line.Goals as goal
 
-pub returns-in_default-clause-none : goal.returns-in_default-clause-none
-returns-in_default-clause-none c = search (rules, tests)
+pub returns-then-is_word-clause-some : goal.returns-then-is_word-clause-some
+returns-then-is_word-clause-some c =
+    at_word (λ k. c.counters.result ≡ read_line (kinds_at c.args.at) k (map (λ w. w.now) c.args.words.now))
+    c.args.keyword.now (codes "counters") _ c.is_word.ensures c.if-is_word.true c.counters.ensures
 
-pub returns-in-numbers-clause-some : goal.returns-in-numbers-clause-some
-returns-in-numbers-clause-some c = grind (arith, common_steps)
+pub returns-then-is_word-2-clause-some : goal.returns-then-is_word-2-clause-some
+returns-then-is_word-2-clause-some c =
+    at_word (λ k. c.numbers.result ≡ read_line (kinds_at c.args.at) k (map (λ w. w.now) c.args.words.now))
+    c.args.keyword.now (codes "numbers") _ c.is_word-2.ensures c.if-is_word-2.true c.numbers.ensures
+
+pub returns-clause-none : goal.returns-clause-none
+returns-clause-none c =
+    rw (sym c.is_word.ensures ∙ c.if-is_word.false, sym c.is_word-2.ensures ∙ c.if-is_word-2.false)

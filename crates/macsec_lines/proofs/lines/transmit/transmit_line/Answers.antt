@@ -1,14 +1,29 @@
--- By these tactics alone: without these proofs the prover tries others before them, which takes longer, and on a
--- mutant it tries all.
-use Rattle.std.proofs.Common.{arith}
-use Rattle.std.proofs.lemmas.Grind.{common_steps}
+use Rattle.std.proofs.Common.{◌≡◌, map, sym, ◌∙◌}
+use Rattle.std.specs.Prelude.{codes}
+use Rattle.macsec_lines.specs.Kinds.{kinds_at, read_line}
+use Rattle.macsec_lines.proofs.Keywords.{at_word}
 use Rattle.macsec_lines.proofs.lines.transmit.transmit_line.Goals as goal
 
-pub returns-in-txon-clause-some : goal.returns-in-txon-clause-some
-returns-in-txon-clause-some c = grind (arith, common_steps)
+pub returns-then-is_word-clause-some : goal.returns-then-is_word-clause-some
+returns-then-is_word-clause-some c =
+    at_word (λ k. c.tx_sa.result ≡ read_line (kinds_at c.args.at) k (map (λ w. w.now) c.args.words.now))
+    c.args.keyword.now (codes "txsa") _ c.is_word.ensures c.if-is_word.true c.tx_sa.ensures
 
-pub returns-in-txoff-clause-some : goal.returns-in-txoff-clause-some
-returns-in-txoff-clause-some c = grind (arith, common_steps)
+pub returns-then-is_word-2-clause-some : goal.returns-then-is_word-2-clause-some
+returns-then-is_word-2-clause-some c =
+    at_word (λ k. c.tx_on.result ≡ read_line (kinds_at c.args.at) k (map (λ w. w.now) c.args.words.now))
+    c.args.keyword.now (codes "txon") _ c.is_word-2.ensures c.if-is_word-2.true c.tx_on.ensures
 
-pub returns-in-txdel-clause-some : goal.returns-in-txdel-clause-some
-returns-in-txdel-clause-some c = grind (arith, common_steps)
+pub returns-then-is_word-3-clause-some : goal.returns-then-is_word-3-clause-some
+returns-then-is_word-3-clause-some c =
+    at_word (λ k. c.tx_off.result ≡ read_line (kinds_at c.args.at) k (map (λ w. w.now) c.args.words.now))
+    c.args.keyword.now (codes "txoff") _ c.is_word-3.ensures c.if-is_word-3.true c.tx_off.ensures
+
+pub returns-then-is_word-4-clause-some : goal.returns-then-is_word-4-clause-some
+returns-then-is_word-4-clause-some c =
+    at_word (λ k. c.tx_del.result ≡ read_line (kinds_at c.args.at) k (map (λ w. w.now) c.args.words.now))
+    c.args.keyword.now (codes "txdel") _ c.is_word-4.ensures c.if-is_word-4.true c.tx_del.ensures
+
+pub returns-clause-none : goal.returns-clause-none
+returns-clause-none c =
+    rw (sym c.is_word.ensures ∙ c.if-is_word.false, sym c.is_word-2.ensures ∙ c.if-is_word-2.false, sym c.is_word-3.ensures ∙ c.if-is_word-3.false, sym c.is_word-4.ensures ∙ c.if-is_word-4.false)
