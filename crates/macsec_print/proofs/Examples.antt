@@ -21,11 +21,11 @@ past_64_bits_shown = refl
 received_shown : rx_text 12 (Some (record {
   sci = record { 0 = 18 ∷ 21 ∷ 53 ∷ 36 ∷ 192 ∷ 137 ∷ 94 ∷ 129 ∷ [] };
   an = 3;
-  key = 255;
+  key = 4095;
   ssci = 1;
   next = 4294967297;
   lowest = 4294967296;
   on = true;
-})) ≡ codes "12 rx 12153524c0895e81 3 255 0000000100000001 0000000100000000 on\n"
+})) ≡ codes "12 rx 12153524c0895e81 3 4095 0000000100000001 0000000100000000 on\n"
 unfolding hex_on_literals digits
 received_shown = refl

@@ -20,7 +20,7 @@ label_text End = codes "end"
 abbrev pub NamedCounter : Type 0
 NamedCounter = List ℕ × ℕ
 
--- those of an endpoint, and then of its transmit channel
+-- the counters of an endpoint with their names, and then those of its transmit channel
 abbrev pub own_counters : Counters → TxCounters → List NamedCounter
 own_counters c tx =
     (codes "InPktsUntagged", c.in_pkts_untagged) ∷ (codes "InPktsNoTag", c.in_pkts_no_tag) ∷
@@ -32,7 +32,7 @@ own_counters c tx =
     (codes "OutPktsEncrypted", tx.out_pkts_encrypted) ∷ (codes "OutOctetsProtected", tx.out_octets_protected) ∷
     (codes "OutOctetsEncrypted", tx.out_octets_encrypted) ∷ []
 
--- those of a receive channel, or of a receive association
+-- the counters of a receive channel, or of a receive association, with their names
 abbrev pub channel_counters : RxCounters → List NamedCounter
 channel_counters c =
     (codes "InPktsOK", c.in_pkts_ok) ∷ (codes "InPktsUnchecked", c.in_pkts_unchecked) ∷

@@ -15,7 +15,7 @@ use std::fmt;
 use std::io::{self, Write};
 
 /// The beginning of a line of counters: the number of a script's line, or the word `end`.
-#[derive(Clone, Copy, PartialEq, Eq, Debug)]
+#[derive(Clone, Copy)]
 pub enum Label {
     Line(u32),
     End,

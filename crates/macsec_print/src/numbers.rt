@@ -15,7 +15,7 @@ use std::fmt;
 use std::io::{self, Write};
 
 /// The most receive channels of an endpoint.
-pub const MAX_CHANNEL_COUNT: usize = 8;
+pub const MAX_CHANNEL_COUNT: usize = 64;
 
 /// A packet number, which prints itself in hex, with leading zeros up to 16 digits.
 #[derive(Clone, Copy)]
@@ -69,7 +69,7 @@ fn write_tx_row<W: Write>(writer: &mut W, n: u32, row: Option<TxRow>) -> io::Res
         return Ok(());
     };
     let an = row.an.number();
-    let key = row.key;
+    let key = row.key.number();
     let next = PacketNumber(row.next);
     let state = state_text(row.on);
     let mode = mode_text(row.conf);
@@ -94,7 +94,7 @@ fn write_rx_row<W: Write>(writer: &mut W, n: u32, row: Option<RxRow>) -> io::Res
         return Ok(());
     };
     let an = row.an.number();
-    let key = row.key;
+    let key = row.key.number();
     let next = PacketNumber(row.next);
     let lowest = PacketNumber(row.lowest);
     let state = state_text(row.on);
