@@ -1,5 +1,5 @@
 -- A run that ends well has written the output of its last stop.
-use Rattle.std.proofs.Common.{◌≡◌, ℕ, List, [], ◌∷◌, refl, arith}
+use Rattle.std.proofs.Common.{◌≡◌, ℕ, List, [], refl, arith}
 use Rattle.std.specs.Prelude.{Option, Some, None, Result, Ok, Err}
 use Rattle.std.specs.Io.KnownBytes.{Appends}
 use Rattle.macsec_commands.specs.declared.config.EndConfig.{EndConfig}
@@ -11,7 +11,7 @@ use Rattle.macsec_pcap.specs.declared.fault.PcapFault.{PcapFault}
 use Rattle.macsec_pcap.specs.Captures.{CaptureFile, file_of}
 use Rattle.macsec_capture.specs.declared.Direction.{Direction}
 use Rattle.macsec_capture.specs.declared.fault.CaptureFault.TheVariants.{Script}
-use Rattle.macsec_capture.specs.Captured.{Captured, Part, Stop, captured, captured_after, captured_at, captured_by, commands_part, one_end}
+use Rattle.macsec_capture.specs.Captured.{Captured, Part, captured, captured_after, captured_at, captured_by, commands_part, one_end}
 use Rattle.macsec_capture.specs.Runs.{AtSome, CaptureGives, Grows, Written}
 use Rattle.macsec_capture.proofs.Stops.{at_last}
 

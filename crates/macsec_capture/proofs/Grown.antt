@@ -1,14 +1,15 @@
 -- What is appended to the output and to the text, piece after piece.
-use Rattle.std.proofs.Common.{◌≡◌, ℕ, List, [], ◌∷◌, ◌++◌}
+use Rattle.std.proofs.Common.{ℕ, List, [], ◌∷◌, ◌++◌}
 use Rattle.std.specs.Io.KnownBytes.{Keeps}
-use Rattle.std.specs.Prelude.{Result, Err}
+use Rattle.std.specs.Prelude.{Err}
 use Rattle.std.proofs.KnownBytes.{Appends-kept, Appends-nil, Appends-trans, Keeps-refl, Keeps-trans}
 use Rattle.macsec_lines.specs.declared.faults.ScriptFault.TheVariants as script
-use Rattle.macsec_pcap.specs.declared.fault.PcapFault.TheVariants.{Magic, Version, LinkType, CutHeader, CutRecord, RecordLength, Read, Write, Memory, RecordCount}
+use Rattle.macsec_pcap.specs.declared.fault.PcapFault.TheVariants.{Read, Write, Memory}
 use Rattle.macsec_capture.specs.declared.fault.CaptureFault.{CaptureFault}
 use Rattle.macsec_capture.specs.declared.fault.CaptureFault.TheVariants.{Script, Pcap}
 use Rattle.macsec_capture.specs.Captured.{Captured, Stop}
 use Rattle.macsec_capture.specs.Runs.{AtFirst, AtSome, CaptureGives, Grows, Stays, Written}
+use Rattle.macsec_capture.proofs.Cuts.{cut_kept, next_kept}
 
 pub Stays-same : (w : Written) → Stays w w
 Stays-same w = record { output = Keeps-refl w.output; text = Keeps-refl w.text }
@@ -58,5 +59,5 @@ fault_kept whole old mid new kept (Script fault) gives = (gives.0, Stays-kept ol
 fault_kept whole old mid new kept (Pcap Memory) gives = first_kept whole.stops _ _ (λ stop at. Grows-kept old mid new stop.output stop.text kept at) gives
 fault_kept whole old mid new kept (Pcap Read) gives = some_kept whole.stops _ _ (λ stop at. Grows-kept old mid new stop.output stop.text kept at) gives
 fault_kept whole old mid new kept (Pcap Write) gives =
-    some_kept whole.stops _ _ (λ stop at. Appends-kept old.text mid.text new.text stop.text at kept.text) gives
+    next_kept whole.stops _ _ (λ before after cut. cut_kept old mid new before after kept.output kept.text cut) gives
 fault_kept whole old mid new kept (Pcap fault) gives = (gives.0, Grows-kept old mid new whole.output whole.text kept gives.1)

@@ -1,5 +1,6 @@
 pub mod Carried
 pub mod Configured
+pub mod Cuts
 pub mod Ended
 pub mod Ends
 pub mod Formats

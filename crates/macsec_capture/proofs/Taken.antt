@@ -1,5 +1,5 @@
 -- Records one after another.
-use Rattle.std.proofs.Common.{◌≡◌, ℕ, ◌+◌, ◌≤◌, List, [], ◌∷◌, ◌++◌, length, take, refl, sym, ap, subst, ◌∙◌, append_assoc, append-nil, arith, length-append}
+use Rattle.std.proofs.Common.{◌≡◌, ℕ, ◌+◌, ◌<◌, List, [], ◌∷◌, ◌++◌, length, take, refl, sym, ap, subst, ◌∙◌, append_assoc, append-nil, arith, length-append}
 use Rattle.std.specs.Prelude.{Option, Some, None, Ok, Err}
 use Rattle.std.proofs.lemmas.List.{take_at}
 use Rattle.std.specs.Io.KnownBytes.{Appends}
@@ -10,12 +10,14 @@ use Rattle.macsec_pcap.specs.declared.fault.PcapFault.TheVariants.{Magic, Versio
 use Rattle.macsec_pcap.specs.Records.{CaptureRecord}
 use Rattle.macsec_pcap.specs.Captures.{Capture}
 use Rattle.macsec_pcap.specs.Answers.{UnlessRead}
+use Rattle.macsec_pcap.specs.Writing.{AppendsFront}
 use Rattle.macsec_pcap.specs.Reading.{Ahead, over, failed, holds, untold, Answers, IsAhead, ahead_after, first_of}
 use Rattle.macsec_capture.specs.declared.Direction.{Direction}
 use Rattle.macsec_capture.specs.declared.fault.CaptureFault.{CaptureFault}
 use Rattle.macsec_capture.specs.declared.fault.CaptureFault.TheVariants.{Script, Pcap}
 use Rattle.macsec_capture.specs.Captured.{Part, and_after, nothing, record_part, records_part}
-use Rattle.macsec_capture.specs.Runs.{Adds, AfterSome, FailsIn, Grows, IsLateFault, RunsHeld, RunsRecords, Written}
+use Rattle.macsec_capture.specs.Runs.{Adds, CutsOutput, FailsIn, Grows, IsLateFault, IsOfFormat, RunsHeld, RunsRecords, Written, first_part, part_stop}
+use Rattle.macsec_capture.proofs.Cuts.{up_to_front}
 use Rattle.macsec_capture.proofs.Grown.{Grows-more, Grows-nothing}
 
 -- ---- what records write, with one more behind them
@@ -107,6 +109,13 @@ next_held direction first capture ahead old now s k r held answer =
       adds = held.adds;
     }
 
+-- so there is one more than those before it
+within_next : (direction : Direction) (first : State) (capture : Capture) (ahead : Ahead) (old now : Written) (s : State) (k : ℕ) (r : CaptureRecord) →
+    Next direction first capture ahead old now s k r → k < length capture.records
+within_next direction first capture ahead old now s k r at =
+    let long : length capture.records ≡ length (at.front ++ r ∷ []) + length at.more = ap length at.all ∙ length-append (at.front ++ r ∷ []) at.more in
+    omega (arith, long, length-append at.front (r ∷ []), at.count)
+
 -- the number of the record is that of those before it
 with_next : (direction : Direction) (first : State) (front : List CaptureRecord) (k : ℕ) (r : CaptureRecord) → length front ≡ k →
     records_part direction first 0 (front ++ r ∷ []) ≡ and_after (records_part direction first 0 front) (λ after. record_part direction after k r)
@@ -164,29 +173,30 @@ whole_at_end direction first capture ahead old now s k held none =
     let all : capture.records ≡ held.front = held.all ∙ ap (λ rs. held.front ++ rs) none ∙ append-nil held.front in
     subst (λ rs. Adds (records_part direction first 0 rs) old now s) (sym all) held.adds
 
-held_end : (direction : Direction) (first : State) (capture : Capture) (ahead : Ahead) (old now : Written) (s : State) (k : ℕ) →
-    IsHeld direction first capture ahead old now s k → Answers ahead (Ok None) → RunsHeld direction first capture old now s (Ok tt)
-held_end direction first capture ahead old now s k held answer =
+held_end : (direction : Direction) (first : State) (capture : Capture) (ahead : Ahead) (old now : Written) (s : State) (k taken : ℕ) →
+    IsHeld direction first capture ahead old now s k → Answers ahead (Ok None) → RunsHeld direction first capture taken old now s (Ok tt)
+held_end direction first capture ahead old now s k taken held answer =
     let answered : Ok None ≡ first_of (record { records = held.rest; fault = capture.fault }) = subst (λ a. Answers a (Ok None)) held.ahead answer in
     let ended = over_at_none held.rest capture.fault answered in
     (ended.1, whole_at_end direction first capture ahead old now s k held ended.0)
 
-pub taken_end : (direction : Direction) (first : State) (begins ahead : Ahead) (old now : Written) (s : State) (k : ℕ) →
-    AreTaken direction first begins ahead old now s k → Answers ahead (Ok None) → RunsRecords direction first begins old now s (Ok tt)
-taken_end direction first (holds capture) ahead old now s k taken answer = held_end direction first capture ahead old now s k taken answer
-taken_end direction first untold ahead old now s k taken answer = tt
-taken_end direction first over ahead old now s k taken answer = tt
-taken_end direction first (failed fault) ahead old now s k taken answer = tt
+pub taken_end : (direction : Direction) (first : State) (begins ahead : Ahead) (old now : Written) (s : State) (k count : ℕ) →
+    AreTaken direction first begins ahead old now s k → Answers ahead (Ok None) → RunsRecords direction first begins count old now s (Ok tt)
+taken_end direction first (holds capture) ahead old now s k count taken answer = held_end direction first capture ahead old now s k count taken answer
+taken_end direction first untold ahead old now s k count taken answer = tt
+taken_end direction first over ahead old now s k count taken answer = tt
+taken_end direction first (failed fault) ahead old now s k count taken answer = tt
 
 -- ---- a stop
 
--- what holds of the part of some first records
-after_front : (direction : Direction) (s : State) (records front rest : List CaptureRecord) (P : Part → Type 0) → records ≡ front ++ rest →
-    P (records_part direction s 0 front) → AfterSome direction s records P
-after_front direction s records front rest P all met =
-    let long : length records ≡ length front + length rest = ap (λ (rs : List CaptureRecord). length rs) all ∙ length-append front rest in
-    let is : take (length front) records ≡ front = ap (λ rs. take (length front) rs) all ∙ take_at front rest (length front) refl in
-    (length front, omega (arith, long), subst (λ rs. P (records_part direction s 0 rs)) (sym is) met)
+front_taken : (records front rest : List CaptureRecord) (n : ℕ) → records ≡ front ++ rest → length front ≡ n → take n records ≡ front
+front_taken records front rest n all count = ap (take n) all ∙ take_at front rest n count
+
+-- what holds of the part of the first n records
+at_front : (direction : Direction) (s : State) (records front rest : List CaptureRecord) (n : ℕ) (P : Part → Type 0) → records ≡ front ++ rest →
+    length front ≡ n → P (records_part direction s 0 front) → P (first_part direction s records n)
+at_front direction s records front rest n P all count met =
+    subst (λ rs. P (records_part direction s 0 rs)) (sym (front_taken records front rest n all count)) met
 
 -- ---- a fault of the reader
 
@@ -196,59 +206,80 @@ at_fault : (direction : Direction) (first : State) (capture : Capture) (ahead : 
 at_fault direction first capture ahead old now s k held fault answer =
     let ended = over_at_fault held.rest capture.fault fault answer in (ended.1, whole_at_end direction first capture ahead old now s k held ended.0)
 
-unless_read : (direction : Direction) (first : State) (capture : Capture) (ahead : Ahead) (old now : Written) (s : State) (k : ℕ) →
+unless_read : (direction : Direction) (first : State) (capture : Capture) (ahead : Ahead) (old now : Written) (s : State) (k taken : ℕ) → taken ≡ k →
     (held : IsHeld direction first capture ahead old now s k) → (fault : PcapFault) →
-    UnlessRead (first_of (record { records = held.rest; fault = capture.fault })) (Err fault) → RunsHeld direction first capture old now s (Err (Pcap fault))
-unless_read direction first capture ahead old now s k held Read answer =
-    after_front direction first capture.records held.front held.rest (λ part. Grows old now part.output part.text) held.all held.adds.grows
-unless_read direction first capture ahead old now s k held Write answer =
-    after_front direction first capture.records held.front held.rest (λ part. Appends old.text now.text part.text) held.all held.adds.grows.text
-unless_read direction first capture ahead old now s k held Magic answer = at_fault direction first capture ahead old now s k held Magic answer
-unless_read direction first capture ahead old now s k held Version answer = at_fault direction first capture ahead old now s k held Version answer
-unless_read direction first capture ahead old now s k held LinkType answer = at_fault direction first capture ahead old now s k held LinkType answer
-unless_read direction first capture ahead old now s k held CutHeader answer = at_fault direction first capture ahead old now s k held CutHeader answer
-unless_read direction first capture ahead old now s k held CutRecord answer = at_fault direction first capture ahead old now s k held CutRecord answer
-unless_read direction first capture ahead old now s k held RecordLength answer = at_fault direction first capture ahead old now s k held RecordLength answer
-unless_read direction first capture ahead old now s k held Memory answer = at_fault direction first capture ahead old now s k held Memory answer
-unless_read direction first capture ahead old now s k held RecordCount answer = at_fault direction first capture ahead old now s k held RecordCount answer
+    UnlessRead (first_of (record { records = held.rest; fault = capture.fault })) (Err fault) → RunsHeld direction first capture taken old now s (Err (Pcap fault))
+unless_read direction first capture ahead old now s k taken same held Read answer =
+    let long : length capture.records ≡ length held.front + length held.rest = ap length held.all ∙ length-append held.front held.rest in (
+      omega (arith, long, held.count, same),
+      at_front direction first capture.records held.front held.rest taken (λ part. Grows old now part.output part.text) held.all (held.count ∙ sym same) held.adds.grows,
+    )
+unless_read direction first capture ahead old now s k taken same held Write answer =
+    λ format. absurd (subst IsOfFormat (at_fault direction first capture ahead old now s k held Write answer).0 format)
+unless_read direction first capture ahead old now s k taken same held Magic answer = at_fault direction first capture ahead old now s k held Magic answer
+unless_read direction first capture ahead old now s k taken same held Version answer = at_fault direction first capture ahead old now s k held Version answer
+unless_read direction first capture ahead old now s k taken same held LinkType answer = at_fault direction first capture ahead old now s k held LinkType answer
+unless_read direction first capture ahead old now s k taken same held CutHeader answer = at_fault direction first capture ahead old now s k held CutHeader answer
+unless_read direction first capture ahead old now s k taken same held CutRecord answer = at_fault direction first capture ahead old now s k held CutRecord answer
+unless_read direction first capture ahead old now s k taken same held RecordLength answer = at_fault direction first capture ahead old now s k held RecordLength answer
+unless_read direction first capture ahead old now s k taken same held Memory answer = at_fault direction first capture ahead old now s k held Memory answer
+unless_read direction first capture ahead old now s k taken same held RecordCount answer = at_fault direction first capture ahead old now s k held RecordCount answer
 
-pub taken_fault : (direction : Direction) (first : State) (begins ahead : Ahead) (old now : Written) (s : State) (k : ℕ) (fault : PcapFault) →
-    AreTaken direction first begins ahead old now s k → Answers ahead (Err fault) → RunsRecords direction first begins old now s (Err (Pcap fault))
-taken_fault direction first (holds capture) ahead old now s k fault taken answer =
-    unless_read direction first capture ahead old now s k taken fault (subst (λ a. Answers a (Err fault)) taken.ahead answer)
-taken_fault direction first untold ahead old now s k fault taken answer = tt
-taken_fault direction first over ahead old now s k fault taken answer = tt
-taken_fault direction first (failed other) ahead old now s k fault taken answer = tt
+pub taken_fault : (direction : Direction) (first : State) (begins ahead : Ahead) (old now : Written) (s : State) (k count : ℕ) (fault : PcapFault) → count ≡ k →
+    AreTaken direction first begins ahead old now s k → Answers ahead (Err fault) → RunsRecords direction first begins count old now s (Err (Pcap fault))
+taken_fault direction first (holds capture) ahead old now s k count fault same taken answer =
+    unless_read direction first capture ahead old now s k count same taken fault (subst (λ a. Answers a (Err fault)) taken.ahead answer)
+taken_fault direction first untold ahead old now s k count fault same taken answer = tt
+taken_fault direction first over ahead old now s k count fault same taken answer = tt
+taken_fault direction first (failed other) ahead old now s k count fault same taken answer = tt
 
 -- ---- a writer that failed
 
-held_write : (direction : Direction) (first : State) (capture : Capture) (ahead : Ahead) (old now new : Written) (s after : State) (k : ℕ) (r : CaptureRecord) (fault : CaptureFault) →
-    IsHeld direction first capture ahead old now s k → Answers ahead (Ok (Some r)) → FailsIn (record_part direction s k r) now new fault →
-    RunsHeld direction first capture old new after (Err fault)
-held_write direction first capture ahead old now new s after k r (Script fault) held answer fails = (
-  fails.0,
-  after_front direction first capture.records held.front held.rest (λ part. Appends old.output new.output part.output) held.all
-      (subst (λ o. Appends old.output o (records_part direction first 0 held.front).output) (sym fails.1) held.adds.grows.output),
-)
-held_write direction first capture ahead old now new s after k r (Pcap fault) held answer fails =
+held_write : (direction : Direction) (first : State) (capture : Capture) (ahead : Ahead) (old now new : Written) (s after : State) (k taken : ℕ) (r : CaptureRecord) (fault : CaptureFault) →
+    k + 1 ≡ taken → IsHeld direction first capture ahead old now s k → Answers ahead (Ok (Some r)) → FailsIn (record_part direction s k r) now new fault →
+    RunsHeld direction first capture taken old new after (Err fault)
+held_write direction first capture ahead old now new s after k taken r (Script fault) same held answer fails =
+    let at = next_held direction first capture ahead old now s k r held answer in (
+      fails.0,
+      (
+        k,
+        same,
+        within_next direction first capture ahead old now s k r at,
+        at_front direction first capture.records at.front (r ∷ at.more) k (λ part. Appends old.output new.output part.output)
+            (at.all ∙ append_assoc at.front (r ∷ []) at.more) at.count
+            (subst (λ o. Appends old.output o (records_part direction first 0 at.front).output) (sym fails.1) at.adds.grows.output),
+      ),
+    )
+held_write direction first capture ahead old now new s after k taken r (Pcap fault) same held answer fails =
     let at = next_held direction first capture ahead old now s k r held answer in
     let part = records_part direction first 0 at.front in
-    let piece : Appends now.text new.text (record_part direction part.state k r).text =
-    subst (λ v. Appends now.text new.text (record_part direction v k r).text) at.adds.state fails.1 in
-    let lines : Appends old.text new.text (records_part direction first 0 (at.front ++ r ∷ [])).text =
-    subst (λ (p : Part). Appends old.text new.text p.text) (sym (with_next direction first at.front k r at.count))
-    (Appends-trans old.text now.text new.text part.text (record_part direction part.state k r).text at.adds.grows.text piece) in
-    subst (λ f. RunsHeld direction first capture old new after (Err (Pcap f))) (sym fails.0)
-    (after_front direction first capture.records (at.front ++ r ∷ []) at.more (λ p. Appends old.text new.text p.text) at.all lines)
+    let last = record_part direction part.state k r in
+    let piece : Appends now.text new.text last.text × AppendsFront now.output new.output last.output =
+    subst (λ v. Appends now.text new.text (record_part direction v k r).text × AppendsFront now.output new.output (record_part direction v k r).output) at.adds.state (fails.1, fails.2) in
+    let cut : CutsOutput old new (part_stop part) (part_stop (and_after part (λ after. record_part direction after k r))) = (
+      Appends-trans old.text now.text new.text part.text last.text at.adds.grows.text piece.0,
+      up_to_front old.output now.output new.output part.output last.output at.adds.grows.output piece.1,
+    ) in
+    subst (λ f. RunsHeld direction first capture taken old new after (Err (Pcap f))) (sym fails.0) (λ format. (
+      k,
+      same,
+      within_next direction first capture ahead old now s k r at,
+      at_front direction first capture.records at.front (r ∷ at.more) k
+          (λ p. CutsOutput old new (part_stop p) (part_stop (first_part direction first capture.records (k + 1))))
+          (at.all ∙ append_assoc at.front (r ∷ []) at.more) at.count
+          (at_front direction first capture.records (at.front ++ r ∷ []) at.more (k + 1) (λ p. CutsOutput old new (part_stop part) (part_stop p)) at.all
+          (length-append at.front (r ∷ []) ∙ ap (λ n. n + 1) at.count)
+          (subst (λ (p : Part). CutsOutput old new (part_stop part) (part_stop p)) (sym (with_next direction first at.front k r at.count)) cut)),
+    ))
 
-pub taken_write : (direction : Direction) (first : State) (begins ahead : Ahead) (old now new : Written) (s after : State) (k : ℕ) (r : CaptureRecord) (fault : CaptureFault) →
-    AreTaken direction first begins ahead old now s k → Answers ahead (Ok (Some r)) → FailsIn (record_part direction s k r) now new fault →
-    RunsRecords direction first begins old new after (Err fault)
-taken_write direction first (holds capture) ahead old now new s after k r fault taken answer fails =
-    held_write direction first capture ahead old now new s after k r fault taken answer fails
-taken_write direction first untold ahead old now new s after k r fault taken answer fails = tt
-taken_write direction first over ahead old now new s after k r fault taken answer fails = tt
-taken_write direction first (failed other) ahead old now new s after k r fault taken answer fails = tt
+pub taken_write : (direction : Direction) (first : State) (begins ahead : Ahead) (old now new : Written) (s after : State) (k count : ℕ) (r : CaptureRecord) (fault : CaptureFault) →
+    k + 1 ≡ count → AreTaken direction first begins ahead old now s k → Answers ahead (Ok (Some r)) → FailsIn (record_part direction s k r) now new fault →
+    RunsRecords direction first begins count old new after (Err fault)
+taken_write direction first (holds capture) ahead old now new s after k count r fault same taken answer fails =
+    held_write direction first capture ahead old now new s after k count r fault same taken answer fails
+taken_write direction first untold ahead old now new s after k count r fault same taken answer fails = tt
+taken_write direction first over ahead old now new s after k count r fault same taken answer fails = tt
+taken_write direction first (failed other) ahead old now new s after k count r fault same taken answer fails = tt
 
 pub late : (part : Part) (now new : Written) (fault : CaptureFault) → FailsIn part now new fault → IsLateFault fault
 late part now new (Script fault) fails = fails.0

@@ -1,8 +1,9 @@
 -- A run over a whole file, from its parts.
-use Rattle.std.proofs.Common.{◌≡◌, ℕ, List, [], ◌++◌, length, map, refl, sym, ap, subst, ◌∙◌, append_assoc, append-nil, arith}
+use Rattle.std.proofs.Common.{◌≡◌, ℕ, List, [], ◌++◌, length, map, refl, sym, ap, subst, ◌∙◌, append-nil, arith}
 use Rattle.std.specs.Prelude.{Option, Some, None, Result, Ok, Err, IfErr, IfSome, option_map}
+use Rattle.std.specs.Io.{StartsWith}
 use Rattle.std.specs.Io.KnownBytes.{Appends, Keeps}
-use Rattle.std.proofs.KnownBytes.{Appends-kept, Appends-nil, Appends-trans, Keeps-refl}
+use Rattle.std.proofs.KnownBytes.{Appends-nil, Appends-trans, Keeps-refl}
 use Rattle.macsec_commands.specs.declared.config.EndConfig.{EndConfig}
 use Rattle.macsec_secy.specs.State.{State, start}
 use Rattle.macsec_lines.specs.Scripts.{NumberedLine}
@@ -15,13 +16,15 @@ use Rattle.macsec_pcap.specs.declared.fault.PcapFault.TheVariants.{Magic, Versio
 use Rattle.macsec_pcap.specs.declared.form.Resolution.{Resolution}
 use Rattle.macsec_pcap.specs.Captures.{CaptureFile, file_of}
 use Rattle.macsec_pcap.specs.Reading.{Opens, Reading, opened}
+use Rattle.macsec_pcap.specs.Writing.{AppendsFront}
 use Rattle.macsec_pcap.specs.Written.{header_octets}
 use Rattle.macsec_capture.specs.declared.Direction.{Direction}
 use Rattle.macsec_capture.specs.declared.fault.CaptureFault.{CaptureFault}
 use Rattle.macsec_capture.specs.declared.fault.CaptureFault.TheVariants.{Script, Pcap}
-use Rattle.macsec_capture.specs.Captured.{Captured, Part, Stop, captured_after, captured_at, commands_part, last_lines, nothing, records_part, stop_behind, stops_of}
-use Rattle.macsec_capture.specs.Runs.{Adds, AfterSome, AtFirst, AtSome, CaptureGives, Grows, IsLateFault, RunsHeld, RunsRecords, TakesFile, Written, behind_header, flushed_end, known}
-use Rattle.macsec_capture.proofs.Formats.{IsNotMemory, file_format}
+use Rattle.macsec_capture.specs.Captured.{Captured, Part, Stop, captured_after, captured_at, commands_part, last_lines, nothing, records_part, stops_of}
+use Rattle.macsec_capture.specs.Runs.{Adds, AtFirst, AtSome, CaptureGives, CutsOutput, Grows, InLast, IsOfFormat, IsLateFault, RunsHeld, RunsRecords, TakesFile, Written, behind_header, first_part, flushed_end, known}
+use Rattle.macsec_capture.proofs.Cuts.{at_flush, at_header, at_record, cut_put, next_put, up_to_behind}
+use Rattle.macsec_capture.proofs.Formats.{file_format, header_fault_format}
 use Rattle.macsec_capture.proofs.Grown.{Grows-kept, Grows-more, Grows-nothing, Kept, fault_kept}
 use Rattle.macsec_capture.proofs.Stops.{at_first, at_last, first_put, put_before, some_at_first, some_behind, some_put, stops_put}
 
@@ -33,11 +36,6 @@ of_file direction s file = captured_after direction (nothing s) (Ok file)
 
 abbrev records_of_file : Direction → State → CaptureFile → Part
 records_of_file direction s file = records_part direction s 0 file.capture.records
-
-at_stop : (direction : Direction) (s : State) (file : CaptureFile) (P : Part → Type 0) (Q : Stop → Type 0) →
-    ((part : Part) → P part → Q (record { output = header_octets file.resolution ++ part.output; text = part.text })) →
-    AfterSome direction s file.capture.records P → AtSome (stops_of direction (nothing s) (Ok file)) Q
-at_stop direction s file P Q holds at = some_behind direction (nothing s) file at.0 Q at.1 (holds _ at.2)
 
 all_but_fault : (direction : Direction) (s : State) (file : CaptureFile) (old mid new : Written) (after : State) (fault : PcapFault) →
     Grows old mid (header_octets file.resolution) [] → (file.capture.fault ≡ Some fault) × Adds (records_of_file direction s file) mid new after →
@@ -51,55 +49,68 @@ all_but_fault direction s file old mid new after fault first ended =
     (ap (option_map Pcap) ended.0, subst (Grows old new (header ++ part.output)) lines grown)
 
 -- the input, the output or the text ends the run
-held_fault : (direction : Direction) (s : State) (file : CaptureFile) (old mid new : Written) (after : State) →
-    Grows old mid (header_octets file.resolution) [] → IsNotMemory file.capture.fault → (fault : PcapFault) →
-    RunsHeld direction s file.capture mid new after (Err (Pcap fault)) → CaptureGives (of_file direction s file) old new (Err (Pcap fault))
-held_fault direction s file old mid new after first format Read runs =
-    at_stop direction s file _ _ (λ part grows. Grows-more old mid new (header_octets file.resolution) part.output [] part.text first grows) runs
-held_fault direction s file old mid new after first format Write runs =
-    at_stop direction s file _ _ (λ part adds. Appends-trans old.text mid.text new.text [] part.text first.text adds) runs
-held_fault direction s file old mid new after first format Memory runs = absurd (subst IsNotMemory runs.0 format)
-held_fault direction s file old mid new after first format Magic runs = all_but_fault direction s file old mid new after Magic first runs
-held_fault direction s file old mid new after first format Version runs = all_but_fault direction s file old mid new after Version first runs
-held_fault direction s file old mid new after first format LinkType runs = all_but_fault direction s file old mid new after LinkType first runs
-held_fault direction s file old mid new after first format CutHeader runs = all_but_fault direction s file old mid new after CutHeader first runs
-held_fault direction s file old mid new after first format CutRecord runs = all_but_fault direction s file old mid new after CutRecord first runs
-held_fault direction s file old mid new after first format RecordLength runs = all_but_fault direction s file old mid new after RecordLength first runs
-held_fault direction s file old mid new after first format RecordCount runs = all_but_fault direction s file old mid new after RecordCount first runs
+held_fault : (direction : Direction) (s : State) (file : CaptureFile) (taken : ℕ) (old mid new : Written) (after : State) →
+    Grows old mid (header_octets file.resolution) [] → IsOfFormat file.capture.fault → (fault : PcapFault) →
+    RunsHeld direction s file.capture taken mid new after (Err (Pcap fault)) → CaptureGives (of_file direction s file) old new (Err (Pcap fault))
+held_fault direction s file taken old mid new after first format Read runs =
+    some_behind direction (nothing s) file taken _ runs.0 (Grows-more old mid new (header_octets file.resolution) _ [] _ first runs.1)
+held_fault direction s file taken old mid new after first format Write runs =
+    let at = runs format in
+    at_record direction (nothing s) file at.0 (CutsOutput old new) at.2 (
+      Appends-trans old.text mid.text new.text [] _ first.text at.3.0,
+      up_to_behind old.output mid.output new.output (header_octets file.resolution) _ _ first.output at.3.1,
+    )
+held_fault direction s file taken old mid new after first format Memory runs = absurd (subst IsOfFormat runs.0 format)
+held_fault direction s file taken old mid new after first format Magic runs = all_but_fault direction s file old mid new after Magic first runs
+held_fault direction s file taken old mid new after first format Version runs = all_but_fault direction s file old mid new after Version first runs
+held_fault direction s file taken old mid new after first format LinkType runs = all_but_fault direction s file old mid new after LinkType first runs
+held_fault direction s file taken old mid new after first format CutHeader runs = all_but_fault direction s file old mid new after CutHeader first runs
+held_fault direction s file taken old mid new after first format CutRecord runs = all_but_fault direction s file old mid new after CutRecord first runs
+held_fault direction s file taken old mid new after first format RecordLength runs = all_but_fault direction s file old mid new after RecordLength first runs
+held_fault direction s file taken old mid new after first format RecordCount runs = all_but_fault direction s file old mid new after RecordCount first runs
 
-held_script : (direction : Direction) (s : State) (file : CaptureFile) (old mid new : Written) → Grows old mid (header_octets file.resolution) [] →
-    (fault : ScriptFault) → fault ≡ script.Write → AfterSome direction s file.capture.records (λ part. Appends mid.output new.output part.output) →
+held_script : (direction : Direction) (s : State) (file : CaptureFile) (taken : ℕ) (old mid new : Written) → Grows old mid (header_octets file.resolution) [] →
+    (fault : ScriptFault) → fault ≡ script.Write → InLast file.capture.records taken (λ n. Appends mid.output new.output (first_part direction s file.capture.records n).output) →
     CaptureGives (of_file direction s file) old new (Err (Script fault))
-held_script direction s file old mid new first fault is at =
+held_script direction s file taken old mid new first fault is at =
     subst (λ f. CaptureGives (of_file direction s file) old new (Err (Script f))) (sym is)
-    (at_stop direction s file _ _ (λ part adds. Appends-trans old.output mid.output new.output (header_octets file.resolution) part.output first.output adds) at)
+    (some_behind direction (nothing s) file at.0 (λ stop. Appends old.output new.output stop.output) (omega (arith, at.2))
+    (Appends-trans old.output mid.output new.output (header_octets file.resolution) _ first.output at.3))
 
-held_takes : (direction : Direction) (s : State) (file : CaptureFile) (old mid new : Written) (after : State) (answer : Result (Unit {0}) CaptureFault) →
-    Grows old mid (header_octets file.resolution) [] → IsNotMemory file.capture.fault → RunsHeld direction s file.capture mid new after answer →
+held_takes : (direction : Direction) (s : State) (file : CaptureFile) (taken : ℕ) (old mid new : Written) (after : State) (answer : Result (Unit {0}) CaptureFault) →
+    Grows old mid (header_octets file.resolution) [] → IsOfFormat file.capture.fault → RunsHeld direction s file.capture taken mid new after answer →
     TakesFile direction s file old new after answer
-held_takes direction s file old mid new after (Ok done) first format runs =
+held_takes direction s file taken old mid new after (Ok done) first format runs =
     let part = records_of_file direction s file in
     (runs.0, record { grows = Grows-more old mid new (header_octets file.resolution) part.output [] part.text first runs.1.grows; state = runs.1.state })
-held_takes direction s file old mid new after (Err (Script fault)) first format runs = held_script direction s file old mid new first fault runs.0 runs.1
-held_takes direction s file old mid new after (Err (Pcap fault)) first format runs = held_fault direction s file old mid new after first format fault runs
+held_takes direction s file taken old mid new after (Err (Script fault)) first format runs =
+    held_script direction s file taken old mid new first fault runs.0 runs.1
+held_takes direction s file taken old mid new after (Err (Pcap fault)) first format runs =
+    held_fault direction s file taken old mid new after first format fault runs
 
 -- the header is the file's, and the reader holds its records
-pub taken_of_file : (direction : Direction) (s : State) (reader : Reading) (unit : Resolution) (o m n x t u : Option (List ℕ)) (after : State) (answer : Result (Unit {0}) CaptureFault) →
-    x ≡ n → unit ≡ reader.resolution → Appends o m (header_octets unit) → RunsRecords direction s reader.ahead (known m t) (known n u) after answer →
+pub taken_of_file : (direction : Direction) (s : State) (reader : Reading) (unit : Resolution) (taken : ℕ) (o m n x t u : Option (List ℕ)) (after : State) (answer : Result (Unit {0}) CaptureFault) →
+    x ≡ n → unit ≡ reader.resolution → Appends o m (header_octets unit) → RunsRecords direction s reader.ahead taken (known m t) (known n u) after answer →
     (octets : List ℕ) (file : CaptureFile) → file_of octets ≡ Ok file → reader ≡ opened file → TakesFile direction s file (known o t) (known x u) after answer
-taken_of_file direction s reader unit o m n x t u after answer back same adds runs octets file read stands =
+taken_of_file direction s reader unit taken o m n x t u after answer back same adds runs octets file read stands =
     subst (λ held. TakesFile direction s file (known o t) (known held u) after answer) (sym back)
-    (held_takes direction s file (known o t) (known m t) (known n u) after answer
+    (held_takes direction s file taken (known o t) (known m t) (known n u) after answer
     (record { output = subst (λ u. Appends o m (header_octets u)) (same ∙ ap (λ (r : Reading). r.resolution) stands) adds; text = Appends-nil t })
-    (file_format octets file read) (subst (λ (r : Reading). RunsRecords direction s r.ahead (known m t) (known n u) after answer) stands runs))
+    (file_format octets file read) (subst (λ (r : Reading). RunsRecords direction s r.ahead taken (known m t) (known n u) after answer) stands runs))
 
 -- the header can't be written
-pub headless : (direction : Direction) (s : State) (reader : Reading) (o m t : Option (List ℕ)) (fault : PcapFault) → fault ≡ Write →
+pub headless : (direction : Direction) (s : State) (reader : Reading) (unit : Resolution) (o m t : Option (List ℕ)) (fault : PcapFault) → fault ≡ Write →
+    unit ≡ reader.resolution → AppendsFront o m (header_octets unit) →
     (octets : List ℕ) (file : CaptureFile) → file_of octets ≡ Ok file → reader ≡ opened file →
     TakesFile direction s file (known o t) (known m t) s (Err (Pcap fault))
-headless direction s reader o m t fault is octets file read stands =
+headless direction s reader unit o m t fault is same cut octets file read stands =
+    let header : AppendsFront o m (header_octets file.resolution) =
+    subst (λ u. AppendsFront o m (header_octets u)) (same ∙ ap (λ (r : Reading). r.resolution) stands) cut in
     subst (λ f. TakesFile direction s file (known o t) (known m t) s (Err (Pcap f))) (sym is)
-    (some_at_first direction (nothing s) (Ok file) (λ stop. Appends t t stop.text) (Appends-nil t))
+    (at_header direction (nothing s) file (CutsOutput (known o t) (known m t)) (
+      Appends-nil t,
+      (header.0, refl, subst (λ xs. StartsWith xs header.0) (sym (append-nil (header_octets file.resolution))) header.1, header.2),
+    ))
 
 -- ---- the flush of the output, and the counters
 
@@ -109,8 +120,8 @@ flushed_file : {E : Type 0} (direction : Direction) (s : State) (file : CaptureF
     TakesFile direction s file old mid after written → TakesFile direction s file old new after (flushed_end written flushed)
 flushed_file direction s file old mid new after kept (Err fault) flushed takes = fault_kept (of_file direction s file) old mid new kept fault takes
 flushed_file direction s file old mid new after kept (Ok done) (Err error) takes =
-    at_last direction (nothing s) file (λ stop. Appends old.text new.text stop.text)
-    (Appends-kept old.text mid.text new.text (records_of_file direction s file).text takes.1.grows.text kept.text)
+    let grown = Grows-kept old mid new (behind_header file (records_of_file direction s file)).output (records_of_file direction s file).text kept takes.1.grows in
+    at_flush direction s file old new (length file.capture.records) refl grown.text grown.output
 flushed_file direction s file old mid new after kept (Ok done) (Ok flushed) takes = (
   takes.0,
   record {
@@ -171,9 +182,7 @@ unopened_gives direction s octets w Read h =
 unopened_gives direction s octets w Memory h =
     subst (λ stops. AtFirst stops (λ stop. Grows w w stop.output stop.text)) (same_stops direction (nothing s) (file_of octets))
     (at_first direction (nothing s) (file_of octets) (λ stop. Grows w w stop.output stop.text) (Grows-nothing w))
-unopened_gives direction s octets w Write h =
-    subst (λ stops. AtSome stops (λ stop. Appends w.text w.text stop.text)) (same_stops direction (nothing s) (file_of octets))
-    (some_at_first direction (nothing s) (file_of octets) (λ stop. Appends w.text w.text stop.text) (Appends-nil w.text))
+unopened_gives direction s octets w Write h = absurd (header_fault_format octets Write h)
 unopened_gives direction s octets w Magic h = header_fault direction s (file_of octets) w Magic h
 unopened_gives direction s octets w Version h = header_fault direction s (file_of octets) w Version h
 unopened_gives direction s octets w LinkType h = header_fault direction s (file_of octets) w LinkType h
@@ -217,7 +226,7 @@ behind_fault lines whole old mid new same prints Read gives =
 behind_fault lines whole old mid new same prints Memory gives =
     first_put lines whole.stops _ _ (λ stop grown. behind_grown lines stop.output stop.text old mid new same prints grown) gives
 behind_fault lines whole old mid new same prints Write gives =
-    some_put lines whole.stops _ _ (λ stop adds. Appends-trans old.text mid.text new.text lines stop.text prints adds) gives
+    next_put (put_before lines) whole.stops _ _ (λ before after cut. cut_put lines old mid new before after same prints cut) gives
 behind_fault lines whole old mid new same prints Magic gives = (gives.0, behind_grown lines whole.output whole.text old mid new same prints gives.1)
 behind_fault lines whole old mid new same prints Version gives = (gives.0, behind_grown lines whole.output whole.text old mid new same prints gives.1)
 behind_fault lines whole old mid new same prints LinkType gives = (gives.0, behind_grown lines whole.output whole.text old mid new same prints gives.1)

@@ -1,5 +1,6 @@
 -- What the parts of a run return and write.
-use Rattle.std.specs.Prelude.{◌≡◌, ◌≤◌, ℕ, List, [], ◌∷◌, ◌++◌, Contains, length, take, Option, Some, None, Result, Ok, Err}
+use Rattle.std.specs.Prelude.{◌≡◌, ◌≤◌, ◌<◌, ◌+◌, ℕ, List, [], ◌∷◌, ◌++◌, Contains, length, slice_get, take, Option, Some, None, Result, Ok, Err}
+use Rattle.std.specs.Io.{StartsWith}
 use Rattle.std.specs.Io.KnownBytes.{Appends, Keeps}
 use Rattle.macsec_secy.specs.State.{State}
 use Rattle.macsec_lines.specs.declared.faults.ScriptFault.{ScriptFault}
@@ -10,6 +11,7 @@ use Rattle.macsec_pcap.specs.declared.fault.PcapFault.TheVariants as pcap
 use Rattle.macsec_pcap.specs.Records.{CaptureRecord}
 use Rattle.macsec_pcap.specs.Captures.{Capture, CaptureFile}
 use Rattle.macsec_pcap.specs.Reading.{Ahead, over, failed, holds, untold}
+use Rattle.macsec_pcap.specs.Writing.{AppendsFront}
 use Rattle.macsec_pcap.specs.Written.{header_octets}
 use Rattle.macsec_capture.specs.declared.Direction.{Direction}
 use Rattle.macsec_capture.specs.declared.fault.CaptureFault.{CaptureFault}
@@ -24,12 +26,12 @@ pub record Written : Type 0 where
 abbrev pub known : Option (List ℕ) → Option (List ℕ) → Written
 known octets lines = record { output = octets; text = lines }
 
--- these are appended to them
+-- octets were appended to what the output had, and lines to what the text had
 pub record Grows (old new : Written) (octets lines : List ℕ) : Type 0 where
   pub output : Appends old.output new.output octets
   pub text : Appends old.text new.text lines
 
--- nothing is
+-- neither the output nor the text has changed
 pub record Stays (old new : Written) : Type 0 where
   pub output : Keeps old.output new.output
   pub text : Keeps old.text new.text
@@ -43,40 +45,70 @@ pub record Adds (part : Part) (old new : Written) (after : State) : Type 0 where
   pub grows : Grows old new part.output part.text
   pub state : after ≡ part.state
 
--- of a part in which a write fails, its lines come first: if the text can't be written, nothing is written to the output,
--- and if the output can't be, the lines are all written
+-- a write of a part fails: its lines come first, so if the text can't be written, nothing is written to the output, and
+-- if the output can't be, the lines are all written, and of the part's output the first octets at most
 abbrev pub FailsIn : Part → Written → Written → CaptureFault → Type 0
 FailsIn part old new (Script fault) = (fault ≡ script.Write) × (new.output ≡ old.output)
-FailsIn part old new (Pcap fault) = (fault ≡ pcap.Write) × Appends old.text new.text part.text
+FailsIn part old new (Pcap fault) =
+    (fault ≡ pcap.Write) × Appends old.text new.text part.text × AppendsFront old.output new.output part.output
 
 -- the text's writer failed, or the input or the output is at fault
 abbrev pub IsLateFault : CaptureFault → Type 0
 IsLateFault (Script fault) = fault ≡ script.Write
 IsLateFault (Pcap fault) = Unit {0}
 
--- of what the first records of these write, for some number of them
-abbrev pub AfterSome : Direction → State → List CaptureRecord → (Part → Type 0) → Type 0
-AfterSome direction s records Holds = (n : ℕ) × (n ≤ length records) × Holds (records_part direction s 0 (take n records))
+-- known octets grow by those that come first, and by some more of the whole: by none, by some or by all
+abbrev pub AppendsUpTo : Option (List ℕ) → Option (List ℕ) → List ℕ → List ℕ → Type 0
+AppendsUpTo old new first whole = (octets : List ℕ) × StartsWith octets first × StartsWith whole octets × Appends old new octets
 
--- of a run over the records that are held: it ends with them, or with the fault after them, unless a read or a write
--- fails first; then what the other devices have is what some first records write
-abbrev pub RunsHeld : Direction → State → Capture → Written → Written → State → Result (Unit {0}) CaptureFault → Type 0
-RunsHeld direction s held old new after (Ok done) = (held.fault ≡ None) × Adds (records_part direction s 0 held.records) old new after
-RunsHeld direction s held old new after (Err (Script fault)) =
-    (fault ≡ script.Write) × AfterSome direction s held.records (λ part. Appends old.output new.output part.output)
-RunsHeld direction s held old new after (Err (Pcap pcap.Read)) = AfterSome direction s held.records (λ part. Grows old new part.output part.text)
-RunsHeld direction s held old new after (Err (Pcap pcap.Write)) = AfterSome direction s held.records (λ part. Appends old.text new.text part.text)
-RunsHeld direction s held old new after (Err (Pcap fault)) =
+-- a write to the output fails on the way from a stop to the next: that one's lines are all written, and of its output all
+-- that the stop before has, and nothing behind it
+abbrev pub CutsOutput : Written → Written → Stop → Stop → Type 0
+CutsOutput old new before after = Appends old.text new.text after.text × AppendsUpTo old.output new.output before.output after.output
+
+-- a fault of a file's format: none of memory or of a device
+abbrev pub IsOfFormat : Option PcapFault → Type 0
+IsOfFormat (Some pcap.Memory) = ⊥
+IsOfFormat (Some pcap.Read) = ⊥
+IsOfFormat (Some pcap.Write) = ⊥
+IsOfFormat other = Unit {0}
+
+-- what the first n of these records write
+abbrev pub first_part : Direction → State → List CaptureRecord → ℕ → Part
+first_part direction s records n = records_part direction s 0 (take n records)
+
+abbrev pub part_stop : Part → Stop
+part_stop part = record { output = part.output; text = part.text }
+
+-- a write fails in the last of the records that were taken, of which n come before it
+abbrev pub InLast : List CaptureRecord → ℕ → (ℕ → Type 0) → Type 0
+InLast records taken Holds = (n : ℕ) × (n + 1 ≡ taken) × (n < length records) × Holds n
+
+-- of a run over the records that are held, when this many of them were taken: it ends with them, or with the fault after
+-- them, unless a read or a write fails first. If a read fails, both writers have what the records that were taken write.
+-- If a write does, it is in the last of these, and the other writer has what comes before it
+abbrev pub RunsHeld : Direction → State → Capture → ℕ → Written → Written → State → Result (Unit {0}) CaptureFault → Type 0
+RunsHeld direction s held taken old new after (Ok done) =
+    (held.fault ≡ None) × Adds (records_part direction s 0 held.records) old new after
+RunsHeld direction s held taken old new after (Err (Script fault)) =
+    (fault ≡ script.Write)
+    × InLast held.records taken (λ n. Appends old.output new.output (first_part direction s held.records n).output)
+RunsHeld direction s held taken old new after (Err (Pcap pcap.Read)) =
+    (taken ≤ length held.records)
+    × Grows old new (first_part direction s held.records taken).output (first_part direction s held.records taken).text
+RunsHeld direction s held taken old new after (Err (Pcap pcap.Write)) = IsOfFormat held.fault →
+    InLast held.records taken (λ n. CutsOutput old new (part_stop (first_part direction s held.records n)) (part_stop (first_part direction s held.records (n + 1))))
+RunsHeld direction s held taken old new after (Err (Pcap fault)) =
     (held.fault ≡ Some fault) × Adds (records_part direction s 0 held.records) old new after
 
 -- the same of what lies ahead of a reader, if it is known
-abbrev pub RunsRecords : Direction → State → Ahead → Written → Written → State → Result (Unit {0}) CaptureFault → Type 0
-RunsRecords direction s (holds held) old new after answer = RunsHeld direction s held old new after answer
-RunsRecords direction s untold old new after answer = Unit {0}
-RunsRecords direction s over old new after answer = Unit {0}
-RunsRecords direction s (failed fault) old new after answer = Unit {0}
+abbrev pub RunsRecords : Direction → State → Ahead → ℕ → Written → Written → State → Result (Unit {0}) CaptureFault → Type 0
+RunsRecords direction s (holds held) taken old new after answer = RunsHeld direction s held taken old new after answer
+RunsRecords direction s untold taken old new after answer = Unit {0}
+RunsRecords direction s over taken old new after answer = Unit {0}
+RunsRecords direction s (failed fault) taken old new after answer = Unit {0}
 
--- of a read of a configuration: its lines or its first fault, unless memory runs out or a read fails first
+-- what a read of a configuration returns: its lines or its first fault, unless memory runs out or a read fails first
 abbrev pub ReadsConfig : List ℕ → Result (List NumberedLine) ScriptFault → Type 0
 ReadsConfig config (Ok lines) = config_of config ≡ Ok lines
 ReadsConfig config (Err script.Memory) = Unit {0}
@@ -84,7 +116,7 @@ ReadsConfig config (Err script.Read) = Unit {0}
 ReadsConfig config (Err script.Write) = ⊥
 ReadsConfig config (Err fault) = config_of config ≡ Err fault
 
--- of the first stop, of some stop
+-- what is said holds of the first stop of a list; of some stop of it (`AtSome`)
 abbrev pub AtFirst : List Stop → (Stop → Type 0) → Type 0
 AtFirst [] Holds = ⊥
 AtFirst (stop ∷ more) Holds = Holds stop
@@ -92,10 +124,16 @@ AtFirst (stop ∷ more) Holds = Holds stop
 abbrev pub AtSome : List Stop → (Stop → Type 0) → Type 0
 AtSome stops Holds = (stop : Stop) × Contains stops stop × Holds stop
 
+-- of some stop and the next
+abbrev pub AtNext : List Stop → (Stop → Stop → Type 0) → Type 0
+AtNext stops Holds =
+    (k : ℕ) × (before : Stop) × (after : Stop) × (slice_get stops k ≡ Some before) × (slice_get stops (k + 1) ≡ Some after) × Holds before after
+
 -- what a run returns and writes: all of it and the fault that ends it, unless memory runs out, or a read or a write fails
 -- first. Nothing is written before the configuration is read. The memory of the input's reader is taken at the first
--- stop. If the input can't be read, output and text are those of one stop; of a writer that failed nothing is said, and
--- the other one has what it has at a stop
+-- stop. If the input can't be read, output and text are those of one stop. If the output can't be written, the text is
+-- that of a stop, and the output has what it has at the stop before, and nothing behind this one. If the text can't be
+-- written, the output has what it has at a stop, and nothing is said of the text
 abbrev pub CaptureGives : Captured → Written → Written → Result (Unit {0}) CaptureFault → Type 0
 CaptureGives whole old new (Ok done) = (whole.fault ≡ None) × Grows old new whole.output whole.text
 CaptureGives whole old new (Err (Script script.Memory)) = Stays old new
@@ -104,7 +142,7 @@ CaptureGives whole old new (Err (Script script.Write)) = AtSome whole.stops (λ 
 CaptureGives whole old new (Err (Script fault)) = (whole.fault ≡ Some (Script fault)) × Stays old new
 CaptureGives whole old new (Err (Pcap pcap.Memory)) = AtFirst whole.stops (λ stop. Grows old new stop.output stop.text)
 CaptureGives whole old new (Err (Pcap pcap.Read)) = AtSome whole.stops (λ stop. Grows old new stop.output stop.text)
-CaptureGives whole old new (Err (Pcap pcap.Write)) = AtSome whole.stops (λ stop. Appends old.text new.text stop.text)
+CaptureGives whole old new (Err (Pcap pcap.Write)) = AtNext whole.stops (CutsOutput old new)
 CaptureGives whole old new (Err (Pcap fault)) = (whole.fault ≡ Some (Pcap fault)) × Grows old new whole.output whole.text
 
 -- of the part of a run over an opened file that comes before the counters

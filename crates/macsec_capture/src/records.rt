@@ -1,13 +1,13 @@
 //! The records of a capture: their frames go through the endpoint, in order, and what comes of them to another file.
 
-ghost use Rattle.std.specs.Prelude.{◌≡◌, ◌≤◌, IfErr, IfSome, None, OnOk, length, option_copied};
+ghost use Rattle.std.specs.Prelude.{◌≡◌, ◌≤◌, ◌-◌, IfErr, IfSome, None, OnErr, OnOk, length, option_copied};
 ghost use Rattle.macsec_secy.specs.Answers.{output_of_received, output_of_sent};
 ghost use Rattle.macsec_secy.specs.Sound.{IsSound};
 ghost use Rattle.macsec_secy.specs.Step.{client_frame, link_frame, step};
 ghost use Rattle.std.specs.Io.KnownBytes.{Appends};
 ghost use Rattle.macsec_pcap.specs.Answers.{shown};
 ghost use Rattle.macsec_pcap.specs.Limits.{max_record_length, max_records};
-ghost use Rattle.macsec_pcap.specs.Writing.{contents, fault_of, lent};
+ghost use Rattle.macsec_pcap.specs.Writing.{AppendsFront, contents, fault_of, lent};
 ghost use Rattle.macsec_pcap.specs.declared.fault.PcapFault.TheVariants.{Write};
 ghost use Rattle.macsec_capture.specs.declared.fault.CaptureFault.TheVariants.{Pcap};
 ghost use Rattle.macsec_capture.specs.Captured.{frame_of_output, frame_part, record_of_frame, record_part};
@@ -33,8 +33,9 @@ pub(crate) fn run_records<R: Read, W: Write, T: Write>(
     requires places { reader.old.places ≡ max_records }
     requires no_fault { fault_of writer.old ≡ None }
     ensures lent { (lent writer.new).ghost_name ≡ (lent writer.old).ghost_name }
-    ensures records { RunsRecords direction endpoint.old reader.old.ahead (known (contents W.contents writer.old) (T.contents text.old))
-        (known (contents W.contents writer.new) (T.contents text.new)) endpoint.new result }
+    // The reader has so many fewer places as records were taken from it: a run that goes on after a fault takes more.
+    ensures records { RunsRecords direction endpoint.old reader.old.ahead (reader.old.places - reader.new.places)
+        (known (contents W.contents writer.old) (T.contents text.old)) (known (contents W.contents writer.new) (T.contents text.new)) endpoint.new result }
     ensures fault { IfErr result IsLateFault }
 {
     for k in 0..MAX_RECORDS + 1 {
@@ -166,6 +167,7 @@ fn write_frame<W: Write>(
     ensures no_fault { OnOk result (fault_of writer.new ≡ None) }
     ensures output { OnOk result (Appends (contents W.contents writer.old) (contents W.contents writer.new) (record_of_frame (shown «record».now) (option_copied frame.entry))) }
     ensures fault { IfErr result (λ fault. fault ≡ Pcap Write) }
+    ensures cut { OnErr result (AppendsFront (contents W.contents writer.old) (contents W.contents writer.new) (record_of_frame (shown «record».now) (option_copied frame.entry))) }
 {
     let Some(frame) = frame else {
         return Ok(());

@@ -16,7 +16,7 @@ use crate::records::run_records;
 use crate::{CaptureFault, Direction};
 use macsec_lines::{Line, parse_config};
 use macsec_link::EndConfig;
-use macsec_pcap::{PcapFault, PcapReader, PcapWriter};
+use macsec_pcap::{PcapFault, PcapReader, PcapWriter, write_header};
 use macsec_print::{Label, print_counters};
 use macsec_script::laws::parsed_lines_fit;
 use macsec_script::{ScriptFault, read_text};
@@ -34,7 +34,8 @@ use std::io::{self, Read, Write};
 /// written all that comes before it; or `Memory`, `Read` or `Write`, in `Script` for the configuration and the text, in
 /// `Pcap` for the input and the output. There are no counters with any fault in `Pcap`. With `Pcap(Memory)` and
 /// `Pcap(Read)` both writers have what they have at a stop of the run: behind the commands, behind the output's header or
-/// behind a record. With `Pcap(Write)` the text has that, and with `Script(Write)` the output.
+/// behind a record. With `Pcap(Write)` the text has that, and the output has what it has at the stop before, and maybe
+/// more of what it has at this one; with `Script(Write)` the output has what it has at a stop.
 pub fn run_capture<C: Read, R: Read, W: Write, T: Write>(
     alloc: Global,
     direction: Direction,
@@ -177,6 +178,7 @@ fn write_output<R: Read, W: Write, T: Write>(
         (record { output = W.contents output.new; text = T.contents text.new }) endpoint.new result }
     ensures fault { IfErr result IsLateFault }
 {
-    let mut writer = PcapWriter::new(output, reader.resolution())?;
+    write_header(output, reader.resolution())?;
+    let mut writer = PcapWriter::behind_header(output);
     run_records(direction, endpoint, reader, &mut writer, text)
 }

@@ -49,7 +49,7 @@ abbrev pub FailsAsOpening : List ℕ → Failure → Type 0
 FailsAsOpening name (CannotOpen path) = path.now ≡ name
 FailsAsOpening name other = ⊥
 
--- nothing is written if the file can't be opened
+-- what a run of a named script has written when it fails: nothing if the file can't be opened
 abbrev pub LeavesOutput : Option (List ℕ) → Option (List ℕ) → Failure → Type 0
 LeavesOutput old new Usage = Keeps old new
 LeavesOutput old new (CannotOpen path) = Keeps old new

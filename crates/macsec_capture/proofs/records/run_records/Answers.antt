@@ -29,6 +29,8 @@ pub returns-in_err-run_record-clause-records : goal.returns-in_err-run_record-cl
 returns-in_err-run_record-clause-records g c =
     let p = err_from_is_err_and c.from_residual-in_err-run_record.result c.from_residual-in_err-run_record.ensures.1 in
     let got : c.next.result ≡ Ok (Some c.in-Some.record) = search rules in
+    let after : IsAfter c.loop-k.reader (answer_of c.next.result) c.next.follows.lender-at-none = search rules in
+    let later = subst (λ a. IsAfter c.loop-k.reader (answer_of a) c.next.follows.lender-at-none) got after in
     rw (p.1, p.2)
-    (taken_write _ _ _ _ _ _ _ _ _ _ _ _ c.loop-k.invariant.0 (subst (λ a. Answers c.loop-k.reader.ahead (answer_of a)) got c.next.ensures.answer)
-    c.in_err-run_record.ensures.fault)
+    (taken_write _ _ _ _ _ _ _ _ _ _ _ _ _ (omega (arith, c.requires.places, c.loop-k.invariant.1, later.places)) c.loop-k.invariant.0
+    (subst (λ a. Answers c.loop-k.reader.ahead (answer_of a)) got c.next.ensures.answer) c.in_err-run_record.ensures.fault)
