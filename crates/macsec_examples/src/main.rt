@@ -1,4 +1,7 @@
 //! Runs each script of `data/`, and compares what it prints with the text that stands beside it.
+//!
+//! Proved: `differing_line` returns `None` exactly if two texts are the same, and else the number of the line of the
+//! first octet in which they differ. That `main` compares each text no clause says.
 #![tactic(auto)]
 
 mod comparison;
@@ -10,7 +13,7 @@ use std::fs;
 use std::process::ExitCode;
 
 /// The names of the scripts.
-const EXAMPLES: [&str; 57] = [
+const EXAMPLES: [&str; 58] = [
     "tour",
     "blanks-and-comments",
     "first-frame-gcm256",
@@ -20,6 +23,7 @@ const EXAMPLES: [&str; 57] = [
     "other-ssci-or-salt",
     "unused-ssci-and-salt",
     "key-lengths-and-offsets",
+    "greatest-key-number",
     "extended-keys",
     "ranges",
     "transmit-commands",

@@ -16,7 +16,7 @@ unfolding hex_on_literals
 no_end_b = refl
 
 -- a line in a wrong place that has a fault of its own has that one
-few_words_for_a_key : printed_text (codes "end A gcm128 12153524c0895e81 1518 sci\nA key 256\n") ≡ Err (script.Count 2)
+few_words_for_a_key : printed_text (codes "end A gcm128 12153524c0895e81 1518 sci\nA key 4096\n") ≡ Err (script.Count 2)
 unfolding hex_on_literals
 few_words_for_a_key = refl
 

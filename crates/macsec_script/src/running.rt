@@ -36,7 +36,7 @@ pub fn run_script<R: Read, W: Write>(
     print_script(alloc, writer, lines.as_slice())
 }
 
-/// All that a reader has, at most 1,048,576 octets. Returns `ScriptLong` if it has more, `Memory`, or `Read`.
+/// All that a reader has, at most `MAX_SCRIPT_LEN` octets. Returns `ScriptLong` if it has more, `Memory`, or `Read`.
 pub fn read_text<R: Read>(alloc: Global, reader: &mut R) -> Result<Vec<u8>, ScriptFault>
     ensures { IfSome (R.remaining reader.old) (λ all. MatchResult result
         (λ text. (text.items ≡ all) × (length all ≤ max_script_len)) (λ fault. IsInputFault all fault)) }

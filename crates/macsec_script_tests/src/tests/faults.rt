@@ -40,11 +40,11 @@ const LINES_AT_FAULT: [Faulty; 35] = [
     ("end C", LineFault::Count),
     ("B counters 1", LineFault::Count),
     (
-        "A key 256 ad7a2bd03eac835a6f620fdcb506b345",
+        "A key 4096 ad7a2bd03eac835a6f620fdcb506b345",
         LineFault::Count,
     ),
     (
-        "A key 256 ad7a2bd03eac835a6f620fdcb506b345 0 xpn128 00000001 12153525c0895e8000000000 0",
+        "A key 4096 ad7a2bd03eac835a6f620fdcb506b345 0 xpn128 00000001 12153525c0895e8000000000 0",
         LineFault::Count,
     ),
     ("A send 0", LineFault::Hex),
