@@ -84,11 +84,11 @@ def is_hex(word):
     return all(it in "0123456789abcdefABCDEF" for it in word)
 
 
-AN, NUMBER, LINK_NUMBER = decimal(0, 3), decimal(0, 255), decimal(0, 2**32 - 1)
+AN, NUMBER, OFFSET, LINK_NUMBER = decimal(0, 3), decimal(0, 4095), decimal(0, 255), decimal(0, 2**32 - 1)
 SCI, SSCI, SALT, FRAME, OCTET = hexadecimal(8), hexadecimal(4), hexadecimal(12), hexadecimal(), hexadecimal(1)
 WINDOW, SUITE = decimal(0, 2**64 - 1), one_of(*SUITES)
 # The words of a key that are never left out.
-KEY = (NUMBER, hexadecimal(16, 32), NUMBER)
+KEY = (NUMBER, hexadecimal(16, 32), OFFSET)
 # The lines that do not begin with an end, and those that do: the words after the keyword, in each of their forms.
 PLAIN = {
     "end": [(one_of("A", "B"), SUITE, SCI, decimal(64, MAX_FRAME), one_of(*FORMS))],
@@ -294,7 +294,7 @@ class Endpoint:
     def do_rxsc(self, sci):
         refuse("OwnSci", sci == self.sci)
         refuse("ScTaken", self.channel(sci) is not None)
-        refuse("ScFull", len(self.channels) >= 8)
+        refuse("ScFull", len(self.channels) >= 64)
         self.channels.append(Channel(sci))
 
     def do_rxscdel(self, sci):

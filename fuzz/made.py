@@ -284,7 +284,7 @@ class Maker:
         if number not in endpoint.keys:
             return
         key = endpoint.keys[number]
-        for again in rng.sample((number, rng.randrange(256)), rng.randrange(1, 3)):
+        for again in rng.sample((number, rng.randrange(4096)), rng.randrange(1, 3)):
             an, suite = self.free_an(end), rng.choice(("", f" {key.suite}"))
             self.add(f"{end} key {again} {key.octets.hex()} 0{suite} {self.sscis[end]} {self.salts[end]}")
             self.add(f"{end} txsa {an} {again} {self.first[key.is_xpn]:x} {self.int_or_conf()}")
@@ -402,7 +402,7 @@ class Maker:
         peer = self.ends[self.other(end)].sci.hex()
         way = rng.randrange(6)
         if way == 0:
-            for number in range(rng.randrange(7, 9)):
+            for number in range(rng.randrange(63, 65)):
                 self.add(f"{end} rxsc 00000000000000{number:02x}")
         elif way < 3:
             self.add(f"{end} {rng.choice(('rxsc', 'rxscdel'))} 0000000000000001")

@@ -2,7 +2,7 @@
 
 use crate::endpoints::{A, B};
 use crate::room::{fill, one, write_answer};
-use macsec_link::{End, EndConfig, Event, Outcome, World, WorldFault};
+use macsec_link::{End, EndConfig, Event, KeyNumber, Outcome, World, WorldFault};
 use macsec_print::{Label, drop_text, print_counters, print_numbers, write_fault};
 use macsec_script::{Line, ScriptFault, parse_script};
 use std::alloc::Global;
@@ -166,9 +166,10 @@ fn write_world<W: Write>(writer: &mut W, world: &World) -> Result<(), ScriptFaul
 
 /// Writes what an end sent and what was delivered to it.
 fn write_logs<W: Write>(writer: &mut W, world: &World, end: End) -> Result<(), ScriptFault> {
-    for key in 0..=255 {
+    for n in 0..4096 {
+        let key = KeyNumber::new(n).unwrap();
         for frame in world.sent(end, key) {
-            write_fault(writeln!(writer, "sent {key} {frame:?}"))?;
+            write_fault(writeln!(writer, "sent {n} {frame:?}"))?;
         }
     }
     for number in 0..MOST as usize {

@@ -1,4 +1,16 @@
 //! The words of the program's command line, and the run that they ask for.
+//!
+//! Proved: `task_of_words` returns the task that the words ask for, as `clap`'s definitions read the program's three
+//! forms (`specs/Words.antt`); or `Usage`, only if they ask for nothing; or `Memory`. `run_words` returns `Ok` only if
+//! the words are of one of the three forms; `Usage` only if they ask for nothing; `CannotOpen` only of a file that they
+//! name; a fault of a capture file only if they ask for a capture; a fault of a script other than `Memory` only if they
+//! are of a form. That it does what they ask for no clause says.
+//!
+//! Proved: there is an end of which `run_and_tell` returns the status and, if the writer took it, wrote the line, to a
+//! writer whose octets a contract can name. It is one that `run_words` may return for these words, or that `/` can't be
+//! opened. `run_program`, which takes the process's own words, returns and writes what belongs to the end of some
+//! words, or of words that can't be read; of which, no contract says. Worked command lines are in
+//! `proofs/Examples.antt`.
 #![tactic(auto)]
 
 mod program;

@@ -2,7 +2,9 @@
 //! beside sealing of 1,500 octets.
 
 use macsec_gcm::GcmKey;
-use macsec_secy::{An, Command, EndConfig, Key, NewKey, Sci, Secy, Sent, Suite, TagForm, Verdict};
+use macsec_secy::{
+    An, Command, EndConfig, Key, KeyNumber, NewKey, Sci, Secy, Sent, Suite, TagForm, Verdict,
+};
 use macsec_suite::{SuiteKey, protect_in_place};
 use std::alloc::Global;
 use std::num::saturating_f64_to_u64;
@@ -51,7 +53,7 @@ fn endpoint(alloc: Global, sci: Sci) -> anyhow::Result<Secy> {
     order(
         &mut secy,
         &Command::Key(NewKey {
-            number: 0,
+            number: key_number(),
             bytes: Key::K128(BYTES),
             salt: [0; 12],
             ssci: 0,
@@ -62,6 +64,11 @@ fn endpoint(alloc: Global, sci: Sci) -> anyhow::Result<Secy> {
     Ok(secy)
 }
 
+/// The number of the key of both endpoints.
+fn key_number() -> KeyNumber {
+    KeyNumber::new(0).unwrap()
+}
+
 /// A client frame as an endpoint sends it, encrypted.
 fn link_frame(alloc: Global, an: An) -> anyhow::Result<Vec<u8>> {
     let mut sender = endpoint(alloc, SENDER)?;
@@ -69,7 +76,7 @@ fn link_frame(alloc: Global, an: An) -> anyhow::Result<Vec<u8>> {
         &mut sender,
         &Command::TxSa {
             an,
-            key: 0,
+            key: key_number(),
             next: 1,
             conf: true,
         },
@@ -99,7 +106,7 @@ fn receiver(alloc: Global, an: An) -> anyhow::Result<Secy> {
         &Command::RxSa {
             sci: SENDER,
             an,
-            key: 0,
+            key: key_number(),
             ssci: 0,
             lowest: 1,
         },

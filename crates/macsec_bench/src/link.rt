@@ -1,8 +1,8 @@
 //! A full link of two ends: A sends client frames encrypted, and each is delivered to B.
 
 use macsec_link::{
-    An, Command, End, EndConfig, Event, Frame, Key, NewKey, Outcome, Sci, Suite, TagForm, Verdict,
-    World,
+    An, Command, End, EndConfig, Event, Frame, Key, KeyNumber, NewKey, Outcome, Sci, Suite,
+    TagForm, Verdict, World,
 };
 use std::alloc::Global;
 use std::io;
@@ -26,10 +26,15 @@ fn config(sci: Sci) -> EndConfig {
     }
 }
 
+/// The number of the key of both ends.
+fn key_number() -> KeyNumber {
+    KeyNumber::new(0).unwrap()
+}
+
 /// The key of both ends.
 fn key() -> Command {
     Command::Key(NewKey {
-        number: 0,
+        number: key_number(),
         bytes: Key::K128([0x2b; 16]),
         salt: [0; 12],
         ssci: 0,
@@ -46,7 +51,7 @@ fn commands(an: An) -> [(End, Command); 7] {
             End::A,
             Command::TxSa {
                 an,
-                key: 0,
+                key: key_number(),
                 next: 1,
                 conf: true,
             },
@@ -59,7 +64,7 @@ fn commands(an: An) -> [(End, Command); 7] {
             Command::RxSa {
                 sci: SENDER,
                 an,
-                key: 0,
+                key: key_number(),
                 ssci: 0,
                 lowest: 1,
             },

@@ -1,4 +1,7 @@
 //! The program `macsec`: runs a script for a MACsec endpoint, or protects or validates the frames of a capture file.
+//!
+//! Proved: `main` is safe and returns. That it passes the process's words, the line and the status on is compared by
+//! `tools/stored-runs`, and no clause says it.
 #![tactic(auto)]
 
 use macsec_arguments::run_program;

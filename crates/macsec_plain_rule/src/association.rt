@@ -2,7 +2,7 @@
 
 use crate::Plant;
 use crate::hearing::Hearing;
-use macsec_link::{Sci, Verdict};
+use macsec_link::{KeyNumber, Sci, Verdict};
 use macsec_secy::{An, Options, RxCounters, RxRow};
 use std::alloc::{AllocError, Global};
 
@@ -25,7 +25,14 @@ pub struct Association {
 
 impl Association {
     /// A new association, disabled.
-    pub fn new(alloc: Global, sci: Sci, an: An, key: u8, ssci: u32, lowest: u64) -> Association {
+    pub fn new(
+        alloc: Global,
+        sci: Sci,
+        an: An,
+        key: KeyNumber,
+        ssci: u32,
+        lowest: u64,
+    ) -> Association {
         Association {
             row: RxRow {
                 sci,

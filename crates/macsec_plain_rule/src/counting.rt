@@ -32,7 +32,7 @@ pub fn no_counters() -> Counters {
     }
 }
 
-/// Those of its transmit channel.
+/// The counters of a transmit channel, all 0.
 pub fn no_tx_counters() -> TxCounters {
     TxCounters {
         out_pkts_protected: 0,

@@ -4,7 +4,7 @@ use crate::Plant;
 use crate::association::Association;
 use crate::counting::{PlainChannel, no_counters, no_tx_counters, sums};
 use crate::sending::Seal;
-use macsec_link::{Command, EndConfig, Mode, NewKey, Refusal, Sci, Suite};
+use macsec_link::{Command, EndConfig, KeyNumber, Mode, NewKey, Refusal, Sci, Suite};
 use macsec_secy::{An, Counters, Options, RxCounters, TxCounters, TxRow};
 use std::alloc::{AllocError, Global};
 
@@ -67,7 +67,7 @@ impl PlainEnd {
     }
 
     /// The key of this number.
-    pub fn key(&self, number: u8) -> Option<PlainKey> {
+    pub fn key(&self, number: KeyNumber) -> Option<PlainKey> {
         for row in self.keys.iter() {
             if row.key.number == number {
                 return Some(*row);
@@ -82,7 +82,7 @@ impl PlainEnd {
     }
 
     /// The suite of the key of this number, which is installed.
-    pub fn suite_of(&self, number: u8) -> Suite {
+    pub fn suite_of(&self, number: KeyNumber) -> Suite {
         match self.key(number) {
             Some(row) => row.suite,
             None => self.config.suite,
@@ -90,7 +90,7 @@ impl PlainEnd {
     }
 
     /// The last packet number under the key of this number.
-    pub fn last_under(&self, number: u8) -> u64 {
+    pub fn last_under(&self, number: KeyNumber) -> u64 {
         if self.plant == Some(Plant::LastByDefault) {
             self.config.suite.last()
         } else {
@@ -188,14 +188,20 @@ impl PlainEnd {
         Ok(())
     }
 
-    fn retire(&mut self, number: u8) {
+    fn retire(&mut self, number: KeyNumber) {
         for row in self.keys.iter_mut() {
             row.retired |= row.key.number == number;
         }
     }
 
     /// Creates a transmit association, disabled.
-    fn create_tx(&mut self, an: An, key: u8, next: u64, conf: bool) -> Result<(), AllocError> {
+    fn create_tx(
+        &mut self,
+        an: An,
+        key: KeyNumber,
+        next: u64,
+        conf: bool,
+    ) -> Result<(), AllocError> {
         self.tx.push(TxRow {
             an,
             key,
@@ -218,7 +224,7 @@ impl PlainEnd {
         &mut self,
         sci: Sci,
         an: An,
-        key: u8,
+        key: KeyNumber,
         ssci: u32,
         lowest: u64,
     ) -> Result<(), AllocError> {
@@ -296,7 +302,7 @@ impl PlainEnd {
     }
 
     /// This packet number of a transmit association and of its key was used.
-    pub fn note_used(&mut self, an: An, key: u8, pn: u64) {
+    pub fn note_used(&mut self, an: An, key: KeyNumber, pn: u64) {
         let next = u128::from(pn) + 1;
         for row in self.tx.iter_mut() {
             if row.an == an {

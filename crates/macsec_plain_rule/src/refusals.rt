@@ -2,11 +2,11 @@
 
 use crate::Plant;
 use crate::plain_end::PlainEnd;
-use macsec_link::{Command, Key, NewKey, Refusal, Sci, TagForm};
+use macsec_link::{Command, Key, KeyNumber, NewKey, Refusal, Sci, TagForm};
 use macsec_secy::An;
 
 /// The most receive channels.
-const MAX_CHANNELS: usize = 8;
+const MAX_CHANNELS: usize = 64;
 
 impl PlainEnd {
     /// The first refusal of a command, by the numbers of refusals.
@@ -95,14 +95,14 @@ impl PlainEnd {
     }
 
     /// Why no new association can use a key.
-    fn unusable_key(&self, number: u8) -> Option<Refusal> {
+    fn unusable_key(&self, number: KeyNumber) -> Option<Refusal> {
         match self.key(number) {
             None => Some(Refusal::NoKey),
             Some(row) => refused_if(row.retired, Refusal::KeyRetired),
         }
     }
 
-    fn sends_under(&self, key: u8) -> bool {
+    fn sends_under(&self, key: KeyNumber) -> bool {
         for row in self.tx.iter() {
             if row.key == key {
                 return true;
@@ -111,7 +111,7 @@ impl PlainEnd {
         false
     }
 
-    fn is_used(&self, key: u8) -> bool {
+    fn is_used(&self, key: KeyNumber) -> bool {
         for made in self.rx.iter() {
             if made.live && made.row.key == key {
                 return true;
@@ -120,7 +120,7 @@ impl PlainEnd {
         self.sends_under(key)
     }
 
-    fn tx_sa_refusal(&self, an: An, key: u8, next: u64) -> Option<Refusal> {
+    fn tx_sa_refusal(&self, an: An, key: KeyNumber, next: u64) -> Option<Refusal> {
         let first_unused = match self.key(key) {
             Some(row) => row.first_unused,
             None => 1,
@@ -159,14 +159,14 @@ impl PlainEnd {
             .or(refused_if(self.rx_row(sci, an).is_none(), Refusal::NoSa))
     }
 
-    fn rx_sa_refusal(&self, sci: Sci, an: An, key: u8, lowest: u64) -> Option<Refusal> {
+    fn rx_sa_refusal(&self, sci: Sci, an: An, key: KeyNumber, lowest: u64) -> Option<Refusal> {
         self.unusable_key(key)
             .or(self.missing_channel(sci))
             .or(refused_if(self.rx_row(sci, an).is_some(), Refusal::AnTaken))
             .or(self.out_of_range(key, lowest))
     }
 
-    fn ssci_refusal(&self, key: u8, ssci: u32) -> Option<Refusal> {
+    fn ssci_refusal(&self, key: KeyNumber, ssci: u32) -> Option<Refusal> {
         let own = match self.key(key) {
             Some(row) => row.key.ssci == ssci,
             None => false,
@@ -177,7 +177,7 @@ impl PlainEnd {
         )
     }
 
-    fn out_of_range(&self, key: u8, pn: u64) -> Option<Refusal> {
+    fn out_of_range(&self, key: KeyNumber, pn: u64) -> Option<Refusal> {
         refused_if(pn == 0 || pn > self.last_under(key), Refusal::PnRange)
     }
 

@@ -3,7 +3,7 @@
 
 use crate::Plant;
 use crate::plain_end::{PlainEnd, PlainKey};
-use macsec_link::{DropReason, Key, NewKey, Sci, Suite, TagForm};
+use macsec_link::{DropReason, Key, KeyNumber, NewKey, Sci, Suite, TagForm};
 use macsec_secy::TxRow;
 use macsec_suite::iv_of;
 use std::alloc::AllocError;
@@ -119,7 +119,7 @@ impl PlainEnd {
     fn noted_key(&self, key: NewKey) -> NewKey {
         if self.plant == Some(Plant::OtherLog) {
             NewKey {
-                number: key.number.wrapping_add(1),
+                number: KeyNumber::new(key.number.number() + 1).unwrap_or_default(),
                 ..key
             }
         } else {

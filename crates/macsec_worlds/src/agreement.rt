@@ -1,7 +1,7 @@
 //! Whether the ends of the code do what the plain rule says.
 
 use crate::scenario::{SCI_A, SCI_B, SCI_C};
-use macsec_link::{An, End, Outcome, Secy, World, WorldFault};
+use macsec_link::{An, End, KeyNumber, Outcome, Secy, World, WorldFault};
 use macsec_plain_rule::{Answer, PlainEnd, PlainWorld, Seal};
 
 /// Do the code and the plain rule say the same of an event, after which these are the worlds?
@@ -94,9 +94,9 @@ fn rows_agree(end: &Secy, plain: &PlainEnd) -> bool {
 
 /// Are an end's receive channels the same, in their order, with their counters?
 fn channels_agree(end: &Secy, plain: &PlainEnd) -> bool {
-    for place in 0..8usize {
+    for place in 0..64usize {
         let agree = match (end.rx_channel(place), plain.channels.get(place)) {
-            (None, None) => true,
+            (None, None) => return true,
             (Some(sci), Some(channel)) => sci == channel.sci
                 && end.rx_counters(sci) == Some(channel.counters)
                 && end.rx_removed(sci) == Some(channel.removed),
@@ -113,7 +113,8 @@ fn channels_agree(end: &Secy, plain: &PlainEnd) -> bool {
 pub fn logs_agree(world: &World, plain: &PlainWorld) -> bool {
     for end in [End::A, End::B] {
         let own = plain.end(end);
-        for key in 0..3 {
+        for n in 0..3 {
+            let key = KeyNumber::new(n).unwrap();
             if !is_log(world.sent(end, key), own.sealed.as_slice(), key) {
                 return false;
             }
@@ -128,15 +129,15 @@ pub fn logs_agree(world: &World, plain: &PlainWorld) -> bool {
 }
 
 /// Are these the client frames of the seals under a key, in their order?
-fn is_log(log: &[Vec<u8>], sealed: &[Seal], key: u8) -> bool {
-    let mut kept = log.iter();
+fn is_log(log: &[Vec<u8>], sealed: &[Seal], key: KeyNumber) -> bool {
+    let mut count = 0;
     for seal in sealed {
         if seal.key.number == key {
-            match kept.next() {
-                Some(frame) if frame.as_slice() == seal.client.as_slice() => (),
+            match log.get(count) {
+                Some(frame) if frame.as_slice() == seal.client.as_slice() => count += 1,
                 _ => return false,
             }
         }
     }
-    kept.next().is_none()
+    count == log.len()
 }

@@ -1,7 +1,7 @@
 //! The small worlds: from each, lists of the moves of an alphabet are tried.
 
 use crate::Move;
-use macsec_link::{An, Command, End, EndConfig, Key, Mode, NewKey, Sci, Suite, TagForm};
+use macsec_link::{An, Command, End, EndConfig, Key, KeyNumber, Mode, NewKey, Sci, Suite, TagForm};
 use std::alloc::{AllocError, Global};
 
 /// The SCI of end A.
@@ -22,36 +22,45 @@ const LAST_32: u64 = 0xffff_ffff;
 /// The first window that is too wide for extended packet numbers.
 const TOO_WIDE: u64 = 1 << 30;
 
-/// A small world.
+/// A small world: what it begins with, and what its moves are about.
 #[derive(Clone, Copy)]
 pub enum Scenario {
-    /// Associations of both ends under two keys.
+    /// Both ends send under one key. Transmit associations under two keys and numbers, from packet numbers 1, 2 and the
+    /// last; the same and other bytes installed; sending, retiring.
     Numbers,
-    /// A retired key, and others with its bytes.
+    /// A has sent under a key, deleted its association and retired the key. The same and other bytes under two numbers,
+    /// an extended key, one with an offset, and one of GCM-AES-256 that is too short; windows 2^30 - 1 and 2^30.
     Keys,
-    /// Extended packet numbers with equal lower halves.
+    /// As `Numbers`, extended: associations from 1, 2^32 - 1, 2^32, 2^32 + 1 and 2^64 - 1.
     ExtendedNumbers,
-    /// Repeats, order and the window.
+    /// A has sent two frames to B. Delivering, windows 0 and 1, replay protection off, a raised lowest packet number,
+    /// associations deleted and created again, an altered packet number, padding, mode Check.
     Replay,
-    /// Encrypted frames and the modes of validation.
+    /// The same, encrypted. The three modes, protection off, altered addresses, TCI and SL.
     Modes,
-    /// Frames that come back to their sender.
+    /// Both ends have sent. Delivering to the sender; channels of the own and the other SCI, and associations for them;
+    /// an altered SCI.
     Reflection,
-    /// The same with extended packet numbers and without an SCI in the SecTAG.
+    /// The same, extended, without an SCI in the SecTAG. Associations of the own and of the other SSCI.
     ExtendedReflection,
-    /// Extended packet numbers about 2^32.
+    /// A has sent ffffffff and 100000000. As `Replay`, and an association from 2^31 + 1.
     Recovery,
-    /// The last packet numbers of 32 bits.
+    /// A has sent the last two packet numbers of 32 bits. As `Replay`, and commands on transmit associations.
     Last,
-    /// The last extended packet numbers.
+    /// The same with the last two extended ones.
     ExtendedLast,
-    /// The change from one association and key to the next.
+    /// Two keys and associations. Changing over, deleting, creating again, deleting the channel, an altered association
+    /// number.
     Rollover,
-    /// The forms of the SecTAG.
+    /// A has sent two frames to B. Three tag forms, a second and a third channel at A, a second at B, an altered TCI.
     Tags,
-    /// Unlike offsets at the ends, and frames that no end protected.
+    /// B has two associations of A, whose keys have the offsets 30 and 0, and 30 and 50, at A and B. Sending at the
+    /// uncontrolled port too, a forged frame, associations that encrypt or don't, mode Check.
     Offsets,
-    /// The change from a key of one suite to that of another and back, at ends of unlike suites.
+    /// A's own suite is extended, B's is not. A has sent under a key with 32 bits, changed over to an extended one, and
+    /// sent ffffffff and 100000000; the first frame is there with PN 0 as well. Delivering, also to the sender; going
+    /// back to the first key, from packet numbers 2 and 2^32 + 1; the extended association at B deleted, and created
+    /// with B's own SSCI under either key; an altered TCI.
     Suites,
 }
 
@@ -205,6 +214,10 @@ fn an(second: bool) -> An {
     }
 }
 
+fn key_number(number: u8) -> KeyNumber {
+    KeyNumber::new(u16::from(number)).unwrap()
+}
+
 fn at_a(command: Command) -> Move {
     Move::Command(End::A, command)
 }
@@ -233,7 +246,7 @@ fn key_of(end: End, number: u8, bytes: usize, offset: u8, suite: Option<Suite>) 
     Move::Command(
         end,
         Command::Key(NewKey {
-            number,
+            number: key_number(number),
             bytes: Key::K128([octet; 16]),
             salt: [0x5a; 12],
             ssci,
@@ -247,7 +260,7 @@ fn key_of(end: End, number: u8, bytes: usize, offset: u8, suite: Option<Suite>) 
 fn tx_sa(second: bool, key: u8, next: u64) -> Move {
     at_a(Command::TxSa {
         an: an(second),
-        key,
+        key: key_number(key),
         next,
         conf: false,
     })
@@ -257,7 +270,7 @@ fn tx_sa(second: bool, key: u8, next: u64) -> Move {
 fn encrypting(second: bool, key: u8, next: u64) -> Move {
     at_a(Command::TxSa {
         an: an(second),
-        key,
+        key: key_number(key),
         next,
         conf: true,
     })
@@ -271,7 +284,7 @@ fn sending(end: End, next: u64, conf: bool) -> [Move; 2] {
             end,
             Command::TxSa {
                 an,
-                key: 0,
+                key: key_number(0),
                 next,
                 conf,
             },
@@ -287,7 +300,7 @@ fn rx_sa(end: End, sci: Sci, second: bool, key: u8, ssci: u32, lowest: u64) -> M
         Command::RxSa {
             sci,
             an: an(second),
-            key,
+            key: key_number(key),
             ssci,
             lowest,
         },
@@ -305,7 +318,7 @@ fn key_retired() -> [Move; 3] {
     [
         Move::Send(End::A),
         at_a(Command::TxDel(an(false))),
-        at_a(Command::Retire(0)),
+        at_a(Command::Retire(key_number(0))),
     ]
 }
 
@@ -402,7 +415,7 @@ fn numbers() -> [Move; 13] {
         at_a(Command::TxOff(an(false))),
         key(End::A, 1, 1),
         key(End::A, 1, 0),
-        at_a(Command::Retire(0)),
+        at_a(Command::Retire(key_number(0))),
     ]
 }
 
@@ -429,7 +442,7 @@ fn keys() -> [Move; 15] {
         tx_sa(true, 2, 1),
         at_a(Command::TxOn(an(false))),
         at_a(Command::TxOn(an(true))),
-        at_a(Command::Retire(1)),
+        at_a(Command::Retire(key_number(1))),
     ]
 }
 
@@ -581,7 +594,7 @@ fn rollover() -> [Move; 13] {
         at_a(Command::TxOn(an(true))),
         at_a(Command::TxOn(an(false))),
         at_a(Command::TxDel(an(false))),
-        at_a(Command::Retire(0)),
+        at_a(Command::Retire(key_number(0))),
         at_b(Command::RxOff(SCI_A, an(false))),
         at_b(Command::RxDel(SCI_A, an(true))),
         rx_sa(End::B, SCI_A, true, 1, 1, 1),

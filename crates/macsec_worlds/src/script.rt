@@ -148,7 +148,7 @@ impl fmt::Display for Words {
             }
             Command::Tag(form) => write!(f, "tag {}", form_name(form)),
             Command::Key(key) => write!(f, "key {}", KeyWords(key)),
-            Command::Retire(key) => write!(f, "retire {key}"),
+            Command::Retire(key) => write!(f, "retire {}", key.number()),
             Command::TxSa {
                 an,
                 key,
@@ -156,6 +156,7 @@ impl fmt::Display for Words {
                 conf,
             } => {
                 let protection = if conf { "conf" } else { "int" };
+                let key = key.number();
                 write!(f, "txsa {} {key} {next:016x} {protection}", an.number())
             }
             Command::TxOn(an) => write!(f, "txon {}", an.number()),
@@ -169,7 +170,10 @@ impl fmt::Display for Words {
                 key,
                 ssci,
                 lowest,
-            } => write!(f, "rxsa {} {key} {lowest:016x} {ssci:08x}", At(sci, an)),
+            } => {
+                let key = key.number();
+                write!(f, "rxsa {} {key} {lowest:016x} {ssci:08x}", At(sci, an))
+            }
             Command::RxOn(sci, an) => write!(f, "rxon {}", At(sci, an)),
             Command::RxOff(sci, an) => write!(f, "rxoff {}", At(sci, an)),
             Command::RxLow { sci, an, pn } => write!(f, "rxlow {} {pn:016x}", At(sci, an)),
@@ -185,9 +189,10 @@ struct KeyWords(NewKey);
 impl fmt::Display for KeyWords {
     fn fmt<W: fmt::Write>(&self, f: &mut fmt::Formatter<W>) -> fmt::Result {
         let KeyWords(key) = *self;
+        let number = key.number.number();
         match &key.bytes {
-            Key::K128(bytes) => write!(f, "{} {}", key.number, Hex(bytes))?,
-            Key::K256(bytes) => write!(f, "{} {}", key.number, Hex(bytes))?,
+            Key::K128(bytes) => write!(f, "{number} {}", Hex(bytes))?,
+            Key::K256(bytes) => write!(f, "{number} {}", Hex(bytes))?,
         }
         write!(f, " {}", key.offset)?;
         if let Some(suite) = key.suite {
