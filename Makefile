@@ -36,15 +36,16 @@ install: build/macsec
 	install -m 755 build/macsec "$(DESTDIR)$(PREFIX)/bin/macsec"
 	install -m 644 man/macsec.1 "$(DESTDIR)$(PREFIX)/share/man/man1/macsec.1"
 
-# Every proof from nothing, the must-fail edits, the tests and the programs, and beside them, on processors that wait,
-# what needs no proof; then the program that was proved, as both compilers built it.
+# Every proof from nothing, the must-fail edits, the tests and the programs, and beside them what needs no proof; then
+# the programs that were proved, macsec as both compilers built it.
 check: toolchain
 	tools/failures calls
-	tools/kept-frames & frames=$$!; tools/lanes-used & lanes=$$!; nice tools/failures memory & memory=$$!; \
-	    rt ci && wait $$frames && wait $$lanes && wait $$memory
+	tools/kept-frames & frames=$$!; tools/lanes-used & lanes=$$!; rt ci && wait $$frames && wait $$lanes
 	@mkdir -p build
 	cp crates/macsec_cli/out/macsec_cli build/macsec
 	cp crates/macsec_cli/out/macsec_cli.by-rattle build/macsec-rattle
+	cp crates/macsec_failures/out/macsec_failures build/macsec-failures
+	tools/failures memory
 	tools/stored-runs
 	python3 fuzz/fuzz.py --inputs $(GATE_INPUTS) --seed $(SEED)
 	python3 fuzz/planted.py --inputs $(GATE_INPUTS) --seed $(SEED)
@@ -59,7 +60,7 @@ search: toolchain
 fuzz: build/macsec build/macsec-rattle
 	python3 fuzz/fuzz.py --inputs $(INPUTS) --seed $(SEED)
 
-failures: build/macsec
+failures: build/macsec build/macsec-failures
 	tools/failures
 
 stored-runs: build/macsec
@@ -79,9 +80,9 @@ build/macsec: $(SOURCES) | toolchain
 	@echo "proving and building build/macsec: from nothing many minutes, with a line for each crate" >&2
 	@tools/prove
 
-# The program as Rattle's own compiler builds it.
-build/macsec-rattle: $(SOURCES) | toolchain build/macsec
-	@tools/prove --by-rattle
+# The program as Rattle's own compiler builds it, and the one whose calls meet refused allocations.
+build/macsec-rattle build/macsec-failures: $(SOURCES) | toolchain build/macsec
+	@tools/prove $(notdir $@)
 
 toolchain:
 ifeq ($(RT),)
