@@ -2,9 +2,9 @@
 //! the grammar, and a writer of the one encoding of a SecTAG.
 //!
 //! Proved: `reading::read` returns the parts of a frame exactly when the grammar has them, untagged exactly when the
-//! grammar says so, and else the first fault of a table of positions (`docs/FRAMES.md`). The grammar says that a tagged
-//! frame *is* its parts concatenated. `write_tag` writes the encoding of a SecTAG, 8 or 16 octets, at the start of a
-//! slice of 16 octets or more (a condition on the caller), and leaves the rest. `An::new` and `SecTag::new` give a
+//! grammar says so, and else the first fault of a table of positions (`docs/ENDPOINT.md`). The grammar says that a
+//! tagged frame *is* its parts concatenated. `write_tag` writes the encoding of a SecTAG, 8 or 16 octets, at the start
+//! of a slice of 16 octets or more (a condition on the caller), and leaves the rest. `An::new` and `SecTag::new` give a
 //! value exactly when there is such an association number or SecTAG. Each function that reads a `SecTag` or an `Mpdu`
 //! returns its field.
 //!
