@@ -1,0 +1,56 @@
+-- The numbers that the calls return, and those of what they answer. 1 to 20 are the refusals of commands.
+use Rattle.std.specs.Prelude.{ℕ}
+use Rattle.macsec_rx.specs.declared.Verdict.{Verdict}
+use Rattle.macsec_rx.specs.declared.Verdict.TheVariants.{Untagged, NoTag, BadTag, Reserved, NoSaError, NoSa, Late, NotValid, Unchecked, Delayed, Invalid, Passed}
+use Rattle.macsec_commands.specs.declared.fault.NewFault.{NewFault}
+use Rattle.macsec_commands.specs.declared.fault.NewFault.TheVariants.{Memory, MaxFrame, SciForm}
+use Rattle.macsec_secy.specs.declared.fault.FrameFault.{FrameFault}
+use Rattle.macsec_secy.specs.declared.fault.FrameFault.TheVariants.{Short, Long}
+use Rattle.macsec_c.specs.declared.arguments.ArgumentFault.{ArgumentFault}
+use Rattle.macsec_c.specs.declared.arguments.ArgumentFault.TheVariants as argument
+
+abbrev pub done_status : ℕ
+done_status = 0
+
+-- the handle holds no endpoint
+abbrev pub empty_status : ℕ
+empty_status = 32
+
+-- it holds one already
+abbrev pub taken_status : ℕ
+taken_status = 33
+
+-- there is no such channel or association
+abbrev pub none_status : ℕ
+none_status = 40
+
+abbrev pub status_of_argument_fault : ArgumentFault → ℕ
+status_of_argument_fault argument.Suite = 34
+status_of_argument_fault argument.Form = 35
+status_of_argument_fault argument.Mode = 36
+status_of_argument_fault argument.An = 37
+status_of_argument_fault argument.KeyNumber = 38
+status_of_argument_fault argument.KeyOctets = 39
+
+abbrev pub status_of_new_fault : NewFault → ℕ
+status_of_new_fault Memory = 41
+status_of_new_fault MaxFrame = 42
+status_of_new_fault SciForm = 43
+
+abbrev pub status_of_frame_fault : FrameFault → ℕ
+status_of_frame_fault Short = 44
+status_of_frame_fault Long = 45
+
+abbrev pub number_of_verdict : Verdict → ℕ
+number_of_verdict Untagged = 1
+number_of_verdict NoTag = 2
+number_of_verdict BadTag = 3
+number_of_verdict Reserved = 4
+number_of_verdict NoSaError = 5
+number_of_verdict NoSa = 6
+number_of_verdict Late = 7
+number_of_verdict NotValid = 8
+number_of_verdict Unchecked = 9
+number_of_verdict Delayed = 10
+number_of_verdict Invalid = 11
+number_of_verdict Passed = 12

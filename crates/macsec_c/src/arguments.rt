@@ -1,0 +1,116 @@
+//! What the arguments of a caller in C name. Those that name nothing are refused.
+
+ghost use Rattle.std.specs.Prelude.{◌≡◌};
+ghost use Rattle.macsec_c.specs.Arguments.{an_of, form_of, key_number_of, key_of, key_suite_of, mode_of, suite_of};
+ghost use Rattle.macsec_c.specs.Statuses.{status_of_argument_fault};
+
+use macsec_secy::{An, Key, KeyNumber, Mode, Suite, TagForm};
+
+/// Which argument names nothing, by the status that says so.
+#[derive(Clone, Copy, PartialEq, Eq, Debug)]
+pub enum ArgumentFault {
+    /// No cipher suite.
+    Suite = 34,
+    /// No tag form.
+    Form = 35,
+    /// No mode of validation.
+    Mode = 36,
+    /// No association number.
+    An = 37,
+    /// No key number.
+    KeyNumber = 38,
+    /// No number of octets that a key can have.
+    KeyOctets = 39,
+}
+
+impl ArgumentFault {
+    /// The status.
+    pub(crate) fn status(self) -> u32
+        ensures { result ≡ status_of_argument_fault self }
+    {
+        self as u32
+    }
+}
+
+/// The suite of a number.
+pub(crate) fn suite_of(number: u32) -> Result<Suite, ArgumentFault>
+    ensures { result ≡ suite_of number }
+{
+    match number {
+        1 => Ok(Suite::Gcm128),
+        2 => Ok(Suite::Gcm256),
+        3 => Ok(Suite::Xpn128),
+        4 => Ok(Suite::Xpn256),
+        _ => Err(ArgumentFault::Suite),
+    }
+}
+
+/// The suite that a key names: 0 is the endpoint's default.
+pub(crate) fn key_suite_of(number: u32) -> Result<Option<Suite>, ArgumentFault>
+    ensures { result ≡ key_suite_of number }
+{
+    if number == 0 {
+        return Ok(None);
+    }
+    Ok(Some(suite_of(number)?))
+}
+
+/// The tag form of a number.
+pub(crate) fn form_of(number: u32) -> Result<TagForm, ArgumentFault>
+    ensures { result ≡ form_of number }
+{
+    match number {
+        0 => Ok(TagForm::Auto),
+        1 => Ok(TagForm::Sci),
+        2 => Ok(TagForm::Es),
+        3 => Ok(TagForm::Scb),
+        _ => Err(ArgumentFault::Form),
+    }
+}
+
+/// The mode of a number.
+pub(crate) fn mode_of(number: u32) -> Result<Mode, ArgumentFault>
+    ensures { result ≡ mode_of number }
+{
+    match number {
+        0 => Ok(Mode::Disabled),
+        1 => Ok(Mode::Check),
+        2 => Ok(Mode::Strict),
+        _ => Err(ArgumentFault::Mode),
+    }
+}
+
+/// The association number `n`.
+pub(crate) fn an_of(n: u8) -> Result<An, ArgumentFault>
+    ensures { result ≡ an_of n }
+{
+    match An::new(n) {
+        Some(an) => Ok(an),
+        None => Err(ArgumentFault::An),
+    }
+}
+
+/// The key number `n`.
+pub(crate) fn key_number_of(n: u16) -> Result<KeyNumber, ArgumentFault>
+    ensures { result ≡ key_number_of n }
+{
+    match KeyNumber::new(n) {
+        Some(number) => Ok(number),
+        None => Err(ArgumentFault::KeyNumber),
+    }
+}
+
+/// The first octets of 32 as a key of this length.
+pub(crate) fn key_of(bytes: &[u8; 32], length: u8) -> Result<Key, ArgumentFault>
+    ensures { result ≡ key_of bytes.now length }
+{
+    match length {
+        16 => {
+            let mut first = [0; 16];
+            first.copy_from_slice(&bytes[..16]);
+            Ok(Key::K128(first))
+        }
+        32 => Ok(Key::K256(*bytes)),
+        _ => Err(ArgumentFault::KeyOctets),
+    }
+}

@@ -1,0 +1,237 @@
+//! The management commands (IEEE 802.1AE, 10.7).
+
+ghost use Rattle.std.specs.Prelude.{◌≡◌, Ok};
+ghost use Rattle.macsec_commands.specs.declared.command.Command.TheVariants as by;
+ghost use Rattle.macsec_c.specs.Answers.{commanded};
+ghost use Rattle.macsec_c.specs.Arguments.{an_of, form_of, key_number_of, mode_of, naming, naming_both, sci_of};
+ghost use Rattle.macsec_c.specs.Keys.{new_key_of};
+
+use crate::arguments::{
+    ArgumentFault, an_of, form_of, key_number_of, key_of, key_suite_of, mode_of,
+};
+use crate::endpoint::Endpoint;
+use crate::statuses::{DONE, EMPTY};
+use macsec_secy::{Command, NewKey, Sci};
+
+/// Carries out a command, or refuses it and changes nothing.
+fn carry_out(e: &mut Endpoint, command: Result<Command, ArgumentFault>) -> u32
+    ensures { (result, e.new.state) ≡ commanded e.old.state command }
+{
+    if !e.is_made() {
+        return EMPTY;
+    }
+    let command = match command {
+        Ok(command) => command,
+        Err(fault) => return fault.status(),
+    };
+    match e.secy().command(&command) {
+        Ok(()) => DONE,
+        Err(refusal) => u32::from(refusal.number()),
+    }
+}
+
+/// Protect client frames, or send them as they are.
+#[unsafe(no_mangle)]
+pub extern "C" fn macsec_protect(e: &mut Endpoint, on: bool) -> u32
+    ensures { (result, e.new.state) ≡ commanded e.old.state (Ok (by.Protect on)) }
+{
+    carry_out(e, Ok(Command::Protect(on)))
+}
+
+/// Validate received frames in the mode of this number.
+#[unsafe(no_mangle)]
+pub extern "C" fn macsec_validate(e: &mut Endpoint, mode: u32) -> u32
+    ensures { (result, e.new.state) ≡ commanded e.old.state (naming by.Validate (mode_of mode)) }
+{
+    carry_out(e, mode_of(mode).map(|mode| Command::Validate(mode)))
+}
+
+/// Drop late frames or not, and set the replay window.
+#[unsafe(no_mangle)]
+pub extern "C" fn macsec_replay(e: &mut Endpoint, protect: bool, window: u64) -> u32
+    ensures { (result, e.new.state) ≡ commanded e.old.state (Ok (by.Replay protect window)) }
+{
+    carry_out(e, Ok(Command::Replay { protect, window }))
+}
+
+/// Set the tag form of this number.
+#[unsafe(no_mangle)]
+pub extern "C" fn macsec_tag(e: &mut Endpoint, form: u32) -> u32
+    ensures { (result, e.new.state) ≡ commanded e.old.state (naming by.Tag (form_of form)) }
+{
+    carry_out(e, form_of(form).map(|form| Command::Tag(form)))
+}
+
+/// A key to be installed, as C gives it: the first `length` octets of `bytes`.
+#[repr(C)]
+#[derive(Drop)]
+pub struct Sak {
+    pub bytes: [u8; 32],
+    pub salt: [u8; 12],
+    pub ssci: u32,
+    pub suite: u32,
+    pub number: u16,
+    pub length: u8,
+    pub offset: u8,
+}
+
+/// What it names.
+fn new_key_of(key: &Sak) -> Result<NewKey, ArgumentFault>
+    ensures { result ≡ new_key_of key.now }
+{
+    let suite = key_suite_of(key.suite)?;
+    let number = key_number_of(key.number)?;
+    let bytes = key_of(&key.bytes, key.length)?;
+    Ok(NewKey {
+        number,
+        bytes,
+        salt: key.salt,
+        ssci: key.ssci,
+        offset: key.offset,
+        suite,
+    })
+}
+
+/// Install a key.
+#[unsafe(no_mangle)]
+pub extern "C" fn macsec_key(e: &mut Endpoint, key: &Sak) -> u32
+    ensures { (result, e.new.state) ≡ commanded e.old.state (naming by.Key (new_key_of key.now)) }
+{
+    carry_out(e, new_key_of(key).map(|key| Command::Key(key)))
+}
+
+/// Retire the key of this number: no new association may use it.
+#[unsafe(no_mangle)]
+pub extern "C" fn macsec_retire(e: &mut Endpoint, key: u16) -> u32
+    ensures { (result, e.new.state) ≡ commanded e.old.state (naming by.Retire (key_number_of key)) }
+{
+    carry_out(e, key_number_of(key).map(|key| Command::Retire(key)))
+}
+
+/// The command that creates this transmit association.
+fn tx_sa_of(an: u8, key: u16, next: u64, conf: bool) -> Result<Command, ArgumentFault>
+    ensures { result ≡ naming_both (λ n k. by.TxSa n k next conf) (an_of an) (key_number_of key) }
+{
+    let an = an_of(an)?;
+    let key = key_number_of(key)?;
+    Ok(Command::TxSa {
+        an,
+        key,
+        next,
+        conf,
+    })
+}
+
+/// Create a transmit association, disabled, whose first packet number is `next`; it encrypts if `conf` is true.
+#[unsafe(no_mangle)]
+pub extern "C" fn macsec_tx_sa(e: &mut Endpoint, an: u8, key: u16, next: u64, conf: bool) -> u32
+    ensures { (result, e.new.state) ≡ commanded e.old.state (naming_both (λ n k. by.TxSa n k next conf) (an_of an) (key_number_of key)) }
+{
+    carry_out(e, tx_sa_of(an, key, next, conf))
+}
+
+/// Enable this transmit association, and disable every other one.
+#[unsafe(no_mangle)]
+pub extern "C" fn macsec_tx_on(e: &mut Endpoint, an: u8) -> u32
+    ensures { (result, e.new.state) ≡ commanded e.old.state (naming by.TxOn (an_of an)) }
+{
+    carry_out(e, an_of(an).map(|an| Command::TxOn(an)))
+}
+
+/// Disable this transmit association.
+#[unsafe(no_mangle)]
+pub extern "C" fn macsec_tx_off(e: &mut Endpoint, an: u8) -> u32
+    ensures { (result, e.new.state) ≡ commanded e.old.state (naming by.TxOff (an_of an)) }
+{
+    carry_out(e, an_of(an).map(|an| Command::TxOff(an)))
+}
+
+/// Delete this transmit association.
+#[unsafe(no_mangle)]
+pub extern "C" fn macsec_tx_del(e: &mut Endpoint, an: u8) -> u32
+    ensures { (result, e.new.state) ≡ commanded e.old.state (naming by.TxDel (an_of an)) }
+{
+    carry_out(e, an_of(an).map(|an| Command::TxDel(an)))
+}
+
+/// Create a receive channel, the last.
+#[unsafe(no_mangle)]
+pub extern "C" fn macsec_rx_sc(e: &mut Endpoint, sci: &[u8; 8]) -> u32
+    ensures { (result, e.new.state) ≡ commanded e.old.state (Ok (by.RxSc (sci_of sci.now))) }
+{
+    carry_out(e, Ok(Command::RxSc(Sci(*sci))))
+}
+
+/// Delete this receive channel, its associations and its counters.
+#[unsafe(no_mangle)]
+pub extern "C" fn macsec_rx_sc_del(e: &mut Endpoint, sci: &[u8; 8]) -> u32
+    ensures { (result, e.new.state) ≡ commanded e.old.state (Ok (by.RxScDel (sci_of sci.now))) }
+{
+    carry_out(e, Ok(Command::RxScDel(Sci(*sci))))
+}
+
+/// The command that creates this receive association.
+fn rx_sa_of(sci: Sci, an: u8, key: u16, ssci: u32, lowest: u64) -> Result<Command, ArgumentFault>
+    ensures { result ≡ naming_both (λ n k. by.RxSa sci n k ssci lowest) (an_of an) (key_number_of key) }
+{
+    let an = an_of(an)?;
+    let key = key_number_of(key)?;
+    Ok(Command::RxSa {
+        sci,
+        an,
+        key,
+        ssci,
+        lowest,
+    })
+}
+
+/// Create a receive association, disabled, whose lowest acceptable packet number is `lowest`.
+#[unsafe(no_mangle)]
+pub extern "C" fn macsec_rx_sa(
+    e: &mut Endpoint,
+    sci: &[u8; 8],
+    an: u8,
+    key: u16,
+    ssci: u32,
+    lowest: u64,
+) -> u32
+    ensures { (result, e.new.state) ≡ commanded e.old.state (naming_both (λ n k. by.RxSa (sci_of sci.now) n k ssci lowest) (an_of an) (key_number_of key)) }
+{
+    carry_out(e, rx_sa_of(Sci(*sci), an, key, ssci, lowest))
+}
+
+/// Enable this receive association.
+#[unsafe(no_mangle)]
+pub extern "C" fn macsec_rx_on(e: &mut Endpoint, sci: &[u8; 8], an: u8) -> u32
+    ensures { (result, e.new.state) ≡ commanded e.old.state (naming (by.RxOn (sci_of sci.now)) (an_of an)) }
+{
+    let sci = Sci(*sci);
+    carry_out(e, an_of(an).map(|an| Command::RxOn(sci, an)))
+}
+
+/// Disable this receive association.
+#[unsafe(no_mangle)]
+pub extern "C" fn macsec_rx_off(e: &mut Endpoint, sci: &[u8; 8], an: u8) -> u32
+    ensures { (result, e.new.state) ≡ commanded e.old.state (naming (by.RxOff (sci_of sci.now)) (an_of an)) }
+{
+    let sci = Sci(*sci);
+    carry_out(e, an_of(an).map(|an| Command::RxOff(sci, an)))
+}
+
+/// Raise the lowest acceptable packet number of this receive association.
+#[unsafe(no_mangle)]
+pub extern "C" fn macsec_rx_low(e: &mut Endpoint, sci: &[u8; 8], an: u8, pn: u64) -> u32
+    ensures { (result, e.new.state) ≡ commanded e.old.state (naming (λ n. by.RxLow (sci_of sci.now) n pn) (an_of an)) }
+{
+    let sci = Sci(*sci);
+    carry_out(e, an_of(an).map(|an| Command::RxLow { sci, an, pn }))
+}
+
+/// Delete this receive association.
+#[unsafe(no_mangle)]
+pub extern "C" fn macsec_rx_del(e: &mut Endpoint, sci: &[u8; 8], an: u8) -> u32
+    ensures { (result, e.new.state) ≡ commanded e.old.state (naming (by.RxDel (sci_of sci.now)) (an_of an)) }
+{
+    let sci = Sci(*sci);
+    carry_out(e, an_of(an).map(|an| Command::RxDel(sci, an)))
+}

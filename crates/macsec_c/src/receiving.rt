@@ -1,0 +1,109 @@
+//! Frames that are received (IEEE 802.1AE, 10.6).
+
+ghost use Rattle.std.specs.Prelude.{◌≡◌, ℕ, List, option_map};
+ghost use Rattle.std.specs.Borrow.{Bor, sem};
+ghost use Rattle.macsec_secy.specs.Step.{link_frame};
+ghost use Rattle.macsec_c.specs.Answers.{after_input};
+ghost use Rattle.macsec_c.specs.Lending.{RestsAs};
+ghost use Rattle.macsec_c.specs.ReceivedParts.{delivered_parts, parts_of_received, place_parts, received_parts, unreceived};
+
+use crate::endpoint::Endpoint;
+use crate::statuses::{DONE, EMPTY, number_of_verdict, status_of_frame_fault};
+
+/// What becomes of a link frame.
+#[repr(C)]
+#[derive(Drop)]
+pub struct Received<'a> {
+    /// The frame that is delivered at the controlled port; it is empty if none is.
+    pub frame: &'a [u8],
+    /// The status.
+    pub status: u32,
+    /// The number of the verdict, 1 to 12; 0 if the status is not 0.
+    pub verdict: u32,
+    /// The association that the frame is for, if `has_sa` is true: the SCI of its channel, and its number.
+    pub sci: [u8; 8],
+    pub an: u8,
+    pub has_sa: bool,
+    /// Is a frame delivered?
+    pub delivered: bool,
+}
+
+/// The association of a frame as C sees it: is there one, the SCI of its channel, and its number.
+fn place_of(row: Option<(macsec_secy::Sci, u8)>) -> (bool, [u8; 8], u8)
+    ensures { result ≡ place_parts row }
+{
+    match row {
+        Some((sci, an)) => {
+            let octets = sci.0;
+            (true, octets, an)
+        }
+        None => (false, [0; 8], 0),
+    }
+}
+
+/// The frame that is delivered as C sees it: its octets, of which there are none if none is, and whether one is. Else no
+/// octet of the link frame is shown.
+fn delivered_of<'a>(controlled: Option<&'a [u8]>, frame: &'a [u8]) -> (&'a [u8], bool)
+    ensures { (result.1, result.0.now) ≡ delivered_parts (option_map (λ (f : Bor (List ℕ)). f.now) controlled.entry) }
+{
+    match controlled {
+        Some(delivered) => (delivered, true),
+        None => (&frame[..0], false),
+    }
+}
+
+/// The frame was not received, with this status.
+fn unreceived<'a>(frame: &'a [u8], status: u32) -> Received<'a>
+    ensures { parts_of_received result ≡ unreceived status }
+{
+    Received {
+        frame: &frame[..0],
+        status,
+        verdict: 0,
+        sci: [0; 8],
+        an: 0,
+        has_sa: false,
+        delivered: false,
+    }
+}
+
+/// What becomes of a link frame; the frame that is delivered borrows from the endpoint, or is the caller's.
+fn reception<'a>(e: &'a mut Endpoint, frame: &'a [u8]) -> Received<'a>
+    ensures* after { sem 𝓛 (RestsAs e.entry (after_input e.old.state (link_frame frame.now))) }
+    ensures received { parts_of_received result ≡ received_parts e.old.state frame.now }
+{
+    if !e.is_made() {
+        return unreceived(frame, EMPTY);
+    }
+    match e.secy().receive(frame) {
+        Ok(received) => {
+            let (has_sa, sci, an) = place_of(received.row);
+            let (frame, delivered) = delivered_of(received.controlled, frame);
+            Received {
+                frame,
+                status: DONE,
+                verdict: number_of_verdict(received.verdict),
+                sci,
+                an,
+                has_sa,
+                delivered,
+            }
+        }
+        Err(fault) => unreceived(frame, status_of_frame_fault(fault)),
+    }
+}
+
+/// Receives a link frame. The header's `macsec_receive` calls this over an answer that names no frame.
+#[unsafe(no_mangle)]
+pub extern "C" fn macsec_receive_raw<'a>(
+    e: &'a mut Endpoint,
+    frame: &'a [u8],
+    out: &mut Received<'a>,
+) -> u32
+    ensures* after { sem 𝓛 (RestsAs e.entry (after_input e.old.state (link_frame frame.now))) }
+    ensures received { parts_of_received out.new ≡ received_parts e.old.state frame.now }
+    ensures status { result ≡ out.new.status }
+{
+    *out = reception(e, frame);
+    out.status
+}

@@ -1,0 +1,389 @@
+//! What an endpoint shows of its state.
+
+ghost use Rattle.std.specs.Prelude.{◌≡◌, Some, IfSome, slice_get};
+ghost use Rattle.macsec_tx.specs.Transmit.{tx_row};
+ghost use Rattle.macsec_rx.specs.Channels.{rx_row};
+ghost use Rattle.macsec_secy.specs.Answers.{rx_counters_of, rx_removed_of, rx_sa_counters_of};
+ghost use Rattle.macsec_c.specs.Arguments.{an_of, sci_of};
+ghost use Rattle.macsec_c.specs.Shown.{counters_shown, found, found_at, high_half, low_half, number_of_form, number_of_mode, options_shown, rx_counters_shown, rx_row_shown, status_of_an, status_of_found, tx_counters_shown, tx_row_shown};
+
+use crate::arguments::an_of;
+use crate::endpoint::Endpoint;
+use crate::statuses::{DONE, EMPTY, NONE};
+use macsec_secy::{Counters, Mode, Options, RxCounters, RxRow, Sci, TagForm, TxCounters, TxRow};
+
+/// The options.
+#[repr(C)]
+#[derive(Drop)]
+pub struct OptionsShown {
+    pub window: u64,
+    pub mode: u32,
+    pub form: u32,
+    pub protect: bool,
+    pub replay: bool,
+}
+
+/// The endpoint's counters, modulo 2^64.
+#[repr(C)]
+#[derive(Drop)]
+pub struct CountersShown {
+    pub in_pkts_untagged: u64,
+    pub in_pkts_no_tag: u64,
+    pub in_pkts_bad_tag: u64,
+    pub in_pkts_reserved: u64,
+    pub in_pkts_no_sa: u64,
+    pub in_pkts_no_sa_error: u64,
+    pub in_octets_validated: u64,
+    pub in_octets_decrypted: u64,
+    pub out_pkts_untagged: u64,
+    pub out_pkts_too_long: u64,
+    pub out_pkts_no_sa: u64,
+}
+
+/// The counters of the transmit channel, modulo 2^64.
+#[repr(C)]
+#[derive(Drop)]
+pub struct TxCountersShown {
+    pub out_pkts_protected: u64,
+    pub out_pkts_encrypted: u64,
+    pub out_octets_protected: u64,
+    pub out_octets_encrypted: u64,
+}
+
+/// The counters of a receive channel or association, modulo 2^64.
+#[repr(C)]
+#[derive(Drop)]
+pub struct RxCountersShown {
+    pub in_pkts_ok: u64,
+    pub in_pkts_unchecked: u64,
+    pub in_pkts_delayed: u64,
+    pub in_pkts_late: u64,
+    pub in_pkts_invalid: u64,
+    pub in_pkts_not_valid: u64,
+}
+
+/// A transmit association. Its next packet number is `next`, and 2^64 more if `next_high` is 1.
+#[repr(C)]
+#[derive(Drop)]
+pub struct TxRowShown {
+    pub next: u64,
+    pub next_high: u64,
+    pub key: u16,
+    pub conf: bool,
+    pub on: bool,
+}
+
+/// A receive association. Its packet numbers are these, and 2^64 more for each 1 in their high halves.
+#[repr(C)]
+#[derive(Drop)]
+pub struct RxRowShown {
+    pub next: u64,
+    pub next_high: u64,
+    pub lowest: u64,
+    pub lowest_high: u64,
+    pub ssci: u32,
+    pub key: u16,
+    pub on: bool,
+}
+
+fn number_of_mode(mode: Mode) -> u32
+    ensures { result ≡ number_of_mode mode }
+{
+    match mode {
+        Mode::Disabled => 0,
+        Mode::Check => 1,
+        Mode::Strict => 2,
+    }
+}
+
+fn number_of_form(form: TagForm) -> u32
+    ensures { result ≡ number_of_form form }
+{
+    match form {
+        TagForm::Auto => 0,
+        TagForm::Sci => 1,
+        TagForm::Es => 2,
+        TagForm::Scb => 3,
+    }
+}
+
+/// A number of 128 bits below 2^64, modulo 2^64.
+fn low_half(number: u128) -> u64
+    ensures { result ≡ low_half number }
+{
+    (number % 0x1_0000_0000_0000_0000) as u64
+}
+
+/// And the rest of it.
+fn high_half(number: u128) -> u64
+    ensures { result ≡ high_half number }
+{
+    (number / 0x1_0000_0000_0000_0000) as u64
+}
+
+fn options_shown(options: Options) -> OptionsShown
+    ensures { result ≡ options_shown options }
+{
+    OptionsShown {
+        window: options.window,
+        mode: number_of_mode(options.mode),
+        form: number_of_form(options.form),
+        protect: options.protect,
+        replay: options.replay,
+    }
+}
+
+fn counters_shown(counters: Counters) -> CountersShown
+    ensures { result ≡ counters_shown counters }
+{
+    CountersShown {
+        in_pkts_untagged: counters.in_pkts_untagged,
+        in_pkts_no_tag: counters.in_pkts_no_tag,
+        in_pkts_bad_tag: counters.in_pkts_bad_tag,
+        in_pkts_reserved: counters.in_pkts_reserved,
+        in_pkts_no_sa: counters.in_pkts_no_sa,
+        in_pkts_no_sa_error: counters.in_pkts_no_sa_error,
+        in_octets_validated: counters.in_octets_validated,
+        in_octets_decrypted: counters.in_octets_decrypted,
+        out_pkts_untagged: counters.out_pkts_untagged,
+        out_pkts_too_long: counters.out_pkts_too_long,
+        out_pkts_no_sa: counters.out_pkts_no_sa,
+    }
+}
+
+fn tx_counters_shown(counters: TxCounters) -> TxCountersShown
+    ensures { result ≡ tx_counters_shown counters }
+{
+    TxCountersShown {
+        out_pkts_protected: counters.out_pkts_protected,
+        out_pkts_encrypted: counters.out_pkts_encrypted,
+        out_octets_protected: counters.out_octets_protected,
+        out_octets_encrypted: counters.out_octets_encrypted,
+    }
+}
+
+fn rx_counters_shown(counters: RxCounters) -> RxCountersShown
+    ensures { result ≡ rx_counters_shown counters }
+{
+    RxCountersShown {
+        in_pkts_ok: counters.in_pkts_ok,
+        in_pkts_unchecked: counters.in_pkts_unchecked,
+        in_pkts_delayed: counters.in_pkts_delayed,
+        in_pkts_late: counters.in_pkts_late,
+        in_pkts_invalid: counters.in_pkts_invalid,
+        in_pkts_not_valid: counters.in_pkts_not_valid,
+    }
+}
+
+fn tx_row_shown(row: TxRow) -> TxRowShown
+    ensures { result ≡ tx_row_shown row }
+{
+    TxRowShown {
+        next: low_half(row.next),
+        next_high: high_half(row.next),
+        key: row.key.number(),
+        conf: row.conf,
+        on: row.on,
+    }
+}
+
+fn rx_row_shown(row: RxRow) -> RxRowShown
+    ensures { result ≡ rx_row_shown row }
+{
+    RxRowShown {
+        next: low_half(row.next),
+        next_high: high_half(row.next),
+        lowest: low_half(row.lowest),
+        lowest_high: high_half(row.lowest),
+        ssci: row.ssci,
+        key: row.key.number(),
+        on: row.on,
+    }
+}
+
+/// Shows the options.
+#[unsafe(no_mangle)]
+pub extern "C" fn macsec_options(e: &mut Endpoint, out: &mut OptionsShown) -> u32
+    ensures status { result ≡ status_of_found e.old.state (λ s. Some s.options) }
+    ensures same { e.new.state ≡ e.old.state }
+    ensures shown { IfSome e.old.state (λ s. out.new ≡ options_shown s.options) }
+{
+    if !e.is_made() {
+        return EMPTY;
+    }
+    *out = options_shown(e.secy().options());
+    DONE
+}
+
+/// Shows the endpoint's counters.
+#[unsafe(no_mangle)]
+pub extern "C" fn macsec_counters(e: &mut Endpoint, out: &mut CountersShown) -> u32
+    ensures status { result ≡ status_of_found e.old.state (λ s. Some s.counters) }
+    ensures same { e.new.state ≡ e.old.state }
+    ensures shown { IfSome e.old.state (λ s. out.new ≡ counters_shown s.counters) }
+{
+    if !e.is_made() {
+        return EMPTY;
+    }
+    *out = counters_shown(e.secy().counters());
+    DONE
+}
+
+/// Shows the counters of the transmit channel.
+#[unsafe(no_mangle)]
+pub extern "C" fn macsec_tx_counters(e: &mut Endpoint, out: &mut TxCountersShown) -> u32
+    ensures status { result ≡ status_of_found e.old.state (λ s. Some s.tx_counters) }
+    ensures same { e.new.state ≡ e.old.state }
+    ensures shown { IfSome e.old.state (λ s. out.new ≡ tx_counters_shown s.tx_counters) }
+{
+    if !e.is_made() {
+        return EMPTY;
+    }
+    *out = tx_counters_shown(e.secy().tx_counters());
+    DONE
+}
+
+/// Shows the counters of the receive channel with this SCI.
+#[unsafe(no_mangle)]
+pub extern "C" fn macsec_rx_counters(
+    e: &mut Endpoint,
+    sci: &[u8; 8],
+    out: &mut RxCountersShown,
+) -> u32
+    ensures status { result ≡ status_of_found e.old.state (λ s. rx_counters_of s.rx_counters (sci_of sci.now)) }
+    ensures same { e.new.state ≡ e.old.state }
+    ensures shown { IfSome (found e.old.state (λ s. rx_counters_of s.rx_counters (sci_of sci.now))) (λ c. out.new ≡ rx_counters_shown c) }
+{
+    if !e.is_made() {
+        return EMPTY;
+    }
+    match e.secy().rx_counters(Sci(*sci)) {
+        Some(counters) => {
+            *out = rx_counters_shown(counters);
+            DONE
+        }
+        None => NONE,
+    }
+}
+
+/// Shows the counters of the receive association of this channel and of this number.
+#[unsafe(no_mangle)]
+pub extern "C" fn macsec_rx_sa_counters(
+    e: &mut Endpoint,
+    sci: &[u8; 8],
+    an: u8,
+    out: &mut RxCountersShown,
+) -> u32
+    ensures status { result ≡ status_of_an e.old.state (an_of an) (λ s n. rx_sa_counters_of s.rx_counters (sci_of sci.now) n) }
+    ensures same { e.new.state ≡ e.old.state }
+    ensures shown { IfSome (found_at e.old.state (an_of an) (λ s n. rx_sa_counters_of s.rx_counters (sci_of sci.now) n)) (λ c. out.new ≡ rx_counters_shown c) }
+{
+    if !e.is_made() {
+        return EMPTY;
+    }
+    let an = match an_of(an) {
+        Ok(an) => an,
+        Err(fault) => return fault.status(),
+    };
+    match e.secy().rx_sa_counters(Sci(*sci), an) {
+        Some(counters) => {
+            *out = rx_counters_shown(counters);
+            DONE
+        }
+        None => NONE,
+    }
+}
+
+/// Shows what the deleted associations of the receive channel with this SCI had counted.
+#[unsafe(no_mangle)]
+pub extern "C" fn macsec_rx_removed(
+    e: &mut Endpoint,
+    sci: &[u8; 8],
+    out: &mut RxCountersShown,
+) -> u32
+    ensures status { result ≡ status_of_found e.old.state (λ s. rx_removed_of s.rx_counters (sci_of sci.now)) }
+    ensures same { e.new.state ≡ e.old.state }
+    ensures shown { IfSome (found e.old.state (λ s. rx_removed_of s.rx_counters (sci_of sci.now))) (λ c. out.new ≡ rx_counters_shown c) }
+{
+    if !e.is_made() {
+        return EMPTY;
+    }
+    match e.secy().rx_removed(Sci(*sci)) {
+        Some(counters) => {
+            *out = rx_counters_shown(counters);
+            DONE
+        }
+        None => NONE,
+    }
+}
+
+/// Shows the SCI of the receive channel at this place in the order of creation, from 0.
+#[unsafe(no_mangle)]
+pub extern "C" fn macsec_rx_channel(e: &mut Endpoint, place: usize, out: &mut [u8; 8]) -> u32
+    ensures status { result ≡ status_of_found e.old.state (λ s. slice_get s.rx.scis place) }
+    ensures same { e.new.state ≡ e.old.state }
+    ensures shown { IfSome (found e.old.state (λ s. slice_get s.rx.scis place)) (λ sci. sci_of out.new ≡ sci) }
+{
+    if !e.is_made() {
+        return EMPTY;
+    }
+    match e.secy().rx_channel(place) {
+        Some(sci) => {
+            let octets = sci.0;
+            *out = octets;
+            DONE
+        }
+        None => NONE,
+    }
+}
+
+/// Shows the transmit association of this number.
+#[unsafe(no_mangle)]
+pub extern "C" fn macsec_tx_row(e: &mut Endpoint, an: u8, out: &mut TxRowShown) -> u32
+    ensures status { result ≡ status_of_an e.old.state (an_of an) (λ s n. tx_row s.tx n) }
+    ensures same { e.new.state ≡ e.old.state }
+    ensures shown { IfSome (found_at e.old.state (an_of an) (λ s n. tx_row s.tx n)) (λ row. out.new ≡ tx_row_shown row) }
+{
+    if !e.is_made() {
+        return EMPTY;
+    }
+    let an = match an_of(an) {
+        Ok(an) => an,
+        Err(fault) => return fault.status(),
+    };
+    match e.secy().tx_row(an) {
+        Some(row) => {
+            *out = tx_row_shown(row);
+            DONE
+        }
+        None => NONE,
+    }
+}
+
+/// Shows the receive association of this channel and of this number.
+#[unsafe(no_mangle)]
+pub extern "C" fn macsec_rx_row(
+    e: &mut Endpoint,
+    sci: &[u8; 8],
+    an: u8,
+    out: &mut RxRowShown,
+) -> u32
+    ensures status { result ≡ status_of_an e.old.state (an_of an) (λ s n. rx_row s.rx.rows (sci_of sci.now) n) }
+    ensures same { e.new.state ≡ e.old.state }
+    ensures shown { IfSome (found_at e.old.state (an_of an) (λ s n. rx_row s.rx.rows (sci_of sci.now) n)) (λ row. out.new ≡ rx_row_shown row) }
+{
+    if !e.is_made() {
+        return EMPTY;
+    }
+    let an = match an_of(an) {
+        Ok(an) => an,
+        Err(fault) => return fault.status(),
+    };
+    match e.secy().rx_row(Sci(*sci), an) {
+        Some(row) => {
+            *out = rx_row_shown(row);
+            DONE
+        }
+        None => NONE,
+    }
+}

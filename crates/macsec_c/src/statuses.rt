@@ -1,0 +1,74 @@
+//! The numbers that the calls return.
+
+ghost use Rattle.std.specs.Prelude.{◌≡◌};
+ghost use Rattle.macsec_c.specs.Statuses.{number_of_verdict, status_of_frame_fault, status_of_new_fault};
+
+use macsec_secy::{FrameFault, NewFault, Verdict};
+
+/// It is done.
+pub(crate) const DONE: u32 = 0;
+
+/// The handle holds no endpoint.
+pub(crate) const EMPTY: u32 = 32;
+
+/// It holds one already.
+pub(crate) const TAKEN: u32 = 33;
+
+/// There is no such channel or association.
+pub(crate) const NONE: u32 = 40;
+
+/// No client frame was taken.
+pub(crate) const FATE_NONE: u32 = 0;
+
+/// The frame is sent protected.
+pub(crate) const FATE_PROTECTED: u32 = 1;
+
+/// It is sent as it is.
+pub(crate) const FATE_PLAIN: u32 = 2;
+
+/// It is dropped: no association is enabled, or the enabled one is exhausted.
+pub(crate) const FATE_NO_SA: u32 = 3;
+
+/// It is dropped: it would be too long.
+pub(crate) const FATE_TOO_LONG: u32 = 4;
+
+/// The status of a fault of a configuration.
+pub(crate) fn status_of_new_fault(fault: NewFault) -> u32
+    ensures { result ≡ status_of_new_fault fault }
+{
+    match fault {
+        NewFault::Memory => 41,
+        NewFault::MaxFrame => 42,
+        NewFault::SciForm => 43,
+    }
+}
+
+/// The status of a fault of a frame.
+pub(crate) fn status_of_frame_fault(fault: FrameFault) -> u32
+    ensures { result ≡ status_of_frame_fault fault }
+{
+    match fault {
+        FrameFault::Short => 44,
+        FrameFault::Long => 45,
+    }
+}
+
+/// The number of a verdict.
+pub(crate) fn number_of_verdict(verdict: Verdict) -> u32
+    ensures { result ≡ number_of_verdict verdict }
+{
+    match verdict {
+        Verdict::Untagged => 1,
+        Verdict::NoTag => 2,
+        Verdict::BadTag => 3,
+        Verdict::Reserved => 4,
+        Verdict::NoSaError => 5,
+        Verdict::NoSa => 6,
+        Verdict::Late => 7,
+        Verdict::NotValid => 8,
+        Verdict::Unchecked => 9,
+        Verdict::Delayed => 10,
+        Verdict::Invalid => 11,
+        Verdict::Passed => 12,
+    }
+}

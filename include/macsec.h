@@ -1,0 +1,374 @@
+/*
+ * macsec.h - a MACsec security entity (SecY, IEEE Std 802.1AE-2018) for C99, C++11 and later.
+ *
+ * An endpoint protects the frames that its client sends, validates those that the link delivers, and counts both.
+ * It has no key agreement: the caller installs keys (SAKs) and creates associations by commands. Suites:
+ * GCM-AES-128, GCM-AES-256, GCM-AES-XPN-128 and GCM-AES-XPN-256. It opens no socket and no file, starts no thread,
+ * has no clock, and keeps no state outside of its endpoints.
+ *
+ *     macsec_endpoint a = MACSEC_ENDPOINT_INIT;
+ *     macsec_config config = { { 0x12, 0x15, 0x35, 0x24, 0xc0, 0x89, 0x5e, 0x81 },
+ *                              MACSEC_SUITE_GCM_AES_128, MACSEC_FORM_SCI, 1518 };
+ *     if (macsec_new(&a, &config) != MACSEC_OK) ...
+ *     macsec_key(&a, &sak); macsec_tx_sa(&a, 0, sak.number, 1, true); macsec_tx_on(&a, 0);
+ *
+ *     macsec_sent sent;
+ *     if (macsec_send(&a, frame, length, &sent) == MACSEC_OK && sent.length != 0)
+ *         transmit(sent.frame, sent.length);        // before the next call with &a
+ *     macsec_free(&a);
+ *
+ * Link with -lmacsec; examples/c has whole programs, and docs/C.md the calls beside those of `ip macsec`.
+ *
+ * FRAMES     A frame is the octets of an Ethernet frame from the destination address to the end of the data,
+ *            without preamble and without FCS. Every length is a number of octets. Frames that are given to an
+ *            endpoint have 14 to 9,248 octets (MACSEC_FRAME_MIN, MACSEC_FRAME_MAX); others are refused, and change
+ *            and count nothing.
+ * NUMBERS    Integers are in the machine's own order of bytes. SCIs, keys and salts are octets in the order in
+ *            which the standard writes them: an SCI is the six octets of a MAC address and two of a port number.
+ * STATUS     Each call but macsec_free returns a status: MACSEC_OK, or why nothing was done. Then nothing has
+ *            changed, and what the call would have shown is left as it was (but a macsec_sent or macsec_received is
+ *            always filled in). First the handle is tested (MACSEC_EMPTY, MACSEC_TAKEN), then the arguments
+ *            (MACSEC_NO_SUCH_..), then the rest; of several statuses of arguments, or of several refusals of a
+ *            command, the lowest is returned.
+ * MEMORY     macsec_new takes four blocks by malloc, 2.8 MB in all: two for the keys, one for a frame, one for the
+ *            rest. No other call takes any, and none can fail for want of it. macsec_free gives them back. The
+ *            memory is not wiped: keys may stay in it. Of stack macsec_new needs less than 64 KB, each other call
+ *            less than 10 KB (measured on x86-64, not proved).
+ * HANDLES    A handle is the caller's memory, made by MACSEC_ENDPOINT_INIT (all zero). It must not be copied, moved
+ *            or written while it holds an endpoint. A handle that was never used, or that was freed, holds none:
+ *            macsec_free does nothing then, and every other call but macsec_new returns MACSEC_EMPTY.
+ * OWNERSHIP  The library keeps no pointer that a call was given. What macsec_send and macsec_receive show borrows
+ *            from the endpoint's buffer, or is (a part of) the caller's own frame: it may be read until the next
+ *            call with that handle, and while the caller's frame stays as it is. It must not be written to, nor be
+ *            given to a call with that handle: copy it first.
+ * POINTERS   No pointer may be null, that of a frame of length 0 neither. The handle, the frame and the room for
+ *            the answer must not overlap.
+ * THREADS    A handle is given to one call at a time. Whoever passes it from one thread to another orders that, by
+ *            a lock or by the thread's start or join. Different handles are independent. No call may be made from a
+ *            signal handler, nor macsec_new or macsec_free from the forked child of a process with threads.
+ *
+ * What is proved (with Rattle): of each call, that its answer and the endpoint's state after it are those of one
+ * step of the written machine (crates/macsec_secy/specs/Step.antt) for the arguments that C gave, that memory is
+ * used as said above, and that it returns. Not proved: this header, which a script compares with the library's
+ * source; C's side of what it says; malloc; the compilers. No call takes the same time for all data.
+ */
+#ifndef MACSEC_H
+#define MACSEC_H
+
+#include <stdbool.h>
+#include <stddef.h>
+#include <stdint.h>
+
+#ifdef __cplusplus
+extern "C" {
+#endif
+
+/* The fewest and the most octets of a frame that is given to an endpoint. */
+#define MACSEC_FRAME_MIN 14
+#define MACSEC_FRAME_MAX 9248
+/* A frame that is sent protected has 24 to this many octets more than the client's: SecTAG (8 or 16) and ICV (16). */
+#define MACSEC_OVERHEAD_MAX 32
+/* Association numbers, key numbers and places of receive channels are below these. */
+#define MACSEC_AN_COUNT 4
+#define MACSEC_KEY_COUNT 4096
+#define MACSEC_RX_CHANNEL_COUNT 64
+
+/* Statuses. 1 to 20 are the refusals of commands. */
+enum {
+    MACSEC_OK = 0,
+    MACSEC_KEY_LENGTH = 1,          /* the key's length is not that of the suite's keys */
+    MACSEC_OFFSET = 2,              /* the suite's keys have no such confidentiality offset */
+    MACSEC_KEY_NUMBER_USED = 3,     /* a key of this number was installed before, retired or not */
+    MACSEC_KEY_REPEATED = 4,        /* a key of these octets was installed before, retired or not */
+    MACSEC_NO_KEY = 5,              /* there is no such key */
+    MACSEC_KEY_RETIRED = 6,         /* the key is retired */
+    MACSEC_KEY_IN_USE = 7,          /* an association uses the key */
+    MACSEC_OWN_SCI = 8,             /* the SCI is the endpoint's own */
+    MACSEC_SC_TAKEN = 9,            /* there is such a channel */
+    MACSEC_SC_FULL = 10,            /* there are as many channels as there can be */
+    MACSEC_NO_SC = 11,              /* there is no such channel */
+    MACSEC_AN_TAKEN = 12,           /* there is such an association */
+    MACSEC_NO_SA = 13,              /* there is no such association */
+    MACSEC_PN_RANGE = 14,           /* the packet number is not from 1 to the last */
+    MACSEC_PN_LOWER = 15,           /* the packet number is below the lowest acceptable one */
+    MACSEC_PN_FLOOR = 16,           /* the packet number is below the key's first unused one */
+    MACSEC_SSCI_OWN = 17,           /* packet numbers are extended, and the SSCI is the key's own */
+    MACSEC_WINDOW = 18,             /* the replay window is too wide */
+    MACSEC_SCI_FORM = 19,           /* the tag form does not fit the endpoint's SCI */
+    MACSEC_EXHAUSTED = 20,          /* the association has no packet number left */
+    MACSEC_EMPTY = 32,              /* the handle holds no endpoint */
+    MACSEC_TAKEN = 33,              /* the handle holds an endpoint already */
+    MACSEC_NO_SUCH_SUITE = 34,      /* the number names no cipher suite */
+    MACSEC_NO_SUCH_FORM = 35,       /* the number names no tag form */
+    MACSEC_NO_SUCH_MODE = 36,       /* the number names no mode of validation */
+    MACSEC_NO_SUCH_AN = 37,         /* the association number is above 3 */
+    MACSEC_NO_SUCH_KEY_NUMBER = 38, /* the key number is above 4,095 */
+    MACSEC_NO_SUCH_KEY_OCTETS = 39, /* no key has so many octets: they have 16 or 32 */
+    MACSEC_NONE = 40,               /* there is no such channel or association to show */
+    MACSEC_NEW_MEMORY = 41,         /* out of memory */
+    MACSEC_NEW_MAX_FRAME = 42,      /* the configuration's largest frame is not 64 to 9,248 octets */
+    MACSEC_NEW_SCI_FORM = 43,       /* the configuration's tag form does not fit its SCI */
+    MACSEC_FRAME_SHORT = 44,        /* the frame has fewer than 14 octets */
+    MACSEC_FRAME_LONG = 45          /* the frame has more than 9,248 octets */
+};
+
+/* Cipher suites (clause 14). The default is for keys alone: that of the endpoint's configuration. */
+enum {
+    MACSEC_SUITE_DEFAULT = 0,
+    MACSEC_SUITE_GCM_AES_128 = 1,
+    MACSEC_SUITE_GCM_AES_256 = 2,
+    MACSEC_SUITE_GCM_AES_XPN_128 = 3, /* extended packet numbers, of 64 bits */
+    MACSEC_SUITE_GCM_AES_XPN_256 = 4
+};
+
+/* Tag forms: which SecTAG a frame gets (9.5). */
+enum {
+    MACSEC_FORM_AUTO = 0, /* with the SCI if there is more than one receive channel, else without ES, SCB and SCI */
+    MACSEC_FORM_SCI = 1,  /* with the SCI */
+    MACSEC_FORM_ES = 2,   /* with ES, not the SCI, if the source address is that of the SCI; for SCIs of port 0001 */
+    MACSEC_FORM_SCB = 3   /* with SCB, not the SCI, if the source address is that of the SCI; for SCIs of port 0000 */
+};
+
+/* Modes: how received frames are validated (10.6). */
+enum {
+    MACSEC_MODE_DISABLED = 0, /* no frame is validated */
+    MACSEC_MODE_CHECK = 1,    /* those that are not valid are delivered too, unless their C bit is set */
+    MACSEC_MODE_STRICT = 2    /* the valid ones alone are delivered */
+};
+
+/* Fates of client frames. */
+enum {
+    MACSEC_FATE_NONE = 0,      /* the status is not MACSEC_OK */
+    MACSEC_FATE_PROTECTED = 1, /* the frame is sent protected, under the key of number `key` */
+    MACSEC_FATE_PLAIN = 2,     /* it is sent as it is: frames are not protected */
+    MACSEC_FATE_NO_SA = 3,     /* dropped: no association is enabled, or the enabled one is exhausted */
+    MACSEC_FATE_TOO_LONG = 4   /* dropped: it would be longer than the configuration's largest frame */
+};
+
+/* Verdicts on link frames, named as their counters are, without InPkts (10.7). */
+enum {
+    MACSEC_VERDICT_NONE = 0,        /* the status is not MACSEC_OK */
+    MACSEC_VERDICT_UNTAGGED = 1,    /* no SecTAG; delivered */
+    MACSEC_VERDICT_NO_TAG = 2,      /* no SecTAG; dropped */
+    MACSEC_VERDICT_BAD_TAG = 3,     /* the SecTAG is invalid, or it has no packet number; dropped */
+    MACSEC_VERDICT_RESERVED = 4,    /* E is set and C clear; dropped */
+    MACSEC_VERDICT_NO_SA_ERROR = 5, /* no association is enabled for it; dropped */
+    MACSEC_VERDICT_NO_SA = 6,       /* no association is enabled for it; delivered */
+    MACSEC_VERDICT_LATE = 7,        /* the packet number is late; dropped */
+    MACSEC_VERDICT_NOT_VALID = 8,   /* not valid, or can't be used unopened; dropped */
+    MACSEC_VERDICT_UNCHECKED = 9,   /* not validated; delivered */
+    MACSEC_VERDICT_DELAYED = 10,    /* the packet number is late; delivered */
+    MACSEC_VERDICT_INVALID = 11,    /* not valid; delivered */
+    MACSEC_VERDICT_OK = 12          /* valid and not late; delivered */
+};
+
+/* A handle. Its member is the library's. */
+typedef struct macsec_endpoint {
+    void *secy;
+} macsec_endpoint;
+
+#define MACSEC_ENDPOINT_INIT { NULL }
+
+/* A configuration. */
+typedef struct macsec_config {
+    uint8_t sci[8];
+    uint32_t suite;     /* MACSEC_SUITE_GCM_..: that of the keys which name none */
+    uint32_t form;      /* MACSEC_FORM_..: the first tag form */
+    uint32_t max_frame; /* the most octets of a frame that is sent for a client frame: 64 to 9,248 */
+} macsec_config;
+
+/* A key to be installed. */
+typedef struct macsec_sak {
+    uint8_t bytes[32]; /* the first `length` of them are the key */
+    uint8_t salt[12];  /* of its IVs, if packet numbers are extended; else not used */
+    uint32_t ssci;     /* the endpoint's own under this key, if packet numbers are extended; else not used */
+    uint32_t suite;    /* MACSEC_SUITE_.. */
+    uint16_t number;   /* the caller's name for the key, never sent: 0 to 4,095 */
+    uint8_t length;    /* 16 or 32 */
+    uint8_t offset;    /* the confidentiality offset: 0, 30 or 50; 0 if packet numbers are extended */
+} macsec_sak;
+
+/* What becomes of a client frame. */
+typedef struct macsec_sent {
+    const uint8_t *frame; /* what is to be transmitted */
+    size_t length;        /* 0 if nothing is */
+    uint32_t status;
+    uint32_t fate; /* MACSEC_FATE_.. */
+    uint16_t key;  /* the number of the key, of a frame that is sent protected; else 0 */
+} macsec_sent;
+
+/* What becomes of a link frame. Of the uncontrolled port nothing is shown: there the frame is delivered as it came. */
+typedef struct macsec_received {
+    const uint8_t *frame; /* what the controlled port delivers, if `delivered` is true */
+    size_t length;        /* 0 if it delivers nothing */
+    uint32_t status;
+    uint32_t verdict; /* MACSEC_VERDICT_.. */
+    uint8_t sci[8];   /* if `has_sa` is true: the association that the frame is for, by the SCI of its channel */
+    uint8_t an;       /* and its number; else both are 0 */
+    bool has_sa;
+    bool delivered;
+} macsec_received;
+
+/* Answers that name no frame. */
+#define MACSEC_SENT_INIT { (const uint8_t *)"", 0, 0, 0, 0 }
+#define MACSEC_RECEIVED_INIT { (const uint8_t *)"", 0, 0, 0, { 0 }, 0, false, false }
+
+typedef struct macsec_options_shown {
+    uint64_t window; /* the replay window, in packet numbers */
+    uint32_t mode;   /* MACSEC_MODE_.. */
+    uint32_t form;   /* MACSEC_FORM_.. */
+    bool protect;    /* are client frames protected? */
+    bool replay;     /* are late frames dropped? */
+} macsec_options_shown;
+
+/* The endpoint's counters. All counters count modulo 2^64. */
+typedef struct macsec_counters_shown {
+    uint64_t in_pkts_untagged;
+    uint64_t in_pkts_no_tag;
+    uint64_t in_pkts_bad_tag;
+    uint64_t in_pkts_reserved;
+    uint64_t in_pkts_no_sa;
+    uint64_t in_pkts_no_sa_error;
+    uint64_t in_octets_validated;
+    uint64_t in_octets_decrypted;
+    uint64_t out_pkts_untagged;
+    uint64_t out_pkts_too_long;
+    uint64_t out_pkts_no_sa;
+} macsec_counters_shown;
+
+/* Those of the transmit channel. */
+typedef struct macsec_tx_counters_shown {
+    uint64_t out_pkts_protected;
+    uint64_t out_pkts_encrypted;
+    uint64_t out_octets_protected;
+    uint64_t out_octets_encrypted;
+} macsec_tx_counters_shown;
+
+/* Those of a receive channel, of one of its associations, or of its deleted associations together. */
+typedef struct macsec_rx_counters_shown {
+    uint64_t in_pkts_ok;
+    uint64_t in_pkts_unchecked;
+    uint64_t in_pkts_delayed;
+    uint64_t in_pkts_late;
+    uint64_t in_pkts_invalid;
+    uint64_t in_pkts_not_valid;
+} macsec_rx_counters_shown;
+
+/* A transmit association. Its next packet number is `next`, and 2^64 more if `next_high` is 1: it is one past the
+ * last if the association is exhausted. */
+typedef struct macsec_tx_row_shown {
+    uint64_t next;
+    uint64_t next_high;
+    uint16_t key;
+    bool conf; /* does it encrypt? */
+    bool on;   /* is it enabled? */
+} macsec_tx_row_shown;
+
+/* A receive association, with its packet numbers in the same form. */
+typedef struct macsec_rx_row_shown {
+    uint64_t next; /* past each that was accepted */
+    uint64_t next_high;
+    uint64_t lowest; /* the lowest acceptable packet number */
+    uint64_t lowest_high;
+    uint32_t ssci; /* the sender's */
+    uint16_t key;
+    bool on;
+} macsec_rx_row_shown;
+
+/* ---- Creation and end ---- */
+
+/* Creates an endpoint of a configuration in a handle that holds none. It has no keys and no associations, its
+ * counters are 0, it protects, validates strictly, and drops late frames with a replay window of 0. MACSEC_TAKEN,
+ * MACSEC_NO_SUCH_SUITE, MACSEC_NO_SUCH_FORM, MACSEC_NEW_MAX_FRAME, MACSEC_NEW_SCI_FORM, MACSEC_NEW_MEMORY: the
+ * first of them that applies, in this order. */
+uint32_t macsec_new(macsec_endpoint *e, const macsec_config *config);
+
+/* Frees the endpoint of a handle, which holds none then. A handle that holds none stays as it is. */
+void macsec_free(macsec_endpoint *e);
+
+/* ---- Frames ---- */
+
+/* The library's part of macsec_send and macsec_receive: what `out` leads to must be an answer that names no frame,
+ * as MACSEC_SENT_INIT and MACSEC_RECEIVED_INIT are. For languages that can't call inline functions. */
+uint32_t macsec_send_raw(macsec_endpoint *e, const uint8_t *frame, size_t length, macsec_sent *out);
+uint32_t macsec_receive_raw(macsec_endpoint *e, const uint8_t *frame, size_t length, macsec_received *out);
+
+/* What becomes of a client frame of the controlled port (10.5). `out` need not be initialized. Returns out->status:
+ * MACSEC_FRAME_SHORT, MACSEC_FRAME_LONG. */
+static inline uint32_t macsec_send(macsec_endpoint *e, const uint8_t *frame, size_t length, macsec_sent *out) {
+    const macsec_sent none = MACSEC_SENT_INIT;
+    *out = none;
+    return macsec_send_raw(e, frame, length, out);
+}
+
+/* A client frame of the uncontrolled port: if the status is MACSEC_OK, it is to be transmitted as it is. Nothing
+ * counts it. MACSEC_FRAME_SHORT, MACSEC_FRAME_LONG. */
+uint32_t macsec_send_uncontrolled(macsec_endpoint *e, const uint8_t *frame, size_t length);
+
+/* What becomes of a frame from the link, from any source, forged ones too (10.6). `out` need not be initialized.
+ * Returns out->status: MACSEC_FRAME_SHORT, MACSEC_FRAME_LONG. */
+static inline uint32_t macsec_receive(macsec_endpoint *e, const uint8_t *frame, size_t length, macsec_received *out) {
+    const macsec_received none = MACSEC_RECEIVED_INIT;
+    *out = none;
+    return macsec_receive_raw(e, frame, length, out);
+}
+
+/* ---- Commands (10.7): each is carried out, or refused and then nothing has changed ---- */
+
+/* Protect client frames, or send them as they are. */
+uint32_t macsec_protect(macsec_endpoint *e, bool on);
+/* Validate received frames in this mode. */
+uint32_t macsec_validate(macsec_endpoint *e, uint32_t mode);
+/* Drop late frames or not, and set the replay window, in packet numbers. MACSEC_WINDOW if it is above 2^32 - 1, or,
+ * beside a key of extended packet numbers that is not retired, above 2^30 - 1. */
+uint32_t macsec_replay(macsec_endpoint *e, bool protect, uint64_t window);
+/* Set the tag form. */
+uint32_t macsec_tag(macsec_endpoint *e, uint32_t form);
+
+/* Install a key. Its number and its octets can never be used again by this endpoint. */
+uint32_t macsec_key(macsec_endpoint *e, const macsec_sak *key);
+/* Retire a key that no association uses: no new association may use it. */
+uint32_t macsec_retire(macsec_endpoint *e, uint16_t key);
+
+/* Create a transmit association (an: 0 to 3), disabled, whose first packet number is `next`; it encrypts if `conf`,
+ * and else protects integrity only. */
+uint32_t macsec_tx_sa(macsec_endpoint *e, uint8_t an, uint16_t key, uint64_t next, bool conf);
+/* Enable it, and disable every other one; disable it; delete it. */
+uint32_t macsec_tx_on(macsec_endpoint *e, uint8_t an);
+uint32_t macsec_tx_off(macsec_endpoint *e, uint8_t an);
+uint32_t macsec_tx_del(macsec_endpoint *e, uint8_t an);
+
+/* Create a receive channel, of another endpoint's SCI; delete it with its associations and counters. */
+uint32_t macsec_rx_sc(macsec_endpoint *e, const uint8_t sci[8]);
+uint32_t macsec_rx_sc_del(macsec_endpoint *e, const uint8_t sci[8]);
+/* Create a receive association, disabled, whose lowest acceptable packet number is `lowest`. `ssci` is the
+ * sender's, if packet numbers are extended; else it is not used. */
+uint32_t macsec_rx_sa(macsec_endpoint *e, const uint8_t sci[8], uint8_t an, uint16_t key, uint32_t ssci,
+                      uint64_t lowest);
+/* Enable it; disable it; raise its lowest acceptable packet number; delete it. */
+uint32_t macsec_rx_on(macsec_endpoint *e, const uint8_t sci[8], uint8_t an);
+uint32_t macsec_rx_off(macsec_endpoint *e, const uint8_t sci[8], uint8_t an);
+uint32_t macsec_rx_low(macsec_endpoint *e, const uint8_t sci[8], uint8_t an, uint64_t pn);
+uint32_t macsec_rx_del(macsec_endpoint *e, const uint8_t sci[8], uint8_t an);
+
+/* ---- What an endpoint shows; nothing changes. MACSEC_NONE if there is no such channel or association ---- */
+
+uint32_t macsec_options(macsec_endpoint *e, macsec_options_shown *out);
+uint32_t macsec_counters(macsec_endpoint *e, macsec_counters_shown *out);
+uint32_t macsec_tx_counters(macsec_endpoint *e, macsec_tx_counters_shown *out);
+/* Of a receive channel. Each counter is, modulo 2^64, the sum of those of its associations and of its removed ones. */
+uint32_t macsec_rx_counters(macsec_endpoint *e, const uint8_t sci[8], macsec_rx_counters_shown *out);
+/* Of one of its associations, since the creation of that. */
+uint32_t macsec_rx_sa_counters(macsec_endpoint *e, const uint8_t sci[8], uint8_t an, macsec_rx_counters_shown *out);
+/* What its deleted associations had counted, together. */
+uint32_t macsec_rx_removed(macsec_endpoint *e, const uint8_t sci[8], macsec_rx_counters_shown *out);
+/* The SCI of the receive channel at this place in the order of creation, 0 to 63. */
+uint32_t macsec_rx_channel(macsec_endpoint *e, size_t place, uint8_t sci[8]);
+uint32_t macsec_tx_row(macsec_endpoint *e, uint8_t an, macsec_tx_row_shown *out);
+uint32_t macsec_rx_row(macsec_endpoint *e, const uint8_t sci[8], uint8_t an, macsec_rx_row_shown *out);
+
+#ifdef __cplusplus
+}
+#endif
+
+#endif
