@@ -1,7 +1,9 @@
 # make try           builds the program before any proof, in about a minute, and runs it on the tour
 # make               proves and builds the program, build/macsec
 # make run           does the same, and runs it on the tour
-# make install       copies the program and its manual page to PREFIX, /usr/local if nothing else is said, under DESTDIR
+# make lib           proves and builds the library for C, build/libmacsec.a, of the header include/macsec.h
+# make install       copies the program, its manual page, the library for C, its header and its pkg-config file to PREFIX,
+#                    /usr/local if nothing else is said, under DESTDIR
 # make check         the gate
 # make bench         measures the cipher, frames, scripts and a full link
 # make search        looks for counter-examples to what is promised of two ends and their link
@@ -10,17 +12,20 @@
 # make stored-runs   compares the program's answers with stored ones
 # make peer          compares frames with Scapy's, which has to be installed
 # make kept-frames   sees that callers which keep a frame over the next call are refused
+# make c-programs    builds the library for C and the programs over it, runs them, and makes 100,000 random calls
 # make lanes-used    sees that the cipher is built of its lanes, powers and pieces
 # make clean         removes build/
-# install, fuzz, failures, stored-runs and peer prove and build the program first.
+# install, fuzz, failures, stored-runs and peer prove and build the program first; install also the library for C.
 RT := $(shell command -v rt 2>/dev/null)
 SOURCES := crates.txt $(shell find crates -name out -prune -o -type f \( -name '*.rt' -o -name '*.antt' \) -print)
 INPUTS := 100000
 GATE_INPUTS := 2000
+GATE_CALLS := 6000
 SEED := 1
 PREFIX ?= /usr/local
 
-.PHONY: all try run install check bench search fuzz failures stored-runs peer kept-frames lanes-used toolchain clean
+.PHONY: all try run lib install check bench search fuzz failures stored-runs peer kept-frames c-programs lanes-used \
+    toolchain clean
 
 all: build/macsec
 
@@ -31,10 +36,16 @@ try: toolchain
 run: build/macsec
 	@build/macsec run - < crates/macsec_examples/data/tour.macsec
 
-install: build/macsec
+lib: build/libmacsec.a
+
+install: build/macsec build/libmacsec.a
 	install -d "$(DESTDIR)$(PREFIX)/bin" "$(DESTDIR)$(PREFIX)/share/man/man1"
 	install -m 755 build/macsec "$(DESTDIR)$(PREFIX)/bin/macsec"
 	install -m 644 man/macsec.1 "$(DESTDIR)$(PREFIX)/share/man/man1/macsec.1"
+	install -d "$(DESTDIR)$(PREFIX)/include" "$(DESTDIR)$(PREFIX)/lib/pkgconfig"
+	install -m 644 include/macsec.h "$(DESTDIR)$(PREFIX)/include/macsec.h"
+	install -m 644 build/libmacsec.a "$(DESTDIR)$(PREFIX)/lib/libmacsec.a"
+	sed 's|@PREFIX@|$(PREFIX)|' include/macsec.pc.in > "$(DESTDIR)$(PREFIX)/lib/pkgconfig/macsec.pc"
 
 # Every proof from nothing, the must-fail edits, the tests and the programs, and beside them what needs no proof; then
 # the programs that were proved, macsec as both compilers built it.
@@ -49,6 +60,9 @@ check: toolchain
 	tools/stored-runs
 	python3 fuzz/fuzz.py --inputs $(GATE_INPUTS) --seed $(SEED)
 	python3 fuzz/planted.py --inputs $(GATE_INPUTS) --seed $(SEED)
+	tools/prove --after-ci libmacsec_c.a
+	tools/merged-library build/libmacsec_c.a build/libmacsec.a
+	tools/c-programs --calls $(GATE_CALLS) --seed $(SEED)
 
 bench: toolchain
 	cd crates/macsec_bench && rt run -- measure
@@ -72,6 +86,9 @@ peer: build/macsec
 kept-frames: toolchain
 	tools/kept-frames
 
+c-programs: build/libmacsec.a
+	tools/c-programs --calls $(INPUTS) --seed $(SEED)
+
 lanes-used: toolchain
 	tools/lanes-used
 
@@ -83,6 +100,12 @@ build/macsec: $(SOURCES) | toolchain
 # The program as Rattle's own compiler builds it, and the one whose calls meet refused allocations.
 build/macsec-rattle build/macsec-failures: $(SOURCES) | toolchain build/macsec
 	@tools/prove $(notdir $@)
+
+# The library for C, with what it must be linked with.
+build/libmacsec.a: $(SOURCES) tools/merged-library | toolchain
+	@echo "proving and building build/libmacsec.a: from nothing many minutes, with a line for each crate" >&2
+	@tools/prove libmacsec_c.a
+	tools/merged-library build/libmacsec_c.a $@
 
 toolchain:
 ifeq ($(RT),)

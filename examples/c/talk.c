@@ -1,0 +1,115 @@
+/* Two endpoints in memory that talk under GCM-AES-XPN-128, encrypted both ways: what a repeated frame, an altered one, one
+ * without a SecTAG and one for a handle that was freed become, and what is counted. What it prints is in talk.txt. */
+#include "macsec.h"
+#include <inttypes.h>
+#include <stdio.h>
+#include <stdlib.h>
+#include <string.h>
+
+static const uint8_t scis[2][8] = { { 2, 0, 0, 0, 0, 1, 0, 1 }, { 2, 0, 0, 0, 0, 2, 0, 1 } };
+
+/* An example does not go on after a status that it does not expect. */
+static void must(const char *what, uint32_t status) {
+    if (status != MACSEC_OK) {
+        fprintf(stderr, "%s: status %u\n", what, (unsigned)status);
+        exit(1);
+    }
+}
+
+/* One end of the talk: it sends under key 0 and receives under key 1, or the other way round, so that each key has one
+ * sender. With extended packet numbers each sender has an SSCI of its own under a key. */
+static void make_end(macsec_endpoint *e, int own) {
+    macsec_config config = { { 0 }, MACSEC_SUITE_GCM_AES_XPN_128, MACSEC_FORM_SCI, 1518 };
+    int other = 1 - own;
+    memcpy(config.sci, scis[own], sizeof config.sci);
+    must("new", macsec_new(e, &config));
+    for (int it = 0; it < 2; it++) {
+        macsec_sak key = { { 0 }, { 0 }, 0, MACSEC_SUITE_DEFAULT, 0, 16, 0 };
+        memset(key.bytes, 0x10 + it, 16); /* a key for an example alone */
+        memset(key.salt, 0x20 + it, sizeof key.salt);
+        key.ssci = (uint32_t)own + 1;
+        key.number = (uint16_t)it;
+        must("key", macsec_key(e, &key));
+    }
+    must("tx_sa", macsec_tx_sa(e, 0, (uint16_t)own, 1, true));
+    must("tx_on", macsec_tx_on(e, 0));
+    must("rx_sc", macsec_rx_sc(e, scis[other]));
+    must("rx_sa", macsec_rx_sa(e, scis[other], 0, (uint16_t)other, (uint32_t)other + 1, 1));
+    must("rx_on", macsec_rx_on(e, scis[other], 0));
+}
+
+/* Sends a text in a frame, and copies the frame that leaves: the one shown is lent until the next call with the handle. */
+static size_t say(macsec_endpoint *e, const char *text, uint8_t *link) {
+    uint8_t frame[64] = { 2, 0, 0, 0, 0, 9, 2, 0, 0, 0, 0, 8, 0x88, 0xb5 };
+    size_t length = 14 + strlen(text);
+    macsec_sent sent;
+    memcpy(frame + 14, text, strlen(text));
+    must("send", macsec_send(e, frame, length, &sent));
+    memcpy(link, sent.frame, sent.length);
+    return sent.length;
+}
+
+static void hear(const char *who, macsec_endpoint *e, const uint8_t *link, size_t length) {
+    macsec_received got;
+    uint32_t status = macsec_receive(e, link, length, &got);
+    printf("%s: status %u, verdict %u", who, (unsigned)status, (unsigned)got.verdict);
+    if (got.has_sa)
+        printf(", association %u", (unsigned)got.an);
+    if (got.delivered)
+        printf(", \"%.*s\"", (int)(got.length - 14), (const char *)got.frame + 14);
+    printf("\n");
+}
+
+static void count(const char *who, macsec_endpoint *e, const uint8_t *sci) {
+    macsec_counters_shown all;
+    macsec_tx_counters_shown tx;
+    macsec_rx_counters_shown rx, of_sa, removed;
+    must("counters", macsec_counters(e, &all));
+    must("tx_counters", macsec_tx_counters(e, &tx));
+    must("rx_counters", macsec_rx_counters(e, sci, &rx));
+    printf("%s: OutPktsEncrypted %" PRIu64 ", InPktsNoTag %" PRIu64 ", InOctetsDecrypted %" PRIu64 "\n", who,
+           tx.out_pkts_encrypted, all.in_pkts_no_tag, all.in_octets_decrypted);
+    printf("%s: InPktsOK %" PRIu64 ", InPktsLate %" PRIu64 ", InPktsNotValid %" PRIu64 "\n", who, rx.in_pkts_ok,
+           rx.in_pkts_late, rx.in_pkts_not_valid);
+    if (macsec_rx_sa_counters(e, sci, 0, &of_sa) == MACSEC_OK)
+        printf("%s: association 0: InPktsOK %" PRIu64 "\n", who, of_sa.in_pkts_ok);
+    must("rx_removed", macsec_rx_removed(e, sci, &removed));
+    printf("%s: removed: InPktsOK %" PRIu64 "\n", who, removed.in_pkts_ok);
+}
+
+int main(void) {
+    macsec_endpoint ends[2] = { MACSEC_ENDPOINT_INIT, MACSEC_ENDPOINT_INIT };
+    macsec_tx_row_shown row;
+    uint8_t link[128];
+    size_t length;
+    make_end(&ends[0], 0);
+    make_end(&ends[1], 1);
+
+    length = say(&ends[0], "good morning", link);
+    printf("a sends %zu octets\n", length);
+    link[40] ^= 1; /* an octet of the Secure Data */
+    hear("b, altered", &ends[1], link, length);
+    link[40] ^= 1;
+    hear("b", &ends[1], link, length);
+    hear("b, again", &ends[1], link, length);
+    length = say(&ends[1], "good night", link);
+    hear("a", &ends[0], link, length);
+    memcpy(link + 12, "\x88\xb5", 2);
+    hear("a, untagged", &ends[0], link, length);
+    hear("a, short", &ends[0], link, 13);
+
+    must("tx_row", macsec_tx_row(&ends[0], 0, &row));
+    printf("a: next packet number %" PRIu64 "\n", row.next);
+    count("a", &ends[0], scis[1]);
+    count("b", &ends[1], scis[0]);
+    must("rx_del", macsec_rx_del(&ends[1], scis[0], 0));
+    count("b, without the association", &ends[1], scis[0]);
+
+    /* What is refused, and a handle that holds no endpoint. */
+    printf("b: tx_on of 4: %u, of 3: %u\n", (unsigned)macsec_tx_on(&ends[1], 4), (unsigned)macsec_tx_on(&ends[1], 3));
+    macsec_free(&ends[0]);
+    macsec_free(&ends[0]);
+    hear("a, freed", &ends[0], link, length);
+    macsec_free(&ends[1]);
+    return 0;
+}

@@ -1,0 +1,534 @@
+#!/usr/bin/env python3
+"""Makes random calls of the C library, and compares each answer with the one that expected.py works out.
+
+    python3 fuzz/calls.py                          100,000 calls, by build/c/calls
+    python3 fuzz/calls.py --calls 5000 --seed 7    fewer, and others
+    python3 fuzz/calls.py --program valgrind --error-exitcode=9 build/c/calls
+
+It needs Python 3.9 or later and its standard library alone. The calls go to three handles: with endpoints, without one,
+and freed. Numbers, lengths and frames are of all kinds, also those that nothing has. Statuses, suites, forms, modes,
+fates and verdicts are compared by the names that include/macsec.h gives them, and at the end each of these names must
+have been met at least once (but MACSEC_NEW_MEMORY). Call number N of a seed is the same on every machine.
+"""
+
+import argparse
+import collections
+import itertools
+import pathlib
+import random
+import re
+import struct
+import subprocess
+import sys
+
+sys.dont_write_bytecode = True
+import expected
+
+ROOT = pathlib.Path(__file__).resolve().parent.parent
+HEADER = (ROOT / "include/macsec.h").read_text()
+# The constants of the header, by their names without MACSEC_.
+CONSTANTS = {name: int(value) for name, value in re.findall(r"\bMACSEC_(\w+) = (\d+)", HEADER)}
+CONSTANTS |= {name: int(value) for name, value in re.findall(r"#define MACSEC_(\w+) (\d+)\n", HEADER)}
+FRAME_MIN, FRAME_MAX = CONSTANTS["FRAME_MIN"], CONSTANTS["FRAME_MAX"]
+
+HANDLES = 3
+SUITE_NAMES = {"GCM_AES_128": "gcm128", "GCM_AES_256": "gcm256", "GCM_AES_XPN_128": "xpn128", "GCM_AES_XPN_256": "xpn256"}
+SUITES = {CONSTANTS["SUITE_" + name]: word for name, word in SUITE_NAMES.items()}
+FORMS = {CONSTANTS["FORM_" + it.upper()]: it for it in expected.FORMS}
+MODES = {CONSTANTS["MODE_" + it.upper()]: it for it in expected.MODES}
+ALL_COUNTERS = expected.SECY_COUNTERS[:11]
+TX_COUNTERS = expected.SECY_COUNTERS[11:]
+
+
+def constant_name(name):
+    """NoSAError: NO_SA_ERROR."""
+    return re.sub(r"(?<=[a-z])(?=[A-Z])|(?<=[A-Z])(?=[A-Z][a-z])", "_", name).upper()
+
+
+class Status(Exception):
+    """Why nothing is done: the name of the status."""
+
+
+class Endpoint(expected.Endpoint):
+    """An endpoint that also keeps what deleted associations had counted."""
+
+    def do_rxsc(self, sci):
+        super().do_rxsc(sci)
+        self.channels[-1].removed = dict.fromkeys(expected.RX_COUNTERS, 0)
+
+    def do_rxdel(self, sci, an):
+        sa = self.rx_sa(sci, an)
+        super().do_rxdel(sci, an)
+        removed = self.channel(sci).removed
+        for name in expected.RX_COUNTERS:
+            removed[name] = (removed[name] + sa.counters[name]) % 2**64
+
+    def row_of(self, frame):
+        """The SCI and the number of the association that a link frame is for."""
+        read = expected.read_frame(frame)
+        if isinstance(read, str) or (read["tci"] & 8 and not read["tci"] & 4):
+            return None
+        channel, an = self.channel_of(read, frame), read["tci"] & 3
+        return (channel.sci, an) if channel and an in channel.sas and channel.sas[an].on else None
+
+
+def named(table, number, status):
+    if number not in table:
+        raise Status(status)
+    return table[number]
+
+
+def below(count, number, status):
+    if number >= count:
+        raise Status(status)
+    return number
+
+
+def an_of(number):
+    return below(CONSTANTS["AN_COUNT"], number, "NO_SUCH_AN")
+
+
+def key_number_of(number):
+    return below(CONSTANTS["KEY_COUNT"], number, "NO_SUCH_KEY_NUMBER")
+
+
+def framed(frame):
+    if len(frame) < FRAME_MIN:
+        raise Status("FRAME_SHORT")
+    if len(frame) > FRAME_MAX:
+        raise Status("FRAME_LONG")
+    return frame
+
+
+def hex_of(octets):
+    return octets.hex() or "-"
+
+
+def flag(is_on):
+    return "on" if is_on else "off"
+
+
+class Model:
+    """What the handles hold, and what each call answers: the text before its status, and the status."""
+
+    def __init__(self):
+        self.ends = [None] * HANDLES
+        # Each constant that was given or answered.
+        self.met = collections.Counter({"OK": 0})
+
+    def answer(self, name, handle, *words):
+        shown = getattr(self, "unshown_" + name, lambda: "")()
+        status = "OK"
+        try:
+            if name not in ("new", "free") and self.ends[handle] is None:
+                raise Status("EMPTY")
+            shown = getattr(self, "call_" + name)(handle, *words) or ""
+        except Status as it:
+            status = str(it)
+        except expected.Refused as it:
+            status = constant_name(str(it))
+        self.met[status] += 1
+        return f"{name}{shown} : {CONSTANTS[status]}"
+
+    # Creation and end.
+
+    def call_new(self, handle, sci, suite, form, max_frame):
+        if self.ends[handle] is not None:
+            raise Status("TAKEN")
+        suite, form = named(SUITES, suite, "NO_SUCH_SUITE"), named(FORMS, form, "NO_SUCH_FORM")
+        if not 64 <= max_frame <= FRAME_MAX:
+            raise Status("NEW_MAX_FRAME")
+        if not expected.form_fits(form, sci):
+            raise Status("NEW_SCI_FORM")
+        self.ends[handle] = Endpoint(suite, sci, max_frame, form)
+
+    def call_free(self, handle):
+        self.ends[handle] = None
+
+    # Frames.
+
+    def unshown_send(self):
+        return f" {CONSTANTS['FATE_NONE']} 0 -"
+
+    def call_send(self, handle, frame):
+        end = self.ends[handle]
+        key = next((sa.key for sa in end.tx.values() if sa.on), 0) if end.protects else 0
+        sent, reason = end.send(framed(frame))
+        fate = "FATE_" + (constant_name(reason) if sent is None else "PROTECTED" if end.protects else "PLAIN")
+        self.met[fate] += 1
+        self.met["OVERHEAD_MAX"] += sent is not None and len(sent) - len(frame) == CONSTANTS["OVERHEAD_MAX"]
+        assert sent is None or len(sent) - len(frame) <= CONSTANTS["OVERHEAD_MAX"]
+        return f" {CONSTANTS[fate]} {0 if sent is None else key} {hex_of(sent or b'')}"
+
+    def call_send_uncontrolled(self, handle, frame):
+        framed(frame)
+
+    def unshown_receive(self):
+        return f" {CONSTANTS['VERDICT_NONE']} 0 {'00' * 8} 0 0 -"
+
+    def call_receive(self, handle, frame):
+        end = self.ends[handle]
+        row = end.row_of(framed(frame))
+        verdict, delivered = end.receive(frame)
+        verdict = "VERDICT_" + constant_name(verdict)
+        self.met[verdict] += 1
+        sci, an = row or (bytes(8), 0)
+        told = f"{int(row is not None)} {sci.hex()} {an} {int(delivered is not None)} {hex_of(delivered or b'')}"
+        return f" {CONSTANTS[verdict]} {told}"
+
+    # Commands.
+
+    def command(self, handle, keyword, *values):
+        self.ends[handle].command(keyword, values)
+
+    def call_protect(self, handle, on):
+        self.command(handle, "protect", flag(on))
+
+    def call_validate(self, handle, mode):
+        self.command(handle, "validate", named(MODES, mode, "NO_SUCH_MODE"))
+
+    def call_replay(self, handle, on, window):
+        self.command(handle, "replay", flag(on), window)
+
+    def call_tag(self, handle, form):
+        self.command(handle, "tag", named(FORMS, form, "NO_SUCH_FORM"))
+
+    def call_key(self, handle, octets, salt, ssci, suite, number, length, offset):
+        end = self.ends[handle]
+        suite = end.suite if suite == CONSTANTS["SUITE_DEFAULT"] else named(SUITES, suite, "NO_SUCH_SUITE")
+        number = key_number_of(number)
+        if length not in (16, 32):
+            raise Status("NO_SUCH_KEY_OCTETS")
+        self.command(handle, "key", number, octets[:length], offset, suite, struct.pack(">I", ssci), salt)
+
+    def call_retire(self, handle, key):
+        self.command(handle, "retire", key_number_of(key))
+
+    def call_tx_sa(self, handle, an, key, pn, conf):
+        self.command(handle, "txsa", an_of(an), key_number_of(key), pn, "conf" if conf else "int")
+
+    def call_tx_on(self, handle, an):
+        self.command(handle, "txon", an_of(an))
+
+    def call_tx_off(self, handle, an):
+        self.command(handle, "txoff", an_of(an))
+
+    def call_tx_del(self, handle, an):
+        self.command(handle, "txdel", an_of(an))
+
+    def call_rx_sc(self, handle, sci):
+        self.command(handle, "rxsc", sci)
+
+    def call_rx_sc_del(self, handle, sci):
+        self.command(handle, "rxscdel", sci)
+
+    def call_rx_sa(self, handle, sci, an, key, ssci, pn):
+        self.command(handle, "rxsa", sci, an_of(an), key_number_of(key), pn, struct.pack(">I", ssci))
+
+    def call_rx_on(self, handle, sci, an):
+        self.command(handle, "rxon", sci, an_of(an))
+
+    def call_rx_off(self, handle, sci, an):
+        self.command(handle, "rxoff", sci, an_of(an))
+
+    def call_rx_low(self, handle, sci, an, pn):
+        self.command(handle, "rxlow", sci, an_of(an), pn)
+
+    def call_rx_del(self, handle, sci, an):
+        self.command(handle, "rxdel", sci, an_of(an))
+
+    # What an endpoint shows. The program sets all that it has room for to 7 before the call.
+
+    def unshown_options(self):
+        return " 7 7 7 0 0"
+
+    def call_options(self, handle):
+        end = self.ends[handle]
+        mode, form = CONSTANTS["MODE_" + end.mode.upper()], CONSTANTS["FORM_" + end.form.upper()]
+        self.met.update(["MODE_" + end.mode.upper(), "FORM_" + end.form.upper()])
+        return f" {end.window} {mode} {form} {int(end.protects)} {int(end.replay)}"
+
+    def unshown_counters(self):
+        return " 7" * len(ALL_COUNTERS)
+
+    def call_counters(self, handle):
+        return "".join(f" {self.ends[handle].counters[it]}" for it in ALL_COUNTERS)
+
+    def unshown_tx_counters(self):
+        return " 7" * len(TX_COUNTERS)
+
+    def call_tx_counters(self, handle):
+        return "".join(f" {self.ends[handle].counters[it]}" for it in TX_COUNTERS)
+
+    def unshown_rx_counters(self):
+        return " 7" * len(expected.RX_COUNTERS)
+
+    unshown_rx_sa_counters = unshown_rx_removed = unshown_rx_counters
+
+    def channel(self, handle, sci):
+        found = self.ends[handle].channel(sci)
+        if found is None:
+            raise Status("NONE")
+        return found
+
+    def rx_sa(self, handle, sci, an):
+        an = an_of(an)
+        sas = self.channel(handle, sci).sas
+        if an not in sas:
+            raise Status("NONE")
+        return sas[an]
+
+    def call_rx_counters(self, handle, sci):
+        return "".join(f" {it}" for it in self.channel(handle, sci).counters.values())
+
+    def call_rx_sa_counters(self, handle, sci, an):
+        return "".join(f" {it}" for it in self.rx_sa(handle, sci, an).counters.values())
+
+    def call_rx_removed(self, handle, sci):
+        return "".join(f" {it}" for it in self.channel(handle, sci).removed.values())
+
+    def unshown_rx_channel(self):
+        return " " + "07" * 8
+
+    def call_rx_channel(self, handle, place):
+        if place >= len(self.ends[handle].channels):
+            raise Status("NONE")
+        return f" {self.ends[handle].channels[place].sci.hex()}"
+
+    def unshown_tx_row(self):
+        return f" 7{7:016x} 7 0 0"
+
+    def call_tx_row(self, handle, an):
+        an = an_of(an)
+        if an not in self.ends[handle].tx:
+            raise Status("NONE")
+        sa = self.ends[handle].tx[an]
+        return f" {sa.next:017x} {sa.key} {int(sa.conf)} {int(sa.on)}"
+
+    def unshown_rx_row(self):
+        return f" 7{7:016x} 7{7:016x} 7 7 0"
+
+    def call_rx_row(self, handle, sci, an):
+        sa = self.rx_sa(handle, sci, an)
+        ssci = int.from_bytes(sa.ssci, "big")
+        return f" {sa.next:017x} {sa.lowest:017x} {ssci} {sa.key} {int(sa.on)}"
+
+
+class Calls:
+    """Random calls, each made when its turn has come: some depend on what the handles hold."""
+
+    SCIS = [bytes.fromhex(it) for it in ("0200000000010001", "0200000000020001", "0200000000030000", "0200000000030001")]
+    PNS = [0, 1, 1, 2, 3, 9, 2**31, 2**32 - 2, 2**32 - 1, 2**32, 2**63, 2**64 - 2, 2**64 - 1]
+    WINDOWS = [0, 0, 1, 5, 2**30 - 1, 2**30, 2**32 - 1, 2**32, 2**64 - 1]
+    NUMBERS = [0, 1, 2, 3, 4, 5, 4095, 4096, 65535]
+    SSCIS = [0, 1, 2, 2**32 - 1]
+    SALT = bytes(range(0xA0, 0xAC))
+
+    def __init__(self, seed):
+        self.random = random.Random(seed)
+        self.model = Model()
+        self.link = []
+        self.keys = [self.random.randbytes(32) for _ in range(6)]
+
+    def handle(self):
+        return self.random.choice((0, 0, 0, 1, 1, 1, 2))
+
+    def an(self):
+        return self.random.choice((0, 0, 0, 1, 1, 2, 3, 4, 255))
+
+    def sci(self):
+        return self.random.choice(self.SCIS)
+
+    def pick(self, pool):
+        return self.random.choice(pool)
+
+    def client_frame(self):
+        source = self.pick(self.SCIS)[:6]
+        head = self.pick((b"\xff" * 6, self.random.randbytes(6))) + source + b"\x08\x00"
+        length = self.pick((0, 0, 1, 4, 16, 33, 34, 35, 46, 47, 60, 90, self.random.randrange(200)))
+        if self.random.random() < 0.01:
+            return self.random.randbytes(self.pick((0, 1, 13, 9_216, 9_248, 9_249, 9_300)))
+        return head + self.random.randbytes(length)
+
+    def link_frame(self):
+        """One that was sent, as it was or altered; or another."""
+        chance = self.random.random()
+        if not self.link or chance < 0.1:
+            return self.client_frame()
+        frame = self.pick(self.link[-8:] if chance < 0.7 else self.link)
+        if chance < 0.55:
+            return frame
+        if chance < 0.6:
+            return frame + bytes(self.random.randrange(1, 20))
+        if chance < 0.65:
+            return frame[: self.random.randrange(len(frame) + 1)]
+        altered = bytearray(frame)
+        # Mostly of the SecTAG, or of what follows.
+        place = self.pick((14, 14, 14, 15, 16, 18, 19, 20, 27, len(frame) - 1, self.random.randrange(len(frame))))
+        if place < len(altered):
+            altered[place] ^= self.pick((1, 2, 3, 4, 8, 12, 16, 32, 64, 128, 255))
+        return bytes(altered)
+
+    def new(self):
+        form = self.pick((0, 1, 1, 2, 2, 3, 3, 4))
+        max_frame = self.pick((1518,) * 8 + (9_248, 100, 64, 63, 0, 9_249, 2**32 - 1))
+        return self.handle(), self.sci(), self.pick((1, 1, 1, 2, 3, 3, 4, 0, 5, 2**32 - 1)), form, max_frame
+
+    def key(self):
+        suite, length = self.pick(((0, 16), (0, 32), (1, 16), (2, 32), (3, 16), (4, 32), (1, 32), (5, 16), (0, 17), (0, 0)))
+        number = self.pick(self.NUMBERS)
+        octets = self.keys[number] if number < 6 and self.random.random() < 0.9 else self.pick(self.keys)
+        offset = self.pick((0, 0, 0, 0, 30, 50, 31, 255))
+        return self.handle(), octets, self.SALT, self.pick(self.SSCIS), suite, number, length, offset
+
+    def arguments(self, name):
+        h, pick = self.handle, self.pick
+        makers = {
+            "new": self.new,
+            "free": lambda: (h(),),
+            "send": lambda: (pick((0, 0, 0, 0, 0, 1, 2)), self.client_frame()),
+            "send_uncontrolled": lambda: (h(), self.client_frame()),
+            "receive": lambda: (pick((1, 1, 1, 1, 1, 0, 2)), self.link_frame()),
+            "protect": lambda: (h(), pick((0, 1, 1))),
+            "validate": lambda: (h(), pick((0, 1, 1, 2, 2, 2, 3, 2**32 - 1))),
+            "replay": lambda: (h(), pick((0, 1, 1)), pick(self.WINDOWS)),
+            "tag": lambda: (h(), pick((0, 1, 2, 3, 4, 2**32 - 1))),
+            "key": self.key,
+            "retire": lambda: (h(), pick(self.NUMBERS)),
+            "tx_sa": lambda: (h(), self.an(), pick(self.NUMBERS), pick(self.PNS), pick((0, 1))),
+            "rx_sc": lambda: (h(), self.sci()),
+            "rx_sc_del": lambda: (h(), self.sci()),
+            "rx_sa": lambda: (h(), self.sci(), self.an(), pick(self.NUMBERS), pick(self.SSCIS), pick(self.PNS)),
+            "rx_low": lambda: (h(), self.sci(), self.an(), pick(self.PNS)),
+            "rx_channel": lambda: (h(), pick((0, 0, 1, 2, 63, 64, 2**64 - 1))),
+        }
+        if name in makers:
+            return makers[name]()
+        if name in ("options", "counters", "tx_counters"):
+            return (h(),)
+        if name in ("rx_counters", "rx_removed"):
+            return h(), self.sci()
+        return (h(), self.an()) if name.startswith("tx_") else (h(), self.sci(), self.an())
+
+    # Each call, and how often.
+    WEIGHTS = {
+        "send": 200, "receive": 300, "send_uncontrolled": 5, "new": 12, "free": 2, "protect": 4, "validate": 8,
+        "replay": 8, "tag": 8, "key": 25, "retire": 6, "tx_sa": 20, "tx_on": 20, "tx_off": 2, "tx_del": 2, "rx_sc": 10,
+        "rx_sc_del": 2, "rx_sa": 30, "rx_on": 25, "rx_off": 2, "rx_low": 10, "rx_del": 3, "options": 8, "counters": 20,
+        "tx_counters": 10, "rx_counters": 15, "rx_sa_counters": 15, "rx_removed": 10, "rx_channel": 6, "tx_row": 10,
+        "rx_row": 15,
+    }  # fmt: skip
+
+    def paired(self):
+        """Calls that let endpoint 0 send to endpoint 1 under a key of one suite, as they are mostly seen in use."""
+        suite = self.pick((1, 1, 2, 3, 4))
+        key = lambda ssci: (self.keys[suite], self.SALT, ssci, suite, suite, 32 if suite in (2, 4) else 16, 0)
+        an, pn = self.random.randrange(4), self.pick((1, 1, 7, 2**32 - 3, 2**32 - 3 if suite < 3 else 2**64 - 3))
+        sender = self.model.ends[0].sci if self.model.ends[0] else self.SCIS[0]
+        yield "free", (1,)
+        yield "new", (1, self.pick([it for it in self.SCIS if it != sender]), suite, 1, 1518)
+        yield "new", (0, sender, suite, 1, 1518)
+        yield "key", (0, *key(1))
+        yield "tx_del", (0, an)
+        yield "tx_sa", (0, an, suite, pn, self.random.randrange(2))
+        yield "tx_on", (0, an)
+        yield "protect", (0, 1)
+        yield "key", (1, *key(2))
+        yield "rx_sc", (1, sender)
+        yield "rx_sa", (1, sender, an, suite, 1, pn)
+        yield "rx_on", (1, sender, an)
+        yield "replay", (1, self.pick((0, 1)), self.pick((0, 2)))
+        yield "validate", (1, self.pick((0, 1, 2, 2, 2)))
+
+    def crowded(self):
+        """More channels than there can be."""
+        yield "free", (2,)
+        yield "new", (2, self.SCIS[0], 1, 0, 1518)
+        for it in range(CONSTANTS["RX_CHANNEL_COUNT"] + 1):
+            yield "rx_sc", (2, bytes([6, 0, 0, 0, 0, it, 0, 1]))
+        yield "rx_channel", (2, CONSTANTS["RX_CHANNEL_COUNT"] - 1)
+
+    def rarely_refused(self):
+        """What random calls seldom come to."""
+        own, other = self.SCIS[2], self.SCIS[0]
+        key = lambda number, octets, suite: (2, self.keys[octets], self.SALT, 1, suite, number, 16, 0)
+        yield "free", (2,)
+        yield "new", (2, other, 1, CONSTANTS["FORM_ES"], 1518)
+        yield "options", (2,)
+        yield "free", (2,)
+        yield "new", (2, own, 1, CONSTANTS["FORM_ES"], 1518)
+        yield "new", (2, own, 1, CONSTANTS["FORM_SCB"], 64)
+        yield "options", (2,)
+        yield "tag", (2, CONSTANTS["FORM_ES"])
+        yield "key", key(0, 0, CONSTANTS["SUITE_DEFAULT"])
+        yield "key", key(1, 0, CONSTANTS["SUITE_DEFAULT"])
+        yield "key", key(3, 3, CONSTANTS["SUITE_GCM_AES_XPN_128"])
+        yield "rx_sc", (2, other)
+        yield "rx_sa", (2, other, 0, 3, 1, 1)
+        yield "rx_sa", (2, other, 0, 0, 0, 9)
+        yield "rx_sa", (2, other, 0, 0, 0, 9)
+        yield "rx_low", (2, other, 0, 8)
+        yield "rx_low", (2, other, 0, 2**32)
+        yield "tx_sa", (2, 0, 0, 2**32 - 1, 1)
+        yield "tx_on", (2, 0)
+        yield "send", (2, self.client_frame()[:14] + bytes(20))
+        yield "send", (2, self.client_frame()[:14])
+        yield "tx_on", (2, 0)
+        yield "tx_row", (2, 0)
+        yield "send_uncontrolled", (2, bytes(CONSTANTS["FRAME_MAX"] + 1))
+
+    def all(self, count):
+        """So many calls: the lines, and their answers."""
+        waiting = itertools.chain(self.crowded(), self.rarely_refused())
+        names, weights = list(self.WEIGHTS), list(self.WEIGHTS.values())
+        for _ in range(count):
+            made = next(waiting, None)
+            if made is None and self.random.random() < 0.015:
+                waiting = iter(self.paired())
+                made = next(waiting)
+            if made is None:
+                name = self.random.choices(names, weights)[0]
+                made = name, self.arguments(name)
+            name, words = made
+            self.meet(name, words)
+            answer = self.model.answer(name, *words)
+            if name == "send" and answer.split()[1] in (str(CONSTANTS["FATE_PROTECTED"]), str(CONSTANTS["FATE_PLAIN"])):
+                self.link = [*self.link[-40:], bytes.fromhex(answer.split()[3])]
+            yield " ".join([name, *(hex_of(it) if isinstance(it, bytes) else str(it) for it in words)]), answer
+
+    def meet(self, name, words):
+        """Notes the suites that a call names."""
+        place = {"new": 2, "key": 4}.get(name)
+        for it, value in CONSTANTS.items():
+            if place and it.startswith("SUITE_") and value == words[place]:
+                self.model.met[it] += 1
+
+
+def main():
+    parser = argparse.ArgumentParser(description=__doc__, formatter_class=argparse.RawDescriptionHelpFormatter)
+    parser.add_argument("--calls", type=int, default=100_000)
+    parser.add_argument("--seed", type=int, default=1)
+    parser.add_argument("--program", nargs=argparse.REMAINDER, default=[str(ROOT / "build/c/calls")])
+    asked = parser.parse_args()
+    calls = Calls(asked.seed)
+    lines, answers = zip(*calls.all(asked.calls))
+    ran = subprocess.run(asked.program, input="".join(f"{it}\n" for it in lines), stdout=subprocess.PIPE, text=True)
+    given = ran.stdout.splitlines()
+    for number, (line, answer, gave) in enumerate(zip(lines, answers, [*given, *[None] * len(lines)])):
+        if answer != gave:
+            sys.exit(f"call {number} of seed {asked.seed}: {line}\n  expected {answer}\n  answered {gave}")
+    if ran.returncode or len(given) != len(lines):
+        sys.exit(f"the program ended with status {ran.returncode} after {len(given)} answers to {len(lines)} calls")
+    lines = collections.Counter(line.split()[0] for line in lines)
+    print(f"{len(answers)} calls of seed {asked.seed}: each was answered as expected")
+    print("calls: " + ", ".join(f"{name} {count}" for name, count in sorted(lines.items())))
+    print("met: " + ", ".join(f"{name} {count}" for name, count in sorted(calls.model.met.items())))
+    others = ("FATE_NONE", "VERDICT_NONE", "NEW_MEMORY", "FRAME_MIN", "FRAME_MAX", "AN_COUNT", "KEY_COUNT", "RX_CHANNEL_COUNT")
+    unmet = [it for it in CONSTANTS if not calls.model.met[it] and it not in others]
+    missing = [it for it in Calls.WEIGHTS if it not in lines]
+    if asked.calls >= 5_000 and (unmet or missing):
+        sys.exit(f"never met: {', '.join(unmet + missing)}")
+
+
+if __name__ == "__main__":
+    main()

@@ -1,0 +1,92 @@
+/* Creation and end: each status of macsec_new, with each of its allocations refused in turn; and handles that hold no
+ * endpoint, after none was created or after it was freed. Linked so that its own calls of malloc come here first. */
+#include "macsec.h"
+#include <stdio.h>
+#include <stdlib.h>
+#include <string.h>
+
+void *__real_malloc(size_t size);
+void *__wrap_malloc(size_t size);
+
+static unsigned asked, refused; /* how often the library asked for memory, and which time it gets none */
+
+void *__wrap_malloc(size_t size) {
+    asked++;
+    return asked == refused ? NULL : __real_malloc(size);
+}
+
+static const uint8_t own_sci[8] = { 2, 0, 0, 0, 0, 1, 0, 1 };
+
+static uint32_t created(macsec_endpoint *e, uint32_t suite, uint32_t form, uint32_t max_frame) {
+    macsec_config config;
+    memcpy(config.sci, own_sci, sizeof own_sci);
+    config.suite = suite;
+    config.form = form;
+    config.max_frame = max_frame;
+    asked = 0;
+    return macsec_new(e, &config);
+}
+
+/* Calls of each kind on a handle without an endpoint: how many of them answer MACSEC_EMPTY. */
+static unsigned empty_answers(macsec_endpoint *e) {
+    uint8_t frame[14] = { 0 };
+    macsec_sent sent;
+    macsec_received received;
+    macsec_sak key = { { 0 }, { 0 }, 0, 99, 65535, 99, 99 };
+    macsec_options_shown options;
+    macsec_counters_shown counters;
+    macsec_rx_counters_shown rx;
+    macsec_tx_row_shown row;
+    /* Also with arguments that name nothing: the handle is tested first. */
+    const uint32_t statuses[] = { macsec_send(e, frame, sizeof frame, &sent),
+                                  macsec_send(e, frame, 0, &sent),
+                                  macsec_receive(e, frame, sizeof frame, &received),
+                                  macsec_send_uncontrolled(e, frame, 0),
+                                  macsec_protect(e, true),
+                                  macsec_validate(e, 99),
+                                  macsec_key(e, &key),
+                                  macsec_tx_on(e, 99),
+                                  macsec_rx_sc(e, own_sci),
+                                  macsec_options(e, &options),
+                                  macsec_counters(e, &counters),
+                                  macsec_rx_removed(e, own_sci, &rx),
+                                  macsec_rx_sa_counters(e, own_sci, 99, &rx),
+                                  macsec_tx_row(e, 99, &row) };
+    unsigned count = 0;
+    for (size_t i = 0; i < sizeof statuses / sizeof statuses[0]; i++)
+        count += statuses[i] == MACSEC_EMPTY;
+    return sent.length == 0 && received.length == 0 && !received.delivered ? count : 0;
+}
+
+int main(void) {
+    const uint32_t suite = MACSEC_SUITE_GCM_AES_128, form = MACSEC_FORM_SCI;
+    macsec_endpoint e = MACSEC_ENDPOINT_INIT;
+    printf("never created: empty %u\n", empty_answers(&e));
+    macsec_free(&e);
+
+    printf("suite: %u %u\n", (unsigned)created(&e, MACSEC_SUITE_DEFAULT, 99, 0), (unsigned)created(&e, 5, form, 1518));
+    printf("form: %u\n", (unsigned)created(&e, suite, 4, 0));
+    printf("largest frame: %u %u\n", (unsigned)created(&e, suite, MACSEC_FORM_SCB, 63),
+           (unsigned)created(&e, suite, form, MACSEC_FRAME_MAX + 1));
+    printf("form for the SCI: %u\n", (unsigned)created(&e, suite, MACSEC_FORM_SCB, 64));
+    printf("asked for memory: %u times\n", asked);
+
+    for (refused = 1; refused < 10; refused++) {
+        uint32_t status = created(&e, suite, form, 1518);
+        printf("allocation %u refused: %u\n", refused, (unsigned)status);
+        if (status == MACSEC_OK)
+            break;
+        if (empty_answers(&e) == 0)
+            return 1;
+    }
+    printf("again: %u\n", (unsigned)created(&e, 99, 99, 0));
+    asked = 0;
+    printf("protect: %u\n", (unsigned)macsec_protect(&e, false));
+    macsec_free(&e);
+    printf("freed: empty %u, asked for memory %u times\n", empty_answers(&e), asked);
+    macsec_free(&e);
+    refused = 0;
+    printf("created anew: %u\n", (unsigned)created(&e, suite, MACSEC_FORM_ES, MACSEC_FRAME_MAX));
+    macsec_free(&e);
+    return 0;
+}
