@@ -194,7 +194,7 @@ impl EndLogs {
         }
     }
 
-    /// The endpoint.
+    /// The endpoint (SecY) whose logs these are.
     pub fn secy(&self) -> &Secy
         ensures { result.now ≡ self.now.state }
     {

@@ -19,7 +19,7 @@ pub const MAX_SCRIPT_LEN: usize = 1_048_576;
 /// The lines of the longest script.
 const MAX_LINE_COUNT: usize = 65_536;
 
-/// What comes next.
+/// Which line of a script, or of the configuration of one end, comes next.
 #[derive(Clone, Copy)]
 pub enum Place {
     /// In a script, the line of end A.
