@@ -10,7 +10,7 @@
 # make fuzz          gives mutated inputs to the program as both compilers build it
 # make failures      makes files and streams fail, refuses memory, and lists the calls that take it
 # make stored-runs   compares the program's answers with stored ones
-# make peer          compares frames with Scapy's, which has to be installed
+# make peer          compares frames with Scapy's and with what tshark reads; both have to be installed
 # make kept-frames   sees that callers which keep a frame over the next call are refused
 # make c-programs    builds the library for C and the programs over it, runs them, and makes 100,000 random calls
 # make lanes-used    sees that the cipher is built of its lanes, powers and pieces
