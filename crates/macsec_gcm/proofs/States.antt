@@ -6,7 +6,7 @@ use Rattle.std.specs.Fn.{iterate}
 use borrow.Rule.Slice.PartMut.{put_mid}
 use Rattle.macsec_ghash.specs.Ghash.{blocks_of, pad}
 use Rattle.macsec_gcm.specs.Gcm.{hash_subkey, inc32}
-use Rattle.macsec_ghash.specs.contracts.lane_hash.LaneHashHash128.TheImpl.{ghosts}
+use Rattle.macsec_ghash.specs.Running.{HasRun}
 use Rattle.macsec_gcm.specs.Pieces.{HasAuthenticated, IsHashing, IsStreamAt}
 use Rattle.macsec_gcm.specs.Streams.{key_stream}
 use Rattle.macsec_gcm.specs.declared.authenticator.Authenticator.{Authenticator}
@@ -94,21 +94,22 @@ padded blocks whole rest is_whole = append_assoc blocks (pad whole) (pad rest) �
 
 -- octets that make the block of the waiting ones whole, and whole blocks after that, were hashed
 pub hashing_more : (s t : PaddedHash) (h : ℕ) (blocks text ys : List ℕ) (at : IsHashing s h blocks text) → length (take s.waiting_count s.waiting ++ ys) % 16 ≡ 0 → t.waiting_count ≡ 0
-    → ghosts.has_hashed t.hash h ((blocks ++ pad at.whole) ++ pad (take s.waiting_count s.waiting ++ ys)) → IsHashing t h blocks (text ++ ys)
-hashing_more s t h blocks text ys at all none hashed =
+    → t.powers.now ≡ s.powers.now → HasRun t.hash t.powers.now ((blocks ++ pad at.whole) ++ pad (take s.waiting_count s.waiting ++ ys)) → IsHashing t h blocks (text ++ ys)
+hashing_more s t h blocks text ys at all none same hashed =
     let rest : List ℕ = take s.waiting_count s.waiting in
     record {
       whole = at.whole ++ (rest ++ ys);
       is_whole = (let w = at.is_whole in omega (arith, length-append at.whole (rest ++ ys)));
       text_is = rw (at.text_is, none) (append_assoc at.whole rest ys ∙ sym (append-nil (at.whole ++ (rest ++ ys))));
+      key_is = same ∙ at.key_is;
       hashed = rw (padded blocks at.whole (rest ++ ys) at.is_whole) at hashed;
     }
 
 -- a text was ended
 pub hashing_ended : (s t : PaddedHash) (h : ℕ) (blocks text : List ℕ) (at : IsHashing s h blocks text) → t.waiting_count ≡ 0
-    → ghosts.has_hashed t.hash h ((blocks ++ pad at.whole) ++ pad (take s.waiting_count s.waiting)) → IsHashing t h (blocks ++ pad text) []
+    → t.powers.now ≡ s.powers.now → HasRun t.hash t.powers.now ((blocks ++ pad at.whole) ++ pad (take s.waiting_count s.waiting)) → IsHashing t h (blocks ++ pad text) []
 unfolding pad blocks_of
-hashing_ended s t h blocks text at none hashed =
+hashing_ended s t h blocks text at none same hashed =
     let rest : List ℕ = take s.waiting_count s.waiting in
     let all : (blocks ++ pad at.whole) ++ pad rest ≡ (blocks ++ pad text) ++ [] =
     padded blocks at.whole rest at.is_whole ∙ ap (λ (xs : List ℕ). blocks ++ pad xs) (sym at.text_is) ∙ sym (append-nil (blocks ++ pad text)) in
@@ -116,6 +117,7 @@ hashing_ended s t h blocks text at none hashed =
       whole = [];
       is_whole = refl;
       text_is = rw none refl;
+      key_is = same ∙ at.key_is;
       hashed = rw all at hashed;
     }
 

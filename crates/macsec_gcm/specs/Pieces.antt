@@ -2,7 +2,7 @@
 use Rattle.std.specs.Prelude.{◌≡◌, ℕ, ◌+◌, ◌-◌, ◌*◌, ◌%◌, ◌^◌, ◌<◌, List, [], ◌++◌, length, min, replicate, slice_index, take}
 use Rattle.std.specs.Fn.{iterate}
 use Rattle.macsec_ghash.specs.Ghash.{pad}
-use Rattle.macsec_ghash.specs.contracts.lane_hash.LaneHashHash128.TheImpl.{ghosts}
+use Rattle.macsec_ghash.specs.Running.{HasRun}
 use Rattle.macsec_gcm.specs.Gcm.{gctr, hash_subkey, inc32, pre_counter_block}
 use Rattle.macsec_gcm.specs.Streams.{key_stream}
 use Rattle.macsec_gcm.specs.declared.authenticator.Authenticator.{Authenticator}
@@ -28,7 +28,8 @@ pub record IsHashing (s : PaddedHash) (h : ℕ) (blocks text : List ℕ) : Type 
   pub whole : List ℕ
   pub is_whole : length whole % 16 ≡ 0
   pub text_is : text ≡ whole ++ take s.waiting_count s.waiting
-  pub hashed : ghosts.has_hashed s.hash h (blocks ++ pad whole)
+  pub key_is : s.powers.now ≡ h
+  pub hashed : HasRun s.hash s.powers.now (blocks ++ pad whole)
 
 -- the additional authenticated data and the ciphertext so far were taken in; the first octet of the ciphertext has ended
 -- the additional authenticated data

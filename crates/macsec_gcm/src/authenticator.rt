@@ -5,12 +5,12 @@ ghost use Rattle.macsec_gcm.specs.Gcm.{authentication_tag, gctr, hash_subkey, le
 
 use crate::hash::PaddedHash;
 use crate::key_stream::add_octets;
-use macsec_ghash::{Hash128, LaneHash};
+use macsec_ghash::KeyPowers;
 
 /// The authentication of additional authenticated data and a ciphertext in pieces.
 #[derive(Drop)]
-pub struct Authenticator {
-    hash: PaddedHash,
+pub struct Authenticator<'k> {
+    hash: PaddedHash<'k>,
     /// The key stream of the pre-counter block, which is added to the hash.
     mask: [u8; 16],
     /// The octets so far, or 2^64 - 1 where there are more.
@@ -18,17 +18,18 @@ pub struct Authenticator {
     ciphertext_len: u64,
 }
 
-impl Authenticator {
+impl<'k> Authenticator<'k> {
     ghost use Rattle.macsec_ghash.specs.Ghash.{pad};
     ghost use Rattle.macsec_gcm.specs.Pieces.{HasAuthenticated, IsHashing};
 
-    /// Nothing is authenticated yet. `hash` has hashed nothing, and `mask` is the key stream of the pre-counter block.
-    pub fn start(hash: LaneHash, mask: [u8; 16]) -> Authenticator
-        ensures { (key j0 : List ℕ) → ⟦<LaneHash as Hash128>⟧.has_hashed hash (hash_subkey key) []
+    /// Nothing is authenticated yet, by these powers of the hash subkey. `mask` is the key stream of the pre-counter block.
+    #[inline(always)]
+    pub fn start(powers: &'k KeyPowers, mask: [u8; 16]) -> Authenticator<'k>
+        ensures { (key j0 : List ℕ) → powers.now ≡ hash_subkey key
             → mask ≡ gctr key j0 (replicate 16 0) → HasAuthenticated result key j0 [] [] }
     {
         Authenticator {
-            hash: PaddedHash::start(hash),
+            hash: PaddedHash::start(powers),
             mask,
             aad_len: 0,
             ciphertext_len: 0,
@@ -59,15 +60,15 @@ impl Authenticator {
     }
 
     /// The authentication tag of all that was taken in.
-    pub fn tag(&self) -> [u8; 16]
-        ensures { (key j0 aad text : List ℕ) → HasAuthenticated self.now key j0 aad text
+    pub fn tag(&mut self) -> [u8; 16]
+        ensures { (key j0 aad text : List ℕ) → HasAuthenticated self.old key j0 aad text
             → length aad ≤ max_aad_len → length text ≤ max_plaintext_len
             → result ≡ authentication_tag key j0 aad text }
     {
-        let mut hash = self.hash;
-        hash.end_text();
-        hash.absorb(&length_block(self.aad_len, self.ciphertext_len));
-        let mut tag = hash.value().0.to_be_bytes();
+        self.hash.end_text();
+        self.hash
+            .absorb(&length_block(self.aad_len, self.ciphertext_len));
+        let mut tag = self.hash.value().0.to_be_bytes();
         add_octets(&mut tag, &self.mask);
         tag
     }

@@ -3,13 +3,15 @@
 ghost use Rattle.std.specs.Prelude.{◌≡◌, ◌+◌, ◌%◌, ◌<◌, ◌++◌, [], ℕ, List, length};
 
 use macsec_field128::Block;
-use macsec_ghash::{Hash128, LaneHash};
+use macsec_ghash::{KeyPowers, RunningHash};
 
 /// The hash of texts in pieces. The octets after the last whole block of a text wait until their block is whole or the
 /// text ends.
-#[derive(Clone, Copy)]
-pub struct PaddedHash {
-    hash: LaneHash,
+#[derive(Drop)]
+pub struct PaddedHash<'k> {
+    /// The powers of the hash subkey, which the key keeps.
+    powers: &'k KeyPowers,
+    hash: RunningHash,
     /// The octets that wait, and after them whatever was here before.
     waiting: [u8; 16],
     /// How many octets wait.
@@ -17,16 +19,18 @@ pub struct PaddedHash {
     ghost has_room: { waiting_count < 16 },
 }
 
-impl PaddedHash {
+impl<'k> PaddedHash<'k> {
     ghost use Rattle.macsec_ghash.specs.Ghash.{ghash, pad};
     ghost use Rattle.macsec_gcm.specs.Pieces.{IsHashing};
 
-    /// The hash of nothing, from a hash that has hashed nothing.
-    pub fn start(hash: LaneHash) -> PaddedHash
-        ensures { (h : ℕ) → ⟦<LaneHash as Hash128>⟧.has_hashed hash h [] → IsHashing result h [] [] }
+    /// The hash of nothing, by these powers of the hash subkey.
+    #[inline(always)]
+    pub fn start(powers: &'k KeyPowers) -> PaddedHash<'k>
+        ensures { IsHashing result powers.now [] [] }
     {
         PaddedHash {
-            hash,
+            powers,
+            hash: RunningHash::start(),
             waiting: [0; 16],
             waiting_count: 0,
         }
@@ -55,18 +59,20 @@ impl PaddedHash {
             → IsHashing self.new h (blocks ++ pad text) [] }
     {
         let waiting = self.waiting;
-        self.hash.absorb(&waiting[..self.waiting_count]);
+        self.hash
+            .absorb(self.powers, &waiting[..self.waiting_count]);
         self.waiting_count = 0;
     }
 
     /// The hash of all texts, the last of which ends here.
-    pub fn value(&self) -> Block
-        ensures { (h : ℕ) (blocks text : List ℕ) → IsHashing self.now h blocks text
+    pub fn value(&mut self) -> Block
+        ensures { (h : ℕ) (blocks text : List ℕ) → IsHashing self.old h blocks text
             → result.0 ≡ ghash h (blocks ++ pad text) }
     {
-        let mut hash = self.hash;
-        hash.absorb(&self.waiting[..self.waiting_count]);
-        hash.value()
+        let waiting = self.waiting;
+        self.hash
+            .absorb(self.powers, &waiting[..self.waiting_count]);
+        self.hash.value(self.powers)
     }
 
     /// Lets octets wait that do not make a block whole.
@@ -88,7 +94,7 @@ impl PaddedHash {
             → IsHashing self.new h blocks (text ++ octets.now) }
     {
         self.waiting[self.waiting_count..].copy_from_slice(octets);
-        self.hash.absorb(&self.waiting);
+        self.hash.absorb(self.powers, &self.waiting);
         self.waiting_count = 0;
     }
 
@@ -100,6 +106,6 @@ impl PaddedHash {
         ensures hashes { (h : ℕ) (blocks text : List ℕ) → IsHashing self.old h blocks text
             → IsHashing self.new h blocks (text ++ octets.now) }
     {
-        self.hash.absorb(octets);
+        self.hash.absorb(self.powers, octets);
     }
 }

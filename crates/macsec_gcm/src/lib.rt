@@ -24,7 +24,7 @@ ghost use Rattle.macsec_gcm.specs.Gcm.{max_aad_len, max_plaintext_len, open_of, 
 
 use macsec_aes::{Key, Schedule, encrypt};
 use macsec_field128::Block;
-use macsec_ghash::{Hash128, LaneHash};
+use macsec_ghash::KeyPowers;
 use std::marker::Model;
 
 mod authenticator;
@@ -37,23 +37,23 @@ mod pieces;
 pub use counter_blocks::inc32;
 pub use pieces::{Opener, Sealer, Unlocked};
 
-/// A key of GCM: the schedule of the AES key, and the hash of nothing under the subkey. Contracts see it as the octets of
+/// A key of GCM: the schedule of the AES key, and the powers of the hash subkey. Contracts see it as the octets of
 /// the AES key.
 #[derive(Drop)]
 pub struct GcmKey {
     schedule: Schedule,
-    hash: LaneHash,
+    powers: KeyPowers,
 }
 
 impl Model for GcmKey {
-    ghost use Rattle.std.specs.Prelude.{[], List, ℕ};
+    ghost use Rattle.std.specs.Prelude.{◌≡◌, List, ℕ};
     ghost use Rattle.macsec_gcm.specs.Gcm.{hash_subkey};
 
     ghost Value = { List ℕ };
 
     ghost view = { λ k. k.schedule };
 
-    ghost invariant = { λ k. ⟦<LaneHash as Hash128>⟧.has_hashed k.hash (hash_subkey k.schedule) [] };
+    ghost invariant = { λ k. k.powers ≡ hash_subkey k.schedule };
 }
 
 impl GcmKey {
@@ -63,8 +63,8 @@ impl GcmKey {
     {
         let schedule = Schedule::expand(&key);
         let subkey = Block(u128::from_be_bytes(encrypt(&schedule, [0; 16])));
-        let hash = LaneHash::start(subkey);
-        GcmKey { schedule, hash }
+        let powers = KeyPowers::of(subkey);
+        GcmKey { schedule, powers }
     }
 
     /// Encrypts the plaintext `text` in place, at most 2^36 - 32 octets. Returns the authentication tag of the

@@ -10,14 +10,15 @@ use crate::counter_blocks::pre_counter_block;
 use crate::key_stream::KeyStream;
 
 /// The key stream of a text, and its authentication, before any piece.
-fn started<'k>(key: &'k GcmKey, iv: &[u8; 12]) -> (KeyStream<'k>, Authenticator)
+#[inline(always)]
+fn started<'k>(key: &'k GcmKey, iv: &[u8; 12]) -> (KeyStream<'k>, Authenticator<'k>)
     ensures stream { IsStreamAt result.0 key.now (inc32 (pre_counter_block iv.now)) 0 }
     ensures authenticator { HasAuthenticated result.1 key.now (pre_counter_block iv.now) [] [] }
 {
     let mut stream = KeyStream::start(&key.schedule, pre_counter_block(iv));
     let mut mask = [0; 16];
     stream.add_to(&mut mask);
-    (stream, Authenticator::start(key.hash, mask))
+    (stream, Authenticator::start(&key.powers, mask))
 }
 
 /// Seals a text in pieces (SP 800-38D, 7.1): first the additional authenticated data, at most 2^61 - 1 octets, then the
@@ -26,11 +27,12 @@ fn started<'k>(key: &'k GcmKey, iv: &[u8; 12]) -> (KeyStream<'k>, Authenticator)
 #[derive(Drop)]
 pub struct Sealer<'k> {
     stream: KeyStream<'k>,
-    authenticator: Authenticator,
+    authenticator: Authenticator<'k>,
 }
 
 impl<'k> Sealer<'k> {
     /// Nothing is sealed yet under the key and the IV.
+    #[inline(always)]
     pub fn start(key: &'k GcmKey, iv: &[u8; 12]) -> Sealer<'k>
         ensures { HasSealed result key.now iv.now [] [] }
     {
@@ -60,7 +62,8 @@ impl<'k> Sealer<'k> {
     }
 
     /// The authentication tag of all pieces.
-    pub fn finish(self) -> [u8; 16]
+    #[inline(always)]
+    pub fn finish(mut self) -> [u8; 16]
         ensures { (key iv aad plaintext : List ℕ) → HasSealed self.entry key iv aad plaintext
             → length aad ≤ max_aad_len → length plaintext ≤ max_plaintext_len
             → result ≡ (seal_of key iv aad plaintext).1 }
@@ -74,11 +77,12 @@ impl<'k> Sealer<'k> {
 #[derive(Drop)]
 pub struct Opener<'k> {
     stream: KeyStream<'k>,
-    authenticator: Authenticator,
+    authenticator: Authenticator<'k>,
 }
 
 impl<'k> Opener<'k> {
     /// Nothing is checked yet under the key and the IV.
+    #[inline(always)]
     pub fn start(key: &'k GcmKey, iv: &[u8; 12]) -> Opener<'k>
         ensures { HasChecked result key.now iv.now [] [] }
     {
@@ -106,7 +110,8 @@ impl<'k> Opener<'k> {
     }
 
     /// What decrypts the pieces of the ciphertext, if this is the tag of all pieces; else `None`: nothing seals to them.
-    pub fn finish(self, tag: &[u8; 16]) -> Option<Unlocked<'k>>
+    #[inline(always)]
+    pub fn finish(mut self, tag: &[u8; 16]) -> Option<Unlocked<'k>>
         ensures opened { (key iv aad ciphertext : List ℕ) → HasChecked self.entry key iv aad ciphertext
             → length aad ≤ max_aad_len → length ciphertext ≤ max_plaintext_len
             → IfSome result (λ unlocked. HasOpened unlocked key iv []

@@ -157,7 +157,7 @@ class_moved r x =
     ∙ and_block r (x / 2 ^ r) 0x11111111 (x % 2 ^ r) 0 (mod_below x (2 ^ r) (pow_pos r)) (pow_pos r)
     ∙ ap (λ (n : ℕ). bit_and (x / 2 ^ r) 0x11111111 * 2 ^ r + n) none ∙ and_none (bit_and (x / 2 ^ r) 0x11111111 * 2 ^ r)
 
-class_lt : (r x : ℕ) → 0x11111111 * 2 ^ r < 2 ^ 32 → class r x < 2 ^ 32
+pub class_lt : (r x : ℕ) → 0x11111111 * 2 ^ r < 2 ^ 32 → class r x < 2 ^ 32
 class_lt r x lt = omega (arith, and_le_r x (0x11111111 * 2 ^ r), lt)
 
 kept_counts : CarrylessLaws → (x y : ℕ) → Counts 15 8 (bit_and x 0x11111111 * bit_and y 0x11111111) (carryless (bit_and x 0x11111111) (bit_and y 0x11111111))

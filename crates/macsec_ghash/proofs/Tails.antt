@@ -9,8 +9,8 @@ use Rattle.macsec_field128.specs.Field.{block_product, sum_below}
 use Rattle.macsec_field128.specs.Laws.{AddsInFirst, Associates, ProductIsBlock}
 use Rattle.macsec_ghash.specs.Ghash.{hash_after, hash_next}
 use Rattle.macsec_ghash.specs.Powers.{power, weighted}
-use Rattle.macsec_ghash.specs.Lanes.{HasPowers, block_at}
-use Rattle.macsec_ghash.proofs.Powers.{by_powers}
+use Rattle.macsec_ghash.specs.Lanes.{block_at}
+use Rattle.macsec_ghash.proofs.Steps.{by_powers}
 use Rattle.macsec_ghash.proofs.Sums.{same_sums, sum_first, sum_none}
 
 -- the product of block j of n with its power
@@ -39,13 +39,12 @@ weighted_is_sum h (x ∷ xs) =
     ∙ sym (sum_first (length xs) (term h (x ∷ xs) (suc (length xs))))
 
 -- eight products with the powers
-pub eight_weighted : (h : ℕ) (high low powers_high powers_low xs : List ℕ) → length xs ≡ 8
-    → ((j : ℕ) → j < 8 → block_at high low j ≡ slice_index xs j) → HasPowers h powers_high powers_low
-    → sum_below 8 (λ j. block_product (block_at high low j) (block_at powers_high powers_low j)) ≡ weighted h xs
+pub eight_weighted : (h : ℕ) (high low xs : List ℕ) → length xs ≡ 8 → ((j : ℕ) → j < 8 → block_at high low j ≡ slice_index xs j)
+    → sum_below 8 (λ j. block_product (block_at high low j) (power h (7 - j))) ≡ weighted h xs
 unfolding term
-eight_weighted h high low powers_high powers_low xs long blocks powers =
-    same_sums 8 (λ j. block_product (block_at high low j) (block_at powers_high powers_low j)) (term h xs 8) (λ j lt.
-    ap₂ block_product (blocks j lt) (powers j lt))
+eight_weighted h high low xs long blocks =
+    same_sums 8 (λ j. block_product (block_at high low j) (power h (7 - j))) (term h xs 8) (λ j lt.
+    ap (λ (n : ℕ). block_product n (power h (7 - j))) (blocks j lt))
     ∙ sym (rw long at (weighted_is_sum h xs))
 
 -- zeros before the blocks change nothing
@@ -98,3 +97,10 @@ weighted-tail adds same block h y lt n (x ∷ xs) some le =
 -- a block more
 pub hash_after_next : (h y x : ℕ) (xs : List ℕ) → hash_after h y (xs ++ x ∷ []) ≡ hash_next h (hash_after h y xs) x
 hash_after_next h y x xs = fold-append (hash_next h) y xs (x ∷ [])
+
+-- the sum is added to the first of some blocks
+pub weighted-first : AddsInFirst → Associates → ProductIsBlock → (h y : ℕ) → h < 2 ^ 128 → (xs : List ℕ) → 0 < length xs
+    → weighted h (set xs 0 (bit_xor (slice_index xs 0) y)) ≡ hash_after h y xs
+weighted-first adds same block h y lt [] some = absurd (omega arith)
+weighted-first adds same block h y lt (x ∷ xs) some =
+    ap (λ (z : ℕ). weighted h (z ∷ xs)) (xor_comm x y) ∙ sym (by_powers adds same block h lt y x xs)

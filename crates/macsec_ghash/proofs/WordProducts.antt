@@ -3,7 +3,8 @@ use Rattle.std.proofs.Common.{◌≡◌, ℕ, ◌+◌, ◌*◌, ◌%◌, ◌^◌
 use Rattle.std.proofs.lemmas.Nat.{and_mask}
 use Rattle.macsec_field128.specs.Carryless.{carryless, CarrylessLaws}
 use Rattle.macsec_ghash.specs.Lanes.{sum_of_four}
-use Rattle.macsec_ghash.proofs.Holes.{class, product_of_classes}
+use Rattle.macsec_ghash.specs.Parts.{part, part_products}
+use Rattle.macsec_ghash.proofs.Holes.{class, class_lt, product_of_classes}
 use Rattle.macsec_ghash.proofs.Sums.{four_under, mask_of_four, masks_add, moved_round, same_four, turned}
 
 -- the four parts of a word
@@ -62,3 +63,38 @@ word_product laws x y =
     (sym (moved_round (p 3 1) (p 3 2) (p 3 3) (p 3 0)) ∙ row laws 3 x y)
     ∙ sym (four_under (λ n. carryless n (y % 2 ^ 32)) (λ m n. laws.adds_first m n (y % 2 ^ 32)) (class 0 x) (class 1 x) (class 2 x) (class 3 x))
     ∙ ap (λ (n : ℕ). carryless n (y % 2 ^ 32)) (parts_of_word x)
+
+-- a part stands in the right half
+pub part_right : (r y : ℕ) → 0x11111111 * 2 ^ r < 2 ^ 32 → bit_and (part r y) 0xffffffff ≡ part r y
+part_right r y lt =
+    let small : class r y < 2 ^ 32 = class_lt r y lt in
+    let same : part r y % 2 ^ 32 ≡ part r y = omega (arith, small) in
+    and_mask (part r y) 32 ∙ same
+
+-- four products of words at once, with one mask for the sums of those at the same places
+pub four_word_products : CarrylessLaws → (w x y z p q r s : ℕ)
+    → sum_of_four
+    (bit_and (sum_of_four (part_products 0 w p) (part_products 0 x q) (part_products 0 y r) (part_products 0 z s)) 0x1111111111111111)
+    (bit_and (sum_of_four (part_products 1 w p) (part_products 1 x q) (part_products 1 y r) (part_products 1 z s)) 0x2222222222222222)
+    (bit_and (sum_of_four (part_products 2 w p) (part_products 2 x q) (part_products 2 y r) (part_products 2 z s)) 0x4444444444444444)
+    (bit_and (sum_of_four (part_products 3 w p) (part_products 3 x q) (part_products 3 y r) (part_products 3 z s)) 0x8888888888888888)
+    ≡ sum_of_four (carryless (w % 2 ^ 32) (p % 2 ^ 32)) (carryless (x % 2 ^ 32) (q % 2 ^ 32)) (carryless (y % 2 ^ 32) (r % 2 ^ 32)) (carryless (z % 2 ^ 32) (s % 2 ^ 32))
+four_word_products laws w x y z p q r s =
+    let m : ℕ → ℕ → ℕ → ℕ = λ t i j. bit_and (part_products t i j) (0x1111111111111111 * 2 ^ t) in
+    same_four _ _ _ _
+    (sum_of_four (m 0 w p) (m 0 x q) (m 0 y r) (m 0 z s))
+    (sum_of_four (m 1 w p) (m 1 x q) (m 1 y r) (m 1 z s))
+    (sum_of_four (m 2 w p) (m 2 x q) (m 2 y r) (m 2 z s))
+    (sum_of_four (m 3 w p) (m 3 x q) (m 3 y r) (m 3 z s))
+    (mask_of_four (part_products 0 w p) (part_products 0 x q) (part_products 0 y r) (part_products 0 z s) 0x1111111111111111)
+    (mask_of_four (part_products 1 w p) (part_products 1 x q) (part_products 1 y r) (part_products 1 z s) 0x2222222222222222)
+    (mask_of_four (part_products 2 w p) (part_products 2 x q) (part_products 2 y r) (part_products 2 z s) 0x4444444444444444)
+    (mask_of_four (part_products 3 w p) (part_products 3 x q) (part_products 3 y r) (part_products 3 z s) 0x8888888888888888)
+    ∙ turned (m 0 w p) (m 0 x q) (m 0 y r) (m 0 z s) (m 1 w p) (m 1 x q) (m 1 y r) (m 1 z s) (m 2 w p) (m 2 x q) (m 2 y r) (m 2 z s) (m 3 w p) (m 3 x q) (m 3 y r) (m 3 z s)
+    ∙ same_four
+    (sum_of_four (m 0 w p) (m 1 w p) (m 2 w p) (m 3 w p))
+    (sum_of_four (m 0 x q) (m 1 x q) (m 2 x q) (m 3 x q))
+    (sum_of_four (m 0 y r) (m 1 y r) (m 2 y r) (m 3 y r))
+    (sum_of_four (m 0 z s) (m 1 z s) (m 2 z s) (m 3 z s))
+    (carryless (w % 2 ^ 32) (p % 2 ^ 32)) (carryless (x % 2 ^ 32) (q % 2 ^ 32)) (carryless (y % 2 ^ 32) (r % 2 ^ 32)) (carryless (z % 2 ^ 32) (s % 2 ^ 32))
+    (word_product laws w p) (word_product laws x q) (word_product laws y r) (word_product laws z s)

@@ -1,7 +1,6 @@
 -- Blocks in lanes: in a pair of vectors, a lane of the first has the left half of a block, and that of the second its
 -- right half.
-use Rattle.std.specs.Prelude.{◌≡◌, ℕ, ◌+◌, ◌-◌, ◌*◌, ◌^◌, ◌<◌, List, slice_index, bit_xor}
-use Rattle.macsec_ghash.specs.Powers.{power}
+use Rattle.std.specs.Prelude.{ℕ, ◌+◌, ◌*◌, ◌^◌, List, slice_index, bit_xor}
 
 -- block j of a pair of vectors
 abbrev pub block_at : List ℕ → List ℕ → ℕ → ℕ
@@ -10,7 +9,3 @@ block_at high low j = slice_index high j * 2 ^ 64 + slice_index low j
 -- the sum of four words
 abbrev pub sum_of_four : ℕ → ℕ → ℕ → ℕ → ℕ
 sum_of_four a b c d = bit_xor (bit_xor (bit_xor a b) c) d
-
--- eight blocks are the powers of h, from the eighth down to h itself
-abbrev pub HasPowers : ℕ → List ℕ → List ℕ → Type 0
-HasPowers h high low = (j : ℕ) → j < 8 → block_at high low j ≡ power h (7 - j)

@@ -1,12 +1,15 @@
 //! Blocks in lanes: in a pair of vectors, a lane of the first has the left half of a block, and that of the second its
 //! right half.
 
-ghost use Rattle.std.specs.Prelude.{◌≡◌, ℕ, ◌+◌, ◌*◌, ◌/◌, ◌%◌, ◌^◌, ◌<◌, slice_index, bit_and, bit_xor};
+ghost use Rattle.std.specs.Prelude.{◌≡◌, ℕ, ◌+◌, ◌-◌, ◌*◌, ◌/◌, ◌%◌, ◌^◌, ◌<◌, slice_index, bit_and, bit_xor};
 ghost use Rattle.macsec_field128.specs.Field.{block_product, sum_below};
 ghost use Rattle.macsec_field128.specs.Carryless.{carryless};
 ghost use Rattle.macsec_ghash.specs.Lanes.{block_at, sum_of_four};
+ghost use Rattle.macsec_ghash.specs.Parts.{AreParts, AreWordParts, part, part_products};
+ghost use Rattle.macsec_ghash.specs.Powers.{power};
 
-use macsec_field128::laws::{carryless_laws, product_is_residue, residue_adds};
+use crate::powers::{KeyPowers, Parts, WordParts};
+use macsec_field128::laws::{carryless_laws, product_is_block, product_is_residue, residue_adds};
 use macsec_field128::{Block, residue};
 use std::simd::{u64x2, u64x8};
 
@@ -29,7 +32,8 @@ fn right_half(block: u128) -> u64
 /// Eight blocks in a pair of vectors.
 #[inline(always)]
 pub fn halves(blocks: &[u128; 8]) -> (u64x8, u64x8)
-    ensures { (j : ℕ) → j < 8 → block_at result.0 result.1 j ≡ slice_index blocks.now j }
+    ensures { (j : ℕ) → j < 8 → (slice_index result.0 j ≡ slice_index blocks.now j / 2 ^ 64)
+        × (slice_index result.1 j ≡ slice_index blocks.now j % 2 ^ 64) }
 {
     (
         u64x8::from_array([
@@ -57,7 +61,7 @@ pub fn halves(blocks: &[u128; 8]) -> (u64x8, u64x8)
 
 /// The sum of the words of two vectors, lane by lane.
 #[inline(always)]
-fn add(a: u64x8, b: u64x8) -> u64x8
+pub fn add(a: u64x8, b: u64x8) -> u64x8
     ensures { (j : ℕ) → j < 8 → slice_index result j ≡ bit_xor (slice_index a j) (slice_index b j) }
 {
     a ^ b
@@ -65,10 +69,18 @@ fn add(a: u64x8, b: u64x8) -> u64x8
 
 /// The left half of each word.
 #[inline(always)]
-fn left_halves(words: u64x8) -> u64x8
+pub fn left_halves(words: u64x8) -> u64x8
     ensures { (j : ℕ) → j < 8 → slice_index result j ≡ slice_index words j / 2 ^ 32 }
 {
     words >> u64x8::splat(32)
+}
+
+/// The bits of each word that the mask has.
+#[inline(always)]
+pub fn every_fourth(words: u64x8, mask: u64) -> u64x8
+    ensures { (j : ℕ) → j < 8 → slice_index result j ≡ bit_and (slice_index words j) mask }
+{
+    words & u64x8::splat(mask)
 }
 
 /// The bits of both words that the mask has.
@@ -77,6 +89,14 @@ fn masked(words: u64x2, mask: u64) -> u64x2
     ensures { (k : ℕ) → k < 2 → slice_index result k ≡ bit_and (slice_index words k) mask }
 {
     words & u64x2::splat(mask)
+}
+
+/// The right half of each word, in both lanes.
+#[inline(always)]
+fn right_halves(words: u64x2) -> u64x2
+    ensures { (k : ℕ) → k < 2 → slice_index result k ≡ bit_and (slice_index words k) 0xffffffff }
+{
+    words & u64x2::splat(0xffff_ffff)
 }
 
 /// The integer product of two words, in both lanes.
@@ -96,54 +116,54 @@ fn four_words(a: u64x2, b: u64x2, c: u64x2, d: u64x2) -> u64x2
     a ^ b ^ c ^ d
 }
 
-/// The products without carries of the right halves of words.
+/// The integer products of the parts of the words of `a` with those of other words, summed by the places at which the
+/// products have their own bits.
 ///
-/// Each word is cut into four, of which each has every fourth bit. In an integer product of two of these, at most eight
-/// ones come together at any place. Their number has four bits, of which the last is their sum without carries. The
+/// Each word is cut into four parts, of which each has every fourth bit. In an integer product of two of these, at most
+/// eight ones come together at any place. Their number has four bits, of which the last is their sum without carries. The
 /// others come to the three places on its left, where this product has no bits of its own.
 #[inline(always)]
-fn products(a: u64x2, b: u64x2) -> u64x2
-    ensures { (k : ℕ) → k < 2 → slice_index result k ≡ carryless (slice_index a k % 2 ^ 32) (slice_index b k % 2 ^ 32) }
+fn products(a: u64x2, b0: u64x2, b1: u64x2, b2: u64x2, b3: u64x2) -> (u64x2, u64x2, u64x2, u64x2)
+    ensures { (k : ℕ) → k < 2 → (y : ℕ)
+        → slice_index b0 k ≡ part 0 y → slice_index b1 k ≡ part 1 y → slice_index b2 k ≡ part 2 y → slice_index b3 k ≡ part 3 y
+        → (slice_index result.0 k ≡ part_products 0 (slice_index a k) y)
+        × (slice_index result.1 k ≡ part_products 1 (slice_index a k) y)
+        × (slice_index result.2 k ≡ part_products 2 (slice_index a k) y)
+        × (slice_index result.3 k ≡ part_products 3 (slice_index a k) y) }
 {
-    carryless_laws();
     let a0 = masked(a, 0x1111_1111);
     let a1 = masked(a, 0x2222_2222);
     let a2 = masked(a, 0x4444_4444);
     let a3 = masked(a, 0x8888_8888);
-    let b0 = masked(b, 0x1111_1111);
-    let b1 = masked(b, 0x2222_2222);
-    let b2 = masked(b, 0x4444_4444);
-    let b3 = masked(b, 0x8888_8888);
-    let c0 = four_words(
-        product(a0, b0),
-        product(a1, b3),
-        product(a2, b2),
-        product(a3, b1),
+    let c0 = right_halves(b0);
+    let c1 = right_halves(b1);
+    let c2 = right_halves(b2);
+    let c3 = right_halves(b3);
+    let p0 = four_words(
+        product(a0, c0),
+        product(a1, c3),
+        product(a2, c2),
+        product(a3, c1),
     );
-    let c1 = four_words(
-        product(a0, b1),
-        product(a1, b0),
-        product(a2, b3),
-        product(a3, b2),
+    let p1 = four_words(
+        product(a0, c1),
+        product(a1, c0),
+        product(a2, c3),
+        product(a3, c2),
     );
-    let c2 = four_words(
-        product(a0, b2),
-        product(a1, b1),
-        product(a2, b0),
-        product(a3, b3),
+    let p2 = four_words(
+        product(a0, c2),
+        product(a1, c1),
+        product(a2, c0),
+        product(a3, c3),
     );
-    let c3 = four_words(
-        product(a0, b3),
-        product(a1, b2),
-        product(a2, b1),
-        product(a3, b0),
+    let p3 = four_words(
+        product(a0, c3),
+        product(a1, c2),
+        product(a2, c1),
+        product(a3, c0),
     );
-    four_words(
-        masked(c0, 0x1111_1111_1111_1111),
-        masked(c1, 0x2222_2222_2222_2222),
-        masked(c2, 0x4444_4444_4444_4444),
-        masked(c3, 0x8888_8888_8888_8888),
-    )
+    (p0, p1, p2, p3)
 }
 
 /// The words of a vector, two by two.
@@ -168,48 +188,63 @@ fn sum(words: u64x2) -> u64
     words.reduce_xor()
 }
 
-/// The sum of the products without carries of the right halves of words. Two lanes at a time, since this many vectors
-/// of two words stay in registers.
+/// The sum of the products without carries of the right halves of words with others, of which the parts are given. Two
+/// lanes at a time, since this many vectors of two words stay in registers; the bits that are no product's own are cut off
+/// once, from the sums.
 #[inline(never)]
-fn sum_of_half_products(a: u64x8, b: u64x8) -> u64
-    ensures { result ≡ sum_below 8 (λ j. carryless (slice_index a j % 2 ^ 32) (slice_index b j % 2 ^ 32)) }
+fn sum_of_half_products(a: u64x8, b: &Parts) -> u64
+    ensures { (words : ℕ → ℕ) → AreParts b.now words
+        → result ≡ sum_below 8 (λ j. carryless (slice_index a j % 2 ^ 32) (words j % 2 ^ 32)) }
 {
+    carryless_laws();
     let (a0, a1, a2, a3) = pairs(a);
-    let (b0, b1, b2, b3) = pairs(b);
+    let (p0, p1, p2, p3) = pairs(b.first);
+    let (q0, q1, q2, q3) = pairs(b.second);
+    let (r0, r1, r2, r3) = pairs(b.third);
+    let (s0, s1, s2, s3) = pairs(b.fourth);
+    let (c0, d0, e0, f0) = products(a0, p0, q0, r0, s0);
+    let (c1, d1, e1, f1) = products(a1, p1, q1, r1, s1);
+    let (c2, d2, e2, f2) = products(a2, p2, q2, r2, s2);
+    let (c3, d3, e3, f3) = products(a3, p3, q3, r3, s3);
+    let c = four_words(c0, c1, c2, c3);
+    let d = four_words(d0, d1, d2, d3);
+    let e = four_words(e0, e1, e2, e3);
+    let f = four_words(f0, f1, f2, f3);
     sum(four_words(
-        products(a0, b0),
-        products(a1, b1),
-        products(a2, b2),
-        products(a3, b3),
+        masked(c, 0x1111_1111_1111_1111),
+        masked(d, 0x2222_2222_2222_2222),
+        masked(e, 0x4444_4444_4444_4444),
+        masked(f, 0x8888_8888_8888_8888),
     ))
 }
 
-/// The sum of the products without carries of words: by three products of their halves (Karatsuba).
-fn sum_of_word_products(a: u64x8, b: u64x8) -> u128
-    ensures { result ≡ sum_below 8 (λ j. carryless (slice_index a j) (slice_index b j)) }
+/// The sum of the products without carries of words with others: by three products of their halves (Karatsuba).
+fn sum_of_word_products(a: u64x8, b: &WordParts) -> u128
+    ensures { (words : ℕ → ℕ) → ((j : ℕ) → j < 8 → words j < 2 ^ 64) → AreWordParts b.now words
+        → result ≡ sum_below 8 (λ j. carryless (slice_index a j) (words j)) }
 {
     carryless_laws();
     let a_left = left_halves(a);
-    let b_left = left_halves(b);
-    let left = sum_of_half_products(a_left, b_left);
-    let right = sum_of_half_products(a, b);
-    let both = sum_of_half_products(add(a_left, a), add(b_left, b));
+    let left = sum_of_half_products(a_left, &b.left);
+    let right = sum_of_half_products(a, &b.right);
+    let both = sum_of_half_products(add(a_left, a), &b.both);
     let middle = both ^ left ^ right;
     (u128::from(left) << 64) ^ (u128::from(middle) << 32) ^ u128::from(right)
 }
 
-/// The sum of the products of eight blocks and eight others: by three products without carries of their halves, and one
-/// residue of all.
-pub fn sum_of_products(a_high: u64x8, a_low: u64x8, b_high: u64x8, b_low: u64x8) -> Block
-    ensures { result.0 ≡ sum_below 8 (λ j. block_product (block_at a_high a_low j) (block_at b_high b_low j)) }
+/// The sum of the products of eight blocks with the powers of a key, from the eighth down: by three products without
+/// carries of their halves, and one residue of all.
+pub fn sum_of_products(high: u64x8, low: u64x8, powers: &KeyPowers) -> Block
+    ensures { result.0 ≡ sum_below 8 (λ j. block_product (block_at high low j) (power powers.now (7 - j))) }
 {
-    // For the proof: the residue of a sum is that of each product.
+    // For the proof: the residue of a sum is that of each product, and powers are blocks.
     carryless_laws();
     residue_adds();
     product_is_residue();
-    let left = sum_of_word_products(a_high, b_high);
-    let right = sum_of_word_products(a_low, b_low);
-    let both = sum_of_word_products(add(a_high, a_low), add(b_high, b_low));
+    product_is_block();
+    let left = sum_of_word_products(high, &powers.left);
+    let right = sum_of_word_products(low, &powers.right);
+    let both = sum_of_word_products(add(high, low), &powers.both);
     let middle = both ^ left ^ right;
     residue(left ^ (middle >> 64), (middle << 64) ^ right)
 }

@@ -7,4 +7,4 @@ pub invariant_of-result : goal.invariant_of-result
 unfolding hash_subkey
 invariant_of-result c =
     let subkey : c.from_be_bytes.result ≡ hash_subkey c.expand-schedule.result = c.from_be_bytes.ensures ∙ ap (λ (b : List ℕ). from_be_bytes w128 b) c.encrypt.ensures in
-    rw subkey at c.start-hash.ensures
+    c.of-powers.ensures ∙ subkey

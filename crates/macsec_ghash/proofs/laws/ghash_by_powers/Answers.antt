@@ -2,7 +2,7 @@
 use Rattle.std.proofs.Common.{◌∙◌, ◌∷◌}
 use Rattle.macsec_ghash.specs.Ghash.{ghash}
 use Rattle.macsec_ghash.proofs.Blocks.{ghash-append}
-use Rattle.macsec_ghash.proofs.Powers.{by_powers}
+use Rattle.macsec_ghash.proofs.Steps.{by_powers}
 use Rattle.macsec_ghash.proofs.laws.ghash_by_powers.Goals as goal
 
 pub returns : goal.returns

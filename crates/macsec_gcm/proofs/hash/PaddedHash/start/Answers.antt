@@ -4,4 +4,4 @@ use Rattle.macsec_gcm.proofs.hash.PaddedHash.start.Goals as goal
 
 pub returns : goal.returns
 unfolding pad blocks_of
-returns c = λ h held. record { whole = []; is_whole = refl; text_is = refl; hashed = held }
+returns c = record { whole = []; is_whole = refl; text_is = refl; key_is = refl; hashed = c.start.ensures c.args.powers.now }

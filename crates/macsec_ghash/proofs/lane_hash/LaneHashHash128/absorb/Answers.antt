@@ -1,43 +1,5 @@
--- Each chunk adds its block to the hash, and at the end the blocks of all octets are hashed.
--- By the loop's invariant and the lemmas on the blocks of a text (`Blocks`).
-use Rattle.std.proofs.Common.{rules, ◌≡◌, ℕ, length, take, ap, ◌∙◌, sym, min}
-use Rattle.macsec_ghash.specs.Ghash.{hash_after, hash_next, pad}
-use Rattle.macsec_ghash.specs.Lanes.{HasPowers}
-use Rattle.macsec_ghash.proofs.Blocks.{pad_chunk, pad_none, ghash-append}
+use Rattle.std.proofs.Common.{refl}
 use Rattle.macsec_ghash.proofs.lane_hash.LaneHashHash128.absorb.Goals as goal
 
--- For speed: of a wrong body the prover would otherwise try more.
-pub loop-chunk-init : goal.loop-chunk-init
-loop-chunk-init c = search rules
-
-pub loop-chunk-preserved : goal.loop-chunk-preserved
-loop-chunk-preserved c =
-    let step = c.in-Some.ensures.steps in
-    let inv = c.loop-chunk.invariant in
-    let size : length c.in-Some.chunk.now ≡ min 16 (length c.loop-chunk.chunk-iterator.rest.now) = rw inv.size at step.1.1 in
-    let blocks = pad_chunk c.loop-chunk.chunk-iterator.rest.now c.in-Some.chunk.now c.next.new.self.rest.now step.1.0 size step.1.2 in
-    let so_far = c.loop-chunk.self in
-    let left = pad c.next.new.self.rest.now in
-    record {
-      size = step.0 ∙ inv.size;
-      high = c.push.ensures.powers_high ∙ inv.high;
-      low = c.push.ensures.powers_low ∙ inv.low;
-      rest = λ h lt powers.
-          let same : HasPowers h so_far.powers_high so_far.powers_low = rw (inv.high, inv.low) powers in
-          let hash : ℕ = hash_after h so_far.sum.0 (take so_far.waiting_count so_far.waiting) in
-          ap (λ (y : ℕ). hash_after h y left) (c.push.ensures.hash h lt same ∙ ap (hash_next h hash) c.block_of.ensures)
-          ∙ (rw blocks at (inv.rest h lt powers));
-    }
-
 pub returns : goal.returns
-returns c = λ h blocks held.
-    let end = c.in-None.ensures.steps in
-    let inv = c.loop-chunk.invariant in
-    let none = pad_none c.loop-chunk.chunk-iterator.rest.now end.1.0 in
-    let all = pad c.args.bytes.now in (
-      held.0,
-      λ j lt. rw (inv.high, inv.low) (held.1 j lt),
-      ghash-append h blocks all
-          ∙ ap (λ (y : ℕ). hash_after h y all) held.2
-          ∙ sym (rw none at (inv.rest h held.0 held.1)),
-    )
+returns c = λ h blocks held. rw (← held.0) (refl, c.absorb.ensures blocks (rw (← held.0) at held.1))

@@ -1,20 +1,4 @@
-use Rattle.std.proofs.Common.{◌≡◌, ℕ, ◌-◌, [], ◌∷◌, slice_index, refl, ap, ◌∙◌, arith}
-use Rattle.macsec_field128.specs.Field.{block_product}
-use Rattle.macsec_ghash.specs.Ghash.{ghash}
-use Rattle.macsec_ghash.specs.Powers.{power}
-use Rattle.macsec_ghash.proofs.Below.{below_eight}
 use Rattle.macsec_ghash.proofs.lane_hash.LaneHashHash128.start.Goals as goal
 
 pub returns : goal.returns
-unfolding ghash power
-returns c =
-    let h : ℕ = c.args.h.0 in
-    let e2 = c.mul-h2.ensures in
-    let e3 = c.mul-h3.ensures ∙ ap (block_product h) e2 in
-    let e4 = c.mul-h4.ensures ∙ ap (block_product h) e3 in
-    let e5 = c.mul-h5.ensures ∙ ap (block_product h) e4 in
-    let e6 = c.mul-h6.ensures ∙ ap (block_product h) e5 in
-    let e7 = c.mul-h7.ensures ∙ ap (block_product h) e6 in
-    let e8 = c.mul-h8.ensures ∙ ap (block_product h) e7 in
-    let powers = below_eight (λ j. slice_index (c.mul-h8.result.0 ∷ c.mul-h7.result.0 ∷ c.mul-h6.result.0 ∷ c.mul-h5.result.0 ∷ c.mul-h4.result.0 ∷ c.mul-h3.result.0 ∷ c.mul-h2.result.0 ∷ h ∷ []) j ≡ power h (7 - j)) e8 e7 e6 e5 e4 e3 e2 refl in
-    (omega arith, λ j lt. c.halves.ensures j lt ∙ powers j lt, refl)
+returns c = (c.of.ensures, c.start.ensures c.args.h.0)

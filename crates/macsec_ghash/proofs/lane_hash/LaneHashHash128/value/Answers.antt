@@ -1,5 +1,4 @@
-use Rattle.std.proofs.Common.{sym, ◌∙◌}
 use Rattle.macsec_ghash.proofs.lane_hash.LaneHashHash128.value.Goals as goal
 
 pub returns : goal.returns
-returns c h blocks held = c.after.ensures h held.0 held.1 ∙ sym held.2
+returns c = λ h blocks held. rw (← held.0) (c.value.ensures blocks (rw (← held.0) at held.1))

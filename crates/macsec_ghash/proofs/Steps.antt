@@ -6,7 +6,7 @@ use Rattle.macsec_field128.specs.Laws.{AddsInFirst, Associates, ProductIsBlock}
 use Rattle.macsec_ghash.specs.Ghash.{hash_next}
 use Rattle.macsec_ghash.specs.Powers.{power, weighted}
 
-power_is_block : ProductIsBlock → (h : ℕ) → h < 2 ^ 128 → (n : ℕ) → power h n < 2 ^ 128
+pub power_is_block : ProductIsBlock → (h : ℕ) → h < 2 ^ 128 → (n : ℕ) → power h n < 2 ^ 128
 unfolding power
 power_is_block block h lt zero = lt
 power_is_block block h lt (suc n) = block h (power h n) (power_is_block block h lt n)
