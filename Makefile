@@ -1,5 +1,6 @@
 # make try           builds the program before any proof, in about a minute, and runs it on the tour
-# make               proves and builds the program, build/macsec
+# make               proves and builds the program, build/macsec; with CPU=x86-64-v3 build/macsec-x86-64-v3, for
+#                    processors with vectors of 256 bits
 # make run           does the same, and runs it on the tour
 # make lib           proves and builds the library for C, build/libmacsec.a, of the header include/macsec.h
 # make install       copies the program, its manual page, the library for C, its header and its pkg-config file to PREFIX,
@@ -23,11 +24,13 @@ GATE_INPUTS := 2000
 GATE_CALLS := 6000
 SEED := 1
 PREFIX ?= /usr/local
+CPU ?= x86-64-v2
+BUILT := build/macsec$(if $(filter x86-64-v3,$(CPU)),-x86-64-v3)
 
 .PHONY: all try run lib install check bench search fuzz failures stored-runs peer kept-frames c-programs lanes-used \
     toolchain clean
 
-all: build/macsec
+all: $(BUILT)
 
 try: toolchain
 	@cd crates/macsec_cli && rt try -- run - < ../macsec_examples/data/tour.macsec
@@ -99,8 +102,9 @@ build/macsec: $(SOURCES) | toolchain
 	@echo "proving and building build/macsec: from nothing many minutes, with a line for each crate" >&2
 	@tools/prove
 
-# The program as Rattle's own compiler builds it, and the one whose calls meet refused allocations.
-build/macsec-rattle build/macsec-failures: $(SOURCES) | toolchain build/macsec
+# The program for processors with vectors of 256 bits, as Rattle's own compiler builds it, and the one whose calls meet
+# refused allocations.
+build/macsec-x86-64-v3 build/macsec-rattle build/macsec-failures: $(SOURCES) | toolchain build/macsec
 	@tools/prove $(notdir $@)
 
 # The library for C, with what it must be linked with.
