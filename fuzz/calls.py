@@ -32,8 +32,8 @@ CONSTANTS |= {name: int(value) for name, value in re.findall(r"#define MACSEC_(\
 FRAME_MIN, FRAME_MAX = CONSTANTS["FRAME_MIN"], CONSTANTS["FRAME_MAX"]
 
 HANDLES = 3
-SUITE_NAMES = {"GCM_AES_128": "gcm128", "GCM_AES_256": "gcm256", "GCM_AES_XPN_128": "xpn128", "GCM_AES_XPN_256": "xpn256"}
-SUITES = {CONSTANTS["SUITE_" + name]: word for name, word in SUITE_NAMES.items()}
+SUITES = {CONSTANTS["SUITE_GCM_AES_" + it]: "gcm" + it for it in ("128", "256")}
+SUITES |= {CONSTANTS["SUITE_GCM_AES_XPN_" + it]: "xpn" + it for it in ("128", "256")}
 FORMS = {CONSTANTS["FORM_" + it.upper()]: it for it in expected.FORMS}
 MODES = {CONSTANTS["MODE_" + it.upper()]: it for it in expected.MODES}
 ALL_COUNTERS = expected.SECY_COUNTERS[:11]
@@ -375,7 +375,8 @@ class Calls:
         return self.handle(), self.sci(), self.pick((1, 1, 1, 2, 3, 3, 4, 0, 5, 2**32 - 1)), form, max_frame
 
     def key(self):
-        suite, length = self.pick(((0, 16), (0, 32), (1, 16), (2, 32), (3, 16), (4, 32), (1, 32), (5, 16), (0, 17), (0, 0)))
+        fitting = ((0, 16), (0, 32), (1, 16), (2, 32), (3, 16), (4, 32))
+        suite, length = self.pick((*fitting, (1, 32), (5, 16), (0, 17), (0, 0)))
         number = self.pick(self.NUMBERS)
         octets = self.keys[number] if number < 6 and self.random.random() < 0.9 else self.pick(self.keys)
         offset = self.pick((0, 0, 0, 0, 30, 50, 31, 255))
@@ -471,11 +472,21 @@ class Calls:
         yield "rx_low", (2, other, 0, 2**32)
         yield "tx_sa", (2, 0, 0, 2**32 - 1, 1)
         yield "tx_on", (2, 0)
-        yield "send", (2, self.client_frame()[:14] + bytes(20))
-        yield "send", (2, self.client_frame()[:14])
+        yield "send", (2, bytes(34))
+        yield "send", (2, bytes(14))
         yield "tx_on", (2, 0)
         yield "tx_row", (2, 0)
         yield "send_uncontrolled", (2, bytes(CONSTANTS["FRAME_MAX"] + 1))
+        yield "tx_del", (2, 0)
+        yield "rx_on", (2, other, 0)
+        yield "validate", (2, CONSTANTS["MODE_CHECK"])
+        # A tagged frame with E and C clear, and an ICV of zeros.
+        yield "receive", (2, bytes(12) + bytes.fromhex("88e5200000000009") + other + bytes(64))
+        yield "rx_del", (2, other, 0)
+        yield "retire", (2, 0)
+        yield "tx_sa", (2, 0, 0, 1, 1)
+        yield "free", (2,)
+        yield "new", (2, own, 1, CONSTANTS["FORM_AUTO"], 63)
 
     def all(self, count):
         """So many calls: the lines, and their answers."""
@@ -523,8 +534,8 @@ def main():
     print(f"{len(answers)} calls of seed {asked.seed}: each was answered as expected")
     print("calls: " + ", ".join(f"{name} {count}" for name, count in sorted(lines.items())))
     print("met: " + ", ".join(f"{name} {count}" for name, count in sorted(calls.model.met.items())))
-    others = ("FATE_NONE", "VERDICT_NONE", "NEW_MEMORY", "FRAME_MIN", "FRAME_MAX", "AN_COUNT", "KEY_COUNT", "RX_CHANNEL_COUNT")
-    unmet = [it for it in CONSTANTS if not calls.model.met[it] and it not in others]
+    others = re.compile("FATE_NONE|VERDICT_NONE|NEW_MEMORY|FRAME_M..|.*_COUNT")
+    unmet = [it for it in CONSTANTS if not calls.model.met[it] and not others.fullmatch(it)]
     missing = [it for it in Calls.WEIGHTS if it not in lines]
     if asked.calls >= 5_000 and (unmet or missing):
         sys.exit(f"never met: {', '.join(unmet + missing)}")
