@@ -30,7 +30,7 @@
  *            always filled in). First the handle is tested (MACSEC_EMPTY, MACSEC_TAKEN), then the arguments
  *            (MACSEC_NO_SUCH_..), then the rest; of several statuses of arguments, or of several refusals of a
  *            command, the lowest is returned.
- * MEMORY     macsec_new takes four blocks by malloc, 2.8 MB in all: two for the keys, one for a frame, one for the
+ * MEMORY     macsec_new takes four blocks by malloc, 11.1 MB in all: two for the keys, one for a frame, one for the
  *            rest. No other call takes any, and none can fail for want of it. macsec_free gives them back. The
  *            memory is not wiped: keys may stay in it. Of stack macsec_new needs less than 64 KB, each other call
  *            less than 10 KB (measured on x86-64, not proved).
