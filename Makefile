@@ -3,6 +3,7 @@
 #                    processors with vectors of 256 bits
 # make run           does the same, and runs it on the tour
 # make lib           proves and builds the library for C, build/libmacsec.a, of the header include/macsec.h
+# make kept          proves the program's libraries and keeps the work where rt takes it, before a crate is changed
 # make install       copies the program, its manual page, the library for C, its header and its pkg-config file to PREFIX,
 #                    /usr/local if nothing else is said, under DESTDIR
 # make check         the gate
@@ -27,7 +28,7 @@ PREFIX ?= /usr/local
 CPU ?= x86-64-v2
 BUILT := build/macsec$(if $(filter x86-64-v3,$(CPU)),-x86-64-v3)
 
-.PHONY: all try run lib install check bench search fuzz failures stored-runs peer kept-frames c-programs lanes-used \
+.PHONY: all try run lib kept install check bench search fuzz failures stored-runs peer kept-frames c-programs lanes-used \
     toolchain clean
 
 all: $(BUILT)
@@ -40,6 +41,9 @@ run: build/macsec
 	@build/macsec run - < crates/macsec_examples/data/tour.macsec
 
 lib: build/libmacsec.a
+
+kept: toolchain
+	@tools/prove kept
 
 install: build/macsec build/libmacsec.a
 	install -d "$(DESTDIR)$(PREFIX)/bin" "$(DESTDIR)$(PREFIX)/share/man/man1"
