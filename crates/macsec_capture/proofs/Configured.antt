@@ -10,9 +10,8 @@ use Rattle.macsec_lines.specs.declared.lines.Line.TheVariants as line
 use Rattle.macsec_lines.specs.declared.faults.ScriptFault.{ScriptFault}
 use Rattle.macsec_lines.specs.declared.faults.ScriptFault.TheVariants as script
 use Rattle.macsec_lines.specs.Kinds.{is_fit}
-use Rattle.macsec_lines.specs.Scripts.{NumberedLine, config_of}
-use Rattle.macsec_script.specs.Laws.{AreFit}
-use Rattle.macsec_script.specs.Printed.{a_config}
+use Rattle.macsec_lines.specs.Laws.{AreFit}
+use Rattle.macsec_lines.specs.Scripts.{NumberedLine, a_config, config_of}
 use Rattle.macsec_capture.specs.declared.Direction.{Direction}
 use Rattle.macsec_capture.specs.declared.fault.CaptureFault.{CaptureFault}
 use Rattle.macsec_capture.specs.declared.fault.CaptureFault.TheVariants.{Script}

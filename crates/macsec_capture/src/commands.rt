@@ -9,11 +9,11 @@ ghost use Rattle.macsec_secy.specs.State.{start};
 ghost use Rattle.macsec_lines.specs.declared.faults.ScriptFault.TheVariants.{Memory, Write};
 ghost use Rattle.macsec_capture.specs.Captured.{command_outcome, commands_part, line_part, one_end};
 
-use macsec_lines::Line;
-use macsec_link::{End, EndConfig, Event, Outcome, Refusal};
+use macsec_commands::{End, EndConfig, Event};
+use macsec_lines::{Line, ScriptFault};
+use macsec_outcomes::Outcome;
 use macsec_print::print_outcome;
-use macsec_script::ScriptFault;
-use macsec_secy::{NewFault, Secy};
+use macsec_secy::{NewFault, Refusal, Secy};
 use std::alloc::Global;
 use std::io::Write;
 

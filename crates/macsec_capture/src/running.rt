@@ -4,22 +4,21 @@ ghost use Rattle.std.specs.Prelude.{◌≡◌, ℕ, List, IfErr, IfOk, IfSome, N
 ghost use Rattle.macsec_commands.specs.Configs.{config_fault};
 ghost use Rattle.macsec_secy.specs.Sound.{IsSound};
 ghost use Rattle.macsec_lines.specs.Fields.{map_ok};
+ghost use Rattle.macsec_lines.specs.Laws.{AreFit};
 ghost use Rattle.macsec_pcap.specs.Captures.{CaptureFile, file_of};
 ghost use Rattle.macsec_pcap.specs.Limits.{max_records};
 ghost use Rattle.macsec_pcap.specs.Reading.{opened};
-ghost use Rattle.macsec_script.specs.Laws.{AreFit};
 ghost use Rattle.macsec_capture.specs.Captured.{captured, captured_after, captured_at, nothing};
 ghost use Rattle.macsec_capture.specs.Runs.{CaptureGives, IsLateFault, LeavesBoth, ReadsConfig, TakesFile, flushed_end};
 
 use crate::commands::{endpoint_of, one_end, run_commands};
 use crate::records::run_records;
 use crate::{CaptureFault, Direction};
-use macsec_lines::{Line, parse_config};
-use macsec_link::EndConfig;
+use macsec_commands::EndConfig;
+use macsec_lines::laws::parsed_lines_fit;
+use macsec_lines::{Line, ScriptFault, parse_config, read_text};
 use macsec_pcap::{PcapFault, PcapReader, PcapWriter, write_header};
 use macsec_print::{Label, print_counters};
-use macsec_script::laws::parsed_lines_fit;
-use macsec_script::{ScriptFault, read_text};
 use macsec_secy::Secy;
 use std::alloc::Global;
 use std::io::{self, Read, Write};

@@ -4,3 +4,4 @@ pub mod HexDigits
 pub mod Keywords
 pub mod LastLine
 pub mod LinesLeft
+pub mod FitLines

@@ -6,3 +6,4 @@ pub mod Kinds
 pub mod Scripts
 pub mod Readings
 pub mod Faults
+pub mod Laws

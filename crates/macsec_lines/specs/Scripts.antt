@@ -1,5 +1,6 @@
 -- A script, and the configuration of one end: the lines that are not skipped, with their numbers, or the first fault.
 use Rattle.std.specs.Prelude.{ℕ, ◌+◌, ◌-◌, ◌||◌, List, [], ◌∷◌, length, Bool, nat_lt, if◌then◌else◌, Option, Some, None, Result, Ok, Err}
+use Rattle.macsec_commands.specs.declared.config.EndConfig.{EndConfig}
 use Rattle.macsec_commands.specs.declared.event.End.TheVariants.{A, B}
 use Rattle.macsec_commands.specs.declared.event.Event.TheVariants as event
 use Rattle.macsec_lines.specs.declared.lines.Line.{Line}
@@ -18,6 +19,15 @@ use Rattle.macsec_lines.specs.Limits.{max_script_len, max_line_count}
 -- a line with its number
 abbrev pub NumberedLine : Type 0
 NumberedLine = ℕ × Line
+
+-- the configuration of an 'end' line for A, and of one for B
+abbrev pub a_config : Line → Option EndConfig
+a_config (line.End A config) = Some config
+a_config other = None
+
+abbrev pub b_config : Line → Option EndConfig
+b_config (line.End B config) = Some config
+b_config other = None
 
 -- the fault of a script at the fault of its line n
 abbrev pub at_line : ℕ → LineFault → ScriptFault

@@ -5,16 +5,21 @@
 //! table of the kinds of lines says (`specs/Kinds.antt`, `specs/Scripts.antt`), or `Memory`. `parse_config` does the
 //! same for the configuration of one end: the `end` line of A, and then commands at A, nothing else. The functions
 //! `name`, `line` and `status` of a `ScriptFault` are those of `specs/Faults.antt`; and if its `tell` returns `Ok`,
-//! what it wrote, to a writer whose octets a contract can name, is the one line of the fault.
+//! what it wrote, to a writer whose octets a contract can name, is the one line of the fault. `read_text`, over a reader
+//! whose octets a contract can name, returns all of them, at most 1,048,576; `ScriptLong` only if there are more; or
+//! `Memory` or `Read`. A law: of each configuration in the lines of a text without a fault an endpoint can be created.
 //!
 //! Proved, of the definitions: more than eighty worked lines, and ten configurations (`proofs/Examples.antt`).
 #![tactic(auto)]
 
 mod faults;
+pub mod laws;
 mod lines;
 mod script;
+mod text;
 mod words;
 
 pub use faults::ScriptFault;
 pub use lines::{Line, LineFault, parse_line};
 pub use script::{MAX_SCRIPT_LEN, parse_config, parse_script};
+pub use text::read_text;

@@ -27,9 +27,9 @@ use Rattle.macsec_commands.specs.declared.event.End.{End}
 use Rattle.macsec_commands.specs.declared.event.End.TheVariants.{A, B}
 use Rattle.macsec_commands.specs.declared.event.Event.{Event}
 use Rattle.macsec_commands.specs.declared.event.Event.TheVariants.{Command, Deliver, Send}
-use Rattle.macsec_link.specs.declared.Outcome.{Outcome}
-use Rattle.macsec_link.specs.declared.Outcome.TheVariants.{Heard}
-use Rattle.macsec_link.specs.declared.WorldFault.{WorldFault}
+use Rattle.macsec_outcomes.specs.declared.Outcome.{Outcome}
+use Rattle.macsec_outcomes.specs.declared.Outcome.TheVariants.{Heard}
+use Rattle.macsec_outcomes.specs.declared.WorldFault.{WorldFault}
 use Rattle.macsec_link.specs.Acceptance.{IsDeliveredAs, IsOnLink}
 use Rattle.macsec_link.specs.Step.{world_after, world_at, world_step}
 use Rattle.macsec_link.specs.World.{WorldState, end_of, new_world, other_end}

@@ -4,11 +4,11 @@ use Rattle.hex.specs.Hex.{encode_lower}
 use Rattle.macsec_rx.specs.Verdicts.{verdict_name}
 use Rattle.macsec_secy.specs.declared.answers.DropReason.{DropReason}
 use Rattle.macsec_secy.specs.declared.answers.DropReason.TheVariants as reason
-use Rattle.macsec_link.specs.declared.Outcome.{Outcome}
-use Rattle.macsec_link.specs.declared.Outcome.TheVariants.{Done, Refused, Made, Dropped, Heard}
-use Rattle.macsec_link.specs.declared.WorldFault.{WorldFault}
-use Rattle.macsec_link.specs.declared.WorldFault.TheVariants as world
-use Rattle.macsec_link.specs.FaultNumbers.{number_of_world_fault}
+use Rattle.macsec_outcomes.specs.declared.Outcome.{Outcome}
+use Rattle.macsec_outcomes.specs.declared.Outcome.TheVariants.{Done, Refused, Made, Dropped, Heard}
+use Rattle.macsec_outcomes.specs.declared.WorldFault.{WorldFault}
+use Rattle.macsec_outcomes.specs.declared.WorldFault.TheVariants as world
+use Rattle.macsec_outcomes.specs.FaultNumbers.{number_of_world_fault}
 use Rattle.macsec_print.specs.Refusals.{refusal_text}
 
 -- why nothing is sent for a client frame

@@ -9,8 +9,7 @@ ghost use Rattle.macsec_print.specs.Printing.{Prints};
 use crate::numbers::{MAX_CHANNEL_COUNT, association_numbers};
 use crate::writing::{write_fault, write_hex};
 use macsec_lines::ScriptFault;
-use macsec_link::{An, Sci, Secy};
-use macsec_secy::{Counters, RxCounters, TxCounters};
+use macsec_secy::{An, Counters, RxCounters, Sci, Secy, TxCounters};
 use std::fmt;
 use std::io::{self, Write};
 

@@ -9,8 +9,7 @@ ghost use Rattle.macsec_print.specs.Printing.{Prints};
 
 use crate::writing::{write_fault, write_hex};
 use macsec_lines::ScriptFault;
-use macsec_link::{An, Sci, Secy};
-use macsec_secy::{RxRow, TxRow};
+use macsec_secy::{An, RxRow, Sci, Secy, TxRow};
 use std::fmt;
 use std::io::{self, Write};
 

@@ -2,15 +2,17 @@
 
 ghost use Rattle.std.specs.Prelude.{◌≡◌, option_copied, is_some, true, IfErr, OnOk};
 ghost use Rattle.std.specs.Io.KnownBytes.{Appends};
-ghost use Rattle.macsec_link.specs.declared.Outcome.TheVariants as outcome;
+ghost use Rattle.macsec_outcomes.specs.declared.Outcome.TheVariants as outcome;
 ghost use Rattle.macsec_lines.specs.declared.faults.ScriptFault.TheVariants.{Write};
 ghost use Rattle.macsec_print.specs.Outcomes.{drop_text, end_text, is_made, is_told, outcome_text, world_fault_name};
 ghost use Rattle.macsec_print.specs.Refusals.{refusal_name};
 ghost use Rattle.macsec_print.specs.Printing.{Prints};
 
 use crate::writing::{write_fault, write_hex};
+use macsec_commands::Frame;
 use macsec_lines::ScriptFault;
-use macsec_link::{DropReason, Frame, Outcome, Refusal, Verdict, WorldFault};
+use macsec_outcomes::{Outcome, WorldFault};
+use macsec_secy::{DropReason, Refusal, Verdict};
 use std::io::{self, Write};
 
 /// The name of a refusal.

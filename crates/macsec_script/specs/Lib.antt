@@ -1,4 +1,3 @@
 pub mod Printed
 pub mod Promised
 pub mod Runs
-pub mod Laws

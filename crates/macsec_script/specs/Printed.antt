@@ -1,10 +1,9 @@
 -- What a script prints.
 use Rattle.std.specs.Prelude.{ℕ, List, [], ◌∷◌, ◌++◌, slice_get, Option, Some, None, Result, Ok}
 use Rattle.macsec_commands.specs.declared.config.EndConfig.{EndConfig}
-use Rattle.macsec_commands.specs.declared.event.End.TheVariants.{A, B}
-use Rattle.macsec_link.specs.declared.Outcome.{Outcome}
-use Rattle.macsec_link.specs.declared.Outcome.TheVariants.{Made}
-use Rattle.macsec_link.specs.declared.WorldFault.{WorldFault}
+use Rattle.macsec_outcomes.specs.declared.Outcome.{Outcome}
+use Rattle.macsec_outcomes.specs.declared.Outcome.TheVariants.{Made}
+use Rattle.macsec_outcomes.specs.declared.WorldFault.{WorldFault}
 use Rattle.macsec_link.specs.World.{WorldState, new_world, end_of}
 use Rattle.macsec_link.specs.Step.{Answer, world_step}
 use Rattle.macsec_lines.specs.declared.lines.Line.{Line}
@@ -15,7 +14,7 @@ use Rattle.macsec_lines.specs.Fields.{map_ok}
 use Rattle.macsec_print.specs.Outcomes.{outcome_text}
 use Rattle.macsec_print.specs.Counters.{counters_text}
 use Rattle.macsec_print.specs.Numbers.{numbers_text}
-use Rattle.macsec_lines.specs.Scripts.{NumberedLine, script_of}
+use Rattle.macsec_lines.specs.Scripts.{NumberedLine, a_config, b_config, script_of}
 
 -- the link frame that an event created, in the world after it
 abbrev pub frame_made : WorldState → Result Outcome WorldFault → Option (List ℕ)
@@ -36,15 +35,6 @@ line_step w n (line.Numbers e) = (numbers_text n (end_of w e).state, w)
 abbrev pub text_from : WorldState → List NumberedLine → List ℕ
 text_from w [] = []
 text_from w ((n, said) ∷ more) = (line_step w n said).0 ++ text_from (line_step w n said).1 more
-
--- the configuration of an 'end' line for A, and of one for B
-abbrev pub a_config : Line → Option EndConfig
-a_config (line.End A config) = Some config
-a_config other = None
-
-abbrev pub b_config : Line → Option EndConfig
-b_config (line.End B config) = Some config
-b_config other = None
 
 -- the two ends, and the lines after theirs
 abbrev pub TwoEnds : Type 0

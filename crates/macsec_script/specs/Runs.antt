@@ -1,9 +1,8 @@
 -- What a run of a script returns and writes.
-use Rattle.std.specs.Prelude.{◌≡◌, ◌<◌, ℕ, List, [], length, Option, Result, Ok, Err}
+use Rattle.std.specs.Prelude.{◌≡◌, ℕ, List, [], Option, Result, Ok, Err}
 use Rattle.std.specs.Io.KnownBytes.{Appends, Keeps}
 use Rattle.macsec_lines.specs.declared.faults.ScriptFault.{ScriptFault}
-use Rattle.macsec_lines.specs.declared.faults.ScriptFault.TheVariants.{ScriptLong, Memory, Read, Write}
-use Rattle.macsec_lines.specs.Limits.{max_script_len}
+use Rattle.macsec_lines.specs.declared.faults.ScriptFault.TheVariants.{Memory, Read, Write}
 use Rattle.macsec_print.specs.Printing.{Begins}
 use Rattle.macsec_script.specs.Printed.{printed_text}
 
@@ -26,10 +25,3 @@ abbrev pub LeavesText : Option (List ℕ) → Option (List ℕ) → ScriptFault 
 LeavesText old new Memory = Unit {0}
 LeavesText old new Write = Unit {0}
 LeavesText old new other = Keeps old new
-
--- why a reader's input was not taken whole
-abbrev pub IsInputFault : List ℕ → ScriptFault → Type 0
-IsInputFault input ScriptLong = max_script_len < length input
-IsInputFault input Memory = Unit {0}
-IsInputFault input Read = Unit {0}
-IsInputFault input other = ⊥

@@ -2,15 +2,8 @@
 
 ghost use Rattle.std.specs.Prelude.{ℕ, List};
 ghost use Rattle.macsec_link.specs.World.{WorldState};
-ghost use Rattle.macsec_lines.specs.declared.script.Place.{Place};
 ghost use Rattle.macsec_lines.specs.Scripts.{NumberedLine};
-ghost use Rattle.macsec_script.specs.Laws.{ParsedFit};
 ghost use Rattle.macsec_script.specs.Promised.{HasNoneOrEnds, IsTextOfWorlds};
-
-/// Of each configuration in the lines of a text without a fault, an endpoint can be created.
-pub fn parsed_lines_fit()
-    ensures { (first : Place) (text : List ℕ) (lines : List NumberedLine) → ParsedFit first text lines }
-{}
 
 /// A script without a fault has no lines, or its first two configure the ends.
 pub fn script_has_ends()

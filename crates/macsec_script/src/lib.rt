@@ -10,19 +10,19 @@
 //!
 //! Over any reader, and a writer whose octets a contract can name: with a fault other than `Memory` and `Write` nothing
 //! was written. The world refuses no configuration of a script without a fault, so `Memory` hides no such refusal.
-//! `read_text`, over a reader whose octets a contract can name, returns all of them, at most 1,048,576; `ScriptLong`
-//! only if there are more; or `Memory` or `Read`. Laws: each line is printed of the world after the events of the lines
-//! before it; a script without a fault has no lines or begins with both ends. Worked scripts are in
-//! `proofs/Examples.antt`.
+//! Laws: each line is printed of the world after the events of the lines before it; a script without a fault has no
+//! lines or begins with both ends. Worked scripts are in `proofs/Examples.antt`.
 #![tactic(auto)]
 
 pub mod laws;
 mod running;
 
-pub use macsec_lines::{Line, LineFault, ScriptFault, parse_config, parse_line, parse_script};
+pub use macsec_lines::{
+    Line, LineFault, ScriptFault, parse_config, parse_line, parse_script, read_text,
+};
 pub use macsec_link::{
     An, Command, DropReason, End, EndConfig, Event, Frame, Key, Mode, NewFault, NewKey, Outcome,
     Refusal, Sci, Secy, Suite, TagForm, Verdict, WorldFault,
 };
 pub use macsec_print::{Label, print_counters, print_numbers, print_outcome};
-pub use running::{read_text, run_script};
+pub use running::run_script;

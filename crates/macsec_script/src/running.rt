@@ -1,17 +1,18 @@
 //! A script from a reader, and what it prints to a writer.
 
-ghost use Rattle.std.specs.Prelude.{◌≡◌, ◌≤◌, length, IfSome, IfErr, OnOk, MatchResult, None, option_copied, option_map};
+ghost use Rattle.std.specs.Prelude.{◌≡◌, IfSome, IfErr, OnOk, None, option_copied, option_map};
 ghost use Rattle.macsec_link.specs.Sound.{IsSound};
 ghost use Rattle.macsec_link.specs.Beginnings.{StaysSound};
 ghost use Rattle.macsec_link.specs.Answers.{make_fault};
 ghost use Rattle.macsec_lines.specs.declared.lines.Line.TheVariants as line;
-ghost use Rattle.macsec_lines.specs.Limits.{max_script_len};
-ghost use Rattle.macsec_script.specs.Printed.{a_config, b_config, two_ends, frame_made, line_step, text_from, text_of};
+ghost use Rattle.macsec_lines.specs.Scripts.{a_config, b_config};
+ghost use Rattle.macsec_script.specs.Printed.{two_ends, frame_made, line_step, text_from, text_of};
 ghost use Rattle.macsec_script.specs.Promised.{ArePromised, IsPromised, events_of};
-ghost use Rattle.macsec_script.specs.Runs.{RunGives, LeavesText, IsInputFault};
+ghost use Rattle.macsec_script.specs.Runs.{RunGives, LeavesText};
 ghost use Rattle.macsec_print.specs.Printing.{Prints};
 
-use macsec_lines::{Line, MAX_SCRIPT_LEN, ScriptFault, parse_script};
+use macsec_lines::laws::parsed_lines_fit;
+use macsec_lines::{Line, ScriptFault, parse_script, read_text};
 use macsec_link::laws::{promises, worlds_are_sound};
 use macsec_link::{End, EndConfig, Event, Outcome, World, WorldFault};
 use macsec_print::{Label, print_counters, print_numbers, print_outcome, write_fault};
@@ -31,34 +32,11 @@ pub fn run_script<R: Read, W: Write>(
     // shows (`laws::prints_of_worlds`).
     ensures promised { OnOk result (IfSome (R.remaining reader.old) IsPromised) }
 {
+    // A law that the proof cites.
+    parsed_lines_fit();
     let text = read_text(alloc, reader)?;
     let lines = parse_script(alloc, text.as_slice())?;
     print_script(alloc, writer, lines.as_slice())
-}
-
-/// All that a reader has, at most `MAX_SCRIPT_LEN` octets. Returns `ScriptLong` if it has more, `Memory`, or `Read`.
-pub fn read_text<R: Read>(alloc: Global, reader: &mut R) -> Result<Vec<u8>, ScriptFault>
-    ensures { IfSome (R.remaining reader.old) (λ all. MatchResult result
-        (λ text. (text.items ≡ all) × (length all ≤ max_script_len)) (λ fault. IsInputFault all fault)) }
-{
-    let mut text = Vec::new(alloc);
-    let mut piece = [0u8; 4096];
-    for _ in 0..1_048_577u32 {
-        let count = match reader.read(&mut piece) {
-            Ok(count) => count,
-            Err(_) => return Err(ScriptFault::Read),
-        };
-        if count == 0 {
-            return Ok(text);
-        }
-        if text.len() + count > MAX_SCRIPT_LEN {
-            return Err(ScriptFault::ScriptLong);
-        }
-        if text.extend_from_slice(&piece[..count]).is_err() {
-            return Err(ScriptFault::Memory);
-        }
-    }
-    unreachable!()
 }
 
 /// Prints what the lines of a script say: the first two configure the ends.

@@ -1,5 +1,6 @@
 use Rattle.std.proofs.KnownBytes.{Keeps-refl}
 use Rattle.std.proofs.lemmas.Result.{err_from_is_err_and}
+use Rattle.macsec_lines.specs.declared.script.Place.TheVariants.{EndA}
 use Rattle.macsec_script.proofs.GoodEnds.{script_ends_good}
 use Rattle.macsec_script.proofs.Promised.{script_promised}
 use Rattle.macsec_script.proofs.Unwritten.{at_fault_read, after_running, left_alone, only_written}
@@ -30,4 +31,4 @@ returns-clause-promised g c =
     c.in_ok-lines.ensures c.as_slice-2.ensures.value _ c.print_script.ensures.promised
 
 pub print_script-requires : goal.print_script-requires
-print_script-requires g c = script_ends_good c.as_slice.result.now c.in_ok-lines.lines.items _ c.in_ok-lines.ensures c.as_slice-2.ensures.value
+print_script-requires g c = script_ends_good (c.parsed_lines_fit.ensures EndA) c.as_slice.result.now c.in_ok-lines.lines.items _ c.in_ok-lines.ensures c.as_slice-2.ensures.value

@@ -1,6 +1,6 @@
 use Rattle.std.proofs.Common.{◌≤◌, length}
 use Rattle.std.specs.Io.KnownBytes.{Consumes}
-use Rattle.macsec_script.proofs.running.read_text.Given as goal
+use Rattle.macsec_lines.proofs.text.read_text.Given as goal
 
 abbrev pub invariant-loop : goal.invariant-loop
 invariant-loop g l =

@@ -1,7 +1,7 @@
 -- The numbers of the faults of a world.
 use Rattle.std.specs.Prelude.{ℕ}
-use Rattle.macsec_link.specs.declared.WorldFault.{WorldFault}
-use Rattle.macsec_link.specs.declared.WorldFault.TheVariants.{Memory, NoFrame, LinkFull, AlterRange, Short, Long, Make}
+use Rattle.macsec_outcomes.specs.declared.WorldFault.{WorldFault}
+use Rattle.macsec_outcomes.specs.declared.WorldFault.TheVariants.{Memory, NoFrame, LinkFull, AlterRange, Short, Long, Make}
 
 -- each fault has a number of its own
 abbrev pub number_of_world_fault : WorldFault → ℕ
