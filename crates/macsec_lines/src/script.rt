@@ -1,8 +1,8 @@
 //! A script as its lines, those of the two ends and then the others; and the configuration of one end, as a script of
 //! its line and of commands at it.
 
-ghost use Rattle.std.specs.Prelude.{◌≡◌, ◌≤◌, length, map};
-ghost use Rattle.macsec_lines.specs.Limits.{max_line_count};
+ghost use Rattle.std.specs.Prelude.{◌≡◌, ◌≤◌, length, map, nat_lt};
+ghost use Rattle.macsec_lines.specs.Limits.{max_line_count, max_script_len};
 ghost use Rattle.macsec_lines.specs.Fields.{map_ok};
 ghost use Rattle.macsec_lines.specs.Scripts.{place_after, at_line, config_of, lines_from, lines_or_fault, script_of};
 ghost use Rattle.macsec_lines.specs.Readings.{Parses};
@@ -147,12 +147,19 @@ fn parse_lines(
     }
 }
 
+/// Does a text have more octets than a script may have?
+fn has_too_many_octets(text: &[u8]) -> bool
+    ensures { result ≡ nat_lt max_script_len (length text.now) }
+{
+    text.len() > MAX_SCRIPT_LEN
+}
+
 /// The lines of a text that are not skipped, the first of them in this place, with their numbers from 1, or the first
 /// fault.
 fn parse_text(alloc: Global, first: Place, text: &[u8]) -> Result<Vec<(u32, Line)>, ScriptFault>
     ensures { Parses (lines_or_fault first text.now) (map_ok (λ lines. lines.items) result) }
 {
-    if text.len() > MAX_SCRIPT_LEN {
+    if has_too_many_octets(text) {
         return Err(ScriptFault::ScriptLong);
     }
     let Ok(lines) = lines(alloc, text) else {
