@@ -6,7 +6,7 @@ use Rattle.std.specs.Io.KnownBytes.{Appends}
 use Rattle.std.proofs.KnownBytes.{Appends-trans}
 use Rattle.macsec_secy.specs.State.{State}
 use Rattle.macsec_pcap.specs.declared.fault.PcapFault.{PcapFault}
-use Rattle.macsec_pcap.specs.declared.fault.PcapFault.TheVariants.{Magic, Version, LinkType, CutHeader, CutRecord, RecordLength, Read, Write, Memory, RecordCount}
+use Rattle.macsec_pcap.specs.declared.fault.PcapFault.TheVariants.{Magic, Version, LinkType, CutHeader, CutRecord, RecordLength, Read, Write, Memory, RecordCount, BlockLength, NoInterface, InterfaceCount, Time}
 use Rattle.macsec_pcap.specs.Records.{CaptureRecord}
 use Rattle.macsec_pcap.specs.Captures.{Capture}
 use Rattle.macsec_pcap.specs.Answers.{UnlessRead}
@@ -224,6 +224,10 @@ unless_read direction first capture ahead old now s k taken same held CutRecord 
 unless_read direction first capture ahead old now s k taken same held RecordLength answer = at_fault direction first capture ahead old now s k held RecordLength answer
 unless_read direction first capture ahead old now s k taken same held Memory answer = at_fault direction first capture ahead old now s k held Memory answer
 unless_read direction first capture ahead old now s k taken same held RecordCount answer = at_fault direction first capture ahead old now s k held RecordCount answer
+unless_read direction first capture ahead old now s k taken same held BlockLength answer = at_fault direction first capture ahead old now s k held BlockLength answer
+unless_read direction first capture ahead old now s k taken same held NoInterface answer = at_fault direction first capture ahead old now s k held NoInterface answer
+unless_read direction first capture ahead old now s k taken same held InterfaceCount answer = at_fault direction first capture ahead old now s k held InterfaceCount answer
+unless_read direction first capture ahead old now s k taken same held Time answer = at_fault direction first capture ahead old now s k held Time answer
 
 pub taken_fault : (direction : Direction) (first : State) (begins ahead : Ahead) (old now : Written) (s : State) (k count : ℕ) (fault : PcapFault) → count ≡ k →
     AreTaken direction first begins ahead old now s k → Answers ahead (Err fault) → RunsRecords direction first begins count old now s (Err (Pcap fault))

@@ -12,7 +12,7 @@ use Rattle.macsec_lines.specs.declared.faults.ScriptFault.TheVariants as script
 use Rattle.macsec_print.specs.declared.counters.Label.TheVariants.{End}
 use Rattle.macsec_print.specs.Counters.{counters_text}
 use Rattle.macsec_pcap.specs.declared.fault.PcapFault.{PcapFault}
-use Rattle.macsec_pcap.specs.declared.fault.PcapFault.TheVariants.{Magic, Version, LinkType, CutHeader, CutRecord, RecordLength, Read, Write, Memory, RecordCount}
+use Rattle.macsec_pcap.specs.declared.fault.PcapFault.TheVariants.{Magic, Version, LinkType, CutHeader, CutRecord, RecordLength, Read, Write, Memory, RecordCount, BlockLength, NoInterface, InterfaceCount, Time}
 use Rattle.macsec_pcap.specs.declared.form.Resolution.{Resolution}
 use Rattle.macsec_pcap.specs.Captures.{CaptureFile, file_of}
 use Rattle.macsec_pcap.specs.Reading.{Opens, Reading, opened}
@@ -68,6 +68,10 @@ held_fault direction s file taken old mid new after first format CutHeader runs 
 held_fault direction s file taken old mid new after first format CutRecord runs = all_but_fault direction s file old mid new after CutRecord first runs
 held_fault direction s file taken old mid new after first format RecordLength runs = all_but_fault direction s file old mid new after RecordLength first runs
 held_fault direction s file taken old mid new after first format RecordCount runs = all_but_fault direction s file old mid new after RecordCount first runs
+held_fault direction s file taken old mid new after first format BlockLength runs = all_but_fault direction s file old mid new after BlockLength first runs
+held_fault direction s file taken old mid new after first format NoInterface runs = all_but_fault direction s file old mid new after NoInterface first runs
+held_fault direction s file taken old mid new after first format InterfaceCount runs = all_but_fault direction s file old mid new after InterfaceCount first runs
+held_fault direction s file taken old mid new after first format Time runs = all_but_fault direction s file old mid new after Time first runs
 
 held_script : (direction : Direction) (s : State) (file : CaptureFile) (taken : ℕ) (old mid new : Written) → Grows old mid (header_octets file.resolution) [] →
     (fault : ScriptFault) → fault ≡ script.Write → InLast file.capture.records taken (λ n. Appends mid.output new.output (first_part direction s file.capture.records n).output) →
@@ -175,7 +179,7 @@ same_stops direction ready (Err fault) = refl
 same_stops direction ready (Ok file) = refl
 
 unopened_gives : (direction : Direction) (s : State) (octets : List ℕ) (w : Written) (fault : PcapFault) →
-    Opens octets (Err fault) → CaptureGives (captured_after direction (nothing s) (file_of octets)) w w (Err (Pcap fault))
+    Opens (file_of octets) (Err fault) → CaptureGives (captured_after direction (nothing s) (file_of octets)) w w (Err (Pcap fault))
 unopened_gives direction s octets w Read h =
     subst (λ stops. AtSome stops (λ stop. Grows w w stop.output stop.text)) (same_stops direction (nothing s) (file_of octets))
     (some_at_first direction (nothing s) (file_of octets) (λ stop. Grows w w stop.output stop.text) (Grows-nothing w))
@@ -190,16 +194,20 @@ unopened_gives direction s octets w CutHeader h = header_fault direction s (file
 unopened_gives direction s octets w CutRecord h = header_fault direction s (file_of octets) w CutRecord h
 unopened_gives direction s octets w RecordLength h = header_fault direction s (file_of octets) w RecordLength h
 unopened_gives direction s octets w RecordCount h = header_fault direction s (file_of octets) w RecordCount h
+unopened_gives direction s octets w BlockLength h = header_fault direction s (file_of octets) w BlockLength h
+unopened_gives direction s octets w NoInterface h = header_fault direction s (file_of octets) w NoInterface h
+unopened_gives direction s octets w InterfaceCount h = header_fault direction s (file_of octets) w InterfaceCount h
+unopened_gives direction s octets w Time h = header_fault direction s (file_of octets) w Time h
 
 pub unopened : (direction : Direction) (s : State) (input : Option (List ℕ)) (w : Written) (fault : PcapFault) →
-    IfSome input (λ file. Opens file (Err fault)) → IfSome input (λ file. CaptureGives (captured_after direction (nothing s) (file_of file)) w w (Err (Pcap fault)))
+    IfSome input (λ file. Opens (file_of file) (Err fault)) → IfSome input (λ file. CaptureGives (captured_after direction (nothing s) (file_of file)) w w (Err (Pcap fault)))
 unopened direction s None w fault h = tt
 unopened direction s (Some octets) w fault h = unopened_gives direction s octets w fault h
 
 -- ---- a file that was opened
 
 pub opened_gives : (direction : Direction) (s : State) (input : Option (List ℕ)) (reader : Reading) (old new : Written) (answer : Result (Unit {0}) CaptureFault) →
-    IfSome input (λ file. Opens file (Ok reader)) →
+    IfSome input (λ file. Opens (file_of file) (Ok reader)) →
     ((octets : List ℕ) (file : CaptureFile) → file_of octets ≡ Ok file → reader ≡ opened file → CaptureGives (of_file direction s file) old new answer) →
     IfSome input (λ file. CaptureGives (captured_after direction (nothing s) (file_of file)) old new answer)
 opened_gives direction s None reader old new answer opens gives = tt
@@ -234,6 +242,10 @@ behind_fault lines whole old mid new same prints CutHeader gives = (gives.0, beh
 behind_fault lines whole old mid new same prints CutRecord gives = (gives.0, behind_grown lines whole.output whole.text old mid new same prints gives.1)
 behind_fault lines whole old mid new same prints RecordLength gives = (gives.0, behind_grown lines whole.output whole.text old mid new same prints gives.1)
 behind_fault lines whole old mid new same prints RecordCount gives = (gives.0, behind_grown lines whole.output whole.text old mid new same prints gives.1)
+behind_fault lines whole old mid new same prints BlockLength gives = (gives.0, behind_grown lines whole.output whole.text old mid new same prints gives.1)
+behind_fault lines whole old mid new same prints NoInterface gives = (gives.0, behind_grown lines whole.output whole.text old mid new same prints gives.1)
+behind_fault lines whole old mid new same prints InterfaceCount gives = (gives.0, behind_grown lines whole.output whole.text old mid new same prints gives.1)
+behind_fault lines whole old mid new same prints Time gives = (gives.0, behind_grown lines whole.output whole.text old mid new same prints gives.1)
 
 behind_script : (lines : List ℕ) (whole : Captured) (old mid new : Written) → mid.output ≡ old.output → (fault : ScriptFault) → fault ≡ script.Write →
     CaptureGives whole mid new (Err (Script fault)) → CaptureGives (behind lines whole) old new (Err (Script fault))

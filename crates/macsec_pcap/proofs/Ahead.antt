@@ -2,7 +2,7 @@
 use Rattle.std.proofs.Common.{◌≡◌, ℕ, zero, suc, ◌-◌, ◌≤◌, List, [], drop, refl, sym, ap, subst, ◌∙◌, arith}
 use Rattle.std.specs.Prelude.{Option, Some, None, IfSome, Result, Ok, Err}
 use Rattle.macsec_pcap.specs.declared.fault.PcapFault.{PcapFault}
-use Rattle.macsec_pcap.specs.declared.fault.PcapFault.TheVariants.{Magic, Version, LinkType, CutHeader, CutRecord, RecordLength, Read, Write, Memory, RecordCount}
+use Rattle.macsec_pcap.specs.declared.fault.PcapFault.TheVariants.{Magic, Version, LinkType, CutHeader, CutRecord, RecordLength, Read, Write, Memory, RecordCount, BlockLength, NoInterface, InterfaceCount, Time}
 use Rattle.macsec_pcap.specs.declared.form.Form.{Form}
 use Rattle.macsec_pcap.specs.declared.form.Order.{Order}
 use Rattle.macsec_pcap.specs.declared.reader.Course.{Course}
@@ -10,7 +10,7 @@ use Rattle.macsec_pcap.specs.declared.reader.Course.TheVariants.{Going, Ended, F
 use Rattle.macsec_pcap.specs.declared.records.Head.{Head}
 use Rattle.macsec_pcap.specs.Limits.{max_records}
 use Rattle.macsec_pcap.specs.Records.{CaptureRecord}
-use Rattle.macsec_pcap.specs.Captures.{Capture, begun_by, file_in, followed_by, record_within, records_of}
+use Rattle.macsec_pcap.specs.Captures.{Capture, begun_by, file_in, file_of, followed_by, record_within, records_of}
 use Rattle.macsec_pcap.specs.Answers.{ReadsHeader, TakesRecord, UnlessRead, record_in}
 use Rattle.macsec_pcap.specs.Reading.{holds, Answers, IsAfter, IsAhead, Opens, Reading, ahead_after, ahead_of, first_of, past_first, told}
 
@@ -48,6 +48,10 @@ unless_read-shown begins RecordLength h = ap shows h
 unless_read-shown begins Write h = ap shows h
 unless_read-shown begins Memory h = ap shows h
 unless_read-shown begins RecordCount h = ap shows h
+unless_read-shown begins BlockLength h = ap shows h
+unless_read-shown begins NoInterface h = ap shows h
+unless_read-shown begins InterfaceCount h = ap shows h
+unless_read-shown begins Time h = ap shows h
 
 -- a fault is returned
 pub answers_fault : (order : Order) (places : ℕ) (old new : Option (List ℕ)) (room : List ℕ) (fault : PcapFault) →
@@ -86,7 +90,7 @@ ahead_of_rest order (suc places) (Some octets) new room numbers first place take
 
 -- a reader at the first record
 pub opens : (old new : Option (List ℕ)) (form : Form) → IfSome old (λ file. ReadsHeader file new (Ok form)) →
-    IfSome old (λ file. Opens file (Ok (record { resolution = form.resolution; places = max_records; ahead = told form.order max_records new })))
+    IfSome old (λ file. Opens (file_of file) (Ok (record { resolution = form.resolution; places = max_records; ahead = told form.order max_records new })))
 opens None new form read = tt
 opens (Some file) new form read = (
   record { resolution = form.resolution; capture = records_of form.order max_records (drop 24 file) },

@@ -3,7 +3,7 @@ use Rattle.std.proofs.Common.{◌≡◌, ℕ, ◌≤◌, List, ◌++◌, length,
 use Rattle.std.specs.Prelude.{Option, Some, None, IfSome, Result, Ok, Err, false, nat_lt}
 use Rattle.std.proofs.lemmas.Bool.{le-ltb}
 use Rattle.macsec_pcap.specs.declared.fault.PcapFault.{PcapFault}
-use Rattle.macsec_pcap.specs.declared.fault.PcapFault.TheVariants.{Magic, Version, LinkType, CutHeader, CutRecord, RecordLength, Read, Write, Memory, RecordCount}
+use Rattle.macsec_pcap.specs.declared.fault.PcapFault.TheVariants.{Magic, Version, LinkType, CutHeader, CutRecord, RecordLength, Read, Write, Memory, RecordCount, BlockLength, NoInterface, InterfaceCount, Time}
 use Rattle.macsec_pcap.specs.declared.form.Form.{Form}
 use Rattle.macsec_pcap.specs.declared.form.Order.TheVariants.{Big, Little}
 use Rattle.macsec_pcap.specs.Filled.{IsFilled}
@@ -25,6 +25,10 @@ UnlessRead-same meant (Err RecordLength) same = same
 UnlessRead-same meant (Err Write) same = same
 UnlessRead-same meant (Err Memory) same = same
 UnlessRead-same meant (Err RecordCount) same = same
+UnlessRead-same meant (Err BlockLength) same = same
+UnlessRead-same meant (Err NoInterface) same = same
+UnlessRead-same meant (Err InterfaceCount) same = same
+UnlessRead-same meant (Err Time) same = same
 
 form_of-append : (header rest : List ℕ) → 4 ≤ length header → form_of (header ++ rest) ≡ form_of header
 form_of-append header rest long = rw (number-append Big 4 header rest long, number-append Little 4 header rest long) refl

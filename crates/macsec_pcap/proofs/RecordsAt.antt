@@ -6,7 +6,7 @@ use Rattle.std.proofs.lemmas.Bool.Decides.{nat_tests}
 use Rattle.std.proofs.lemmas.List.{drop_at}
 use Rattle.std.proofs.Math.Seq.{drop-append-add}
 use Rattle.macsec_pcap.specs.declared.fault.PcapFault.{PcapFault}
-use Rattle.macsec_pcap.specs.declared.fault.PcapFault.TheVariants.{Magic, Version, LinkType, CutHeader, CutRecord, RecordLength, Read, Write, Memory, RecordCount}
+use Rattle.macsec_pcap.specs.declared.fault.PcapFault.TheVariants.{Magic, Version, LinkType, CutHeader, CutRecord, RecordLength, Read, Write, Memory, RecordCount, BlockLength, NoInterface, InterfaceCount, Time}
 use Rattle.macsec_pcap.specs.declared.form.Order.{Order}
 use Rattle.macsec_pcap.specs.declared.records.Head.{Head}
 use Rattle.macsec_pcap.specs.Filled.{IsFilled}
@@ -117,6 +117,10 @@ fails head behind after new room CutHeader h = cc
 fails head behind after new room Write h = cc
 fails head behind after new room Memory h = cc
 fails head behind after new room RecordCount h = cc
+fails head behind after new room BlockLength h = cc
+fails head behind after new room NoInterface h = cc
+fails head behind after new room InterfaceCount h = cc
+fails head behind after new room Time h = cc
 
 -- a read of a record's captured octets failed
 pub takes_fault : (order : Order) (places : ℕ) (old mid new : Option (List ℕ)) (head room : List ℕ) (n : ℕ) (numbers : Head) (fault : PcapFault) →

@@ -1,7 +1,7 @@
 -- The numbers and the names of the faults of capture files.
 use Rattle.std.specs.Prelude.{ℕ, List, codes}
 use Rattle.macsec_pcap.specs.declared.fault.PcapFault.{PcapFault}
-use Rattle.macsec_pcap.specs.declared.fault.PcapFault.TheVariants.{Magic, Version, LinkType, CutHeader, CutRecord, RecordLength, Read, Write, Memory, RecordCount}
+use Rattle.macsec_pcap.specs.declared.fault.PcapFault.TheVariants.{Magic, Version, LinkType, CutHeader, CutRecord, RecordLength, Read, Write, Memory, RecordCount, BlockLength, NoInterface, InterfaceCount, Time}
 
 abbrev pub number_of_fault : PcapFault → ℕ
 number_of_fault Magic = 1
@@ -14,6 +14,10 @@ number_of_fault Read = 7
 number_of_fault Write = 8
 number_of_fault Memory = 9
 number_of_fault RecordCount = 10
+number_of_fault BlockLength = 11
+number_of_fault NoInterface = 12
+number_of_fault InterfaceCount = 13
+number_of_fault Time = 14
 
 abbrev pub name_of_fault : PcapFault → List ℕ
 name_of_fault Magic = codes "Magic"
@@ -26,3 +30,7 @@ name_of_fault Read = codes "Read"
 name_of_fault Write = codes "Write"
 name_of_fault Memory = codes "Memory"
 name_of_fault RecordCount = codes "RecordCount"
+name_of_fault BlockLength = codes "BlockLength"
+name_of_fault NoInterface = codes "NoInterface"
+name_of_fault InterfaceCount = codes "InterfaceCount"
+name_of_fault Time = codes "Time"

@@ -9,7 +9,7 @@ use Rattle.macsec_pcap.specs.declared.reader.Course.TheVariants.{Going, Ended, F
 use Rattle.macsec_pcap.specs.Limits.{max_records}
 use Rattle.macsec_pcap.specs.Answers.{UnlessRead}
 use Rattle.macsec_pcap.specs.Records.{CaptureRecord}
-use Rattle.macsec_pcap.specs.Captures.{Capture, CaptureFile, records_of, file_of}
+use Rattle.macsec_pcap.specs.Captures.{Capture, CaptureFile, records_of}
 
 -- what lies ahead: nothing, since the end of the file or a fault was returned; records and what is after them; or what is
 -- not known, if the source doesn't tell its octets
@@ -39,11 +39,12 @@ ahead_of (Failed fault) order places octets = failed fault
 abbrev pub opened : CaptureFile → Reading
 opened file = record { resolution = file.resolution; places = max_records; ahead = holds file.capture }
 
--- of `new`: a reader of the file, or the fault of its header, unless it is out of memory or a read failed first
-abbrev pub Opens : List ℕ → Result Reading PcapFault → Type 0
-Opens file (Ok reading) = (whole : CaptureFile) × (file_of file ≡ Ok whole) × (reading ≡ opened whole)
-Opens file (Err Memory) = Unit {0}
-Opens file (Err fault) = UnlessRead (file_of file) (Err fault)
+-- of `new`, by what the file is: a reader of it, or the fault of its header, unless it is out of memory or a read failed
+-- first
+abbrev pub Opens : Result CaptureFile PcapFault → Result Reading PcapFault → Type 0
+Opens meant (Ok reading) = (whole : CaptureFile) × (meant ≡ Ok whole) × (reading ≡ opened whole)
+Opens meant (Err Memory) = Unit {0}
+Opens meant (Err fault) = UnlessRead meant (Err fault)
 
 -- what comes first of what a file holds
 abbrev pub first_of : Capture → Result (Option CaptureRecord) PcapFault

@@ -8,11 +8,11 @@ use thiserror::Error;
 /// Why a capture file is not read or written. A reader or writer that has returned one returns it at each later call.
 #[derive(Clone, Copy, PartialEq, Eq, Debug, Error)]
 pub enum PcapFault {
-    /// The file begins with none of the format's magic numbers, in either order of octets.
+    /// The file begins with none of the format's magic numbers, in either order of octets; or a section does.
     #[error("the file begins with no magic number of the format")]
     Magic = 1,
-    /// The version of the format is not 2.4.
-    #[error("the version of the format is not 2.4")]
+    /// The version is not one of the format: 2.4 (pcap), 1.0 or 1.2 (pcapng).
+    #[error("the version is not one of the format")]
     Version = 2,
     /// The link type is not that of Ethernet.
     #[error("the link type is not that of Ethernet")]
@@ -38,10 +38,22 @@ pub enum PcapFault {
     /// The file goes on after 16,777,216 records.
     #[error("the file has too many records")]
     RecordCount = 10,
+    /// The two lengths of a block disagree, or its length is no multiple of four or too small for what it holds.
+    #[error("a block has a wrong length")]
+    BlockLength = 11,
+    /// A packet is of an interface that its section does not describe.
+    #[error("a packet's interface is not described")]
+    NoInterface = 12,
+    /// A section describes more than 256 interfaces.
+    #[error("a section has too many interfaces")]
+    InterfaceCount = 13,
+    /// A time is before 1970, or its seconds have more than 32 bits.
+    #[error("a time is out of range")]
+    Time = 14,
 }
 
 impl PcapFault {
-    /// The number of the fault, 1 to 10.
+    /// The number of the fault, 1 to 14.
     pub fn number(self) -> u8
         ensures { result ≡ number_of_fault self }
     {
@@ -63,6 +75,10 @@ impl PcapFault {
             PcapFault::Write => "Write",
             PcapFault::Memory => "Memory",
             PcapFault::RecordCount => "RecordCount",
+            PcapFault::BlockLength => "BlockLength",
+            PcapFault::NoInterface => "NoInterface",
+            PcapFault::InterfaceCount => "InterfaceCount",
+            PcapFault::Time => "Time",
         }
     }
 }

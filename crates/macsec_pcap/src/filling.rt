@@ -7,7 +7,7 @@ use std::io::Read;
 
 /// Fills the room from the front, or as much of it as the reader has octets for, and returns how many it got. A read
 /// of no octet is the reader's end; a read that fails is `Read`, and is not tried again.
-pub(crate) fn fill<R: Read>(source: &mut R, room: &mut [u8]) -> Result<usize, PcapFault>
+pub fn fill<R: Read>(source: &mut R, room: &mut [u8]) -> Result<usize, PcapFault>
     ensures { Fills (R.remaining source.old) (R.remaining source.new) room.new result }
 {
     let mut filled = 0;

@@ -23,7 +23,7 @@ pub enum Resolution {
 
 /// The order of the octets of a number.
 #[derive(Clone, Copy)]
-pub(crate) enum Order {
+pub enum Order {
     /// The highest octet first.
     Big,
     /// The lowest octet first.
@@ -62,7 +62,7 @@ impl Resolution {
 
 impl Order {
     /// The number in the first two octets.
-    pub(crate) fn u16(self, octets: &[u8]) -> u16
+    pub fn u16(self, octets: &[u8]) -> u16
         requires { 2 ≤ length octets.now }
         ensures { result ≡ number self 2 octets.now }
     {
@@ -73,13 +73,24 @@ impl Order {
     }
 
     /// The number in the first four octets.
-    pub(crate) fn u32(self, octets: &[u8]) -> u32
+    pub fn u32(self, octets: &[u8]) -> u32
         requires { 4 ≤ length octets.now }
         ensures { result ≡ number self 4 octets.now }
     {
         match self {
             Order::Big => BigEndian::read_u32(octets),
             Order::Little => LittleEndian::read_u32(octets),
+        }
+    }
+
+    /// The number in the first eight octets.
+    pub fn u64(self, octets: &[u8]) -> u64
+        requires { 8 ≤ length octets.now }
+        ensures { result ≡ number self 8 octets.now }
+    {
+        match self {
+            Order::Big => BigEndian::read_u64(octets),
+            Order::Little => LittleEndian::read_u64(octets),
         }
     }
 }

@@ -16,6 +16,8 @@
 //! `RecordLength` is returned exactly for a frame of more than 262,144 octets, by a writer that has not returned a
 //! fault; the only other fault is `Write`; after a fault each later call returns that fault. The law
 //! `laws::read_again`: a file of at most 16,777,216 records that is written so is read as those records.
+//!
+//! `fill` and the numbers of `Order` serve the readers of other formats too; the faults from `BlockLength` on are theirs.
 #![tactic(auto)]
 
 mod fault;
@@ -28,7 +30,8 @@ mod records;
 mod writer;
 
 pub use fault::PcapFault;
-pub use form::Resolution;
+pub use filling::fill;
+pub use form::{Order, Resolution};
 pub use reader::PcapReader;
 pub use records::{Body, MAX_RECORD_LEN, MAX_RECORDS, Record};
 pub use writer::{PcapWriter, write_header};

@@ -5,6 +5,7 @@ ghost use Rattle.std.specs.Borrow.{sem};
 ghost use Rattle.std.specs.Io.BufRead.{Rests};
 ghost use Rattle.macsec_pcap.specs.contracts.reader.PcapReader.{the_row};
 ghost use Rattle.macsec_pcap.specs.Answers.{answer_of};
+ghost use Rattle.macsec_pcap.specs.Captures.{file_of};
 ghost use Rattle.macsec_pcap.specs.Limits.{max_records};
 ghost use Rattle.macsec_pcap.specs.Reading.{Answers, IsAfter, Opens};
 
@@ -54,7 +55,7 @@ impl<R: Read + Drop> PcapReader<R> {
     /// Reads the header of a file from its source, in either order of octets. Returns the first fault of the header,
     /// `Read` if a read fails first, or `Memory`.
     pub fn new(alloc: Global, mut source: R) -> Result<PcapReader<R>, PcapFault>
-        ensures opened { IfSome (R.remaining source) (λ file. Opens file result) }
+        ensures opened { IfSome (R.remaining source) (λ file. Opens (file_of file) result) }
         ensures places { IfOk result (λ reader. reader.places ≡ max_records) }
     {
         let form = read_header(&mut source)?;

@@ -113,12 +113,12 @@ const WORLD: [(WorldFault, &str); 7] = [
     ),
 ];
 
-const PCAP: [(PcapFault, &str); 10] = [
+const PCAP: [(PcapFault, &str); 14] = [
     (
         PcapFault::Magic,
         "the file begins with no magic number of the format",
     ),
-    (PcapFault::Version, "the version of the format is not 2.4"),
+    (PcapFault::Version, "the version is not one of the format"),
     (PcapFault::LinkType, "the link type is not that of Ethernet"),
     (PcapFault::CutHeader, "the file ends within its header"),
     (PcapFault::CutRecord, "the file ends within a record"),
@@ -127,6 +127,16 @@ const PCAP: [(PcapFault, &str); 10] = [
     (PcapFault::Write, "the file can't be written"),
     (PcapFault::Memory, "out of memory"),
     (PcapFault::RecordCount, "the file has too many records"),
+    (PcapFault::BlockLength, "a block has a wrong length"),
+    (
+        PcapFault::NoInterface,
+        "a packet's interface is not described",
+    ),
+    (
+        PcapFault::InterfaceCount,
+        "a section has too many interfaces",
+    ),
+    (PcapFault::Time, "a time is out of range"),
 ];
 
 const SCRIPT: [(ScriptFault, &str); 10] = [
