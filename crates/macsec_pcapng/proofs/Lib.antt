@@ -1,0 +1,5 @@
+pub mod TakenOctets
+pub mod TakenBlocks
+pub mod Options
+pub mod OneTaken
+pub mod Ahead

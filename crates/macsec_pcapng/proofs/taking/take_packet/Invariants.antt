@@ -1,0 +1,10 @@
+use Rattle.macsec_pcapng.proofs.Ahead.{Goes}
+use Rattle.macsec_pcapng.proofs.taking.take_packet.Given as goal
+
+-- what is held from here on is what is held from the start on
+abbrev pub invariant-loop-blocks : goal.invariant-loop-blocks
+invariant-loop-blocks g l =
+    Goes l.initial.blocks l.initial.section (g.R.Read.remaining l.initial.source) l.blocks l.section (g.R.Read.remaining l.source)
+
+abbrev pub decreases-loop-blocks : goal.decreases-loop-blocks
+decreases-loop-blocks g l = l.blocks

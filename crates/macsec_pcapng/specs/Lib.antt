@@ -1,0 +1,10 @@
+pub mod Limits
+pub mod Blocks
+pub mod Interfaces
+pub mod Times
+pub mod Packets
+pub mod Section
+pub mod Sections
+pub mod Files
+pub mod Answers
+pub mod Reading

@@ -1,0 +1,155 @@
+//! The interfaces of a section, and the options that describe them.
+
+ghost use Rattle.std.specs.Prelude.{◌≡◌, ◌<◌, ◌≤◌, IfOk, IfSome, length};
+ghost use Rattle.macsec_pcapng.specs.Interfaces.{interface_of, is_ethernet, option_at, options_in, padded, plain_interface, with_option};
+ghost use Rattle.macsec_pcapng.specs.Limits.{max_options};
+
+use crate::blocks::ROOM_LEN;
+use macsec_pcap::{Order, PcapFault};
+
+/// The link type of Ethernet.
+const ETHERNET: u16 = 1;
+
+/// The code of the option behind the last one.
+const END_OF_OPTIONS: u16 = 0;
+
+/// The code of the option with the unit of the times, if_tsresol.
+const TIME_RESOLUTION: u16 = 9;
+
+/// The code of the option with the offset of the times, if_tsoffset.
+const TIME_OFFSET: u16 = 14;
+
+/// The unit of the times of an interface without that option: microseconds.
+const MICROSECONDS: u8 = 6;
+
+/// How many options there are at most; as many as the room has place for.
+const MAX_OPTIONS: u32 = 65_541;
+
+/// An interface, as its description says.
+#[derive(Clone, Copy, Default)]
+pub(crate) struct Interface {
+    /// Its link type.
+    pub(crate) link_type: u16,
+    /// The most octets of a packet that it captures, or 0 if there is no such limit.
+    pub(crate) snap_len: u32,
+    /// The unit of its times, as if_tsresol has it.
+    pub(crate) resolution: u8,
+    /// The seconds to be added to its times, as if_tsoffset has them: in two's complement.
+    pub(crate) offset: u64,
+}
+
+impl Interface {
+    /// Is it one of Ethernet?
+    pub(crate) fn is_ethernet(self) -> bool
+        ensures { result ≡ is_ethernet self }
+    {
+        self.link_type == ETHERNET
+    }
+}
+
+/// The interface that a body of so many octets describes, which begins with these.
+pub(crate) fn interface_of(order: Order, len: u32, front: &[u8]) -> Result<Interface, PcapFault>
+    requires { 8 ≤ length front.now }
+    ensures { result ≡ interface_of order len front.now }
+{
+    if len as usize > ROOM_LEN {
+        return Err(PcapFault::BlockLength);
+    }
+    with_options(order, &front[8..], plain_interface(order, front))
+}
+
+/// The interface without its options.
+fn plain_interface(order: Order, front: &[u8]) -> Interface
+    requires { 8 ≤ length front.now }
+    ensures { result ≡ plain_interface order front.now }
+{
+    Interface {
+        link_type: order.u16(front),
+        snap_len: order.u32(&front[4..]),
+        resolution: MICROSECONDS,
+        offset: 0,
+    }
+}
+
+/// The interface by these options.
+fn with_options(order: Order, octets: &[u8], plain: Interface) -> Result<Interface, PcapFault>
+    ensures { result ≡ options_in order max_options octets.now plain }
+{
+    let mut rest = octets;
+    let mut interface = plain;
+    for _ in 0..MAX_OPTIONS {
+        match option_at(order, rest, interface) {
+            Ok(Some((described, len))) => {
+                interface = described;
+                rest = &rest[len..];
+            }
+            Ok(None) => return Ok(interface),
+            Err(fault) => return Err(fault),
+        }
+    }
+    Ok(interface)
+}
+
+/// The interface by the option that begins here, and how many octets this has; none behind the last option.
+fn option_at(
+    order: Order,
+    octets: &[u8],
+    interface: Interface,
+) -> Result<Option<(Interface, usize)>, PcapFault>
+    ensures option { result ≡ option_at order octets.now interface }
+    ensures fits { IfOk result (λ some. IfSome some (λ found. found.1 ≤ length octets.now)) }
+{
+    if octets.len() < 4 || order.u16(octets) == END_OF_OPTIONS {
+        return Ok(None);
+    }
+    let value_len = usize::from(order.u16(&octets[2..]));
+    let len = 4 + padded(value_len);
+    if octets.len() < len {
+        return Err(PcapFault::BlockLength);
+    }
+    let described = with_option(
+        order,
+        interface,
+        order.u16(octets),
+        &octets[4..4 + value_len],
+    );
+    Ok(Some((described?, len)))
+}
+
+/// How many octets a value has with its padding.
+fn padded(len: usize) -> usize
+    requires { len < 65536 }
+    ensures padded { result ≡ padded len }
+    ensures within { len ≤ result }
+{
+    (len + 3) / 4 * 4
+}
+
+/// The interface by the option with this code and value.
+fn with_option(
+    order: Order,
+    interface: Interface,
+    code: u16,
+    value: &[u8],
+) -> Result<Interface, PcapFault>
+    ensures { result ≡ with_option order interface code value.now }
+{
+    let mut described = interface;
+    match code {
+        TIME_RESOLUTION => {
+            if value.len() != 1 {
+                return Err(PcapFault::BlockLength);
+            }
+            described.resolution = value[0];
+            Ok(described)
+        }
+        TIME_OFFSET => {
+            if value.len() != 8 {
+                return Err(PcapFault::BlockLength);
+            }
+            described.offset = order.u64(value);
+            Ok(described)
+        }
+        _ => Ok(interface),
+    }
+}

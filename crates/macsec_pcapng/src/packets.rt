@@ -1,0 +1,146 @@
+//! The packets of a section.
+
+ghost use Rattle.std.specs.Prelude.{◌≡◌, ◌≤◌, ◌+◌, IfOk, length};
+ghost use Rattle.macsec_pcap.specs.Answers.{shown};
+ghost use Rattle.macsec_pcapng.specs.Blocks.{kept};
+ghost use Rattle.macsec_pcapng.specs.Packets.{enhanced, packet_of, record_in, simple, ticks, within_snap};
+
+use crate::interfaces::Interface;
+use crate::times::Time;
+use macsec_pcap::{Body, MAX_RECORD_LEN, Order, PcapFault, Record};
+
+/// How many octets an enhanced packet has before its own: interface, time, captured length and original length.
+const ENHANCED_LEN: usize = 20;
+
+/// How many octets a simple packet has before its own: the original length.
+const SIMPLE_LEN: usize = 4;
+
+/// A packet: its time, where its octets stand in the body of its block, and how many were captured of how many.
+#[derive(Clone, Copy)]
+pub(crate) struct Packet {
+    pub(crate) seconds: u32,
+    pub(crate) fraction: u32,
+    pub(crate) start: usize,
+    pub(crate) captured: u32,
+    pub(crate) original: u32,
+}
+
+impl Packet {
+    /// Its record, if the room begins with the body of its block.
+    pub(crate) fn record(self, room: &[u8]) -> Record<'_>
+        requires { self.start + self.captured ≤ length room.now }
+        ensures { shown result ≡ record_in self room.now }
+    {
+        let body = if self.captured < self.original {
+            Body::Partial
+        } else {
+            Body::Whole(&room[self.start..][..self.captured as usize])
+        };
+        Record {
+            seconds: self.seconds,
+            fraction: self.fraction,
+            body,
+        }
+    }
+}
+
+/// The packet of an enhanced packet block whose body has so many octets and begins with these.
+pub(crate) fn enhanced(
+    interfaces: &[Interface],
+    order: Order,
+    len: u32,
+    front: &[u8],
+) -> Result<Packet, PcapFault>
+    requires { 20 ≤ length front.now }
+    ensures packet { result ≡ enhanced interfaces.now order len front.now }
+    ensures fits { IfOk result (λ packet. packet.start + packet.captured ≤ kept len) }
+{
+    let Some(interface) = interfaces.get(order.u32(front) as usize) else {
+        return Err(PcapFault::NoInterface);
+    };
+    if !interface.is_ethernet() {
+        return Err(PcapFault::LinkType);
+    }
+    let time = interface.time(ticks(order, front));
+    let captured = order.u32(&front[12..]);
+    packet_of(time, len, ENHANCED_LEN, captured, order.u32(&front[16..]))
+}
+
+/// The time of an enhanced packet, in the units of its interface.
+fn ticks(order: Order, front: &[u8]) -> u64
+    requires { 20 ≤ length front.now }
+    ensures { result ≡ ticks order front.now }
+{
+    let high = u64::from(order.u32(&front[4..]));
+    let low = u64::from(order.u32(&front[8..]));
+    high * (1 << 32) + low
+}
+
+/// The packet of a simple packet block whose body has so many octets and begins with these.
+pub(crate) fn simple(
+    interfaces: &[Interface],
+    order: Order,
+    len: u32,
+    front: &[u8],
+) -> Result<Packet, PcapFault>
+    requires { 4 ≤ length front.now }
+    ensures packet { result ≡ simple interfaces.now order len front.now }
+    ensures fits { IfOk result (λ packet. packet.start + packet.captured ≤ kept len) }
+{
+    let Some(interface) = interfaces.first() else {
+        return Err(PcapFault::NoInterface);
+    };
+    if !interface.is_ethernet() {
+        return Err(PcapFault::LinkType);
+    }
+    let original = order.u32(front);
+    let captured = within_snap(interface.snap_len, original);
+    let time = Time {
+        seconds: 0,
+        nanoseconds: 0,
+    };
+    packet_of(Some(time), len, SIMPLE_LEN, captured, original)
+}
+
+/// How many octets of a packet are captured by this snap length, which is 0 if there is no limit.
+fn within_snap(snap: u32, original: u32) -> u32
+    ensures { result ≡ within_snap snap original }
+{
+    if snap == 0 {
+        return original;
+    }
+    if snap < original {
+        return snap;
+    }
+    original
+}
+
+/// The packet of which so many octets were captured, which stand behind the first `start` of a body.
+fn packet_of(
+    time: Option<Time>,
+    len: u32,
+    start: usize,
+    captured: u32,
+    original: u32,
+) -> Result<Packet, PcapFault>
+    requires { start ≤ 20 }
+    ensures packet { result ≡ packet_of time len start captured original }
+    ensures fits { IfOk result (λ packet. packet.start + packet.captured ≤ kept len) }
+{
+    if captured as usize > MAX_RECORD_LEN {
+        return Err(PcapFault::RecordLength);
+    }
+    if (len as usize) < start + captured as usize {
+        return Err(PcapFault::BlockLength);
+    }
+    let Some(time) = time else {
+        return Err(PcapFault::Time);
+    };
+    Ok(Packet {
+        seconds: time.seconds,
+        fraction: time.nanoseconds,
+        start,
+        captured,
+        original,
+    })
+}

@@ -1,0 +1,100 @@
+//! A section, and what its blocks make of it.
+
+ghost use Rattle.std.specs.Prelude.{◌≡◌, ◌≤◌, ◌+◌, IfOk, IfSome, length};
+ghost use Rattle.macsec_pcapng.specs.Answers.{IsLeft, IsMade, block_by};
+ghost use Rattle.macsec_pcapng.specs.Blocks.{kept, least_length};
+ghost use Rattle.macsec_pcapng.specs.Sections.{is_version, left_by, new_section, with_one_more};
+
+use crate::blocks::{ENHANCED_PACKET, Head, INTERFACE_DESCRIPTION, SECTION_HEADER, SIMPLE_PACKET};
+use crate::interfaces::{Interface, interface_of};
+use crate::packets::{Packet, enhanced, simple};
+use arrayvec::ArrayVec;
+use macsec_pcap::{Order, PcapFault};
+use std::marker::Model;
+
+/// A section, as far as it was read: the order of its numbers, and its interfaces, up to 256.
+#[derive(Drop)]
+pub(crate) struct Section {
+    order: Order,
+    interfaces: ArrayVec<Interface, 256>,
+}
+
+impl Model for Section {
+    ghost use Rattle.macsec_pcapng.specs.Section.{Section};
+
+    ghost Value = { Section };
+
+    ghost view = { λ s. record { order = s.order; interfaces = s.interfaces.items } };
+}
+
+impl Section {
+    /// The section whose header has this order and a body that begins with these octets.
+    pub(crate) fn new(order: Order, front: &[u8]) -> Result<Section, PcapFault>
+        requires { 16 ≤ length front.now }
+        ensures { result ≡ new_section order front.now }
+    {
+        if !is_version(order, front) {
+            return Err(PcapFault::Version);
+        }
+        Ok(Section {
+            order,
+            interfaces: ArrayVec::new(),
+        })
+    }
+
+    /// The order of its numbers.
+    pub(crate) fn order(&self) -> Order
+        ensures { result ≡ self.now.order }
+    {
+        self.order
+    }
+
+    /// Carries out the block with this head, whose body begins with these octets, and returns its packet, if it has one.
+    pub(crate) fn take(&mut self, head: Head, front: &[u8]) -> Result<Option<Packet>, PcapFault>
+        requires front { length front.now ≡ kept head.len }
+        requires least { least_length head.kind ≤ head.len + 12 }
+        ensures left { IsLeft (left_by self.old (block_by head front.now)) self.new result }
+        ensures fits { IfOk result (λ some. IfSome some (λ packet. packet.start + packet.captured ≤ kept head.len)) }
+    {
+        let (order, len) = (head.order, head.len);
+        match head.kind {
+            SECTION_HEADER => {
+                *self = Section::new(order, front)?;
+                Ok(None)
+            }
+            INTERFACE_DESCRIPTION => {
+                self.describe(interface_of(order, len, front)?)?;
+                Ok(None)
+            }
+            ENHANCED_PACKET => {
+                let packet = enhanced(self.interfaces.as_slice(), order, len, front)?;
+                Ok(Some(packet))
+            }
+            SIMPLE_PACKET => {
+                let packet = simple(self.interfaces.as_slice(), order, len, front)?;
+                Ok(Some(packet))
+            }
+            _ => Ok(None),
+        }
+    }
+
+    /// Adds an interface, the last, or returns `InterfaceCount`.
+    fn describe(&mut self, interface: Interface) -> Result<(), PcapFault>
+        ensures { IsMade (with_one_more self.old interface) self.new result }
+    {
+        if self.interfaces.is_full() {
+            return Err(PcapFault::InterfaceCount);
+        }
+        self.interfaces.push(interface);
+        Ok(())
+    }
+}
+
+/// Is the version of the format 1.0, or 1.2, which some writers put in its place?
+fn is_version(order: Order, front: &[u8]) -> bool
+    requires { 16 ≤ length front.now }
+    ensures { result ≡ is_version order front.now }
+{
+    let minor = order.u16(&front[6..]);
+    order.u16(&front[4..]) == 1 && (minor == 0 || minor == 2)
+}
