@@ -529,15 +529,23 @@ fn failing_reads(rt: HostRuntime) -> Result<(), Fail> {
     Ok(())
 }
 
-/// A block of this total length whose type is these four octets, with a body of octets 0.
-fn block(alloc: Global, head: &str, len: usize) -> Result<Vec<u8>, Fail> {
-    let mut block = hex::decode(alloc, head)?;
-    let total = (len as u32).to_le_bytes();
-    block.extend_from_slice(&total)?;
-    for _ in 12..len {
-        block.push(0)?;
+/// So many octets 0.
+fn zeros(alloc: Global, len: usize) -> Result<Vec<u8>, Fail> {
+    let mut octets = Vec::new(alloc);
+    for _ in 0..len {
+        octets.push(0)?;
     }
-    block.extend_from_slice(&total)?;
+    Ok(octets)
+}
+
+/// A block whose type is these four octets, of this total length, with a body of these pieces.
+fn block(alloc: Global, head: &str, total: u32, body: &[&[u8]]) -> Result<Vec<u8>, Fail> {
+    let mut block = hex::decode(alloc, head)?;
+    block.extend_from_slice(&total.to_le_bytes())?;
+    for piece in body {
+        block.extend_from_slice(piece)?;
+    }
+    block.extend_from_slice(&total.to_le_bytes())?;
     Ok(block)
 }
 
@@ -546,11 +554,19 @@ fn block(alloc: Global, head: &str, len: usize) -> Result<Vec<u8>, Fail> {
 fn longest_blocks(rt: HostRuntime) -> Result<(), Fail> {
     let alloc = rt.alloc();
     let mut file = octets(alloc, &[LITTLE, ETHERNET])?;
-    let skipped = block(alloc, "ad0b0000", 600_000)?;
+    let long = zeros(alloc, 600_000 - 12)?;
+    let skipped = block(alloc, "ad0b0000", 600_000, &[long.as_slice()])?;
     file.extend_from_slice(skipped.as_slice())?;
-    let mut packet = block(alloc, "06000000", 12 + 20 + 262_144 + 8_192)?;
-    packet[20..28].copy_from_slice(&[0, 0, 4, 0, 0, 0, 4, 0]);
-    packet[28 + 262_143] = 0x5a;
+    let front = octets(alloc, &["0000000000000000000000000000040000000400"])?;
+    let frame = zeros(alloc, 262_143)?;
+    let options = zeros(alloc, 8_192)?;
+    let body = [
+        front.as_slice(),
+        frame.as_slice(),
+        &[0x5a],
+        options.as_slice(),
+    ];
+    let packet = block(alloc, "06000000", 12 + 20 + 262_144 + 8_192, &body)?;
     file.extend_from_slice(packet.as_slice())?;
     let last = octets(alloc, &[PACKET])?;
     file.extend_from_slice(last.as_slice())?;
