@@ -48,7 +48,7 @@ begun_by (Ok None) places more = ended None
 begun_by (Ok (Some (section, None, rest))) places more = more section places rest
 begun_by (Ok (Some (section, Some first, rest))) places more = with_record places first (λ left. more section left rest)
 
--- what octets hold in a section, that have places for so many records, and so many blocks at most
+-- what octets hold in a section, of which fewer blocks than this are read, with places for so many records
 unfoldable pub capture_of : ℕ → Section → ℕ → List ℕ → Capture
 capture_of zero section places octets = ended (Some RecordCount)
 capture_of (suc blocks) section places octets =
@@ -73,6 +73,7 @@ file_by (Ok None) = Err CutHeader
 file_by (Ok (Some (block, rest))) =
     if block.kind == section_header then file_after (new_section block.order block.front) rest else Err Magic
 
--- what a pcapng file holds, with times in nanoseconds; until a section header says so, the order is that of no octet
+-- what a pcapng file holds, with times in nanoseconds; a section header has an order of its own, so the one here is that of
+-- no block of a file that begins with one
 abbrev pub pcapng_of : List ℕ → Result CaptureFile PcapFault
 pcapng_of file = file_by (block_at Big file)

@@ -13,6 +13,6 @@ max_interfaces = 256
 abbrev pub max_options : ℕ
 max_options = 65541
 
--- the most blocks of a file, behind its first one
+-- a file has fewer blocks than this behind its first one
 abbrev pub max_blocks : ℕ
 max_blocks = 4294967295

@@ -18,7 +18,7 @@ use std::alloc::Global;
 use std::io::Read;
 use std::marker::Model;
 
-/// How many blocks a file has at most behind its first one.
+/// A file has fewer blocks than this behind its first one.
 const MAX_BLOCKS: u32 = 4_294_967_295;
 
 /// How far a reader has come.
