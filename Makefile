@@ -4,8 +4,8 @@
 # make run           does the same, and runs it on the tour
 # make lib           proves and builds the library for C, build/libmacsec.a, of the header include/macsec.h
 # make kept          proves the program's libraries and keeps the work where rt takes it, before a crate is changed
-# make install       copies the program, its manual page, the library for C, its header and its pkg-config file to PREFIX,
-#                    /usr/local if nothing else is said, under DESTDIR
+# make install       copies the program, its manual page, the library for C, its header and its pkg-config file to
+#                    PREFIX, /usr/local if nothing else is said, under DESTDIR
 # make check         the gate
 # make bench         measures the cipher, frames, scripts and a full link
 # make search        looks for counter-examples to what is promised of two ends and their link
@@ -28,8 +28,8 @@ PREFIX ?= /usr/local
 CPU ?= x86-64-v2
 BUILT := build/macsec$(if $(filter x86-64-v3,$(CPU)),-x86-64-v3)
 
-.PHONY: all try run lib kept install check bench search fuzz failures stored-runs peer kept-frames c-programs lanes-used \
-    toolchain clean
+.PHONY: all try run lib kept install check bench search fuzz failures stored-runs peer kept-frames c-programs \
+    lanes-used toolchain clean
 
 all: $(BUILT)
 
@@ -55,8 +55,8 @@ install: build/macsec build/libmacsec.a
 	sed 's|@PREFIX@|$(PREFIX)|' include/macsec.pc.in > "$(DESTDIR)$(PREFIX)/lib/pkgconfig/macsec.pc"
 
 # Every proof from nothing, the must-fail edits, the tests and the programs, and beside them what needs no proof; then
-# the programs that were proved, macsec as both compilers built it, and the library for C over the libraries that `rt ci`
-# left. (It would put those of earlier checks back in their place, so these go first.)
+# the programs that were proved, macsec as both compilers built it, and the library for C over the libraries that
+# `rt ci` left. (It would put those of earlier checks back in their place, so these go first.)
 check: toolchain
 	rm -rf crates/*/out/rlib
 	tools/failures calls

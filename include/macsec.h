@@ -47,10 +47,12 @@
  *            a lock or by the thread's start or join. Different handles are independent. No call may be made from a
  *            signal handler, nor macsec_new or macsec_free from the forked child of a process with threads.
  *
- * What is proved (with Rattle): of each call, that its answer and the endpoint's state after it are those of one
- * step of the written machine (crates/macsec_secy/specs/Step.antt) for the arguments that C gave, that memory is
- * used as said above, and that it returns. Not proved: this header, which a script compares with the library's
- * source; C's side of what it says; malloc; the compilers. No call takes the same time for all data.
+ * What is proved (with Rattle): each call makes or frees an endpoint, or is one step of the written machine
+ * (crates/macsec_secy/specs/Step.antt) or one reader of its state, for the arguments that C gave; it reads and
+ * writes only what it was given; and it returns. Measured or read, and not proved: sizes and stack, that only
+ * macsec_new takes memory, and that a call which shows nothing leaves what it would have shown as it was. Nor
+ * proved: this header, which a script compares with the library's source; C's side of what it says; malloc; the
+ * compilers. No call takes the same time for all data.
  */
 #ifndef MACSEC_H
 #define MACSEC_H

@@ -5,7 +5,8 @@
 //! affine transformation of the inverse, which is the byte whose product with the given one is 1 (0 for 0). The law
 //! `laws::one_inverse` says that each byte but 0 has exactly one such byte.
 //!
-//! No contract speaks of time. `encrypt` and `Schedule::expand` look the S-box up in a table.
+//! `Schedule::round_key` wants a round that the key has. No contract speaks of time. `encrypt` and `Schedule::expand`
+//! look the S-box up in a table.
 #![tactic(auto)]
 
 ghost use Rattle.std.specs.Prelude.{◌≡◌, ◌+◌, ◌*◌, ◌/◌, ◌%◌, ◌<◌, ◌≤◌, ◌⊎◌, length, bit_xor, slice_index};

@@ -1,11 +1,12 @@
 //! The endpoint for callers in C: a static library, whose header is `include/macsec.h`.
 //!
-//! Proved: each export is one step of the machine of `macsec_secy`, or one reader of its state, for the arguments that
-//! C gave (`specs/Answers.antt`, `specs/SentParts.antt`, `specs/ReceivedParts.antt`, `specs/Shown.antt`): the status,
-//! what is shown, and what the handle holds after it. Numbers and lengths that name nothing are refused by statuses of
-//! their own before anything else happens (`specs/Arguments.antt`), and a handle without an endpoint before those. A
-//! frame that is lent lies in the endpoint or is the caller's, and the endpoint's state after the loan is known. A
-//! handle owns its endpoint: `macsec_free` frees it once, and leaves a handle without one.
+//! Proved: each export makes or frees an endpoint, or is one step of the machine of `macsec_secy`, or one reader of its
+//! state, for the arguments that C gave (`specs/Answers.antt`, `specs/SentParts.antt`, `specs/ReceivedParts.antt`,
+//! `specs/Shown.antt`): the status, what is shown, and what the handle holds after it. Numbers and lengths that name
+//! nothing are refused by statuses of their own before anything else happens (`specs/Arguments.antt`), and a handle
+//! without an endpoint before those. A frame that is lent lies in the endpoint or is the caller's, and the endpoint's
+//! state after the loan is known. A handle owns its endpoint: `macsec_free` frees it once, and leaves a handle without
+//! one.
 //!
 //! No export has a `requires`. What a reference and the handle mean is for C to ensure: each pointer leads to a value
 //! of its type, or to as many octets as the length beside it says, to which nothing else points; and a handle is one

@@ -3,8 +3,8 @@
 //! Proved: for `PlainHash` and `LaneHash`, and for whatever else meets the interface `Hash128`, and for every list of
 //! absorbed pieces, `value` is GHASH of the pieces' blocks in order, each piece padded with zeros to whole blocks. Both
 //! meet the one contract of `Hash128`, so they return the same. So is the value of a `RunningHash` by powers that are
-//! kept beside it: contracts see `KeyPowers` as the key, so those of another key can't stand in their place. Laws (`laws`) state GHASH by its steps, and that of
-//! several blocks at once as a sum of products with powers of the key.
+//! kept beside it: contracts see `KeyPowers` as the key, so those of another key can't stand in their place. Laws
+//! (`laws`) state GHASH by its steps, and that of several blocks at once as a sum of products with powers of the key.
 //!
 //! No contract speaks of time, nor says that lanes are used.
 #![tactic(auto)]

@@ -35,10 +35,11 @@ pub enum PcapFault {
     /// Out of memory.
     #[error("out of memory")]
     Memory = 9,
-    /// The file goes on after 16,777,216 records.
+    /// The file goes on after 16,777,216 records, or has too many blocks to be read.
     #[error("the file has too many records")]
     RecordCount = 10,
-    /// The two lengths of a block disagree, or its length is no multiple of four or too small for what it holds.
+    /// The two lengths of a block disagree, or its length is no multiple of four or too small for what it holds; or a
+    /// description of an interface is too long, or has an option of a wrong length.
     #[error("a block has a wrong length")]
     BlockLength = 11,
     /// A packet is of an interface that its section does not describe.

@@ -17,7 +17,8 @@
 //! fault; the only other fault is `Write`; after a fault each later call returns that fault. The law
 //! `laws::read_again`: a file of at most 16,777,216 records that is written so is read as those records.
 //!
-//! `fill` and the numbers of `Order` serve the readers of other formats too; the faults from `BlockLength` on are theirs.
+//! `fill` and the numbers of `Order`, which want as many octets as they read, serve the readers of other formats too;
+//! the faults from `BlockLength` on are theirs.
 #![tactic(auto)]
 
 mod fault;

@@ -2,8 +2,8 @@
 //!
 //! The definition `pcapng_of` (`specs/Files.antt`) says of every list of octets what it is as such a file: its records in
 //! order, whole or partial, with times in nanoseconds, and the fault of the format after them; or the first fault of its
-//! first section header. It is one of blocks (`specs/Blocks.antt`), each in the order of octets of its section, and of what
-//! each leaves: a new section, one more interface, a packet, or nothing (`specs/Sections.antt`).
+//! first section header. It is one of blocks (`specs/Blocks.antt`), each in the order of octets of its section, and of
+//! what each leaves: a new section, one more interface, a packet, or nothing (`specs/Sections.antt`).
 //!
 //! Proved, over a reader whose octets a contract can name: `PcapngReader::new` returns a reader at the first record of
 //! that file, or the fault of its header, or `Memory` or `Read`; each `next` returns the next record, or, after the
