@@ -94,14 +94,10 @@ fn cut_blocks(rt: HostRuntime) {
     text[32..48].copy_from_slice(&0x1c3c_0c95_9568_0953_2fcf_0e24_49a6_b525u128.to_be_bytes());
     text[48..].copy_from_slice(&0xb16a_edf5_aa0d_e657_ba63_7b39_0000_0000u128.to_be_bytes());
     let tag = GcmKey::new(key).seal(&iv, &aad, &mut text[..60]);
-    assert_eq!(rt;
-        text[..16],
-        0x4283_1ec2_2177_7424_4b72_21b7_84d0_d49cu128.to_be_bytes()[..]
-    );
-    assert_eq!(rt;
-        text[48..],
-        0x1ba3_0b39_6a0a_ac97_3d58_e091_0000_0000u128.to_be_bytes()[..]
-    );
+    let first = 0x4283_1ec2_2177_7424_4b72_21b7_84d0_d49cu128.to_be_bytes();
+    assert!(rt; text.starts_with(&first));
+    let last = 0x1ba3_0b39_6a0a_ac97_3d58_e091_0000_0000u128.to_be_bytes();
+    assert!(rt; text.ends_with(&last));
     assert_eq!(rt;
         tag,
         0x5bc9_4fbc_3221_a5db_94fa_e95a_e712_1a47u128.to_be_bytes()
