@@ -8,3 +8,4 @@ pub mod Gates
 pub mod TowerGates
 pub mod Octets
 pub mod Rounds
+pub mod RoundKeysAt

@@ -1,5 +1,5 @@
 -- Sums and products of the octets in planes, and the blocks that they are.
-use Rattle.std.proofs.Common.{◌≡◌, ℕ, zero, suc, ◌+◌, ◌*◌, ◌^◌, ◌<◌, List, [], ◌∷◌, length, map, slice_index, bit_xor, refl, sym, ap₂, ◌∙◌, arith, rules}
+use Rattle.std.proofs.Common.{◌≡◌, ℕ, zero, suc, ◌+◌, ◌*◌, ◌^◌, ◌<◌, List, [], ◌∷◌, length, map, slice_index, bit_xor, refl, sym, ap, ap₂, ◌∙◌, arith, rules}
 use Rattle.std.specs.Int.{bit_at}
 use Rattle.std.specs.Int.Bits.{xor_assoc}
 use Rattle.std.specs.List.{range_with_len}
@@ -10,7 +10,8 @@ use Rattle.std.proofs.lemmas.List.FromFn.{get_or-map-range_with_len}
 use Rattle.macsec_aes.specs.Field.{byte_product, polynomial_product, remainder, sum_below}
 use Rattle.macsec_aes.proofs.Products.{byte_product_adds}
 use Rattle.macsec_aes.proofs.Tables.{triple_is}
-use Rattle.macsec_aes_lanes.specs.Planes.{block_of, number, octet}
+use Rattle.macsec_aes_lanes.specs.Lanes.{lane_of}
+use Rattle.macsec_aes_lanes.specs.Planes.{block_of, byte_of, number, octet}
 use Rattle.macsec_aes_lanes.proofs.Gates.{Gate, Input, Add, bits_at, sum_of_bits, table}
 
 -- ---- sums
@@ -59,5 +60,17 @@ same_maps f g a (suc n) e =
 pub same_blocks : (f g : ℕ → ℕ) → ((j : ℕ) → j < 16 → f j ≡ g j) → map f (range_with_len 0 16) ≡ map g (range_with_len 0 16)
 same_blocks f g e = same_maps f g 0 16 e
 
-pub byte_of_block : (v : List (List ℕ)) (k m : ℕ) → m < 16 → slice_index (block_of v k) m ≡ octet v m k
-byte_of_block v k m lt = get_or-map-range_with_len (λ j. octet v j k) 0 16 m m 0 lt (search rules)
+pub byte_of_block : (v : List (List ℕ)) (k m : ℕ) → m < 16 → slice_index (block_of v k) m ≡ byte_of v k m
+byte_of_block v k m lt = get_or-map-range_with_len (byte_of v k) 0 16 m m 0 lt (search rules)
+
+-- the same, of a byte whose lane has another name
+pub byte_in_lane : (v : List (List ℕ)) (k m j : ℕ) → m < 16 → lane_of m ≡ j → slice_index (block_of v k) m ≡ octet v j k
+byte_in_lane v k m j lt e = byte_of_block v k m lt ∙ ap (λ (i : ℕ). octet v i k) e
+
+-- ---- lanes
+
+pub lane_of-lt : (m : ℕ) → m < 16 → lane_of m < 16
+lane_of-lt m h = omega arith
+
+pub lane_of-lane_of : (m : ℕ) → m < 16 → lane_of (lane_of m) ≡ m
+lane_of-lane_of m h = omega arith

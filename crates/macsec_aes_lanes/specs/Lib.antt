@@ -1,3 +1,4 @@
 pub mod Lanes
 pub mod Planes
+pub mod RoundKeys
 pub mod Tower

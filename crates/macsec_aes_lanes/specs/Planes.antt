@@ -1,9 +1,9 @@
 -- Bit planes: bit i of an element is in plane i. A plane is a vector of sixteen lanes, and a lane has the bits of eight
 -- elements, so that an operation on planes works on 128 elements at once.
-use Rattle.std.specs.Prelude.{◌≡◌, ℕ, ◌+◌, ◌-◌, ◌*◌, ◌/◌, ◌%◌, ◌^◌, ◌<◌, ◌⊎◌, List, [], ◌∷◌, map}
+use Rattle.std.specs.Prelude.{◌≡◌, ℕ, ◌+◌, ◌-◌, ◌*◌, ◌/◌, ◌%◌, ◌^◌, ◌<◌, ◌⊎◌, List, [], ◌∷◌, map, slice_index}
 use Rattle.std.specs.Int.{bit_at}
 use Rattle.std.specs.List.{range_with_len}
-use Rattle.macsec_aes_lanes.specs.Lanes.{lane_at}
+use Rattle.macsec_aes_lanes.specs.Lanes.{lane_at, lane_of}
 
 -- bit k of lane j of vector i
 abbrev pub bit_of : List (List ℕ) → ℕ → ℕ → ℕ → ℕ
@@ -24,9 +24,16 @@ octet = element 8
 abbrev pub nibble : List (List ℕ) → ℕ → ℕ → ℕ
 nibble = element 4
 
--- block k: element k of each lane is one of its bytes
+-- byte m of block k: element k of each lane is one of its bytes
+abbrev pub byte_of : List (List ℕ) → ℕ → ℕ → ℕ
+byte_of p k m = octet p (lane_of m) k
+
 abbrev pub block_of : List (List ℕ) → ℕ → List ℕ
-block_of p k = map (λ j. octet p j k) (range_with_len 0 16)
+block_of p k = map (byte_of p k) (range_with_len 0 16)
+
+-- each of eight blocks is this one
+abbrev pub AreAll : List (List ℕ) → List ℕ → Type 0
+AreAll p block = (k : ℕ) → k < 8 → (m : ℕ) → m < 16 → byte_of p k m ≡ slice_index block m
 
 -- the lanes of eight vectors are bytes
 abbrev pub AreBytes : List (List ℕ) → Type 0

@@ -3,7 +3,7 @@
 ghost use Rattle.std.specs.Prelude.{◌≡◌, ℕ, ◌^◌, ◌<◌, map, slice_index, bit_and, bit_xor};
 ghost use Rattle.std.specs.List.{range_with_len};
 ghost use Rattle.std.specs.Int.{bit_at};
-ghost use Rattle.macsec_aes_lanes.specs.Lanes.{rows_below, columns_right};
+ghost use Rattle.macsec_aes_lanes.specs.Lanes.{lane_of, rows_below, columns_right};
 
 use std::simd::u8x16;
 
@@ -33,12 +33,21 @@ pub fn bit_everywhere(a: u8x16, i: u8) -> u8x16
     u8x16::splat(0) - ((a >> u8x16::splat(i)) & u8x16::splat(1))
 }
 
-/// The bytes in the lanes.
+/// The bytes of a block in the lanes.
+#[inline(always)]
+pub fn lanes_of(block: [u8; 16]) -> u8x16
+    ensures { (m : ℕ) → m < 16 → slice_index result (lane_of m) ≡ slice_index block m }
+{
+    u8x16::from_array(block).swizzle([0, 4, 8, 12, 1, 5, 9, 13, 2, 6, 10, 14, 3, 7, 11, 15])
+}
+
+/// The block of the bytes in the lanes.
 #[inline(always)]
 pub fn bytes_of(a: u8x16) -> [u8; 16]
-    ensures { result ≡ map (slice_index a) (range_with_len 0 16) }
+    ensures { result ≡ map (λ m. slice_index a (lane_of m)) (range_with_len 0 16) }
 {
-    a.to_array()
+    a.swizzle([0, 4, 8, 12, 1, 5, 9, 13, 2, 6, 10, 14, 3, 7, 11, 15])
+        .to_array()
 }
 
 /// For each entry of a state the one that is as many columns to the right as its row says, from which ShiftRows takes it.
@@ -46,7 +55,7 @@ pub fn bytes_of(a: u8x16) -> [u8; 16]
 pub fn shifted(a: u8x16) -> u8x16
     ensures { (j : ℕ) → j < 16 → slice_index result j ≡ slice_index a (columns_right j) }
 {
-    a.swizzle([0, 5, 10, 15, 4, 9, 14, 3, 8, 13, 2, 7, 12, 1, 6, 11])
+    a.swizzle([0, 1, 2, 3, 5, 6, 7, 4, 10, 11, 8, 9, 15, 12, 13, 14])
 }
 
 /// For each entry of a state the one in the next row.
@@ -54,7 +63,7 @@ pub fn shifted(a: u8x16) -> u8x16
 pub fn from_next_row(a: u8x16) -> u8x16
     ensures { (j : ℕ) → j < 16 → slice_index result j ≡ slice_index a (rows_below 1 j) }
 {
-    a.swizzle([1, 2, 3, 0, 5, 6, 7, 4, 9, 10, 11, 8, 13, 14, 15, 12])
+    a.swizzle([4, 5, 6, 7, 8, 9, 10, 11, 12, 13, 14, 15, 0, 1, 2, 3])
 }
 
 /// For each entry of a state the one in the second row from its own.
@@ -62,5 +71,5 @@ pub fn from_next_row(a: u8x16) -> u8x16
 pub fn from_second_row(a: u8x16) -> u8x16
     ensures { (j : ℕ) → j < 16 → slice_index result j ≡ slice_index a (rows_below 2 j) }
 {
-    a.swizzle([2, 3, 0, 1, 6, 7, 4, 5, 10, 11, 8, 9, 14, 15, 12, 13])
+    a.swizzle([8, 9, 10, 11, 12, 13, 14, 15, 0, 1, 2, 3, 4, 5, 6, 7])
 }

@@ -1,25 +1,26 @@
 //! AES, the block cipher of FIPS 197, on eight or sixteen blocks at a time, in lanes of vectors and with no table.
 //!
 //! Proved: `encrypt8` and `encrypt16` put AES of it in the place of each of eight and of sixteen blocks, under the key
-//! of a schedule: AES as `macsec_aes` defines it and its `encrypt` computes it.
+//! of a schedule: AES as `macsec_aes` defines it and its `encrypt` computes it. Contracts see a `LaneSchedule` as its
+//! key's bytes, so no round keys of another key can stand in their place.
 //!
-//! No contract speaks of time. The code looks no table up, though the schedule that it is given was made with one.
+//! No contract speaks of time. The code looks no table up but the one of `macsec_aes`, by which a schedule is expanded.
 #![tactic(auto)]
 
 ghost use Rattle.std.specs.Prelude.{◌≡◌, ℕ, ◌<◌, [], length, map, slice_index_or};
 ghost use Rattle.macsec_aes.specs.Aes.{aes};
 
-use macsec_aes::Schedule;
-
 mod lanes;
 mod planes;
+mod schedule;
 mod state;
 mod tower;
 
+pub use schedule::LaneSchedule;
 use state::{add_round_key, blocks_of, mix_columns, shift_rows, states_of, sub_bytes};
 
 /// Encrypts each of eight blocks of 16 bytes under the key of a schedule: Cipher (FIPS 197, 5.1).
-pub fn encrypt8(schedule: &Schedule, blocks: &mut [[u8; 16]; 8])
+pub fn encrypt8(schedule: &LaneSchedule, blocks: &mut [[u8; 16]; 8])
     ensures { blocks.new ≡ map (aes schedule.now) blocks.old }
 {
     let rounds = schedule.rounds();
@@ -34,7 +35,7 @@ pub fn encrypt8(schedule: &Schedule, blocks: &mut [[u8; 16]; 8])
 
 /// Encrypts each of sixteen blocks of 16 bytes under the key of a schedule: Cipher (FIPS 197, 5.1).
 #[inline(never)]
-pub fn encrypt16(schedule: &Schedule, blocks: &mut [[u8; 16]; 16])
+pub fn encrypt16(schedule: &LaneSchedule, blocks: &mut [[u8; 16]; 16])
     ensures { blocks.new ≡ map (aes schedule.now) blocks.old }
 {
     let mut first = [[0; 16]; 8];

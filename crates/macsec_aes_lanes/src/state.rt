@@ -1,13 +1,14 @@
 //! The transformations of a round on eight states at once, in eight bit planes. The lanes of a plane are the entries of a
-//! state, in the order of a block, and bit k of a lane belongs to the state of block k (FIPS 197, 3.4).
+//! state, row by row, so that a move by whole rows is one of words; bit k of a lane belongs to the state of block k
+//! (FIPS 197, 3.4).
 
-ghost use Rattle.std.specs.Prelude.{◌≡◌, ℕ, ◌<◌, [], bit_xor, length, slice_index, slice_index_or};
+ghost use Rattle.std.specs.Prelude.{◌≡◌, ℕ, ◌<◌, List, [], bit_xor, length, slice_index_or};
 ghost use Rattle.macsec_aes.specs.Aes.{add_round_key, mix_columns, shift_rows, sub_bytes};
 ghost use Rattle.macsec_aes.specs.Field.{byte_product};
 ghost use Rattle.macsec_aes_lanes.specs.Lanes.{lane_at, columns_right, rows_below};
-ghost use Rattle.macsec_aes_lanes.specs.Planes.{block_of, octet};
+ghost use Rattle.macsec_aes_lanes.specs.Planes.{AreAll, block_of, byte_of, octet};
 
-use crate::lanes::{add, bit_everywhere, bytes_of, from_next_row, from_second_row, shifted};
+use crate::lanes::{add, bytes_of, from_next_row, from_second_row, lanes_of, shifted};
 use crate::planes::transpose;
 use crate::tower::s_box;
 use std::simd::u8x16;
@@ -18,17 +19,17 @@ pub type States = [u8x16; 8];
 /// The states of eight blocks.
 #[inline(always)]
 pub fn states_of(blocks: &[[u8; 16]; 8]) -> States
-    ensures { (k : ℕ) → k < 8 → (j : ℕ) → j < 16 → octet result j k ≡ lane_at blocks.now k j }
+    ensures { (k : ℕ) → k < 8 → (m : ℕ) → m < 16 → byte_of result k m ≡ lane_at blocks.now k m }
 {
     transpose([
-        u8x16::from_array(blocks[0]),
-        u8x16::from_array(blocks[1]),
-        u8x16::from_array(blocks[2]),
-        u8x16::from_array(blocks[3]),
-        u8x16::from_array(blocks[4]),
-        u8x16::from_array(blocks[5]),
-        u8x16::from_array(blocks[6]),
-        u8x16::from_array(blocks[7]),
+        lanes_of(blocks[0]),
+        lanes_of(blocks[1]),
+        lanes_of(blocks[2]),
+        lanes_of(blocks[3]),
+        lanes_of(blocks[4]),
+        lanes_of(blocks[5]),
+        lanes_of(blocks[6]),
+        lanes_of(blocks[7]),
     ])
 }
 
@@ -155,27 +156,11 @@ pub fn mix_columns(v: States) -> States
     sum(sum(double(pairs), next), second_rows(pairs))
 }
 
-/// A round key in the place of each of eight states.
-#[inline(always)]
-fn states_of_key(key: u8x16) -> States
-    ensures { (k : ℕ) → k < 8 → (j : ℕ) → j < 16 → octet result j k ≡ slice_index key j }
-{
-    [
-        bit_everywhere(key, 0),
-        bit_everywhere(key, 1),
-        bit_everywhere(key, 2),
-        bit_everywhere(key, 3),
-        bit_everywhere(key, 4),
-        bit_everywhere(key, 5),
-        bit_everywhere(key, 6),
-        bit_everywhere(key, 7),
-    ]
-}
-
 /// AddRoundKey (FIPS 197, 5.1.4), with the same round key for all blocks.
 #[inline(always)]
-pub fn add_round_key(v: States, key: [u8; 16]) -> States
-    ensures { (k : ℕ) → k < 8 → block_of result k ≡ add_round_key (block_of v k) key }
+pub fn add_round_key(v: States, key: States) -> States
+    ensures { (block : List ℕ) → AreAll key block → (k : ℕ) → k < 8
+        → block_of result k ≡ add_round_key (block_of v k) block }
 {
-    sum(v, states_of_key(u8x16::from_array(key)))
+    sum(v, key)
 }

@@ -2,7 +2,7 @@
 
 use crate::plain::PlainKey;
 use macsec_aes::{Key, Schedule, encrypt};
-use macsec_aes_lanes::encrypt16;
+use macsec_aes_lanes::{LaneSchedule, encrypt16};
 use macsec_field128::Block;
 use macsec_gcm::GcmKey;
 use macsec_ghash::{Hash128, LaneHash, PlainHash};
@@ -77,7 +77,7 @@ fn time_encrypt(rt: &HostRuntime, work: Work) -> io::Result<Measured> {
 
 /// Encrypts as many blocks, sixteen at a time, each the result of the one before.
 fn time_encrypt16(rt: &HostRuntime, work: Work) -> io::Result<Measured> {
-    let schedule = Schedule::expand(&KEY);
+    let schedule = LaneSchedule::expand(&KEY);
     let start = Instant::now(rt)?;
     let mut blocks = [[0; 16]; 16];
     for _ in 0..work.turns.div_ceil(16) {

@@ -1,7 +1,7 @@
 //! The examples of FIPS 197, appendix C, in each of the sixteen places and in each of the eight.
 
-use macsec_aes::{Key, Schedule};
-use macsec_aes_lanes::{encrypt8, encrypt16};
+use macsec_aes::Key;
+use macsec_aes_lanes::{LaneSchedule, encrypt8, encrypt16};
 
 // 00112233445566778899aabbccddeeff
 const BLOCK: [u8; 16] = [
@@ -12,7 +12,7 @@ const ZEROS: [u8; 16] = [0; 16];
 
 /// Whether the block becomes `expected` in each of the sixteen places, among blocks of zeros that stay alike.
 fn encrypted_everywhere(key: &Key, expected: [u8; 16]) -> bool {
-    let schedule = Schedule::expand(key);
+    let schedule = LaneSchedule::expand(key);
     let mut zeros = [ZEROS; 16];
     encrypt16(&schedule, &mut zeros);
     for place in 0..16usize {
@@ -28,7 +28,7 @@ fn encrypted_everywhere(key: &Key, expected: [u8; 16]) -> bool {
 
 /// The same in each of the eight places.
 fn encrypted_in_each_of_eight(key: &Key, expected: [u8; 16]) -> bool {
-    let schedule = Schedule::expand(key);
+    let schedule = LaneSchedule::expand(key);
     let mut zeros = [ZEROS; 8];
     encrypt8(&schedule, &mut zeros);
     for place in 0..8usize {

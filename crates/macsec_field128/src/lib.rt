@@ -9,7 +9,7 @@
 //! carries; products without carries and residues keep sums.
 #![tactic(auto)]
 
-ghost use Rattle.std.specs.Prelude.{◌≡◌, ◌+◌, ◌*◌, ◌^◌, bit_xor};
+ghost use Rattle.std.specs.Prelude.{◌≡◌, ◌+◌, ◌*◌, ◌^◌, ◌<◌, bit_xor};
 ghost use Rattle.macsec_field128.specs.Carryless.{residue};
 ghost use Rattle.macsec_field128.specs.Field.{block_product, times_x};
 
@@ -29,16 +29,20 @@ pub fn add(a: Block, b: Block) -> Block
     Block(a.0 ^ b.0)
 }
 
+/// The block where `bit` is 1, and 0 where it is 0. A mask chooses, so that nothing branches on the bit of a key.
+#[inline(always)]
+fn where_set(bit: u128, block: u128) -> u128
+    requires { bit < 2 }
+    ensures { result ≡ bit * block }
+{
+    block & 0u128.wrapping_sub(bit)
+}
+
 /// An element multiplied by x.
 pub fn times_x(v: Block) -> Block
     ensures { result.0 ≡ times_x v.0 }
 {
-    let shifted = v.0 >> 1;
-    Block(if v.0 & 1 == 1 {
-        shifted ^ REDUCTION
-    } else {
-        shifted
-    })
+    Block((v.0 >> 1) ^ where_set(v.0 & 1, REDUCTION))
 }
 
 /// The product of two elements.
@@ -48,9 +52,8 @@ pub fn mul(a: Block, b: Block) -> Block
     let mut sum = Block(0);
     let mut power = b;
     for i in 0..128u32 {
-        if (a.0 >> (127 - i)) & 1 == 1 {
-            sum = add(sum, power);
-        }
+        let bit = (a.0 >> (127 - i)) & 1;
+        sum = add(sum, Block(where_set(bit, power.0)));
         power = times_x(power);
     }
     sum

@@ -102,22 +102,27 @@ gctr-append key icb p q r long sum =
           ∙ sym (get_or-append_right (gctr key icb p) r (length p) k 0 lp past)
     ])
 
--- a text of at most one block is added to the key stream of the first counter block, which is what zeros become
-pub sum_with_mask : (key icb text : List ℕ) → length text ≤ 16 → sum_with_stream text (gctr key icb (replicate 16 0)) ≡ gctr key icb text
-sum_with_mask key icb text le =
-    let mask : List ℕ = gctr key icb (replicate 16 0) in
+-- ---- a text added to the key stream at once
+
+pub sum_with_key_stream : (key icb text stream : List ℕ) → ((k : ℕ) → k < length text → get_or stream k 0 ≡ key_stream key icb k)
+    → sum_with_stream text stream ≡ gctr key icb text
+sum_with_key_stream key icb text stream each =
     let long = length-gctr key icb text in
-    let sum_long = length-sum_with_stream text mask in
-    same_number_lists (sum_with_stream text mask) (gctr key icb text) (sum_long ∙ sym long)
+    let sum_long = length-sum_with_stream text stream in
+    same_number_lists (sum_with_stream text stream) (gctr key icb text) (sum_long ∙ sym long)
     (λ k lt.
     let inside : k < length text = omega arith in
+    get_or-sum_with_stream text stream k inside
+    ∙ ap (bit_xor (get_or text k 0)) (each k inside)
+    ∙ sym (get_or-gctr key icb text k inside))
+
+-- a text of at most one block is added to the key stream of the first counter block, which is what zeros become
+pub sum_with_mask : (key icb text : List ℕ) → length text ≤ 16 → sum_with_stream text (gctr key icb (replicate 16 0)) ≡ gctr key icb text
+sum_with_mask key icb text le = sum_with_key_stream key icb text (gctr key icb (replicate 16 0)) (λ k lt.
     let zeros : k < length {A = ℕ} (replicate 16 0) = omega (arith, length-replicate {A = ℕ} 16 0) in
-    get_or-sum_with_stream text mask k inside
-    ∙ ap (bit_xor (get_or text k 0))
-    (get_or-gctr key icb (replicate 16 0) k zeros
+    get_or-gctr key icb (replicate 16 0) k zeros
     ∙ ap (λ (x : ℕ). bit_xor x (key_stream key icb k)) (get_or-replicate 16 k 0 0 (omega arith))
     ∙ xor_zero_l (key_stream key icb k))
-    ∙ sym (get_or-gctr key icb text k inside))
 
 -- ---- blocks of a key stream, one after another
 

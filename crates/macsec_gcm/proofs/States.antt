@@ -123,14 +123,9 @@ hashing_ended s t h blocks text at none same hashed =
 
 -- ---- lists
 
--- a piece in three parts
-pub three_parts : (text piece head rest whole tail : List ℕ) (i j : ℕ) → head ≡ take i piece → rest ≡ drop i piece → whole ≡ take j rest → tail ≡ drop j rest
-    → ((text ++ head) ++ whole) ++ tail ≡ text ++ piece
-three_parts text piece head rest whole tail i j eh er ew et =
-    append_assoc (text ++ head) whole tail
-    ∙ ap (λ (xs : List ℕ). (text ++ head) ++ xs) (rw (ew, et) (take-append-drop j rest))
-    ∙ append_assoc text head rest
-    ∙ ap (λ (xs : List ℕ). text ++ xs) (rw (eh, er) (take-append-drop i piece))
+-- a text in front of a piece that was split into two parts
+pub two_parts : (text piece front back : List ℕ) (n : ℕ) → front ≡ take n piece → back ≡ drop n piece → (text ++ front) ++ back ≡ text ++ piece
+two_parts text piece front back n ef eb = rw (ef, eb, append_assoc text (take n piece) (drop n piece), take-append-drop n piece) refl
 
 -- a write to the last m octets
 pub put_mid-end : (a m : ℕ) (xs ys : List ℕ) → length xs ≡ a + m → put_mid a m xs ys ≡ take a xs ++ ys

@@ -41,6 +41,10 @@ impl<'k> PaddedHash<'k> {
         ensures { (h : ℕ) (blocks text : List ℕ) → IsHashing self.old h blocks text
             → IsHashing self.new h blocks (text ++ piece.now) }
     {
+        if self.waiting_count == 0 {
+            self.absorb_next(piece);
+            return;
+        }
         let missing = 16 - self.waiting_count;
         if piece.len() < missing {
             self.wait(piece);
@@ -48,7 +52,17 @@ impl<'k> PaddedHash<'k> {
         }
         let (head, rest) = piece.split_at(missing);
         self.complete(head);
-        let (whole, tail) = rest.split_at(rest.len() - rest.len() % 16);
+        self.absorb_next(rest);
+    }
+
+    /// Hashes the next piece of a text, where no octets wait.
+    #[inline(always)]
+    fn absorb_next(&mut self, piece: &[u8])
+        requires none { self.old.waiting_count ≡ 0 }
+        ensures { (h : ℕ) (blocks text : List ℕ) → IsHashing self.old h blocks text
+            → IsHashing self.new h blocks (text ++ piece.now) }
+    {
+        let (whole, tail) = piece.split_at(piece.len() - piece.len() % 16);
         self.absorb_whole(whole);
         self.wait(tail);
     }

@@ -7,11 +7,10 @@ ghost use Rattle.macsec_gcm.specs.Octets.{sum_with_stream};
 ghost use Rattle.macsec_gcm.specs.Streams.{key_stream};
 
 use crate::counter_blocks::{blocks_from, inc32};
-use macsec_aes::Schedule;
-use macsec_aes_lanes::{encrypt8, encrypt16};
+use macsec_aes_lanes::{LaneSchedule, encrypt8, encrypt16};
 
 /// Writes the key stream of sixteen counter blocks, from `first` on, and returns the counter block after them.
-fn write_sixteen(schedule: &Schedule, first: [u8; 16], octets: &mut [u8]) -> [u8; 16]
+fn write_sixteen(schedule: &LaneSchedule, first: [u8; 16], octets: &mut [u8]) -> [u8; 16]
     requires { length octets.old ≡ 256 }
     ensures stream { (k : ℕ) → k < 256 → slice_index octets.new k ≡ key_stream schedule.now first k }
     ensures next { result ≡ iterate inc32 16 first }
@@ -24,7 +23,8 @@ fn write_sixteen(schedule: &Schedule, first: [u8; 16], octets: &mut [u8]) -> [u8
 }
 
 /// Writes the key stream of eight counter blocks, from `first` on, and returns the counter block after them.
-fn write_eight(schedule: &Schedule, first: [u8; 16], octets: &mut [u8]) -> [u8; 16]
+#[inline(always)]
+fn write_eight(schedule: &LaneSchedule, first: [u8; 16], octets: &mut [u8]) -> [u8; 16]
     requires { length octets.old ≡ 128 }
     ensures stream { (k : ℕ) → k < 128 → slice_index octets.new k ≡ key_stream schedule.now first k }
     ensures next { result ≡ iterate inc32 8 first }
@@ -50,7 +50,7 @@ pub fn add_octets(text: &mut [u8], stream: &[u8])
 /// is kept for the next piece.
 #[derive(Drop)]
 pub struct KeyStream<'k> {
-    schedule: &'k Schedule,
+    schedule: &'k LaneSchedule,
     /// The counter block of the next batch.
     counter: [u8; 16],
     /// The last batch, of which this is the end.
@@ -61,21 +61,28 @@ pub struct KeyStream<'k> {
 }
 
 impl<'k> KeyStream<'k> {
-    ghost use Rattle.std.specs.Prelude.{◌++◌};
+    ghost use Rattle.std.specs.Prelude.{◌++◌, replicate};
     ghost use Rattle.macsec_gcm.specs.Gcm.{gctr};
     ghost use Rattle.macsec_gcm.specs.Pieces.{IsStreamAt};
     ghost use Rattle.macsec_gcm.specs.Streams.{IsSumBelow};
 
-    /// The key stream from `icb` on.
-    pub fn start(schedule: &'k Schedule, icb: [u8; 16]) -> KeyStream<'k>
-        ensures { IsStreamAt result schedule.now icb 0 }
+    /// The key stream from the counter block after `first` on, and that of `first` itself: both are of one batch.
+    #[inline(always)]
+    pub fn after(schedule: &'k LaneSchedule, first: [u8; 16]) -> (KeyStream<'k>, [u8; 16])
+        ensures stream { IsStreamAt result.0 schedule.now (inc32 first) 0 }
+        ensures block { result.1 ≡ gctr schedule.now first (replicate 16 0) }
     {
-        KeyStream {
+        let mut octets = [0; 256];
+        let counter = write_eight(schedule, first, &mut octets[128..]);
+        let mut block = [0; 16];
+        add_octets(&mut block, &octets[128..]);
+        let stream = KeyStream {
             schedule,
-            counter: icb,
-            octets: [0; 256],
-            used: 256,
-        }
+            counter,
+            octets,
+            used: 144,
+        };
+        (stream, block)
     }
 
     /// Adds the next octets of the key stream to the next piece of a text.

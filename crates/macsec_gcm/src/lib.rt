@@ -22,7 +22,8 @@ ghost use Rattle.std.specs.Bool.{OnTrue, OnFalse};
 ghost use Rattle.macsec_aes.specs.Keys.{key_bytes};
 ghost use Rattle.macsec_gcm.specs.Gcm.{max_aad_len, max_plaintext_len, open_of, seal_of};
 
-use macsec_aes::{Key, Schedule, encrypt};
+use macsec_aes::Key;
+use macsec_aes_lanes::{LaneSchedule, encrypt8};
 use macsec_field128::Block;
 use macsec_ghash::KeyPowers;
 use std::marker::Model;
@@ -41,7 +42,7 @@ pub use pieces::{Opener, Sealer, Unlocked};
 /// the AES key.
 #[derive(Drop)]
 pub struct GcmKey {
-    schedule: Schedule,
+    schedule: LaneSchedule,
     powers: KeyPowers,
 }
 
@@ -61,8 +62,11 @@ impl GcmKey {
     pub fn new(key: Key) -> GcmKey
         ensures { result ≡ key_bytes key }
     {
-        let schedule = Schedule::expand(&key);
-        let subkey = Block(u128::from_be_bytes(encrypt(&schedule, [0; 16])));
+        let schedule = LaneSchedule::expand(&key);
+        // The subkey is the first of eight equal blocks, so that it is made in lanes, which look no table up.
+        let mut blocks = [[0; 16]; 8];
+        encrypt8(&schedule, &mut blocks);
+        let subkey = Block(u128::from_be_bytes(blocks[0]));
         let powers = KeyPowers::of(subkey);
         GcmKey { schedule, powers }
     }

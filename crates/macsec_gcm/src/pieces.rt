@@ -15,9 +15,7 @@ fn started<'k>(key: &'k GcmKey, iv: &[u8; 12]) -> (KeyStream<'k>, Authenticator<
     ensures stream { IsStreamAt result.0 key.now (inc32 (pre_counter_block iv.now)) 0 }
     ensures authenticator { HasAuthenticated result.1 key.now (pre_counter_block iv.now) [] [] }
 {
-    let mut stream = KeyStream::start(&key.schedule, pre_counter_block(iv));
-    let mut mask = [0; 16];
-    stream.add_to(&mut mask);
+    let (stream, mask) = KeyStream::after(&key.schedule, pre_counter_block(iv));
     (stream, Authenticator::start(&key.powers, mask))
 }
 
@@ -63,12 +61,13 @@ impl<'k> Sealer<'k> {
 
     /// The authentication tag of all pieces.
     #[inline(always)]
-    pub fn finish(mut self) -> [u8; 16]
+    pub fn finish(self) -> [u8; 16]
         ensures { (key iv aad plaintext : List ℕ) → HasSealed self.entry key iv aad plaintext
             → length aad ≤ max_aad_len → length plaintext ≤ max_plaintext_len
             → result ≡ (seal_of key iv aad plaintext).1 }
     {
-        self.authenticator.tag()
+        let mut authenticator = self.authenticator;
+        authenticator.tag()
     }
 }
 
@@ -111,7 +110,7 @@ impl<'k> Opener<'k> {
 
     /// What decrypts the pieces of the ciphertext, if this is the tag of all pieces; else `None`: nothing seals to them.
     #[inline(always)]
-    pub fn finish(mut self, tag: &[u8; 16]) -> Option<Unlocked<'k>>
+    pub fn finish(self, tag: &[u8; 16]) -> Option<Unlocked<'k>>
         ensures opened { (key iv aad ciphertext : List ℕ) → HasChecked self.entry key iv aad ciphertext
             → length aad ≤ max_aad_len → length ciphertext ≤ max_plaintext_len
             → IfSome result (λ unlocked. HasOpened unlocked key iv []
@@ -120,7 +119,8 @@ impl<'k> Opener<'k> {
             → length aad ≤ max_aad_len → length ciphertext ≤ max_plaintext_len
             → IfNone result (open_of key iv aad ciphertext tag.now ≡ None) }
     {
-        if self.authenticator.tag() == *tag {
+        let mut authenticator = self.authenticator;
+        if authenticator.tag() == *tag {
             Some(Unlocked { rest: self.stream })
         } else {
             None

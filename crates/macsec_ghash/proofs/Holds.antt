@@ -1,5 +1,5 @@
 -- What a vector has in each lane, along the operations that made it.
-use Rattle.std.proofs.Common.{◌≡◌, ℕ, ◌*◌, ◌/◌, ◌%◌, ◌^◌, ◌<◌, List, length, slice_index, replicate, refl, sym, ap₂, ◌∙◌, arith, w64, Fits}
+use Rattle.std.proofs.Common.{◌≡◌, ℕ, ◌/◌, ◌^◌, ◌<◌, List, length, slice_index, replicate, refl, sym, ap₂, ◌∙◌, arith, w8, Fits}
 use Rattle.std.proofs.lemmas.Simd.{get_or-zip2, length-zip2, get_or-replicate, length-replicate, Each1-get_or}
 use Rattle.std.specs.Simd.Lanes.{zip2, Each1}
 
@@ -17,19 +17,16 @@ holds_zip op {n} {xs} {ys} p q = record {
   at = λ j h. get_or-zip2 op xs ys j 0 0 0 (omega (arith, p.long)) (omega (arith, q.long)) ∙ ap₂ op (p.at j h) (q.at j h);
 }
 
--- what the operations on vectors do in a lane
+-- what a shift to the right does in a lane
 abbrev pub right : ℕ → ℕ → ℕ
 right a b = a / 2 ^ b
 
-abbrev pub wrapped_product : ℕ → ℕ → ℕ
-wrapped_product a b = a * b % 2 ^ 64
+-- n octets
+abbrev pub AreOctets : ℕ → List ℕ → Type 0
+AreOctets n xs = (length xs ≡ n) × Each1 (Fits w8) xs
 
--- n words of 64 bits
-abbrev pub AreWords : ℕ → List ℕ → Type 0
-AreWords n xs = (length xs ≡ n) × Each1 (Fits w64) xs
+pub holds : (n : ℕ) (xs : List ℕ) → AreOctets n xs → Holds n xs (λ j. slice_index xs j)
+holds n xs octets = record { long = octets.0; at = λ j h. refl }
 
-pub holds : (n : ℕ) (xs : List ℕ) → AreWords n xs → Holds n xs (λ j. slice_index xs j)
-holds n xs words = record { long = words.0; at = λ j h. refl }
-
-pub word_lt : (n : ℕ) (xs : List ℕ) → AreWords n xs → (j : ℕ) → j < n → slice_index xs j < 2 ^ 64
-word_lt n xs words j lt = (Each1-get_or (Fits w64) xs j 0 (omega (arith, words.0)) words.1).fits
+pub octet_below : (n : ℕ) (xs : List ℕ) → AreOctets n xs → (j : ℕ) → j < n → slice_index xs j < 2 ^ 8
+octet_below n xs octets j lt = (Each1-get_or (Fits w8) xs j 0 (omega (arith, octets.0)) octets.1).fits

@@ -1,12 +1,9 @@
 -- Sums of blocks and of words, which are numbers without carries.
-use Rattle.std.proofs.Common.{◌≡◌, ℕ, zero, suc, ◌+◌, ◌*◌, ◌%◌, ◌^◌, ◌<◌, List, [], ◌∷◌, length, slice_index, min, bit_and, bit_xor, refl, sym, ap, ap₂, ◌∙◌, arith}
-use Rattle.std.specs.Int.{bit_at}
+use Rattle.std.proofs.Common.{◌≡◌, ℕ, zero, suc, ◌+◌, ◌*◌, ◌^◌, ◌<◌, ◌≤◌, inl, inr, bit_xor, refl, sym, ap, ap₂, ◌∙◌, arith}
 use Rattle.std.specs.Int.Bits.{xor_zero_r, xor_zero_l, xor_assoc}
-use Rattle.std.specs.Simd.Lanes.{fold_l}
-use Rattle.std.proofs.lemmas.Nat.{and_comm, pow_pos, xor_block, xor_comm}
-use Rattle.std.proofs.lemmas.Nat.Bits.{bit_at-lt, bit_at_and, bit_at_xor, same_from_bits}
+use Rattle.std.proofs.lemmas.Nat.{pow_pos, xor_block, xor_comm, xor_lt}
+use Rattle.std.proofs.lemmas.Bool.{cases_lt}
 use Rattle.macsec_field128.specs.Field.{sum_below}
-use Rattle.macsec_ghash.specs.Lanes.{sum_of_four}
 
 -- (a + b) + (c + d) is (a + c) + (b + d)
 pub xor_swap : (a b c d : ℕ) → bit_xor (bit_xor a b) (bit_xor c d) ≡ bit_xor (bit_xor a c) (bit_xor b d)
@@ -32,12 +29,10 @@ pub sum_none : (f : ℕ → ℕ) → sum_below 0 f ≡ 0
 unfolding sum_below
 sum_none f = refl
 
--- the sum of the words of a vector
-pub sum_of_two : (xs : List ℕ) → length xs ≡ 2 → fold_l bit_xor 0 xs ≡ bit_xor (slice_index xs 0) (slice_index xs 1)
-sum_of_two [] long = absurd (omega arith)
-sum_of_two (x ∷ []) long = absurd (omega arith)
-sum_of_two (x ∷ y ∷ []) long = rw (xor_zero_l x) refl
-sum_of_two (x ∷ y ∷ z ∷ more) long = absurd (omega arith)
+-- a term more
+pub sum_next : (n : ℕ) (f : ℕ → ℕ) → sum_below (n + 1) f ≡ bit_xor (sum_below n f) (f n)
+unfolding sum_below
+sum_next n f = let e : n + 1 ≡ suc n = omega arith in ap (λ (m : ℕ). sum_below m f) e
 
 -- ---- functions that keep sums
 
@@ -75,64 +70,18 @@ parts k a r lt =
     ∙ sym (xor_block k a 0 0 r (pow_pos k) lt)
     ∙ ap₂ bit_xor (and_zero (a * 2 ^ k)) (let e : 0 * 2 ^ k + r ≡ r = omega arith in e)
 
--- a mask
-mask_of_bits : (a b m : ℕ) → a < 2 → b < 2 → m < 2 → min ((a + b) % 2) m ≡ (min a m + min b m) % 2
-mask_of_bits a b m p q r = omega arith
-
-pub mask_adds : (a b m : ℕ) → bit_and (bit_xor a b) m ≡ bit_xor (bit_and a m) (bit_and b m)
-mask_adds a b m =
-    same_from_bits (bit_and (bit_xor a b) m) (bit_xor (bit_and a m) (bit_and b m)) (λ i.
-    bit_at_and (bit_xor a b) m i ∙ ap (λ (x : ℕ). min x (bit_at m i)) (bit_at_xor a b i)
-    ∙ mask_of_bits (bit_at a i) (bit_at b i) (bit_at m i) (bit_at-lt a i) (bit_at-lt b i) (bit_at-lt m i)
-    ∙ sym (bit_at_xor (bit_and a m) (bit_and b m) i ∙ ap₂ (λ (x y : ℕ). (x + y) % 2) (bit_at_and a m i) (bit_at_and b m i)))
-
-pub masks_add : (a m n : ℕ) → bit_and a (bit_xor m n) ≡ bit_xor (bit_and a m) (bit_and a n)
-masks_add a m n = and_comm a (bit_xor m n) ∙ mask_adds m n a ∙ ap₂ bit_xor (and_comm m a) (and_comm n a)
-
--- ---- sums of four
-
-pub mask_of_four : (a b c d m : ℕ) → bit_and (sum_of_four a b c d) m ≡ sum_of_four (bit_and a m) (bit_and b m) (bit_and c m) (bit_and d m)
-mask_of_four a b c d m =
-    mask_adds (bit_xor (bit_xor a b) c) d m
-    ∙ ap (λ (x : ℕ). bit_xor x (bit_and d m)) (mask_adds (bit_xor a b) c m ∙ ap (λ (x : ℕ). bit_xor x (bit_and c m)) (mask_adds a b m))
-
-pub four_under : (f : ℕ → ℕ) → ((a b : ℕ) → f (bit_xor a b) ≡ bit_xor (f a) (f b)) → (a b c d : ℕ)
-    → f (sum_of_four a b c d) ≡ sum_of_four (f a) (f b) (f c) (f d)
-four_under f adds a b c d =
-    adds (bit_xor (bit_xor a b) c) d
-    ∙ ap (λ (x : ℕ). bit_xor x (f d)) (adds (bit_xor a b) c ∙ ap (λ (x : ℕ). bit_xor x (f c)) (adds a b))
-
-pub same_four : (a b c d p q r s : ℕ) → a ≡ p → b ≡ q → c ≡ r → d ≡ s → sum_of_four a b c d ≡ sum_of_four p q r s
-same_four a b c d p q r s e f g h = ap₂ bit_xor (ap₂ bit_xor (ap₂ bit_xor e f) g) h
-
-two_fours : (a b c d p q r s : ℕ) → bit_xor (sum_of_four a b c d) (sum_of_four p q r s) ≡ sum_of_four (bit_xor a p) (bit_xor b q) (bit_xor c r) (bit_xor d s)
-two_fours a b c d p q r s =
-    xor_swap (bit_xor (bit_xor a b) c) d (bit_xor (bit_xor p q) r) s
-    ∙ ap (λ (x : ℕ). bit_xor x (bit_xor d s))
-    (xor_swap (bit_xor a b) c (bit_xor p q) r ∙ ap (λ (x : ℕ). bit_xor x (bit_xor c r)) (xor_swap a b p q))
-
--- rows and columns
-pub turned : (a b c d e f g h i j k l m n o p : ℕ)
-    → sum_of_four (sum_of_four a b c d) (sum_of_four e f g h) (sum_of_four i j k l) (sum_of_four m n o p)
-    ≡ sum_of_four (sum_of_four a e i m) (sum_of_four b f j n) (sum_of_four c g k o) (sum_of_four d h l p)
-turned a b c d e f g h i j k l m n o p =
-    ap (λ (x : ℕ). bit_xor (bit_xor x (sum_of_four i j k l)) (sum_of_four m n o p)) (two_fours a b c d e f g h)
-    ∙ ap (λ (x : ℕ). bit_xor x (sum_of_four m n o p)) (two_fours (bit_xor a e) (bit_xor b f) (bit_xor c g) (bit_xor d h) i j k l)
-    ∙ two_fours (bit_xor (bit_xor a e) i) (bit_xor (bit_xor b f) j) (bit_xor (bit_xor c g) k) (bit_xor (bit_xor d h) l) m n o p
-
--- the last of four first
-pub moved_round : (a b c d : ℕ) → sum_of_four d a b c ≡ sum_of_four a b c d
-moved_round a b c d =
-    ap (λ (x : ℕ). bit_xor x c) (xor_assoc d a b) ∙ xor_assoc d (bit_xor a b) c ∙ xor_comm d (bit_xor (bit_xor a b) c)
-
--- two sums of four are the sum of eight
-pub sum_of_eight : (f : ℕ → ℕ) → bit_xor (sum_of_four (f 0) (f 2) (f 4) (f 6)) (sum_of_four (f 1) (f 3) (f 5) (f 7)) ≡ sum_below 8 f
+-- how large a sum is
+pub sum_lt : (k n : ℕ) (f : ℕ → ℕ) → ((i : ℕ) → i < n → f i < 2 ^ k) → sum_below n f < 2 ^ k
 unfolding sum_below
-sum_of_eight f =
-    two_fours (f 0) (f 2) (f 4) (f 6) (f 1) (f 3) (f 5) (f 7)
-    ∙ sym (xor_assoc (bit_xor (bit_xor (bit_xor (f 0) (f 1)) (bit_xor (f 2) (f 3))) (bit_xor (f 4) (f 5))) (f 6) (f 7))
-    ∙ ap (λ (x : ℕ). bit_xor (bit_xor x (f 6)) (f 7))
-    (sym (xor_assoc (bit_xor (bit_xor (f 0) (f 1)) (bit_xor (f 2) (f 3))) (f 4) (f 5))
-    ∙ ap (λ (x : ℕ). bit_xor (bit_xor x (f 4)) (f 5))
-    (sym (xor_assoc (bit_xor (f 0) (f 1)) (f 2) (f 3))
-    ∙ ap (λ (x : ℕ). bit_xor (bit_xor (bit_xor x (f 1)) (f 2)) (f 3)) (sym (xor_zero_l (f 0)))))
+sum_lt k zero f lt = pow_pos k
+sum_lt k (suc n) f lt = xor_lt k (sum_below n f) (f n) (sum_lt k n f (λ i h. lt i (omega arith))) (lt n (omega arith))
+
+-- terms of 0 from m on add nothing
+pub sum_of_first : (m n : ℕ) (f : ℕ → ℕ) → m ≤ n → ((i : ℕ) → m ≤ i → f i ≡ 0) → sum_below n f ≡ sum_below m f
+unfolding sum_below
+sum_of_first m zero f le none = let e : m ≡ 0 = omega arith in rw e refl
+sum_of_first m (suc n) f le none =
+    elim (cases_lt n m) [
+      | inl last ↦ let e : m ≡ suc n = omega arith in rw e refl
+      | inr more ↦ ap₂ bit_xor (sum_of_first m n f more none) (none n more) ∙ xor_zero_r (sum_below m f)
+    ]

@@ -9,7 +9,6 @@ use Rattle.macsec_field128.specs.Field.{block_product, sum_below}
 use Rattle.macsec_field128.specs.Laws.{AddsInFirst, Associates, ProductIsBlock}
 use Rattle.macsec_ghash.specs.Ghash.{hash_after, hash_next}
 use Rattle.macsec_ghash.specs.Powers.{power, weighted}
-use Rattle.macsec_ghash.specs.Lanes.{block_at}
 use Rattle.macsec_ghash.proofs.Steps.{by_powers}
 use Rattle.macsec_ghash.proofs.Sums.{same_sums, sum_first, sum_none}
 
@@ -39,13 +38,10 @@ weighted_is_sum h (x ∷ xs) =
     ∙ sym (sum_first (length xs) (term h (x ∷ xs) (suc (length xs))))
 
 -- eight products with the powers
-pub eight_weighted : (h : ℕ) (high low xs : List ℕ) → length xs ≡ 8 → ((j : ℕ) → j < 8 → block_at high low j ≡ slice_index xs j)
-    → sum_below 8 (λ j. block_product (block_at high low j) (power h (7 - j))) ≡ weighted h xs
+pub eight_weighted : (h : ℕ) (xs : List ℕ) → length xs ≡ 8
+    → sum_below 8 (λ j. block_product (slice_index xs j) (power h (7 - j))) ≡ weighted h xs
 unfolding term
-eight_weighted h high low xs long blocks =
-    same_sums 8 (λ j. block_product (block_at high low j) (power h (7 - j))) (term h xs 8) (λ j lt.
-    ap (λ (n : ℕ). block_product n (power h (7 - j))) (blocks j lt))
-    ∙ sym (rw long at (weighted_is_sum h xs))
+eight_weighted h xs long = sym (rw long at (weighted_is_sum h xs))
 
 -- zeros before the blocks change nothing
 pub weighted_zeros : AddsInFirst → (h n : ℕ) (xs : List ℕ) → weighted h (replicate n 0 ++ xs) ≡ weighted h xs

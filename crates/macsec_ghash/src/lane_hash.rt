@@ -4,7 +4,7 @@ ghost use Rattle.std.specs.Prelude.{◌≡◌, ◌≤◌, ℕ, List, [], ◌++�
 ghost use Rattle.macsec_ghash.specs.Ghash.{ghash, hash_after, hash_next, pad};
 ghost use Rattle.macsec_ghash.specs.Powers.{weighted};
 
-use crate::lanes::{halves, sum_of_products};
+use crate::lanes::sum_of_products;
 use crate::powers::KeyPowers;
 use crate::{Hash128, block_of};
 use macsec_field128::Block;
@@ -14,8 +14,7 @@ use macsec_field128::laws::{product_adds, product_associates, product_is_block};
 fn weighted(powers: &KeyPowers, blocks: &[u128; 8]) -> Block
     ensures { result.0 ≡ weighted powers.now blocks.now }
 {
-    let (high, low) = halves(blocks);
-    sum_of_products(high, low, powers)
+    sum_of_products(blocks, powers)
 }
 
 /// A hash by eight powers of a key, which are kept beside it: eight blocks cost one sum of eight products.
@@ -72,7 +71,7 @@ impl RunningHash {
         product_adds();
         product_associates();
         product_is_block();
-        let _powers = &powers.left;
+        let _powers = &powers.tables;
         if blocks.is_empty() {
             return self.sum;
         }
@@ -91,7 +90,7 @@ impl RunningHash {
         product_adds();
         product_associates();
         product_is_block();
-        let _powers = &powers.left;
+        let _powers = &powers.tables;
         self.waiting[0] ^= self.sum.0;
         self.sum = weighted(powers, &self.waiting);
         self.waiting_count = 0;

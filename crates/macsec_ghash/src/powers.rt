@@ -1,77 +1,38 @@
-//! The powers of a key, kept as the products of blocks with them need them.
+//! The powers of a key, kept as tables of the products of nibbles with them.
 
-ghost use Rattle.std.specs.Prelude.{◌≡◌, ℕ, ◌^◌, ◌<◌, slice_index};
-ghost use Rattle.macsec_ghash.specs.Parts.{AreParts, AreWordParts};
+ghost use Rattle.std.specs.Prelude.{◌≡◌, ℕ, ◌+◌, ◌-◌, ◌*◌, ◌/◌, ◌%◌, ◌^◌, ◌<◌, slice_index, bit_xor};
+ghost use Rattle.std.specs.Int.{bit_at, byte_at};
+ghost use Rattle.macsec_field128.specs.Carryless.{carryless};
+ghost use Rattle.macsec_ghash.specs.Tables.{AreTables, octet_of_product};
 
-use crate::lanes::{add, every_fourth, halves, left_halves};
+use macsec_field128::laws::carryless_laws;
 use macsec_field128::{Block, mul};
 use std::marker::Model;
-use std::simd::u64x8;
 
-/// The right halves of eight words, each cut into four parts, of which each has every fourth bit.
-#[derive(Clone, Copy)]
-pub struct Parts {
-    pub first: u64x8,
-    pub second: u64x8,
-    pub third: u64x8,
-    pub fourth: u64x8,
-}
+/// How many octets the product of a nibble and a block has, at most.
+pub const OCTETS: usize = 17;
 
-impl Parts {
-    /// The parts of the right halves of words.
-    fn of(words: u64x8) -> Parts
-        ensures { AreParts result (slice_index words) }
-    {
-        Parts {
-            first: every_fourth(words, 0x1111_1111),
-            second: every_fourth(words, 0x2222_2222),
-            third: every_fourth(words, 0x4444_4444),
-            fourth: every_fourth(words, 0x8888_8888),
-        }
-    }
-}
+/// How many octets the tables of eight numbers have: 16 for each octet of the products and each number.
+pub const TABLES_LEN: usize = 2_176;
 
-/// The parts of eight words: of their left halves, of their right halves, and of the sums of these.
-#[derive(Clone, Copy)]
-pub struct WordParts {
-    pub left: Parts,
-    pub right: Parts,
-    pub both: Parts,
-}
-
-impl WordParts {
-    /// The parts of words.
-    fn of(words: u64x8) -> WordParts
-        ensures { AreWordParts result (slice_index words) }
-    {
-        let left = left_halves(words);
-        WordParts {
-            left: Parts::of(left),
-            right: Parts::of(words),
-            both: Parts::of(add(left, words)),
-        }
-    }
-}
-
-/// Eight powers of a key, from the eighth down to the key itself, in their parts: those of their left halves, of their right
-/// halves, and of the sums of these. Contracts see them as the key. To make them costs seven products, so they are kept.
+/// Eight powers of a key, from the eighth down to the key itself, in tables of the products of nibbles with them. Contracts
+/// see them as the key. To make them costs seven products, so they are kept.
 #[derive(Drop)]
 pub struct KeyPowers {
     key: Block,
-    pub(crate) left: WordParts,
-    pub(crate) right: WordParts,
-    pub(crate) both: WordParts,
+    pub(crate) tables: [u8; TABLES_LEN],
 }
 
 impl Model for KeyPowers {
-    ghost use Rattle.std.specs.Prelude.{ℕ, ◌^◌, ◌<◌};
-    ghost use Rattle.macsec_ghash.specs.Parts.{ArePowerParts};
+    ghost use Rattle.std.specs.Prelude.{ℕ, ◌-◌, ◌^◌, ◌<◌};
+    ghost use Rattle.macsec_ghash.specs.Powers.{power};
+    ghost use Rattle.macsec_ghash.specs.Tables.{AreTables};
 
     ghost Value = { ℕ };
 
     ghost view = { λ p. p.key.0 };
 
-    ghost invariant = { λ p. (p.key.0 < 2 ^ 128) × ArePowerParts p.key.0 p.left p.right p.both };
+    ghost invariant = { λ p. (p.key.0 < 2 ^ 128) × AreTables p.tables (λ k. power p.key.0 (7 - k)) };
 }
 
 impl KeyPowers {
@@ -86,13 +47,61 @@ impl KeyPowers {
         let h6 = mul(h, h5);
         let h7 = mul(h, h6);
         let h8 = mul(h, h7);
-        let powers = [h8.0, h7.0, h6.0, h5.0, h4.0, h3.0, h2.0, h.0];
-        let (left, right) = halves(&powers);
         KeyPowers {
             key: h,
-            left: WordParts::of(left),
-            right: WordParts::of(right),
-            both: WordParts::of(add(left, right)),
+            tables: tables_of(&[h8.0, h7.0, h6.0, h5.0, h4.0, h3.0, h2.0, h.0]),
         }
     }
+}
+
+/// The tables of eight numbers.
+fn tables_of(numbers: &[u128; 8]) -> [u8; TABLES_LEN]
+    ensures { AreTables result (slice_index numbers.now) }
+{
+    let mut tables = [0; TABLES_LEN];
+    for place in 0..136usize {
+        let octets = octets_of_products(two_octets(numbers[place % 8], place / 8));
+        tables[16 * place..16 * place + 16].copy_from_slice(&octets);
+    }
+    tables
+}
+
+/// Octet `octet` of a number from the right, and on its right the next one.
+fn two_octets(number: u128, octet: usize) -> u16
+    requires { octet < 17 }
+    ensures { result ≡ number * 2 ^ 8 / 2 ^ (8 * octet) % 2 ^ 16 }
+{
+    if octet == 0 {
+        ((number & 0xff) as u16) << 8
+    } else {
+        ((number >> (8 * (octet - 1))) & 0xffff) as u16
+    }
+}
+
+/// An octet of the products of all nibbles with a number, from this octet of the number and the one on its right.
+fn octets_of_products(octets: u16) -> [u8; 16]
+    ensures { (n : ℕ) → n < 16 → slice_index result n ≡ octet_of_product n octets }
+{
+    let one = (octets >> 8) as u8;
+    let two = ((octets >> 7) & 0xff) as u8;
+    let four = ((octets >> 6) & 0xff) as u8;
+    let eight = ((octets >> 5) & 0xff) as u8;
+    [
+        0,
+        one,
+        two,
+        one ^ two,
+        four,
+        one ^ four,
+        two ^ four,
+        one ^ two ^ four,
+        eight,
+        one ^ eight,
+        two ^ eight,
+        one ^ two ^ eight,
+        four ^ eight,
+        one ^ four ^ eight,
+        two ^ four ^ eight,
+        one ^ two ^ four ^ eight,
+    ]
 }

@@ -1,4 +1,4 @@
-use Rattle.std.proofs.Common.{◌≡◌, List, ℕ, ap, ◌∙◌}
+use Rattle.std.proofs.Common.{◌≡◌, List, ℕ, [], ap, ◌∙◌, slice_index_or}
 use Rattle.std.specs.Int.{w128, from_be_bytes}
 use Rattle.macsec_gcm.specs.Gcm.{hash_subkey}
 use Rattle.macsec_gcm.proofs.GcmKey.new.Goals as goal
@@ -6,5 +6,6 @@ use Rattle.macsec_gcm.proofs.GcmKey.new.Goals as goal
 pub invariant_of-result : goal.invariant_of-result
 unfolding hash_subkey
 invariant_of-result c =
-    let subkey : c.from_be_bytes.result ≡ hash_subkey c.expand-schedule.result = c.from_be_bytes.ensures ∙ ap (λ (b : List ℕ). from_be_bytes w128 b) c.encrypt.ensures in
+    let subkey : c.from_be_bytes.result ≡ hash_subkey c.expand-schedule.result =
+    c.from_be_bytes.ensures ∙ ap (λ (blocks : List (List ℕ)). from_be_bytes w128 (slice_index_or blocks 0 [])) c.encrypt8.ensures in
     c.of-powers.ensures ∙ subkey

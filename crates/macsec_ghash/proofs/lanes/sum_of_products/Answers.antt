@@ -1,39 +1,59 @@
--- The sums of three products of words are put together, and the residue of the sum is the sum of the residues
--- (`HalfProducts`).
-use Rattle.std.proofs.Common.{◌≡◌, ℕ, ◌+◌, ◌-◌, ◌*◌, ◌/◌, ◌%◌, ◌<◌, ◌^◌, slice_index, bit_xor, ap, ◌∙◌, arith}
-use Rattle.std.proofs.lemmas.Nat.{xor_lt}
-use Rattle.macsec_field128.specs.Carryless.{carryless, residue}
-use Rattle.macsec_field128.specs.Field.{block_product}
-use Rattle.macsec_ghash.specs.Lanes.{block_at}
-use Rattle.macsec_ghash.specs.Parts.{ArePowerParts}
+-- The nibbles of the blocks are those whose products are looked up; the sums of these are the products without carries, and
+-- the residue of their sum is the sum of the products (`NibbleProducts`).
+use Rattle.std.proofs.Common.{◌≡◌, ℕ, List, [], ◌∷◌, ◌+◌, ◌-◌, ◌*◌, ◌/◌, ◌%◌, ◌^◌, ◌<◌, slice_index, bit_xor, ap, ap₂, ◌∙◌, arith}
+use Rattle.std.specs.Int.{byte_at}
+use Rattle.macsec_field128.specs.Carryless.{residue}
 use Rattle.macsec_ghash.specs.Powers.{power}
-use Rattle.macsec_ghash.proofs.Holds.{word_lt}
-use Rattle.macsec_ghash.proofs.HalfProducts.{blocks_joined, sum_of_blocks}
+use Rattle.macsec_ghash.specs.Tables.{AreTables, lane_at}
+use Rattle.macsec_ghash.proofs.Below.{below_eight}
+use Rattle.macsec_ghash.proofs.MovedSums.{octet_lt, same_moved}
+use Rattle.macsec_ghash.proofs.NibbleProducts.{by_octets, by_octets_lt, by_tables, halves_joined, residue_by_nibbles}
 use Rattle.macsec_ghash.proofs.Steps.{power_is_block}
-use Rattle.macsec_ghash.proofs.Sums.{same_sums}
 use Rattle.macsec_ghash.proofs.lanes.sum_of_products.Goals as goal
+
+pub moved_sums-requires : goal.moved_sums-requires
+moved_sums-requires c =
+    let vectors : List (List ℕ) = c.nibbles_of.result ∷ c.nibbles_of-2.result ∷ c.nibbles_of-3.result ∷ c.nibbles_of-4.result
+    ∷ c.nibbles_of-5.result ∷ c.nibbles_of-6.result ∷ c.nibbles_of-7.result ∷ c.nibbles_of-8.result ∷ [] in
+    below_eight (λ p. (k : ℕ) → k < 32 → lane_at vectors p k < 16)
+    c.nibbles_of.ensures.small c.nibbles_of-2.ensures.small c.nibbles_of-3.ensures.small c.nibbles_of-4.ensures.small
+    c.nibbles_of-5.ensures.small c.nibbles_of-6.ensures.small c.nibbles_of-7.ensures.small c.nibbles_of-8.ensures.small
 
 pub returns : goal.returns
 returns c =
-    let left : ℕ = c.sum_of_word_products-left.result in
-    let right : ℕ = c.sum_of_word_products-right.result in
-    let both : ℕ = c.sum_of_word_products-both.result in
-    let right_lt : right < 2 ^ 128 = omega arith in
     let h : ℕ = c.args.powers.now in
     let h_lt : h < 2 ^ 128 = rw c.powers.view_is at c.powers.invariant.0 in
-    let parts : ArePowerParts h c.powers.inside.left c.powers.inside.right c.powers.inside.both = rw c.powers.view_is at c.powers.invariant.1 in
-    let p : ℕ → ℕ = λ j. power h (7 - j) in
-    let p_lt : (j : ℕ) → p j < 2 ^ 128 = λ j. power_is_block c.product_is_block.ensures h h_lt (7 - j) in
-    let high : ℕ → ℕ = λ j. p j / 2 ^ 64 in
-    let low : ℕ → ℕ = λ j. p j % 2 ^ 64 in
-    let high_lt : (j : ℕ) → j < 8 → high j < 2 ^ 64 = λ j h. omega (arith, p_lt j) in
-    let low_lt : (j : ℕ) → j < 8 → low j < 2 ^ 64 = λ j h. omega arith in
-    let whole : (j : ℕ) → p j / 2 ^ 64 * 2 ^ 64 + p j % 2 ^ 64 ≡ p j = λ j. omega arith in
-    c.residue.ensures ∙ ap residue (blocks_joined left right both right_lt)
-    ∙ sum_of_blocks c.carryless_laws.ensures c.residue_adds.ensures c.product_is_residue.ensures
-    (slice_index c.args.high) (slice_index c.args.low) high low
-    (word_lt 8 c.args.high c.fits-high) (word_lt 8 c.args.low c.fits-low) high_lt low_lt
-    left right both (c.sum_of_word_products-left.ensures high high_lt parts.left) (c.sum_of_word_products-right.ensures low low_lt parts.right)
-    (c.sum_of_word_products-both.ensures (λ j. bit_xor (high j) (low j)) (λ j h. xor_lt 64 (high j) (low j) (high_lt j h) (low_lt j h)) parts.both
-    ∙ same_sums 8 _ _ (λ j h. ap (λ (m : ℕ). carryless m (bit_xor (high j) (low j))) (c.add.ensures j h)))
-    ∙ same_sums 8 _ _ (λ j h. ap (block_product (block_at c.args.high c.args.low j)) (whole j))
+    let p : ℕ → ℕ = λ k. power h (7 - k) in
+    let p_lt : (k : ℕ) → k < 8 → p k < 2 ^ 128 = λ k g. power_is_block c.product_is_block.ensures h h_lt (7 - k) in
+    let tables : List ℕ = c.powers.inside.tables in
+    let are : AreTables tables p = rw c.powers.view_is at c.powers.invariant.1 in
+    let x : ℕ → ℕ = slice_index c.args.blocks.now in
+    let x_lt : (k : ℕ) → k < 8 → x k < 2 ^ 128 = λ k g. c.fits-blocks k in
+    let vectors : List (List ℕ) = c.nibbles_of.result ∷ c.nibbles_of-2.result ∷ c.nibbles_of-3.result ∷ c.nibbles_of-4.result
+    ∷ c.nibbles_of-5.result ∷ c.nibbles_of-6.result ∷ c.nibbles_of-7.result ∷ c.nibbles_of-8.result ∷ [] in
+    let left : ℕ → ℕ → ℕ = λ k i. byte_at (15 - i) (x k) / 2 ^ 4 in
+    let right : ℕ → ℕ → ℕ = λ k i. byte_at (15 - i) (x k) % 2 ^ 4 in
+    let left_lt : (k : ℕ) → k < 8 → (i : ℕ) → left k i < 16 = λ k g i. let lt = octet_lt (15 - i) (x k) in omega (arith, lt) in
+    let right_lt : (k : ℕ) → k < 8 → (i : ℕ) → right k i < 16 = λ k g i. omega arith in
+    let is_left = below_eight (λ k. (i : ℕ) → i < 16 → lane_at vectors k (0 + i) ≡ left k i)
+    c.nibbles_of.ensures.left c.nibbles_of-2.ensures.left c.nibbles_of-3.ensures.left c.nibbles_of-4.ensures.left
+    c.nibbles_of-5.ensures.left c.nibbles_of-6.ensures.left c.nibbles_of-7.ensures.left c.nibbles_of-8.ensures.left in
+    let is_right = below_eight (λ k. (i : ℕ) → i < 16 → lane_at vectors k (16 + i) ≡ right k i)
+    c.nibbles_of.ensures.right c.nibbles_of-2.ensures.right c.nibbles_of-3.ensures.right c.nibbles_of-4.ensures.right
+    c.nibbles_of-5.ensures.right c.nibbles_of-6.ensures.right c.nibbles_of-7.ensures.right c.nibbles_of-8.ensures.right in
+    let a : ℕ = c.number_of-a.result in
+    let b : ℕ = c.number_of-b.result in
+    let d : ℕ = c.number_of-c.result in
+    let e : ℕ = c.number_of-d.result in
+    let b_lt : b < 2 ^ 128 = omega arith in
+    let e_lt : e < 2 ^ 128 = omega arith in
+    let first : a * 2 ^ 128 + b ≡ by_octets left p =
+    ap₂ (λ (m n : ℕ). m * 2 ^ 128 + n) (c.number_of-a.ensures ∙ same_moved 16 _ _ c.first_half.ensures) (c.number_of-b.ensures ∙ same_moved 16 _ _ c.first_half-2.ensures)
+    ∙ c.moved_sums.ensures.first ∙ by_tables tables p are _ left is_left left_lt in
+    let second : d * 2 ^ 128 + e ≡ by_octets right p =
+    ap₂ (λ (m n : ℕ). m * 2 ^ 128 + n) (c.number_of-c.ensures ∙ same_moved 16 _ _ c.second_half.ensures) (c.number_of-d.ensures ∙ same_moved 16 _ _ c.second_half-2.ensures)
+    ∙ c.moved_sums.ensures.second ∙ by_tables tables p are _ right is_right right_lt in
+    let room : (a * 2 ^ 128 + b) * 2 ^ 4 < 2 ^ 256 = omega (arith, first, by_octets_lt left left_lt p p_lt) in
+    c.residue.ensures
+    ∙ ap residue (halves_joined a b d e b_lt e_lt room ∙ ap₂ (λ (m n : ℕ). bit_xor (m * 2 ^ 4) n) first second)
+    ∙ residue_by_nibbles c.carryless_laws.ensures c.residue_adds.ensures c.product_is_residue.ensures x p x_lt p_lt

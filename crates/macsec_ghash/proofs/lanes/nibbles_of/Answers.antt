@@ -1,0 +1,28 @@
+-- The octets of the block, apart in nibbles: the left ones in the first sixteen lanes, and behind them the right ones.
+use Rattle.std.proofs.Common.{◌≡◌, ℕ, ◌+◌, ◌-◌, ◌/◌, ◌%◌, ◌^◌, ◌<◌, slice_index, inl, inr, ap, subst, ◌∙◌, arith}
+use Rattle.std.proofs.lemmas.Bool.{cases_lt}
+use Rattle.macsec_ghash.proofs.lanes.nibbles_of.Goals as goal
+
+pub returns-clause-left : goal.returns-clause-left
+returns-clause-left c i lt =
+    (c.side_by_side.ensures i lt).0 ∙ (c.left_nibbles.ensures i lt).0 ∙ ap (λ (n : ℕ). n / 2 ^ 4) (c.turned-octets.ensures i lt ∙ c.octets_of.ensures (15 - i) (omega arith))
+
+pub returns-clause-right : goal.returns-clause-right
+returns-clause-right c i lt =
+    (c.side_by_side.ensures i lt).1 ∙ c.right_nibbles.ensures i lt ∙ ap (λ (n : ℕ). n % 2 ^ 4) (c.turned-octets.ensures i lt ∙ c.octets_of.ensures (15 - i) (omega arith))
+
+pub returns-clause-small : goal.returns-clause-small
+returns-clause-small c k lt =
+    elim (cases_lt k 16) [
+      | inl first ↦
+          let same : 0 + k ≡ k = omega arith in
+          let is = (c.side_by_side.ensures k first).0 in
+          let small : slice_index c.side_by_side.result (0 + k) < 16 = omega (arith, is, (c.left_nibbles.ensures k first).1) in
+          subst (λ (m : ℕ). slice_index c.side_by_side.result m < 16) same small
+      | inr second ↦
+          let i : ℕ = k - 16 in
+          let same : 16 + i ≡ k = omega arith in
+          let is = (c.side_by_side.ensures i (omega arith)).1 ∙ c.right_nibbles.ensures i (omega arith) in
+          let small : slice_index c.side_by_side.result (16 + i) < 16 = omega (arith, is) in
+          subst (λ (m : ℕ). slice_index c.side_by_side.result m < 16) same small
+    ]
