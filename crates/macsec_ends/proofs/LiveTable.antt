@@ -1,5 +1,6 @@
 -- The table of the places of live logs: changes of the logs at its places, and the table after them.
-use Rattle.std.proofs.Common.{◌≡◌, ◌∙◌, ℕ, zero, suc, ◌<◌, ◌≤◌, All, Bool, true, false, cond, List, [], ◌∷◌, ◌+◌, ◌++◌, ap, arith, drop, filter, get_or, length, map, refl, set, subst, sym, take}
+use Rattle.std.proofs.Common.{◌≡◌, ◌∙◌, ℕ, zero, suc, ◌<◌, ◌≤◌, All, Bool, true, false, cond, List, [], ◌∷◌, ◌+◌, ◌++◌}
+use Rattle.std.proofs.Common.{ap, arith, drop, filter, get_or, length, map, refl, set, subst, sym, take}
 use Rattle.std.specs.Prelude.{find, if◌then◌else◌, option_map, Option, Some, None}
 use Rattle.std.proofs.Math.Seq.{map-set_same}
 use Rattle.std.proofs.lemmas.List.{drop_more, length-map, map-append}
@@ -32,7 +33,8 @@ live_before live places = cond live (zero ∷ map suc places) (map suc places)
 -- ---- kept logs
 
 -- a log is replaced by one that is changed so
-logs_of-set : (change : Change) (logs : List KeptLog) (place : ℕ) (old new : KeptLog) → old ≡ get_or logs place old → new.log ≡ change old.log → logs_of (set logs place new) ≡ with_at change place (logs_of logs)
+logs_of-set : (change : Change) (logs : List KeptLog) (place : ℕ) (old new : KeptLog) → old ≡ get_or logs place old → new.log ≡ change old.log →
+    logs_of (set logs place new) ≡ with_at change place (logs_of logs)
 logs_of-set change [] place old new is changed = refl
 logs_of-set change (k ∷ logs) zero old new is changed = ap (λ log. log ∷ logs_of logs) (changed ∙ ap (λ (x : KeptLog). change x.log) is)
 logs_of-set change (k ∷ logs) (suc place) old new is changed = ap (λ rest. k.log ∷ rest) (logs_of-set change logs place old new is changed)
@@ -57,8 +59,9 @@ same_logs logs place old new is same = map-set_same log_of logs place new old (s
 pub more_places : (logs : List KeptLog) (table : List ℕ) (i : ℕ) (new : KeptLog) → i < length table → 1 ≤ new.spare → All (HasPlaceAt logs) (take i table) →
     All (HasPlaceAt (set logs (get_or table i 0) new)) (take (i + 1) table)
 more_places logs table i new inside spare have =
-    All-more (HasPlaceAt (set logs (get_or table i 0) new)) table i 0 inside (λ k d before. place_stays logs (get_or table i 0) (get_or (take i table) k d) new spare (have k d before))
-    (place_made logs (get_or table i 0) new spare)
+    let place = get_or table i 0 in
+    All-more (HasPlaceAt (set logs place new)) table i 0 inside
+    (λ k d before. place_stays logs place (get_or (take i table) k d) new spare (have k d before)) (place_made logs place new spare)
 
 place_found : (logs : List KeptLog) (place : ℕ) (old : KeptLog) → old ≡ get_or logs place old → place < length logs → HasPlaceAt logs place → 1 ≤ old.spare
 place_found [] place old is within has = absurd (omega (arith, within))
@@ -67,17 +70,25 @@ place_found (k ∷ logs) (suc place) old is within has = place_found logs place 
 
 -- ---- the table
 
+-- a place of one of so many logs
+abbrev IsPlace : ℕ → ℕ → Type 0
+IsPlace count place = place < count
+
 within : (logs : List DeliveryLog) → All (λ place. place < length logs) (live_places logs)
 within [] = All-nil (λ place. place < 0)
-within (log ∷ logs) = by_test log.live (All-map (λ place. place < suc (length logs)) (λ (place : ℕ). suc place) (live_places logs) (λ i d inside. omega (arith, within logs i d inside)))
+within (log ∷ logs) =
+    let later = All-map (IsPlace (suc (length logs))) (λ (place : ℕ). suc place) (live_places logs) (λ i d inside. omega (arith, within logs i d inside)) in
+    by_test log.live later
   where
     by_test : (live : Bool) → All (λ place. place < suc (length logs)) (map suc (live_places logs)) → All (λ place. place < suc (length logs)) (live_before live (live_places logs))
-    by_test true later = All-cons (λ place. place < suc (length logs)) zero (map suc (live_places logs)) (omega arith) later
+    by_test true later = All-cons (IsPlace (suc (length logs))) zero (map suc (live_places logs)) (omega arith) later
     by_test false later = later
 
 -- each place of the table is that of a log
 pub all_within : (logs : List KeptLog) (table : List ℕ) → table ≡ live_places (logs_of logs) → All (λ place. place < length logs) table
-all_within logs table is = subst (λ (places : List ℕ). All (λ place. place < length logs) places) (sym is) (λ i d inside. omega (arith, length-map logs log_of, within (logs_of logs) i d inside))
+all_within logs table is =
+    let each : All (IsPlace (length logs)) (live_places (logs_of logs)) = λ i d inside. omega (arith, length-map logs log_of, within (logs_of logs) i d inside) in
+    subst (λ (places : List ℕ). All (IsPlace (length logs)) places) (sym is) each
 
 -- what holds of each place of a table holds of the one that a search finds
 holds_of_found : (P : ℕ → Type 0) (test : ℕ → Bool) (places : List ℕ) (place : ℕ) → All P places → find test places ≡ Some place → P place
@@ -113,20 +124,24 @@ live_places-delivered (Some place) frame logs = live_places-delivering (is_live_
 
 -- ---- every live log is changed
 
-with_each-map_suc : (change : Change) (places : List ℕ) (log : DeliveryLog) (logs : List DeliveryLog) → with_each change (map suc places) (log ∷ logs) ≡ log ∷ with_each change places logs
+with_each-map_suc : (change : Change) (places : List ℕ) (log : DeliveryLog) (logs : List DeliveryLog) →
+    with_each change (map suc places) (log ∷ logs) ≡ log ∷ with_each change places logs
 with_each-map_suc change [] log logs = refl
 with_each-map_suc change (place ∷ places) log logs = with_each-map_suc change places log (with_at change place logs)
 
-with_each-live : (change : Change) → ((log : DeliveryLog) → log.live ≡ false → change log ≡ log) → (logs : List DeliveryLog) → with_each change (live_places logs) logs ≡ map change logs
+with_each-live : (change : Change) → ((log : DeliveryLog) → log.live ≡ false → change log ≡ log) → (logs : List DeliveryLog) →
+    with_each change (live_places logs) logs ≡ map change logs
 with_each-live change keeps [] = refl
 with_each-live change keeps (log ∷ logs) = by_test (with_each-live change keeps logs) log.live refl
   where
-    by_test : with_each change (live_places logs) logs ≡ map change logs → (b : Bool) → log.live ≡ b → with_each change (live_before b (live_places logs)) (log ∷ logs) ≡ change log ∷ map change logs
+    by_test : with_each change (live_places logs) logs ≡ map change logs → (b : Bool) → log.live ≡ b →
+        with_each change (live_before b (live_places logs)) (log ∷ logs) ≡ change log ∷ map change logs
     by_test rest true is = with_each-map_suc change (live_places logs) (change log) logs ∙ ap (λ xs. change log ∷ xs) rest
     by_test rest false is = with_each-map_suc change (live_places logs) log logs ∙ ap (λ xs. log ∷ xs) rest ∙ ap (λ x. x ∷ map change logs) (sym (keeps log is))
 
 -- the log at the next place of the table is changed
-pub next_changed : (change : Change) (logs : List KeptLog) (table : List ℕ) (i : ℕ) (old new : KeptLog) (all : List DeliveryLog) → i < length table → old ≡ get_or logs (get_or table i 0) old → new.log ≡ change old.log →
+pub next_changed : (change : Change) (logs : List KeptLog) (table : List ℕ) (i : ℕ) (old new : KeptLog) (all : List DeliveryLog) → i < length table →
+    old ≡ get_or logs (get_or table i 0) old → new.log ≡ change old.log →
     with_each change (drop i table) (logs_of logs) ≡ all → with_each change (drop (i + 1) table) (logs_of (set logs (get_or table i 0) new)) ≡ all
 next_changed change logs table i old new all inside is changed so_far =
     ap (with_each change (drop (i + 1) table)) (logs_of-set change logs (get_or table i 0) old new is changed)
@@ -149,34 +164,43 @@ filter-map_suc test [] = refl
 filter-map_suc test (place ∷ places) = by_test (test (suc place)) (filter-map_suc test places)
   where
     by_test : (b : Bool) → filter test (map suc places) ≡ map suc (filter (λ p. test (suc p)) places) →
-        cond b (suc place ∷ filter test (map suc places)) (filter test (map suc places)) ≡ map suc (cond b (place ∷ filter (λ p. test (suc p)) places) (filter (λ p. test (suc p)) places))
+        let rest = filter test (map suc places) in
+        let left = filter (λ p. test (suc p)) places in
+        cond b (suc place ∷ rest) rest ≡ map suc (cond b (place ∷ left) left)
     by_test true rest = ap (λ ps. suc place ∷ ps) rest
     by_test false rest = rest
 
 abbrev pub is_live_in : List DeliveryLog → ℕ → Bool
 is_live_in logs place = passes_at (λ log. log.live) logs place
 
-live_places-closing : (test : DeliveryLog → Bool) (logs : List DeliveryLog) → filter (is_live_in (map (log_closing test) logs)) (live_places logs) ≡ live_places (map (log_closing test) logs)
+live_places-closing : (test : DeliveryLog → Bool) (logs : List DeliveryLog) →
+    filter (is_live_in (map (log_closing test) logs)) (live_places logs) ≡ live_places (map (log_closing test) logs)
 live_places-closing test [] = refl
 live_places-closing test (log ∷ logs) =
     by_test (filter-map_suc (is_live_in (map (log_closing test) (log ∷ logs))) (live_places logs) ∙ ap (map suc) (live_places-closing test logs)) log.live refl
   where
-    by_test : filter (is_live_in (map (log_closing test) (log ∷ logs))) (map suc (live_places logs)) ≡ map suc (live_places (map (log_closing test) logs)) → (b : Bool) → log.live ≡ b →
-        filter (is_live_in (map (log_closing test) (log ∷ logs))) (live_before b (live_places logs)) ≡ live_before (log_closing test log).live (live_places (map (log_closing test) logs))
+    by_test : filter (is_live_in (map (log_closing test) (log ∷ logs))) (map suc (live_places logs)) ≡ map suc (live_places (map (log_closing test) logs)) →
+        (b : Bool) → log.live ≡ b →
+        let closed = map (log_closing test) (log ∷ logs) in
+        filter (is_live_in closed) (live_before b (live_places logs)) ≡ live_before (log_closing test log).live (live_places (map (log_closing test) logs))
     by_test rest true is = ap (λ (ps : List ℕ). cond (log_closing test log).live (zero ∷ ps) ps) rest
     by_test rest false is = rest ∙ sym (ap (λ b. live_before b (live_places (map (log_closing test) logs))) (ap (λ (l : DeliveryLog). l.live) (closed_stays test log is) ∙ is))
 
 -- ---- the table after a command
 
-pub table_more : (logs : List KeptLog) (new : KeptLog) (table : List ℕ) (n : ℕ) → n ≡ length logs → table ≡ live_places (logs_of logs) → new.log.live ≡ true → table ++ n ∷ [] ≡ live_places (logs_of (logs ++ new ∷ []))
+pub table_more : (logs : List KeptLog) (new : KeptLog) (table : List ℕ) (n : ℕ) → n ≡ length logs → table ≡ live_places (logs_of logs) →
+    new.log.live ≡ true → table ++ n ∷ [] ≡ live_places (logs_of (logs ++ new ∷ []))
 table_more logs new table n count is live =
     ap (λ (places : List ℕ). places ++ n ∷ []) is ∙ ap (λ m. live_places (logs_of logs) ++ m ∷ []) (count ∙ sym (length-map logs log_of))
     ∙ sym (live_places-push (logs_of logs) new.log live) ∙ ap live_places (sym (map-append log_of logs (new ∷ [])))
 
-pub table_left : (test : DeliveryLog → Bool) (logs after : List DeliveryLog) (table left : List ℕ) → table ≡ live_places logs → after ≡ map (log_closing test) logs → left ≡ filter (is_live_in after) table →
+pub table_left : (test : DeliveryLog → Bool) (logs after : List DeliveryLog) (table left : List ℕ) → table ≡ live_places logs →
+    after ≡ map (log_closing test) logs → left ≡ filter (is_live_in after) table →
     left ≡ live_places after
 table_left test logs after table left is closed left_is =
-    left_is ∙ ap (filter (is_live_in after)) is ∙ ap (λ (ls : List DeliveryLog). filter (is_live_in ls) (live_places logs)) closed ∙ live_places-closing test logs ∙ ap live_places (sym closed)
+    left_is ∙ ap (filter (is_live_in after)) is
+    ∙ ap (λ (ls : List DeliveryLog). filter (is_live_in ls) (live_places logs)) closed
+    ∙ live_places-closing test logs ∙ ap live_places (sym closed)
 
 -- ---- the first live log that passes a test is changed
 
@@ -189,7 +213,8 @@ find-map_suc test (place ∷ places) = by_test (test (suc place)) (find-map_suc 
     by_test true rest = refl
     by_test false rest = rest
 
-with_found_at-map_suc : (change : Change) (o : Option ℕ) (log : DeliveryLog) (logs : List DeliveryLog) → with_found_at change (option_map suc o) (log ∷ logs) ≡ log ∷ with_found_at change o logs
+with_found_at-map_suc : (change : Change) (o : Option ℕ) (log : DeliveryLog) (logs : List DeliveryLog) →
+    with_found_at change (option_map suc o) (log ∷ logs) ≡ log ∷ with_found_at change o logs
 with_found_at-map_suc change None log logs = refl
 with_found_at-map_suc change (Some place) log logs = refl
 
@@ -201,11 +226,13 @@ module _ (test : DeliveryLog → Bool) (of_live : (log : DeliveryLog) → log.li
       ∙ with_found_at-map_suc change (find (passes_at test logs) (live_places logs)) log logs ∙ ap (λ rest. log ∷ rest) (with_found_at-find logs)) log.live refl
     where
       by_test : with_found_at change (find (passes_at test (log ∷ logs)) (map suc (live_places logs))) (log ∷ logs) ≡ log ∷ with_first test change logs → (b : Bool) →
-          with_found_at change (if b then Some zero else find (passes_at test (log ∷ logs)) (map suc (live_places logs))) (log ∷ logs) ≡ (if b then change log ∷ logs else log ∷ with_first test change logs)
+          let later = find (passes_at test (log ∷ logs)) (map suc (live_places logs)) in
+          with_found_at change (if b then Some zero else later) (log ∷ logs) ≡ (if b then change log ∷ logs else log ∷ with_first test change logs)
       by_test later true = refl
       by_test later false = later
 
-      by_live : with_found_at change (find (passes_at test (log ∷ logs)) (map suc (live_places logs))) (log ∷ logs) ≡ log ∷ with_first test change logs → (b : Bool) → log.live ≡ b →
+      by_live : with_found_at change (find (passes_at test (log ∷ logs)) (map suc (live_places logs))) (log ∷ logs) ≡ log ∷ with_first test change logs →
+          (b : Bool) → log.live ≡ b →
           with_found_at change (find (passes_at test (log ∷ logs)) (live_before b (live_places logs))) (log ∷ logs) ≡ with_first test change (log ∷ logs)
       by_live later true is = by_test later (test log)
       by_live later false is = later ∙ sym (ap (λ b. if b then change log ∷ logs else log ∷ with_first test change logs) (of_live log is))
@@ -216,23 +243,33 @@ with_found_at-find_live sci an change logs = with_found_at-find (is_live_at sci 
 
 -- the search in the table, of logs that are seen as these
 module _ (sci : Sci) (an : ℕ) (logs seen : List KeptLog) (table : List ℕ) (same : seen ≡ logs) (is : table ≡ live_places (logs_of logs)) where
+  -- the log at a place is that of the association
+  abbrev is_its : ℕ → Bool
+  is_its place = passes_at (is_live_at sci an) (logs_of logs) place
+
   searched : (o : Option ℕ) → o ≡ find (passes_at (is_live_at sci an) (logs_of seen)) table → find (passes_at (is_live_at sci an) (logs_of logs)) table ≡ o
   searched o found = ap (λ (ls : List KeptLog). find (passes_at (is_live_at sci an) (logs_of ls)) table) (sym same) ∙ sym found
 
   pub inside : (o : Option ℕ) → o ≡ find (passes_at (is_live_at sci an) (logs_of seen)) table → (place : ℕ) → o ≡ Some place → place < length logs
-  inside o found place there = holds_of_found (λ p. p < length logs) (passes_at (is_live_at sci an) (logs_of logs)) table place (all_within logs table is) (searched o found ∙ there)
+  inside o found place there = holds_of_found (IsPlace (length logs)) is_its table place (all_within logs table is) (searched o found ∙ there)
 
-  pub has_place : (o : Option ℕ) → o ≡ find (passes_at (is_live_at sci an) (logs_of seen)) table → (place : ℕ) → o ≡ Some place → All (HasPlaceAt logs) table → (old : KeptLog) → old ≡ get_or logs place old → 1 ≤ old.spare
+  pub has_place : (o : Option ℕ) → o ≡ find (passes_at (is_live_at sci an) (logs_of seen)) table → (place : ℕ) → o ≡ Some place →
+      All (HasPlaceAt logs) table → (old : KeptLog) → old ≡ get_or logs place old → 1 ≤ old.spare
   has_place o found place there have old here =
-      place_found logs place old here (inside o found place there) (holds_of_found (HasPlaceAt logs) (passes_at (is_live_at sci an) (logs_of logs)) table place have (searched o found ∙ there))
+      let has = holds_of_found (HasPlaceAt logs) is_its table place have (searched o found ∙ there) in
+      place_found logs place old here (inside o found place there) has
 
   module _ (change : Change) where
     by_search : with_found_at change (find (passes_at (is_live_at sci an) (logs_of logs)) table) (logs_of logs) ≡ with_first (is_live_at sci an) change (logs_of logs)
-    by_search = ap (λ (places : List ℕ). with_found_at change (find (passes_at (is_live_at sci an) (logs_of logs)) places) (logs_of logs)) is ∙ with_found_at-find_live sci an change (logs_of logs)
+    by_search =
+        ap (λ (places : List ℕ). with_found_at change (find is_its places) (logs_of logs)) is ∙ with_found_at-find_live sci an change (logs_of logs)
 
-    pub changed_at : (o : Option ℕ) → o ≡ find (passes_at (is_live_at sci an) (logs_of seen)) table → (place : ℕ) → o ≡ Some place → (old new : KeptLog) → old ≡ get_or logs place old → new.log ≡ change old.log →
+    pub changed_at : (o : Option ℕ) → o ≡ find (passes_at (is_live_at sci an) (logs_of seen)) table → (place : ℕ) → o ≡ Some place →
+        (old new : KeptLog) → old ≡ get_or logs place old → new.log ≡ change old.log →
         logs_of (set logs place new) ≡ with_first (is_live_at sci an) change (logs_of logs)
-    changed_at o found place there old new here changed = logs_of-set change logs place old new here changed ∙ ap (λ x. with_found_at change x (logs_of logs)) (sym (searched o found ∙ there)) ∙ by_search
+    changed_at o found place there old new here changed =
+        logs_of-set change logs place old new here changed ∙ ap (λ x. with_found_at change x (logs_of logs)) (sym (searched o found ∙ there)) ∙ by_search
 
-    pub changed_nowhere : (o : Option ℕ) → o ≡ find (passes_at (is_live_at sci an) (logs_of seen)) table → o ≡ None → logs_of logs ≡ with_first (is_live_at sci an) change (logs_of logs)
+    pub changed_nowhere : (o : Option ℕ) → o ≡ find (passes_at (is_live_at sci an) (logs_of seen)) table → o ≡ None →
+        logs_of logs ≡ with_first (is_live_at sci an) change (logs_of logs)
     changed_nowhere o found none = ap (λ x. with_found_at change x (logs_of logs)) (sym (searched o found ∙ none)) ∙ by_search

@@ -11,15 +11,18 @@ use Rattle.macsec_rx.specs.Channels.{at_place, is_at, same_sci}
 use Rattle.macsec_rx.specs.Commands.{row_narrowed, row_raised, row_switched}
 use Rattle.macsec_rx.specs.Judge.{accepted_number, place_of, row_accepting, rows_accepting, rows_after}
 use Rattle.macsec_commands.specs.declared.command.Command.{Command}
-use Rattle.macsec_commands.specs.declared.command.Command.TheVariants.{Protect, Validate, Replay, Tag, Key, Retire, TxSa, TxOn, TxOff, TxDel, RxSc, RxScDel, RxSa, RxOn, RxOff, RxLow, RxDel}
+use Rattle.macsec_commands.specs.declared.command.Command.TheVariants.{Protect, Validate, Replay, Tag, Key, Retire, TxSa, TxOn, TxOff}
+use Rattle.macsec_commands.specs.declared.command.Command.TheVariants.{TxDel, RxSc, RxScDel, RxSa, RxOn, RxOff, RxLow, RxDel}
 use Rattle.macsec_secy.specs.declared.fault.FrameFault.{FrameFault}
 use Rattle.macsec_secy.specs.State.{State}
 use Rattle.macsec_secy.specs.Sound as endpoint
 use Rattle.macsec_secy.specs.Commands.{effect, refusal, unless_refused}
 use Rattle.macsec_secy.specs.Reception.{judgement_of, state_after_receiving}
-use Rattle.macsec_secy.specs.Step.{Input, operator_command, client_frame, link_frame, uncontrolled_frame, Output, command_output, leaves, received, frame_fault, received_output, sending_of, sent_output, state_after_sending, step, unless_fault}
+use Rattle.macsec_secy.specs.Step.{Input, operator_command, client_frame, link_frame, uncontrolled_frame, Output, command_output, leaves, received}
+use Rattle.macsec_secy.specs.Step.{frame_fault, received_output, sending_of, sent_output, state_after_sending, step, unless_fault}
 use Rattle.macsec_ends.specs.Answers.{EndHappens}
-use Rattle.macsec_ends.specs.Logs.{AreLogged, DeliveryLog, association_of_log, association_of_row, delivered_after, is_live_at, live_logs, log_closing, log_delivering, logs_after_command, with_first}
+use Rattle.macsec_ends.specs.Logs.{AreLogged, DeliveryLog, association_of_log, association_of_row, delivered_after, is_live_at}
+use Rattle.macsec_ends.specs.Logs.{live_logs, log_closing, log_delivering, logs_after_command, with_first}
 use Rattle.macsec_ends.specs.Sound.{IsSoundEnd}
 use Rattle.macsec_ends.specs.Ends.{EndState, end_after}
 
@@ -72,22 +75,29 @@ module _ (gone : Association → Bool) (test : DeliveryLog → Bool) (same : (lo
   logs_left [] = refl
   logs_left (log ∷ logs) = by_test (test log) refl (logs_left logs)
     where
-      closed : left_of logs ≡ filter stays (before_of logs) → test log ≡ true → (live : Bool) → log.live ≡ live → left_of logs ≡ filter stays (map association_of_log (cond live (log ∷ live_logs logs) (live_logs logs)))
-      closed rest is true live = rest ∙ sym (ap (λ b. cond (not b) (association_of_log log ∷ filter stays (before_of logs)) (filter stays (before_of logs))) (sym (same log live) ∙ is))
+      closed : left_of logs ≡ filter stays (before_of logs) → test log ≡ true → (live : Bool) → log.live ≡ live →
+          left_of logs ≡ filter stays (map association_of_log (cond live (log ∷ live_logs logs) (live_logs logs)))
+      closed rest is true live =
+          let others = filter stays (before_of logs) in
+          rest ∙ sym (ap (λ b. cond (not b) (association_of_log log ∷ others) others) (sym (same log live) ∙ is))
       closed rest is false live = rest
 
       kept : left_of logs ≡ filter stays (before_of logs) → test log ≡ false → (live : Bool) → log.live ≡ live →
-          map association_of_log (cond live (log ∷ live_logs (map (log_closing test) logs)) (live_logs (map (log_closing test) logs))) ≡ filter stays (map association_of_log (cond live (log ∷ live_logs logs) (live_logs logs)))
+          let left = live_logs (map (log_closing test) logs) in
+          map association_of_log (cond live (log ∷ left) left) ≡ filter stays (map association_of_log (cond live (log ∷ live_logs logs) (live_logs logs)))
       kept rest is true live =
-          ap (λ xs. association_of_log log ∷ xs) rest ∙ sym (ap (λ b. cond (not b) (association_of_log log ∷ filter stays (before_of logs)) (filter stays (before_of logs))) (sym (same log live) ∙ is))
+          let others = filter stays (before_of logs) in
+          ap (λ xs. association_of_log log ∷ xs) rest ∙ sym (ap (λ b. cond (not b) (association_of_log log ∷ others) others) (sym (same log live) ∙ is))
       kept rest is false live = rest
 
       by_test : (b : Bool) → test log ≡ b → left_of logs ≡ filter stays (before_of logs) →
-          map association_of_log (live_logs ((if b then record log { live = false } else log) ∷ map (log_closing test) logs)) ≡ filter stays (map association_of_log (live_logs (log ∷ logs)))
+          let first = if b then record log { live = false } else log in
+          map association_of_log (live_logs (first ∷ map (log_closing test) logs)) ≡ filter stays (map association_of_log (live_logs (log ∷ logs)))
       by_test true is rest = closed rest is log.live refl
       by_test false is rest = kept rest is log.live refl
 
-  closed_with : (rows : List RxRow) (logs : List DeliveryLog) → AreLogged rows logs → AreLogged (filter (λ row. not (gone (association_of_row row))) rows) (map (log_closing test) logs)
+  closed_with : (rows : List RxRow) (logs : List DeliveryLog) → AreLogged rows logs →
+      AreLogged (filter (λ row. not (gone (association_of_row row))) rows) (map (log_closing test) logs)
   closed_with rows logs logged = logs_left logs ∙ ap (filter stays) logged ∙ sym (rows_left gone rows)
 
 -- ---- commands
@@ -133,7 +143,8 @@ delivering_keeps : (test : DeliveryLog → Bool) (frame : List ℕ) (logs : List
 delivering_keeps test frame [] = refl
 delivering_keeps test frame (log ∷ logs) = by_test (test log) (delivering_keeps test frame logs)
   where
-    same_kept : (live : Bool) → map association_of_log (cond live (log_delivering frame log ∷ live_logs logs) (live_logs logs)) ≡ map association_of_log (cond live (log ∷ live_logs logs) (live_logs logs))
+    same_kept : (live : Bool) →
+        map association_of_log (cond live (log_delivering frame log ∷ live_logs logs) (live_logs logs)) ≡ map association_of_log (cond live (log ∷ live_logs logs) (live_logs logs))
     same_kept true = refl
     same_kept false = refl
 
@@ -144,11 +155,13 @@ delivering_keeps test frame (log ∷ logs) = by_test (test log) (delivering_keep
     later false rest = rest
 
     by_test : (b : Bool) → map association_of_log (live_logs (with_first test (log_delivering frame) logs)) ≡ map association_of_log (live_logs logs) →
-        map association_of_log (live_logs (if b then log_delivering frame log ∷ logs else log ∷ with_first test (log_delivering frame) logs)) ≡ map association_of_log (live_logs (log ∷ logs))
+        let after = if b then log_delivering frame log ∷ logs else log ∷ with_first test (log_delivering frame) logs in
+        map association_of_log (live_logs after) ≡ map association_of_log (live_logs (log ∷ logs))
     by_test true rest = same_kept log.live
     by_test false rest = later log.live rest
 
-accepted_logged : (window : ℕ) (number : Option ℕ) (row : Option RxRow) (rows : List RxRow) (logs : List DeliveryLog) → AreLogged rows logs → AreLogged (rows_accepting window number row rows) logs
+accepted_logged : (window : ℕ) (number : Option ℕ) (row : Option RxRow) (rows : List RxRow) (logs : List DeliveryLog) → AreLogged rows logs →
+    AreLogged (rows_accepting window number row rows) logs
 accepted_logged window None row rows logs logged = logged
 accepted_logged window (Some number) None rows logs logged = logged
 accepted_logged window (Some number) (Some row) rows logs logged =
@@ -168,7 +181,9 @@ frame_logged : (s : State) (frame : List ℕ) (f : Option FrameFault) (logs : Li
     (delivered_after (link_frame frame) (unless_fault f s (received_output frame (judgement_of s frame), state_after_receiving s frame (judgement_of s frame))).0 logs)
 frame_logged s frame None logs logged =
     let j = judgement_of s frame in
-    delivered_logged (rows_after s.options.window j s.rx.rows) logs frame j.verdict j.row j.delivered (accepted_logged s.options.window (accepted_number j) j.row s.rx.rows logs logged)
+    let window = s.options.window in
+    let logged_then = accepted_logged window (accepted_number j) j.row s.rx.rows logs logged in
+    delivered_logged (rows_after window j s.rx.rows) logs frame j.verdict j.row j.delivered logged_then
 frame_logged s frame (Some f) logs logged = logged
 
 sent_logged : (s : State) (frame : List ℕ) (f : Option FrameFault) (logs : List DeliveryLog) → AreLogged s.rx.rows logs →
@@ -176,7 +191,8 @@ sent_logged : (s : State) (frame : List ℕ) (f : Option FrameFault) (logs : Lis
 sent_logged s frame None logs logged = logged
 sent_logged s frame (Some f) logs logged = logged
 
-uncontrolled_logged : (s : State) (frame : List ℕ) (f : Option FrameFault) (logs : List DeliveryLog) → AreLogged s.rx.rows logs → AreLogged (unless_fault f s (leaves frame None, s)).1.rx.rows logs
+uncontrolled_logged : (s : State) (frame : List ℕ) (f : Option FrameFault) (logs : List DeliveryLog) → AreLogged s.rx.rows logs →
+    AreLogged (unless_fault f s (leaves frame None, s)).1.rx.rows logs
 uncontrolled_logged s frame None logs logged = logged
 uncontrolled_logged s frame (Some f) logs logged = logged
 
@@ -191,7 +207,8 @@ input_logged e (link_frame frame) logged = frame_logged e.state frame (frame_fau
 
 -- ---- what holds of an end goes on
 
-pub sound_after : (old : EndState) (input : Input) (output : Output) (new : EndState) → EndHappens old input output new → IsSoundEnd old → endpoint.IsSound new.state → IsSoundEnd new
+pub sound_after : (old : EndState) (input : Input) (output : Output) (new : EndState) → EndHappens old input output new → IsSoundEnd old →
+    endpoint.IsSound new.state → IsSoundEnd new
 sound_after old input output new happens sound endpoint_sound = record {
   endpoint = endpoint_sound;
   logged = subst IsLoggedEnd (sym happens.end) (input_logged old input sound.logged);

@@ -43,7 +43,8 @@ position-cons test k logs = by_test (test k) (position_or_len test logs)
     by_order n true is = ap (λ b. cond b (Some (1 + n)) None) (lt-ltb (1 + n) (length (k ∷ logs)) (omega (arith, ltb-true n (length logs) is))) ∙ ap Some (omega arith)
     by_order n false is = ap (λ b. cond b (Some (1 + n)) None) (le-ltb (1 + n) (length (k ∷ logs)) (omega (arith, ltb-false n (length logs) is)))
 
-    by_test : (b : Bool) (n : ℕ) → cond (nat_lt (cond (not b) (1 + n) 0) (length (k ∷ logs))) (Some (cond (not b) (1 + n) 0)) None ≡ behind b (cond (nat_lt n (length logs)) (Some n) None)
+    by_test : (b : Bool) (n : ℕ) →
+        cond (nat_lt (cond (not b) (1 + n) 0) (length (k ∷ logs))) (Some (cond (not b) (1 + n) 0)) None ≡ behind b (cond (nat_lt n (length logs)) (Some n) None)
     by_test true n = ap (λ b. cond b (Some 0) None) (lt-ltb 0 (length (k ∷ logs)) (omega arith))
     by_test false n = by_order n (nat_lt n (length logs)) refl
 
@@ -59,7 +60,8 @@ searched key (k ∷ logs) =
     by_test false is (Some place) it = (is, it)
 
 -- the search, in logs that are seen as these
-pub found : (key : ℕ) (logs seen : List KeptSentLog) → seen ≡ logs → (answer o : Option ℕ) → answer ≡ position (λ (k : KeptSentLog). k.log.key == key) seen → answer ≡ o → IsFound key logs o
+pub found : (key : ℕ) (logs seen : List KeptSentLog) → seen ≡ logs → (answer o : Option ℕ) →
+    answer ≡ position (λ (k : KeptSentLog). k.log.key == key) seen → answer ≡ o → IsFound key logs o
 found key logs seen same answer o is it =
     subst (IsFound key logs) (ap (position (λ (k : KeptSentLog). k.log.key == key)) (sym same) ∙ sym is ∙ it) (searched key logs)
 
@@ -73,12 +75,14 @@ sent_nowhere key [] none = refl
 sent_nowhere key (k ∷ logs) none = rw none.0 (sent_nowhere key logs none.1)
 
 -- a log is replaced by one that is the same but for its places
-pub same_logs : (logs : List KeptSentLog) (place : ℕ) (old new : KeptSentLog) → old ≡ get_or logs place old → new.log ≡ old.log → map sent_log_of (set logs place new) ≡ map sent_log_of logs
+pub same_logs : (logs : List KeptSentLog) (place : ℕ) (old new : KeptSentLog) → old ≡ get_or logs place old → new.log ≡ old.log →
+    map sent_log_of (set logs place new) ≡ map sent_log_of logs
 same_logs logs place old new is same = map-set_same sent_log_of logs place new old (same ∙ ap sent_log_of is)
 
 -- ---- one more frame
 
-pub pushed_at : (key : ℕ) (frame : List ℕ) (logs : List KeptSentLog) (place : ℕ) (old new : KeptSentLog) → IsPlace key logs place → old ≡ get_or logs place old → new.log ≡ log_sending frame old.log →
+pub pushed_at : (key : ℕ) (frame : List ℕ) (logs : List KeptSentLog) (place : ℕ) (old new : KeptSentLog) → IsPlace key logs place →
+    old ≡ get_or logs place old → new.log ≡ log_sending frame old.log →
     map sent_log_of (set logs place new) ≡ logs_sending key frame (map sent_log_of logs)
 pushed_at key frame [] place old new it is pushed = absurd it
 pushed_at key frame (k ∷ logs) zero old new it is pushed = rw it (ap (λ log. log ∷ map sent_log_of logs) (pushed ∙ ap (λ (x : KeptSentLog). log_sending frame x.log) is))
@@ -92,34 +96,41 @@ pushed_nowhere key frame (k ∷ logs) new none is = rw none.0 (ap (λ rest. k.lo
 -- ---- an end that sent
 
 module _ (old : EndState) (frame : List ℕ) (after : State) (after_is : after ≡ (step old.state (client_frame frame)).1) where
+  -- the end after it, with these logs of what was sent
+  abbrev end_with : SentLogs → EndState
+  end_with logs = record { state = after; sent = logs; delivered = old.delivered }
+
   happens : (output : Output) → output ≡ (step old.state (client_frame frame)).0 →
-      EndHappens old (client_frame frame) output (record { state = after; sent = sent_after (client_frame frame) output old.sent; delivered = old.delivered })
-  happens output is = record {
-    output_is = is;
-    end = ap (λ (o : Output). record { state = after; sent = sent_after (client_frame frame) o old.sent; delivered = old.delivered }) is
-        ∙ ap (λ (t : State). record { state = t; sent = sent_after (client_frame frame) (step old.state (client_frame frame)).0 old.sent; delivered = old.delivered }) after_is;
-  }
+      EndHappens old (client_frame frame) output (end_with (sent_after (client_frame frame) output old.sent))
+  happens output is =
+      let answer = (step old.state (client_frame frame)).0 in
+      let logs = sent_after (client_frame frame) answer old.sent in
+      record {
+        output_is = is;
+        end = ap (λ (o : Output). end_with (sent_after (client_frame frame) o old.sent)) is
+            ∙ ap (λ (t : State). record { state = t; sent = logs; delivered = old.delivered }) after_is;
+      }
 
   pub leaves_under : (now : EndState) → old ≡ now → (link_frame made : List ℕ) → made ≡ link_frame → (key : ℕ) (sent : SentLogs) → sent ≡ logs_sending key frame old.sent →
       leaves link_frame (Some key) ≡ (step old.state (client_frame frame)).0 →
-      EndHappens now (client_frame frame) (leaves made (Some key)) (record { state = after; sent = sent; delivered = old.delivered })
+      EndHappens now (client_frame frame) (leaves made (Some key)) (end_with sent)
   leaves_under now same link_frame made made_is key sent sent_is is =
-      subst (λ (e : EndState). EndHappens e (client_frame frame) (leaves made (Some key)) (record { state = after; sent = sent; delivered = old.delivered })) same
+      subst (λ (e : EndState). EndHappens e (client_frame frame) (leaves made (Some key)) (end_with sent)) same
       (rw (made_is, sent_is) (happens (leaves link_frame (Some key)) is))
 
   pub leaves_plain : (now : EndState) → old ≡ now → (link_frame made : List ℕ) → made ≡ link_frame → (sent : SentLogs) → sent ≡ old.sent →
-      leaves link_frame None ≡ (step old.state (client_frame frame)).0 → EndHappens now (client_frame frame) (leaves made None) (record { state = after; sent = sent; delivered = old.delivered })
+      leaves link_frame None ≡ (step old.state (client_frame frame)).0 → EndHappens now (client_frame frame) (leaves made None) (end_with sent)
   leaves_plain now same link_frame made made_is sent sent_is is =
-      subst (λ (e : EndState). EndHappens e (client_frame frame) (leaves made None) (record { state = after; sent = sent; delivered = old.delivered })) same
+      subst (λ (e : EndState). EndHappens e (client_frame frame) (leaves made None) (end_with sent)) same
       (rw (made_is, sent_is) (happens (leaves link_frame None) is))
 
   pub drops : (now : EndState) → old ≡ now → (reason : DropReason) (sent : SentLogs) → sent ≡ old.sent → drop_output reason ≡ (step old.state (client_frame frame)).0 →
-      EndHappens now (client_frame frame) (drop_output reason) (record { state = after; sent = sent; delivered = old.delivered })
+      EndHappens now (client_frame frame) (drop_output reason) (end_with sent)
   drops now same reason sent sent_is is =
-      subst (λ (e : EndState). EndHappens e (client_frame frame) (drop_output reason) (record { state = after; sent = sent; delivered = old.delivered })) same (rw sent_is (by_reason reason is))
+      subst (λ (e : EndState). EndHappens e (client_frame frame) (drop_output reason) (end_with sent)) same (rw sent_is (by_reason reason is))
     where
       by_reason : (reason : DropReason) → drop_output reason ≡ (step old.state (client_frame frame)).0 →
-          EndHappens old (client_frame frame) (drop_output reason) (record { state = after; sent = old.sent; delivered = old.delivered })
+          EndHappens old (client_frame frame) (drop_output reason) (end_with old.sent)
       by_reason NoSa is' = happens dropped_no_sa is'
       by_reason TooLong is' = happens dropped_too_long is'
 

@@ -29,7 +29,8 @@ pub spare_nowhere : (key spare : ℕ) (logs : List KeptSentLog) → HasNone key 
 spare_nowhere key spare [] none = refl
 spare_nowhere key spare (k ∷ logs) none = rw none.0 (spare_nowhere key spare logs none.1)
 
-pub spare_made : (key spare : ℕ) (logs : List KeptSentLog) (place : ℕ) (old new : KeptSentLog) → IsPlace key logs place → old ≡ get_or logs place old → new.log ≡ old.log → spare_under (set logs place new) spare key ≡ new.spare
+pub spare_made : (key spare : ℕ) (logs : List KeptSentLog) (place : ℕ) (old new : KeptSentLog) → IsPlace key logs place →
+    old ≡ get_or logs place old → new.log ≡ old.log → spare_under (set logs place new) spare key ≡ new.spare
 spare_made key spare [] place old new it is same = absurd it
 spare_made key spare (k ∷ logs) zero old new it is same = rw (same, is, it) refl
 spare_made key spare (k ∷ logs) (suc place) old new it is same = rw it.0 (spare_made key spare logs place old new it.1 is same)
@@ -45,7 +46,8 @@ spare_stays key spare (k ∷ logs) zero old new is same more = by_test (new.log.
     by_test false is' = rw (sym is') (omega arith)
 spare_stays key spare (k ∷ logs) (suc place) old new is same more = by_test (k.log.key == key) (spare_stays key spare logs place old new is same more)
   where
-    by_test : (b : Bool) → spare_under logs spare key ≤ spare_under (set logs place new) spare key → (if b then k.spare else spare_under logs spare key) ≤ (if b then k.spare else spare_under (set logs place new) spare key)
+    by_test : (b : Bool) → spare_under logs spare key ≤ spare_under (set logs place new) spare key →
+        (if b then k.spare else spare_under logs spare key) ≤ (if b then k.spare else spare_under (set logs place new) spare key)
     by_test true later = omega arith
     by_test false later = later
 
@@ -53,12 +55,14 @@ pub spare_more : (key : ℕ) (spare more : ℕ) (logs : List KeptSentLog) → sp
 spare_more key spare more [] is = is
 spare_more key spare more (k ∷ logs) is = by_test (k.log.key == key) (spare_more key spare more logs is)
   where
-    by_test : (b : Bool) → spare_under logs spare key ≤ spare_under logs more key → (if b then k.spare else spare_under logs spare key) ≤ (if b then k.spare else spare_under logs more key)
+    by_test : (b : Bool) → spare_under logs spare key ≤ spare_under logs more key →
+        (if b then k.spare else spare_under logs spare key) ≤ (if b then k.spare else spare_under logs more key)
     by_test true later = omega arith
     by_test false later = later
 
 -- the place that there is under a key is in its log, or in a new one
-pub place_at : (key : ℕ) (kept now : KeptSentLogs) → kept ≡ now → HasPlace now key → (place : ℕ) (old : KeptSentLog) → IsPlace key kept.logs place → old ≡ get_or kept.logs place old → 1 ≤ old.spare
+pub place_at : (key : ℕ) (kept now : KeptSentLogs) → kept ≡ now → HasPlace now key → (place : ℕ) (old : KeptSentLog) → IsPlace key kept.logs place →
+    old ≡ get_or kept.logs place old → 1 ≤ old.spare
 place_at key kept now same has place old it is =
     let here = subst (λ (k : KeptSentLogs). HasPlace k key) (sym same) has in
     omega (arith, here, spare_at key kept.spare kept.logs place old it, ap (λ (k : KeptSentLog). k.spare) is)
@@ -97,7 +101,8 @@ HasPlaceFor kept no_sa = Unit {0}
 HasPlaceFor kept too_long = Unit {0}
 
 -- what goes out for a frame without fault
-output_is : (s : State) (frame : List ℕ) → frame_fault frame ≡ None → step s (client_frame frame) ≡ (sent_output frame (sending_of s frame).leaving, state_after_sending s frame (sending_of s frame))
+output_is : (s : State) (frame : List ℕ) → frame_fault frame ≡ None →
+    step s (client_frame frame) ≡ (sent_output frame (sending_of s frame).leaving, state_after_sending s frame (sending_of s frame))
 output_is s frame fits = ap (λ f. unless_fault f s (sent_output frame (sending_of s frame).leaving, state_after_sending s frame (sending_of s frame))) fits
 
 module _ (kept : KeptSentLogs) where
@@ -121,7 +126,8 @@ module _ (kept : KeptSentLogs) where
   sending_has_place : (s : State) → IsSound s → HavePlaces s.tx kept → (frame : List ℕ) → HasPlaceFor kept (sending_of s frame).leaving
   sending_has_place s sound have frame = by_test s.options.protect (nat_lt s.config.max_frame (length frame))
     where
-      by_test : (protects long : Bool) → HasPlaceFor kept (if protects then sending_by (tx_options s) s.keys frame (row_on s.tx) else not_protected (if long then too_long else plain)).leaving
+      by_test : (protects long : Bool) →
+          HasPlaceFor kept (if protects then sending_by (tx_options s) s.keys frame (row_on s.tx) else not_protected (if long then too_long else plain)).leaving
       by_test true long = made_by (tx_options s) s.keys frame s.tx have (row_on s.tx) (on_is_there s.tx sound.tx)
       by_test false true = tt
       by_test false false = tt

@@ -24,7 +24,7 @@ MakesEnd config (Ok e) = (config_fault config ≡ None) × (e ≡ new_end config
 MakesEnd config (Err new_fault.Memory) = config_fault config ≡ None
 MakesEnd config (Err fault) = config_fault config ≡ Some fault
 
--- of a client frame, as the endpoint's output
+-- what becomes of a client frame, as the endpoint's output
 abbrev pub output_of_departure : Departure → Output
 output_of_departure (Link frame under) = leaves frame under
 output_of_departure (Dropped reason) = drop_output reason
@@ -34,6 +34,6 @@ abbrev pub HasLengths : Departure → Type 0
 HasLengths (Link frame under) = length frame ≤ max_frame_len
 HasLengths (Dropped reason) = Unit {0}
 
--- of a link frame, as the endpoint's output, of which the association is not told
+-- what becomes of a link frame is the endpoint's output, but for the association, which a `Hearing` does not have
 abbrev pub HasHeard : EndState → List ℕ → Hearing → EndState → Type 0
 HasHeard old frame h new = (row : Option (Sci × ℕ)) × EndHappens old (link_frame frame) (received h.verdict row frame h.controlled) new

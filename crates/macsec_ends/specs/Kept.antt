@@ -36,6 +36,6 @@ spare_under (k ∷ logs) spare key = if k.log.key == key then k.spare else spare
 abbrev pub HasPlace : KeptSentLogs → ℕ → Type 0
 HasPlace kept key = 1 ≤ spare_under kept.logs kept.spare key
 
--- there is one under the key of each transmit association
+-- there is a place for one more frame under the key of each transmit association
 abbrev pub HavePlaces : List TxRow → KeptSentLogs → Type 0
 HavePlaces rows kept = (an : ℕ) → an < 4 → IfSome (tx_row rows an) (λ row. HasPlace kept row.key)

@@ -24,8 +24,9 @@ use std::marker::Model;
 /// The most octets that protection adds: a SecTAG with its SCI, and the ICV.
 const MOST_ADDED: usize = 32;
 
-/// An endpoint; the frames sent under each key; the frames delivered from each receive association, in the order
-/// of their creation; and the places of the live ones.
+/// An end of the link: an endpoint (SecY), and the logs of what its clients sent under each key and of what was
+/// delivered from each receive association (SA). The logs of deliveries are in the order in which the associations were
+/// created. A log is live while its association is there, and `live` has the places of the live ones.
 #[derive(Drop)]
 pub struct EndLogs {
     secy: Secy,
@@ -34,7 +35,7 @@ pub struct EndLogs {
     live: Vec<usize>,
 }
 
-/// What becomes of a client frame at an end: it departs, or it is dropped.
+/// What becomes of a client frame at an end: it departs onto the link, or it is dropped.
 #[derive(Drop)]
 pub enum Departure {
     /// This frame leaves, under the key of this number, 0 to 4,095, or as it is.
@@ -43,7 +44,8 @@ pub enum Departure {
     Dropped(DropReason),
 }
 
-/// What becomes of a link frame that an end hears: the verdict, and what is delivered at the controlled port.
+/// What becomes of a link frame that an end hears, that is receives: the verdict on it, and what is delivered at the
+/// controlled port.
 #[derive(Drop)]
 pub struct Hearing {
     pub verdict: Verdict,
@@ -109,6 +111,7 @@ impl EndLogs {
         ensures unchanged { OnErr result (self.new ≡ self.old) }
         ensures sound { IsSoundEnd self.new }
     {
+        // Laws that the proof cites.
         lengths_of_frames();
         lengths_of_protected_frames();
         let _count = self.delivered.len();
@@ -153,6 +156,7 @@ impl EndLogs {
         ensures unchanged { OnErr result (self.new ≡ self.old) }
         ensures sound { IsSoundEnd self.new }
     {
+        // A law that the proof cites.
         lengths_of_frames();
         let _count = self.delivered.len();
         let mut copy = Vec::with_capacity(alloc, frame.len())?;

@@ -24,7 +24,8 @@ and_then_fits : (r : Result Line LineFault) (line : Line) → and_then r if_fit 
 and_then_fits (Ok said) line h = if_fit_fits (is_fit said) said line refl h
 and_then_fits (Err fault) line h = cc
 
-unless_skipped : (b : Bool) (r : Result Line LineFault) (line : Line) → cond {A = Result (Option Line) LineFault} b (Ok None) (and_then r if_fit) ≡ Ok (Some line) → is_fit line ≡ true
+unless_skipped : (b : Bool) (r : Result Line LineFault) (line : Line) →
+    cond {A = Result (Option Line) LineFault} b (Ok None) (and_then r if_fit) ≡ Ok (Some line) → is_fit line ≡ true
 unless_skipped true r line h = cc
 unless_skipped false r line h = and_then_fits r line h
 

@@ -39,7 +39,8 @@ seen lines = map (λ line. line.now) lines
 seen_last : (lines : List (Bor (List ℕ))) (last : Bor (List ℕ)) → slice_get lines (length lines - 1) ≡ Some last →
     slice_get (seen lines) (length (seen lines) - 1) ≡ Some last.now
 seen_last lines last h =
-    rw (length-map lines (λ (line : Bor (List ℕ)). line.now)) (slice_get-map (λ (line : Bor (List ℕ)). line.now) lines (length lines - 1) ∙ ap (option_map (λ (line : Bor (List ℕ)). line.now)) h)
+    let now = λ (line : Bor (List ℕ)). line.now in
+    rw (length-map lines now) (slice_get-map now lines (length lines - 1) ∙ ap (option_map now) h)
 
 -- what `last` gave
 pub last_seen : (lines lent : List (Bor (List ℕ))) (r : Option (Bor (Bor (List ℕ)))) → option_copied r ≡ slice_get lent (length lent - 1) →

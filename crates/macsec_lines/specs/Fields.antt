@@ -71,7 +71,7 @@ forms = (codes "auto", form.Auto) ∷ (codes "sci", form.Sci) ∷ (codes "es", f
 abbrev pub protections : List (List ℕ × Bool)
 protections = (codes "int", false) ∷ (codes "conf", true) ∷ []
 
--- is it on?
+-- is what the line names switched on?
 abbrev pub switches : List (List ℕ × Bool)
 switches = (codes "on", true) ∷ (codes "off", false) ∷ []
 

@@ -1,5 +1,6 @@
 -- The kinds of lines, each by its keyword, the words after it, and what it says.
-use Rattle.std.specs.Prelude.{ℕ, ◌-◌, ◌^◌, ◌==◌, replicate, List, [], ◌∷◌, ◌++◌, length, filter, find, nat_lt, bytes_eq, codes, Bool, true, not, is_some, if◌then◌else◌, Option, Some, None, Result, Ok, Err}
+use Rattle.std.specs.Prelude.{ℕ, ◌-◌, ◌^◌, ◌==◌, replicate, List, [], ◌∷◌, ◌++◌, length, filter, find, nat_lt, bytes_eq}
+use Rattle.std.specs.Prelude.{codes, Bool, true, not, is_some, if◌then◌else◌, Option, Some, None, Result, Ok, Err}
 use Rattle.macsec_aes.specs.declared.Key.{Key}
 use Rattle.macsec_tag.specs.Limits.{max_frame_len}
 use Rattle.macsec_suite.specs.declared.key_row.NewKey.{NewKey}
@@ -16,7 +17,8 @@ use Rattle.macsec_lines.specs.declared.lines.Line.TheVariants as line
 use Rattle.macsec_lines.specs.declared.lines.LineFault.{LineFault}
 use Rattle.macsec_lines.specs.declared.lines.LineFault.TheVariants.{Word, Count, Ends, LineLong}
 use Rattle.macsec_lines.specs.Words.{words_of}
-use Rattle.macsec_lines.specs.Fields.{Field, Value, read_word, value_of_keyword, ends, number, octet, sci, key, ssci, salt, frame, pn, at_end, suite, tag_form, protection, switch, validation}
+use Rattle.macsec_lines.specs.Fields.{Field, Value, read_word, value_of_keyword, ends, number, octet, sci, key, ssci}
+use Rattle.macsec_lines.specs.Fields.{salt, frame, pn, at_end, suite, tag_form, protection, switch, validation}
 use Rattle.macsec_lines.specs.Limits.{max_line_len}
 
 -- what makes a line of the values of its words

@@ -9,6 +9,6 @@ abbrev pub AreFit : List NumberedLine → Type 0
 AreFit [] = Unit {0}
 AreFit (line ∷ lines) = (is_fit line.1 ≡ true) × AreFit lines
 
--- that is so of the lines of a text without a fault
+-- an endpoint can be created of each configuration in the lines of a text without a fault
 abbrev pub ParsedFit : Place → List ℕ → List NumberedLine → Type 0
 ParsedFit first text lines = lines_or_fault first text ≡ Ok lines → AreFit lines

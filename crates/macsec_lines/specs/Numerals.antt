@@ -39,10 +39,10 @@ abbrev pub or_hex : Result (List ℕ) FromHexError → Result (List ℕ) LineFau
 or_hex (Ok octets) = Ok octets
 or_hex (Err fault) = Err Hex
 
--- so many octets
+-- so many octets in hex
 abbrev pub octets_of : ℕ → List ℕ → Result (List ℕ) LineFault
 octets_of n word = or_hex (decode_sized word n)
 
--- one octet or more
+-- one octet or more in hex
 abbrev pub some_octets : List ℕ → Result (List ℕ) LineFault
 some_octets word = if length word == 0 then Err Hex else or_hex (decode_of word)

@@ -39,7 +39,8 @@ pub enum Line {
     Numbers(End),
 }
 
-/// What is wrong with a line.
+/// What is wrong with a line, which does not know its number. A `ScriptFault` is the same with the number of the line,
+/// or a fault of the whole script.
 #[derive(Clone, Copy, PartialEq, Eq)]
 pub enum LineFault {
     /// Its keyword is unknown, or a word that should be one of a list is none of them.

@@ -99,7 +99,7 @@ fn after_command(line: &Line) -> Option<Place>
     }
 }
 
-/// The fault of a script at the fault of its line `n`.
+/// The fault of a script that has this fault in its line `n`: of memory there is no line.
 fn at_line(n: u32, fault: LineFault) -> ScriptFault
     ensures { result ≡ at_line n fault }
 {
@@ -121,9 +121,9 @@ fn parse_lines(
     lines: &[&[u8]],
 ) -> Result<Vec<(u32, Line)>, ScriptFault>
     requires { length lines.now ≤ max_line_count }
-    ensures { Parses (lines_from first 1 (map (λ line. line.now) lines.now)) (map_ok (λ said. said.items) result) }
+    ensures { Parses (lines_from first 1 (map (λ line. line.now) lines.now)) (map_ok (λ parsed. parsed.items) result) }
 {
-    let mut said = Vec::new(alloc);
+    let mut parsed = Vec::new(alloc);
     let mut place = first;
     for (i, text) in lines.iter().enumerate() {
         let n = i as u32 + 1;
@@ -136,12 +136,12 @@ fn parse_lines(
             return Err(ScriptFault::Ends(n));
         };
         place = next;
-        if said.push((n, line)).is_err() {
+        if parsed.push((n, line)).is_err() {
             return Err(ScriptFault::Memory);
         }
     }
     match place {
-        Place::EndA | Place::Rest | Place::Commands => Ok(said),
+        Place::EndA | Place::Rest | Place::Commands => Ok(parsed),
         Place::EndB => Err(ScriptFault::Ends(lines.len() as u32)),
         Place::OnlyEnd => Err(ScriptFault::Ends(0)),
     }

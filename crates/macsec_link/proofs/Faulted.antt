@@ -23,7 +23,8 @@ first_is_not_memory : (lines : List FaultLine) (fault : WorldFault) → AreNotMe
 first_is_not_memory [] fault none found = cc
 first_is_not_memory (line ∷ lines) fault none found = by_test line.1 (first_is_not_memory lines fault none.1) found
   where
-    by_test : (b : Bool) → (first_that_holds lines ≡ Some fault → is_memory (Err fault) ≡ false) → (if b then Some line.0 else first_that_holds lines) ≡ Some fault → is_memory (Err fault) ≡ false
+    by_test : (b : Bool) → (first_that_holds lines ≡ Some fault → is_memory (Err fault) ≡ false) →
+        (if b then Some line.0 else first_that_holds lines) ≡ Some fault → is_memory (Err fault) ≡ false
     by_test true later found' = let it : line.0 ≡ fault = cc in subst (λ (f : WorldFault). is_memory (Err f) ≡ false) it none.0
     by_test false later found' = later found'
 
@@ -38,13 +39,15 @@ not_memory w (Inject frame) = (refl, (refl, (refl, tt)))
 
 faulted : (w : WorldState) (event : Event) (fault : WorldFault) → fault_of w event ≡ Some fault → Steps w event (Err fault) w
 faulted w event fault is =
-    subst (λ (b : Bool). MatchBool b (RunsOutOfMemory w event w) (Happens w event (Err fault) w)) (sym (first_is_not_memory (faults w event) fault (not_memory w event) is)) (record {
+    let no_memory = first_is_not_memory (faults w event) fault (not_memory w event) is in
+    subst (λ (b : Bool). MatchBool b (RunsOutOfMemory w event w) (Happens w event (Err fault) w)) (sym no_memory) (record {
       answer = ap (λ (o : Option WorldFault). (happening_unless_fault o w event).0) (sym is);
       world = ap (λ (o : Option WorldFault). (happening_unless_fault o w event).1) (sym is);
     })
 
 -- an event whose test returned a fault, which is passed on
-pub passed_on : (w : WorldState) (event : Event) (result : Result Outcome WorldFault) (fault : WorldFault) → result ≡ Err fault → fault_of w event ≡ Some fault → Steps w event result w
+pub passed_on : (w : WorldState) (event : Event) (result : Result Outcome WorldFault) (fault : WorldFault) → result ≡ Err fault →
+    fault_of w event ≡ Some fault → Steps w event result w
 passed_on w event result fault passed is = subst (λ (r : Result Outcome WorldFault). Steps w event r w) (sym passed) (faulted w event fault is)
 
 -- ---- making a world

@@ -21,11 +21,15 @@ IsTied rows log = log.live ≡ true → IsKeyed rows log.sci log.an log.key
 pub tied : EndpointLaws → (e : EndState) (i : ℕ) (log : DeliveryLog) → IsSoundEnd e → slice_get e.delivered i ≡ Some log → IsTied e.state.rx.rows log
 tied laws e i log sound found live =
     let there = left_member (λ (l : DeliveryLog). l.live) e.delivered log (found_member e.delivered i log found) live in
-    let it = from_map association_of_row e.state.rx.rows (association_of_log log) (subst (λ (xs : List (Sci × ℕ × ℕ)). IsMember xs (association_of_log log)) sound.logged (member_of_map association_of_log (live_logs e.delivered) log there)) in
+    let its = association_of_log log in
+    let of_log = member_of_map association_of_log (live_logs e.delivered) log there in
+    let of_row = subst (λ (xs : List (Sci × ℕ × ℕ)). IsMember xs its) sound.logged of_log in
+    let it = from_map association_of_row e.state.rx.rows its of_row in
     let row = it.0 in
     let place = laws.rx_rows_apart e.state sound.endpoint row (contained e.state.rx.rows row it.1) in
     record {
       row = row;
-      there = ap (λ s. rx_row e.state.rx.rows s log.an) (sym (ap (λ (x : Sci × ℕ × ℕ). x.0) it.2)) ∙ ap (λ n. rx_row e.state.rx.rows row.sci n) (sym (ap (λ (x : Sci × ℕ × ℕ). x.1) it.2)) ∙ place;
+      there = ap (λ s. rx_row e.state.rx.rows s log.an) (sym (ap (λ (x : Sci × ℕ × ℕ). x.0) it.2))
+          ∙ ap (λ n. rx_row e.state.rx.rows row.sci n) (sym (ap (λ (x : Sci × ℕ × ℕ). x.1) it.2)) ∙ place;
       of_key = ap (λ (x : Sci × ℕ × ℕ). x.2) it.2;
     }

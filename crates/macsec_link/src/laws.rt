@@ -31,5 +31,6 @@ pub fn promises()
 /// The worlds of a list of events are sound if each step from a sound one, as `World::step` takes it, leaves a sound one.
 pub fn worlds_are_sound()
     ensures start { (w : WorldState) → IsSound w → StaysSound w [] }
-    ensures step { (w : WorldState) (events : List Event) (event : Event) → StaysSound w events → IsSound (world_step (world_after w events) event).1 → StaysSound w (events ++ event ∷ []) }
+    ensures step { (w : WorldState) (events : List Event) (event : Event) → StaysSound w events →
+        IsSound (world_step (world_after w events) event).1 → StaysSound w (events ++ event ∷ []) }
 {}

@@ -21,7 +21,7 @@ pub enum Outcome {
     Made(u32),
     /// Nothing is sent for a client frame.
     Dropped(DropReason),
-    /// The verdict on a link frame, and what was delivered at the controlled port.
+    /// An end heard, that is received, a link frame: the verdict on it, and what was delivered at the controlled port.
     Heard {
         verdict: Verdict,
         controlled: Option<Frame>,

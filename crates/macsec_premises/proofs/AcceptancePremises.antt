@@ -37,7 +37,8 @@ use Rattle.macsec_link.specs.Faults.{fault_of}
 use Rattle.macsec_link.specs.Trace.{Trace}
 use Rattle.macsec_premises.proofs.SealedFrames.{Sealed, aad_sent, frame_with, sealed, tag_of, with_tag}
 use Rattle.macsec_premises.proofs.TracedSteps.{send_step, sent_by, trace_sent}
-use Rattle.macsec_premises.proofs.WorkedEnds.{Fails, client, counts, gcm_a, gcm_b, installed_key, log, new_key, no_salt, receives_from, rx_from, sci_a, sends_from, tx_from, xpn_a, xpn_b}
+use Rattle.macsec_premises.proofs.WorkedEnds.{Fails, client, counts, gcm_a, gcm_b, installed_key, log, new_key, no_salt}
+use Rattle.macsec_premises.proofs.WorkedEnds.{receives_from, rx_from, sci_a, sends_from, tx_from, xpn_a, xpn_b}
 
 -- the premises by name
 pub data Premise : Type 0 where
@@ -179,7 +180,9 @@ seals_as_frame a next =
 
 -- what holds of each premise but one
 pub each_but : (P : Premise → Type 0) (left_out : Premise) → (Validates ≢ left_out → P Validates) → (ReadsSci ≢ left_out → P ReadsSci) → (IsOn ≢ left_out → P IsOn) →
-    (SameBytes ≢ left_out → P SameBytes) → (SameSuite ≢ left_out → P SameSuite) → (SameOffset ≢ left_out → P SameOffset) → (SameSalt ≢ left_out → P SameSalt) → (SameSsci ≢ left_out → P SameSsci) → (InTime ≢ left_out → P InTime) → (IsNear ≢ left_out → P IsNear) → (r : Premise) → r ≢ left_out → P r
+    (SameBytes ≢ left_out → P SameBytes) → (SameSuite ≢ left_out → P SameSuite) → (SameOffset ≢ left_out → P SameOffset) →
+    (SameSalt ≢ left_out → P SameSalt) → (SameSsci ≢ left_out → P SameSsci) → (InTime ≢ left_out → P InTime) → (IsNear ≢ left_out → P IsNear) →
+    (r : Premise) → r ≢ left_out → P r
 each_but P left_out a b c d e f g h i j Validates other = a other
 each_but P left_out a b c d e f g h i j ReadsSci other = b other
 each_but P left_out a b c d e f g h i j IsOn other = c other
@@ -206,7 +209,8 @@ is_unchecked tag = refl
 pub validation_needed : Fails (LawWithout Validates) gcm_a gcm_b (run 1 1 (Command B (Validate Disabled) ∷ []))
 validation_needed = (
   refl,
-  fails_by Validates gcm_a gcm_b (commands_of 1 1 (Command B (Validate Disabled) ∷ [])) (world_before gcm_a 1 disabled) (tx_from 1) (rx_from 1) (frame_from gcm_a 1 (tag_from gcm_a 1))
+  fails_by Validates gcm_a gcm_b (commands_of 1 1 (Command B (Validate Disabled) ∷ [])) (world_before gcm_a 1 disabled) (tx_from 1) (rx_from 1)
+      (frame_from gcm_a 1 (tag_from gcm_a 1))
       refl refl refl (ap (sent_by (tx_from 1)) (seals_as_frame gcm_a 1)) (seals_as_frame gcm_a 1)
       (record {
         there = refl;
@@ -230,7 +234,8 @@ two_channels = record (state_b gcm_b (rx_from 1)) {
   rx_counters = counts no_rx_counters ∷ new_channel_counters sci_c ∷ [];
 }
 
-has_no_channel : (tag : List ℕ) → (world_step (world_sent (world_before without_sci 1 two_channels) (tx_from 1) (frame_from without_sci 1 tag)) (Deliver B 0)).0 ≡ heard NoSaError None
+has_no_channel : (tag : List ℕ) →
+    (world_step (world_sent (world_before without_sci 1 two_channels) (tx_from 1) (frame_from without_sci 1 tag)) (Deliver B 0)).0 ≡ heard NoSaError None
 has_no_channel tag = refl
 
 pub sci_needed : Fails (LawWithout ReadsSci) without_sci gcm_b (run 1 1 (Command B (RxSc sci_c) ∷ []))
@@ -258,7 +263,8 @@ is_off tag = refl
 pub on_needed : Fails (LawWithout IsOn) gcm_a gcm_b (run 1 1 (Command B (RxOff sci_a 0) ∷ []))
 on_needed = (
   refl,
-  fails_by IsOn gcm_a gcm_b (commands_of 1 1 (Command B (RxOff sci_a 0) ∷ [])) (world_before gcm_a 1 (state_b gcm_b rx_off)) (tx_from 1) rx_off (frame_from gcm_a 1 (tag_from gcm_a 1))
+  fails_by IsOn gcm_a gcm_b (commands_of 1 1 (Command B (RxOff sci_a 0) ∷ [])) (world_before gcm_a 1 (state_b gcm_b rx_off)) (tx_from 1) rx_off
+      (frame_from gcm_a 1 (tag_from gcm_a 1))
       refl refl refl (ap (sent_by (tx_from 1)) (seals_as_frame gcm_a 1)) (seals_as_frame gcm_a 1)
       (record {
         there = refl;
@@ -289,13 +295,17 @@ in_time_needed = (
 
 -- ---- A has extended packet numbers and sends 2^32, whose lower half is 0; B has 32-bit ones, of which 0 is none
 
-is_zero : (tag : List ℕ) → (world_step (world_sent (world_before xpn_a (2 ^ 32) (state_b gcm_b (rx_from (2 ^ 32 - 1)))) (tx_from (2 ^ 32)) (frame_from xpn_a (2 ^ 32) tag)) (Deliver B 0)).0 ≡ heard BadTag None
+abbrev of_32_bits : WorldState
+of_32_bits = world_before xpn_a (2 ^ 32) (state_b gcm_b (rx_from (2 ^ 32 - 1)))
+
+is_zero : (tag : List ℕ) →
+    (world_step (world_sent of_32_bits (tx_from (2 ^ 32)) (frame_from xpn_a (2 ^ 32) tag)) (Deliver B 0)).0 ≡ heard BadTag None
 is_zero tag = refl
 
 pub suite_needed : Fails (LawWithout SameSuite) xpn_a gcm_b (run (2 ^ 32) (2 ^ 32 - 1) [])
 suite_needed = (
   refl,
-  fails_by SameSuite xpn_a gcm_b (commands_of (2 ^ 32) (2 ^ 32 - 1) []) (world_before xpn_a (2 ^ 32) (state_b gcm_b (rx_from (2 ^ 32 - 1)))) (tx_from (2 ^ 32)) (rx_from (2 ^ 32 - 1))
+  fails_by SameSuite xpn_a gcm_b (commands_of (2 ^ 32) (2 ^ 32 - 1) []) of_32_bits (tx_from (2 ^ 32)) (rx_from (2 ^ 32 - 1))
       (frame_from xpn_a (2 ^ 32) (tag_from xpn_a (2 ^ 32)))
       refl refl refl (ap (sent_by (tx_from (2 ^ 32))) (seals_as_frame xpn_a (2 ^ 32))) (seals_as_frame xpn_a (2 ^ 32))
       (record {
@@ -308,7 +318,8 @@ suite_needed = (
 
 -- ---- A sends 2^32, and B's association goes from 1 on: it recovers 0, which is no packet number
 
-is_far : (tag : List ℕ) → (world_step (world_sent (world_before xpn_a (2 ^ 32) (state_b xpn_b (rx_from 1))) (tx_from (2 ^ 32)) (frame_from xpn_a (2 ^ 32) tag)) (Deliver B 0)).0 ≡ heard BadTag None
+is_far : (tag : List ℕ) →
+    (world_step (world_sent (world_before xpn_a (2 ^ 32) (state_b xpn_b (rx_from 1))) (tx_from (2 ^ 32)) (frame_from xpn_a (2 ^ 32) tag)) (Deliver B 0)).0 ≡ heard BadTag None
 is_far tag = refl
 
 pub near_needed : Fails (LawWithout IsNear) xpn_a xpn_b (run (2 ^ 32) 1 [])

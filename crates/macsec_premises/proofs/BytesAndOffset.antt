@@ -5,7 +5,8 @@ use Rattle.std.specs.Prelude.{◌==◌, ◌&&◌, bit_xor, drop, replicate, slic
 use Rattle.std.specs.Cmp.Lexicographic.{same_text}
 use Rattle.std.specs.Int.{w128, to_be_bytes}
 use Rattle.macsec_aes.specs.declared.Key.TheVariants.{K128}
-use Rattle.macsec_aes.specs.Aes.{add_round_key, added_word, aes, after_rounds, key_expansion, key_words, mix_columns, rot_word, round_key, shift_rows, sub_bytes, sub_word, sum_of_words}
+use Rattle.macsec_aes.specs.Aes.{add_round_key, added_word, aes, after_rounds, key_expansion, key_words, mix_columns}
+use Rattle.macsec_aes.specs.Aes.{rot_word, round_key, shift_rows, sub_bytes, sub_word, sum_of_words}
 use Rattle.macsec_aes.specs.Field.{affine_transformation, byte_product, inverse, polynomial_product, remainder, s_box, sum_below}
 use Rattle.macsec_field128.specs.Field.{block_product, times_x}
 use Rattle.macsec_field128.specs.Field as field128
@@ -30,7 +31,8 @@ use Rattle.macsec_commands.specs.declared.event.Event.{Event}
 use Rattle.macsec_commands.specs.declared.event.Event.TheVariants.{Deliver, Send}
 use Rattle.macsec_link.specs.Step.{world_step}
 use Rattle.macsec_link.specs.World.{WorldState}
-use Rattle.macsec_premises.proofs.AcceptancePremises.{Holds, HoldsIn, LawWithout, Premise, SameBytes, SameOffset, each_but, fails_by, frame_from, heard, key_row, seals_as_frame, state_b, tag_from, world_before, world_sent}
+use Rattle.macsec_premises.proofs.AcceptancePremises.{Holds, HoldsIn, LawWithout, Premise, SameBytes, SameOffset, each_but, fails_by, frame_from}
+use Rattle.macsec_premises.proofs.AcceptancePremises.{heard, key_row, seals_as_frame, state_b, tag_from, world_before, world_sent}
 use Rattle.macsec_premises.proofs.KeyPremises.{answered, cover}
 use Rattle.macsec_premises.proofs.SealedFrames.{Sealed, aad_sent, closes, first, first_differs, frame_with, items, rest, sealed, tag_of, with_tag}
 use Rattle.macsec_premises.proofs.TracedSteps.{sent_by}
@@ -45,7 +47,8 @@ abbrev tag_with : List ℕ → List ℕ → List ℕ → List ℕ → List ℕ
 tag_with key iv aad ciphertext = authentication_tag key (pre_counter_block iv) aad ciphertext
 
 -- its first octet, by that of the hash and by that of the block that covers it
-by_hash : (key iv aad ciphertext : List ℕ) → first (tag_with key iv aad ciphertext) ≡ bit_xor (slice_index (to_be_bytes w128 (hash_of (hash_subkey key) aad ciphertext)) 0) (cover key iv)
+by_hash : (key iv aad ciphertext : List ℕ) →
+    first (tag_with key iv aad ciphertext) ≡ bit_xor (slice_index (to_be_bytes w128 (hash_of (hash_subkey key) aad ciphertext)) 0) (cover key iv)
 unfolding authentication_tag gctr first cover
 by_hash key iv aad ciphertext = refl
 
@@ -70,19 +73,23 @@ abbrev iv : List ℕ
 iv = iv_sent (tx_options (start gcm_a)) (key_row Gcm128 1) (tx_from 1)
 
 subkey_is : hash_subkey bytes ≡ 0x4c83b1490bd1a72c53479846884591af
-unfolding hash_subkey aes after_rounds add_round_key round_key mix_columns shift_rows sub_bytes key_expansion key_words added_word sum_of_words sub_word rot_word s_box affine_transformation inverse byte_product remainder polynomial_product sum_below
+unfolding hash_subkey aes after_rounds add_round_key round_key mix_columns shift_rows sub_bytes key_expansion key_words added_word sum_of_words sub_word rot_word
+    s_box affine_transformation inverse byte_product remainder polynomial_product sum_below
 subkey_is = refl
 
 other_subkey_is : hash_subkey other_bytes ≡ 0x814008523cd539dbbd8db07e3b7ebd5a
-unfolding hash_subkey aes after_rounds add_round_key round_key mix_columns shift_rows sub_bytes key_expansion key_words added_word sum_of_words sub_word rot_word s_box affine_transformation inverse byte_product remainder polynomial_product sum_below
+unfolding hash_subkey aes after_rounds add_round_key round_key mix_columns shift_rows sub_bytes key_expansion key_words added_word sum_of_words sub_word rot_word
+    s_box affine_transformation inverse byte_product remainder polynomial_product sum_below
 other_subkey_is = refl
 
 cover_is : cover bytes iv ≡ 0x85
-unfolding cover pre_counter_block aes after_rounds add_round_key round_key mix_columns shift_rows sub_bytes key_expansion key_words added_word sum_of_words sub_word rot_word s_box affine_transformation inverse byte_product remainder polynomial_product sum_below
+unfolding cover pre_counter_block aes after_rounds add_round_key round_key mix_columns shift_rows sub_bytes key_expansion key_words added_word sum_of_words sub_word rot_word
+    s_box affine_transformation inverse byte_product remainder polynomial_product sum_below
 cover_is = refl
 
 other_cover_is : cover other_bytes iv ≡ 0xaa
-unfolding cover pre_counter_block aes after_rounds add_round_key round_key mix_columns shift_rows sub_bytes key_expansion key_words added_word sum_of_words sub_word rot_word s_box affine_transformation inverse byte_product remainder polynomial_product sum_below
+unfolding cover pre_counter_block aes after_rounds add_round_key round_key mix_columns shift_rows sub_bytes key_expansion key_words added_word sum_of_words sub_word rot_word
+    s_box affine_transformation inverse byte_product remainder polynomial_product sum_below
 other_cover_is = refl
 
 -- ---- other bytes at B
@@ -98,11 +105,15 @@ other_hash_is : hash_of 0x814008523cd539dbbd8db07e3b7ebd5a aad [] ≡ 0xc2f9c2de
 unfolding ghash block_of blocks_of pad length_block block_product times_x field128.sum_below
 other_hash_is = refl
 
+other_first_is : first (tag_with other_bytes iv aad []) ≡ 0x68
+other_first_is =
+    first_is other_bytes iv aad [] 0x814008523cd539dbbd8db07e3b7ebd5a 0xc2f9c2de0d879d18ddc888870e494fa0 0xaa other_subkey_is other_hash_is other_cover_is
+
 tags_differ : (first (tag_of other_bytes iv aad) == first (tag_of bytes iv aad)) ≡ false
 tags_differ =
     ap (λ (t : List ℕ). first t == first (tag_of bytes iv aad)) (of_empty other_bytes iv aad)
     ∙ ap (λ (t : List ℕ). first (tag_with other_bytes iv aad []) == first t) (of_empty bytes iv aad)
-    ∙ ap (λ n. n == first (tag_with bytes iv aad [])) (first_is other_bytes iv aad [] 0x814008523cd539dbbd8db07e3b7ebd5a 0xc2f9c2de0d879d18ddc888870e494fa0 0xaa other_subkey_is other_hash_is other_cover_is)
+    ∙ ap (λ n. n == first (tag_with bytes iv aad [])) other_first_is
     ∙ ap (λ n. 0x68 == n) (first_is bytes iv aad [] 0x4c83b1490bd1a72c53479846884591af 0xbed399d5a9a2be619e2d693b71f70ff0 0x85 subkey_is hash_is cover_is)
 
 abbrev other_key : NewKey
@@ -120,7 +131,9 @@ bytes_judged t is = ap (judge_opened (rx_options with_other) other_row (rx_from 
 bytes_answered : (t : List ℕ) → open_of other_bytes iv aad [] (items 16 t) ≡ None →
     (world_step (world_sent (world_before gcm_a 1 with_other) (tx_from 1) (frame_from gcm_a 1 t)) (Deliver B 0)).0 ≡ heard NotValid None
 bytes_answered t is =
-    answered (world_sent (world_before gcm_a 1 with_other) (tx_from 1) (frame_from gcm_a 1 t)) 0 (frame_from gcm_a 1 t) (at_row (rx_from 1) 1 11 NotValid None) refl refl refl (bytes_judged t is)
+    let frame = frame_from gcm_a 1 t in
+    let sent = world_sent (world_before gcm_a 1 with_other) (tx_from 1) frame in
+    answered sent 0 frame (at_row (rx_from 1) 1 11 NotValid None) refl refl refl (bytes_judged t is)
 
 abbrev commands : List Event
 commands = sends_from A (new_key no_salt 1) 1 false ++ receives_from B other_key sci_a 1 1
@@ -146,7 +159,8 @@ unfolding authentication_tag gctr
 long_tag _ _ _ _ = refl
 
 -- a text with a ciphertext opens with one tag alone, whatever its plaintext is
-closes_with : (key iv aad ciphertext : List ℕ) (octet : ℕ) (others : List ℕ) → (first (tag_with key iv aad ciphertext) == octet) ≡ false → open_of key iv aad ciphertext (octet ∷ others) ≡ None
+closes_with : (key iv aad ciphertext : List ℕ) (octet : ℕ) (others : List ℕ) → (first (tag_with key iv aad ciphertext) == octet) ≡ false →
+    open_of key iv aad ciphertext (octet ∷ others) ≡ None
 unfolding open_of seal_of
 closes_with key iv aad ciphertext octet others other =
     by_test (gctr key (inc32 (pre_counter_block iv)) (gctr key (inc32 (pre_counter_block iv)) ciphertext)) (same_octets _ ciphertext) refl
@@ -156,7 +170,8 @@ closes_with key iv aad ciphertext octet others other =
     by_test again false is = refl
     by_test again true is =
         ap (λ (b : Bool). if b then Some (gctr key (inc32 (pre_counter_block iv)) ciphertext) else None)
-        (ap (λ (c : List ℕ). same_octets (tag_with key iv aad c) (octet ∷ others)) (same_text again ciphertext (sym is)) ∙ first_differs (tag_with key iv aad ciphertext) octet others (long_tag key iv aad ciphertext) other)
+        (ap (λ (c : List ℕ). same_octets (tag_with key iv aad c) (octet ∷ others)) (same_text again ciphertext (sym is))
+        ∙ first_differs (tag_with key iv aad ciphertext) octet others (long_tag key iv aad ciphertext) other)
 
 abbrev tx_conf : TxRow
 tx_conf = record (tx_from 1) { conf = true }
@@ -185,10 +200,13 @@ hash_0_is : hash_of 0x4c83b1490bd1a72c53479846884591af aad_0 user_data ≡ 0x271
 unfolding ghash block_of blocks_of pad length_block block_product times_x field128.sum_below
 hash_0_is = refl
 
+first_0_is : first (tag_with bytes iv aad_0 user_data) ≡ 0xa2
+first_0_is = first_is bytes iv aad_0 user_data 0x4c83b1490bd1a72c53479846884591af 0x27126a06eaf58dde4c12aaf89508446f 0x85 subkey_is hash_0_is cover_is
+
 offsets_differ : (first (tag_with bytes iv aad_0 user_data) == first (tag_of bytes iv aad_30)) ≡ false
 offsets_differ =
     ap (λ (t : List ℕ). first (tag_with bytes iv aad_0 user_data) == first t) (of_empty bytes iv aad_30)
-    ∙ ap (λ n. n == first (tag_with bytes iv aad_30 [])) (first_is bytes iv aad_0 user_data 0x4c83b1490bd1a72c53479846884591af 0x27126a06eaf58dde4c12aaf89508446f 0x85 subkey_is hash_0_is cover_is)
+    ∙ ap (λ n. n == first (tag_with bytes iv aad_30 [])) first_0_is
     ∙ ap (λ n. 0xa2 == n) (first_is bytes iv aad_30 [] 0x4c83b1490bd1a72c53479846884591af 0xae500395dcf73156bf947ad36d9cadd6 0x85 subkey_is hash_30_is cover_is)
 
 abbrev frame : List ℕ → List ℕ
@@ -208,7 +226,8 @@ at_offset_30 = record (world_before gcm_a 1 offset_0) {
 offset_judged : (t : List ℕ) → open_of bytes iv aad_0 user_data (items 16 t) ≡ None → judgement_of offset_0 (frame t) ≡ at_row (rx_from 1) 1 11 NotValid None
 offset_judged t is = ap (judge_opened (rx_options offset_0) (key_row Gcm128 2) (rx_from 1) 1 (parts_at (frame t))) is
 
-offset_answered : (t : List ℕ) → open_of bytes iv aad_0 user_data (items 16 t) ≡ None → (world_step (world_sent at_offset_30 tx_conf (frame t)) (Deliver B 0)).0 ≡ heard NotValid None
+offset_answered : (t : List ℕ) → open_of bytes iv aad_0 user_data (items 16 t) ≡ None →
+    (world_step (world_sent at_offset_30 tx_conf (frame t)) (Deliver B 0)).0 ≡ heard NotValid None
 offset_answered t is = answered (world_sent at_offset_30 tx_conf (frame t)) 0 (frame t) (at_row (rx_from 1) 1 11 NotValid None) refl refl refl (offset_judged t is)
 
 abbrev confidential : List Event

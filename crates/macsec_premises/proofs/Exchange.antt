@@ -32,8 +32,10 @@ use Rattle.macsec_link.specs.World.{WorldState, new_world}
 use Rattle.macsec_link.specs.Trace.{Mark, Trace, new_trace, trace_after, trace_step}
 use Rattle.macsec_link.proofs.Moments.{world_of_trace}
 use Rattle.macsec_premises.proofs.SealedFrames.{Sealed, aad_sent, frame_with, items, opens, parts_with, sealed, tag_of, with_tag}
-use Rattle.macsec_premises.proofs.TracedSteps.{AtEach, WhileLive, after_both, at_moment, deliver_step, each_append, each_next, genuine_append, genuine_at, genuine_next, send_step, sent_by}
-use Rattle.macsec_premises.proofs.WorkedEnds.{bytes, counts, gcm_a, gcm_b, installed_key, log, logs_sent, new_key, no_salt, of_two, receives_from, rx_from, sci_a, sends_from, tx_from}
+use Rattle.macsec_premises.proofs.TracedSteps.{AtEach, WhileLive, after_both, at_moment, deliver_step, each_append}
+use Rattle.macsec_premises.proofs.TracedSteps.{genuine_append, genuine_at, genuine_next, live_next, send_step, sent_by}
+use Rattle.macsec_premises.proofs.WorkedEnds.{bytes, counts, gcm_a, gcm_b, installed_key, log, logs_sent, new_key, no_salt}
+use Rattle.macsec_premises.proofs.WorkedEnds.{of_two, receives_from, rx_from, sci_a, sends_from, tx_from}
 
 -- a client's frame with two octets of data
 abbrev pub client : ℕ → List ℕ
@@ -227,13 +229,17 @@ second_tag = tag 2 (client 2)
 second_opens : Opens 2 second_tag
 second_opens = opens bytes (iv 2) (aad 2 (client 2))
 
+second_heard_is : trace_step (after_second first_tag second_tag) (Deliver B 1) ≡ heard_second first_tag second_tag
+second_heard_is = second_heard first_tag second_tag second_opens
+
 is_genuine : IsGenuine (new_trace gcm_a gcm_b) events
 is_genuine =
     genuine_append (new_trace gcm_a gcm_b) ready commands exchange (tt, (tt, (tt, (tt, (tt, (tt, (tt, tt))))))) is_ready
     (genuine_next ready (after_first first_tag) (Send A (client 1)) (Deliver B 0 ∷ second_exchange) (tt {0}) first_sent
     (genuine_next (after_first first_tag) (heard_first first_tag) (Deliver B 0) second_exchange (first_genuine first_tag first_opens) (first_heard first_tag first_opens)
     (genuine_next (heard_first first_tag) (after_second first_tag second_tag) (Send A (client 2)) (Deliver B 1 ∷ []) (tt {0}) (second_sent first_tag)
-    (genuine_next (after_second first_tag second_tag) (heard_second first_tag second_tag) (Deliver B 1) [] (second_genuine first_tag second_tag second_opens) (second_heard first_tag second_tag second_opens) (tt {0})))))
+    (genuine_next (after_second first_tag second_tag) (heard_second first_tag second_tag) (Deliver B 1) []
+    (second_genuine first_tag second_tag second_opens) second_heard_is (tt {0})))))
 
 trace_ends : trace_after (new_trace gcm_a gcm_b) events ≡ heard_second first_tag second_tag
 trace_ends =
@@ -241,7 +247,7 @@ trace_ends =
     ∙ ap (λ (t : Trace). trace_after t (Deliver B 0 ∷ second_exchange)) first_sent
     ∙ ap (λ (t : Trace). trace_after t second_exchange) (first_heard first_tag first_opens)
     ∙ ap (λ (t : Trace). trace_after t (Deliver B 1 ∷ [])) (second_sent first_tag)
-    ∙ second_heard first_tag second_tag second_opens
+    ∙ second_heard_is
 
 last_world_is : last_world ≡ (heard_second first_tag second_tag).world
 last_world_is = sym (world_of_trace (new_trace gcm_a gcm_b) events) ∙ ap (λ (t : Trace). t.world) trace_ends
@@ -251,10 +257,10 @@ each_moment : (P : State → Type 0) → ((s : State) → s.options ≡ first_op
 each_moment P so =
     each_append (WhileLive P) (new_world gcm_a gcm_b) ready.world commands exchange
     (tt, (tt, (tt, (tt, (tt, (tt, (λ live. so _ refl, tt))))))) (sym (world_of_trace (new_trace gcm_a gcm_b) commands) ∙ ap (λ (t : Trace). t.world) is_ready)
-    (each_next (WhileLive P) ready.world (after_first first_tag).world (Send A (client 1)) (Deliver B 0 ∷ second_exchange) (λ live. so _ refl) (ap (λ (t : Trace). t.world) first_sent)
-    (each_next (WhileLive P) (after_first first_tag).world (heard_first first_tag).world (Deliver B 0) second_exchange (λ live. so _ refl) (ap (λ (t : Trace). t.world) (first_heard first_tag first_opens))
-    (each_next (WhileLive P) (heard_first first_tag).world (after_second first_tag second_tag).world (Send A (client 2)) (Deliver B 1 ∷ []) (λ live. so _ refl) (ap (λ (t : Trace). t.world) (second_sent first_tag))
-    (each_next (WhileLive P) (after_second first_tag second_tag).world (heard_second first_tag second_tag).world (Deliver B 1) [] (λ live. so _ refl) (ap (λ (t : Trace). t.world) (second_heard first_tag second_tag second_opens)) (λ live. so _ refl)))))
+    (live_next P ready (after_first first_tag) (Send A (client 1)) (Deliver B 0 ∷ second_exchange) (λ live. so _ refl) first_sent
+    (live_next P (after_first first_tag) (heard_first first_tag) (Deliver B 0) second_exchange (λ live. so _ refl) (first_heard first_tag first_opens)
+    (live_next P (heard_first first_tag) (after_second first_tag second_tag) (Send A (client 2)) (Deliver B 1 ∷ []) (λ live. so _ refl) (second_sent first_tag)
+    (live_next P (after_second first_tag second_tag) (heard_second first_tag second_tag) (Deliver B 1) [] (λ live. so _ refl) second_heard_is (λ live. so _ refl)))))
 
 while_there : (P : State → Type 0) → ((s : State) → s.options ≡ first_options gcm_b → P s) → WhileThere gcm_a gcm_b events B 0 P
 while_there P so k within = at_moment (WhileLive P) (new_world gcm_a gcm_b) events (each_moment P so) k within

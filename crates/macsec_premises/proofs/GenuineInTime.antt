@@ -69,7 +69,9 @@ module _ (law_of_step : LawOfStep) (laws : EndpointLaws) (w : WorldState) (e : E
 
 seals_stay : (t : Trace) (events : List Event) (u : CipherUse) → Contains t.seals u → Contains (trace_after t events).seals u
 seals_stay t [] u there = there
-seals_stay t (event ∷ events) u there = seals_stay (trace_step t event) events u (Contains-append_left t.seals (added_unless_fault (fault_of t.world event) (new_seals t.world event)) u there)
+seals_stay t (event ∷ events) u there =
+    let added = added_unless_fault (fault_of t.world event) (new_seals t.world event) in
+    seals_stay (trace_step t event) events u (Contains-append_left t.seals added u there)
 
 last_member : {X : Type 0} (xs : List X) (x : X) → IsMember (xs ++ x ∷ []) x
 last_member [] x = inl refl
@@ -101,7 +103,8 @@ sealed_later t (event ∷ events) zero (suc m) e client tx before found is sent 
     (subst (λ (x : Event). Contains (trace_step t x).seals (sealed_at before e client tx)) (sym it)
     (subst (λ (w : WorldState). Contains (trace_step t (Send e client)).seals (sealed_at w e client tx)) is
     (sealed_now t e client tx (subst (λ (w : WorldState). IsSentBy w e client tx) (sym is) sent))))
-sealed_later t (event ∷ events) (suc k) (suc m) e client tx before found is sent less = sealed_later (trace_step t event) events k m e client tx before found is sent (omega (arith, less))
+sealed_later t (event ∷ events) (suc k) (suc m) e client tx before found is sent less =
+    sealed_later (trace_step t event) events k m e client tx before found is sent (omega (arith, less))
 
 abbrev frame_sent : WorldState → End → List ℕ → TxRow → MpduParts
 frame_sent w e client tx = parts_sent (tx_options (end_of w e).state) (the_key (end_of w e).state.keys tx.key) tx client
@@ -114,11 +117,14 @@ stands_later w [] zero (suc m) e client tx before found is sent less = cc
 stands_later w [] (suc k) (suc m) e client tx before found is sent less = cc
 stands_later w (event ∷ events) zero (suc m) e client tx before found is sent less =
     let it : event ≡ Send e client = cc in
-    subst (λ (x : Event). slice_get (world_after (world_step w x).1 (take m events)).frames (length before.frames) ≡ Some (in_a_row (frame_sent before e client tx))) (sym it)
-    (subst (λ (v : WorldState). slice_get (world_after (world_step v (Send e client)).1 (take m events)).frames (length before.frames) ≡ Some (in_a_row (frame_sent before e client tx))) (sym is)
-    (stays_on_link (world_step before (Send e client)).1 (take m events) (length before.frames) (in_a_row (frame_sent before e client tx))
+    let n = length before.frames in
+    let frame = in_a_row (frame_sent before e client tx) in
+    subst (λ (x : Event). slice_get (world_after (world_step w x).1 (take m events)).frames n ≡ Some frame) (sym it)
+    (subst (λ (v : WorldState). slice_get (world_after (world_step v (Send e client)).1 (take m events)).frames n ≡ Some frame) (sym is)
+    (stays_on_link (world_step before (Send e client)).1 (take m events) n frame
     (stands_on_link before e client tx sent.none (fits before e client sent.none) sent.by)))
-stands_later w (event ∷ events) (suc k) (suc m) e client tx before found is sent less = stands_later (world_step w event).1 events k m e client tx before found is sent (omega (arith, less))
+stands_later w (event ∷ events) (suc k) (suc m) e client tx before found is sent less =
+    stands_later (world_step w event).1 events k m e client tx before found is sent (omega (arith, less))
 
 -- ---- the law
 
@@ -144,7 +150,8 @@ genuine_in_time law_of_step laws a b events sounds e k m n client tx rx sends le
     let w : WorldState = world_at a b events m in
     let seals : List CipherUse = (trace_of a b (take m events)).seals in
     let sealed : Contains seals (sealed_at before (other_end e) client tx) =
-    sealed_later (new_trace a b) events k m (other_end e) client tx before sends.sends (world_of_trace (new_trace a b) (take k events)) (record { none = sends.none; by = sends.by }) less in
+    sealed_later (new_trace a b) events k m (other_end e) client tx before sends.sends (world_of_trace (new_trace a b) (take k events))
+    (record { none = sends.none; by = sends.by }) less in
     let opened = opened_in_time law_of_step laws w e n (end_of before (other_end e)).state client tx rx (sounds m) (sound_end before (sounds k) (other_end e))
     (fits before (other_end e) client sends.none) sends.by can on_link in
     subst (λ (v : WorldState). IfSome (use_opened (end_of v e).state (frame_at v n)) (Contains seals)) (sym (world_of_trace (new_trace a b) (take m events)))

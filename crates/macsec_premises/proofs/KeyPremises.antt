@@ -3,7 +3,8 @@
 use Rattle.std.proofs.Common.{◌≡◌, ◌≢◌, ℕ, false, List, [], ◌∷◌, ◌++◌, refl, ap, arith}
 use Rattle.std.specs.Prelude.{◌==◌, replicate, slice_index, None}
 use Rattle.std.proofs.lemmas.Bool.{eqb-false, ne_eqb}
-use Rattle.macsec_aes.specs.Aes.{add_round_key, added_word, aes, after_rounds, key_expansion, key_words, mix_columns, rot_word, round_key, shift_rows, sub_bytes, sub_word, sum_of_words}
+use Rattle.macsec_aes.specs.Aes.{add_round_key, added_word, aes, after_rounds, key_expansion, key_words, mix_columns}
+use Rattle.macsec_aes.specs.Aes.{rot_word, round_key, shift_rows, sub_bytes, sub_word, sum_of_words}
 use Rattle.macsec_aes.specs.Field.{affine_transformation, byte_product, inverse, polynomial_product, remainder, s_box, sum_below}
 use Rattle.macsec_gcm.specs.Gcm.{authentication_tag, gctr, open_of, pre_counter_block, seal_of}
 use Rattle.macsec_gcm.specs.Octets.{sum_with_stream}
@@ -23,7 +24,8 @@ use Rattle.macsec_commands.specs.declared.event.Event.TheVariants.{Deliver, Send
 use Rattle.macsec_link.specs.Faults.{fault_of}
 use Rattle.macsec_link.specs.Step.{world_step}
 use Rattle.macsec_link.specs.World.{WorldState, frame_at}
-use Rattle.macsec_premises.proofs.AcceptancePremises.{HoldsIn, LawWithout, SameSalt, SameSsci, each_but, fails_by, frame_from, heard, key_row, seals_as_frame, state_b, tag_from, world_before, world_sent}
+use Rattle.macsec_premises.proofs.AcceptancePremises.{HoldsIn, LawWithout, SameSalt, SameSsci, each_but, fails_by, frame_from, heard}
+use Rattle.macsec_premises.proofs.AcceptancePremises.{key_row, seals_as_frame, state_b, tag_from, world_before, world_sent}
 use Rattle.macsec_premises.proofs.Ivs.{xor_same}
 use Rattle.macsec_premises.proofs.SealedFrames.{aad_sent, closes, first, items, rest, tag_of}
 use Rattle.macsec_premises.proofs.TracedSteps.{sent_by}
@@ -62,11 +64,15 @@ abbrev iv_by_ssci : List ℕ
 iv_by_ssci = iv_of Xpn128 sci_a 3 no_salt 1
 
 salts_differ : (cover bytes iv_by_salt == cover bytes iv_a) ≡ false
-unfolding cover pre_counter_block sum_with_stream aes after_rounds add_round_key round_key mix_columns shift_rows sub_bytes key_expansion key_words added_word sum_of_words sub_word rot_word s_box affine_transformation inverse byte_product remainder polynomial_product sum_below
+unfolding cover pre_counter_block sum_with_stream
+    aes after_rounds add_round_key round_key mix_columns shift_rows sub_bytes key_expansion key_words added_word sum_of_words sub_word rot_word
+    s_box affine_transformation inverse byte_product remainder polynomial_product sum_below
 salts_differ = refl
 
 sscis_differ : (cover bytes iv_by_ssci == cover bytes iv_a) ≡ false
-unfolding cover pre_counter_block sum_with_stream aes after_rounds add_round_key round_key mix_columns shift_rows sub_bytes key_expansion key_words added_word sum_of_words sub_word rot_word s_box affine_transformation inverse byte_product remainder polynomial_product sum_below
+unfolding cover pre_counter_block sum_with_stream
+    aes after_rounds add_round_key round_key mix_columns shift_rows sub_bytes key_expansion key_words added_word sum_of_words sub_word rot_word
+    s_box affine_transformation inverse byte_product remainder polynomial_product sum_below
 sscis_differ = refl
 
 -- ---- the runs
@@ -88,7 +94,9 @@ salt_judged t is = ap (judge_opened (rx_options salted) (record (key_row Xpn128 
 salt_answered : (t : List ℕ) → open_of bytes iv_by_salt aad [] (items 16 t) ≡ None →
     (world_step (world_sent (world_before xpn_a 1 salted) (tx_from 1) (frame_from xpn_a 1 t)) (Deliver B 0)).0 ≡ heard NotValid None
 salt_answered t is =
-    answered (world_sent (world_before xpn_a 1 salted) (tx_from 1) (frame_from xpn_a 1 t)) 0 (frame_from xpn_a 1 t) (at_row (rx_from 1) 1 11 NotValid None) refl refl refl (salt_judged t is)
+    let frame = frame_from xpn_a 1 t in
+    let sent = world_sent (world_before xpn_a 1 salted) (tx_from 1) frame in
+    answered sent 0 frame (at_row (rx_from 1) 1 11 NotValid None) refl refl refl (salt_judged t is)
 
 pub salt_needed : Fails (LawWithout SameSalt) xpn_a xpn_b (commands other_salt 1 ++ Send A client ∷ [])
 salt_needed = (
@@ -114,7 +122,9 @@ ssci_judged t is = ap (judge_opened (rx_options (state_b xpn_b rx_of_3)) (key_ro
 ssci_answered : (t : List ℕ) → open_of bytes iv_by_ssci aad [] (items 16 t) ≡ None →
     (world_step (world_sent (world_before xpn_a 1 (state_b xpn_b rx_of_3)) (tx_from 1) (frame_from xpn_a 1 t)) (Deliver B 0)).0 ≡ heard NotValid None
 ssci_answered t is =
-    answered (world_sent (world_before xpn_a 1 (state_b xpn_b rx_of_3)) (tx_from 1) (frame_from xpn_a 1 t)) 0 (frame_from xpn_a 1 t) (at_row rx_of_3 1 11 NotValid None) refl refl refl (ssci_judged t is)
+    let frame = frame_from xpn_a 1 t in
+    let sent = world_sent (world_before xpn_a 1 (state_b xpn_b rx_of_3)) (tx_from 1) frame in
+    answered sent 0 frame (at_row rx_of_3 1 11 NotValid None) refl refl refl (ssci_judged t is)
 
 pub ssci_needed : Fails (LawWithout SameSsci) xpn_a xpn_b (commands no_salt 3 ++ Send A client ∷ [])
 ssci_needed = (

@@ -26,10 +26,11 @@ use Rattle.macsec_link.specs.Origin.{HasStrictOrder, IsStrict, IsSubsequence, Wa
 use Rattle.macsec_link.specs.Step.{world_after, world_at}
 use Rattle.macsec_link.specs.Trace.{Trace, new_trace, trace_after, trace_step}
 use Rattle.macsec_link.specs.World.{WorldState, end_of, new_world}
-use Rattle.macsec_premises.proofs.Exchange.{Opens, aad, at_numbers, client, commands, first_judged, first_opens, first_tag, is_ready, iv, key_row, link_frame_of, link_frame_with, mark, ready, trace_at}
+use Rattle.macsec_premises.proofs.Exchange.{Opens, aad, at_numbers, client, commands, first_judged, first_opens, first_tag}
+use Rattle.macsec_premises.proofs.Exchange.{is_ready, iv, key_row, link_frame_of, link_frame_with, mark, ready, trace_at}
 use Rattle.macsec_link.proofs.Moments.{world_of_trace}
 use Rattle.macsec_premises.proofs.SealedFrames.{closes, first, tag_of}
-use Rattle.macsec_premises.proofs.TracedSteps.{AtEach, WhileLive, world_of, after_both, at_moment, deliver_step, each_append, each_next, genuine_append, genuine_at, genuine_next}
+use Rattle.macsec_premises.proofs.TracedSteps.{AtEach, WhileLive, world_of, after_both, at_moment, deliver_step, each_append, genuine_append, genuine_at, genuine_next, live_next}
 use Rattle.macsec_premises.proofs.WorkedEnds.{Fails, bytes, gcm_a, gcm_b, of_two, only, rx_from}
 
 -- A has sent nothing
@@ -77,8 +78,8 @@ each_moment P so =
     each_append (WhileLive P) (new_world gcm_a gcm_b) ready.world commands (forging first_tag)
     (tt, (tt, (tt, (tt, (tt, (tt, (λ live. so _ refl, tt)))))))
     (sym (world_of_trace (new_trace gcm_a gcm_b) commands) ∙ ap world_of is_ready)
-    (each_next (WhileLive P) ready.world (injected first_tag).world (Inject (link_frame_of 1 (client 1) first_tag)) (Deliver B 0 ∷ []) (λ live. so _ refl) (ap world_of (is_injected first_tag))
-    (each_next (WhileLive P) (injected first_tag).world (deceived first_tag).world (Deliver B 0) [] (λ live. so _ refl) (ap world_of (is_deceived first_tag first_opens)) (λ live. so _ refl)))
+    (live_next P ready (injected first_tag) (Inject (link_frame_of 1 (client 1) first_tag)) (Deliver B 0 ∷ []) (λ live. so _ refl) (is_injected first_tag)
+    (live_next P (injected first_tag) (deceived first_tag) (Deliver B 0) [] (λ live. so _ refl) (is_deceived first_tag first_opens) (λ live. so _ refl)))
 
 while_there : (P : State → Type 0) → ((s : State) → s.options ≡ first_options gcm_b → P s) → WhileThere gcm_a gcm_b forged B 0 P
 while_there P so k within = at_moment (WhileLive P) (new_world gcm_a gcm_b) forged (each_moment P so) k within
@@ -161,11 +162,14 @@ unvalidated octet =
     trace_at options_check 0 (rx_from 1) 2 (record no_rx_counters { in_pkts_invalid = 1 }) [] (client 1 ∷ []) (guessed 1 octet ∷ []) [] (record (mark 1) { validated = false } ∷ [])
 
 abbrev strict_again : ℕ → Trace
-strict_again octet = record (unvalidated octet) { world = record (unvalidated octet).world { b = record (unvalidated octet).world.b { state = record (unvalidated octet).world.b.state { options = first_options gcm_b } } } }
+strict_again octet =
+    let w = (unvalidated octet).world in
+    record (unvalidated octet) { world = record w { b = record w.b { state = record w.b.state { options = first_options gcm_b } } } }
 
 guess_judged : (octet : ℕ) → IsOther 1 octet → judgement_of in_check.world.b.state (guessed 1 octet) ≡ at_row (rx_from 1) 1 12 Invalid (Some (client 1))
 guess_judged octet other =
-    ap (judge_opened (rx_options in_check.world.b.state) (key_row 2 1) (rx_from 1) 1 (parts_at (guessed 1 octet))) (closes bytes (iv 1) (aad 1 (client 1)) octet (replicate 15 0) other)
+    ap (judge_opened (rx_options in_check.world.b.state) (key_row 2 1) (rx_from 1) 1 (parts_at (guessed 1 octet)))
+    (closes bytes (iv 1) (aad 1 (client 1)) octet (replicate 15 0) other)
 
 is_on_link : (octet : ℕ) → trace_step in_check (Inject (guessed 1 octet)) ≡ on_link octet
 is_on_link octet = refl
@@ -200,9 +204,9 @@ each_in_check octet other =
     each_append (WhileLive HasStrictOrder) (new_world gcm_a gcm_b) in_check.world commands_check (guessing octet)
     (tt, (tt, (tt, (tt, (tt, (tt, (λ live. record { replay = refl; window = refl }, (λ live. record { replay = refl; window = refl }, tt))))))))
     (sym (world_of_trace (new_trace gcm_a gcm_b) commands_check) ∙ ap world_of is_in_check)
-    (each_next (WhileLive HasStrictOrder) in_check.world (on_link octet).world (Inject (guessed 1 octet)) (Deliver B 0 ∷ back) (λ live. record { replay = refl; window = refl }) (ap world_of (is_on_link octet))
-    (each_next (WhileLive HasStrictOrder) (on_link octet).world (unvalidated octet).world (Deliver B 0) back (λ live. record { replay = refl; window = refl }) (ap world_of (is_unvalidated octet other))
-    (each_next (WhileLive HasStrictOrder) (unvalidated octet).world (strict_again octet).world (Command B (Validate Strict)) [] (λ live. record { replay = refl; window = refl }) (ap world_of (is_strict_again octet))
+    (live_next HasStrictOrder in_check (on_link octet) (Inject (guessed 1 octet)) (Deliver B 0 ∷ back) (λ live. record { replay = refl; window = refl }) (is_on_link octet)
+    (live_next HasStrictOrder (on_link octet) (unvalidated octet) (Deliver B 0) back (λ live. record { replay = refl; window = refl }) (is_unvalidated octet other)
+    (live_next HasStrictOrder (unvalidated octet) (strict_again octet) (Command B (Validate Strict)) [] (λ live. record { replay = refl; window = refl }) (is_strict_again octet)
     (λ live. record { replay = refl; window = refl }))))
 
 -- the law on origin where the end is strict after the last event, whatever it was before
@@ -235,7 +239,8 @@ order_fails octet other = (
       let ends = guess_ends octet other in
       let in_order : WasSentInOrder (strict_again octet).world B 0 =
       subst (λ (w : WorldState). WasSentInOrder w B 0) ends
-      (law (guess_genuine octet other) (subst AgreeOnKeys (sym ends) (of_two (λ x y. x.bytes ≡ y.bytes → AgreeOnKey x y) _ _ (λ same. record { suite = refl; salt = λ xpn. refl }))) B 0
+      (law (guess_genuine octet other)
+      (subst AgreeOnKeys (sym ends) (of_two (λ x y. x.bytes ≡ y.bytes → AgreeOnKey x y) _ _ (λ same. record { suite = refl; salt = λ xpn. refl }))) B 0
       (subst (λ (w : WorldState). IsStrict w.b.state) (sym ends) refl)
       (λ k within. at_moment (WhileLive HasStrictOrder) (new_world gcm_a gcm_b) (guess octet) (each_in_check octet other) k within)) in
       no_subsequence_of_none (client 1) (in_order (key_row 1 1) (0, omega arith, refl) refl),

@@ -48,7 +48,8 @@ nothing_asked t e n not13 = by_parts (judgement_of s frame) (judgement_of s fram
     by_parts j (Some row) (tagged p) not13 = subst (λ (b : Bool). IfSome (if b then Some (use_to_open_by s row j.number p) else None) (Contains t.seals)) (sym not13) tt
 
 -- an event that is no delivery asks for nothing
-pub others_ask_nothing : (t : Trace) (e : End) (frame : List ℕ) (n place octet : ℕ) → IsGenuineAt t (Send e frame) × (IsGenuineAt t (SendUncontrolled e frame) × (IsGenuineAt t (Inject frame) × (IsGenuineAt t (Alter n place octet) × IsGenuineAt t (Pad n))))
+pub others_ask_nothing : (t : Trace) (e : End) (frame : List ℕ) (n place octet : ℕ) →
+    IsGenuineAt t (Send e frame) × (IsGenuineAt t (SendUncontrolled e frame) × (IsGenuineAt t (Inject frame) × (IsGenuineAt t (Alter n place octet) × IsGenuineAt t (Pad n))))
 others_ask_nothing t e frame n place octet = (tt, (tt, (tt, (tt, tt))))
 
 -- ---- packet numbers

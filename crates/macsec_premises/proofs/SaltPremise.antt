@@ -10,7 +10,7 @@ use Rattle.macsec_suite.specs.declared.suite.Suite.TheVariants.{Xpn128}
 use Rattle.macsec_suite.specs.CipherUses.{CipherUse, cipher_use}
 use Rattle.macsec_suite.specs.KeyRows.{InstalledKey}
 use Rattle.macsec_suite.specs.Suites.{iv_of}
-use Rattle.macsec_tx.specs.Transmit.{tag_sent}
+use Rattle.macsec_tx.specs.Transmit.{Sending, tag_sent}
 use Rattle.macsec_rx.specs.declared.RxRow.{RxRow}
 use Rattle.macsec_rx.specs.declared.Verdict.TheVariants.{Passed}
 use Rattle.macsec_rx.specs.Judge.{at_row, judge_opened}
@@ -32,8 +32,10 @@ use Rattle.macsec_premises.proofs.Exchange.{client, mark}
 use Rattle.macsec_premises.proofs.IvPremises.{AgreeOnSuite, AgreeOnSuites}
 use Rattle.macsec_link.proofs.Moments.{world_of_trace}
 use Rattle.macsec_premises.proofs.SealedFrames.{Sealed, aad_sent, frame_with, items, opens, parts_with, sealed, tag_of, with_tag}
-use Rattle.macsec_premises.proofs.TracedSteps.{AtEach, WhileLive, world_of, after_both, at_moment, deliver_step, each_append, each_next, genuine_append, genuine_at, genuine_next, send_step, sent_by}
-use Rattle.macsec_premises.proofs.WorkedEnds.{Fails, bytes, counts, installed_key, log, logs_sent, new_key, no_salt, of_two, receives_from, rx_from, sci_a, sends_from, tx_from, xpn_a, xpn_b}
+use Rattle.macsec_premises.proofs.TracedSteps.{AtEach, WhileLive, world_of, after_both, at_moment, deliver_step, each_append}
+use Rattle.macsec_premises.proofs.TracedSteps.{genuine_append, genuine_at, genuine_next, live_next, send_step, sent_by}
+use Rattle.macsec_premises.proofs.WorkedEnds.{Fails, bytes, counts, installed_key, log, logs_sent, new_key, no_salt, of_two}
+use Rattle.macsec_premises.proofs.WorkedEnds.{receives_from, rx_from, sci_a, sends_from, tx_from, xpn_a, xpn_b}
 
 -- B's salt turns the lowest bit of the upper half
 abbrev salt_b : List ℕ
@@ -49,8 +51,11 @@ commands = sends_from A (new_key no_salt 1) (number 0) false ++ receives_from B 
 abbrev last_delivery : List Event
 last_delivery = Deliver B 0 ∷ []
 
+abbrev raise : Event
+raise = Command B (RxLow sci_a 0 (2 ^ 32))
+
 abbrev from_raising : List Event
-from_raising = Command B (RxLow sci_a 0 (2 ^ 32)) ∷ last_delivery
+from_raising = raise ∷ last_delivery
 
 abbrev from_delivery : List Event
 from_delivery = Deliver B 2 ∷ from_raising
@@ -125,6 +130,9 @@ frame n t = frame_by n (with_tag t)
 abbrev use_of : ℕ → List ℕ → CipherUse
 use_of n t = use_by n (with_tag t)
 
+abbrev sending_by : ℕ → Sealed → Sending
+sending_by n it = sent_by (tx_from (number n)) (frame_by n it)
+
 abbrev sent_one : List ℕ → Trace
 sent_one t = trace_at 1 (number 1) (rx_from 1) 0 (own 0 ∷ []) [] (frame 0 t ∷ []) (use_of 0 t ∷ []) []
 
@@ -133,13 +141,15 @@ sent_two t u = trace_at 2 (number 2) (rx_from 1) 0 (own 0 ∷ own 1 ∷ []) [] (
 
 first_sent : trace_step ready (Send A (client 1)) ≡ sent_one (tag 0)
 first_sent =
-    send_step ready (client 1) (tx_from (number 0)) (frame 0 (tag 0)) refl refl (ap (λ (it : Sealed). sent_by (tx_from (number 0)) (frame_by 0 it)) (sealed bytes (iv 0) (aad 0)))
+    send_step ready (client 1) (tx_from (number 0)) (frame 0 (tag 0)) refl refl (ap (sending_by 0) (sealed bytes (iv 0) (aad 0)))
     ∙ ap (λ (it : Sealed). trace_at 1 (number 1) (rx_from 1) 0 (own 0 ∷ []) [] (frame 0 (tag 0) ∷ []) (use_by 0 it ∷ []) []) (sealed bytes (iv 0) (aad 0))
 
 second_sent : (t : List ℕ) → trace_step (sent_one t) (Send A (client 2)) ≡ sent_two t (tag 1)
 second_sent t =
-    send_step (sent_one t) (client 2) (tx_from (number 1)) (frame 1 (tag 1)) refl refl (ap (λ (it : Sealed). sent_by (tx_from (number 1)) (frame_by 1 it)) (sealed bytes (iv 1) (aad 1)))
-    ∙ ap (λ (it : Sealed). trace_at 2 (number 2) (rx_from 1) 0 (own 0 ∷ own 1 ∷ []) [] (frame 0 t ∷ frame 1 (tag 1) ∷ []) (use_of 0 t ∷ use_by 1 it ∷ []) []) (sealed bytes (iv 1) (aad 1))
+    send_step (sent_one t) (client 2) (tx_from (number 1)) (frame 1 (tag 1)) refl refl (ap (sending_by 1) (sealed bytes (iv 1) (aad 1)))
+    ∙ ap (λ (it : Sealed).
+    trace_at 2 (number 2) (rx_from 1) 0 (own 0 ∷ own 1 ∷ []) [] (frame 0 t ∷ frame 1 (tag 1) ∷ []) (use_of 0 t ∷ use_by 1 it ∷ []) [])
+    (sealed bytes (iv 1) (aad 1))
 
 abbrev all_sent : List (List ℕ)
 all_sent = own 0 ∷ own 1 ∷ own 2 ∷ []
@@ -150,7 +160,7 @@ three_sent t u v row m delivered marks =
 
 third_sent : (t u : List ℕ) → trace_step (sent_two t u) (Send A (client 3)) ≡ three_sent t u (tag 2) (rx_from 1) 0 [] []
 third_sent t u =
-    send_step (sent_two t u) (client 3) (tx_from (number 2)) (frame 2 (tag 2)) refl refl (ap (λ (it : Sealed). sent_by (tx_from (number 2)) (frame_by 2 it)) (sealed bytes (iv 2) (aad 2)))
+    send_step (sent_two t u) (client 3) (tx_from (number 2)) (frame 2 (tag 2)) refl refl (ap (sending_by 2) (sealed bytes (iv 2) (aad 2)))
     ∙ ap (λ (it : Sealed).
     trace_at 3 (number 3) (rx_from 1) 0 all_sent [] (frame 0 t ∷ frame 1 u ∷ frame 2 (tag 2) ∷ []) (use_of 0 t ∷ use_of 1 u ∷ use_by 2 it ∷ []) [])
     (sealed bytes (iv 2) (aad 2))
@@ -226,17 +236,46 @@ first_opens = opens bytes (iv 0) (aad 0)
 third_opens : Opens 2 third_tag
 third_opens = opens bytes (iv 2) (aad 2)
 
+-- the traces of the run: A sent one, two and three frames; B heard the third; its lowest number was raised; and it heard
+-- the first
+abbrev one : Trace
+one = sent_one first_tag
+
+abbrev two : Trace
+two = sent_two first_tag second_tag
+
+abbrev three : Trace
+three = before_delivery first_tag second_tag third_tag
+
+abbrev heard_third : Trace
+heard_third = after_third first_tag second_tag third_tag
+
+abbrev raised : Trace
+raised = after_raising first_tag second_tag third_tag
+
+abbrev heard_first : Trace
+heard_first = after_first first_tag second_tag third_tag
+
+heard_third_is : trace_step three (Deliver B 2) ≡ heard_third
+heard_third_is = third_heard first_tag second_tag third_tag third_opens
+
+raised_is : trace_step heard_third raise ≡ raised
+raised_is = is_raised first_tag second_tag third_tag
+
+heard_first_is : trace_step raised (Deliver B 0) ≡ heard_first
+heard_first_is = first_heard first_tag second_tag third_tag first_opens
+
 is_genuine : IsGenuine (new_trace xpn_a xpn_b) events
 is_genuine =
     genuine_append (new_trace xpn_a xpn_b) ready commands exchange (tt, (tt, (tt, (tt, (tt, (tt, (tt, tt))))))) is_ready
-    (genuine_next ready (sent_one first_tag) (Send A (client 1)) (Send A (client 2) ∷ Send A (client 3) ∷ from_delivery) (tt {0}) first_sent
-    (genuine_next (sent_one first_tag) (sent_two first_tag second_tag) (Send A (client 2)) (Send A (client 3) ∷ from_delivery) (tt {0}) (second_sent first_tag)
-    (genuine_next (sent_two first_tag second_tag) (before_delivery first_tag second_tag third_tag) (Send A (client 3)) from_delivery (tt {0}) (third_sent first_tag second_tag)
-    (genuine_next (before_delivery first_tag second_tag third_tag) (after_third first_tag second_tag third_tag) (Deliver B 2) from_raising (third_genuine first_tag second_tag third_tag third_opens) (third_heard first_tag second_tag third_tag third_opens)
-    (genuine_next (after_third first_tag second_tag third_tag) (after_raising first_tag second_tag third_tag) (Command B (RxLow sci_a 0 (2 ^ 32))) last_delivery (tt {0}) (is_raised first_tag second_tag third_tag)
-    (genuine_next (after_raising first_tag second_tag third_tag) (after_first first_tag second_tag third_tag) (Deliver B 0) [] (first_genuine first_tag second_tag third_tag first_opens) (first_heard first_tag second_tag third_tag first_opens) (tt {0})))))))
+    (genuine_next ready one (Send A (client 1)) (Send A (client 2) ∷ Send A (client 3) ∷ from_delivery) (tt {0}) first_sent
+    (genuine_next one two (Send A (client 2)) (Send A (client 3) ∷ from_delivery) (tt {0}) (second_sent first_tag)
+    (genuine_next two three (Send A (client 3)) from_delivery (tt {0}) (third_sent first_tag second_tag)
+    (genuine_next three heard_third (Deliver B 2) from_raising (third_genuine first_tag second_tag third_tag third_opens) heard_third_is
+    (genuine_next heard_third raised raise last_delivery (tt {0}) raised_is
+    (genuine_next raised heard_first (Deliver B 0) [] (first_genuine first_tag second_tag third_tag first_opens) heard_first_is (tt {0})))))))
 
-last_world_is : world_after (new_world xpn_a xpn_b) events ≡ (after_first first_tag second_tag third_tag).world
+last_world_is : world_after (new_world xpn_a xpn_b) events ≡ heard_first.world
 last_world_is =
     sym (world_of_trace (new_trace xpn_a xpn_b) events)
     ∙ ap world_of
@@ -244,9 +283,9 @@ last_world_is =
     ∙ ap (λ (t : Trace). trace_after t (Send A (client 2) ∷ Send A (client 3) ∷ from_delivery)) first_sent
     ∙ ap (λ (t : Trace). trace_after t (Send A (client 3) ∷ from_delivery)) (second_sent first_tag)
     ∙ ap (λ (t : Trace). trace_after t from_delivery) (third_sent first_tag second_tag)
-    ∙ ap (λ (t : Trace). trace_after t from_raising) (third_heard first_tag second_tag third_tag third_opens)
-    ∙ ap (λ (t : Trace). trace_after t last_delivery) (is_raised first_tag second_tag third_tag)
-    ∙ first_heard first_tag second_tag third_tag first_opens)
+    ∙ ap (λ (t : Trace). trace_after t from_raising) heard_third_is
+    ∙ ap (λ (t : Trace). trace_after t last_delivery) raised_is
+    ∙ heard_first_is)
 
 -- B's options are those of the making at each moment
 each_moment : (P : State → Type 0) → ((s : State) → s.options ≡ first_options xpn_b → P s) → AtEach (WhileLive P) (new_world xpn_a xpn_b) events
@@ -254,12 +293,12 @@ each_moment P so =
     each_append (WhileLive P) (new_world xpn_a xpn_b) ready.world commands exchange
     (tt, (tt, (tt, (tt, (tt, (tt, (λ live. so _ refl, tt)))))))
     (sym (world_of_trace (new_trace xpn_a xpn_b) commands) ∙ ap world_of is_ready)
-    (each_next (WhileLive P) ready.world (sent_one first_tag).world (Send A (client 1)) (Send A (client 2) ∷ Send A (client 3) ∷ from_delivery) (λ live. so _ refl) (ap world_of first_sent)
-    (each_next (WhileLive P) (sent_one first_tag).world (sent_two first_tag second_tag).world (Send A (client 2)) (Send A (client 3) ∷ from_delivery) (λ live. so _ refl) (ap world_of (second_sent first_tag))
-    (each_next (WhileLive P) (sent_two first_tag second_tag).world (before_delivery first_tag second_tag third_tag).world (Send A (client 3)) from_delivery (λ live. so _ refl) (ap world_of (third_sent first_tag second_tag))
-    (each_next (WhileLive P) (before_delivery first_tag second_tag third_tag).world (after_third first_tag second_tag third_tag).world (Deliver B 2) from_raising (λ live. so _ refl) (ap world_of (third_heard first_tag second_tag third_tag third_opens))
-    (each_next (WhileLive P) (after_third first_tag second_tag third_tag).world (after_raising first_tag second_tag third_tag).world (Command B (RxLow sci_a 0 (2 ^ 32))) last_delivery (λ live. so _ refl) (ap world_of (is_raised first_tag second_tag third_tag))
-    (each_next (WhileLive P) (after_raising first_tag second_tag third_tag).world (after_first first_tag second_tag third_tag).world (Deliver B 0) [] (λ live. so _ refl) (ap world_of (first_heard first_tag second_tag third_tag first_opens)) (λ live. so _ refl)))))))
+    (live_next P ready one (Send A (client 1)) (Send A (client 2) ∷ Send A (client 3) ∷ from_delivery) (λ live. so _ refl) first_sent
+    (live_next P one two (Send A (client 2)) (Send A (client 3) ∷ from_delivery) (λ live. so _ refl) (second_sent first_tag)
+    (live_next P two three (Send A (client 3)) from_delivery (λ live. so _ refl) (third_sent first_tag second_tag)
+    (live_next P three heard_third (Deliver B 2) from_raising (λ live. so _ refl) heard_third_is
+    (live_next P heard_third raised raise last_delivery (λ live. so _ refl) raised_is
+    (live_next P raised heard_first (Deliver B 0) [] (λ live. so _ refl) heard_first_is (λ live. so _ refl)))))))
 
 while_there : (P : State → Type 0) → ((s : State) → s.options ≡ first_options xpn_b → P s) → WhileThere xpn_a xpn_b events B 0 P
 while_there P so k within = at_moment (WhileLive P) (new_world xpn_a xpn_b) events (each_moment P so) k within
@@ -287,7 +326,7 @@ pub same_salt_needed_for_order : Fails OrderForOtherSalts xpn_a xpn_b events
 same_salt_needed_for_order = (
   refl,
   λ law.
-      let in_order : WasSentInOrder (after_first first_tag second_tag third_tag).world B 0 =
+      let in_order : WasSentInOrder heard_first.world B 0 =
       subst (λ (w : WorldState). WasSentInOrder w B 0) last_world_is
       (law is_genuine (subst AgreeOnSuites (sym last_world_is) (of_two AgreeOnSuite _ _ (λ same. refl))) B 0
       (while_there IsStrict (λ s is. ap (λ (o : Options). o.mode) is))

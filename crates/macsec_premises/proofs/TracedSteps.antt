@@ -1,6 +1,6 @@
 -- One event of a trace, by what the endpoint makes of it: so a worked run goes on from a world that is written out,
 -- and never computes what it had before.
-use Rattle.std.proofs.Common.{◌≡◌, ℕ, ◌≤◌, zero, suc, List, [], ◌∷◌, ◌++◌, length, take, refl, sym, subst, arith}
+use Rattle.std.proofs.Common.{◌≡◌, ℕ, ◌≤◌, zero, suc, List, [], ◌∷◌, ◌++◌, length, take, refl, ap, sym, subst, arith}
 use Rattle.std.specs.Prelude.{slice_get, true, Some, None, IfSome, Contains}
 use Rattle.macsec_tag.specs.Table.{reading}
 use Rattle.macsec_suite.specs.CipherUses.{CipherUse}
@@ -66,7 +66,8 @@ genuine_at s frame j seals judged it = subst (λ (j : Judgement). IfSome (use_op
 
 -- ---- events in their order
 
-pub genuine_next : (t after : Trace) (event : Event) (events : List Event) → IsGenuineAt t event → trace_step t event ≡ after → IsGenuine after events → IsGenuine t (event ∷ events)
+pub genuine_next : (t after : Trace) (event : Event) (events : List Event) → IsGenuineAt t event → trace_step t event ≡ after →
+    IsGenuine after events → IsGenuine t (event ∷ events)
 genuine_next t after event events now is later = (now, subst (λ (x : Trace). IsGenuine x events) (sym is) later)
 
 pub genuine_append : (t after : Trace) (events more : List Event) → IsGenuine t events → trace_after t events ≡ after → IsGenuine after more → IsGenuine t (events ++ more)
@@ -87,10 +88,17 @@ abbrev pub AtEachBefore : (WorldState → Type 0) → WorldState → List Event 
 AtEachBefore P w [] = Unit {0}
 AtEachBefore P w (event ∷ events) = P w × AtEachBefore P (world_step w event).1 events
 
-pub each_next : (P : WorldState → Type 0) (w after : WorldState) (event : Event) (events : List Event) → P w → (world_step w event).1 ≡ after → AtEach P after events → AtEach P w (event ∷ events)
+pub each_next : (P : WorldState → Type 0) (w after : WorldState) (event : Event) (events : List Event) → P w → (world_step w event).1 ≡ after →
+    AtEach P after events → AtEach P w (event ∷ events)
 each_next P w after event events now is later = (now, subst (λ (x : WorldState). AtEach P x events) (sym is) later)
 
-pub each_append : (P : WorldState → Type 0) (w after : WorldState) (events more : List Event) → AtEachBefore P w events → world_after w events ≡ after → AtEach P after more → AtEach P w (events ++ more)
+-- the same of what holds of B at the moments of a trace
+pub live_next : (P : State → Type 0) (t after : Trace) (event : Event) (events : List Event) → WhileLive P t.world → trace_step t event ≡ after →
+    AtEach (WhileLive P) after.world events → AtEach (WhileLive P) t.world (event ∷ events)
+live_next P t after event events now is later = each_next (WhileLive P) t.world after.world event events now (ap world_of is) later
+
+pub each_append : (P : WorldState → Type 0) (w after : WorldState) (events more : List Event) → AtEachBefore P w events →
+    world_after w events ≡ after → AtEach P after more → AtEach P w (events ++ more)
 each_append P w after [] more now is later = subst (λ (x : WorldState). AtEach P x more) (sym is) later
 each_append P w after (event ∷ events) more now is later = (now.0, each_append P (world_step w event).1 after events more now.1 is later)
 

@@ -29,7 +29,8 @@ use Rattle.macsec_premises.proofs.Exchange.{Opens, aad, client, first_opens, fir
 use Rattle.macsec_premises.proofs.Exchange as exchange
 use Rattle.macsec_link.proofs.Moments.{world_of_trace}
 use Rattle.macsec_premises.proofs.SealedFrames.{Sealed, sealed}
-use Rattle.macsec_premises.proofs.TracedSteps.{AtEach, WhileLive, after_both, at_moment, deliver_step, each_append, each_next, genuine_append, genuine_at, genuine_next, send_step, sent_by}
+use Rattle.macsec_premises.proofs.TracedSteps.{AtEach, WhileLive, after_both, at_moment, deliver_step, each_append}
+use Rattle.macsec_premises.proofs.TracedSteps.{genuine_append, genuine_at, genuine_next, live_next, send_step, sent_by}
 use Rattle.macsec_premises.proofs.WorkedEnds.{Fails, bytes, gcm_a, gcm_b, of_two, rx_from, tx_from}
 
 -- with replay protection on the window is 1, and with it off 0
@@ -99,7 +100,8 @@ after_twice replay t = one_sent replay (heard_row replay) 4 (counted_again repla
 
 abbrev at_end : Bool → List ℕ → Trace
 at_end replay t =
-    trace_at (first_options gcm_b) 1 (rx_from 2) 4 (counted_again replay) (client 1 ∷ []) (client 1 ∷ client 1 ∷ []) (frame t ∷ []) (use_of 1 (client 1) t ∷ []) (mark replay ∷ mark replay ∷ [])
+    trace_at (first_options gcm_b) 1 (rx_from 2) 4 (counted_again replay) (client 1 ∷ []) (client 1 ∷ client 1 ∷ [])
+    (frame t ∷ []) (use_of 1 (client 1) t ∷ []) (mark replay ∷ mark replay ∷ [])
 
 -- ---- the steps
 
@@ -125,7 +127,8 @@ once_genuine replay t is =
     genuine_at (after_sending replay t).world.b.state (frame t) (at_row (rx_from 1) 1 13 Passed (Some (client 1))) (after_sending replay t).seals (once_judged replay t is)
     (0, omega arith, refl)
 
-again_judged : (replay : Bool) (t : List ℕ) → Opens 1 t → judgement_of (after_once replay t).world.b.state (frame t) ≡ at_row (heard_row replay) 1 13 (again replay) (Some (client 1))
+again_judged : (replay : Bool) (t : List ℕ) → Opens 1 t →
+    judgement_of (after_once replay t).world.b.state (frame t) ≡ at_row (heard_row replay) 1 13 (again replay) (Some (client 1))
 again_judged true t is = ap (judge_opened (rx_options (after_once true t).world.b.state) (key_row 2 1) (heard_row true) 1 (parts_at (frame t))) is
 again_judged false t is = ap (judge_opened (rx_options (after_once false t).world.b.state) (key_row 2 1) (heard_row false) 1 (parts_at (frame t))) is
 
@@ -135,8 +138,9 @@ again_heard false t is = deliver_step (after_once false t) 0 (frame t) (at_row (
 
 again_genuine : (replay : Bool) (t : List ℕ) → Opens 1 t → IsGenuineAt (after_once replay t) (Deliver B 0)
 again_genuine replay t is =
-    genuine_at (after_once replay t).world.b.state (frame t) (at_row (heard_row replay) 1 13 (again replay) (Some (client 1))) (after_once replay t).seals (again_judged replay t is)
-    (0, omega arith, refl)
+    let j = at_row (heard_row replay) 1 13 (again replay) (Some (client 1)) in
+    let once = after_once replay t in
+    genuine_at once.world.b.state (frame t) j once.seals (again_judged replay t is) (0, omega arith, refl)
 
 is_back : (replay : Bool) (t : List ℕ) → trace_step (after_twice replay t) (Command B (Replay true 0)) ≡ at_end replay t
 is_back true t = refl
@@ -146,10 +150,13 @@ is_back false t = refl
 
 is_genuine : (replay : Bool) → IsGenuine (new_trace gcm_a gcm_b) (events replay)
 is_genuine replay =
+    let sending = after_sending replay first_tag in
+    let once = after_once replay first_tag in
+    let two = after_twice replay first_tag in
     genuine_append (new_trace gcm_a gcm_b) (ready replay) (commands replay) (Send A (client 1) ∷ twice) (tt, (tt, (tt, (tt, (tt, (tt, (tt, (tt, tt)))))))) (is_ready replay)
     (genuine_next (ready replay) (after_sending replay first_tag) (Send A (client 1)) twice (tt {0}) (is_sent replay)
-    (genuine_next (after_sending replay first_tag) (after_once replay first_tag) (Deliver B 0) (Deliver B 0 ∷ back) (once_genuine replay first_tag first_opens) (once_heard replay first_tag first_opens)
-    (genuine_next (after_once replay first_tag) (after_twice replay first_tag) (Deliver B 0) back (again_genuine replay first_tag first_opens) (again_heard replay first_tag first_opens)
+    (genuine_next sending once (Deliver B 0) (Deliver B 0 ∷ back) (once_genuine replay first_tag first_opens) (once_heard replay first_tag first_opens)
+    (genuine_next once two (Deliver B 0) back (again_genuine replay first_tag first_opens) (again_heard replay first_tag first_opens)
     (genuine_next (after_twice replay first_tag) (at_end replay first_tag) (Command B (Replay true 0)) [] (tt {0}) (is_back replay first_tag) (tt {0})))))
 
 trace_ends : (replay : Bool) → trace_of gcm_a gcm_b (events replay) ≡ at_end replay first_tag
@@ -170,10 +177,10 @@ each_moment replay P first so =
     each_append (WhileLive P) (new_world gcm_a gcm_b) (ready replay).world (commands replay) (Send A (client 1) ∷ twice)
     (tt, (tt, (tt, (tt, (tt, (tt, (λ live. first _ refl, (λ live. first _ refl, tt))))))))
     (sym (world_of_trace (new_trace gcm_a gcm_b) (commands replay)) ∙ ap (λ (t : Trace). t.world) (is_ready replay))
-    (each_next (WhileLive P) (ready replay).world (after_sending replay first_tag).world (Send A (client 1)) twice (λ live. so _ refl) (ap (λ (t : Trace). t.world) (is_sent replay))
-    (each_next (WhileLive P) (after_sending replay first_tag).world (after_once replay first_tag).world (Deliver B 0) (Deliver B 0 ∷ back) (λ live. so _ refl) (ap (λ (t : Trace). t.world) (once_heard replay first_tag first_opens))
-    (each_next (WhileLive P) (after_once replay first_tag).world (after_twice replay first_tag).world (Deliver B 0) back (λ live. so _ refl) (ap (λ (t : Trace). t.world) (again_heard replay first_tag first_opens))
-    (each_next (WhileLive P) (after_twice replay first_tag).world (at_end replay first_tag).world (Command B (Replay true 0)) [] (λ live. so _ refl) (ap (λ (t : Trace). t.world) (is_back replay first_tag)) (λ live. first _ refl)))))
+    (live_next P (ready replay) (after_sending replay first_tag) (Send A (client 1)) twice (λ live. so _ refl) (is_sent replay)
+    (live_next P (after_sending replay first_tag) (after_once replay first_tag) (Deliver B 0) (Deliver B 0 ∷ back) (λ live. so _ refl) (once_heard replay first_tag first_opens)
+    (live_next P (after_once replay first_tag) (after_twice replay first_tag) (Deliver B 0) back (λ live. so _ refl) (again_heard replay first_tag first_opens)
+    (live_next P (after_twice replay first_tag) (at_end replay first_tag) (Command B (Replay true 0)) [] (λ live. so _ refl) (is_back replay first_tag) (λ live. first _ refl)))))
 
 while_there : (replay : Bool) (P : State → Type 0) → ((s : State) → s.options ≡ first_options gcm_b → P s) → ((s : State) → s.options ≡ options_of replay → P s) →
     WhileThere gcm_a gcm_b (events replay) B 0 P

@@ -46,7 +46,8 @@ unvalidated octet = trace_at options_check 0 (rx_from 1) 2 one_invalid [] (clien
 
 abbrev after_sending : ℕ → List ℕ → Trace
 after_sending octet t =
-    trace_at options_check 1 (rx_from 1) 2 one_invalid (client 1 ∷ []) (client 2 ∷ []) (guessed 2 octet ∷ link_frame_of 1 (client 1) t ∷ []) (use_of 1 (client 1) t ∷ []) (invalid ∷ [])
+    trace_at options_check 1 (rx_from 1) 2 one_invalid (client 1 ∷ []) (client 2 ∷ [])
+    (guessed 2 octet ∷ link_frame_of 1 (client 1) t ∷ []) (use_of 1 (client 1) t ∷ []) (invalid ∷ [])
 
 abbrev passed : ℕ → List ℕ → Trace
 passed octet t =
@@ -60,7 +61,8 @@ is_on_link octet = refl
 
 guess_judged : (octet : ℕ) → IsOther 2 octet → judgement_of in_check.world.b.state (guessed 2 octet) ≡ at_row (rx_from 1) 2 12 Invalid (Some (client 2))
 guess_judged octet other =
-    ap (judge_opened (rx_options in_check.world.b.state) (key_row 2 1) (rx_from 1) 2 (parts_at (guessed 2 octet))) (closes bytes (iv 2) (aad 2 (client 2)) octet (replicate 15 0) other)
+    ap (judge_opened (rx_options in_check.world.b.state) (key_row 2 1) (rx_from 1) 2 (parts_at (guessed 2 octet)))
+    (closes bytes (iv 2) (aad 2 (client 2)) octet (replicate 15 0) other)
 
 is_unvalidated : (octet : ℕ) → IsOther 2 octet → trace_step (on_link octet) (Deliver B 0) ≡ unvalidated octet
 is_unvalidated octet other = deliver_step (on_link octet) 0 (guessed 2 octet) (at_row (rx_from 1) 2 12 Invalid (Some (client 2))) refl refl refl (guess_judged octet other)
@@ -72,14 +74,17 @@ is_sent : (octet : ℕ) → trace_step (unvalidated octet) (Send A (client 1)) �
 is_sent octet =
     send_step (unvalidated octet) (client 1) (tx_from 1) (link_frame_of 1 (client 1) first_tag) refl refl (sends octet)
     ∙ ap (λ (it : Sealed).
-    trace_at options_check 1 (rx_from 1) 2 one_invalid (client 1 ∷ []) (client 2 ∷ []) (guessed 2 octet ∷ link_frame_of 1 (client 1) first_tag ∷ []) (use_with 1 (client 1) it ∷ []) (invalid ∷ []))
+    trace_at options_check 1 (rx_from 1) 2 one_invalid (client 1 ∷ []) (client 2 ∷ [])
+    (guessed 2 octet ∷ link_frame_of 1 (client 1) first_tag ∷ []) (use_with 1 (client 1) it ∷ []) (invalid ∷ []))
     (sealed bytes (iv 1) (aad 1 (client 1)))
 
-sent_judged : (octet : ℕ) (t : List ℕ) → Opens 1 t → judgement_of (after_sending octet t).world.b.state (link_frame_of 1 (client 1) t) ≡ at_row (rx_from 1) 1 13 Passed (Some (client 1))
+sent_judged : (octet : ℕ) (t : List ℕ) → Opens 1 t →
+    judgement_of (after_sending octet t).world.b.state (link_frame_of 1 (client 1) t) ≡ at_row (rx_from 1) 1 13 Passed (Some (client 1))
 sent_judged octet t is = ap (judge_opened (rx_options (after_sending octet t).world.b.state) (key_row 2 1) (rx_from 1) 1 (parts_at (link_frame_of 1 (client 1) t))) is
 
 is_passed : (octet : ℕ) (t : List ℕ) → Opens 1 t → trace_step (after_sending octet t) (Deliver B 1) ≡ passed octet t
-is_passed octet t is = deliver_step (after_sending octet t) 1 (link_frame_of 1 (client 1) t) (at_row (rx_from 1) 1 13 Passed (Some (client 1))) refl refl refl (sent_judged octet t is)
+is_passed octet t is =
+    deliver_step (after_sending octet t) 1 (link_frame_of 1 (client 1) t) (at_row (rx_from 1) 1 13 Passed (Some (client 1))) refl refl refl (sent_judged octet t is)
 
 trace_ends : (octet : ℕ) → IsOther 2 octet → trace_of gcm_a gcm_b (events octet) ≡ passed octet first_tag
 trace_ends octet other =

@@ -16,7 +16,7 @@ abbrev pub drop_text : DropReason → List ℕ
 drop_text reason.NoSa = codes "NoSA"
 drop_text reason.TooLong = codes "TooLong"
 
--- no line prints the first and the last
+-- the name of a fault of an event; no line prints the first and the last
 abbrev pub world_fault_name : WorldFault → List ℕ
 world_fault_name world.Memory = codes "Memory"
 world_fault_name world.NoFrame = codes "NoFrame"
@@ -44,7 +44,8 @@ outcome_text n frame (Ok (Dropped reason)) = decimal n ++ codes " dropped " ++ d
 outcome_text n frame (Ok (Heard verdict controlled)) = decimal n ++ codes " " ++ verdict_name verdict ++ end_text controlled
 outcome_text n frame (Err fault) = decimal n ++ codes " fault " ++ world_fault_text fault ++ codes "\n"
 
--- a line prints it: out of memory ends the run, and no event returns that a world can't be created
+-- a line prints, that is tells, this outcome: out of memory ends the run, and no event returns that a world can't be
+-- created
 abbrev pub is_told : Result Outcome WorldFault → Bool
 is_told (Err world.Memory) = false
 is_told (Err (world.Make e fault)) = false

@@ -3,7 +3,8 @@
 ghost use Rattle.std.specs.Prelude.{◌≡◌, flat_map, map, IfErr, OnOk, Some};
 ghost use Rattle.std.specs.Io.KnownBytes.{Appends};
 ghost use Rattle.macsec_lines.specs.declared.faults.ScriptFault.TheVariants.{Write};
-ghost use Rattle.macsec_print.specs.Counters.{associations_text, channel_counters, channel_text, counter_text, counters_text, own_counters, rx_counter_text, rx_counters_text, sa_counter_text, sa_counters_text};
+ghost use Rattle.macsec_print.specs.Counters.{associations_text, channel_counters, channel_text, counter_text, counters_text, own_counters};
+ghost use Rattle.macsec_print.specs.Counters.{rx_counter_text, rx_counters_text, sa_counter_text, sa_counters_text};
 ghost use Rattle.macsec_print.specs.Printing.{Prints};
 
 use crate::numbers::{MAX_CHANNEL_COUNT, association_numbers};

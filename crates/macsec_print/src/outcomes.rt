@@ -151,7 +151,8 @@ fn write_outcome<W: Write>(
 }
 
 /// Prints the outcome of an event, as line `line` of a script shows it; `frame` is the link frame that was
-/// created, if one was. It takes no memory, and fails only if the writer does.
+/// created, if one was. An outcome that is told is any but the fault `Memory` or `Make`, which no line of a script shows.
+/// It takes no memory, and fails only if the writer does.
 pub fn print_outcome<W: Write>(
     writer: &mut W,
     line: u32,

@@ -38,6 +38,7 @@ validated_is laws key iv p fixed =
     let head : List ℕ = p.da ++ p.sa ++ encoding p.tag in
     let n : ℕ = data_place p in
     let e : ℕ = n + length p.secure_data in
+    let behind : List ℕ = drop e (received_octets p) in
     let long : length (head ++ p.secure_data) ≡ e = omega (arith, length-append head p.secure_data, head_long p fixed) in
     let front : take e (received_octets p) ≡ head ++ p.secure_data = ap (λ (j : ℕ). take j (received_octets p)) (sym long) ∙ take-append_seam (head ++ p.secure_data) p.icv in
     let back : drop e (received_octets p) ≡ p.icv = ap (λ (j : ℕ). drop j (received_octets p)) (sym long) ∙ drop-append_seam (head ++ p.secure_data) p.icv in
@@ -45,7 +46,7 @@ validated_is laws key iv p fixed =
     let cut : clear_and_rest key.offset p.tag.e n (take e (received_octets p)) ≡ parts_of key p =
     ap (clear_and_rest key.offset p.tag.e n) front
     ∙ laws.parts key.offset p.tag.e p.da p.sa p.tag p.secure_data fixed.da fixed.sa in
-    ap (λ (ac : List ℕ × List ℕ). option_map (λ plaintext. ac.0 ++ plaintext ++ drop e (received_octets p)) (open_of key.bytes iv ac.0 ac.1 (take 16 (drop e (received_octets p))))) cut
+    ap (λ (ac : List ℕ × List ℕ). option_map (λ plaintext. ac.0 ++ plaintext ++ behind) (open_of key.bytes iv ac.0 ac.1 (take 16 behind))) cut
     ∙ ap (λ (tail : List ℕ). option_map (λ plaintext. (parts_of key p).0 ++ plaintext ++ tail) (open_of key.bytes iv (parts_of key p).0 (parts_of key p).1 (take 16 tail))) back
     ∙ ap (λ (tag : List ℕ). option_map (λ plaintext. (parts_of key p).0 ++ plaintext ++ p.icv) (open_of key.bytes iv (parts_of key p).0 (parts_of key p).1 tag)) whole_icv
   where
@@ -60,10 +61,14 @@ refused laws key iv p fixed e = by (opened_under key iv p) refl (sym (validated_
     by : (o : Option (List ℕ)) → opened_under key iv p ≡ o → option_map (λ plaintext. (parts_of key p).0 ++ plaintext ++ p.icv) (opened_under key iv p) ≡ None
         → option_map (frame_with key p) (opened_under key iv p) ≡ None
     by None is h = ap (option_map (frame_with key p)) is
-    by (Some plaintext) is h = absurd (let none : Some ((parts_of key p).0 ++ plaintext ++ p.icv) ≡ None = sym (ap (option_map (λ t. (parts_of key p).0 ++ t ++ p.icv)) is) ∙ h in cc)
+    by (Some plaintext) is h =
+        let none : Some ((parts_of key p).0 ++ plaintext ++ p.icv) ≡ None =
+        sym (ap (option_map (λ t. (parts_of key p).0 ++ t ++ p.icv)) is) ∙ h in
+        absurd cc
 
 -- a plaintext is as long as its ciphertext
-plaintext_long : LowerLaws → (key : PreparedKey) (iv : List ℕ) (p : MpduParts) (plaintext : List ℕ) → opened_under key iv p ≡ Some plaintext → length plaintext ≡ length (parts_of key p).1
+plaintext_long : LowerLaws → (key : PreparedKey) (iv : List ℕ) (p : MpduParts) (plaintext : List ℕ) →
+    opened_under key iv p ≡ Some plaintext → length plaintext ≡ length (parts_of key p).1
 plaintext_long laws key iv p plaintext is =
     let sealed = (laws.undoes key.bytes iv (parts_of key p).0 (parts_of key p).1 p.icv plaintext).0 is in
     sym (laws.lengths.ciphertext key.bytes iv (parts_of key p).0 plaintext) ∙ ap (λ (s : List ℕ × List ℕ). length s.0) sealed

@@ -8,7 +8,9 @@ use Rattle.std.proofs.lemmas.List.{take-append-drop, drop-take}
 pub placed : (out front part behind : List ℕ) (n k m : ℕ) → length front ≡ n → length part ≡ k → take (n + k) out ≡ front ++ part → drop (n + k) out ≡ behind
     → slice_range out n (n + (k + m)) ≡ part ++ take m behind
 placed out front part behind n k m front_long part_long before after =
-    let whole : out ≡ front ++ (part ++ behind) = sym (take-append-drop (n + k) out) ∙ ap (λ xs. xs ++ drop (n + k) out) before ∙ ap (λ xs. (front ++ part) ++ xs) after ∙ append_assoc front part behind in
+    let whole : out ≡ front ++ (part ++ behind) =
+    sym (take-append-drop (n + k) out) ∙ ap (λ xs. xs ++ drop (n + k) out) before ∙
+    ap (λ xs. (front ++ part) ++ xs) after ∙ append_assoc front part behind in
     let count : n + (k + m) - n ≡ length part + m = omega (arith, part_long) in
     ap (λ xs. slice_range xs n (n + (k + m))) whole
     ∙ ap (λ j. take (n + (k + m) - n) (drop j (front ++ (part ++ behind)))) (sym front_long)

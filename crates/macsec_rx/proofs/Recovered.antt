@@ -25,7 +25,8 @@ pub no_plaintext : (key : KeyRow) (first_unused : ℕ) (row : RxRow) (number : �
     None ≡ option_map (frame_with key.suite_key p) (opened_under key.suite_key (iv_of key.suite_key.suite row.sci row.ssci key.key.salt number) p) →
     plaintext_of (row_shown key first_unused) row number p ≡ None
 no_plaintext key first_unused row number p own none =
-    sym (ap (λ k. opened_under k (iv_of key.suite_key.suite row.sci row.ssci key.key.salt number) p) own.0) ∙ by_parts (opened_under key.suite_key (iv_of key.suite_key.suite row.sci row.ssci key.key.salt number) p) (sym none)
+    let iv : List ℕ = iv_of key.suite_key.suite row.sci row.ssci key.key.salt number in
+    sym (ap (λ k. opened_under k iv p) own.0) ∙ by_parts (opened_under key.suite_key iv p) (sym none)
   where
     by_parts : (o : Option (List ℕ)) → option_map (frame_with key.suite_key p) o ≡ None → o ≡ None
     by_parts None e = refl

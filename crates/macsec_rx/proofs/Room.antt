@@ -75,7 +75,8 @@ slot_below scis sci an there small = let within = place_below scis sci there in 
 below : (scis : List Sci) (rows : List RxRow) → AreRxRows scis rows → (q : ℕ) → list_any (eqb q) (slots scis rows) ≡ true → q < 4 * length scis
 below scis [] h q any = cc
 below scis (row ∷ rows) h q any =
-    below_step q (slot scis row.sci row.an) (4 * length scis) (list_any (eqb q) (slots scis rows)) (slot_below scis row.sci row.an h.0.channel h.0.an) (λ e. below scis rows h.2 q e) any
+    let here = slot_below scis row.sci row.an h.0.channel h.0.an in
+    below_step q (slot scis row.sci row.an) (4 * length scis) (list_any (eqb q) (slots scis rows)) here (λ e. below scis rows h.2 q e) any
 
 length-slots : (scis : List Sci) (rows : List RxRow) → length (slots scis rows) ≡ length rows
 length-slots scis [] = refl

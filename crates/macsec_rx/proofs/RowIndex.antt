@@ -1,5 +1,6 @@
 -- The index of the associations, and a change of the one row that it finds.
-use Rattle.std.proofs.Common.{◌≡◌, ◌∙◌, ℕ, zero, suc, ◌+◌, ◌*◌, ◌<◌, ◌≤◌, Bool, true, false, cond, ◌&&◌, ◌||◌, List, [], ◌∷◌, ◌++◌, map, length, take, get_or, refl, sym, ap, subst, arith, inl, inr, get_or-set_other, get_or-set_same, length-append}
+use Rattle.std.proofs.Common.{◌≡◌, ◌∙◌, ℕ, zero, suc, ◌+◌, ◌*◌, ◌<◌, ◌≤◌, Bool, true, false, cond, ◌&&◌, ◌||◌, List, [], ◌∷◌, ◌++◌, map, length}
+use Rattle.std.proofs.Common.{take, get_or, refl, sym, ap, subst, arith, inl, inr, get_or-set_other, get_or-set_same, length-append}
 use Rattle.std.specs.Prelude.{IsSomeAnd, Option, Some, None, option_map, slice_get, if◌then◌else◌, ◌==◌}
 use Rattle.std.proofs.Math.ListN.{set}
 use Rattle.std.proofs.lemmas.List.{length-map, length-set}
@@ -45,7 +46,8 @@ pub is_found : (rows : List RxRow) (sci : Sci) (an : ℕ) (row : RxRow) → rx_r
 is_found [] sci an row there = cc
 is_found (first ∷ rows) sci an row there = by_test (is_at sci an first) refl (is_found rows sci an row) there
   where
-    by_test : (b : Bool) → is_at sci an first ≡ b → (rx_row rows sci an ≡ Some row → is_at sci an row ≡ true) → cond b (Some first) (rx_row rows sci an) ≡ Some row → is_at sci an row ≡ true
+    by_test : (b : Bool) → is_at sci an first ≡ b → (rx_row rows sci an ≡ Some row → is_at sci an row ≡ true) →
+        cond b (Some first) (rx_row rows sci an) ≡ Some row → is_at sci an row ≡ true
     by_test true at later e = let same : first ≡ row = cc in subst (λ r. is_at sci an r ≡ true) same at
     by_test false at later e = later e
 
@@ -112,7 +114,7 @@ in_use-none (row ∷ rows) sci an free =
     let parts = cond_none (is_at sci an row) row (rx_row rows sci an) free in
     rw parts.0 (in_use-none rows sci an parts.1)
 
--- it is the one of the channel and of the number, if that is enabled
+-- the association for a frame is the one of the channel and of the number, if that is enabled
 in_use-rx_row : (scis : List Sci) (rows : List RxRow) (sci : Sci) (an : ℕ) → AreRxRows scis rows → in_use rows an (Some sci) ≡ if_on (rx_row rows sci an)
 unfolding if_on
 in_use-rx_row scis [] sci an h = refl
@@ -163,10 +165,16 @@ rx_row-map_some f same (row ∷ rows) sci an =
 pub IsIndex-map : (scis : List Sci) (f : RxRow → RxRow) → KeepsPlace f → (rows : List RxRow) (places : List ℕ) → IsIndex scis rows places → IsIndex scis (map f rows) places
 IsIndex-map scis f same rows places index = record {
   count = index.count;
-  finds = λ sci an there small. rx_row-map_some f same rows sci an ∙ ap (option_map f) (index.finds sci an there small) ∙ sym (slice_get-map f rows (get_or places (slot scis sci an) 0));
+  finds = found;
   within = λ n small there. omega (arith, index.within n small there, length-map rows f);
   free = index.free;
 }
+  where
+    found : (sci : Sci) (an : ℕ) → has_channel scis sci ≡ true → an < max_association_count →
+        rx_row (map f rows) sci an ≡ slice_get (map f rows) (get_or places (slot scis sci an) 0)
+    found sci an there small =
+        rx_row-map_some f same rows sci an ∙ ap (option_map f) (index.finds sci an there small) ∙
+        sym (slice_get-map f rows (get_or places (slot scis sci an) 0))
 
 slice_get-push : (rows : List RxRow) (new : RxRow) → slice_get (rows ++ new ∷ []) (length rows) ≡ Some new
 slice_get-push [] new = refl
@@ -189,8 +197,9 @@ rx_row-push_other [] new sci an other = rw other refl
 rx_row-push_other (row ∷ rows) new sci an other = ap (λ rest. cond (is_at sci an row) (Some row) rest) (rx_row-push_other rows new sci an other)
 
 -- an association of a free number is at the end, and is found there
-pub IsIndex-push : (scis : List Sci) (rows : List RxRow) (places : List ℕ) (new : RxRow) → IsIndex scis rows places → length rows < max_row_count → length scis ≤ max_channel_count →
-    IsRxRow scis new → rx_row rows new.sci new.an ≡ None → IsIndex scis (rows ++ new ∷ []) (set places (slot scis new.sci new.an) (length rows))
+pub IsIndex-push : (scis : List Sci) (rows : List RxRow) (places : List ℕ) (new : RxRow) → IsIndex scis rows places →
+    length rows < max_row_count → length scis ≤ max_channel_count → IsRxRow scis new → rx_row rows new.sci new.an ≡ None →
+    IsIndex scis (rows ++ new ∷ []) (set places (slot scis new.sci new.an) (length rows))
 IsIndex-push scis rows places new index room few is free = record {
   count = length-set places (slot scis new.sci new.an) (length rows) ∙ index.count;
   finds = λ sci an there small. elim (eqb_tells (slot scis sci an) new_slot) [ inl same ↦ at_new sci an there small same.1 | inr other ↦ kept sci an there small other.1 ];
@@ -222,14 +231,16 @@ IsIndex-push scis rows places new index room few is free = record {
     last : place new_slot < length more
     last = omega (arith, at_end, longer)
 
-    at_new : (sci : Sci) (an : ℕ) → has_channel scis sci ≡ true → an < max_association_count → slot scis sci an ≡ new_slot → rx_row more sci an ≡ slice_get more (place (slot scis sci an))
+    at_new : (sci : Sci) (an : ℕ) → has_channel scis sci ≡ true → an < max_association_count → slot scis sci an ≡ new_slot →
+        rx_row more sci an ≡ slice_get more (place (slot scis sci an))
     at_new sci an there small e =
         let parts = same_slot (channel_place scis sci) (channel_place scis new.sci) an new.an small is.an e in
         let sci_is : sci ≡ new.sci = one_place scis sci new.sci there is.channel parts.0 in
         ap (λ s. rx_row more s an) sci_is ∙ ap (λ a. rx_row more new.sci a) parts.1 ∙ rx_row-push rows new free ∙ sym (slice_get-push rows new) ∙
         ap (slice_get more) (sym at_end) ∙ ap (λ n. slice_get more (place n)) (sym e)
 
-    kept : (sci : Sci) (an : ℕ) → has_channel scis sci ≡ true → an < max_association_count → (slot scis sci an ≡ new_slot → ⊥) → rx_row more sci an ≡ slice_get more (place (slot scis sci an))
+    kept : (sci : Sci) (an : ℕ) → has_channel scis sci ≡ true → an < max_association_count → (slot scis sci an ≡ new_slot → ⊥) →
+        rx_row more sci an ≡ slice_get more (place (slot scis sci an))
     kept sci an there small other =
         let apart : is_at sci an new ≡ false = by_test (is_at sci an new) refl in
         let inside : get_or places (slot scis sci an) 0 ≡ length rows → ⊥ =
@@ -258,7 +269,7 @@ channel_place-more (first ∷ scis) sci s there = by_test (same_sci first s) (λ
     by_test true later h = refl
     by_test false later h = ap suc (later h)
 
--- and that one is behind them
+-- a channel that joins is behind the others
 channel_place-last : (scis : List Sci) (sci s : Sci) → has_channel scis s ≡ false → has_channel (scis ++ sci ∷ []) s ≡ true → channel_place (scis ++ sci ∷ []) s ≡ length scis
 channel_place-last [] sci s none there = by_test (same_sci sci s) there
   where
@@ -285,7 +296,8 @@ IsIndex-more_channels scis rows places sci index h few fit = record {
     more : List Sci
     more = scis ++ sci ∷ []
 
-    by_test : (s : Sci) (an : ℕ) (b : Bool) → has_channel scis s ≡ b → has_channel more s ≡ true → an < max_association_count → rx_row rows s an ≡ slice_get rows (get_or places (slot more s an) 0)
+    by_test : (s : Sci) (an : ℕ) (b : Bool) → has_channel scis s ≡ b → has_channel more s ≡ true → an < max_association_count →
+        rx_row rows s an ≡ slice_get rows (get_or places (slot more s an) 0)
     by_test s an true is there small =
         index.finds s an is small ∙ ap (λ p. slice_get rows (get_or places (4 * p + an) 0)) (sym (channel_place-more scis sci s is))
     by_test s an false is there small =
@@ -297,7 +309,8 @@ IsIndex-more_channels scis rows places sci index h few fit = record {
 pub rx_row-indexed : (scis : List Sci) (rows : List RxRow) (places : List ℕ) (sci : Sci) (an channel s place : ℕ) → IsIndex scis rows places → has_channel scis sci ≡ true →
     an < max_association_count → channel ≡ channel_place scis sci → s ≡ 4 * channel + an → place ≡ get_or places s 0 → rx_row rows sci an ≡ slice_get rows place
 rx_row-indexed scis rows places sci an channel s place index there small at slot_is place_is =
-    index.finds sci an there small ∙ ap (λ n. slice_get rows (get_or places n 0)) (let e : slot scis sci an ≡ s = omega (arith, at, slot_is) in e) ∙ ap (slice_get rows) (sym place_is)
+    let here : slot scis sci an ≡ s = omega (arith, at, slot_is) in
+    index.finds sci an there small ∙ ap (λ n. slice_get rows (get_or places n 0)) here ∙ ap (slice_get rows) (sym place_is)
 
 -- ---- a change of the association at a place
 
@@ -327,7 +340,9 @@ ArePut-set scis rows places i row h index there is = by_old (slice_get rows i) r
     by_old : (o : Option RxRow) → slice_get rows i ≡ o → IsSomeAnd o (λ old. (row.sci ≡ old.sci) × (row.an ≡ old.an)) → ArePut scis (set rows i row) places
     by_old None found there = absurd there
     by_old (Some old) found there =
-        let same : with_rx (λ old. row) row.sci row.an rows ≡ set rows i row = with_rx-set scis (λ old. row) rows row.sci row.an i old h found (is_at-other row old there.0 there.1) in
+        let there = is_at-other row old there.0 there.1 in
+        let same : with_rx (λ old. row) row.sci row.an rows ≡ set rows i row =
+        with_rx-set scis (λ old. row) rows row.sci row.an i old h found there in
         subst (λ xs. ArePut scis xs places) same (record {
           are = AreRxRows-map scis _ (KeepsPlace-one row) (IsRxRow-at_place scis (λ old. row) (λ old h. is) row.sci row.an) rows h;
           index = IsIndex-map scis _ (KeepsPlace-one row) rows places index;

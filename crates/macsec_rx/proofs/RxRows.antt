@@ -42,17 +42,24 @@ rx_row-append (row ∷ rows) new sci an free other =
     rw parts.0 (rx_row-append rows new sci an parts.1 other)
 
 -- an association may join at a free place
-pub AreRxRows-append : (scis : List Sci) (rows : List RxRow) (new : RxRow) → AreRxRows scis rows → rx_row rows new.sci new.an ≡ None → IsRxRow scis new → AreRxRows scis (rows ++ new ∷ [])
+pub AreRxRows-append : (scis : List Sci) (rows : List RxRow) (new : RxRow) → AreRxRows scis rows → rx_row rows new.sci new.an ≡ None →
+    IsRxRow scis new → AreRxRows scis (rows ++ new ∷ [])
 AreRxRows-append scis [] new h free good = (good, refl, tt)
 AreRxRows-append scis (row ∷ rows) new h free good =
     let parts = cond_none (is_at new.sci new.an row) row (rx_row rows new.sci new.an) free in
     (h.0, rx_row-append rows new row.sci row.an h.1 (is_at-swapped row new parts.0), AreRxRows-append scis rows new h.2 parts.1 good)
 
+-- an association is one of any channels that have its own
+IsRxRow-of : (scis more : List Sci) (row : RxRow) → has_channel more row.sci ≡ true → IsRxRow scis row → IsRxRow more row
+IsRxRow-of scis more row there h =
+    record { channel = there; an = h.an; key = h.key; ssci = h.ssci; next = h.next; lowest_least = h.lowest_least; lowest = h.lowest }
+
 -- the associations of more channels
-pub AreRxRows-more_channels : (scis more : List Sci) → ((s : Sci) → has_channel scis s ≡ true → has_channel more s ≡ true) → (rows : List RxRow) → AreRxRows scis rows → AreRxRows more rows
+pub AreRxRows-more_channels : (scis more : List Sci) → ((s : Sci) → has_channel scis s ≡ true → has_channel more s ≡ true) →
+    (rows : List RxRow) → AreRxRows scis rows → AreRxRows more rows
 AreRxRows-more_channels scis more still [] h = tt
 AreRxRows-more_channels scis more still (row ∷ rows) h =
-    (record { channel = still row.sci h.0.channel; an = h.0.an; key = h.0.key; ssci = h.0.ssci; next = h.0.next; lowest_least = h.0.lowest_least; lowest = h.0.lowest }, h.1, AreRxRows-more_channels scis more still rows h.2)
+    (IsRxRow-of scis more row (still row.sci h.0.channel) h.0, h.1, AreRxRows-more_channels scis more still rows h.2)
 
 -- a change of numbers, or enabling and disabling, which leaves the association at its place
 pub record KeepsPlace (f : RxRow → RxRow) : Type 0 where
@@ -65,7 +72,8 @@ rx_row-map f same (row ∷ rows) sci an free =
     let parts = cond_none (is_at sci an row) row (rx_row rows sci an) free in
     rw (same.sci row, same.an row, parts.0) (rx_row-map f same rows sci an parts.1)
 
-pub AreRxRows-map : (scis : List Sci) (f : RxRow → RxRow) → KeepsPlace f → ((row : RxRow) → IsRxRow scis row → IsRxRow scis (f row)) → (rows : List RxRow) → AreRxRows scis rows → AreRxRows scis (map f rows)
+pub AreRxRows-map : (scis : List Sci) (f : RxRow → RxRow) → KeepsPlace f → ((row : RxRow) → IsRxRow scis row → IsRxRow scis (f row)) →
+    (rows : List RxRow) → AreRxRows scis rows → AreRxRows scis (map f rows)
 AreRxRows-map scis f same good [] h = tt
 AreRxRows-map scis f same good (row ∷ rows) h =
     (good row h.0, rw (same.sci row, same.an row) (rx_row-map f same rows row.sci row.an h.1), AreRxRows-map scis f same good rows h.2)
@@ -88,8 +96,7 @@ AreRxRows-filter scis left p still (row ∷ rows) h =
     by_test (p row) refl (filter p rows) (rx_row-filter p rows row.sci row.an h.1) (AreRxRows-filter scis left p still rows h.2)
   where
     by_test : (b : Bool) → p row ≡ b → (others : List RxRow) → rx_row others row.sci row.an ≡ None → AreRxRows left others → AreRxRows left (cond b (row ∷ others) others)
-    by_test true is others free h' =
-        (record { channel = still row is h.0.channel; an = h.0.an; key = h.0.key; ssci = h.0.ssci; next = h.0.next; lowest_least = h.0.lowest_least; lowest = h.0.lowest }, free, h')
+    by_test true is others free h' = (IsRxRow-of scis left row (still row is h.0.channel) h.0, free, h')
     by_test false is others free h' = h'
 
 -- what a change at one place keeps
@@ -110,7 +117,9 @@ IsRxRow-raised scis pn row some small h =
 
 pub IsRxRow-accepting : (scis : List Sci) (window number : ℕ) (row : RxRow) → number < 2 ^ 64 → IsRxRow scis row → IsRxRow scis (row_accepting window number row)
 IsRxRow-accepting scis window number row small h =
-    record { channel = h.channel; an = h.an; key = h.key; ssci = h.ssci; next = omega (arith, h.next, small); lowest_least = omega (arith, h.lowest_least); lowest = omega (arith, h.lowest) }
+    let next : (row_accepting window number row).next ≤ 2 ^ 64 = omega (arith, h.next, small) in
+    let least : 1 ≤ (row_accepting window number row).lowest = omega (arith, h.lowest_least) in
+    record { channel = h.channel; an = h.an; key = h.key; ssci = h.ssci; next = next; lowest_least = least; lowest = omega (arith, h.lowest) }
 
 pub AreRxRows-narrowed : (scis : List Sci) (window : ℕ) (rows : List RxRow) → AreRxRows scis rows → AreRxRows scis (map (row_narrowed window) rows)
 AreRxRows-narrowed scis window =
@@ -136,7 +145,7 @@ holds_of_row P (first ∷ rows) sci an row h e = by_test (is_at sci an first) (h
     by_test true later e' = let same : first ≡ row = cc in rw (← same) (All-head P first rows h)
     by_test false later e' = later e'
 
--- and of the one that is enabled for a frame
+-- what holds of every association holds of the one that is enabled for a frame
 pub IfSome-in_use : (P : RxRow → Type 0) (rows : List RxRow) (an : ℕ) (sci : Option Sci) → All P rows → IfSome (in_use rows an sci) P
 IfSome-in_use P rows an None h = tt
 IfSome-in_use P [] an (Some sci) h = tt

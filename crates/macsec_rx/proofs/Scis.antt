@@ -40,7 +40,7 @@ joined_scis (s ∷ scis) sci h good free =
 pub still_channel : (scis : List Sci) (sci s : Sci) → has_channel scis s ≡ true → has_channel (scis ++ sci ∷ []) s ≡ true
 still_channel scis sci s there = list_any-append (λ t. same_sci t s) scis (sci ∷ []) ∙ rw there refl
 
--- and the other ones after one is deleted
+-- the other channels are still there after one is deleted
 pub other_channel : (scis : List Sci) (sci s : Sci) → has_channel scis s ≡ true → not (same_sci s sci) ≡ true → has_channel (filter (λ t. not (same_sci t sci)) scis) s ≡ true
 other_channel scis sci s there other =
     any-filter_same (λ t. same_sci t s) (λ t. not (same_sci t sci)) true (λ t same. rw (one_sci t s same) other) scis ∙ there

@@ -106,6 +106,10 @@ judge_opened options key row number p None =
 judge_opened options key row number p (Some plaintext) =
     at_row row number 13 (if is_late row.lowest number then Delayed else Passed) (Some (opened_frame key p plaintext))
 
+-- steps 11 to 13 with the plaintext that the cipher gives, if it gives one
+abbrev pub judge_validated : RxOptions → InstalledKey → RxRow → ℕ → MpduParts → Judgement
+judge_validated options key row number p = judge_opened options key row number p (plaintext_of key row number p)
+
 -- steps 7 to 13: there is no packet number; it is late; nothing is validated; the cipher decides
 abbrev pub judge_number : RxOptions → InstalledKey → RxRow → MpduParts → Option ℕ → Judgement
 judge_number options key association p None = at_row association 0 7 BadTag None
@@ -114,7 +118,7 @@ judge_number options key association p (Some number) =
     else if is_disabled options.mode && p.tag.c then at_row association number 9 NotValid None
     else if is_disabled options.mode
     then at_row association number 10 (if is_late association.lowest number then Delayed else Unchecked) (Some (bare_frame p))
-    else judge_opened options key association number p (plaintext_of key association number p)
+    else judge_validated options key association number p
 
 -- the PN field is 0, which no sender uses, and packet numbers have 32 bits
 abbrev pub is_bad_number : Suite → ℕ → Bool

@@ -6,25 +6,32 @@ ghost use Rattle.macsec_rx.specs.Channels.{is_at, no_channels, rx_row, with_rx};
 ghost use Rattle.macsec_rx.specs.Rows.{AreChannels, IsRxRow};
 ghost use Rattle.macsec_commands.specs.Scis.{IsSci};
 ghost use Rattle.macsec_rx.specs.Judge.{in_use, only_channel, port_of, row_accepting, rows_accepting, sci_of};
-ghost use Rattle.macsec_rx.specs.Commands.{HaveRxKeys, channels_narrowed, has_channel, row_narrowed, rx_low_refusals, rx_row_refusals, rx_sa_refusals, rx_sc_del_refusals, rx_sc_refusals, rx_uses, with_channel, with_rx_low, with_rx_on, with_rx_sa, without_channel, without_rx};
+ghost use Rattle.macsec_rx.specs.Commands.{HaveRxKeys, channels_narrowed, has_channel, row_narrowed, rx_low_refusals, rx_row_refusals, rx_sa_refusals, rx_sc_del_refusals};
+ghost use Rattle.macsec_rx.specs.Commands.{rx_sc_refusals, rx_uses, with_channel, with_rx_low, with_rx_on, with_rx_sa, without_channel, without_rx};
 
 use crate::RxRow;
 use crate::index::{channel_place, empty_index, index_of, slot};
 use arrayvec::ArrayVec;
 use macsec_pn::RxNumbers;
 use macsec_suite::{KeyNumber, KeyTable, Refusal};
-use macsec_tag::{An, Mpdu, Sci};
+use macsec_tag::{ASSOCIATION_COUNT, An, Mpdu, Sci};
 use std::marker::Model;
+
+/// The most receive channels of an endpoint.
+pub const MAX_CHANNEL_COUNT: usize = 64;
+
+/// The most receive associations of an endpoint: of each channel as many as there are association numbers.
+pub const MAX_ROW_COUNT: usize = MAX_CHANNEL_COUNT * ASSOCIATION_COUNT;
 
 /// The receive channels: up to 64, of four associations each. Contracts see them as the SCIs in the order of their
 /// creation, and the associations in the order of theirs.
 #[derive(Drop)]
 pub struct RxChannels {
-    scis: ArrayVec<Sci, 64>,
-    rows: ArrayVec<RxRow, 256>,
+    scis: ArrayVec<Sci, MAX_CHANNEL_COUNT>,
+    rows: ArrayVec<RxRow, MAX_ROW_COUNT>,
     /// The place of each association among the rows, by the place of its channel and by its number: so a frame costs the
     /// same whichever association it is for.
-    places: [u16; 256],
+    places: [u16; MAX_ROW_COUNT],
 }
 
 impl Model for RxChannels {

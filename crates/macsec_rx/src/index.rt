@@ -9,21 +9,21 @@ ghost use Rattle.macsec_rx.specs.Commands.{has_channel};
 ghost use Rattle.macsec_rx.specs.Index.{IsIndex, channel_place};
 ghost use Rattle.macsec_rx.specs.Rows.{AreRxRows};
 
-use crate::RxRow;
-use macsec_tag::{An, Sci};
+use crate::{MAX_ROW_COUNT, RxRow};
+use macsec_tag::{ASSOCIATION_COUNT, An, Sci};
 
-/// The place of an association that there is not: there are at most 256.
-const NO_PLACE: u16 = 256;
+/// The place of an association that there is not: past all that there can be.
+const NO_PLACE: u16 = MAX_ROW_COUNT as u16;
 
 /// The index of no associations.
-pub(crate) fn empty_index() -> [u16; 256]
+pub(crate) fn empty_index() -> [u16; MAX_ROW_COUNT]
     ensures { (scis : List Sci) → IsIndex scis [] result }
 {
-    [NO_PLACE; 256]
+    [NO_PLACE; MAX_ROW_COUNT]
 }
 
 /// The index of these associations of these channels.
-pub(crate) fn index_of(scis: &[Sci], rows: &[RxRow]) -> [u16; 256]
+pub(crate) fn index_of(scis: &[Sci], rows: &[RxRow]) -> [u16; MAX_ROW_COUNT]
     requires channels { length scis.now ≤ max_channel_count }
     requires count { length rows.now ≤ max_row_count }
     requires rows { AreRxRows scis.now rows.now }
@@ -44,7 +44,7 @@ pub(crate) fn slot(channel: usize, an: An) -> usize
     ensures within { result < max_row_count }
     ensures number { an < max_association_count }
 {
-    4 * channel + usize::from(an.number())
+    ASSOCIATION_COUNT * channel + usize::from(an.number())
 }
 
 /// The place of the channel with this SCI among the channels, if there is one.
@@ -61,7 +61,8 @@ pub(crate) fn channel_place(scis: &[Sci], sci: Sci) -> Option<usize>
     None
 }
 
-/// Are the SCIs the same? They are compared as numbers, in one step: the SCI of a frame is compared with up to 64.
+/// Are the SCIs the same? They are compared as numbers, in one step: the SCI of a frame is compared with that of each
+/// channel.
 pub fn same_sci(s: Sci, t: Sci) -> bool
     ensures { result ≡ same_sci s t }
 {

@@ -10,7 +10,8 @@ ghost use Rattle.macsec_tag.specs.Limits.{max_frame_len};
 ghost use Rattle.macsec_rx.specs.Limits.{unpadded_length};
 ghost use Rattle.macsec_rx.specs.Channels.{with_rx};
 ghost use Rattle.macsec_rx.specs.Commands.{HaveRxKeys};
-ghost use Rattle.macsec_rx.specs.Judge.{is_bad_number, is_disabled, is_strict, judge_number, judge_opened, judge_row, judge_tagged, judge_tagged_row, number_of_frame, octets_at, plaintext_of, rows_after};
+ghost use Rattle.macsec_rx.specs.Judge.{is_bad_number, is_disabled, is_strict, judge_number, judge_opened, judge_row, judge_tagged};
+ghost use Rattle.macsec_rx.specs.Judge.{judge_tagged_row, judge_validated, number_of_frame, octets_at, rows_after};
 ghost use Rattle.macsec_rx.specs.Delivered.{IsInPlace, LeavesReceived, frame_with, opened_under};
 ghost use Rattle.macsec_rx.specs.Rows.{AreChannels};
 ghost use Rattle.macsec_rx.specs.Judged.{ShowsJudgement, ShowsOutcome};
@@ -283,8 +284,8 @@ fn judge_validated(
     requires number { number ≤ last_of key.now.suite_key.suite }
     requires frame { unpadded_length mpdu.now ≤ max_frame_len }
     requires room { max_frame_len ≤ length out.old }
-    ensures outcome { (first_unused : ℕ) → ShowsOutcome result out.new (judge_opened options.now (row_shown key.now first_unused) row.now number mpdu.now (plaintext_of (row_shown key.now first_unused) row.now number mpdu.now)) }
-    ensures row { (first_unused : ℕ) → IfSome result.accepted (λ n. (judge_opened options.now (row_shown key.now first_unused) row.now number mpdu.now (plaintext_of (row_shown key.now first_unused) row.now number mpdu.now)).row ≡ Some row.now) }
+    ensures outcome { (first_unused : ℕ) → ShowsOutcome result out.new (judge_validated options.now (row_shown key.now first_unused) row.now number mpdu.now) }
+    ensures row { (first_unused : ℕ) → IfSome result.accepted (λ n. (judge_validated options.now (row_shown key.now first_unused) row.now number mpdu.now).row ≡ Some row.now) }
     ensures place { IsInPlace result.judged.delivered mpdu.now }
     ensures undelivered { IfNone result.judged.delivered (LeavesReceived out.old out.new mpdu.now) }
 {

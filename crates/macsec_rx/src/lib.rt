@@ -24,7 +24,7 @@ mod delivering;
 mod index;
 mod judging;
 
-pub use channels::RxChannels;
+pub use channels::{MAX_CHANNEL_COUNT, MAX_ROW_COUNT, RxChannels};
 pub use index::same_sci;
 pub use macsec_commands::Mode;
 use macsec_pn::RxNumbers;
@@ -149,7 +149,8 @@ impl RxRow {
 pub struct Judged {
     /// The verdict.
     pub verdict: Verdict,
-    /// The association of the frame, if the verdict depends on one.
+    /// The association (secure association, SA) of the frame, if the verdict depends on one: by the SCI of its channel
+    /// and its number.
     pub row: Option<(Sci, An)>,
     /// The position and the length of what is delivered.
     pub delivered: Option<(usize, usize)>,

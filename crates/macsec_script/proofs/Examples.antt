@@ -55,7 +55,8 @@ unfolding hex_on_literals digits
 offset_31 = refl
 
 -- packet numbers begin with 1
-first_number : printed_text (both_ends ++ codes "A key 0 ad7a2bd03eac835a6f620fdcb506b345 0\nA txsa 0 0 0 int\nA txsa 0 0 1 int\n") ≡ Ok (codes "3 done\n4 refused 14 PnRange\n5 done\n")
+first_number : printed_text (both_ends ++ codes "A key 0 ad7a2bd03eac835a6f620fdcb506b345 0\nA txsa 0 0 0 int\nA txsa 0 0 1 int\n") ≡
+    Ok (codes "3 done\n4 refused 14 PnRange\n5 done\n")
 unfolding hex_on_literals digits
 first_number = refl
 
@@ -73,25 +74,34 @@ windows = refl
 abbrev pub extended_ends : List ℕ
 extended_ends = codes "end A xpn128 12153524c0895e81 1518 sci\nend B xpn128 0000000000000002 1518 auto\n"
 
-extended_offset : printed_text (extended_ends ++ codes "A key 0 ad7a2bd03eac835a6f620fdcb506b345 30 00000001 12153525c0895e8000000000\nA key 0 ad7a2bd03eac835a6f620fdcb506b345 0 00000001 12153525c0895e8000000000\n") ≡ Ok (codes "3 refused 2 Offset\n4 done\n")
+extended_offset : printed_text (extended_ends ++ codes "A key 0 ad7a2bd03eac835a6f620fdcb506b345 30 00000001 12153525c0895e8000000000\n"
+    ++ codes "A key 0 ad7a2bd03eac835a6f620fdcb506b345 0 00000001 12153525c0895e8000000000\n") ≡
+    Ok (codes "3 refused 2 Offset\n4 done\n")
 unfolding hex_on_literals digits
 extended_offset = refl
 
 -- beside a key of extended packet numbers the window is narrower, of the ends' suite or of its own
-extended_windows : printed_text (extended_ends ++ codes "A replay on 1073741823\nA key 0 ad7a2bd03eac835a6f620fdcb506b345 0\nA replay on 1073741824\n") ≡ Ok (codes "3 done\n4 done\n5 refused 18 Window\n")
+extended_windows : printed_text (extended_ends ++ codes "A replay on 1073741823\nA key 0 ad7a2bd03eac835a6f620fdcb506b345 0\nA replay on 1073741824\n") ≡
+    Ok (codes "3 done\n4 done\n5 refused 18 Window\n")
 unfolding hex_on_literals digits
 extended_windows = refl
 
-window_before_the_key : printed_text (both_ends ++ codes "A replay on 1073741824\nA key 0 ad7a2bd03eac835a6f620fdcb506b345 0 xpn128\nA replay on 1073741823\nA key 0 ad7a2bd03eac835a6f620fdcb506b345 0 xpn128\n") ≡ Ok (codes "3 done\n4 refused 18 Window\n5 done\n6 done\n")
+window_before_the_key : printed_text (both_ends ++ codes "A replay on 1073741824\nA key 0 ad7a2bd03eac835a6f620fdcb506b345 0 xpn128\nA replay on 1073741823\n"
+    ++ codes "A key 0 ad7a2bd03eac835a6f620fdcb506b345 0 xpn128\n") ≡
+    Ok (codes "3 done\n4 refused 18 Window\n5 done\n6 done\n")
 unfolding hex_on_literals digits
 window_before_the_key = refl
 
-extended_numbers : printed_text (extended_ends ++ codes "A key 0 ad7a2bd03eac835a6f620fdcb506b345 0\nA txsa 0 0 0 int\nA txsa 0 0 100000000 int\nA txdel 0\nA txsa 0 0 ffffffffffffffff int\n") ≡ Ok (codes "3 done\n4 refused 14 PnRange\n5 done\n6 done\n7 done\n")
+extended_numbers : printed_text (extended_ends ++ codes "A key 0 ad7a2bd03eac835a6f620fdcb506b345 0\nA txsa 0 0 0 int\nA txsa 0 0 100000000 int\nA txdel 0\n"
+    ++ codes "A txsa 0 0 ffffffffffffffff int\n") ≡
+    Ok (codes "3 done\n4 refused 14 PnRange\n5 done\n6 done\n7 done\n")
 unfolding hex_on_literals digits
 extended_numbers = refl
 
 -- a frame of each port; without protection they leave as they are
-both_ports : printed_text (both_ends ++ codes "A send 00112233445566778899aabb0800\nA protect off\nA send 00112233445566778899AABB0800\nA sendu 00112233445566778899aabb0801\n") ≡ Ok (codes "3 dropped NoSA\n4 done\n5 frame 0 00112233445566778899aabb0800\n6 frame 1 00112233445566778899aabb0801\n")
+both_ports : printed_text (both_ends ++ codes "A send 00112233445566778899aabb0800\nA protect off\nA send 00112233445566778899AABB0800\n"
+    ++ codes "A sendu 00112233445566778899aabb0801\n") ≡
+    Ok (codes "3 dropped NoSA\n4 done\n5 frame 0 00112233445566778899aabb0800\n6 frame 1 00112233445566778899aabb0801\n")
 unfolding hex_on_literals digits
 both_ports = refl
 
@@ -100,7 +110,8 @@ unfolding hex_on_literals digits
 five_lines = refl
 
 -- associations by their numbers, whatever the order of their making
-shown : printed_text (both_ends ++ codes "A numbers\nA key 0 ad7a2bd03eac835a6f620fdcb506b345 0\nA key 1 000102030405060708090a0b0c0d0e0f 0\nA txsa 3 0 abcdef conf\nA txsa 1 1 1 int\nA txon 1\nA numbers\n") ≡
+shown : printed_text (both_ends ++ codes "A numbers\nA key 0 ad7a2bd03eac835a6f620fdcb506b345 0\nA key 1 000102030405060708090a0b0c0d0e0f 0\n"
+    ++ codes "A txsa 3 0 abcdef conf\nA txsa 1 1 1 int\nA txon 1\nA numbers\n") ≡
     Ok (codes "4 done\n5 done\n6 done\n7 done\n8 done\n9 tx 1 1 0000000000000001 on int\n9 tx 3 0 0000000000abcdef off conf\n")
 unfolding hex_on_literals digits
 shown = refl
@@ -111,13 +122,24 @@ unfolding hex_on_literals digits
 three_lines = refl
 
 -- both ends, and what a hostile link does: frames that are altered, padded, injected, and come again
-two_ends : printed_text (both_ends ++ codes "A protect off\nB validate check\nA send 00112233445566778899aabb0800\nB deliver 0\nB deliver 0\nalter 0 13 01\npad 1\nA deliver 2\ninject 00\nB deliver 3\nB deliver 4\nalter 3 1 ff\n") ≡
-    Ok (codes "3 done\n4 done\n5 frame 0 00112233445566778899aabb0800\n6 Untagged 00112233445566778899aabb0800\n7 Untagged 00112233445566778899aabb0800\n8 frame 1 00112233445566778899aabb0801\n9 frame 2 00112233445566778899aabb080100000000000000000000000000000000000000000000000000000000000000000000000000000000000000000000\n10 NoTag\n11 frame 3 00\n12 fault 5 Short\n13 fault 2 NoFrame\n14 fault 4 AlterRange\n")
+two_ends : printed_text (both_ends ++ codes "A protect off\nB validate check\nA send 00112233445566778899aabb0800\nB deliver 0\nB deliver 0\n"
+    ++ codes "alter 0 13 01\npad 1\nA deliver 2\ninject 00\nB deliver 3\nB deliver 4\nalter 3 1 ff\n") ≡
+    Ok (codes "3 done\n4 done\n5 frame 0 00112233445566778899aabb0800\n6 Untagged 00112233445566778899aabb0800\n"
+    ++ codes "7 Untagged 00112233445566778899aabb0800\n8 frame 1 00112233445566778899aabb0801\n"
+    ++ codes "9 frame 2 00112233445566778899aabb080100000000000000000000000000000000000000000000000000000000000000000000000000000000000000000000\n"
+    ++ codes "10 NoTag\n11 frame 3 00\n12 fault 5 Short\n13 fault 2 NoFrame\n14 fault 4 AlterRange\n")
 unfolding hex_on_literals digits
 two_ends = refl
 
 -- the counters of an endpoint, and then of its receive channels in the order of their making
 counters_shown : printed_text (both_ends ++ codes "A protect off\nA send 00112233445566778899aabb0800\nA rxsc 0000000000000003\nA rxsc 0000000000000002\nA counters\n") ≡
-    Ok (codes "3 done\n4 frame 0 00112233445566778899aabb0800\n5 done\n6 done\n" ++ codes "7 InPktsUntagged 0\n7 InPktsNoTag 0\n7 InPktsBadTag 0\n7 InPktsReserved 0\n7 InPktsNoSA 0\n7 InPktsNoSAError 0\n7 InOctetsValidated 0\n7 InOctetsDecrypted 0\n7 OutPktsUntagged 1\n7 OutPktsTooLong 0\n7 OutPktsNoSA 0\n7 OutPktsProtected 0\n7 OutPktsEncrypted 0\n7 OutOctetsProtected 0\n7 OutOctetsEncrypted 0\n" ++ codes "7 0000000000000003 InPktsOK 0\n7 0000000000000003 InPktsUnchecked 0\n7 0000000000000003 InPktsDelayed 0\n7 0000000000000003 InPktsLate 0\n7 0000000000000003 InPktsInvalid 0\n7 0000000000000003 InPktsNotValid 0\n" ++ codes "7 0000000000000002 InPktsOK 0\n7 0000000000000002 InPktsUnchecked 0\n7 0000000000000002 InPktsDelayed 0\n7 0000000000000002 InPktsLate 0\n7 0000000000000002 InPktsInvalid 0\n7 0000000000000002 InPktsNotValid 0\n")
+    Ok (codes "3 done\n4 frame 0 00112233445566778899aabb0800\n5 done\n6 done\n"
+    ++ codes "7 InPktsUntagged 0\n7 InPktsNoTag 0\n7 InPktsBadTag 0\n7 InPktsReserved 0\n7 InPktsNoSA 0\n"
+    ++ codes "7 InPktsNoSAError 0\n7 InOctetsValidated 0\n7 InOctetsDecrypted 0\n7 OutPktsUntagged 1\n7 OutPktsTooLong 0\n"
+    ++ codes "7 OutPktsNoSA 0\n7 OutPktsProtected 0\n7 OutPktsEncrypted 0\n7 OutOctetsProtected 0\n7 OutOctetsEncrypted 0\n"
+    ++ codes "7 0000000000000003 InPktsOK 0\n7 0000000000000003 InPktsUnchecked 0\n7 0000000000000003 InPktsDelayed 0\n"
+    ++ codes "7 0000000000000003 InPktsLate 0\n7 0000000000000003 InPktsInvalid 0\n7 0000000000000003 InPktsNotValid 0\n"
+    ++ codes "7 0000000000000002 InPktsOK 0\n7 0000000000000002 InPktsUnchecked 0\n7 0000000000000002 InPktsDelayed 0\n"
+    ++ codes "7 0000000000000002 InPktsLate 0\n7 0000000000000002 InPktsInvalid 0\n7 0000000000000002 InPktsNotValid 0\n")
 unfolding hex_on_literals digits
 counters_shown = refl

@@ -23,7 +23,9 @@ use Rattle.macsec_script.proofs.TextOfWorlds.{events_with, text_of_worlds, text_
 
 -- the law of one more event
 abbrev pub StepIsSound : Type 0
-StepIsSound = (w : WorldState) (events : List Event) (event : Event) → StaysSound w events → IsSound (world_step (world_after w events) event).1 → StaysSound w (events ++ event ∷ [])
+StepIsSound =
+    (w : WorldState) (events : List Event) (event : Event) → StaysSound w events →
+    IsSound (world_step (world_after w events) event).1 → StaysSound w (events ++ event ∷ [])
 
 -- the lines were carried out: their text was written; this is the world after their events; and from a sound world on it
 -- is sound, and was at each moment
@@ -51,7 +53,9 @@ with_line law start before entry old mid new w after adds same keeps so_far =
     let after_is : after ≡ (line_step here entry.0 entry.1).1 = same ∙ ap (λ v. (line_step v entry.0 entry.1).1) so_far.world in
     let adds_here : Appends mid new (text_after start before entry) = subst (λ v. Appends mid new (line_step v entry.0 entry.1).0) so_far.world adds in
     record {
-      written = subst (Appends old new) (sym (text_with start before entry)) (Appends-trans old mid new (text_from start before) (text_after start before entry) so_far.written adds_here);
+      written =
+          subst (Appends old new) (sym (text_with start before entry))
+          (Appends-trans old mid new (text_from start before) (text_after start before entry) so_far.written adds_here);
       world = after_is ∙ world_with start before entry;
       sound = λ sound. keeps (so_far.sound sound);
       stays = λ sound. subst (StaysSound start) (sym (events_with before entry))

@@ -23,7 +23,7 @@ events_of ((n, said) ∷ more) = event_of said ++ events_of more
 abbrev pub ArePromised : List NumberedLine → Type 0
 ArePromised lines = IfSome (two_ends lines) (λ run. KeepsPromises run.0 run.1 (events_of run.2))
 
--- so they do of the lines of a script without a fault
+-- the promises hold so of the lines of a script without a fault
 abbrev pub IsPromised : List ℕ → Type 0
 IsPromised script = IfOk (script_of script) ArePromised
 

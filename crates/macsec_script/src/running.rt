@@ -49,8 +49,9 @@ fn print_script<W: Write>(
     ensures text { Prints (text_of lines.now) (W.contents writer.old) (W.contents writer.new) result }
     ensures promised { OnOk result (ArePromised lines.now) }
 {
+    // A law that the proof cites.
     promises();
-    let Some((a, b, said)) = two_ends(lines) else {
+    let Some((a, b, others)) = two_ends(lines) else {
         return Ok(());
     };
     let mut world = match World::new(alloc, a, b) {
@@ -58,7 +59,7 @@ fn print_script<W: Write>(
         Err(WorldFault::Memory) => return Err(ScriptFault::Memory),
         Err(_) => unreachable!(),
     };
-    print_lines(alloc, &mut world, writer, said)
+    print_lines(alloc, &mut world, writer, others)
 }
 
 /// The configurations of the first two lines, and the lines after them.
@@ -66,9 +67,9 @@ fn two_ends(lines: &[(u32, Line)]) -> Option<(EndConfig, EndConfig, &[(u32, Line
     ensures { two_ends lines.now ≡ option_map (λ run. (run.0, run.1, run.2.now)) result }
 {
     let (first, more) = lines.split_first()?;
-    let (second, said) = more.split_first()?;
+    let (second, others) = more.split_first()?;
     match (config_of_a(&first.1), config_of_b(&second.1)) {
-        (Some(a), Some(b)) => Some((a, b, said)),
+        (Some(a), Some(b)) => Some((a, b, others)),
         _ => None,
     }
 }
@@ -103,6 +104,7 @@ fn print_lines<W: Write>(
     ensures text { Prints (text_from world.old lines.now) (W.contents writer.old) (W.contents writer.new) result }
     ensures sound { OnOk result (IsSound world.old → StaysSound world.old (events_of lines.now)) }
 {
+    // A law that the proof cites.
     worlds_are_sound();
     let mut room = Vec::new(alloc);
     for (n, line) in lines {

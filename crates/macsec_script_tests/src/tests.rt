@@ -14,7 +14,13 @@ use std::process::Abort;
 
 /// A script without a fault.
 fn script() -> &'static str {
-    "end A gcm128 12153524c0895e81 1518 sci\nend B gcm128 0000000000000002 1518 auto\nA key 0 ad7a2bd03eac835a6f620fdcb506b345 0\nA txsa 2 0 1 int\nA sendu ffffffffffff0200000000010800\nA numbers\n"
+    "end A gcm128 12153524c0895e81 1518 sci
+end B gcm128 0000000000000002 1518 auto
+A key 0 ad7a2bd03eac835a6f620fdcb506b345 0
+A txsa 2 0 1 int
+A sendu ffffffffffff0200000000010800
+A numbers
+"
 }
 
 /// What it prints, in four lines.

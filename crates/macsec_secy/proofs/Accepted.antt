@@ -1,6 +1,6 @@
 -- A protected frame that one endpoint sends is passed by another one that has its association.
-use Rattle.std.proofs.Common.{◌≡◌, ℕ, ◌≤◌, Bool, true, false, List, ◌++◌, length, take, refl, ap, sym, ◌∙◌, arith, length-append}
-use Rattle.std.specs.Prelude.{◌%◌, ◌^◌, ◌&&◌, not, nat_lt, if◌then◌else◌, Option, Some, None, IsSome}
+use Rattle.std.proofs.Common.{◌≡◌, ℕ, ◌≤◌, Bool, true, false, List, ◌++◌, length, take, refl, ap, ◌∙◌, arith, length-append}
+use Rattle.std.specs.Prelude.{◌%◌, ◌^◌, ◌&&◌, not, nat_lt, if◌then◌else◌, Some, None, IsSome}
 use Rattle.std.specs.Int.{w32, to_be_bytes}
 use Rattle.std.proofs.lemmas.Bool.{le-ltb, ltb-false}
 use Rattle.macsec_gcm.specs.Laws.{OpenUndoesSeal, SealedLengths}
@@ -27,7 +27,7 @@ use Rattle.macsec_secy.specs.Accepts.{AcceptsSent, HasSameKey, padded_by}
 use Rattle.macsec_secy.specs.Reception.{judge_reading, judgement_of}
 use Rattle.macsec_secy.specs.State.{State, rx_options, tx_options}
 use Rattle.macsec_secy.specs.Step.{frame_fault, link_frame, received, step}
-use Rattle.macsec_secy.proofs.InUse.{in_use_is, the_key_holds}
+use Rattle.macsec_secy.proofs.InUse.{in_use_is}
 use Rattle.macsec_secy.proofs.NearNumbers.{not_bad, recovered}
 use Rattle.macsec_secy.proofs.OctetsBehind.{read_with}
 use Rattle.macsec_secy.proofs.Passed.{is_enabled, passed}
@@ -70,7 +70,8 @@ no_fault frame least most = rw (le-ltb (length frame) min_frame_len least, le-lt
 pub is_long : (frame : List ℕ) → frame_fault frame ≡ None → min_frame_len ≤ length frame
 is_long frame none = by_test (nat_lt (length frame) min_frame_len) refl none
   where
-    by_test : (b : Bool) → nat_lt (length frame) min_frame_len ≡ b → (if b then Some Short else if nat_lt max_frame_len (length frame) then Some Long else None) ≡ None → min_frame_len ≤ length frame
+    by_test : (b : Bool) → nat_lt (length frame) min_frame_len ≡ b →
+        (if b then Some Short else if nat_lt max_frame_len (length frame) then Some Long else None) ≡ None → min_frame_len ≤ length frame
     by_test true is none' = cc
     by_test false is none' = ltb-false (length frame) min_frame_len is
 
@@ -125,7 +126,8 @@ accepts_sent laws sender receiver client tx rx behind sender_sound receiver_soun
     same_bits true = refl
     same_bits false = refl
 
-    numbered : (suite : Suite) (pn : ℕ) → is_bad_number suite pn ≡ false → recovered_number (is_xpn suite) rx.lowest pn ≡ Some tx.next → number_of_frame suite rx.lowest pn ≡ Some tx.next
+    numbered : (suite : Suite) (pn : ℕ) → is_bad_number suite pn ≡ false → recovered_number (is_xpn suite) rx.lowest pn ≡ Some tx.next →
+        number_of_frame suite rx.lowest pn ≡ Some tx.next
     numbered suite pn good is = rw (good, is) refl
 
     told : {sci : Sci} {an : ℕ} {frame : List ℕ} → rx.sci ≡ sci → rx.an ≡ an →

@@ -127,7 +127,8 @@ sum_of-counted verdict associations an c there =
     ap (λ o. sum_of (set associations an (option_map (count_verdict verdict) o))) there ∙ sum_of-raised verdict associations an c there
 
 -- one begins
-pub sum_of-begun : (associations : List (Option RxCounters)) (an : ℕ) → counters_at associations an ≡ None → sum_of (set associations an (Some no_rx_counters)) ≡ sum_of associations
+pub sum_of-begun : (associations : List (Option RxCounters)) (an : ℕ) → counters_at associations an ≡ None →
+    sum_of (set associations an (Some no_rx_counters)) ≡ sum_of associations
 sum_of-begun [] an none = refl
 sum_of-begun (o ∷ associations) zero none = added_nothing (sum_of associations) (sum_is_counters associations) ∙ ap (λ o. sum_of (o ∷ associations)) (sym none)
 sum_of-begun (None ∷ associations) (suc an) none = sum_of-begun associations an none

@@ -8,7 +8,8 @@ use Rattle.macsec_suite.specs.Refusals.{RefusalLine, first_refusal, is_number_us
 use Rattle.macsec_tx.specs.declared.TxRow.{TxRow}
 use Rattle.macsec_tx.specs.Commands.{tx_sa_refusals, tx_uses}
 use Rattle.macsec_commands.specs.declared.command.Command.{Command}
-use Rattle.macsec_commands.specs.declared.command.Command.TheVariants.{Protect, Validate, Replay, Tag, Key, Retire, TxSa, TxOn, TxOff, TxDel, RxSc, RxScDel, RxSa, RxOn, RxOff, RxLow, RxDel}
+use Rattle.macsec_commands.specs.declared.command.Command.TheVariants.{Protect, Validate, Replay, Tag, Key, Retire, TxSa, TxOn, TxOff}
+use Rattle.macsec_commands.specs.declared.command.Command.TheVariants.{TxDel, RxSc, RxScDel, RxSa, RxOn, RxOff, RxLow, RxDel}
 use Rattle.macsec_secy.specs.State.{State}
 use Rattle.macsec_secy.specs.Commands.{effect, refusal}
 use Rattle.macsec_secy.specs.Agrees.{HaveUnusedNext, first_unused}
@@ -69,7 +70,9 @@ effect_keeps s (Protect on) e have = have
 effect_keeps s (Validate mode) e have = have
 effect_keeps s (Replay protect window) e have = have
 effect_keeps s (Tag form) e have = have
-effect_keeps s (Key key) e have = with_keys s.keys (keys_with (suite_of s.config.suite key) s.keys key) (another_stays s.keys (new_row (suite_of s.config.suite key) key) refl) s.tx have
+effect_keeps s (Key key) e have =
+    let new = new_row (suite_of s.config.suite key) key in
+    with_keys s.keys (keys_with (suite_of s.config.suite key) s.keys key) (another_stays s.keys new refl) s.tx have
 effect_keeps s (Retire key) e have = with_keys s.keys (keys_retiring s.keys key) (retiring_stays s.keys key) s.tx have
 effect_keeps s (TxSa an key next conf) e have =
     let known = free_to_join s.keys s.tx an key next e in

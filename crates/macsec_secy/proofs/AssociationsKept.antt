@@ -1,5 +1,6 @@
 -- Each channel has counters for exactly its associations, and its own are the sums, whatever comes in.
-use Rattle.std.proofs.Common.{◌≡◌, ◌∙◌, ◌⊎◌, inl, inr, ℕ, zero, suc, ◌<◌, Bool, true, false, List, [], ◌∷◌, ◌++◌, map, filter, length, set, refl, ap, sym, arith, length-set, get_or-set_same, get_or-set_other, Contains}
+use Rattle.std.proofs.Common.{◌≡◌, ◌∙◌, ◌⊎◌, inl, inr, ℕ, zero, suc, ◌<◌, Bool, true, false, List, [], ◌∷◌, ◌++◌, map, filter}
+use Rattle.std.proofs.Common.{length, set, refl, ap, sym, arith, length-set, get_or-set_same, get_or-set_other, Contains}
 use Rattle.std.specs.Prelude.{◌==◌, ◌&&◌, ◌||◌, not, find, if◌then◌else◌, is_some, option_map, unwrap_or, Option, Some, None, IfSome}
 use Rattle.std.specs.List.{All}
 use Rattle.std.proofs.lemmas.Bool.{and_parts, eq-eqb, eqb-true}
@@ -31,7 +32,8 @@ AreOfAll rows channels = All (AreOfAssociations rows) channels
 -- ---- where there is an association
 
 -- the same associations have the same counters
-same_places : (rows after : List RxRow) → ((sci : Sci) (an : ℕ) → has_rx after sci an ≡ has_rx rows sci an) → (channels : List ChannelCounters) → AreOfAll rows channels → AreOfAll after channels
+same_places : (rows after : List RxRow) → ((sci : Sci) (an : ℕ) → has_rx after sci an ≡ has_rx rows sci an) → (channels : List ChannelCounters) →
+    AreOfAll rows channels → AreOfAll after channels
 same_places rows after same channels are =
     All-weaker (AreOfAssociations rows) (AreOfAssociations after)
     (λ c of. record { count = of.count; there = λ an. of.there an ∙ sym (same c.sci an); sum = of.sum }) channels are
@@ -43,7 +45,8 @@ is_some-map f (Some x) = refl
 has_rx-map : (f : RxRow → RxRow) → KeepsPlace f → (rows : List RxRow) (sci : Sci) (an : ℕ) → has_rx (map f rows) sci an ≡ has_rx rows sci an
 has_rx-map f keeps rows sci an = ap is_some (rx_row-map f keeps rows sci an) ∙ is_some-map f (rx_row rows sci an)
 
-has_rx-with_rx : (f : RxRow → RxRow) → KeepsPlace f → (of_sci : Sci) (of_an : ℕ) (rows : List RxRow) (sci : Sci) (an : ℕ) → has_rx (with_rx f of_sci of_an rows) sci an ≡ has_rx rows sci an
+has_rx-with_rx : (f : RxRow → RxRow) → KeepsPlace f → (of_sci : Sci) (of_an : ℕ) (rows : List RxRow) (sci : Sci) (an : ℕ) →
+    has_rx (with_rx f of_sci of_an rows) sci an ≡ has_rx rows sci an
 has_rx-with_rx f keeps of_sci of_an rows sci an = has_rx-map _ (at_one_place f keeps of_sci of_an) rows sci an
 
 has_rx-append : (rows : List RxRow) (new : RxRow) (sci : Sci) (an : ℕ) → has_rx (rows ++ new ∷ []) sci an ≡ (has_rx rows sci an || is_at sci an new)
@@ -110,7 +113,9 @@ there_if test (y ∷ ys) x there passes = by_case (first_or_behind y ys x there)
 
 each_there : (rows : List RxRow) → All (λ row. has_rx rows row.sci row.an ≡ true) rows
 each_there rows =
-    All-weaker (Contains rows) (λ row. has_rx rows row.sci row.an ≡ true) (λ row there. there_if (is_at row.sci row.an) rows row there (at_own_place row)) rows (All-contains_itself rows)
+    let found : (row : RxRow) → Contains rows row → has_rx rows row.sci row.an ≡ true =
+    λ row there. there_if (is_at row.sci row.an) rows row there (at_own_place row) in
+    All-weaker (Contains rows) (λ row. has_rx rows row.sci row.an ≡ true) found rows (All-contains_itself rows)
 
 -- ---- channels
 
@@ -151,7 +156,8 @@ without_a_channel rows (c ∷ channels) sci are =
         }) later
 
 -- a change of the counters of one channel
-one_changed : (rows after : List RxRow) (change : ChannelCounters → ChannelCounters) (sci : Sci) → ((c : ChannelCounters) → c.sci ≡ sci → AreOfAssociations rows c → AreOfAssociations after (change c)) →
+one_changed : (rows after : List RxRow) (change : ChannelCounters → ChannelCounters) (sci : Sci) →
+    ((c : ChannelCounters) → c.sci ≡ sci → AreOfAssociations rows c → AreOfAssociations after (change c)) →
     ((c : ChannelCounters) → same_sci c.sci sci ≡ false → AreOfAssociations rows c → AreOfAssociations after c) → (channels : List ChannelCounters) → AreOfAll rows channels →
     AreOfAll after (map (at_channel change sci) channels)
 one_changed rows after change sci here elsewhere channels are =
@@ -182,7 +188,8 @@ same_either_way s t other = by_test (same_sci t s) refl
         let no = sym (ap (same_sci s) one ∙ ap (λ u. same_sci u s) (sym one) ∙ same) ∙ other in cc
     by_test false apart = refl
 
-pub with_another_association : (scis : List Sci) (rows : List RxRow) (channels : List ChannelCounters) (new : RxRow) → AreRxRows scis (rows ++ new ∷ []) → has_rx rows new.sci new.an ≡ false →
+pub with_another_association : (scis : List Sci) (rows : List RxRow) (channels : List ChannelCounters) (new : RxRow) →
+    AreRxRows scis (rows ++ new ∷ []) → has_rx rows new.sci new.an ≡ false →
     AreOfAll rows channels → AreOfAll (rows ++ new ∷ []) (map (at_channel (with_association new.an) new.sci) channels)
 with_another_association scis rows channels new are free of = one_changed rows (rows ++ new ∷ []) (with_association new.an) new.sci here elsewhere channels of
   where
@@ -324,7 +331,8 @@ counted_at verdict rows channels sci an there of = one_changed rows rows (count_
               ap (λ s. added s c.removed) (sym (sum_of-counted verdict c.associations an one.0 one.1));
         }
 
-rows_kept : (window : ℕ) (number : Option ℕ) (row : Option RxRow) (rows : List RxRow) (sci : Sci) (an : ℕ) → has_rx (rows_accepting window number row rows) sci an ≡ has_rx rows sci an
+rows_kept : (window : ℕ) (number : Option ℕ) (row : Option RxRow) (rows : List RxRow) (sci : Sci) (an : ℕ) →
+    has_rx (rows_accepting window number row rows) sci an ≡ has_rx rows sci an
 rows_kept window None row rows sci an = refl
 rows_kept window (Some number) None rows sci an = refl
 rows_kept window (Some number) (Some row) rows sci an = has_rx-with_rx (row_accepting window number) (accepts window number) row.sci row.an rows sci an

@@ -7,7 +7,7 @@ use Rattle.std.proofs.lemmas.List.{drop_at, take_at}
 use Rattle.macsec_tag.specs.declared.identifiers.Sci.{Sci}
 use Rattle.macsec_tag.specs.Tag.{IsTag, Tag, bit_where, c_bit, e_bit, es_bit, sc_bit, scb_bit, sci_octets, encoding, tci_an}
 
--- the same length in front
+-- equal octets behind as many octets are equal
 pub same_back : (a b x y : List ℕ) → length a ≡ length b → a ++ x ≡ b ++ y → x ≡ y
 same_back a b x y long e = sym (drop_at a x (length b) long) ∙ ap (drop (length b)) e ∙ drop_at b y (length b) refl
 
@@ -53,7 +53,7 @@ same_sc es true scb e c es' false scb' e' c' an an' small small' same = absurd (
 same_sc es false scb e c es' true scb' e' c' an an' small small' same = absurd (apart es' scb' e' c' es scb e c an' an small' small (sym same))
 same_sc es false scb e c es' false scb' e' c' an an' small small' same = refl
 
--- so two tags of one octet both carry an SCI, or neither does
+-- two tags with one octet of TCI and AN both carry an SCI, or neither does
 same_carried : (t u : Tag) → IsTag t → IsTag u → tci_an t ≡ tci_an u → is_some t.sci ≡ is_some u.sci
 same_carried t u is is' same = same_sc t.es (is_some t.sci) t.scb t.e t.c u.es (is_some u.sci) u.scb u.e u.c t.an u.an is.an is'.an same
 

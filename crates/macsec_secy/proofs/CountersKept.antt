@@ -108,7 +108,8 @@ after_channel NoSa c are = are
 after_channel NoSaError c are = are
 
 -- a change of a channel's counters
-pub after_change : (change : ChannelCounters → ChannelCounters) → ((row : ChannelCounters) → AreRxCounters row.counters → AreRxCounters (change row).counters) → (sci : Sci) (rows : List ChannelCounters) →
+pub after_change : (change : ChannelCounters → ChannelCounters) →
+    ((row : ChannelCounters) → AreRxCounters row.counters → AreRxCounters (change row).counters) → (sci : Sci) (rows : List ChannelCounters) →
     AreChannelCounters rows → AreChannelCounters (map (at_channel change sci) rows)
 after_change change good sci rows are =
     All-map (λ (r : ChannelCounters). AreRxCounters r.counters) (at_channel change sci) rows

@@ -36,7 +36,7 @@ octets_same (x ∷ xs) = rw (eq-eqb x x refl, octets_same xs) refl
 pub at_own_place : (row : RxRow) → is_at row.sci row.an row ≡ true
 at_own_place row = rw (octets_same row.sci.0, eq-eqb row.an row.an refl) refl
 
--- it is not at the place of any other
+-- an association is not at the place of any other
 elsewhere : (r : RxRow) (rows : List RxRow) → list_any (same_place r) rows ≡ false → All (λ row. is_at row.sci row.an r ≡ false) rows
 elsewhere r [] none = All-nil (λ row. is_at row.sci row.an r ≡ false)
 elsewhere r (row ∷ rows) none =
@@ -62,7 +62,10 @@ used_at_place s (tagged p) row apart used = by_sci (sci_of s.rx.scis p) used
   where
     by_sci : (o : Option Sci) → in_use s.rx.rows p.tag.an o ≡ Some row → rx_row s.rx.rows row.sci row.an ≡ Some row
     by_sci None used' = cc
-    by_sci (Some sci) used' = at_its_place s.rx.rows apart row (found (λ (r : RxRow). is_at sci p.tag.an r && r.on) (Contains s.rx.rows) s.rx.rows row (All-contains_itself s.rx.rows) used').holds
+    by_sci (Some sci) used' =
+        let test = λ (r : RxRow). is_at sci p.tag.an r && r.on in
+        let it = found test (Contains s.rx.rows) s.rx.rows row (All-contains_itself s.rx.rows) used' in
+        at_its_place s.rx.rows apart row it.holds
 
 -- ---- its sender
 

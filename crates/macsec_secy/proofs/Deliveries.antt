@@ -12,8 +12,9 @@ use Rattle.macsec_commands.specs.declared.mode.Mode.{Mode}
 use Rattle.macsec_commands.specs.declared.mode.Mode.TheVariants.{Disabled, Check, Strict}
 use Rattle.macsec_rx.specs.declared.RxOptions.{RxOptions}
 use Rattle.macsec_rx.specs.declared.RxRow.{RxRow}
-use Rattle.macsec_rx.specs.declared.Verdict.TheVariants.{BadTag, Reserved, NoSa, NoSaError, Late, NotValid, Unchecked, Delayed, Invalid, NoTag, Untagged}
-use Rattle.macsec_rx.specs.Judge.{Judgement, at_row, bare_frame, in_use, is_bad_number, is_disabled, is_strict, judge_number, judge_opened, judge_row, judge_tagged_row, number_of_frame, opened_frame, plaintext_of, sci_of, without_row}
+use Rattle.macsec_rx.specs.declared.Verdict.TheVariants.{Reserved, NoSa, NoSaError, Late, NotValid, Unchecked, Delayed, Invalid, NoTag, Untagged}
+use Rattle.macsec_rx.specs.Judge.{Judgement, at_row, bare_frame, in_use, is_bad_number, is_disabled, is_strict, judge_number, judge_opened}
+use Rattle.macsec_rx.specs.Judge.{judge_row, judge_tagged_row, number_of_frame, opened_frame, plaintext_of, sci_of, without_row}
 use Rattle.macsec_secy.specs.Delivers.{IsOpened, used_in}
 use Rattle.macsec_secy.specs.Reception.{judge_reading, judgement_of}
 use Rattle.macsec_secy.specs.State.{State, rx_options}
@@ -90,9 +91,11 @@ module _ (options : RxOptions) (keys : List InstalledKey) (p : MpduParts) where
         };
       }
 
-  by_number : (r : RxRow) (o : Option ℕ) → number_of_frame (the_key keys r.key).suite r.lowest p.tag.pn ≡ o → TellsAll options keys p (judge_number options (the_key keys r.key) r p o) (Some r)
+  by_number : (r : RxRow) (o : Option ℕ) → number_of_frame (the_key keys r.key).suite r.lowest p.tag.pn ≡ o →
+      TellsAll options keys p (judge_number options (the_key keys r.key) r p o) (Some r)
   by_number r None is row frame of_row delivers = cc
-  by_number r (Some number) is row frame of_row delivers = by_tests (options.replay && is_late r.lowest number) (is_disabled options.mode) p.tag.c refl refl row frame of_row delivers
+  by_number r (Some number) is row frame of_row delivers =
+      by_tests (options.replay && is_late r.lowest number) (is_disabled options.mode) p.tag.c refl refl row frame of_row delivers
     where
       by_tests : (late disabled c : Bool) → (options.replay && is_late r.lowest number) ≡ late → is_disabled options.mode ≡ disabled → TellsAll options keys p (
           if late then at_row r number 8 Late None

@@ -1,6 +1,6 @@
 -- The first packet number that was never used under a key, while the table of keys changes.
 use Rattle.std.proofs.Common.{◌≡◌, ℕ, ◌+◌, Bool, true, false, List, [], ◌∷◌, ◌++◌, refl, sym, subst, ◌∙◌, eqb-true}
-use Rattle.std.specs.Prelude.{◌==◌, if◌then◌else◌, Some, None, IsSome, unwrap_or}
+use Rattle.std.specs.Prelude.{Option, ◌==◌, if◌then◌else◌, Some, None, IsSome, unwrap_or}
 use Rattle.macsec_suite.specs.KeyRows.{InstalledKey, at_number, key_row, keys_noting, keys_retiring, no_key, retired_row, row_noting}
 use Rattle.macsec_secy.specs.Agrees.{first_unused}
 use Rattle.macsec_secy.proofs.KeysKept.{field_kept, same_number}
@@ -24,29 +24,33 @@ first-retiring keys number n =
     field_of_the_key (λ (k : InstalledKey). k.first_unused) (at_number retired_row number) (same_number retired_row (λ k. refl) number)
     (λ key. field_kept (λ (k : InstalledKey). k.first_unused) retired_row (λ k. refl) (key.number == number) key) keys n
 
+-- the first unused number of a key, if it is the one that is looked up, or else of what is found behind it
+abbrev first_or : Bool → InstalledKey → Option InstalledKey → ℕ
+first_or here key behind = (unwrap_or (if here then Some key else behind) no_key).first_unused
+
 -- where a key uses a packet number, the first unused one of every other key stays
 pub first-noting_other : (keys : List InstalledKey) (number pn n : ℕ) → (number ≡ n → ⊥) → first_unused (keys_noting keys number pn) n ≡ first_unused keys n
 first-noting_other [] number pn n other = refl
 first-noting_other (key ∷ keys) number pn n other =
-    subst (λ m. (unwrap_or (if m == n then Some (at_number (row_noting pn) number key) else key_row (keys_noting keys number pn) n) no_key).first_unused ≡ first_unused (key ∷ keys) n)
+    subst (λ m. first_or (m == n) (at_number (row_noting pn) number key) (key_row (keys_noting keys number pn) n) ≡ first_unused (key ∷ keys) n)
     (sym (same_number (row_noting pn) (λ k. refl) number key))
     (by_test (key.number == n) (key.number == number) refl refl (first-noting_other keys number pn n other))
   where
     by_test : (b c : Bool) → (key.number == n) ≡ b → (key.number == number) ≡ c → first_unused (keys_noting keys number pn) n ≡ first_unused keys n →
-        (unwrap_or (if b then Some (if c then row_noting pn key else key) else key_row (keys_noting keys number pn) n) no_key).first_unused ≡ (unwrap_or (if b then Some key else key_row keys n) no_key).first_unused
+        first_or b (if c then row_noting pn key else key) (key_row (keys_noting keys number pn) n) ≡ first_or b key (key_row keys n)
     by_test true true at_n at_number later = absurd (other (sym (eqb-true key.number number at_number) ∙ eqb-true key.number n at_n))
     by_test true false at_n elsewhere later = refl
     by_test false c elsewhere at later = later
 
--- and its own is the next one
+-- its own first unused one is the next one
 pub first-noting : (keys : List InstalledKey) (number pn : ℕ) → IsSome (key_row keys number) → first_unused (keys_noting keys number pn) number ≡ pn + 1
 first-noting [] number pn there = cc
 first-noting (key ∷ keys) number pn there =
-    subst (λ m. (unwrap_or (if m == number then Some (at_number (row_noting pn) number key) else key_row (keys_noting keys number pn) number) no_key).first_unused ≡ pn + 1)
+    subst (λ m. first_or (m == number) (at_number (row_noting pn) number key) (key_row (keys_noting keys number pn) number) ≡ pn + 1)
     (sym (same_number (row_noting pn) (λ k. refl) number key))
     (by_test (key.number == number) (first-noting keys number pn) there)
   where
     by_test : (b : Bool) → (IsSome (key_row keys number) → first_unused (keys_noting keys number pn) number ≡ pn + 1) → IsSome (if b then Some key else key_row keys number) →
-        (unwrap_or (if b then Some (if b then row_noting pn key else key) else key_row (keys_noting keys number pn) number) no_key).first_unused ≡ pn + 1
+        first_or b (if b then row_noting pn key else key) (key_row (keys_noting keys number pn) number) ≡ pn + 1
     by_test true later there' = refl
     by_test false later there' = later there'

@@ -16,7 +16,7 @@ use Rattle.macsec_pn.specs.Numbers.{is_late}
 use Rattle.macsec_suite.specs.declared.refusal.Refusal.{Refusal}
 use Rattle.macsec_suite.specs.KeyRows.{InstalledKey, the_key}
 use Rattle.macsec_suite.specs.Parts.{aad_and_plaintext, clear_length}
-use Rattle.macsec_suite.specs.Suites.{is_xpn, iv_of, last_of}
+use Rattle.macsec_suite.specs.Suites.{iv_of, last_of}
 use Rattle.macsec_commands.specs.declared.form.TagForm.{TagForm}
 use Rattle.macsec_commands.specs.declared.form.TagForm.TheVariants as form
 use Rattle.macsec_tx.specs.declared.TxOptions.{TxOptions}
@@ -28,14 +28,16 @@ use Rattle.macsec_tx.specs.Tags.{is_own, sci_sent}
 use Rattle.macsec_tx.specs.Transmit.{Leaving, plain, protected, no_sa, too_long, Sending, not_protected, octets_added, protected_frame, row_on, sending_by, tag_sent}
 use Rattle.macsec_rx.specs.declared.RxOptions.{RxOptions}
 use Rattle.macsec_rx.specs.declared.RxRow.{RxRow}
-use Rattle.macsec_rx.specs.declared.Verdict.TheVariants.{Untagged, NoTag, BadTag, Reserved, NoSa, NoSaError, Late, NotValid, Unchecked, Delayed, Invalid}
-use Rattle.macsec_rx.specs.Judge.{Judgement, at_row, bare_frame, in_use, is_disabled, is_strict, judge_number, judge_opened, judge_row, judge_tagged_row, number_of_frame, opened_frame, plaintext_of, sci_of, without_row}
+use Rattle.macsec_rx.specs.declared.Verdict.TheVariants.{Untagged, NoTag, Reserved, NoSa, NoSaError, Late, NotValid, Unchecked, Delayed, Invalid}
+use Rattle.macsec_rx.specs.Judge.{Judgement, at_row, bare_frame, in_use, is_disabled, is_strict, judge_number, judge_opened, judge_row}
+use Rattle.macsec_rx.specs.Judge.{judge_tagged_row, number_of_frame, opened_frame, plaintext_of, sci_of, without_row}
 use Rattle.macsec_secy.specs.declared.fault.FrameFault.{FrameFault}
 use Rattle.macsec_secy.specs.declared.fault.FrameFault.TheVariants.{Short, Long}
 use Rattle.macsec_secy.specs.State.{State, rx_options, tx_options}
 use Rattle.macsec_secy.specs.Reception.{judge_reading, judgement_of}
 use Rattle.macsec_secy.specs.Commands.{refusal}
-use Rattle.macsec_secy.specs.Step.{Input, Output, operator_command, client_frame, uncontrolled_frame, link_frame, command_output, fault, frame_fault, leaves, received_output, sending_of, sent_output, step, unless_fault}
+use Rattle.macsec_secy.specs.Step.{Input, Output, operator_command, client_frame, uncontrolled_frame, link_frame, command_output}
+use Rattle.macsec_secy.specs.Step.{fault, frame_fault, leaves, received_output, sending_of, sent_output, step, unless_fault}
 use Rattle.macsec_secy.specs.Frames.{HasFrameLength, HasFrameLengths, HasLengthsFrom, HasProtectedLength}
 use Rattle.macsec_secy.specs.Sound.{IsSound}
 
@@ -139,7 +141,8 @@ sent_within read s sound frame good = by_test s.options.protect (nat_lt s.config
     can_send None an = tt
     can_send (Some row) an = record { long = good.least; an = an; sci = sound.own_sci.count }
 
-    by_test : (protects long : Bool) → IsWithin frame (if protects then sending_by (tx_options s) s.keys frame (row_on s.tx) else not_protected (if long then too_long else plain)).leaving
+    by_test : (protects long : Bool) →
+        IsWithin frame (if protects then sending_by (tx_options s) s.keys frame (row_on s.tx) else not_protected (if long then too_long else plain)).leaving
     by_test true long = sent_by read (tx_options s) s.keys frame (row_on s.tx) sound.max_frame_most (can_send (row_on s.tx) (on_has_number s.tx sound.tx))
     by_test false true = tt
     by_test false false = tt

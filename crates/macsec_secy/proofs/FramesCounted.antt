@@ -18,10 +18,12 @@ use Rattle.macsec_rx.specs.declared.Verdict.{Verdict}
 use Rattle.macsec_rx.specs.declared.Verdict.TheVariants.{Untagged, NoTag, Reserved, NoSa, NoSaError, Late, NotValid, Unchecked, Delayed, Invalid, Passed}
 use Rattle.macsec_rx.specs.Channels.{is_at}
 use Rattle.macsec_rx.specs.Commands.{has_channel}
-use Rattle.macsec_rx.specs.Judge.{Judgement, at_row, bare_frame, in_use, is_disabled, is_strict, judge_number, judge_opened, judge_row, judge_tagged_row, number_of_frame, opened_frame, plaintext_of, sci_of, without_row}
+use Rattle.macsec_rx.specs.Judge.{Judgement, at_row, bare_frame, in_use, is_disabled, is_strict, judge_number, judge_opened, judge_row}
+use Rattle.macsec_rx.specs.Judge.{judge_tagged_row, number_of_frame, opened_frame, plaintext_of, sci_of, without_row}
 use Rattle.macsec_rx.specs.Rows.{AreRxRows, AreScis}
 use Rattle.macsec_commands.specs.declared.command.Command.{Command}
-use Rattle.macsec_commands.specs.declared.command.Command.TheVariants.{Protect, Validate, Replay, Tag, Key, Retire, TxSa, TxOn, TxOff, TxDel, RxSc, RxScDel, RxSa, RxOn, RxOff, RxLow, RxDel}
+use Rattle.macsec_commands.specs.declared.command.Command.TheVariants.{Protect, Validate, Replay, Tag, Key, Retire, TxSa, TxOn, TxOff}
+use Rattle.macsec_commands.specs.declared.command.Command.TheVariants.{TxDel, RxSc, RxScDel, RxSa, RxOn, RxOff, RxLow, RxDel}
 use Rattle.macsec_secy.specs.declared.counters.Counters.{Counters}
 use Rattle.macsec_secy.specs.declared.counters.ChannelCounters.{ChannelCounters}
 use Rattle.macsec_secy.specs.declared.fault.FrameFault.{FrameFault}
@@ -32,7 +34,8 @@ use Rattle.macsec_secy.specs.Commands.{effect, refusal, unless_refused}
 use Rattle.macsec_secy.specs.Step.{Output, operator_command, client_frame, link_frame, frame_fault, received_output, sending_of, sent_output, state_after_sending, unless_fault}
 use Rattle.macsec_secy.specs.Sound.{IsSound, sci_of_counters}
 use Rattle.macsec_secy.specs.Sums.{AddsFrames, frames_counted, packets_of, removes_channel}
-use Rattle.macsec_secy.proofs.Sums.{IsOneMore, IsOneMore-add_left, IsOneMore-channels_packets, IsOneMore-raised_part, RaisesOne, RaisesOne-Delayed, RaisesOne-Invalid, RaisesOne-Late, RaisesOne-NotValid, RaisesOne-Passed, RaisesOne-Unchecked, channels_packets, channels_packets-at_channel, mod-as_plus_0}
+use Rattle.macsec_secy.proofs.Sums.{IsOneMore, IsOneMore-add_left, IsOneMore-channels_packets, IsOneMore-raised_part, RaisesOne, RaisesOne-Delayed, RaisesOne-Invalid}
+use Rattle.macsec_secy.proofs.Sums.{RaisesOne-Late, RaisesOne-NotValid, RaisesOne-Passed, RaisesOne-Unchecked, channels_packets, channels_packets-at_channel, mod-as_plus_0}
 
 -- ---- what the judgement raises
 
@@ -46,7 +49,7 @@ record HasCounters (rows : List ChannelCounters) (sci : Sci) : Type 0 where
   distinct : AreScis (map sci_of_counters rows)
   there : has_channel (map sci_of_counters rows) sci ≡ true
 
--- its channel counts it
+-- the channel of an association counts a frame of it once
 in_channel : (rows : List ChannelCounters) (row : RxRow) → HasCounters rows row.sci → (verdict : Verdict) → RaisesOne verdict → (packets : ℕ) →
     IsOneMore (packets + channels_packets (map (at_channel (count_in_channel verdict row.an) row.sci) rows)) (packets + channels_packets rows)
 in_channel rows row has verdict raises packets = IsOneMore-add_left packets _ _ (IsOneMore-channels_packets verdict raises row.sci row.an rows has.distinct has.there)
@@ -117,7 +120,9 @@ of_in_use P (row ∷ rows) an (Some sci) all =
     by_test false here later = later
 
 in_use_counted : (s : State) → IsSound s → (an : ℕ) (sci : Option Sci) → IfSome (in_use s.rx.rows an sci) (λ row. HasCounters s.rx_counters row.sci)
-in_use_counted s sound an sci = by_row (in_use s.rx.rows an sci) (of_in_use (λ row. has_channel s.rx.scis row.sci ≡ true) s.rx.rows an sci (all_of_channels s.rx.scis s.rx.rows sound.rx.rows))
+in_use_counted s sound an sci =
+    let all = all_of_channels s.rx.scis s.rx.rows sound.rx.rows in
+    by_row (in_use s.rx.rows an sci) (of_in_use (λ row. has_channel s.rx.scis row.sci ≡ true) s.rx.rows an sci all)
   where
     by_row : (row : Option RxRow) → IfSome row (λ r. has_channel s.rx.scis r.sci ≡ true) → IfSome row (λ r. HasCounters s.rx_counters r.sci)
     by_row None there = tt

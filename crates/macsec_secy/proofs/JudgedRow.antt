@@ -8,7 +8,8 @@ use Rattle.macsec_suite.specs.KeyRows.{InstalledKey, the_key}
 use Rattle.macsec_rx.specs.declared.RxOptions.{RxOptions}
 use Rattle.macsec_rx.specs.declared.RxRow.{RxRow}
 use Rattle.macsec_rx.specs.declared.Verdict.TheVariants.{Reserved, NoSa, NoSaError, NoTag, Untagged, Late, NotValid, Unchecked, Delayed, Invalid}
-use Rattle.macsec_rx.specs.Judge.{at_row, bare_frame, in_use, is_disabled, is_strict, judge_number, judge_opened, judge_row, judge_tagged_row, number_of_frame, plaintext_of, sci_of, without_row}
+use Rattle.macsec_rx.specs.Judge.{at_row, bare_frame, in_use, is_disabled, is_strict, judge_number, judge_opened, judge_row}
+use Rattle.macsec_rx.specs.Judge.{judge_tagged_row, number_of_frame, plaintext_of, sci_of, without_row}
 use Rattle.macsec_secy.specs.Reception.{judge_reading, judgement_of}
 use Rattle.macsec_secy.specs.State.{State, rx_options}
 

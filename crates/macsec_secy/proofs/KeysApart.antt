@@ -30,14 +30,18 @@ found_by_number (k ∷ keys) key are there = by_case (first_or_behind k keys key
     by_test false other found = found
 
     by_case : (k ≡ key) ⊎ Contains keys key → (Contains keys key → key_row keys key.number ≡ Some key) → key_row (k ∷ keys) key.number ≡ Some key
-    by_case (inl same) goes = subst (λ (x : InstalledKey). key_row (k ∷ keys) x.number ≡ Some x) same (ap (λ b. if b then Some k else key_row keys k.number) (eq-eqb k.number k.number refl))
+    by_case (inl same) goes =
+        let here : key_row (k ∷ keys) k.number ≡ Some k =
+        ap (λ b. if b then Some k else key_row keys k.number) (eq-eqb k.number k.number refl) in
+        subst (λ (x : InstalledKey). key_row (k ∷ keys) x.number ≡ Some x) same here
     by_case (inr later) goes = by_test (k.number == key.number) refl (goes later)
 
 pub the_key_found : (keys : List InstalledKey) (number : ℕ) → IsSome (key_row keys number) → IsKeyOf keys number (the_key keys number)
 the_key_found [] number found = cc
 the_key_found (k ∷ keys) number found = by_test (k.number == number) refl (the_key_found keys number) found
   where
-    by_test : (b : Bool) → (k.number == number) ≡ b → (IsSome (key_row keys number) → IsKeyOf keys number (the_key keys number)) → IsSome (if b then Some k else key_row keys number) →
+    by_test : (b : Bool) → (k.number == number) ≡ b → (IsSome (key_row keys number) → IsKeyOf keys number (the_key keys number)) →
+        IsSome (if b then Some k else key_row keys number) →
         IsKeyOf (k ∷ keys) number (unwrap_or (if b then Some k else key_row keys number) no_key)
     by_test true same later found' = record { there = first k keys; number = eqb-true k.number number same }
     by_test false other later found' = let it = later found' in record { there = behind k keys (the_key keys number) it.there; number = it.number }

@@ -8,7 +8,8 @@ use Rattle.macsec_suite.specs.KeyRows.{AreKeyRows, InstalledKey, at_number, key_
 use Rattle.macsec_tx.specs.declared.TxRow.{TxRow}
 use Rattle.macsec_tx.specs.Transmit.{keys_after}
 use Rattle.macsec_commands.specs.declared.command.Command.{Command}
-use Rattle.macsec_commands.specs.declared.command.Command.TheVariants.{Protect, Validate, Replay, Tag, Key, Retire, TxSa, TxOn, TxOff, TxDel, RxSc, RxScDel, RxSa, RxOn, RxOff, RxLow, RxDel}
+use Rattle.macsec_commands.specs.declared.command.Command.TheVariants.{Protect, Validate, Replay, Tag, Key, Retire, TxSa, TxOn, TxOff}
+use Rattle.macsec_commands.specs.declared.command.Command.TheVariants.{TxDel, RxSc, RxScDel, RxSa, RxOn, RxOff, RxLow, RxDel}
 use Rattle.macsec_secy.specs.declared.fault.FrameFault.{FrameFault}
 use Rattle.macsec_secy.specs.Agrees.{HasUnusedNext}
 use Rattle.macsec_secy.specs.Commands.{effect, refusal, unless_refused}
@@ -16,7 +17,8 @@ use Rattle.macsec_secy.specs.Kept.{IsLaterKey, KeyStaysIn, KeysStay}
 use Rattle.macsec_secy.specs.Reception.{judgement_of, state_after_receiving}
 use Rattle.macsec_secy.specs.Sound.{IsSound}
 use Rattle.macsec_secy.specs.State.{State, tx_options}
-use Rattle.macsec_secy.specs.Step.{Input, Output, operator_command, client_frame, uncontrolled_frame, link_frame, frame_fault, leaves, received_output, sending_of, sent_output, state_after_sending, step, unless_fault}
+use Rattle.macsec_secy.specs.Step.{Input, Output, operator_command, client_frame, uncontrolled_frame, link_frame, frame_fault, leaves}
+use Rattle.macsec_secy.specs.Step.{received_output, sending_of, sent_output, state_after_sending, step, unless_fault}
 use Rattle.macsec_secy.proofs.Contained.{Contains-map}
 use Rattle.macsec_secy.proofs.KeysApart.{found_by_number}
 use Rattle.macsec_secy.proofs.ProtectedBy.{protected_by}
@@ -46,7 +48,9 @@ later_noting : (number pn : ℕ) (key : InstalledKey) → (key.number ≡ number
 later_noting number pn key unused = by_test (key.number == number) refl
   where
     by_test : (b : Bool) → (key.number == number) ≡ b → IsLaterKey key (if b then row_noting pn key else key)
-    by_test true same = record { number = refl; suite = refl; bytes = refl; salt = refl; ssci = refl; offset = refl; first_unused = omega (arith, unused (eqb-true key.number number same)) }
+    by_test true same =
+        let no_higher = unused (eqb-true key.number number same) in
+        record { number = refl; suite = refl; bytes = refl; salt = refl; ssci = refl; offset = refl; first_unused = omega (arith, no_higher) }
     by_test false other = same_key key
 
 -- ---- commands

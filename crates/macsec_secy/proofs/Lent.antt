@@ -1,4 +1,4 @@
--- What was borrowed as a slice is afterwards as the borrower left it.
+-- What was lent as a slice: it is afterwards as the borrower left it.
 use Rattle.std.proofs.Common.{◌≡◌, ℕ, ◌≤◌, List, [], ◌∷◌, length, take, drop, refl, ap, ◌∙◌, arith}
 use Rattle.std.specs.List.{refill}
 use Rattle.std.proofs.lemmas.List.{take-append-le}

@@ -17,7 +17,7 @@ pub recovered : (xpn : Bool) (lowest n : ℕ) → 1 ≤ n → n ≤ last_number 
 recovered true lowest n least most from to = near lowest n least (omega (arith, most)) from (to refl)
 recovered false lowest n least most from to = let it : n % 2 ^ 32 ≡ n = omega (arith, most) in ap Some it
 
--- it is none that no sender uses
+-- the PN field of a number that is sent is not one that no sender uses
 pub not_bad : (xpn : Bool) (n : ℕ) → 1 ≤ n → n ≤ last_number xpn → (n % 2 ^ 32 == 0 && not xpn) ≡ false
 not_bad true n least most = and_right (n % 2 ^ 32 == 0) false refl
 not_bad false n least most = and_left (n % 2 ^ 32 == 0) true (ne_eqb (n % 2 ^ 32) 0 (λ zero. omega (arith, zero, least, most)))

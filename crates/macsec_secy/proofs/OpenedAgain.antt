@@ -57,14 +57,26 @@ module _ (laws : CipherLaws) (key : InstalledKey) (iv : List ℕ) (tag : Tag) (f
 
   same_long : length data_sent ≡ length user_data
   same_long =
-      omega (arith, length-append (take clear user_data) sealed.0, laws.lengths.ciphertext key.bytes iv aad (drop clear user_data), length-drop clear user_data, long_clear, clear_within key.offset tag.e user_data)
+      let whole = length-append (take clear user_data) sealed.0 in
+      let ciphertext = laws.lengths.ciphertext key.bytes iv aad (drop clear user_data) in
+      omega (arith, whole, ciphertext, length-drop clear user_data, long_clear, clear_within key.offset tag.e user_data)
+
+  -- the use of the cipher with these clear octets and this ciphertext
+  abbrev use_with : List ℕ → List ℕ → CipherUse
+  use_with octets ciphertext = record {
+    key = key.bytes;
+    iv = iv;
+    aad = da ++ sa ++ encoding tag ++ octets;
+    ciphertext = ciphertext;
+    tag = sealed.1;
+  }
 
   pub text_sent : cipher_use key iv (parts_under (prepared_key key) iv tag frame) ≡ record { key = key.bytes; iv = iv; aad = aad; ciphertext = sealed.0; tag = sealed.1 }
   text_sent =
       let same : clear_length key.offset tag.e data_sent ≡ clear = clear_of_length key.offset tag.e data_sent user_data same_long in
-      ap (λ n. record { key = key.bytes; iv = iv; aad = da ++ sa ++ encoding tag ++ take n data_sent; ciphertext = drop n data_sent; tag = sealed.1 }) same
-      ∙ ap (λ (xs : List ℕ). record { key = key.bytes; iv = iv; aad = da ++ sa ++ encoding tag ++ xs; ciphertext = drop clear data_sent; tag = sealed.1 }) (take_at (take clear user_data) sealed.0 clear long_clear)
-      ∙ ap (λ (xs : List ℕ). record { key = key.bytes; iv = iv; aad = aad; ciphertext = xs; tag = sealed.1 }) (drop_at (take clear user_data) sealed.0 clear long_clear)
+      ap (λ n. use_with (take n data_sent) (drop n data_sent)) same
+      ∙ ap (λ (xs : List ℕ). use_with xs (drop clear data_sent)) (take_at (take clear user_data) sealed.0 clear long_clear)
+      ∙ ap (λ (xs : List ℕ). use_with (take clear user_data) xs) (drop_at (take clear user_data) sealed.0 clear long_clear)
 
 -- ---- what opens of it
 

@@ -27,12 +27,14 @@ pub record Passes (options : RxOptions) (keys : List InstalledKey) (channels : C
   pub enabled : is_disabled options.mode ≡ false
   pub opens : plaintext_of (the_key keys row.key) row number p ≡ Some plaintext
 
-at_number : (options : RxOptions) (key : InstalledKey) (row : RxRow) (p : MpduParts) (number : ℕ) (plaintext : List ℕ) → is_late row.lowest number ≡ false → is_disabled options.mode ≡ false →
+at_number : (options : RxOptions) (key : InstalledKey) (row : RxRow) (p : MpduParts) (number : ℕ) (plaintext : List ℕ) →
+    is_late row.lowest number ≡ false → is_disabled options.mode ≡ false →
     plaintext_of key row number p ≡ Some plaintext → judge_number options key row p (Some number) ≡ at_row row number 13 Passed (Some (opened_frame key p plaintext))
 at_number options key row p number plaintext in_time enabled opens =
     rw (and_right options.replay (is_late row.lowest number) in_time, enabled, opens, in_time) refl
 
 pub passed : (options : RxOptions) (keys : List InstalledKey) (channels : Channels) (p : MpduParts) (row : RxRow) (number : ℕ) (plaintext : List ℕ) →
-    Passes options keys channels p row number plaintext → judge_tagged options keys channels p ≡ at_row row number 13 Passed (Some (opened_frame (the_key keys row.key) p plaintext))
+    Passes options keys channels p row number plaintext →
+    judge_tagged options keys channels p ≡ at_row row number 13 Passed (Some (opened_frame (the_key keys row.key) p plaintext))
 passed options keys channels p row number plaintext passes =
     rw (passes.not_reserved, passes.used, passes.numbered) (at_number options (the_key keys row.key) row p number plaintext passes.in_time passes.enabled passes.opens)

@@ -7,7 +7,7 @@ use Rattle.macsec_suite.specs.KeyRows.{InstalledKey, the_key}
 use Rattle.macsec_tx.specs.declared.TxOptions.{TxOptions}
 use Rattle.macsec_tx.specs.declared.TxRow.{TxRow}
 use Rattle.macsec_tx.specs.Rows.{AreTxRows, IsTxRow}
-use Rattle.macsec_tx.specs.Transmit.{no_sa, too_long, plain, protected, not_protected, octets_added, protected_frame, row_on, sending, sending_by, tag_sent}
+use Rattle.macsec_tx.specs.Transmit.{Sending, no_sa, too_long, plain, protected, not_protected, octets_added, protected_frame, row_on, sending, sending_by, tag_sent}
 
 pub record IsProtectedBy (keys : List InstalledKey) (rows : List TxRow) (row : TxRow) : Type 0 where
   pub on : row_on rows ≡ Some row
@@ -18,8 +18,11 @@ by_row : (options : TxOptions) (keys : List InstalledKey) (rows : List TxRow) (f
 by_row options keys rows frame row on is by =
     by_tests (nat_lt (last_of (the_key keys on.key).suite) on.next) (nat_lt options.max_frame (length frame + octets_added (tag_sent options on frame))) refl by
   where
+    made : Sending
+    made = record { leaving = protected on.key (protected_frame options (the_key keys on.key) on frame); by = Some on }
+
     by_tests : (exhausted long : Bool) → nat_lt (last_of (the_key keys on.key).suite) on.next ≡ exhausted →
-        (if exhausted then not_protected no_sa else if long then not_protected too_long else record { leaving = protected on.key (protected_frame options (the_key keys on.key) on frame); by = Some on }).by ≡ Some row →
+        (if exhausted then not_protected no_sa else if long then not_protected too_long else made).by ≡ Some row →
         IsProtectedBy keys rows row
     by_tests true long is' by' = cc
     by_tests false true is' by' = cc
@@ -36,7 +39,8 @@ pub protected_by : (options : TxOptions) (keys : List InstalledKey) (rows : List
     IsProtectedBy keys rows row
 protected_by options keys rows frame row by = by_test options.protect by
   where
-    by_test : (b : Bool) → (if b then sending_by options keys frame (row_on rows) else not_protected (if nat_lt options.max_frame (length frame) then too_long else plain)).by ≡ Some row →
+    by_test : (b : Bool) →
+        (if b then sending_by options keys frame (row_on rows) else not_protected (if nat_lt options.max_frame (length frame) then too_long else plain)).by ≡ Some row →
         IsProtectedBy keys rows row
     by_test true by' = by_on options keys rows frame row (row_on rows) refl by'
     by_test false by' = cc

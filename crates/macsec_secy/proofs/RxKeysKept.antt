@@ -10,7 +10,8 @@ use Rattle.macsec_tx.specs.declared.TxRow.{TxRow}
 use Rattle.macsec_tx.specs.Transmit.{keys_after}
 use Rattle.macsec_rx.specs.declared.RxRow.{RxRow}
 use Rattle.macsec_rx.specs.Channels.{Channels, at_place, is_at, same_sci, with_rx}
-use Rattle.macsec_rx.specs.Commands.{HaveRxKeys, channels_narrowed, row_narrowed, row_raised, row_switched, rx_sa_refusals, with_rx_low, with_rx_on, with_rx_sa, without_channel, without_rx}
+use Rattle.macsec_rx.specs.Commands.{HaveRxKeys, channels_narrowed, row_narrowed, row_raised, row_switched, rx_sa_refusals}
+use Rattle.macsec_rx.specs.Commands.{with_rx_low, with_rx_on, with_rx_sa, without_channel, without_rx}
 use Rattle.macsec_rx.specs.Judge.{Judgement, accepted_number, row_accepting, rows_accepting, rows_after}
 use Rattle.macsec_secy.proofs.KeysKept.{IsThere, field_kept, not_refused, there_noting, there_retiring, there_with_more}
 
@@ -43,7 +44,7 @@ with_changed_rows keys change same (row ∷ rows) have =
     (subst (IsThere keys) (sym (same row)) (All-head (KeyIsThere keys) row rows have))
     (with_changed_rows keys change same rows (All-tail (KeyIsThere keys) row rows have))
 
--- and after a change of one association
+-- each association has its key after a change of one of them that keeps its key
 with_one_changed : (keys : List InstalledKey) (change : RxRow → RxRow) → ((row : RxRow) → (change row).key ≡ row.key) → (sci : Sci) (an : ℕ) (rows : List RxRow) →
     HaveRxKeys keys rows → HaveRxKeys keys (with_rx change sci an rows)
 with_one_changed keys change same sci an rows have =

@@ -10,7 +10,8 @@ use Rattle.macsec_suite.specs.KeyRows.{InstalledKey}
 use Rattle.macsec_suite.specs.Refusals.{first_refusal, holds_of}
 use Rattle.macsec_rx.specs.declared.RxRow.{RxRow}
 use Rattle.macsec_rx.specs.Channels.{Channels, at_place, is_at, rx_row, same_sci, with_rx}
-use Rattle.macsec_rx.specs.Commands.{channels_narrowed, is_below_lowest, row_narrowed, row_raised, row_switched, rx_low_refusals, rx_sa_refusals, with_rx_low, with_rx_on, with_rx_sa}
+use Rattle.macsec_rx.specs.Commands.{channels_narrowed, is_below_lowest, row_narrowed, row_raised, row_switched}
+use Rattle.macsec_rx.specs.Commands.{rx_low_refusals, rx_sa_refusals, with_rx_low, with_rx_on, with_rx_sa}
 use Rattle.macsec_rx.specs.Judge.{Judgement, accepted_number, row_accepting, rows_accepting, rows_after}
 use Rattle.macsec_secy.proofs.Sums.{one_sci}
 use Rattle.macsec_secy.specs.Agrees.{NoTwo, same_place}
@@ -42,7 +43,7 @@ one_place_kept f same sci an rows apart =
       an = λ row. field_kept (λ (r : RxRow). r.an) f same.an (is_at sci an row) row;
     }) rows apart
 
--- so it is after a change of the association at one place, where it is so of the changed one
+-- an association is within the window after a change at one place, if the one that is changed is
 one_within : (window : ℕ) (f : RxRow → RxRow) (sci : Sci) (an : ℕ) (row : RxRow) → (is_at sci an row ≡ true → IsWithin window (f row)) → IsWithin window row →
     IsWithin window (at_place f sci an row)
 one_within window f sci an row good within = by_test (is_at sci an row) refl
@@ -81,8 +82,11 @@ pub with_one_switched : (channels : Channels) (window : ℕ) (sci : Sci) (an : �
     RxRowsAgree window (with_rx_on channels sci an on).rows
 with_one_switched channels window sci an on agree = record {
   places = one_place_kept (row_switched on) (record { sci = λ row. refl; an = λ row. refl }) sci an channels.rows agree.places;
-  within = within_after window (at_place (row_switched on) sci an) (λ row within. one_within window (row_switched on) sci an row (λ here. within) within) channels.rows agree.within;
+  within = within_after window (at_place (row_switched on) sci an) still channels.rows agree.within;
 }
+  where
+    still : (row : RxRow) → IsWithin window row → IsWithin window (at_place (row_switched on) sci an row)
+    still row within = one_within window (row_switched on) sci an row (λ here. within) within
 
 -- some associations are deleted
 pub some_left : (keep : RxRow → Bool) (window : ℕ) (rows : List RxRow) → RxRowsAgree window rows → RxRowsAgree window (filter keep rows)

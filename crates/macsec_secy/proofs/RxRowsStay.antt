@@ -9,13 +9,15 @@ use Rattle.macsec_rx.specs.Channels.{at_place, is_at, rx_row, same_sci, with_rx}
 use Rattle.macsec_rx.specs.Commands.{row_narrowed, row_raised, row_switched}
 use Rattle.macsec_rx.specs.Judge.{accepted_number, row_accepting, rows_accepting}
 use Rattle.macsec_commands.specs.declared.command.Command.{Command}
-use Rattle.macsec_commands.specs.declared.command.Command.TheVariants.{Protect, Validate, Replay, Tag, Key, Retire, TxSa, TxOn, TxOff, TxDel, RxSc, RxScDel, RxSa, RxOn, RxOff, RxLow, RxDel}
+use Rattle.macsec_commands.specs.declared.command.Command.TheVariants.{Protect, Validate, Replay, Tag, Key, Retire, TxSa, TxOn, TxOff}
+use Rattle.macsec_commands.specs.declared.command.Command.TheVariants.{TxDel, RxSc, RxScDel, RxSa, RxOn, RxOff, RxLow, RxDel}
 use Rattle.macsec_secy.specs.declared.fault.FrameFault.{FrameFault}
 use Rattle.macsec_secy.specs.Commands.{effect, refusal, unless_refused}
 use Rattle.macsec_secy.specs.Kept.{IsAbove, RxRowStays, deletes}
 use Rattle.macsec_secy.specs.Reception.{judgement_of, state_after_receiving}
 use Rattle.macsec_secy.specs.State.{State}
-use Rattle.macsec_secy.specs.Step.{Input, Output, operator_command, client_frame, uncontrolled_frame, link_frame, frame_fault, leaves, received_output, sending_of, sent_output, state_after_sending, unless_fault}
+use Rattle.macsec_secy.specs.Step.{Input, Output, operator_command, client_frame, uncontrolled_frame, link_frame, frame_fault}
+use Rattle.macsec_secy.specs.Step.{leaves, received_output, sending_of, sent_output, state_after_sending, unless_fault}
 use Rattle.macsec_secy.proofs.Sums.{one_sci}
 use Rattle.macsec_secy.proofs.KeysKept.{field_kept}
 
@@ -42,7 +44,7 @@ above-map : (f : RxRow → RxRow) → KeepsPlace f → (rows : List RxRow) (sci 
 above-map f keeps rows sci an n it =
     record { row = f it.row; there = rx_row-map f keeps rows sci an ∙ ap (option_map f) it.there; above = omega (arith, it.above, keeps.next it.row) }
 
--- the same of a change of the association at one place
+-- a change of the association at one place keeps places too
 pub at_one_place : (f : RxRow → RxRow) → KeepsPlace f → (sci : Sci) (an : ℕ) → KeepsPlace (at_place f sci an)
 at_one_place f keeps sci an = record {
   sci = λ row. field_kept (λ (r : RxRow). r.sci) f keeps.sci (is_at sci an row) row;
@@ -54,7 +56,8 @@ at_one_place f keeps sci an = record {
     next_of true row = keeps.next row
     next_of false row = omega arith
 
-above-with_rx : (f : RxRow → RxRow) → KeepsPlace f → (of_sci : Sci) (of_an : ℕ) (rows : List RxRow) (sci : Sci) (an n : ℕ) → IsAbove rows sci an n → IsAbove (with_rx f of_sci of_an rows) sci an n
+above-with_rx : (f : RxRow → RxRow) → KeepsPlace f → (of_sci : Sci) (of_an : ℕ) (rows : List RxRow) (sci : Sci) (an n : ℕ) → IsAbove rows sci an n →
+    IsAbove (with_rx f of_sci of_an rows) sci an n
 above-with_rx f keeps of_sci of_an rows sci an n it = above-map (at_place f of_sci of_an) (at_one_place f keeps of_sci of_an) rows sci an n it
 
 pub narrows : (window : ℕ) → KeepsPlace (row_narrowed window)
@@ -133,13 +136,15 @@ effect_stays s (RxOff of_sci of_an) sci an n kept it = above-with_rx (row_switch
 effect_stays s (RxLow of_sci of_an pn) sci an n kept it = above-with_rx (row_raised pn) (raises pn) of_sci of_an s.rx.rows sci an n it
 effect_stays s (RxDel of_sci of_an) sci an n kept it = above_left (λ row. not (is_at of_sci of_an row)) s.rx.rows sci an n (not_deleted sci of_sci an of_an kept) it
 
-command_stays : (s : State) (c : Command) (r : Option Refusal) (sci : Sci) (an n : ℕ) → deletes sci an c ≡ false → IsAbove s.rx.rows sci an n → IsAbove (unless_refused r s c).rx.rows sci an n
+command_stays : (s : State) (c : Command) (r : Option Refusal) (sci : Sci) (an n : ℕ) → deletes sci an c ≡ false → IsAbove s.rx.rows sci an n →
+    IsAbove (unless_refused r s c).rx.rows sci an n
 command_stays s c None sci an n kept it = effect_stays s c sci an n kept it
 command_stays s c (Some r) sci an n kept it = it
 
 -- ---- frames
 
-accepting_stays : (window : ℕ) (number : Option ℕ) (row : Option RxRow) (rows : List RxRow) (sci : Sci) (an n : ℕ) → IsAbove rows sci an n → IsAbove (rows_accepting window number row rows) sci an n
+accepting_stays : (window : ℕ) (number : Option ℕ) (row : Option RxRow) (rows : List RxRow) (sci : Sci) (an n : ℕ) → IsAbove rows sci an n →
+    IsAbove (rows_accepting window number row rows) sci an n
 accepting_stays window None row rows sci an n it = it
 accepting_stays window (Some number) None rows sci an n it = it
 accepting_stays window (Some number) (Some row) rows sci an n it = above-with_rx (row_accepting window number) (accepts window number) row.sci row.an rows sci an n it

@@ -9,7 +9,8 @@ use Rattle.macsec_tx.specs.declared.TxResult.TheVariants.{Plain, Made, NoSa, Too
 use Rattle.macsec_tx.specs.declared.TxRow.{TxRow}
 use Rattle.macsec_tx.specs.Answers.{IfMade, ShowsLeaving}
 use Rattle.macsec_tx.specs.Rows.{AreTxRows}
-use Rattle.macsec_tx.specs.Transmit.{Leaving, plain, protected, no_sa, too_long, Sending, keys_after, not_protected, octets_added, row_on, rows_after, sending, sending_by, tag_sent}
+use Rattle.macsec_tx.specs.Transmit.{Leaving, plain, protected, no_sa, too_long, Sending, keys_after, not_protected}
+use Rattle.macsec_tx.specs.Transmit.{octets_added, row_on, rows_after, sending, sending_by, tag_sent}
 use Rattle.macsec_secy.specs.declared.fault.FrameFault.{FrameFault}
 use Rattle.macsec_secy.specs.State.{State, tx_options}
 use Rattle.macsec_secy.specs.Step.{client_frame, frame_fault, leaves, sending_of, sent_output, state_after_sending, step, unless_fault}
@@ -47,7 +48,8 @@ by_one options keys frame (Some row) =
 by_none : (options : TxOptions) (keys : List InstalledKey) (rows : List TxRow) (frame : List ℕ) → NeedsNone (sending options keys rows frame)
 by_none options keys rows frame = by_test options.protect
   where
-    by_test : (b : Bool) → NeedsNone (if b then sending_by options keys frame (row_on rows) else not_protected (if nat_lt options.max_frame (length frame) then too_long else plain))
+    by_test : (b : Bool) →
+        NeedsNone (if b then sending_by options keys frame (row_on rows) else not_protected (if nat_lt options.max_frame (length frame) then too_long else plain))
     by_test true = by_one options keys frame (row_on rows)
     by_test false = λ h. refl
 

@@ -19,7 +19,8 @@ use Rattle.macsec_commands.specs.Scis.{IsSci}
 use Rattle.macsec_secy.specs.declared.counters.ChannelCounters.{ChannelCounters}
 use Rattle.macsec_commands.specs.declared.config.EndConfig.{EndConfig}
 use Rattle.macsec_commands.specs.declared.command.Command.{Command}
-use Rattle.macsec_commands.specs.declared.command.Command.TheVariants.{Protect, Validate, Replay, Tag, Key, Retire, TxSa, TxOn, TxOff, TxDel, RxSc, RxScDel, RxSa, RxOn, RxOff, RxLow, RxDel}
+use Rattle.macsec_commands.specs.declared.command.Command.TheVariants.{Protect, Validate, Replay, Tag, Key, Retire, TxSa, TxOn, TxOff}
+use Rattle.macsec_commands.specs.declared.command.Command.TheVariants.{TxDel, RxSc, RxScDel, RxSa, RxOn, RxOff, RxLow, RxDel}
 use Rattle.macsec_secy.specs.State.{State, start}
 use Rattle.macsec_commands.specs.Configs.{config_fault}
 use Rattle.macsec_secy.specs.Commands.{effect, refusal, refusals, state_after_command, unless_refused}
@@ -28,7 +29,7 @@ use Rattle.macsec_secy.specs.Reception.{judgement_of, state_after_receiving}
 use Rattle.macsec_secy.specs.Step.{Output, client_frame, link_frame, frame_fault, received_output, sending_of, sent_output, state_after_sending, step, unless_fault}
 use Rattle.macsec_secy.specs.Agrees.{Agrees}
 use Rattle.macsec_secy.specs.Counting.{new_channel_counters, with_association, without_association}
-use Rattle.macsec_secy.specs.Sound.{AreOfAssociations, AreRxCounters, IsSound, sci_of_counters}
+use Rattle.macsec_secy.specs.Sound.{AreOfAssociations, AreRxCounters, IsReady, IsSound, sci_of_counters}
 use Rattle.macsec_secy.proofs.Limits.{good_limit}
 use Rattle.macsec_secy.proofs.AfterCommands.{none_hold, true_from_not}
 use Rattle.macsec_secy.proofs.AssociationsKept as counted
@@ -149,7 +150,8 @@ where_done (Ok done) holds e = holds
 where_done (Err refusal) holds e = cc
 
 pub by_keys : (s : State) (c : Command) (keys after : List InstalledKey) (answer : Result (Unit {0}) Refusal) → refusal_of answer ≡ refusal s c →
-    OnOk answer (keys ≡ after) → OnErr answer (keys ≡ s.keys) → record s { keys = after } ≡ effect s c → OnOk answer (AreKeyRows keys) → IsSound s → IsSound (record s { keys = keys })
+    OnOk answer (keys ≡ after) → OnErr answer (keys ≡ s.keys) → record s { keys = after } ≡ effect s c → OnOk answer (AreKeyRows keys) →
+    IsSound s → IsSound (record s { keys = keys })
 by_keys s c keys after answer refuses ok err behind are sound =
     by_table s c (λ k. record s { keys = k }) s.keys keys after answer refuses ok err refl behind
     (λ e. record { keys = where_done answer are e; tx = sound.tx; rx = sound.rx }) sound
@@ -165,6 +167,26 @@ pub by_rx : (s : State) (c : Command) (channels after : Channels) (answer : Resu
 by_rx s c channels after answer refuses ok err behind are sound =
     by_table s c (λ r. record s { rx = r }) s.rx channels after answer refuses ok err refl behind (λ e. record { keys = sound.keys; tx = sound.tx; rx = are }) sound
 
+-- ---- the same of an endpoint, whose buffer is as it was
+
+pub ready_by_keys : (s : State) (c : Command) (keys after : List InstalledKey) (answer : Result (Unit {0}) Refusal) (room : ℕ) → refusal_of answer ≡ refusal s c →
+    OnOk answer (keys ≡ after) → OnErr answer (keys ≡ s.keys) → record s { keys = after } ≡ effect s c → OnOk answer (AreKeyRows keys) →
+    IsReady s room → IsReady (record s { keys = keys }) room
+ready_by_keys s c keys after answer room refuses ok err behind are ready =
+    record { sound = by_keys s c keys after answer refuses ok err behind are ready.sound; room = ready.room }
+
+pub ready_by_tx : (s : State) (c : Command) (rows after : List TxRow) (answer : Result (Unit {0}) Refusal) (room : ℕ) → refusal_of answer ≡ refusal s c →
+    OnOk answer (rows ≡ after) → OnErr answer (rows ≡ s.tx) → record s { tx = after } ≡ effect s c → OnOk answer (AreTxRows rows) →
+    IsReady s room → IsReady (record s { tx = rows }) room
+ready_by_tx s c rows after answer room refuses ok err behind are ready =
+    record { sound = by_tx s c rows after answer refuses ok err behind are ready.sound; room = ready.room }
+
+pub ready_by_rx : (s : State) (c : Command) (channels after : Channels) (answer : Result (Unit {0}) Refusal) (room : ℕ) → refusal_of answer ≡ refusal s c →
+    OnOk answer (channels ≡ after) → OnErr answer (channels ≡ s.rx) → record s { rx = after } ≡ effect s c → AreChannels channels →
+    IsReady s room → IsReady (record s { rx = channels }) room
+ready_by_rx s c channels after answer room refuses ok err behind are ready =
+    record { sound = by_rx s c channels after answer refuses ok err behind are ready.sound; room = ready.room }
+
 -- the channels after a command that they carry out or refuse are those of the state after it
 pub left_by_rx : (s : State) (c : Command) (channels after : Channels) (answer : Result (Unit {0}) Refusal) → refusal_of answer ≡ refusal s c →
     OnOk answer (channels ≡ after) → OnErr answer (channels ≡ s.rx) → record s { rx = after } ≡ effect s c → record s { rx = channels } ≡ state_after_command s c
@@ -177,7 +199,8 @@ widest_after : (keys : List InstalledKey) (by : Option TxRow) (window : ℕ) →
 widest_after keys None window within = within
 widest_after keys (Some row) window within = widest.with_one_noting keys row.key row.next window within
 
-after_sending : (s : State) (frame : List ℕ) (sent : Sending) → TablesHold (state_after_sending s frame sent) → Agrees (state_after_sending s frame sent) → IsSound s → IsSound (state_after_sending s frame sent)
+after_sending : (s : State) (frame : List ℕ) (sent : Sending) → TablesHold (state_after_sending s frame sent) →
+    Agrees (state_after_sending s frame sent) → IsSound s → IsSound (state_after_sending s frame sent)
 after_sending s frame sent tables agrees sound =
     assumption (
       widest_after s.keys sent.by s.options.window sound.window,
@@ -187,7 +210,8 @@ after_sending s frame sent tables agrees sound =
       after_protected sent.by frame s.tx_counters sound.tx_counters,
     )
 
-after_receiving : (s : State) (frame : List ℕ) → TablesHold (state_after_receiving s frame (judgement_of s frame)) → Agrees (state_after_receiving s frame (judgement_of s frame)) → IsSound s →
+after_receiving : (s : State) (frame : List ℕ) → TablesHold (state_after_receiving s frame (judgement_of s frame)) →
+    Agrees (state_after_receiving s frame (judgement_of s frame)) → IsSound s →
     IsSound (state_after_receiving s frame (judgement_of s frame))
 after_receiving s frame tables agrees sound =
     let j = judgement_of s frame in

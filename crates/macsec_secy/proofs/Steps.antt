@@ -12,7 +12,8 @@ use Rattle.macsec_rx.specs.declared.RxRow.{RxRow}
 use Rattle.macsec_rx.specs.declared.Verdict.{Verdict}
 use Rattle.macsec_rx.specs.declared.Verdict.TheVariants.{BadTag, Reserved, NoSa, NoSaError, Late, NotValid, Unchecked, Delayed, Invalid, Passed}
 use Rattle.macsec_rx.specs.Channels.{Channels, same_sci}
-use Rattle.macsec_rx.specs.Judge.{Judgement, at_row, bare_frame, is_disabled, is_strict, judge_number, judge_opened, judge_row, judge_tagged, judge_tagged_row, number_of_frame, opened_frame, place_of, plaintext_of, without_row}
+use Rattle.macsec_rx.specs.Judge.{Judgement, at_row, bare_frame, is_disabled, is_strict, judge_number, judge_opened, judge_row, judge_tagged}
+use Rattle.macsec_rx.specs.Judge.{judge_tagged_row, number_of_frame, opened_frame, place_of, plaintext_of, without_row}
 use Rattle.macsec_secy.specs.declared.counters.Counters.{Counters}
 use Rattle.macsec_rx.specs.Rows.{AreScis}
 use Rattle.macsec_secy.specs.declared.counters.RxCounters.{RxCounters}

@@ -35,7 +35,7 @@ IsOneMore-raised_part old new part e =
     let more : new + 2 ^ 64 * q ≡ old + 1 = omega (arith, e, all) in
     sym (add-mul-mod_self_left new (2 ^ 64) q) ∙ ap (λ n. n % 2 ^ 64) more ∙ sym (mod-add-mod old (2 ^ 64) 1)
 
--- and where one part of it is one more
+-- a sum is one more where one part of it is one more
 pub IsOneMore-add_left : (other new old : ℕ) → IsOneMore new old → IsOneMore (other + new) (other + old)
 IsOneMore-add_left other new old one =
     let more : other + (old + 1) ≡ other + old + 1 = omega arith in
@@ -48,7 +48,7 @@ IsOneMore-add_right new old rest one =
     let right : old + rest ≡ rest + old = omega arith in
     rw (left, right) (IsOneMore-add_left rest new old one)
 
--- the same
+-- a sum to which nothing is added is the same
 pub mod-as_plus_0 : (n : ℕ) → n % 2 ^ 64 ≡ plus (n % 2 ^ 64) 0
 mod-as_plus_0 n = omega arith
 
@@ -109,11 +109,13 @@ IsOneMore-channels_packets verdict raises sci an (row ∷ rows) distinct there =
         (channel_packets_of row.counters + channels_packets rows)
     by_test true same later there' =
         let none : has_channel (map sci_of_counters rows) sci ≡ false = ap (has_channel (map sci_of_counters rows)) (sym (one_sci row.sci sci same)) ∙ distinct.1 in
-        rw (map-at_channel_elsewhere (count_in_channel verdict an) sci rows none) (IsOneMore-add_right _ (channel_packets_of row.counters) (channels_packets rows) (raises row.counters))
+        let here = IsOneMore-add_right _ (channel_packets_of row.counters) (channels_packets rows) (raises row.counters) in
+        rw (map-at_channel_elsewhere (count_in_channel verdict an) sci rows none) here
     by_test false other later there' = IsOneMore-add_left (channel_packets_of row.counters) _ _ (later there')
 
 -- a change that keeps what each channel has counted keeps the sum
-pub channels_packets-at_channel : (change : ChannelCounters → ChannelCounters) → ((row : ChannelCounters) → (change row).counters ≡ row.counters) → (sci : Sci) (rows : List ChannelCounters) →
+pub channels_packets-at_channel : (change : ChannelCounters → ChannelCounters) → ((row : ChannelCounters) → (change row).counters ≡ row.counters) →
+    (sci : Sci) (rows : List ChannelCounters) →
     channels_packets (map (at_channel change sci) rows) ≡ channels_packets rows
 channels_packets-at_channel change keeps sci [] = refl
 channels_packets-at_channel change keeps sci (row ∷ rows) =

@@ -39,7 +39,8 @@ uses-map f same [] key = refl
 uses-map f same (row ∷ rows) key =
     ap (λ m. (m == key) || tx_uses (map f rows) key) (same row) ∙ ap (λ b. (row.key == key) || b) (uses-map f same rows key)
 
-no_more_uses : (f : TxRow → TxRow) → ((row : TxRow) → (f row).key ≡ row.key) → (row : TxRow) (rows : List TxRow) → tx_uses rows row.key ≡ false → tx_uses (map f rows) (f row).key ≡ false
+no_more_uses : (f : TxRow → TxRow) → ((row : TxRow) → (f row).key ≡ row.key) → (row : TxRow) (rows : List TxRow) → tx_uses rows row.key ≡ false →
+    tx_uses (map f rows) (f row).key ≡ false
 no_more_uses f same row rows apart = ap (λ m. tx_uses (map f rows) m) (same row) ∙ uses-map f same rows row.key ∙ apart
 
 with_rows : (keys : List InstalledKey) (f : TxRow → TxRow) → KeepsNext f → (rows : List TxRow) → HaveUnusedNext keys rows → HaveUnusedNext keys (map f rows)
@@ -145,7 +146,7 @@ on_has_other_key (row ∷ rows) by key on none =
     by_on true other later on' same = let it : row ≡ by = cc in eqb-false row.key key other (ap (λ r. r.key) it ∙ same)
     by_on false other later on' same = later on' same
 
--- the next number of the enabled association
+-- the next number of the enabled association is unused
 pub on_unused : (keys : List InstalledKey) (rows : List TxRow) (by : TxRow) → row_on rows ≡ Some by → HaveUnusedNext keys rows → HasUnusedNext keys by
 on_unused keys [] by on have = cc
 on_unused keys (row ∷ rows) by on have = by_on row.on (λ on'. on_unused keys rows by on' have.2) on
@@ -154,7 +155,7 @@ on_unused keys (row ∷ rows) by on have = by_on row.on (λ on'. on_unused keys 
     by_on true later on' = let it : row ≡ by = cc in subst (λ r. HasUnusedNext keys r) it have.0
     by_on false later on' = later on'
 
--- it sends
+-- each next number is unused after the enabled association has sent
 pub after_sending : (keys : List InstalledKey) (rows : List TxRow) (by : TxRow) → row_on rows ≡ Some by → HaveUnusedNext keys rows →
     HaveUnusedNext (keys_noting keys by.key by.next) (map (used_at by.an) rows)
 after_sending keys [] by on have = tt

@@ -16,7 +16,8 @@ use Rattle.macsec_secy.specs.declared.fault.FrameFault.{FrameFault}
 use Rattle.macsec_commands.specs.declared.command.Command.{Command}
 use Rattle.macsec_secy.specs.State.{State, start, tx_options}
 use Rattle.macsec_secy.specs.Commands.{effect, refusal, unless_refused}
-use Rattle.macsec_secy.specs.Step.{Input, Output, operator_command, client_frame, uncontrolled_frame, link_frame, frame_fault, leaves, received_output, sending_of, sent_output, state_after_sending, step, unless_fault}
+use Rattle.macsec_secy.specs.Step.{Input, Output, operator_command, client_frame, uncontrolled_frame, link_frame, frame_fault, leaves}
+use Rattle.macsec_secy.specs.Step.{received_output, sending_of, sent_output, state_after_sending, step, unless_fault}
 use Rattle.macsec_secy.specs.Reception.{judgement_of, state_after_receiving}
 use Rattle.macsec_secy.specs.Laws.{RisesUnderOneKey, UsedNumber, UsesNoNumberTwice, UsesRisingNumbers, number_of_row, number_unless_fault, number_used, numbers_used}
 use Rattle.macsec_secy.specs.Agrees.{HasUnusedNext, HaveUnusedNext, first_unused}
@@ -42,7 +43,8 @@ before keys keys_then grows used new = record {
 
 -- ---- commands
 
-command_goes : (s : State) (c : Command) → HaveUnusedNext s.keys s.tx → (r : Option Refusal) → refusal s c ≡ r → Goes s.keys (unless_refused r s c).keys (unless_refused r s c).tx []
+command_goes : (s : State) (c : Command) → HaveUnusedNext s.keys s.tx → (r : Option Refusal) → refusal s c ≡ r →
+    Goes s.keys (unless_refused r s c).keys (unless_refused r s c).tx []
 command_goes s c have None e = record {
   keeps = effect_keeps s c e have;
   adds = before s.keys (effect s c).keys (λ n. omega (arith, effect_stays s c n));
@@ -60,7 +62,8 @@ noting_grows keys row unused n = by_key (cases_eq row.key n)
         (omega (arith, unused.next, first-noting keys row.key row.next unused.there))
     by_key (inr other) = omega (arith, first-noting_other keys row.key row.next n other)
 
-row_adds : (keys : List InstalledKey) (row : TxRow) → HasUnusedNext keys row → (later : List UsedNumber) → AreNew (keys_noting keys row.key row.next) later → AreNew keys ((row.key, row.next) ∷ later)
+row_adds : (keys : List InstalledKey) (row : TxRow) → HasUnusedNext keys row → (later : List UsedNumber) →
+    AreNew (keys_noting keys row.key row.next) later → AreNew keys ((row.key, row.next) ∷ later)
 row_adds keys row unused later new = record {
   late = All-cons (λ u. first_unused keys u.0 ≤ u.1) (row.key, row.next) later unused.next
       (before keys (keys_noting keys row.key row.next) (noting_grows keys row unused) later new).late;

@@ -1,6 +1,6 @@
 -- The widest replay window beside the keys, as keys come and change.
-use Rattle.std.proofs.Common.{◌≡◌, ℕ, ◌≤◌, Bool, true, false, List, [], ◌∷◌, ◌++◌, map, refl, sym, ap, subst, ◌∙◌, arith}
-use Rattle.std.specs.Prelude.{◌==◌, ◌&&◌, ◌||◌, not, nat_lt, if◌then◌else◌}
+use Rattle.std.proofs.Common.{◌≡◌, ℕ, ◌≤◌, Bool, true, false, List, [], ◌∷◌, ◌++◌, map, refl, sym, subst, arith}
+use Rattle.std.specs.Prelude.{◌==◌, ◌&&◌, ◌||◌, nat_lt, if◌then◌else◌}
 use Rattle.std.specs.List.{list_any}
 use Rattle.std.proofs.lemmas.Bool.{ltb-false}
 use Rattle.macsec_suite.specs.declared.key_row.NewKey.{NewKey}
@@ -44,7 +44,8 @@ with_one_more suite keys key window fits within =
 abbrev ExtendsNone : (InstalledKey → InstalledKey) → Type 0
 ExtendsNone change = (key : InstalledKey) → is_extended (change key) ≡ true → is_extended key ≡ true
 
-extended_before : (change : InstalledKey → InstalledKey) → ExtendsNone change → (keys : List InstalledKey) → list_any is_extended (map change keys) ≡ true → list_any is_extended keys ≡ true
+extended_before : (change : InstalledKey → InstalledKey) → ExtendsNone change → (keys : List InstalledKey) →
+    list_any is_extended (map change keys) ≡ true → list_any is_extended keys ≡ true
 extended_before change none [] is = is
 extended_before change none (key ∷ keys) is = by_tests (is_extended (change key)) (is_extended key) (none key) (extended_before change none keys) is
   where

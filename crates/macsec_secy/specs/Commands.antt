@@ -7,9 +7,11 @@ use Rattle.macsec_suite.specs.declared.refusal.Refusal.TheVariants.{Window, SciF
 use Rattle.macsec_suite.specs.Refusals.{RefusalLine, first_refusal, install_refusals, retire_refusals}
 use Rattle.macsec_tx.specs.Commands.{tx_uses, tx_sa_refusals, with_tx_sa, tx_on_refusals, with_tx_on, tx_off_refusals, with_tx_off, without_tx}
 use Rattle.macsec_rx.specs.Channels.{same_sci}
-use Rattle.macsec_rx.specs.Commands.{channels_narrowed, rx_low_refusals, rx_row_refusals, rx_sa_refusals, rx_sc_del_refusals, rx_sc_refusals, rx_uses, with_channel, with_rx_low, with_rx_on, with_rx_sa, without_channel, without_rx}
+use Rattle.macsec_rx.specs.Commands.{channels_narrowed, rx_low_refusals, rx_row_refusals, rx_sa_refusals, rx_sc_del_refusals, rx_sc_refusals}
+use Rattle.macsec_rx.specs.Commands.{rx_uses, with_channel, with_rx_low, with_rx_on, with_rx_sa, without_channel, without_rx}
 use Rattle.macsec_commands.specs.declared.command.Command.{Command}
-use Rattle.macsec_commands.specs.declared.command.Command.TheVariants.{Protect, Validate, Replay, Tag, Key, Retire, TxSa, TxOn, TxOff, TxDel, RxSc, RxScDel, RxSa, RxOn, RxOff, RxLow, RxDel}
+use Rattle.macsec_commands.specs.declared.command.Command.TheVariants.{Protect, Validate, Replay, Tag, Key, Retire, TxSa, TxOn, TxOff}
+use Rattle.macsec_commands.specs.declared.command.Command.TheVariants.{TxDel, RxSc, RxScDel, RxSa, RxOn, RxOff, RxLow, RxDel}
 use Rattle.macsec_commands.specs.Configs.{is_unfit}
 use Rattle.macsec_secy.specs.State.{State}
 use Rattle.macsec_secy.specs.Counting.{at_channel, new_channel_counters, with_association, without_association}

@@ -19,8 +19,8 @@ abbrev pub used_in : State → Reading → Option RxRow
 used_in s (tagged p) = in_use s.rx.rows p.tag.an (sci_of s.rx.scis p)
 used_in s r = None
 
--- its key is in the table; its SCI has 8 octets and its SSCI 32 bits; and the SCI is not the endpoint's own, nor is the
--- SSCI the key's own if packet numbers are extended
+-- the association's key is in the table; its SCI has 8 octets and its SSCI 32 bits; the SCI is not the endpoint's own, nor
+-- is the SSCI the key's own if packet numbers are extended
 pub record IsOfOtherSender (s : State) (row : RxRow) : Type 0 where
   pub key : IsKeyOf s.keys row.key (the_key s.keys row.key)
   pub sci_count : length row.sci.0 ≡ 8
@@ -38,9 +38,9 @@ pub record IsOpened (s : State) (frame : List ℕ) (row : RxRow) (delivered : Li
   pub opens : plaintext_of (the_key s.keys row.key) row (judgement_of s frame).number p ≡ Some plaintext
   pub gives : opened_frame (the_key s.keys row.key) p plaintext ≡ delivered
 
--- it is the association enabled for the frame, and the one at its place; it is another sender's; if replay protection is
--- enabled the packet number is not late; its next packet number is above its lowest acceptable one by the replay window
--- at most; after step 13 it is above the frame's; and in Strict step 13 opened the frame
+-- the association is the one that is enabled for the frame, and the one at its place; it is another sender's; if replay
+-- protection is enabled the packet number is not late; its next packet number is above its lowest acceptable one by the
+-- replay window at most; after step 13 it is above the frame's; in the mode Strict step 13 opened the frame
 pub record IsDeliveredFrom (s : State) (frame : List ℕ) (row : RxRow) (delivered : List ℕ) : Type 0 where
   pub in_use : used_in s (reading frame) ≡ Some row
   pub at_place : rx_row s.rx.rows row.sci row.an ≡ Some row

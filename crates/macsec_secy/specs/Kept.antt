@@ -18,7 +18,7 @@ pub record IsKeyOf (keys : List InstalledKey) (n : ℕ) (key : InstalledKey) : T
   pub number : key.number ≡ n
 
 -- each key has the bounds of a row; it is found by its number, and what is found by a number is the key of that number;
--- and keys of the same bytes are the same key
+-- keys of the same bytes are the same key
 pub record KeysAreApart (keys : List InstalledKey) : Type 0 where
   pub rows : All IsKeyRow keys
   pub by_number : (key : InstalledKey) → Contains keys key → key_row keys key.number ≡ Some key

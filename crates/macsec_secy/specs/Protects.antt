@@ -20,7 +20,7 @@ OpensAs use_of_cipher frame =
     (key : InstalledKey) (iv : List ℕ) (p : MpduParts) (plaintext : List ℕ) → IsTag p.tag → length p.da ≡ 6 → length p.sa ≡ 6 →
     cipher_use key iv p ≡ use_of_cipher → plaintext_of_use use_of_cipher ≡ Some plaintext → opened_frame key p plaintext ≡ frame
 
--- its key is in the table; its packet number was never used under the key, is at most the last of the suite, and is used
+-- the association's key is in the table; its packet number was never used under the key, is at most the last of the suite, and is used
 -- afterwards; the protected frame is read as the parts that were sent; and what opens of it, at whichever end, is the
 -- client frame
 pub record IsProtection (s : State) (frame : List ℕ) (row : TxRow) : Type 0 where

@@ -81,7 +81,7 @@ pub record IsSound (s : State) : Type 0 where
   pub associations : All (AreOfAssociations s.rx.rows) s.rx_counters
   pub agrees : Agrees s
 
--- it is sound, and its buffer holds the longest frame
+-- the endpoint's state is sound, and its buffer holds the longest frame
 pub record IsReady (s : State) (room_length : ℕ) : Type 0 where
   pub sound : IsSound s
   pub room : room_length ≡ max_frame_len

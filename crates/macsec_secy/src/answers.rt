@@ -14,8 +14,8 @@ pub enum DropReason {
 /// What becomes of a client frame.
 #[derive(Drop)]
 pub enum Sent<'a> {
-    /// This frame is sent, protected under the key of this number, 0 to 4,095, or as it is. It borrows from the
-    /// endpoint's buffer or from the caller's frame.
+    /// This frame is sent: protected if `under` is the number of a key, 0 to 4,095, the one under which it is
+    /// protected, and else as it is. It borrows from the endpoint's buffer or from the caller's frame.
     Link { frame: &'a [u8], under: Option<u16> },
     /// Nothing is sent.
     Dropped(DropReason),
@@ -24,10 +24,10 @@ pub enum Sent<'a> {
 /// What becomes of a link frame.
 #[derive(Drop)]
 pub struct Received<'a> {
-    /// The verdict.
+    /// What is found of it; one counter counts it.
     pub verdict: Verdict,
-    /// The association that it is for, by the SCI of its channel and its number, 0 to 3, if the verdict depends on one.
-    /// `Secy::rx_row` returns it.
+    /// The receive association (secure association, SA) that it is for, by the SCI of its channel and its number, 0 to
+    /// 3, if the verdict depends on one. `Secy::rx_row` returns it.
     pub row: Option<(Sci, u8)>,
     /// The frame at the uncontrolled port: as it came.
     pub uncontrolled: &'a [u8],

@@ -5,9 +5,9 @@ ghost use Rattle.macsec_secy.specs.State.{no_rx_counters};
 ghost use Rattle.macsec_secy.specs.Counting.{added, at_channel, count_in_channel, count_verdict, new_channel_counters, with_association, without_association};
 ghost use Rattle.macsec_secy.specs.Verdicts.{at_first, counted_at_place};
 
-use crate::counters::ASSOCIATION_COUNT;
 use crate::{An, ChannelCounters, RxCounters, Sci, Verdict};
 use macsec_rx::same_sci;
+use macsec_tag::ASSOCIATION_COUNT;
 
 impl RxCounters {
     /// Counters of 0.

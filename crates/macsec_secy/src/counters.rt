@@ -1,9 +1,7 @@
 //! The counters of an endpoint (IEEE 802.1AE, 10.7).
 
 use crate::Sci;
-
-/// The most associations of a channel, as many as there are association numbers.
-pub(crate) const ASSOCIATION_COUNT: usize = 4;
+use macsec_tag::ASSOCIATION_COUNT;
 
 /// The endpoint's counters, modulo 2^64.
 #[derive(Clone, Copy, PartialEq, Eq, Debug)]

@@ -1,11 +1,13 @@
-//! Counters, and what transmission counts (IEEE 802.1AE, 10.7).
+//! What transmission and reception count at the endpoint and at the transmit channel (IEEE 802.1AE, 10.7). What
+//! receive channels count is in `associations`.
 
 ghost use Rattle.std.specs.Prelude.{◌≡◌};
 ghost use Rattle.macsec_tx.specs.Transmit.{no_sa, plain, too_long};
 ghost use Rattle.macsec_secy.specs.State.{no_counters, no_tx_counters};
-ghost use Rattle.macsec_secy.specs.Counting.{count_leaving, count_octets};
+ghost use Rattle.macsec_secy.specs.Counting.{count_leaving, count_octets, count_packet};
+ghost use Rattle.macsec_secy.specs.Verdicts.{counted_by, is_opened};
 
-use crate::{Counters, TxCounters};
+use crate::{Counters, Mode, TxCounters, Verdict};
 
 impl Counters {
     /// Counters of 0.
@@ -47,6 +49,39 @@ impl Counters {
     {
         self.out_pkts_too_long = self.out_pkts_too_long.wrapping_add(1);
     }
+
+    /// Counts a frame with a verdict that no channel counts.
+    pub(crate) fn count_packet(&mut self, verdict: Verdict)
+        ensures { self.new ≡ count_packet verdict self.old }
+    {
+        match verdict {
+            Verdict::Untagged => self.in_pkts_untagged = self.in_pkts_untagged.wrapping_add(1),
+            Verdict::NoTag => self.in_pkts_no_tag = self.in_pkts_no_tag.wrapping_add(1),
+            Verdict::BadTag => self.in_pkts_bad_tag = self.in_pkts_bad_tag.wrapping_add(1),
+            Verdict::Reserved => self.in_pkts_reserved = self.in_pkts_reserved.wrapping_add(1),
+            Verdict::NoSa => self.in_pkts_no_sa = self.in_pkts_no_sa.wrapping_add(1),
+            Verdict::NoSaError => {
+                self.in_pkts_no_sa_error = self.in_pkts_no_sa_error.wrapping_add(1);
+            }
+            _ => {}
+        }
+    }
+
+    /// Counts a tagged frame with this many octets of data, by its verdict and the mode of validation: the frame if no
+    /// channel counts it, and the octets if the cipher was applied.
+    pub(crate) fn count_tagged(&mut self, mode: Mode, verdict: Verdict, e: bool, octets: u64)
+        ensures { self.new ≡ counted_by mode verdict e octets self.old }
+    {
+        self.count_packet(verdict);
+        if !is_opened(mode, verdict) {
+            return;
+        }
+        if e {
+            self.in_octets_decrypted = self.in_octets_decrypted.wrapping_add(octets);
+        } else {
+            self.in_octets_validated = self.in_octets_validated.wrapping_add(octets);
+        }
+    }
 }
 
 impl TxCounters {
@@ -73,5 +108,16 @@ impl TxCounters {
             self.out_pkts_protected = self.out_pkts_protected.wrapping_add(1);
             self.out_octets_protected = self.out_octets_protected.wrapping_add(octets);
         }
+    }
+}
+
+/// Was the cipher applied to a frame with this verdict?
+fn is_opened(mode: Mode, verdict: Verdict) -> bool
+    ensures { result ≡ is_opened mode verdict }
+{
+    match verdict {
+        Verdict::Invalid | Verdict::Passed => true,
+        Verdict::NotValid | Verdict::Delayed => mode != Mode::Disabled,
+        _ => false,
     }
 }

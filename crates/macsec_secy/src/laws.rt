@@ -38,7 +38,7 @@ pub fn rows_agree()
 pub fn lengths_of_frames()
     ensures { (s : State) (input : Input) → IsSound s → HasFrameLengths (step s input).0 }
 {
-    // Laws that the proof cites.
+    // Laws that the proof cites; the calls do nothing.
     open_undoes_seal();
     sealed_lengths();
     read_as_sent();
@@ -49,7 +49,7 @@ pub fn lengths_of_frames()
 pub fn lengths_of_protected_frames()
     ensures { (s : State) (frame : List ℕ) → IsSound s → HasLengthsFrom frame (step s (client_frame frame)).0 }
 {
-    // A law that the proof cites.
+    // A law that the proof cites; the call does nothing.
     read_as_sent();
 }
 
@@ -61,7 +61,7 @@ pub fn lengths_of_protected_frames()
 pub fn accepts_sent()
     ensures { (sender receiver : State) (client : List ℕ) (tx : TxRow) (rx : RxRow) (behind : List ℕ) → AcceptsSent sender receiver client tx rx behind }
 {
-    // Laws that the proof cites.
+    // Laws that the proof cites; the calls do nothing.
     open_undoes_seal();
     sealed_lengths();
     read_again();
@@ -90,7 +90,7 @@ pub fn rx_rows_stay()
 pub fn protects_frames()
     ensures { (s : State) (frame : List ℕ) (row : TxRow) → Protects s frame row }
 {
-    // Laws that the proof cites.
+    // Laws that the proof cites; the calls do nothing.
     open_undoes_seal();
     sealing_is_injective();
     sealed_lengths();

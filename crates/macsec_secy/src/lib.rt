@@ -46,7 +46,7 @@ pub use macsec_commands::{
     An, Command, EndConfig, Key, KeyNumber, MAX_FRAME_LEN, MIN_MAX_FRAME, Mode, NewFault, NewKey,
     Sci, Suite, TagForm,
 };
-use macsec_rx::RxChannels;
+use macsec_rx::{MAX_CHANNEL_COUNT, RxChannels};
 pub use macsec_rx::{RxRow, Verdict};
 use macsec_suite::KeyTable;
 pub use macsec_suite::Refusal;
@@ -69,7 +69,8 @@ pub struct Secy {
     rx: RxChannels,
     counters: Counters,
     tx_counters: TxCounters,
-    rx_counters: ArrayVec<ChannelCounters, 64>,
+    rx_counters: ArrayVec<ChannelCounters, MAX_CHANNEL_COUNT>,
+    /// Room for the longest frame: what is sent protected and what is delivered of a tagged frame is made here.
     room: Vec<u8>,
 }
 
@@ -164,9 +165,9 @@ impl Secy {
                 self.options.protect = on;
                 Ok(())
             }
-            Command::Validate(mode) => self.validate(mode),
-            Command::Replay { protect, window } => self.replay(protect, window),
-            Command::Tag(form) => self.tag(form),
+            Command::Validate(mode) => self.set_mode(mode),
+            Command::Replay { protect, window } => self.set_replay(protect, window),
+            Command::Tag(form) => self.set_form(form),
             Command::Key(key) => {
                 self.keys
                     .install(self.config.suite, &key, self.options.window)
@@ -303,17 +304,18 @@ impl Secy {
         }
     }
 
-    /// The fault of a frame, if it has one.
+    /// The fault of a frame, if it has one: by its length alone, the same at every endpoint. It is a method so that its
+    /// callers know of the endpoint what `sound` says.
     fn frame_fault(&self, frame: &[u8]) -> Option<FrameFault>
         ensures fault { result ≡ frame_fault frame.now }
         ensures sound { IsSound self.now }
     {
-        // Read before the first test: so the prover knows at each return what holds of the endpoint.
-        let most = self.room.len();
+        // For the prover alone: so it knows at each return that the endpoint is sound. The compiler deletes the line.
+        let _ = &self.counters;
         if frame.len() < MIN_FRAME_LEN {
             return Some(FrameFault::Short);
         }
-        if frame.len() > most {
+        if frame.len() > MAX_FRAME_LEN {
             return Some(FrameFault::Long);
         }
         None

@@ -14,7 +14,7 @@ use macsec_tx::TxOptions;
 
 impl Secy {
     /// Sets how received frames are validated.
-    pub(crate) fn validate(&mut self, mode: Mode) -> Result<(), Refusal>
+    pub(crate) fn set_mode(&mut self, mode: Mode) -> Result<(), Refusal>
         ensures refusal { refusal_of result ≡ refusal self.old (by.Validate mode) }
         ensures after { self.new ≡ state_after_command self.old (by.Validate mode) }
         ensures sound { IsSound self.new }
@@ -24,7 +24,7 @@ impl Secy {
     }
 
     /// Sets whether late frames are dropped, and the replay window.
-    pub(crate) fn replay(&mut self, protect: bool, window: u64) -> Result<(), Refusal>
+    pub(crate) fn set_replay(&mut self, protect: bool, window: u64) -> Result<(), Refusal>
         ensures refusal { refusal_of result ≡ refusal self.old (by.Replay protect window) }
         ensures after { self.new ≡ state_after_command self.old (by.Replay protect window) }
         ensures sound { IsSound self.new }
@@ -39,7 +39,7 @@ impl Secy {
     }
 
     /// Sets the tag form.
-    pub(crate) fn tag(&mut self, form: TagForm) -> Result<(), Refusal>
+    pub(crate) fn set_form(&mut self, form: TagForm) -> Result<(), Refusal>
         ensures refusal { refusal_of result ≡ refusal self.old (by.Tag form) }
         ensures after { self.new ≡ state_after_command self.old (by.Tag form) }
         ensures sound { IsSound self.new }

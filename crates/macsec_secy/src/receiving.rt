@@ -5,13 +5,12 @@ ghost use Rattle.macsec_suite.specs.Refusals.{refusal_of};
 ghost use Rattle.macsec_commands.specs.declared.command.Command.TheVariants as by;
 ghost use Rattle.macsec_secy.specs.State.{rx_options};
 ghost use Rattle.macsec_rx.specs.Judge.{octets_at};
-ghost use Rattle.macsec_secy.specs.Counting.{count_packet};
-ghost use Rattle.macsec_secy.specs.Verdicts.{counted_by, delivered_untagged, is_opened, verdict_on_untagged};
+ghost use Rattle.macsec_secy.specs.Verdicts.{delivered_untagged, verdict_on_untagged};
 ghost use Rattle.macsec_secy.specs.Sound.{IsSound};
 ghost use Rattle.macsec_secy.specs.Commands.{refusal, state_after_command};
 
 use crate::associations::{add_association, remove_association};
-use crate::{An, ChannelCounters, Counters, KeyNumber, Mode, Refusal, Sci, Secy, Verdict};
+use crate::{An, ChannelCounters, KeyNumber, Mode, Refusal, Sci, Secy, Verdict};
 use macsec_rx::{Judged, RxOptions};
 
 impl Secy {
@@ -76,52 +75,6 @@ impl Secy {
             replay: self.options.replay,
             window: self.options.window,
         }
-    }
-}
-
-impl Counters {
-    /// Counts a frame with a verdict that no channel counts.
-    pub(crate) fn count_packet(&mut self, verdict: Verdict)
-        ensures { self.new ≡ count_packet verdict self.old }
-    {
-        match verdict {
-            Verdict::Untagged => self.in_pkts_untagged = self.in_pkts_untagged.wrapping_add(1),
-            Verdict::NoTag => self.in_pkts_no_tag = self.in_pkts_no_tag.wrapping_add(1),
-            Verdict::BadTag => self.in_pkts_bad_tag = self.in_pkts_bad_tag.wrapping_add(1),
-            Verdict::Reserved => self.in_pkts_reserved = self.in_pkts_reserved.wrapping_add(1),
-            Verdict::NoSa => self.in_pkts_no_sa = self.in_pkts_no_sa.wrapping_add(1),
-            Verdict::NoSaError => {
-                self.in_pkts_no_sa_error = self.in_pkts_no_sa_error.wrapping_add(1);
-            }
-            _ => {}
-        }
-    }
-
-    /// Counts a tagged frame with this many octets of data, by its verdict and the mode of validation: the frame if no
-    /// channel counts it, and the octets if the cipher was applied.
-    pub(crate) fn count_tagged(&mut self, mode: Mode, verdict: Verdict, e: bool, octets: u64)
-        ensures { self.new ≡ counted_by mode verdict e octets self.old }
-    {
-        self.count_packet(verdict);
-        if !is_opened(mode, verdict) {
-            return;
-        }
-        if e {
-            self.in_octets_decrypted = self.in_octets_decrypted.wrapping_add(octets);
-        } else {
-            self.in_octets_validated = self.in_octets_validated.wrapping_add(octets);
-        }
-    }
-}
-
-/// Was the cipher applied to a frame with this verdict?
-fn is_opened(mode: Mode, verdict: Verdict) -> bool
-    ensures { result ≡ is_opened mode verdict }
-{
-    match verdict {
-        Verdict::Invalid | Verdict::Passed => true,
-        Verdict::NotValid | Verdict::Delayed => mode != Mode::Disabled,
-        _ => false,
     }
 }
 

@@ -1,5 +1,6 @@
 -- The parts of a tagged frame, concatenated, pass the tests of a tagged one, and are found by their positions.
-use Rattle.std.proofs.Common.{◌≡◌, ℕ, ◌+◌, ◌-◌, ◌<◌, ◌≤◌, Bool, true, false, List, [], ◌∷◌, ◌++◌, length, take, drop, refl, arith, ap, sym, subst, ◌∙◌, append_assoc, length-append, length-drop, lit≤}
+use Rattle.std.proofs.Common.{◌≡◌, ℕ, ◌+◌, ◌-◌, ◌<◌, ◌≤◌, Bool, true, false, List, [], ◌∷◌, ◌++◌, length, take, drop}
+use Rattle.std.proofs.Common.{refl, arith, ap, sym, subst, ◌∙◌, append_assoc, length-append, length-drop, lit≤}
 use Rattle.std.specs.Prelude.{Option, Some, None, is_some, slice_index, slice_range, ◌==◌, nat_lt, if◌then◌else◌, ◌^◌}
 use Rattle.std.specs.Option.{ForSome}
 use Rattle.std.specs.Int.{w32, from_be_bytes}
@@ -90,7 +91,7 @@ past_tag : (sci : Option Sci) (t : Tag) (rest : List ℕ) → t.sci ≡ sci → 
 past_tag None t rest same eight = rw same refl
 past_tag (Some s) t rest same eight = rw same (drop_at s.0 rest 8 (eight s refl))
 
--- so is what follows it
+-- what follows the tag is behind it in the frame
 after_is : (p : MpduParts) → IsTag p.tag → HasLengths p → after_tag (in_a_row p) ≡ behind_tag p
 after_is p h l =
     let frame = in_a_row p in
@@ -98,7 +99,7 @@ after_is p h l =
     ∙ ap (λ xs. drop (if is_some p.tag.sci then 16 else 8) xs) (stands_behind p h l).after
     ∙ past_tag p.tag.sci p.tag (behind_tag p) refl h.sci_octets
 
--- how many octets that is
+-- how many octets follow the tag
 after_length : (p : MpduParts) → IsTag p.tag → HasLengths p → length (after_tag (in_a_row p)) ≡ length p.secure_data + 16 + length p.padding
 after_length p h l =
     ap length (after_is p h l)
@@ -108,7 +109,7 @@ after_length p h l =
 by_sl : (sl n m : ℕ) → (0 < sl → n ≡ sl) → (sl ≡ 0 → m ≡ 0) → (if sl == 0 then n + 16 + m - 16 else sl) ≡ n
 by_sl sl n m short none = grind (arith, nat_tests)
 
--- it is that of the parts
+-- the number of octets of Secure Data that the frame says is that of the parts
 data_length_is : (p : MpduParts) → IsTag p.tag → HasLengths p → data_length_at (in_a_row p) ≡ length p.secure_data
 data_length_is p h l =
     let frame = in_a_row p in

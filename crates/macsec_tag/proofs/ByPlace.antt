@@ -1,5 +1,6 @@
 -- A frame that passes the tests of a tagged one is its parts, cut by their positions, concatenated.
-use Rattle.std.proofs.Common.{◌≡◌, ℕ, zero, suc, lit<, ◌+◌, ◌-◌, ◌<◌, ◌≤◌, Bool, true, false, List, [], ◌∷◌, ◌++◌, length, take, drop, refl, arith, ap, sym, subst, ◌∙◌, get_or, append_assoc, length-take, length-drop, Fits, w8}
+use Rattle.std.proofs.Common.{◌≡◌, ℕ, zero, suc, lit<, ◌+◌, ◌-◌, ◌<◌, ◌≤◌, Bool, true, false, List, [], ◌∷◌, ◌++◌, length, take, drop}
+use Rattle.std.proofs.Common.{refl, arith, ap, sym, subst, ◌∙◌, get_or, append_assoc, length-take, length-drop, Fits, w8}
 use Rattle.std.specs.Prelude.{Option, Some, None, is_some, IsSome, IfSome, slice_index, slice_range, bit_and, ◌==◌, nat_lt, if◌then◌else◌, ◌^◌}
 use Rattle.std.specs.Option.{ForSome}
 use Rattle.std.specs.Int.{w32, to_be_bytes, from_be_bytes}
@@ -54,9 +55,13 @@ tag_of_octets tci sl p q r s sci = record {
 }
 
 -- that tag is encoded by these octets
-spelled_octets : (tci sl p q r s : ℕ) (sci : Option Sci) → tci < 256 → p < 256 → q < 256 → r < 256 → s < 256 →
-    is_set v_bit tci ≡ false → is_some sci ≡ is_set sc_bit tci →
+abbrev IsSpelledBy : ℕ → ℕ → ℕ → ℕ → ℕ → ℕ → Option Sci → Type 0
+IsSpelledBy tci sl p q r s sci =
     encoding (tag_of_octets tci sl p q r s sci) ≡ 0x88 ∷ 0xe5 ∷ tci ∷ sl ∷ p ∷ q ∷ r ∷ s ∷ sci_octets sci
+
+-- a tag is encoded by them if the version bit is clear and the SC bit says whether there is an SCI
+spelled_octets : (tci sl p q r s : ℕ) (sci : Option Sci) → tci < 256 → p < 256 → q < 256 → r < 256 → s < 256 →
+    is_set v_bit tci ≡ false → is_some sci ≡ is_set sc_bit tci → IsSpelledBy tci sl p q r s sci
 spelled_octets tci sl p q r s sci htci hp hq hr hs version has_sci =
     let again = made_again_is tci htci version in
     rw (has_sci, again) (ap (λ pn. 0x88 ∷ 0xe5 ∷ tci ∷ sl ∷ (pn ++ sci_octets sci)) (four_again p q r s hp hq hr hs))
@@ -67,12 +72,17 @@ spelled_there (a0 ∷ a1 ∷ a2 ∷ a3 ∷ a4 ∷ a5 ∷ a6 ∷ a7 ∷ a8 ∷ a9
     let type = and_parts (a12 == 0x88) (a13 == 0xe5) h.ethertype in
     let e12 = eqb-true a12 0x88 type.0 in
     let e13 = eqb-true a13 0xe5 type.1 in
-    let spelled : (sci : Option Sci) → is_some sci ≡ is_set sc_bit a14 → encoding (tag_of_octets a14 a15 a16 a17 a18 a19 sci) ≡ 0x88 ∷ 0xe5 ∷ a14 ∷ a15 ∷ a16 ∷ a17 ∷ a18 ∷ a19 ∷ sci_octets sci =
-    λ sci same. spelled_octets a14 a15 a16 a17 a18 a19 sci (octets 14 0 (omega (arith, h.long))) (octets 16 0 (omega (arith, h.long))) (octets 17 0 (omega (arith, h.long))) (octets 18 0 (omega (arith, h.long))) (octets 19 0 (omega (arith, h.long))) h.version same in
+    let h14 = octets 14 0 (omega (arith, h.long)) in
+    let h16 = octets 16 0 (omega (arith, h.long)) in
+    let h17 = octets 17 0 (omega (arith, h.long)) in
+    let h18 = octets 18 0 (omega (arith, h.long)) in
+    let h19 = octets 19 0 (omega (arith, h.long)) in
+    let spelled : (sci : Option Sci) → is_some sci ≡ is_set sc_bit a14 → IsSpelledBy a14 a15 a16 a17 a18 a19 sci =
+    λ sci same. spelled_octets a14 a15 a16 a17 a18 a19 sci h14 h16 h17 h18 h19 h.version same in
     rw (e12, e13) (by_sc (is_set sc_bit a14) a14 a15 a16 a17 a18 a19 rest spelled)
   where
     by_sc : (b : Bool) (tci sl p q r s : ℕ) (rest : List ℕ) →
-        ((sci : Option Sci) → is_some sci ≡ b → encoding (tag_of_octets tci sl p q r s sci) ≡ 0x88 ∷ 0xe5 ∷ tci ∷ sl ∷ p ∷ q ∷ r ∷ s ∷ sci_octets sci) →
+        ((sci : Option Sci) → is_some sci ≡ b → IsSpelledBy tci sl p q r s sci) →
         encoding (tag_of_octets tci sl p q r s (if b then Some (record { 0 = take 8 rest }) else None)) ≡
         take (if b then 16 else 8) (0x88 ∷ 0xe5 ∷ tci ∷ sl ∷ p ∷ q ∷ r ∷ s ∷ rest)
     by_sc true tci sl p q r s rest spelled = spelled (Some (record { 0 = take 8 rest })) refl
@@ -147,7 +157,7 @@ lengths_by frame h =
 four_small : (p q r s : ℕ) → p < 256 → q < 256 → r < 256 → s < 256 → from_be_bytes w32 (p ∷ q ∷ r ∷ s ∷ []) < 2 ^ 32
 four_small p q r s hp hq hr hs = omega arith
 
--- so do those after the octet of SL
+-- the four after the octet of SL encode a number of 32 bits
 pn_small : (frame : List ℕ) → AreOctets frame → 20 ≤ length frame → from_be_bytes w32 (slice_range frame 16 20) < 2 ^ 32
 pn_small (a0 ∷ a1 ∷ a2 ∷ a3 ∷ a4 ∷ a5 ∷ a6 ∷ a7 ∷ a8 ∷ a9 ∷ a10 ∷ a11 ∷ a12 ∷ a13 ∷ a14 ∷ a15 ∷ a16 ∷ a17 ∷ a18 ∷ a19 ∷ rest) octets long =
     four_small a16 a17 a18 a19 (octets 16 0 (omega (arith, long))) (octets 17 0 (omega (arith, long))) (octets 18 0 (omega (arith, long))) (octets 19 0 (omega (arith, long)))
@@ -185,9 +195,22 @@ tagged_by frame octets h =
 
 -- ---- the parts that the code cuts
 
--- the tag at its position with a packet number and an SCI that are those there
+-- the tag at its position, with another packet number and SCI
+abbrev tag_with : List ℕ → ℕ → Option Sci → Tag
+tag_with frame pn sci = record {
+  es = has_bit es_bit frame;
+  scb = has_bit scb_bit frame;
+  e = has_bit e_bit frame;
+  c = has_bit c_bit frame;
+  an = bit_and (slice_index frame 14) 3;
+  sl = slice_index frame 15;
+  pn = pn;
+  sci = sci;
+}
+
+-- if both are those at its position, this is the tag there
 pub tag_cut : (frame : List ℕ) (pn : ℕ) (sci : Option Sci) → pn ≡ (sec_tag_at frame).pn → sci ≡ (sec_tag_at frame).sci →
-    record { es = has_bit es_bit frame; scb = has_bit scb_bit frame; e = has_bit e_bit frame; c = has_bit c_bit frame; an = bit_and (slice_index frame 14) 3; sl = slice_index frame 15; pn = pn; sci = sci } ≡ sec_tag_at frame
+    tag_with frame pn sci ≡ sec_tag_at frame
 tag_cut frame pn sci e_pn e_sci = rw (e_pn, e_sci) refl
 
 -- the addresses cut from the first twelve octets

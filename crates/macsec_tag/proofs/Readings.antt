@@ -110,7 +110,8 @@ pub reads_short : (frame : List ℕ) → length frame < 14 → bad Cut ≡ readi
 reads_short frame short = rw (lt-ltb (length frame) 14 short) refl
 
 -- a frame with the EtherType reads as its first fault, or as tagged
-pub reads_with : (frame : List ℕ) → 14 ≤ length frame → has_macsec_ethertype frame ≡ true → (found : Option TagFault) → found ≡ tag_fault frame → reading_with frame found ≡ reading frame
+pub reads_with : (frame : List ℕ) → 14 ≤ length frame → has_macsec_ethertype frame ≡ true →
+    (found : Option TagFault) → found ≡ tag_fault frame → reading_with frame found ≡ reading frame
 reads_with frame long ethertype found same = rw (le-ltb (length frame) 14 long, ethertype) (ap (reading_with frame) same)
 
 -- ---- by the grammar
@@ -144,7 +145,7 @@ reads_by_grammar frame octets = record {
   is_untagged = reads_untagged frame;
 }
 
--- so does an answer that is the table's
+-- an answer that is the table's has the parts exactly when the grammar has them
 pub answered_tagged_by : (frame : List ℕ) (answer : Reading) → AreOctets frame → answer ≡ reading frame → (p : MpduParts) → (answer ≡ tagged p) ↔ IsTagged frame p
 answered_tagged_by frame answer octets same p =
     let law = (reads_by_grammar frame octets).is_tagged p in

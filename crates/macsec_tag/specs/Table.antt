@@ -1,5 +1,6 @@
 -- How a frame reads, by the positions of its octets: its parts, or the first of its faults.
-use Rattle.std.specs.Prelude.{ℕ, ◌+◌, ◌-◌, List, length, take, drop, Bool, not, ◌&&◌, ◌||◌, ◌==◌, nat_lt, nat_le, if◌then◌else◌, Option, Some, None, bit_and, slice_index, slice_range}
+use Rattle.std.specs.Prelude.{ℕ, ◌+◌, ◌-◌, List, length, take, drop, Bool, not, ◌&&◌, ◌||◌, ◌==◌, nat_lt, nat_le}
+use Rattle.std.specs.Prelude.{if◌then◌else◌, Option, Some, None, bit_and, slice_index, slice_range}
 use Rattle.std.specs.Int.{w32, from_be_bytes}
 use Rattle.macsec_tag.specs.declared.fault.TagFault.{TagFault}
 use Rattle.macsec_tag.specs.declared.fault.TagFault.TheVariants.{Cut, Version, SciBits, ShortBits, Length}

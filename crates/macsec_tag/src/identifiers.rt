@@ -8,6 +8,9 @@ use std::marker::Model;
 #[derive(Clone, Copy, PartialEq, Eq, Debug, Default)]
 pub struct Sci(pub [u8; 8]);
 
+/// How many association numbers there are, and so the most associations of a channel (9.6).
+pub const ASSOCIATION_COUNT: usize = 4;
+
 /// An association number, 0 to 3 (9.6).
 #[derive(Clone, Copy, PartialEq, Eq, Debug, Default)]
 pub struct An(pub(crate) u8);
@@ -28,7 +31,11 @@ impl An {
         ensures valid { IsSome result ↔ (n < 4) }
         ensures value { IfSome result (λ an. an ≡ n) }
     {
-        if n < 4 { Some(An(n)) } else { None }
+        if usize::from(n) < ASSOCIATION_COUNT {
+            Some(An(n))
+        } else {
+            None
+        }
     }
 
     /// The number, 0 to 3.

@@ -22,7 +22,7 @@ mod sec_tag;
 mod writing;
 
 pub use fault::TagFault;
-pub use identifiers::{An, Sci};
+pub use identifiers::{ASSOCIATION_COUNT, An, Sci};
 pub use mpdu::{Mpdu, Read};
 pub use places::{ADDRESSES_LENGTH, ICV_LENGTH, MAX_FRAME_LEN, MIN_FRAME_LEN};
 pub use sec_tag::SecTag;

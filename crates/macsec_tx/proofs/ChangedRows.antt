@@ -18,7 +18,8 @@ tx_row-map_none f same (row ∷ rows) an free =
     rw (same row, parts.0) (tx_row-map_none f same rows an parts.1)
 
 -- a change that keeps the numbers keeps what holds of the rows
-pub AreTxRows-map : (f : TxRow → TxRow) → ((row : TxRow) → (f row).an ≡ row.an) → ((row : TxRow) → IsTxRow row → IsTxRow (f row)) → (rows : List TxRow) → AreTxRows rows → AreTxRows (map f rows)
+pub AreTxRows-map : (f : TxRow → TxRow) → ((row : TxRow) → (f row).an ≡ row.an) → ((row : TxRow) → IsTxRow row → IsTxRow (f row)) →
+    (rows : List TxRow) → AreTxRows rows → AreTxRows (map f rows)
 AreTxRows-map f same good [] h = tt
 AreTxRows-map f same good (row ∷ rows) h =
     (good row h.0, ap (λ an. tx_row (map f rows) an) (same row) ∙ tx_row-map_none f same rows row.an h.1, AreTxRows-map f same good rows h.2)
@@ -51,7 +52,7 @@ AreTxRows-refill old new same h = rw (take_at new (drop (length new) old) (lengt
 pub IsTxRow-switch_to : (an : ℕ) (row : TxRow) → IsTxRow row → IsTxRow (switch_to an row)
 IsTxRow-switch_to an row h = record { an = h.an; key = h.key; next_least = h.next_least; next = h.next }
 
--- and so is one that is disabled, where it has the number
+-- one that is disabled where it has the number is still one
 pub IsTxRow-off_at : (an : ℕ) (row : TxRow) → IsTxRow row → IsTxRow (off_at an row)
 IsTxRow-off_at an row h = by_test (row.an == an)
   where
@@ -67,7 +68,7 @@ an-off_at an row = by_test (row.an == an)
     by_test true = refl
     by_test false = refl
 
--- and when it uses a packet number
+-- an association keeps its number when it uses a packet number
 an-used_at : (an : ℕ) (row : TxRow) → (used_at an row).an ≡ row.an
 an-used_at an row = by_test (row.an == an)
   where

@@ -28,7 +28,7 @@ no_es form.Sci many sci sa there = refl
 no_es form.Es many sci sa there = none_there (is_own sci sa) sci there
 no_es form.Scb many sci sa there = refl
 
--- nor does SCB
+-- SCB is not set if there is an SCI
 no_scb : (f : TagForm) (many : Bool) (sci : Sci) (sa : List ℕ) → IsSome (sci_sent f many sci sa) → scb_sent f sci sa ≡ false
 no_scb form.Auto many sci sa there = refl
 no_scb form.Sci many sci sa there = refl

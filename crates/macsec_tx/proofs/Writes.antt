@@ -15,7 +15,7 @@ take-put_mid_front a k xs front rest le =
     ∙ ap (λ (ys : List ℕ). before ++ take (length front) ys) (append_assoc front rest after)
     ∙ ap (λ (ys : List ℕ). before ++ ys) (take-append_seam front (rest ++ after))
 
--- and the whole is as long at least
+-- the whole has at least as many octets as are in front and the part that is put behind them
 pub length-put_mid_front : (a k : ℕ) (xs front rest : List ℕ) → a ≤ length xs
     → a + length front ≤ length (put_mid a k xs (front ++ rest))
 length-put_mid_front a k xs front rest le =

@@ -10,14 +10,14 @@ ghost use Rattle.macsec_tx.specs.Commands.{HaveKeys, off_at, switch_to, tx_off_r
 use crate::TxRow;
 use arrayvec::ArrayVec;
 use macsec_suite::{KeyNumber, KeyTable, Refusal};
-use macsec_tag::An;
+use macsec_tag::{ASSOCIATION_COUNT, An};
 use std::marker::Model;
 
 /// The transmit channel: up to four associations with different numbers. Contracts see it as the list of them, in the
 /// order of their creation.
 #[derive(Drop)]
 pub struct TxChannel {
-    rows: ArrayVec<TxRow, 4>,
+    rows: ArrayVec<TxRow, ASSOCIATION_COUNT>,
 }
 
 impl Model for TxChannel {

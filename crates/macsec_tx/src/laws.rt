@@ -15,7 +15,7 @@ use macsec_tag::laws::read_again;
 pub fn read_as_sent()
     ensures { (options : TxOptions) (key : InstalledKey) (row : TxRow) (frame : List ℕ) → CanBeSent options row frame → IsReadAsSent options key row frame }
 {
-    // Laws that the proof cites.
+    // Laws that the proof cites; the calls do nothing.
     read_again();
     sealed_lengths();
 }

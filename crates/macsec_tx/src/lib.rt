@@ -32,7 +32,7 @@ pub struct TxOptions {
     pub sci: Sci,
     /// The most octets of a frame that is sent.
     pub max_frame: u32,
-    /// Is there more than one receive channel?
+    /// Are there many receive channels: more than one? Then the form `Auto` sends the SCI.
     pub many: bool,
 }
 

@@ -5,8 +5,28 @@ use std::alloc::Global;
 use std::test::Fail;
 
 /// What an endpoint with a receive channel shows of its counters before it has sent or received a frame.
-const TEXT: &str =
-    "end InPktsUntagged 0\nend InPktsNoTag 0\nend InPktsBadTag 0\nend InPktsReserved 0\nend InPktsNoSA 0\nend InPktsNoSAError 0\nend InOctetsValidated 0\nend InOctetsDecrypted 0\nend OutPktsUntagged 0\nend OutPktsTooLong 0\nend OutPktsNoSA 0\nend OutPktsProtected 0\nend OutPktsEncrypted 0\nend OutOctetsProtected 0\nend OutOctetsEncrypted 0\nend 0000000000000002 InPktsOK 0\nend 0000000000000002 InPktsUnchecked 0\nend 0000000000000002 InPktsDelayed 0\nend 0000000000000002 InPktsLate 0\nend 0000000000000002 InPktsInvalid 0\nend 0000000000000002 InPktsNotValid 0\n";
+const TEXT: &str = "end InPktsUntagged 0
+end InPktsNoTag 0
+end InPktsBadTag 0
+end InPktsReserved 0
+end InPktsNoSA 0
+end InPktsNoSAError 0
+end InOctetsValidated 0
+end InOctetsDecrypted 0
+end OutPktsUntagged 0
+end OutPktsTooLong 0
+end OutPktsNoSA 0
+end OutPktsProtected 0
+end OutPktsEncrypted 0
+end OutOctetsProtected 0
+end OutOctetsEncrypted 0
+end 0000000000000002 InPktsOK 0
+end 0000000000000002 InPktsUnchecked 0
+end 0000000000000002 InPktsDelayed 0
+end 0000000000000002 InPktsLate 0
+end 0000000000000002 InPktsInvalid 0
+end 0000000000000002 InPktsNotValid 0
+";
 
 /// An endpoint with a receive channel.
 fn endpoint(alloc: Global) -> Result<Secy, Fail> {

@@ -1,3 +1,4 @@
+-- The tag forms that do not fit are those of the definition: one goal for each test of the port's two octets.
 -- By these tactics alone: without these proofs the prover tries others before them, which takes longer, and on a
 -- mutant it tries all.
 use Rattle.std.proofs.Common.{arith}

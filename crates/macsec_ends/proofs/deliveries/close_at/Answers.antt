@@ -1,3 +1,5 @@
+-- Once the logs at the places that are left are closed where they are the association's, all are (the invariant); at
+-- first these are all places of the table.
 use Rattle.std.proofs.Common.{◌∙◌, ℕ, List, ap, arith, get_or, length-set, map, refl}
 use Rattle.macsec_ends.specs.Logs.{is_live_at, log_closing}
 use Rattle.macsec_ends.specs.Places.{logs_of}
@@ -16,8 +18,13 @@ index_mut-requires c =
     omega (arith, all_within c.args.logs.now.items c.args.live.now c.requires.live c.loop-place.place-index 0 c.loop-place-test.true, c.loop-place.invariant.1)
 
 pub loop-place-preserved : goal.loop-place-preserved
-loop-place-preserved c = (
-  next_changed (log_closing (is_live_at c.args.sci c.args.an)) c.loop-place.logs.items c.args.live.now c.loop-place.place-index c.index_mut.result.now c.close_at.new.self
-      (map (log_closing (is_live_at c.args.sci c.args.an)) (logs_of c.args.logs.now.items)) c.loop-place-test.true c.index_mut.ensures.value c.close_at.ensures c.loop-place.invariant.0,
-  length-set c.loop-place.logs.items (get_or c.args.live.now c.loop-place.place-index 0) c.close_at.new.self ∙ c.loop-place.invariant.1,
-)
+loop-place-preserved c =
+    let change = log_closing (is_live_at c.args.sci c.args.an) in
+    let closed = map change (logs_of c.args.logs.now.items) in
+    let logs = c.loop-place.logs.items in
+    let place = c.loop-place.place-index in
+    let old = c.index_mut in
+    let new = c.close_at in (
+      next_changed change logs c.args.live.now place old.result.now new.new.self closed c.loop-place-test.true old.ensures.value new.ensures c.loop-place.invariant.0,
+      length-set logs (get_or c.args.live.now place 0) new.new.self ∙ c.loop-place.invariant.1,
+    )

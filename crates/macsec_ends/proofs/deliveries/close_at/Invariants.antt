@@ -7,5 +7,6 @@ use Rattle.macsec_ends.proofs.deliveries.close_at.Given as goal
 -- once the logs at the places that are left are closed where that holds, all are
 abbrev pub invariant-loop-place : goal.invariant-loop-place
 invariant-loop-place l =
-    (with_each (log_closing (is_live_at l.sci l.an)) (drop l.place-index l.live) (logs_of l.logs.items) ≡ map (log_closing (is_live_at l.sci l.an)) (logs_of l.initial.logs.items)) ×
+    let change = log_closing (is_live_at l.sci l.an) in
+    (with_each change (drop l.place-index l.live) (logs_of l.logs.items) ≡ map change (logs_of l.initial.logs.items)) ×
     (length l.logs.items ≡ length l.initial.logs.items)

@@ -1,3 +1,5 @@
+-- Once the logs at the places that are left are closed where they are of the channel, all are (the invariant); at first
+-- these are all places of the table.
 use Rattle.std.proofs.Common.{◌∙◌, ℕ, List, ap, arith, get_or, length-set, map, refl}
 use Rattle.macsec_rx.specs.Channels.{same_sci}
 use Rattle.macsec_ends.specs.Logs.{log_closing}
@@ -17,8 +19,13 @@ index_mut-requires c =
     omega (arith, all_within c.args.logs.now.items c.args.live.now c.requires.live c.loop-place.place-index 0 c.loop-place-test.true, c.loop-place.invariant.1)
 
 pub loop-place-preserved : goal.loop-place-preserved
-loop-place-preserved c = (
-  next_changed (log_closing (λ log. same_sci log.sci c.args.sci)) c.loop-place.logs.items c.args.live.now c.loop-place.place-index c.index_mut.result.now c.close_in.new.self
-      (map (log_closing (λ log. same_sci log.sci c.args.sci)) (logs_of c.args.logs.now.items)) c.loop-place-test.true c.index_mut.ensures.value c.close_in.ensures c.loop-place.invariant.0,
-  length-set c.loop-place.logs.items (get_or c.args.live.now c.loop-place.place-index 0) c.close_in.new.self ∙ c.loop-place.invariant.1,
-)
+loop-place-preserved c =
+    let change = log_closing (λ log. same_sci log.sci c.args.sci) in
+    let closed = map change (logs_of c.args.logs.now.items) in
+    let logs = c.loop-place.logs.items in
+    let place = c.loop-place.place-index in
+    let old = c.index_mut in
+    let new = c.close_in in (
+      next_changed change logs c.args.live.now place old.result.now new.new.self closed c.loop-place-test.true old.ensures.value new.ensures c.loop-place.invariant.0,
+      length-set logs (get_or c.args.live.now place 0) new.new.self ∙ c.loop-place.invariant.1,
+    )

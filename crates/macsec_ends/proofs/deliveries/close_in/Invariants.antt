@@ -8,5 +8,6 @@ use Rattle.macsec_ends.proofs.deliveries.close_in.Given as goal
 -- once the logs at the places that are left are closed where that holds, all are
 abbrev pub invariant-loop-place : goal.invariant-loop-place
 invariant-loop-place l =
-    (with_each (log_closing (λ log. same_sci log.sci l.sci)) (drop l.place-index l.live) (logs_of l.logs.items) ≡ map (log_closing (λ log. same_sci log.sci l.sci)) (logs_of l.initial.logs.items)) ×
+    let change = log_closing (λ log. same_sci log.sci l.sci) in
+    (with_each change (drop l.place-index l.live) (logs_of l.logs.items) ≡ map change (logs_of l.initial.logs.items)) ×
     (length l.logs.items ≡ length l.initial.logs.items)

@@ -1,3 +1,4 @@
+-- By whether the frame is of an association.
 use Rattle.std.proofs.Common.{rules}
 use Rattle.macsec_ends.proofs.deliveries.push_delivered.Goals as goal
 

@@ -3,4 +3,4 @@ use Rattle.macsec_lines.proofs.LinesLeft.{IsOnTheWay}
 use Rattle.macsec_lines.proofs.script.parse_lines.Given as goal
 
 abbrev pub invariant-loop-i : goal.invariant-loop-i
-invariant-loop-i l = IsOnTheWay l.fn.first l.said.items l.place l.i (map (λ line. line.now) l.lines)
+invariant-loop-i l = IsOnTheWay l.fn.first l.parsed.items l.place l.i (map (λ line. line.now) l.lines)

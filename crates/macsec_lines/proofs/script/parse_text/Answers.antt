@@ -1,3 +1,4 @@
+-- A text that is not too long has its lines parsed, from the first place on.
 use Rattle.std.proofs.Common.{arith, rules}
 use Rattle.std.proofs.lemmas.Grind.{common_steps}
 use Rattle.macsec_lines.proofs.script.parse_text.Goals as goal

@@ -12,7 +12,8 @@ returns c =
     elim c.match-last.branch [
       | in-Some+then-is_empty w ↦
           rw (w.lines-is, w.pop.ensures.rest)
-          (without_last pieces text w.in-Some.last.now c.in_ok-lines.lines.len (omega (arith, c.in_ok-lines.lines.ok.0)) c.in_ok-lines.ensures (sym last ∙ ap option_copied w.in-Some.is) (sym w.is_empty.ensures ∙ w.if-is_empty.true))
+          (without_last pieces text w.in-Some.last.now c.in_ok-lines.lines.len (omega (arith, c.in_ok-lines.lines.ok.0))
+          c.in_ok-lines.ensures (sym last ∙ ap option_copied w.in-Some.is) (sym w.is_empty.ensures ∙ w.if-is_empty.true))
       | in-Some+else-is_empty w ↦
           rw w.lines-is
           (with_last pieces text w.in-Some.last.now c.in_ok-lines.ensures (sym last ∙ ap option_copied w.in-Some.is) (sym w.is_empty.ensures ∙ w.if-is_empty.false))

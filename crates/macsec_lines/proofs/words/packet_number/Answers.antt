@@ -1,3 +1,4 @@
+-- Up to 16 hex digits are below 2^64, so no step overflows.
 use Rattle.std.proofs.Common.{rules, arith}
 use Rattle.macsec_lines.proofs.HexDigits.{digit_more}
 use Rattle.macsec_lines.proofs.words.packet_number.Goals as goal

@@ -1,3 +1,4 @@
+-- By the word, in the order of the code: each test that failed is rewritten in the definition, which tests the same.
 use Rattle.std.proofs.Common.{sym, ◌∙◌}
 use Rattle.macsec_lines.proofs.words.switch.Goals as goal
 

@@ -1,3 +1,4 @@
+-- By the word, in the order of the code: each test that failed is rewritten in the definition, which tests the same.
 use Rattle.std.proofs.Common.{sym, ◌∙◌}
 use Rattle.macsec_lines.proofs.words.tag_form.Goals as goal
 
@@ -14,8 +15,16 @@ returns-then-is_word-3 c =
 
 pub returns-then-is_word-4 : goal.returns-then-is_word-4
 returns-then-is_word-4 c =
-    rw (sym c.is_word.ensures ∙ c.if-is_word.false, sym c.is_word-2.ensures ∙ c.if-is_word-2.false, sym c.is_word-3.ensures ∙ c.if-is_word-3.false, sym c.is_word-4.ensures ∙ c.if-is_word-4.true)
+    let first = sym c.is_word.ensures ∙ c.if-is_word.false in
+    let second = sym c.is_word-2.ensures ∙ c.if-is_word-2.false in
+    let third = sym c.is_word-3.ensures ∙ c.if-is_word-3.false in
+    let fourth = sym c.is_word-4.ensures ∙ c.if-is_word-4.true in
+    rw (first, second, third, fourth)
 
 pub returns : goal.returns
 returns c =
-    rw (sym c.is_word.ensures ∙ c.if-is_word.false, sym c.is_word-2.ensures ∙ c.if-is_word-2.false, sym c.is_word-3.ensures ∙ c.if-is_word-3.false, sym c.is_word-4.ensures ∙ c.if-is_word-4.false)
+    let first = sym c.is_word.ensures ∙ c.if-is_word.false in
+    let second = sym c.is_word-2.ensures ∙ c.if-is_word-2.false in
+    let third = sym c.is_word-3.ensures ∙ c.if-is_word-3.false in
+    let fourth = sym c.is_word-4.ensures ∙ c.if-is_word-4.false in
+    rw (first, second, third, fourth)

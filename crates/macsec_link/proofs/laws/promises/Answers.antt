@@ -6,7 +6,15 @@ use Rattle.macsec_link.proofs.laws.promises.Goals as goal
 
 pub returns : goal.returns
 returns c a b events sound =
-    let laws : EndpointLaws = record { equal_ivs = c.equal_ivs.ensures; keys_apart = c.keys_stay.ensures.apart; keys_stay = c.keys_stay.ensures.stay; rx_rows_apart = c.rx_rows_stay.ensures.apart; rx_rows_stay = c.rx_rows_stay.ensures.stay; protects = c.protects_frames.ensures; delivers = c.delivers_in_time.ensures } in
+    let laws : EndpointLaws = record {
+      equal_ivs = c.equal_ivs.ensures;
+      keys_apart = c.keys_stay.ensures.apart;
+      keys_stay = c.keys_stay.ensures.stay;
+      rx_rows_apart = c.rx_rows_stay.ensures.apart;
+      rx_rows_stay = c.rx_rows_stay.ensures.stay;
+      protects = c.protects_frames.ensures;
+      delivers = c.delivers_in_time.ensures;
+    } in
     record {
       unique_ivs = ivs_differ laws a b events sound;
       seals = seals_frames laws c.reads_by_grammar.ensures a b events sound;

@@ -14,4 +14,5 @@ pub returns : goal.returns
 returns g c =
     let front = Appends-trans _ _ _ _ _ c.in_ok-write.ensures.bytes c.in_ok-write_hex.ensures in
     rw c.in-Some.is
-    (end_of_text c.writeln.result _ _ _ _ _ _ front c.writeln.ensures.bytes (rw (c.number-an.ensures.value, c.number-key.ensures.value, c.state_text-state.ensures) (joined _ _ _ _ _ _ _)))
+    (end_of_text c.writeln.result _ _ _ _ _ _ front c.writeln.ensures.bytes
+    (rw (c.number-an.ensures.value, c.number-key.ensures.value, c.state_text-state.ensures) (joined _ _ _ _ _ _ _)))

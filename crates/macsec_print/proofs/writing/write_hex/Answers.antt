@@ -1,3 +1,4 @@
+-- Octet after octet, two digits each.
 use Rattle.std.proofs.Common.{arith}
 use Rattle.std.proofs.KnownBytes.{Appends-nil}
 use Rattle.hex.specs.Hex.{encode_with}

@@ -1,3 +1,5 @@
+-- The octets of the SCI are those of the address and of the port: its first octet is 0, and its last is the port.
+-- By the contract of the copy, and by where the last octet is set (`set-append_right`).
 use Rattle.std.proofs.Common.{◌++◌, ◌∷◌, [], List, ℕ, set, ap, ◌∙◌, arith}
 use Rattle.std.proofs.lemmas.List.{set-append_right}
 use Rattle.macsec_tag.specs.declared.identifiers.Sci.{Sci}
@@ -10,4 +12,5 @@ pub returns : goal.returns
 unfolding as_sci
 returns c =
     let address : List ℕ = c.args.address.now in
-    ap as_sci (ap (λ (xs : List ℕ). set (xs ++ 0 ∷ 0 ∷ []) 7 c.args.port) c.copy_from_slice.ensures.after ∙ set-append_right address (0 ∷ 0 ∷ []) 6 7 c.args.port c.requires (omega arith))
+    let copied = ap (λ (xs : List ℕ). set (xs ++ 0 ∷ 0 ∷ []) 7 c.args.port) c.copy_from_slice.ensures.after in
+    ap as_sci (copied ∙ set-append_right address (0 ∷ 0 ∷ []) 6 7 c.args.port c.requires (omega arith))

@@ -1,6 +1,6 @@
 -- What is delivered is the plaintext of the definition if the ICV is valid, and else nothing.
 -- By the lemmas that opening by position is opening by parts (`Opened`).
-use Rattle.std.proofs.Common.{◌≡◌, ◌+◌, length, drop, ap, sym, ◌∙◌}
+use Rattle.std.proofs.Common.{◌≡◌, ℕ, ◌+◌, length, drop, ap, sym, ◌∙◌}
 use Rattle.std.specs.Prelude.{Some, None}
 use Rattle.macsec_suite.specs.InPlace.{validated_octets}
 use Rattle.macsec_rx.specs.Delivered.{received_octets}
@@ -11,8 +11,9 @@ pub returns-then-validate_in_place-clause-octets :
     goal.returns-then-validate_in_place-clause-octets
 returns-then-validate_in_place-clause-octets c =
     let p = c.args.mpdu.now in
+    let end : ℕ = data_place p + length p.secure_data in
     let laws : LowerLaws = record { parts = c.parts_in_place.ensures; undoes = c.open_undoes_seal.ensures; lengths = c.sealed_lengths.ensures } in
-    let genuine : validated_octets c.args.key.now c.args.iv.now p.tag.e (data_place p) (data_place p + length p.secure_data) (received_octets p) ≡ Some c.validate_in_place.new.frame =
+    let genuine : validated_octets c.args.key.now c.args.iv.now p.tag.e (data_place p) end (received_octets p) ≡ Some c.validate_in_place.new.frame =
     rw (c.e.ensures, c.length.ensures.length, c.secure_data-data_length.ensures, c.lay_out-end.ensures.octets, c.tag-tag.ensures) at c.if-validate_in_place.ensures.genuine in
     ap Some c.deliver.ensures.octets
     ∙ sym (opened laws c.args.key.now c.args.iv.now p c.validate_in_place.new.frame (drop c.lay_out-end.result c.lay_out-end.new.out) c.lay_out-end.ensures.lengths genuine)
@@ -21,7 +22,8 @@ pub returns-else-validate_in_place-clause-octets :
     goal.returns-else-validate_in_place-clause-octets
 returns-else-validate_in_place-clause-octets c =
     let p = c.args.mpdu.now in
+    let end : ℕ = data_place p + length p.secure_data in
     let laws : LowerLaws = record { parts = c.parts_in_place.ensures; undoes = c.open_undoes_seal.ensures; lengths = c.sealed_lengths.ensures } in
-    let false_frame : validated_octets c.args.key.now c.args.iv.now p.tag.e (data_place p) (data_place p + length p.secure_data) (received_octets p) ≡ None =
+    let false_frame : validated_octets c.args.key.now c.args.iv.now p.tag.e (data_place p) end (received_octets p) ≡ None =
     rw (c.e.ensures, c.length.ensures.length, c.secure_data-data_length.ensures, c.lay_out-end.ensures.octets, c.tag-tag.ensures) at c.if-validate_in_place.ensures.false_frame in
     sym (refused laws c.args.key.now c.args.iv.now p c.lay_out-end.ensures.lengths false_frame)

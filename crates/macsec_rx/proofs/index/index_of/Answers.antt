@@ -25,8 +25,9 @@ loop-place-preserved c =
     let there : slice_get rows i ≡ Some row = slice_get_read rows _ i row refl (omega arith) c.index-rows-place.is in
     let is : IsRxRow scis row = IsRxRow-at scis rows i row c.requires.rows there in
     let many : length (take i rows) ≡ i = length-take-le i rows (omega arith) in
+    let free = free_before scis rows i row c.requires.rows there in
     let joined : IsIndex scis (take i rows ++ row ∷ []) (set c.loop-place.places (slot scis row.sci row.an) (length (take i rows))) =
-    IsIndex-push scis (take i rows) c.loop-place.places row c.loop-place.invariant (omega (arith, many)) c.requires.channels is (free_before scis rows i row c.requires.rows there) in
+    IsIndex-push scis (take i rows) c.loop-place.places row c.loop-place.invariant (omega (arith, many)) c.requires.channels is free in
     let channel : c.unwrap-channel.result ≡ channel_place scis row.sci = rw c.unwrap-channel.ensures at c.channel_place.ensures.place in
     let here : slot scis row.sci row.an ≡ c.slot.result = omega (arith, channel, c.slot.ensures.slot) in
     let one_more : take i rows ++ row ∷ [] ≡ take (i + 1) rows = sym (take_more rows i row (omega arith) ∙ ap (λ r. take i rows ++ r ∷ []) (sym c.index-rows-place.is)) in

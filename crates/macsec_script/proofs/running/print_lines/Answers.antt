@@ -1,3 +1,5 @@
+-- Line after line: what was written for the lines before the index, and the world then. A failure leaves what was written
+-- before it, and the law `worlds_are_sound` goes on with each step.
 use Rattle.std.proofs.Common.{List, arith, subst}
 use Rattle.std.proofs.lemmas.List.{take_all}
 use Rattle.std.proofs.lemmas.Result.{err_from_is_err_and}

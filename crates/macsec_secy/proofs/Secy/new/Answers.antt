@@ -1,3 +1,5 @@
+-- A new endpoint is in the machine's start, which is sound for a configuration without a fault (`at_start`): its tables and
+-- counters are those of their own `new` and `zero`.
 use Rattle.std.proofs.Common.{◌≡◌, rules, subst}
 use Rattle.std.specs.Prelude.{None}
 use Rattle.macsec_rx.specs.Rows.{AreChannels}
@@ -10,8 +12,9 @@ pub invariant_of-result : goal.invariant_of-result
 invariant_of-result c =
     let good : config_fault c.args.config ≡ None = search rules in
     let tables : TablesHold (start c.args.config) = record { keys = tt; tx = tt; rx = subst AreChannels c.new-3.ensures.none c.new-3.ensures.channels } in
+    let begun = at_start c.args.config good c.fault.ensures.sci tables in
     record {
-      sound = rw (c.new-2.ensures, c.new-3.ensures.none, c.new-4.ensures, c.zero.ensures, c.zero-2.ensures, c.in-Ok.ensures) (at_start c.args.config good c.fault.ensures.sci tables);
+      sound = rw (c.new-2.ensures, c.new-3.ensures.none, c.new-4.ensures, c.zero.ensures, c.zero-2.ensures, c.in-Ok.ensures) begun;
       room = search rules;
     }
 

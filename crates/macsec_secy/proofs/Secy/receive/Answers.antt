@@ -1,3 +1,5 @@
+-- A link frame, by how it reads: in each arm what the endpoint holds is the state after the step, which is sound, and what
+-- it returns is the step's output. The sum of its counters is a law of the machine (`FramesCounted`).
 use Rattle.std.proofs.Common.{◌≡◌, ◌∙◌, ℕ, List, ap, length, map, refl, rules, subst, sym}
 use Rattle.std.specs.Prelude.{None, option_map}
 use Rattle.macsec_tag.specs.Table.{reading, tagged}
@@ -20,7 +22,7 @@ use Rattle.macsec_secy.proofs.Secy.receive.Goals as goal
 sound_after : (before now : State) (frame : List ℕ) → before ≡ now → IsSound before → TablesHold (step before (link_frame frame)).1 → IsSound (step now (link_frame frame)).1
 sound_after before now frame same sound tables = subst (λ s. IsSound (step s (link_frame frame)).1) same (after_link_frame before frame tables sound)
 
--- and the sum of its counters
+-- what holds of the sum of its counters
 sum_after : (before now : State) (frame : List ℕ) → before ≡ now → IsSound before → AddsFrames now (link_frame frame)
 sum_after before now frame same sound = subst (λ s. AddsFrames s (link_frame frame)) same (link_frame_adds before frame sound)
 
@@ -35,8 +37,10 @@ invariant_of-self-in-Tagged c =
     let counted = counted_again s.inside.rx_counters.items c.as_mut_slice-in-Tagged.result.now c.count_at_row.new.rows c.judge-judged.result.verdict c.judge-judged.result.row
     c.as_mut_slice-in-Tagged.ensures.value c.count_at_row.ensures in
     let distinct : AreScis (map sci_of_counters s.inside.rx_counters.items) = rw s.invariant.sound.channels s.invariant.sound.rx.scis in
-    let left = left_by_parts (the_view s.inside) c.args.frame.now c.in-Tagged.mpdu reads fits distinct c.rx_options-options.result c.judge-judged.result.verdict c.judge-judged.result.row
-    c.judge-judged.new.self c.count_tagged.new.self _ c.rx_options-options.ensures shows.verdict shows.row c.judge-judged.ensures.numbers counters counted in
+    let judged = c.judge-judged in
+    let options = c.rx_options-options.ensures in
+    let left = left_by_parts (the_view s.inside) c.args.frame.now c.in-Tagged.mpdu reads fits distinct c.rx_options-options.result
+    judged.result.verdict judged.result.row judged.new.self c.count_tagged.new.self _ options shows.verdict shows.row judged.ensures.numbers counters counted in
     let tables = subst TablesHold left (record { keys = s.invariant.sound.keys; tx = s.invariant.sound.tx; rx = c.judge-judged.ensures.channels }) in
     record { sound = subst IsSound (sym left) (after_link_frame (the_view s.inside) c.args.frame.now tables s.invariant.sound); room = s.invariant.room }
 
@@ -69,8 +73,9 @@ returns-in-Tagged c =
     let counted = counted_again s.inside.rx_counters.items c.as_mut_slice-in-Tagged.result.now c.count_at_row.new.rows c.judge-judged.result.verdict c.judge-judged.result.row
     c.as_mut_slice-in-Tagged.ensures.value c.count_at_row.ensures in
     let distinct : AreScis (map sci_of_counters s.inside.rx_counters.items) = rw s.invariant.sound.channels s.invariant.sound.rx.scis in
-    let left = left_by_parts (the_view s.inside) c.args.frame.now c.in-Tagged.mpdu reads fits distinct c.rx_options-options.result c.judge-judged.result.verdict c.judge-judged.result.row
-    c.judge-judged.new.self c.count_tagged.new.self _ options shows.verdict shows.row c.judge-judged.ensures.numbers counters counted in
+    let judged = c.judge-judged in
+    let left = left_by_parts (the_view s.inside) c.args.frame.now c.in-Tagged.mpdu reads fits distinct c.rx_options-options.result
+    judged.result.verdict judged.result.row judged.new.self c.count_tagged.new.self _ options shows.verdict shows.row judged.ensures.numbers counters counted in
     let tables = subst TablesHold left (record { keys = s.invariant.sound.keys; tx = s.invariant.sound.tx; rx = c.judge-judged.ensures.channels }) in (
       (refl, λ x. tt, left ∙ ap (λ t. (step t (link_frame c.args.frame.now)).1) s.view_is),
       record {

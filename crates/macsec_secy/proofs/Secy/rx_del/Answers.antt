@@ -1,3 +1,5 @@
+-- The state after the command is that of the definition, and sound: the channels by the contract of `RxChannels::rx_del`,
+-- their counters by that of `remove_association`, whose slice is put back (`changed_again`), the rest by `after_effect`.
 use Rattle.std.proofs.Common.{◌≡◌, ◌∙◌, ap, map, length, subst, sym}
 use Rattle.std.specs.List.{refill}
 use Rattle.macsec_rx.specs.Rows.{AreChannels}
@@ -21,8 +23,9 @@ invariant_of-self-2 c =
     let s = c.self in
     let sound = s.invariant.sound in
     let done = c.in_ok-rx_del.ensures in
+    let counters = counters_left (goal.at.invariant_of-self-2 c).After-remove_association in
     record {
-      sound = rw (done.done, counters_left (goal.at.invariant_of-self-2 c).After-remove_association) (after_effect (the_view s.inside) (by.RxDel c.args.sci c.args.an) (sym done.refusal)
+      sound = rw (done.done, counters) (after_effect (the_view s.inside) (by.RxDel c.args.sci c.args.an) (sym done.refusal)
           (record { keys = sound.keys; tx = sound.tx; rx = subst AreChannels done.done done.channels }) sound);
       room = s.invariant.room;
     }

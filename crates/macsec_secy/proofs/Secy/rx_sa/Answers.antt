@@ -1,3 +1,5 @@
+-- The state after the command is that of the definition, and sound: the channels by the contract of `RxChannels::rx_sa`,
+-- their counters by that of `add_association`, whose slice is put back (`changed_again`), the rest by `after_effect`.
 use Rattle.std.proofs.Common.{◌≡◌, ◌∙◌, ap, map, length, subst, sym}
 use Rattle.std.specs.List.{refill}
 use Rattle.macsec_rx.specs.Rows.{AreChannels}
@@ -21,8 +23,10 @@ invariant_of-self-2 c =
     let s = c.self in
     let sound = s.invariant.sound in
     let done = c.in_ok-rx_sa.ensures in
+    let a = c.args in
+    let counters = counters_left (goal.at.invariant_of-self-2 c).After-add_association in
     record {
-      sound = rw (done.done, counters_left (goal.at.invariant_of-self-2 c).After-add_association) (after_effect (the_view s.inside) (by.RxSa c.args.sci c.args.an c.args.key c.args.ssci c.args.lowest) (sym done.refusal)
+      sound = rw (done.done, counters) (after_effect (the_view s.inside) (by.RxSa a.sci a.an a.key a.ssci a.lowest) (sym done.refusal)
           (record { keys = sound.keys; tx = sound.tx; rx = subst AreChannels done.done done.channels }) sound);
       room = s.invariant.room;
     }

@@ -1,3 +1,5 @@
+-- There are counters exactly where there is an association: a channel has counters for its own associations alone, which
+-- is what `IsSound` says (`shown_there`), and no association is of an SCI without a channel.
 use Rattle.std.proofs.Common.{◌∙◌, ap}
 use Rattle.std.specs.Prelude.{is_some, option_and_then}
 use Rattle.macsec_secy.specs.declared.counters.ChannelCounters.{ChannelCounters}

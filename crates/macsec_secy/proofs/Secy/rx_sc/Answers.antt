@@ -1,3 +1,5 @@
+-- A new channel has counters of 0, and the endpoint stays sound with it: the channels by the contract of
+-- `RxChannels::rx_sc`, the rest by `after_effect`.
 use Rattle.std.proofs.Common.{rules, subst, sym}
 use Rattle.macsec_rx.specs.Rows.{AreChannels}
 use Rattle.macsec_commands.specs.declared.command.Command.TheVariants as by

@@ -22,7 +22,8 @@ sound c =
 pub invariant_of-self-in-Plain : goal.invariant_of-self-in-Plain
 invariant_of-self-in-Plain c =
     let sent = c.next_frame-result in
-    let left : (step c.args.self.now (client_frame c.args.frame.now)).1 ≡ record (the_view c.self.inside) { tx = sent.new.self; keys = sent.new.keys; counters = c.count_plain.new.self } = search rules in
+    let after = (step c.args.self.now (client_frame c.args.frame.now)).1 in
+    let left : after ≡ record (the_view c.self.inside) { tx = sent.new.self; keys = sent.new.keys; counters = c.count_plain.new.self } = search rules in
     record { sound = subst IsSound left (sound (goal.at.invariant_of-self-in-Plain c).After-next_frame-result); room = c.self.invariant.room }
 
 pub returns-in-Plain : goal.returns-in-Plain
@@ -39,7 +40,8 @@ returns-in-Plain c = (
 pub invariant_of-self-in-Made : goal.invariant_of-self-in-Made
 invariant_of-self-in-Made c =
     let sent = c.next_frame-result in
-    let left : (step c.args.self.now (client_frame c.args.frame.now)).1 ≡ record (the_view c.self.inside) { tx = sent.new.self; keys = sent.new.keys; tx_counters = c.count.new.self } = search rules in
+    let after = (step c.args.self.now (client_frame c.args.frame.now)).1 in
+    let left : after ≡ record (the_view c.self.inside) { tx = sent.new.self; keys = sent.new.keys; tx_counters = c.count.new.self } = search rules in
     record { sound = subst IsSound left (sound (goal.at.invariant_of-self-in-Made c).After-next_frame-result); room = c.self.invariant.room }
 
 pub returns-in-Made : goal.returns-in-Made
@@ -65,7 +67,8 @@ returns-in-Made c =
 pub invariant_of-self-in-NoSa : goal.invariant_of-self-in-NoSa
 invariant_of-self-in-NoSa c =
     let sent = c.next_frame-result in
-    let left : (step c.args.self.now (client_frame c.args.frame.now)).1 ≡ record (the_view c.self.inside) { tx = sent.new.self; keys = sent.new.keys; counters = c.count_no_sa.new.self } = search rules in
+    let after = (step c.args.self.now (client_frame c.args.frame.now)).1 in
+    let left : after ≡ record (the_view c.self.inside) { tx = sent.new.self; keys = sent.new.keys; counters = c.count_no_sa.new.self } = search rules in
     record { sound = subst IsSound left (sound (goal.at.invariant_of-self-in-NoSa c).After-next_frame-result); room = c.self.invariant.room }
 
 pub returns-in-NoSa : goal.returns-in-NoSa
@@ -82,7 +85,8 @@ returns-in-NoSa c = (
 pub invariant_of-self-in-TooLong : goal.invariant_of-self-in-TooLong
 invariant_of-self-in-TooLong c =
     let sent = c.next_frame-result in
-    let left : (step c.args.self.now (client_frame c.args.frame.now)).1 ≡ record (the_view c.self.inside) { tx = sent.new.self; keys = sent.new.keys; counters = c.count_too_long.new.self } = search rules in
+    let after = (step c.args.self.now (client_frame c.args.frame.now)).1 in
+    let left : after ≡ record (the_view c.self.inside) { tx = sent.new.self; keys = sent.new.keys; counters = c.count_too_long.new.self } = search rules in
     record { sound = subst IsSound left (sound (goal.at.invariant_of-self-in-TooLong c).After-next_frame-result); room = c.self.invariant.room }
 
 pub returns-in-TooLong : goal.returns-in-TooLong

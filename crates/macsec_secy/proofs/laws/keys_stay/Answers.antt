@@ -1,3 +1,5 @@
+-- Keys are told apart by number and bytes (`KeysApart`), and a step keeps each of them (`KeysStay`): one clause of the law
+-- each.
 use Rattle.macsec_secy.proofs.KeysApart.{keys_are_apart}
 use Rattle.macsec_secy.proofs.KeysStay.{keys_stay}
 use Rattle.macsec_secy.proofs.laws.keys_stay.Goals as goal

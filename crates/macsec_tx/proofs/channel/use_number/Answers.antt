@@ -11,7 +11,9 @@ pub used_row-requires : goal.used_row-requires
 used_row-requires c =
     let row = c.row-item.result in
     let at = c.loop-row.row-index in
-    subst (λ x. x.next ≤ 2 ^ 64) (sym (get_or-not_reached (used_at c.args.an) c.args.rows.now c.loop-row.rows at row c.loop-row-test.true c.loop-row.invariant)) (c.requires at row c.loop-row-test.true)
+    let within = c.loop-row-test.true in
+    let as_it_was = get_or-not_reached (used_at c.args.an) c.args.rows.now c.loop-row.rows at row within c.loop-row.invariant in
+    subst (λ x. x.next ≤ 2 ^ 64) (sym as_it_was) (c.requires at row within)
 
 pub loop-row-preserved : goal.loop-row-preserved
 loop-row-preserved c =

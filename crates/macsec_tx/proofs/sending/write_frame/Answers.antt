@@ -21,6 +21,8 @@ returns-clause-octets c =
     let clear : take n whole ≡ take n written =
     ap (λ (xs : List ℕ). take n xs) (take-add n 16 written) ∙ take_at (take n written) (take 16 (drop n written)) n (length-take-le n written (omega arith)) in
     let long : length c.protect_in_place.new.frame ≡ n + 16 = search rules in
-    let made = protected_row c.parts_in_place.ensures c.args.key.now c.args.iv.now c.args.tag.now c.args.frame.now whole n c.requires.frame_long whole_long (clear ∙ c.write_clear-end.ensures.octets) in
+    let a = c.args in
+    let begins = clear ∙ c.write_clear-end.ensures.octets in
+    let made = protected_row c.parts_in_place.ensures a.key.now a.iv.now a.tag.now a.frame.now whole n c.requires.frame_long whole_long begins in
     let frame_is = c.protect_in_place.ensures ∙ rw (c.e.ensures, c.length.ensures.length) made in
     take_at c.protect_in_place.new.frame (drop (n + 16) written) (n + 16) long ∙ frame_is

@@ -1,3 +1,4 @@
+-- The fault is the first one of the definition: one goal if the tag form is at fault, one if nothing is.
 -- By search; these proofs are here for speed.
 use Rattle.std.proofs.Common.{rules}
 use Rattle.macsec_commands.proofs.config.EndConfig.fault.Goals as goal

@@ -1,3 +1,5 @@
+-- A command at an end is one step of the machine, done or refused. `follow_command` leaves the logs and their table as
+-- the machine has them; what holds of an end goes on by `sound_after`.
 use Rattle.std.proofs.Common.{◌≡◌, ◌∙◌, ap, rules, subst, sym}
 use Rattle.macsec_secy.specs.Step.{done, operator_command, refused, step}
 use Rattle.macsec_ends.specs.contracts.end.EndLogs.{the_view}
@@ -27,7 +29,9 @@ returns-in-Err-clause-happens c =
 
 pub returns-in-Err-clause-sound : goal.returns-in-Err-clause-sound
 returns-in-Err-clause-sound c =
-    sound_after c.args.self.now (operator_command c.args.command.now) (refused c.in-Err.refusal) _ (returns-in-Err-clause-happens c) (subst IsSoundEnd c.self.view_is c.self.invariant.sound) c.command.ensures.sound
+    let was_sound = subst IsSoundEnd c.self.view_is c.self.invariant.sound in
+    let output = refused c.in-Err.refusal in
+    sound_after c.args.self.now (operator_command c.args.command.now) output _ (returns-in-Err-clause-happens c) was_sound c.command.ensures.sound
 
 pub invariant_of-self-in-Err : goal.invariant_of-self-in-Err
 invariant_of-self-in-Err c = record {

@@ -1,3 +1,4 @@
+-- The frames sent under a key: those of its log where it has one, else none.
 use Rattle.std.proofs.Common.{◌∙◌, ap, sym}
 use Rattle.std.specs.Prelude.{Some, None}
 use Rattle.macsec_ends.specs.Kept.{KeptSentLog, KeptSentLogs, sent_logs_of}

@@ -1,3 +1,4 @@
+-- A frame goes into the log of its key, or begins it. The place that the `requires` tells of makes each `push` succeed.
 use Rattle.std.proofs.Common.{◌∙◌, ap, arith, refl}
 use Rattle.std.specs.Prelude.{Some, None}
 use Rattle.macsec_ends.specs.contracts.sent.SentLogs.{the_view}

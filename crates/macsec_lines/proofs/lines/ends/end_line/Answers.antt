@@ -1,3 +1,4 @@
+-- By the keyword: the line is that of its kind in the table, and with another keyword none of these.
 use Rattle.std.proofs.Common.{◌≡◌, map, sym, ◌∙◌}
 use Rattle.std.specs.Prelude.{codes}
 use Rattle.macsec_lines.specs.Kinds.{kinds, read_line}

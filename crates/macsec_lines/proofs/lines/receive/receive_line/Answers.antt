@@ -1,3 +1,4 @@
+-- By the keyword: each line is that of its kind in the table, and with another keyword none of these.
 use Rattle.std.proofs.Common.{◌≡◌, map, sym, ◌∙◌}
 use Rattle.std.specs.Prelude.{codes}
 use Rattle.macsec_lines.specs.Kinds.{kinds_at, read_line}
@@ -31,4 +32,9 @@ returns-then-is_word-5-clause-some c =
 
 pub returns-clause-none : goal.returns-clause-none
 returns-clause-none c =
-    rw (sym c.is_word.ensures ∙ c.if-is_word.false, sym c.is_word-2.ensures ∙ c.if-is_word-2.false, sym c.is_word-3.ensures ∙ c.if-is_word-3.false, sym c.is_word-4.ensures ∙ c.if-is_word-4.false, sym c.is_word-5.ensures ∙ c.if-is_word-5.false)
+    let first = sym c.is_word.ensures ∙ c.if-is_word.false in
+    let second = sym c.is_word-2.ensures ∙ c.if-is_word-2.false in
+    let third = sym c.is_word-3.ensures ∙ c.if-is_word-3.false in
+    let fourth = sym c.is_word-4.ensures ∙ c.if-is_word-4.false in
+    let fifth = sym c.is_word-5.ensures ∙ c.if-is_word-5.false in
+    rw (first, second, third, fourth, fifth)

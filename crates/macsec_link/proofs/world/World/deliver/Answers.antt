@@ -1,3 +1,5 @@
+-- A delivery is one step of the written world, or its fault: the frame that the end receives is the link frame of the
+-- number, which is found and is not too short or too long.
 use Rattle.std.proofs.Common.{◌≡◌, ℕ, List, ap, rules, subst, sym}
 use Rattle.std.specs.Prelude.{None, Err}
 use Rattle.macsec_secy.specs.Step.{frame_fault}
@@ -11,24 +13,34 @@ use Rattle.macsec_link.proofs.world.World.deliver.Goals as goal
 pub returns-in_err-check_delivery-clause-steps : goal.returns-in_err-check_delivery-clause-steps
 returns-in_err-check_delivery-clause-steps c =
     let passed : c.from_residual.result ≡ Err c.in_err-check_delivery.field-0.0 = search rules in
-    passed_on c.args.self.now (event.Deliver c.args.end c.args.n) c.from_residual.result c.in_err-check_delivery.field-0.0 passed (c.in_err-check_delivery.ensures.admits c.args.end)
+    let fault = c.in_err-check_delivery in
+    passed_on c.args.self.now (event.Deliver c.args.end c.args.n) c.from_residual.result fault.field-0.0 passed (fault.ensures.admits c.args.end)
 
 -- the frame that the end receives is the link frame of the number
 pub receive-hearing-requires : goal.receive-hearing-requires
 receive-hearing-requires c =
-    let same = at_place c.args.self.now c.self.inside.frames.items c.args.n c.index.result.now c.as_slice-frame.result.now (ap (λ (w : WorldState). w.frames) c.self.view_is) c.in_ok-check_delivery.ensures.there
-    c.index.ensures c.as_slice-frame.ensures.value in
+    let frames = ap (λ (w : WorldState). w.frames) c.self.view_is in
+    let there = c.in_ok-check_delivery.ensures.there in
+    let taken = c.index in
+    let frame = c.as_slice-frame in
+    let same = at_place c.args.self.now c.self.inside.frames.items c.args.n taken.result.now frame.result.now frames there taken.ensures frame.ensures.value in
     record { fits = subst (λ (f : List ℕ). frame_fault f ≡ None) (sym same) c.in_ok-check_delivery.ensures.fits }
 
 pub receive-hearing-requires-in-B : goal.receive-hearing-requires-in-B
 receive-hearing-requires-in-B c =
-    let same = at_place c.args.self.now c.self.inside.frames.items c.args.n c.index.result.now c.as_slice-frame.result.now (ap (λ (w : WorldState). w.frames) c.self.view_is) c.in_ok-check_delivery.ensures.there
-    c.index.ensures c.as_slice-frame.ensures.value in
+    let frames = ap (λ (w : WorldState). w.frames) c.self.view_is in
+    let there = c.in_ok-check_delivery.ensures.there in
+    let taken = c.index in
+    let frame = c.as_slice-frame in
+    let same = at_place c.args.self.now c.self.inside.frames.items c.args.n taken.result.now frame.result.now frames there taken.ensures frame.ensures.value in
     record { fits = subst (λ (f : List ℕ). frame_fault f ≡ None) (sym same) c.in_ok-check_delivery.ensures.fits }
 
 pub returns-clause-steps : goal.returns-clause-steps
 returns-clause-steps c =
     let none = c.in_ok-check_delivery.ensures.admits c.args.end in
-    let same = at_place c.args.self.now c.self.inside.frames.items c.args.n c.index.result.now c.as_slice-frame.result.now (ap (λ (w : WorldState). w.frames) c.self.view_is) c.in_ok-check_delivery.ensures.there
-    c.index.ensures c.as_slice-frame.ensures.value in
+    let frames = ap (λ (w : WorldState). w.frames) c.self.view_is in
+    let there = c.in_ok-check_delivery.ensures.there in
+    let taken = c.index in
+    let frame = c.as_slice-frame in
+    let same = at_place c.args.self.now c.self.inside.frames.items c.args.n taken.result.now frame.result.now frames there taken.ensures frame.ensures.value in
     elim c.match-end.branch [ in-A w ↦ search (rules, heard) | in-B w ↦ search (rules, heard) ]

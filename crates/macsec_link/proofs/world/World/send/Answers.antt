@@ -13,11 +13,15 @@ use Rattle.macsec_link.proofs.world.World.send.Goals as goal
 pub returns-in_err-check_client_frame-clause-steps : goal.returns-in_err-check_client_frame-clause-steps
 returns-in_err-check_client_frame-clause-steps c =
     let passed : c.from_residual.result ≡ Err c.in_err-check_client_frame.field-0.0 = search rules in
-    passed_on c.args.self.now (event.Send c.args.end c.args.frame.now) c.from_residual.result c.in_err-check_client_frame.field-0.0 passed (c.in_err-check_client_frame.ensures.admits c.args.end)
+    let fault = c.in_err-check_client_frame in
+    passed_on c.args.self.now (event.Send c.args.end c.args.frame.now) c.from_residual.result fault.field-0.0 passed (fault.ensures.admits c.args.end)
 
 pub invariant_of-self-in-Ok-Link : goal.invariant_of-self-in-Ok-Link
 invariant_of-self-in-Ok-Link c =
-    let room : length c.self.inside.frames.items < 65536 = omega (arith, c.in_ok-check_client_frame.ensures.room, ap (λ (w : WorldState). length w.frames) c.self.view_is, length-map c.self.inside.frames.items (λ (f : Vec ℕ). f.items)) in
+    let frames = c.self.inside.frames.items in
+    let as_many = length-map frames (λ (f : Vec ℕ). f.items) in
+    let of_world = ap (λ (w : WorldState). length w.frames) c.self.view_is in
+    let room : length frames < 65536 = omega (arith, c.in_ok-check_client_frame.ensures.room, of_world, as_many) in
     grind (arith, common_steps)
 
 pub returns-in-Ok-Link-clause-sound : goal.returns-in-Ok-Link-clause-sound

@@ -9,7 +9,8 @@ use Rattle.macsec_link.proofs.world.World.send_uncontrolled.Goals as goal
 pub returns-in_err-check_client_frame-clause-steps : goal.returns-in_err-check_client_frame-clause-steps
 returns-in_err-check_client_frame-clause-steps c =
     let passed : c.from_residual.result ≡ Err c.in_err-check_client_frame.field-0.0 = search rules in
-    passed_on c.args.self.now (event.SendUncontrolled c.args.end c.args.frame.now) c.from_residual.result c.in_err-check_client_frame.field-0.0 passed (c.in_err-check_client_frame.ensures.admits c.args.end)
+    let fault = c.in_err-check_client_frame in
+    passed_on c.args.self.now (event.SendUncontrolled c.args.end c.args.frame.now) c.from_residual.result fault.field-0.0 passed (fault.ensures.admits c.args.end)
 
 pub returns-in_default-clause-steps : goal.returns-in_default-clause-steps
 returns-in_default-clause-steps c = search rules

@@ -1,3 +1,4 @@
+-- Event after event: the run so far goes on by one step, and there is room for its result; at the end, all events.
 use Rattle.std.proofs.Common.{arith, take, List, subst}
 use Rattle.std.proofs.lemmas.List.{take_all, take_more}
 use Rattle.macsec_commands.specs.declared.event.Event.{Event}

@@ -1,3 +1,4 @@
+-- By whether the number is below 2^64: 16 digits, or those of its upper half and then 16 of its lower one.
 use Rattle.std.proofs.Common.{◌≡◌, ◌≤◌, ◌^◌, ◌%◌, arith}
 use Rattle.macsec_print.proofs.HexNumbers.{sixteen, halves}
 use Rattle.macsec_print.proofs.numbers.PacketNumberDisplay.fmt.Goals as goal

@@ -5,6 +5,7 @@ use Rattle.std.specs.Prelude.{IsSomeAnd}
 use Rattle.macsec_pn.specs.Numbers.{accept}
 use Rattle.macsec_rx.specs.Channels.{with_numbers}
 use Rattle.macsec_rx.specs.Judge.{row_accepting}
+use Rattle.macsec_rx.specs.Rows.{AreRxRows}
 use Rattle.macsec_rx.proofs.RowIndex.{IsRxRow-at, is_at-own, with_rx-set}
 use Rattle.macsec_rx.proofs.RxRows.{IsRxRow-accepting}
 use Rattle.macsec_rx.proofs.channels.RxChannels.accept.Goals as goal
@@ -17,12 +18,18 @@ put-requires-clause-there c = rw (c.requires, changed c) (refl, refl)
 
 pub put-requires-clause-row : goal.put-requires-clause-row
 put-requires-clause-row c =
-    rw (changed c) (IsRxRow-accepting _ c.args.window c.args.number c.args.row.now (omega (arith, c.ranges.number.fits)) (IsRxRow-at _ _ c.args.place c.args.row.now (rw (← c.self.view_is) c.self.invariant.0.rows) c.requires))
+    let a = c.args in
+    let rows : AreRxRows a.self.now.scis a.self.now.rows = rw (← c.self.view_is) c.self.invariant.0.rows in
+    let row = IsRxRow-at _ _ a.place a.row.now rows c.requires in
+    rw (changed c) (IsRxRow-accepting _ a.window a.number a.row.now (omega (arith, c.ranges.number.fits)) row)
 
 pub returns-clause-accepted : goal.returns-clause-accepted
 returns-clause-accepted c =
-    let old = c.args.self.now in
-    let same = with_rx-set old.scis (row_accepting c.args.window c.args.number) old.rows c.args.row.now.sci c.args.row.now.an c.args.place c.args.row.now (rw (← c.self.view_is) c.self.invariant.0.rows) c.requires (is_at-own c.args.row.now) in
-    let here : c.with_numbers.result ≡ row_accepting c.args.window c.args.number c.args.row.now =
-    c.with_numbers.ensures ∙ ap (λ n. with_numbers n c.args.row.now) (c.accept.ensures ∙ ap (λ n. accept n c.args.number c.args.window) c.numbers-numbers.ensures) in
+    let a = c.args in
+    let old = a.self.now in
+    let row = a.row.now in
+    let rows : AreRxRows old.scis old.rows = rw (← c.self.view_is) c.self.invariant.0.rows in
+    let same = with_rx-set old.scis (row_accepting a.window a.number) old.rows row.sci row.an a.place row rows c.requires (is_at-own row) in
+    let here : c.with_numbers.result ≡ row_accepting a.window a.number row =
+    c.with_numbers.ensures ∙ ap (λ n. with_numbers n row) (c.accept.ensures ∙ ap (λ n. accept n a.number a.window) c.numbers-numbers.ensures) in
     rw (same, ← here) c.put.ensures.rows

@@ -14,9 +14,12 @@ use Rattle.macsec_rx.proofs.channels.RxChannels.append.Goals as goal
 
 pub push-requires : goal.push-requires
 push-requires c =
-    let is : IsRxRow c.self.inside.scis.items c.args.row = subst (λ v. IsRxRow v.scis c.args.row) (sym c.self.view_is) c.requires.row in
-    let free : rx_row c.self.inside.rows.items c.args.row.sci c.args.row.an ≡ None = subst (λ v. rx_row v.rows c.args.row.sci c.args.row.an ≡ None) (sym c.self.view_is) c.requires.free in
-    let room = has_room c.self.inside.scis.items c.self.inside.rows.items c.args.row.sci c.args.row.an c.self.invariant.0.rows is.channel is.an free in
+    let scis = c.self.inside.scis.items in
+    let rows = c.self.inside.rows.items in
+    let row = c.args.row in
+    let is : IsRxRow scis row = subst (λ v. IsRxRow v.scis row) (sym c.self.view_is) c.requires.row in
+    let free : rx_row rows row.sci row.an ≡ None = subst (λ v. rx_row v.rows row.sci row.an ≡ None) (sym c.self.view_is) c.requires.free in
+    let room = has_room scis rows row.sci row.an c.self.invariant.0.rows is.channel is.an free in
     (lit< tt, omega (arith, room, c.self.invariant.0.count))
 
 pub invariant_of-self : goal.invariant_of-self

@@ -10,9 +10,12 @@ use Rattle.macsec_rx.proofs.channels.RxChannels.found.Goals as goal
 
 pub returns-in_err-channel-clause-row : goal.returns-in_err-channel-clause-row
 returns-in_err-channel-clause-row c =
-    let none : has_channel c.self.inside.scis.items c.args.sci ≡ false = rw (sym c.as_slice.ensures.value) (sym c.in_err-channel.ensures.there) in
+    let scis = c.self.inside.scis.items in
+    let rows = c.self.inside.rows.items in
+    let none : has_channel scis c.args.sci ≡ false = rw (sym c.as_slice.ensures.value) (sym c.in_err-channel.ensures.there) in
     let no_row : rx_row c.args.self.now.rows c.args.sci c.args.an ≡ None =
-    ap (λ v. rx_row v.rows c.args.sci c.args.an) (sym c.self.view_is) ∙ rx_row-no_channel c.self.inside.scis.items c.self.inside.rows.items c.args.sci c.args.an c.self.invariant.0.rows none in
+    ap (λ v. rx_row v.rows c.args.sci c.args.an) (sym c.self.view_is) ∙
+    rx_row-no_channel scis rows c.args.sci c.args.an c.self.invariant.0.rows none in
     rw c.from_residual.ensures no_row
 
 pub returns-in_err-row-clause-row : goal.returns-in_err-row-clause-row
@@ -20,8 +23,10 @@ returns-in_err-row-clause-row c =
     let scis = c.self.inside.scis.items in
     let rows = c.self.inside.rows.items in
     let there : has_channel scis c.args.sci ≡ true = rw (sym c.as_slice.ensures.value) (sym c.in_ok-channel.ensures.there) in
-    let found = rx_row-indexed scis rows c.self.inside.places c.args.sci c.args.an c.in_ok-channel.channel c.slot.result c.from-place.result c.self.invariant.1 there c.slot.ensures.number
-    (rw (sym c.as_slice.ensures.value) c.in_ok-channel.ensures.place) c.slot.ensures.slot (omega arith) in
+    let places = c.self.inside.places in
+    let channel = c.in_ok-channel.channel in
+    let found = rx_row-indexed scis rows places c.args.sci c.args.an channel c.slot.result c.from-place.result c.self.invariant.1 there
+    c.slot.ensures.number (rw (sym c.as_slice.ensures.value) c.in_ok-channel.ensures.place) c.slot.ensures.slot (omega arith) in
     let no_row : rx_row c.args.self.now.rows c.args.sci c.args.an ≡ None =
     ap (λ v. rx_row v.rows c.args.sci c.args.an) (sym c.self.view_is) ∙ found ∙ slice_get_past rows c.from-place.result (grind arith) in
     rw c.from_residual-in_err-row.ensures no_row
@@ -31,8 +36,10 @@ returns-clause-row c =
     let scis = c.self.inside.scis.items in
     let rows = c.self.inside.rows.items in
     let there : has_channel scis c.args.sci ≡ true = rw (sym c.as_slice.ensures.value) (sym c.in_ok-channel.ensures.there) in
-    let found = rx_row-indexed scis rows c.self.inside.places c.args.sci c.args.an c.in_ok-channel.channel c.slot.result c.from-place.result c.self.invariant.1 there c.slot.ensures.number
-    (rw (sym c.as_slice.ensures.value) c.in_ok-channel.ensures.place) c.slot.ensures.slot (omega arith) in
+    let places = c.self.inside.places in
+    let channel = c.in_ok-channel.channel in
+    let found = rx_row-indexed scis rows places c.args.sci c.args.an channel c.slot.result c.from-place.result c.self.invariant.1 there
+    c.slot.ensures.number (rw (sym c.as_slice.ensures.value) c.in_ok-channel.ensures.place) c.slot.ensures.slot (omega arith) in
     ap (λ v. rx_row v.rows c.args.sci c.args.an) (sym c.self.view_is) ∙ found ∙
     slice_get_read rows _ c.from-place.result c.in_ok-row.row.now refl (grind arith) (rw c.as_slice-rows.ensures.value at c.in_ok-row.ensures.lookup.1)
 

@@ -19,7 +19,8 @@ pub invariant_of-self : goal.invariant_of-self
 invariant_of-self c =
     let kept : c.retain.new.self.items ≡ filter (λ row. not (is_at c.args.sci c.args.an row)) c.self.inside.rows.items =
     filter-from_retain _ _ _ (λ x b f' y called. search rules) _ _ c.retain.ensures.filtered in
-    let index : IsIndex c.self.inside.scis.items c.retain.new.self.items c.index_of-self-inside.result = rw (← c.as_slice.ensures.value, ← c.as_slice-2.ensures.value) c.index_of-self-inside.ensures in (
+    let index : IsIndex c.self.inside.scis.items c.retain.new.self.items c.index_of-self-inside.result =
+    rw (← c.as_slice.ensures.value, ← c.as_slice-2.ensures.value) c.index_of-self-inside.ensures in (
       rw kept (record { count = c.self.invariant.0.count; scis = c.self.invariant.0.scis; rows = AreRxRows-filter _ _ _ (λ row left there. there) _ c.self.invariant.0.rows }),
       index,
     )

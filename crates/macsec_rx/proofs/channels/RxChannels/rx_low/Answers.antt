@@ -25,16 +25,18 @@ put-requires-clause-there c = rw (c.in_ok-place.ensures.place, changed c) (refl,
 
 pub put-requires-clause-row : goal.put-requires-clause-row
 put-requires-clause-row c =
-    rw (changed c)
-    (IsRxRow-raised _ c.args.pn c.in_ok-place.row (omega arith) (omega (arith, c.ranges.pn.fits)) (IsRxRow-at _ _ c.in_ok-place.place c.in_ok-place.row c.in_ok-place.ensures.channels.rows c.in_ok-place.ensures.place))
+    let found = c.in_ok-place in
+    let row = IsRxRow-at _ _ found.place found.row found.ensures.channels.rows found.ensures.place in
+    rw (changed c) (IsRxRow-raised _ c.args.pn found.row (omega arith) (omega (arith, c.ranges.pn.fits)) row)
 
 pub returns-clause-done : goal.returns-clause-done
 returns-clause-done c =
     let old = c.args.self.now in
-    let same = with_rx-set old.scis (row_raised c.args.pn) old.rows c.args.sci c.args.an c.in_ok-place.place c.in_ok-place.row c.in_ok-place.ensures.channels.rows c.in_ok-place.ensures.place
-    (is_found old.rows c.args.sci c.args.an c.in_ok-place.row c.in_ok-place.ensures.row) in
-    let here : c.with_numbers.result ≡ row_raised c.args.pn c.in_ok-place.row =
-    c.with_numbers.ensures ∙ ap (λ n. with_numbers n c.in_ok-place.row) (c.raise.ensures ∙ ap (λ n. raise n c.args.pn) c.numbers-numbers.ensures) in
+    let found = c.in_ok-place in
+    let same = with_rx-set old.scis (row_raised c.args.pn) old.rows c.args.sci c.args.an found.place found.row found.ensures.channels.rows
+    found.ensures.place (is_found old.rows c.args.sci c.args.an found.row found.ensures.row) in
+    let here : c.with_numbers.result ≡ row_raised c.args.pn found.row =
+    c.with_numbers.ensures ∙ ap (λ n. with_numbers n found.row) (c.raise.ensures ∙ ap (λ n. raise n c.args.pn) c.numbers-numbers.ensures) in
     rw (same, ← here) c.put.ensures.rows
 
 -- For speed: the prover finds this by itself too, but on a mutant it would try more than this search.

@@ -11,11 +11,13 @@ put-requires-clause-there c = rw c.in_ok-place.ensures.place (refl, refl)
 
 pub put-requires-clause-row : goal.put-requires-clause-row
 put-requires-clause-row c =
-    IsRxRow-switched _ false c.in_ok-place.row (IsRxRow-at _ _ c.in_ok-place.place c.in_ok-place.row c.in_ok-place.ensures.channels.rows c.in_ok-place.ensures.place)
+    let found = c.in_ok-place in
+    IsRxRow-switched _ false found.row (IsRxRow-at _ _ found.place found.row found.ensures.channels.rows found.ensures.place)
 
 pub returns-clause-done : goal.returns-clause-done
 returns-clause-done c =
     let old = c.args.self.now in
-    let same = with_rx-set old.scis (row_switched false) old.rows c.args.sci c.args.an c.in_ok-place.place c.in_ok-place.row c.in_ok-place.ensures.channels.rows c.in_ok-place.ensures.place
-    (is_found old.rows c.args.sci c.args.an c.in_ok-place.row c.in_ok-place.ensures.row) in
+    let found = c.in_ok-place in
+    let same = with_rx-set old.scis (row_switched false) old.rows c.args.sci c.args.an found.place found.row found.ensures.channels.rows
+    found.ensures.place (is_found old.rows c.args.sci c.args.an found.row found.ensures.row) in
     rw same c.put.ensures.rows

@@ -1,6 +1,6 @@
 -- What holds of the channels and of the index holds with a new one, whose SCI is free.
 -- By the lemmas on a channel that joins (`Scis`, `RxRows`, `RowIndex`).
-use Rattle.std.proofs.Common.{◌≡◌, ◌∙◌, ◌<◌, ap, sym, false, length, arith, rules}
+use Rattle.std.proofs.Common.{◌≡◌, ◌∙◌, ◌<◌, ◌≤◌, ap, sym, false, length, arith, rules}
 use Rattle.macsec_rx.specs.Commands.{has_channel}
 use Rattle.macsec_rx.proofs.Room.{rows_fit}
 use Rattle.macsec_rx.proofs.RowIndex.{IsIndex-more_channels}
@@ -15,13 +15,14 @@ invariant_of-self c =
     let free : has_channel scis c.args.sci ≡ false =
     ap (λ v. has_channel v.scis c.args.sci) c.self.view_is ∙ sym c.if-has_channel.ensures.there in
     let few : length scis < 64 = search (rules, arith) in
+    let fit : length rows ≤ 256 = omega (arith, rows_fit scis rows c.self.invariant.0.rows, few) in
     rw c.push.ensures.items (
       record {
         count = search rules;
         scis = joined_scis scis c.args.sci c.self.invariant.0.scis c.has_channel.ensures.sci free;
         rows = AreRxRows-more_channels scis _ (still_channel scis c.args.sci) _ c.self.invariant.0.rows;
       },
-      IsIndex-more_channels scis rows c.self.inside.places c.args.sci c.self.invariant.1 c.self.invariant.0.rows few (omega (arith, rows_fit scis rows c.self.invariant.0.rows, few)),
+      IsIndex-more_channels scis rows c.self.inside.places c.args.sci c.self.invariant.1 c.self.invariant.0.rows few fit,
     )
 
 pub returns-clause-channels : goal.returns-clause-channels

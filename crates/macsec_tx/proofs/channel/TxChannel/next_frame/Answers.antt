@@ -1,4 +1,5 @@
--- By search; these proofs are here for speed.
+-- What is sent is what the definition says, in each arm and for each clause: no association enabled, an exhausted one, a
+-- frame made, and any other result. By search; these proofs are here for speed.
 use Rattle.std.proofs.Common.{rules}
 use Rattle.macsec_tx.proofs.channel.TxChannel.next_frame.Goals as goal
 

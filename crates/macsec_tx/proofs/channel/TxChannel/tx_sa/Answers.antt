@@ -18,7 +18,9 @@ invariant_of-self c =
     let free : tx_row c.self.inside.rows.items c.args.an ≡ None =
     ap (λ rows. tx_row rows c.args.an) c.self.view_is ∙ sym c.row.ensures ∙ none_from_is_some c.row.result (sym c.is_some.ensures ∙ c.if-is_some.false) in
     let small : c.args.an < 4 = omega (arith, c.number-number.ensures.value, c.number-number.ensures.below) in
-    rw c.push.ensures.items (AreTxRows-append c.self.inside.rows.items _ c.self.invariant free (record { an = small; key = omega arith; next_least = omega arith; next = search rules }))
+    rw c.push.ensures.items
+    (AreTxRows-append c.self.inside.rows.items _ c.self.invariant free
+    (record { an = small; key = omega arith; next_least = omega arith; next = search rules }))
 
 pub returns-clause-rows : goal.returns-clause-rows
 returns-clause-rows c = invariant_of-self c

@@ -1,3 +1,5 @@
+-- The new window is one that the keys allow, since it was not refused, and every association is narrowed to it: so the
+-- endpoint stays sound by `after_effect`.
 use Rattle.std.proofs.Common.{◌≡◌, rules, subst}
 use Rattle.std.specs.Prelude.{None}
 use Rattle.macsec_rx.specs.Rows.{AreChannels}
@@ -5,7 +7,7 @@ use Rattle.macsec_commands.specs.declared.command.Command.TheVariants.{Replay}
 use Rattle.macsec_secy.specs.contracts.Secy.{the_view}
 use Rattle.macsec_secy.specs.Commands.{refusal}
 use Rattle.macsec_secy.proofs.StaysSound.{after_effect}
-use Rattle.macsec_secy.proofs.Secy.replay.Goals as goal
+use Rattle.macsec_secy.proofs.Secy.set_replay.Goals as goal
 
 pub invariant_of-self : goal.invariant_of-self
 invariant_of-self c =

@@ -1,5 +1,5 @@
 use Rattle.std.proofs.Common.{rules}
-use Rattle.macsec_secy.proofs.receiving.is_opened.Goals as goal
+use Rattle.macsec_secy.proofs.counting.is_opened.Goals as goal
 
 pub returns-in-NotValid : goal.returns-in-NotValid
 returns-in-NotValid c = search rules

@@ -1,6 +1,6 @@
--- By search; these proofs are here for speed.
+-- The form is refused exactly if it does not fit the SCI, and else set. By search; these proofs are here for speed.
 use Rattle.std.proofs.Common.{rules}
-use Rattle.macsec_secy.proofs.Secy.tag.Goals as goal
+use Rattle.macsec_secy.proofs.Secy.set_form.Goals as goal
 
 pub returns-clause-refusal : goal.returns-clause-refusal
 returns-clause-refusal c = search rules
