@@ -9,7 +9,7 @@
 #include <stdlib.h>
 #include <string.h>
 
-enum { HANDLES = 4, MOST_WORDS = 12, LONGEST_LINE = 65536 };
+enum { HANDLES = 4, MOST_WORDS = 12, LONGEST_LINE = 262144 };
 
 static macsec_endpoint handles[HANDLES];
 static char line[LONGEST_LINE];
@@ -123,6 +123,26 @@ static uint32_t new_endpoint(macsec_endpoint *e, char **w) {
     config.form = (uint32_t)number(w[2]);
     config.max_frame = (uint32_t)number(w[3]);
     return macsec_new(e, &config);
+}
+
+static uint32_t configure(macsec_endpoint *e, const char *word) {
+    size_t length = length_of(word);
+    uint8_t *text = room_of(length);
+    uint32_t line = 7;
+    length = octets(word, text, length);
+    uint32_t status = macsec_configure(e, text, length, &line);
+    print_number(line);
+    free(text);
+    return status;
+}
+
+static uint32_t command_line(macsec_endpoint *e, const char *word) {
+    size_t length = length_of(word);
+    uint8_t *text = room_of(length);
+    length = octets(word, text, length);
+    uint32_t status = macsec_command_line(e, text, length);
+    free(text);
+    return status;
 }
 
 static uint32_t key(macsec_endpoint *e, char **w) {
@@ -262,6 +282,10 @@ static uint32_t command(macsec_endpoint *e, const char *name, char **w) {
 static uint32_t call(macsec_endpoint *e, const char *name, char **w, int count) {
     if (strcmp(name, "new") == 0)
         return new_endpoint(e, w);
+    if (strcmp(name, "configure") == 0)
+        return configure(e, w[0]);
+    if (strcmp(name, "command_line") == 0)
+        return command_line(e, w[0]);
     if (strcmp(name, "free") == 0) {
         macsec_free(e);
         return MACSEC_OK;

@@ -46,7 +46,7 @@ def constant_name(name):
 
 
 class Status(Exception):
-    """Why nothing is done: the name of the status."""
+    """Why nothing is done: the name of the status, and what is shown with it, if that is not the same for all."""
 
 
 class Endpoint(expected.Endpoint):
@@ -100,6 +100,20 @@ def framed(frame):
     return frame
 
 
+# The statuses of the faults of a configuration.
+FAULTS = {it: "LINE_" + it.upper() for it in ("Word", "Count", "Hex", "Number", "Ends")}
+FAULTS |= {"LineLong": "LINE_LONG", "ScriptLong": "CONFIG_LONG"}
+
+
+def parsed(text, told):
+    """The lines of a configuration; a fault is shown with what is told of its line."""
+    try:
+        return expected.parse(text, is_config=True)
+    except expected.ScriptFault as fault:
+        name, line = fault.args
+        raise Status(FAULTS[name], told(line)) from None
+
+
 def hex_of(octets):
     return octets.hex() or "-"
 
@@ -120,11 +134,12 @@ class Model:
         shown = getattr(self, "unshown_" + name, lambda: "")()
         status = "OK"
         try:
-            if name not in ("new", "free") and self.ends[handle] is None:
+            if name not in ("new", "configure", "free") and self.ends[handle] is None:
                 raise Status("EMPTY")
             shown = getattr(self, "call_" + name)(handle, *words) or ""
         except Status as it:
-            status = str(it)
+            status, *told = it.args
+            shown = told[0] if told else shown
         except expected.Refused as it:
             status = constant_name(str(it))
         self.met[status] += 1
@@ -141,6 +156,22 @@ class Model:
         if not expected.form_fits(form, sci):
             raise Status("NEW_SCI_FORM")
         self.ends[handle] = Endpoint(suite, sci, max_frame, form)
+
+    def unshown_configure(self):
+        return " 0"
+
+    def call_configure(self, handle, text):
+        if self.ends[handle] is not None:
+            raise Status("TAKEN")
+        (_, _, _, (_, suite, sci, max_frame, form)), *commands = parsed(text, lambda line: f" {line or 0}")
+        made = Endpoint(suite, sci, max_frame, form)
+        for line, keyword, _, values in commands:
+            try:
+                made.command(keyword, values)
+            except expected.Refused as it:
+                raise Status(constant_name(str(it)), f" {line}") from None
+        self.ends[handle] = made
+        return " 0"
 
     def call_free(self, handle):
         self.ends[handle] = None
@@ -237,6 +268,12 @@ class Model:
     def call_rx_del(self, handle, sci, an):
         self.command(handle, "rxdel", sci, an_of(an))
 
+    def call_command_line(self, handle, line):
+        """A line is read as the second one of a configuration."""
+        _, *commands = parsed(b"end A gcm128 0200000000010001 1518 sci\n" + line, lambda _: "")
+        for _, keyword, _, values in commands:
+            self.command(handle, keyword, *values)
+
     # What an endpoint shows. The program sets all that it has room for to 7 before the call.
 
     def unshown_options(self):
@@ -323,6 +360,14 @@ class Calls:
     NUMBERS = [0, 1, 2, 3, 4, 5, 4095, 4096, 65535]
     SSCIS = [0, 1, 2, 2**32 - 1]
     SALT = bytes(range(0xA0, 0xAC))
+    # The lines of commands, by what their words are.
+    LINES = (
+        "protect switch", "validate mode", "replay switch window", "tag form", "key number octets offset",
+        "key number octets offset suite", "key number octets offset ssci salt", "retire number", "txon an", "txoff an",
+        "key number octets offset suite ssci salt", "txsa an number pn protection", "txdel an", "rxsc sci",
+        "rxscdel sci", "rxsa sci an number pn", "rxsa sci an number pn ssci", "rxon sci an", "rxoff sci an",
+        "rxlow sci an pn", "rxdel sci an",
+    )  # fmt: skip
 
     def __init__(self, seed):
         self.random = random.Random(seed)
@@ -382,10 +427,65 @@ class Calls:
         offset = self.pick((0, 0, 0, 0, 30, 50, 31, 255))
         return self.handle(), octets, self.SALT, self.pick(self.SSCIS), suite, number, length, offset
 
+    def word(self, field):
+        """A word of a line."""
+        pick = self.pick
+        words = {
+            "an": str(pick((0, 0, 0, 1, 2, 3, 4))), "number": str(pick(self.NUMBERS)),
+            "offset": str(pick((0, 0, 30, 256))), "window": str(pick(self.WINDOWS)), "pn": f"{pick(self.PNS):x}",
+            "ssci": f"{pick(self.SSCIS):08X}", "sci": self.sci().hex(), "salt": self.SALT.hex(),
+            "octets": pick(self.keys)[: pick((16, 16, 32))].hex(), "suite": pick(list(expected.SUITES)),
+            "form": pick(expected.FORMS), "mode": pick(expected.MODES), "switch": pick(("on", "off")),
+            "protection": pick(("int", "conf")),
+        }  # fmt: skip
+        return words[field]
+
+    def altered(self, words):
+        """Words of which one is another one, or missing, or of which there is one more."""
+        place, chance = self.random.randrange(len(words)), self.random.random()
+        other = self.pick(("B", "x", "0", "4096", "9" * 21, "0g", "abc", "on", "end", "#"))
+        if chance < 0.6:
+            return [*words[:place], other, *words[place + 1 :]]
+        return words[:-1] if chance < 0.8 else [*words, other]
+
+    def line(self):
+        """A line of a configuration, most often a command."""
+        keyword, *fields = self.pick(self.LINES).split()
+        words = ["A", keyword, *(self.word(it) for it in fields)]
+        chance = self.random.random()
+        if chance < 0.2:
+            words = self.altered(words)
+        elif chance < 0.3:
+            end = "end A xpn128 0200000000010000 64 es"
+            words = self.pick(("", "# A txon 0", "A numbers", "A send 00", end)).split()
+        return (self.pick((" ", " ", " ", "  ", "\t")).join(words) + self.pick(("", "", "", " ", "\r"))).encode()
+
+    def configuration(self, sci, suite, *lines):
+        """The text of a configuration: of these commands after the line of the end."""
+        return "\n".join([f"end A {SUITES[suite]} {sci.hex()} 1518 sci", *("A " + it for it in lines), ""]).encode()
+
+    def key_line(self, suite, ssci):
+        """The line of a key of this suite, whose number is that of the suite."""
+        octets = self.keys[suite][: expected.SUITES[SUITES[suite]][0]]
+        return f"key {suite} {octets.hex()} 0 {ssci:08x} {self.SALT.hex()}"
+
+    def text(self):
+        """The text of a configuration, of which the first lines are most often good ones."""
+        if self.random.random() < 0.1:
+            return self.pick((b"", b"# A\n\n", b"\n" * 65_536, b"\n" * 65_537, b"# " + b"A" * 19_999, b"end A\n"))
+        suite, sci = self.pick(list(SUITES)), self.sci()
+        lines = [self.line() for _ in range(self.pick((0, 0, 0, 1, 1, 2, 5)))]
+        if self.random.random() < 0.8:
+            return self.configuration(sci, suite, self.key_line(suite, 1), "rxsc " + "06" * 8) + b"\n".join(lines)
+        words = self.altered(["end", "A", SUITES[suite], sci.hex(), "1518", self.word("form")])
+        return "\r\n".join([" ".join(words), *(it.decode() for it in lines)]).encode()
+
     def arguments(self, name):
         h, pick = self.handle, self.pick
         makers = {
             "new": self.new,
+            "configure": lambda: (h(), self.text()),
+            "command_line": lambda: (h(), self.line()),
             "free": lambda: (h(),),
             "send": lambda: (pick((0, 0, 0, 0, 0, 1, 2)), self.client_frame()),
             "send_uncontrolled": lambda: (h(), self.client_frame()),
@@ -413,11 +513,11 @@ class Calls:
 
     # Each call, and how often.
     WEIGHTS = {
-        "send": 200, "receive": 300, "send_uncontrolled": 5, "new": 12, "free": 2, "protect": 4, "validate": 8,
-        "replay": 8, "tag": 8, "key": 25, "retire": 6, "tx_sa": 20, "tx_on": 20, "tx_off": 2, "tx_del": 2, "rx_sc": 10,
-        "rx_sc_del": 2, "rx_sa": 30, "rx_on": 25, "rx_off": 2, "rx_low": 10, "rx_del": 3, "options": 8, "counters": 20,
-        "tx_counters": 10, "rx_counters": 15, "rx_sa_counters": 15, "rx_removed": 10, "rx_channel": 6, "tx_row": 10,
-        "rx_row": 15,
+        "send": 200, "receive": 300, "send_uncontrolled": 5, "new": 12, "configure": 12, "free": 2, "protect": 4,
+        "validate": 8, "replay": 8, "tag": 8, "key": 25, "retire": 6, "tx_sa": 20, "tx_on": 20, "tx_off": 2,
+        "tx_del": 2, "rx_sc": 10, "rx_sc_del": 2, "rx_sa": 30, "rx_on": 25, "rx_off": 2, "rx_low": 10, "rx_del": 3,
+        "command_line": 60, "options": 8, "counters": 20, "tx_counters": 10, "rx_counters": 15, "rx_sa_counters": 15,
+        "rx_removed": 10, "rx_channel": 6, "tx_row": 10, "rx_row": 15,
     }  # fmt: skip
 
     def paired(self):
@@ -440,6 +540,22 @@ class Calls:
         yield "rx_on", (1, sender, an)
         yield "replay", (1, self.pick((0, 1)), self.pick((0, 2)))
         yield "validate", (1, self.pick((0, 1, 2, 2, 2)))
+
+    def paired_by_texts(self):
+        """The same of two configurations."""
+        suite, (sender, receiver) = self.pick((1, 1, 2, 3, 4)), self.random.sample(self.SCIS, 2)
+        an, pn, of = self.random.randrange(4), self.pick((1, 7, 2**32 - 3)), sender.hex()
+        sends = [self.key_line(suite, 1), f"txsa {an} {suite} {pn:x} {self.word('protection')}", f"txon {an}"]
+        receives = [self.key_line(suite, 2), f"rxsc {of}", f"rxsa {of} {an} {suite} {pn:x} 00000001", f"rxon {of} {an}"]
+        yield "free", (0,)
+        yield "configure", (0, self.configuration(sender, suite, *sends))
+        yield "free", (1,)
+        yield "configure", (1, self.configuration(receiver, suite, *receives))
+
+    def configured(self):
+        """A configuration for a handle without an endpoint."""
+        yield "free", (2,)
+        yield "configure", (2, self.text())
 
     def crowded(self):
         """More channels than there can be."""
@@ -486,6 +602,8 @@ class Calls:
         yield "retire", (2, 0)
         yield "tx_sa", (2, 0, 0, 1, 1)
         yield "free", (2,)
+        yield "configure", (2, b"\n" * 65_537)
+        yield "configure", (2, b"#" * 20_001)
         yield "new", (2, own, 1, CONSTANTS["FORM_AUTO"], 63)
 
     def all(self, count):
@@ -494,8 +612,9 @@ class Calls:
         names, weights = list(self.WEIGHTS), list(self.WEIGHTS.values())
         for _ in range(count):
             made = next(waiting, None)
-            if made is None and self.random.random() < 0.015:
-                waiting = iter(self.paired())
+            if made is None and self.random.random() < 0.025:
+                several = (self.paired, self.paired, self.paired_by_texts, self.configured, self.configured)
+                waiting = iter(self.pick(several)())
                 made = next(waiting)
             if made is None:
                 name = self.random.choices(names, weights)[0]

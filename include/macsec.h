@@ -25,34 +25,37 @@
  *            and count nothing.
  * NUMBERS    Integers are in the machine's own order of bytes. SCIs, keys and salts are octets in the order in
  *            which the standard writes them: an SCI is the six octets of a MAC address and two of a port number.
- * STATUS     Each call but macsec_free returns a status: MACSEC_OK, or why nothing was done. Then nothing has
- *            changed, and what the call would have shown is left as it was (but a macsec_sent or macsec_received is
- *            always filled in). First the handle is tested (MACSEC_EMPTY, MACSEC_TAKEN), then the arguments
- *            (MACSEC_NO_SUCH_..), then the rest; of several statuses of arguments, or of several refusals of a
- *            command, the lowest is returned.
+ * STATUS     Each call but macsec_free returns a status: MACSEC_OK, or why nothing was done. Then nothing has changed,
+ *            and what the call would have shown is left as it was (but a macsec_sent, a macsec_received and the line
+ *            of macsec_configure are always filled in). First the handle is tested (MACSEC_EMPTY, MACSEC_TAKEN), then
+ *            the arguments (MACSEC_NO_SUCH_..), then the rest; of several statuses of arguments, or of several
+ *            refusals of a command, the lowest is returned.
  * MEMORY     macsec_new takes four blocks by malloc, 11.1 MB in all: two for 4,096 keys, one for a frame, one for the
- *            rest. No other call takes any, and none can fail for want of it. macsec_free gives them back. The
- *            memory is not wiped: keys may stay in it. Give each call 64 KB of stack: macsec_new took 59 KB on
- *            x86-64, the others a fraction of that (measured, not proved).
+ *            rest. macsec_free gives them back. macsec_configure takes these too, and it and macsec_command_line
+ *            some for the words of their text, which they give back before they return. No other call takes any, and
+ *            none can fail for want of it. The memory is not wiped: keys may stay in it. Give each call 64 KB of
+ *            stack: macsec_new took 59 KB on x86-64 and macsec_configure 56, the others a fraction of that (measured,
+ *            not proved).
  * HANDLES    A handle is the caller's memory, made by MACSEC_ENDPOINT_INIT (all zero). It must not be copied, moved
  *            or written while it holds an endpoint. A handle that was never used, or that was freed, holds none:
- *            macsec_free does nothing then, and every other call but macsec_new returns MACSEC_EMPTY.
+ *            macsec_free does nothing then, and every other call but macsec_new and macsec_configure returns
+ *            MACSEC_EMPTY.
  * OWNERSHIP  The library keeps no pointer that a call was given. What macsec_send and macsec_receive show borrows
  *            from the endpoint's buffer, or is (a part of) the caller's own frame: it may be read until the next
  *            call with that handle, and while the caller's frame stays as it is. It must not be written to, nor be
  *            given to a call with that handle: copy it first.
- * POINTERS   No pointer may be null, that of a frame of length 0 neither. The handle, the frame and the room for
- *            the answer must not overlap.
+ * POINTERS   No pointer may be null, that of a frame or a text of length 0 neither. The handle, the frame and the
+ *            room for the answer must not overlap.
  * THREADS    A handle is given to one call at a time. Whoever passes it from one thread to another orders that, by
  *            a lock or by the thread's start or join. Different handles are independent. No call may be made from a
- *            signal handler, nor macsec_new or macsec_free from the forked child of a process with threads.
+ *            signal handler, nor one that takes or frees memory from the forked child of a process with threads.
  *
  * What is proved (with Rattle): each call makes or frees an endpoint, or is one step of the written machine
- * (crates/macsec_secy/specs/Step.antt) or one reader of its state, for the arguments that C gave; it reads and
- * writes only what it was given; and it returns. Measured or read, and not proved: sizes and stack, that only
- * macsec_new takes memory, and that a call which shows nothing leaves what it would have shown as it was. Nor
- * proved: this header, which a script compares with the library's source; C's side of what it says; malloc; the
- * compilers. No call takes the same time for all data.
+ * (crates/macsec_secy/specs/Step.antt) or one reader of its state, for the arguments that C gave, or the steps that
+ * the lines of a text say; it reads and writes only what it was given; and it returns. Measured or read, and not
+ * proved: sizes and stack, that only the three calls named there take memory, and that a call which shows nothing
+ * leaves what it would have shown as it was. Nor proved: this header, which a script compares with the library's
+ * source; C's side of what it says; malloc; the compilers. No call takes the same time for all data.
  */
 #ifndef MACSEC_H
 #define MACSEC_H
@@ -107,11 +110,18 @@ enum {
     MACSEC_NO_SUCH_KEY_NUMBER = 38, /* the key number is above 4,095 */
     MACSEC_NO_SUCH_KEY_OCTETS = 39, /* no key has so many octets: they have 16 or 32 */
     MACSEC_NONE = 40,               /* there is no such channel or association to show */
-    MACSEC_NEW_MEMORY = 41,         /* out of memory */
+    MACSEC_NEW_MEMORY = 41,         /* out of memory, for an endpoint or for the words of a text */
     MACSEC_NEW_MAX_FRAME = 42,      /* the configuration's largest frame is not 64 to 9,248 octets */
     MACSEC_NEW_SCI_FORM = 43,       /* the configuration's tag form does not fit its SCI */
     MACSEC_FRAME_SHORT = 44,        /* the frame has fewer than 14 octets */
-    MACSEC_FRAME_LONG = 45          /* the frame has more than 9,248 octets */
+    MACSEC_FRAME_LONG = 45,         /* the frame has more than 9,248 octets */
+    MACSEC_LINE_WORD = 46,          /* the line's keyword is unknown, or a word of it is none that can stand there */
+    MACSEC_LINE_COUNT = 47,         /* the line has too few words or too many */
+    MACSEC_LINE_HEX = 48,           /* a word of the line is not hex text of as many octets as it must have */
+    MACSEC_LINE_NUMBER = 49,        /* a word of the line is not a decimal number in its range */
+    MACSEC_LINE_ENDS = 50,          /* the line is in a wrong place, or its tag form does not fit its SCI */
+    MACSEC_LINE_LONG = 51,          /* the line has more than 20,000 octets */
+    MACSEC_CONFIG_LONG = 52         /* the configuration has more than 1,048,576 octets or 65,536 lines */
 };
 
 /* Cipher suites (clause 14). The default is for keys alone: that of the endpoint's configuration. */
@@ -285,6 +295,15 @@ typedef struct macsec_rx_row_shown {
  * first of them that applies, in this order. */
 uint32_t macsec_new(macsec_endpoint *e, const macsec_config *config);
 
+/* Creates the endpoint of a configuration's text in a handle that holds none, and carries out the text's commands. The
+ * lines are those of docs/SCRIPT.md for one end: `end A SUITE SCI MAX FORM`, and then commands at A, each as its line
+ * says and the lines in their order; blank lines and those whose first word begins with # are skipped. All of it is
+ * done, or nothing has changed: MACSEC_TAKEN; the first fault of the text, MACSEC_LINE_.. or MACSEC_CONFIG_LONG; of a
+ * text without a fault, the refusal of the first command that is refused. Or MACSEC_NEW_MEMORY. `line` is always
+ * written: the number of the line that is at fault or refused, from 1; else, and if every line is skipped, 0. Each
+ * endpoint begins at the packet number of its `txsa`: the same text given twice protects two frames with one IV. */
+uint32_t macsec_configure(macsec_endpoint *e, const uint8_t *text, size_t length, uint32_t *line);
+
 /* Frees the endpoint of a handle, which holds none then. A handle that holds none stays as it is. */
 void macsec_free(macsec_endpoint *e);
 
@@ -352,6 +371,12 @@ uint32_t macsec_rx_on(macsec_endpoint *e, const uint8_t sci[8], uint8_t an);
 uint32_t macsec_rx_off(macsec_endpoint *e, const uint8_t sci[8], uint8_t an);
 uint32_t macsec_rx_low(macsec_endpoint *e, const uint8_t sci[8], uint8_t an, uint64_t pn);
 uint32_t macsec_rx_del(macsec_endpoint *e, const uint8_t sci[8], uint8_t an);
+
+/* Any of these, as a line says it: `A txon 0` is macsec_tx_on(e, 0). The line is text without its line feed; a blank
+ * one and one whose first word begins with # do nothing. The first that applies: MACSEC_LINE_LONG, MACSEC_LINE_WORD,
+ * MACSEC_LINE_COUNT, what is wrong with a word, from left to right, MACSEC_LINE_ENDS for a line that is no command at
+ * A, or the refusal of the command. Or MACSEC_NEW_MEMORY. */
+uint32_t macsec_command_line(macsec_endpoint *e, const uint8_t *text, size_t length);
 
 /* ---- What an endpoint shows; nothing changes. MACSEC_NONE if there is no such channel or association ---- */
 

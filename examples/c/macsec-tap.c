@@ -2,11 +2,11 @@
  *
  *     macsec-tap CONFIG TAP LINK [REKEY]
  *
- * CONFIG has the lines of docs/SCRIPT.md for one end, A: `end A ..` and then its commands. Each packet number begins at
- * PN of the line `txsa`: every run must be given new keys, since under one key no packet number may be used twice.
- * SIGUSR1 prints counters, SIGUSR2 carries out the commands of REKEY (new keys and associations), SIGTERM and SIGINT
- * end it. It is an example, for Linux, and not proved; it needs the right to open both devices. TAP's MTU should be 32
- * octets below that of LINK. */
+ * CONFIG has the lines of docs/SCRIPT.md for one end, A: `end A ..` and then its commands; REKEY has commands alone.
+ * The library reads both. Each packet number begins at PN of the line `txsa`: every run must be given new keys, since
+ * under one key no packet number may be used twice. SIGUSR1 prints counters, SIGUSR2 carries out the commands of REKEY
+ * (new keys and associations), SIGTERM and SIGINT end it. It is an example, for Linux, and not proved; it needs the
+ * right to open both devices. TAP's MTU should be 32 octets below that of LINK. */
 #define _DEFAULT_SOURCE
 #include "macsec.h"
 #include <arpa/inet.h>
@@ -26,11 +26,7 @@
 #include <sys/socket.h>
 #include <unistd.h>
 
-enum { MOST_WORDS = 12 };
-
 static volatile sig_atomic_t stopped, asked, rekeyed;
-static const char *file_name;
-static unsigned line_number;
 
 static void on_signal(int number) {
     if (number == SIGUSR1)
@@ -46,154 +42,62 @@ static void fail(const char *what) {
     exit(1);
 }
 
-/* ---- CONFIG ---- */
+/* ---- CONFIG and REKEY ---- */
 
-static void refuse(const char *why) {
-    fprintf(stderr, "%s: line %u: %s\n", file_name, line_number, why);
+static void refuse(const char *name, uint32_t line, uint32_t status) {
+    fprintf(stderr, "%s: line %u: status %u\n", name, (unsigned)line, (unsigned)status);
     exit(2);
 }
 
-static uint64_t number(const char *word, int base, uint64_t most) {
-    char *end;
-    errno = 0;
-    unsigned long long value = strtoull(word, &end, base);
-    if (errno != 0 || *end != 0 || end == word || *word == '-' || value > most)
-        refuse("a number is not one, or is too large");
-    return value;
-}
-
-/* The octets of hex digits, of which there must be so many; or as many as they are, if `count` is 0. */
-static size_t octets(const char *word, uint8_t *to, size_t count, size_t most) {
-    size_t length = strlen(word) / 2;
-    if (strlen(word) % 2 != 0 || length > most || (count != 0 && length != count))
-        refuse("octets of another length");
-    for (size_t i = 0; i < length; i++) {
-        const char pair[3] = { word[2 * i], word[2 * i + 1], 0 };
-        to[i] = (uint8_t)number(pair, 16, 255);
-    }
-    return length;
-}
-
-/* The place of a word in a list that NULL ends. */
-static uint32_t place(const char *word, const char *const *words) {
-    uint32_t at = 0;
-    while (words[at] != NULL && strcmp(words[at], word) != 0)
-        at++;
-    if (words[at] == NULL)
-        refuse("an unknown word");
-    return at;
-}
-
-static const char *const suites[] = { "", "gcm128", "gcm256", "xpn128", "xpn256", NULL }; /* MACSEC_SUITE_.. */
-static const char *const forms[] = { "auto", "sci", "es", "scb", NULL };                  /* MACSEC_FORM_.. */
-static const char *const modes[] = { "disabled", "check", "strict", NULL };               /* MACSEC_MODE_.. */
-static const char *const switches[] = { "off", "on", NULL };
-static const char *const protections[] = { "int", "conf", NULL };
-
-static uint32_t new_endpoint(macsec_endpoint *e, char **w) {
-    macsec_config config;
-    config.suite = place(w[2], suites);
-    octets(w[3], config.sci, sizeof config.sci, sizeof config.sci);
-    config.max_frame = (uint32_t)number(w[4], 10, UINT32_MAX);
-    config.form = place(w[5], forms);
-    return macsec_new(e, &config);
-}
-
-static uint32_t key(macsec_endpoint *e, char **w, int count) {
-    macsec_sak sak;
-    int next = 5;
-    memset(&sak, 0, sizeof sak);
-    sak.number = (uint16_t)number(w[2], 10, UINT16_MAX);
-    sak.length = (uint8_t)octets(w[3], sak.bytes, 0, sizeof sak.bytes);
-    sak.offset = (uint8_t)number(w[4], 10, 255);
-    if (count == 6 || count == 8)
-        sak.suite = place(w[next++], suites);
-    if (count >= 7) {
-        sak.ssci = (uint32_t)number(w[next], 16, UINT32_MAX);
-        octets(w[next + 1], sak.salt, sizeof sak.salt, sizeof sak.salt);
-    }
-    return macsec_key(e, &sak);
-}
-
-/* A command whose first argument is an SCI. */
-static uint32_t receive_command(macsec_endpoint *e, char **w, int count) {
-    const char *name = w[1];
-    uint8_t sci[8], an = count > 3 ? (uint8_t)number(w[3], 10, 255) : 0;
-    octets(w[2], sci, sizeof sci, sizeof sci);
-    if (strcmp(name, "rxsc") == 0 && count == 3)
-        return macsec_rx_sc(e, sci);
-    if (strcmp(name, "rxscdel") == 0 && count == 3)
-        return macsec_rx_sc_del(e, sci);
-    if (strcmp(name, "rxon") == 0 && count == 4)
-        return macsec_rx_on(e, sci, an);
-    if (strcmp(name, "rxoff") == 0 && count == 4)
-        return macsec_rx_off(e, sci, an);
-    if (strcmp(name, "rxdel") == 0 && count == 4)
-        return macsec_rx_del(e, sci, an);
-    if (strcmp(name, "rxlow") == 0 && count == 5)
-        return macsec_rx_low(e, sci, an, number(w[4], 16, UINT64_MAX));
-    if (strcmp(name, "rxsa") != 0 || (count != 6 && count != 7))
-        refuse("an unknown line, or a wrong number of words");
-    return macsec_rx_sa(e, sci, an, (uint16_t)number(w[4], 10, UINT16_MAX),
-                        count == 7 ? (uint32_t)number(w[6], 16, UINT32_MAX) : 0, number(w[5], 16, UINT64_MAX));
-}
-
-static uint32_t command(macsec_endpoint *e, char **w, int count) {
-    const char *name = w[1];
-    if (strcmp(name, "key") == 0 && count >= 5 && count <= 8)
-        return key(e, w, count);
-    if (strncmp(name, "rx", 2) == 0 && count >= 3)
-        return receive_command(e, w, count);
-    if (strcmp(name, "protect") == 0 && count == 3)
-        return macsec_protect(e, place(w[2], switches) == 1);
-    if (strcmp(name, "validate") == 0 && count == 3)
-        return macsec_validate(e, place(w[2], modes));
-    if (strcmp(name, "replay") == 0 && count == 4)
-        return macsec_replay(e, place(w[2], switches) == 1, number(w[3], 10, UINT64_MAX));
-    if (strcmp(name, "tag") == 0 && count == 3)
-        return macsec_tag(e, place(w[2], forms));
-    if (strcmp(name, "retire") == 0 && count == 3)
-        return macsec_retire(e, (uint16_t)number(w[2], 10, UINT16_MAX));
-    if (strcmp(name, "txsa") == 0 && count == 6)
-        return macsec_tx_sa(e, (uint8_t)number(w[2], 10, 255), (uint16_t)number(w[3], 10, UINT16_MAX),
-                            number(w[4], 16, UINT64_MAX), place(w[5], protections) == 1);
-    if (strcmp(name, "txon") == 0 && count == 3)
-        return macsec_tx_on(e, (uint8_t)number(w[2], 10, 255));
-    if (strcmp(name, "txoff") == 0 && count == 3)
-        return macsec_tx_off(e, (uint8_t)number(w[2], 10, 255));
-    if (strcmp(name, "txdel") != 0 || count != 3)
-        refuse("an unknown line, or a wrong number of words");
-    return macsec_tx_del(e, (uint8_t)number(w[2], 10, 255));
-}
-
-/* Carries out the lines of a file, the first of which may create the endpoint. Here a refused one ends the program. */
-static void configure(macsec_endpoint *e, const char *name) {
-    char line[512];
+static FILE *opened(const char *name) {
     FILE *file = fopen(name, "r");
-    file_name = name;
-    line_number = 0;
     if (file == NULL)
         fail(name);
-    while (fgets(line, sizeof line, file) != NULL) {
-        char *words[MOST_WORDS] = { NULL }, *rest = line;
-        int count = 0;
-        uint32_t status = MACSEC_OK;
-        line_number++;
-        for (char *word; count < MOST_WORDS && (word = strtok(rest, " \t\r\n")) != NULL; rest = NULL)
-            words[count++] = word;
-        if (count == 0 || words[0][0] == '#')
-            continue;
-        if (strcmp(words[0], "end") == 0 && count == 6 && strcmp(words[1], "A") == 0)
-            status = new_endpoint(e, words);
-        else if (strcmp(words[0], "A") == 0 && count > 1)
-            status = command(e, words, count);
-        else
-            refuse("not a line of the end A");
-        if (status != MACSEC_OK) {
-            fprintf(stderr, "%s: line %u: status %u\n", name, line_number, (unsigned)status);
-            exit(2);
-        }
+    return file;
+}
+
+/* What a file has, in a block of its own. */
+static uint8_t *contents(const char *name, size_t *length) {
+    size_t room = 4096;
+    uint8_t *text = NULL;
+    FILE *file = opened(name);
+    *length = 0;
+    do {
+        text = realloc(text, room *= 2);
+        if (text == NULL)
+            fail(name);
+        *length += fread(text + *length, 1, room - *length, file);
+    } while (*length == room);
+    if (ferror(file))
+        fail(name);
+    fclose(file);
+    return text;
+}
+
+/* Creates the endpoint of CONFIG. Where a command of it is refused, there is none, and the program ends. */
+static void configure(macsec_endpoint *e, const char *name) {
+    size_t length;
+    uint32_t line;
+    uint8_t *text = contents(name, &length);
+    uint32_t status = macsec_configure(e, text, length, &line);
+    free(text);
+    if (status != MACSEC_OK)
+        refuse(name, line, status);
+}
+
+/* Carries out the commands of REKEY, line by line. Here a refused one ends the program. */
+static void carry_out(macsec_endpoint *e, const char *name) {
+    char *line = NULL;
+    size_t room = 0;
+    ssize_t length;
+    FILE *file = opened(name);
+    for (uint32_t number = 1; (length = getline(&line, &room, file)) > 0; number++) {
+        size_t count = (size_t)length - (line[length - 1] == '\n');
+        uint32_t status = macsec_command_line(e, (const uint8_t *)line, count);
+        if (status != MACSEC_OK)
+            refuse(name, number, status);
     }
+    free(line);
     fclose(file);
 }
 
@@ -297,7 +201,7 @@ int main(int count, char **words) {
         if (rekeyed) {
             rekeyed = 0;
             if (count == 5)
-                configure(&e, words[4]);
+                carry_out(&e, words[4]);
         }
         if (ready > 0 && ports[0].revents != 0)
             from_client(&e, ports[0].fd, ports[1].fd);

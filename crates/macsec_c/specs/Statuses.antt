@@ -6,6 +6,10 @@ use Rattle.macsec_commands.specs.declared.fault.NewFault.{NewFault}
 use Rattle.macsec_commands.specs.declared.fault.NewFault.TheVariants.{Memory, MaxFrame, SciForm}
 use Rattle.macsec_secy.specs.declared.fault.FrameFault.{FrameFault}
 use Rattle.macsec_secy.specs.declared.fault.FrameFault.TheVariants.{Short, Long}
+use Rattle.macsec_lines.specs.declared.lines.LineFault.{LineFault}
+use Rattle.macsec_lines.specs.declared.lines.LineFault.TheVariants as line
+use Rattle.macsec_lines.specs.declared.faults.ScriptFault.{ScriptFault}
+use Rattle.macsec_lines.specs.declared.faults.ScriptFault.TheVariants as script
 use Rattle.macsec_c.specs.declared.arguments.ArgumentFault.{ArgumentFault}
 use Rattle.macsec_c.specs.declared.arguments.ArgumentFault.TheVariants as argument
 
@@ -40,6 +44,28 @@ status_of_new_fault SciForm = 43
 abbrev pub status_of_frame_fault : FrameFault → ℕ
 status_of_frame_fault Short = 44
 status_of_frame_fault Long = 45
+
+abbrev pub status_of_line_fault : LineFault → ℕ
+status_of_line_fault line.Word = 46
+status_of_line_fault line.Count = 47
+status_of_line_fault line.Hex = 48
+status_of_line_fault line.Number = 49
+status_of_line_fault line.Ends = 50
+status_of_line_fault line.LineLong = 51
+status_of_line_fault line.Memory = status_of_new_fault Memory
+
+-- of a text that lies in memory: it has neither of the last two
+abbrev pub status_of_script_fault : ScriptFault → ℕ
+status_of_script_fault (script.Word n) = status_of_line_fault line.Word
+status_of_script_fault (script.Count n) = status_of_line_fault line.Count
+status_of_script_fault (script.Hex n) = status_of_line_fault line.Hex
+status_of_script_fault (script.Number n) = status_of_line_fault line.Number
+status_of_script_fault (script.Ends n) = status_of_line_fault line.Ends
+status_of_script_fault (script.LineLong n) = status_of_line_fault line.LineLong
+status_of_script_fault script.ScriptLong = 52
+status_of_script_fault script.Memory = status_of_new_fault Memory
+status_of_script_fault script.Read = status_of_new_fault Memory
+status_of_script_fault script.Write = status_of_new_fault Memory
 
 abbrev pub number_of_verdict : Verdict → ℕ
 number_of_verdict Untagged = 1

@@ -14,7 +14,7 @@ use crate::statuses::{DONE, EMPTY};
 use macsec_secy::{Command, NewKey, Sci};
 
 /// Carries out a command, or refuses it and changes nothing.
-fn carry_out(e: &mut Endpoint, command: Result<Command, ArgumentFault>) -> u32
+pub(crate) fn carry_out(e: &mut Endpoint, command: Result<Command, ArgumentFault>) -> u32
     ensures { (result, e.new.state) ≡ commanded e.old.state command }
 {
     if !e.is_made() {

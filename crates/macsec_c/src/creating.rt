@@ -1,6 +1,8 @@
 //! An endpoint for a handle, and its end.
 
 ghost use Rattle.std.specs.Prelude.{◌≡◌, None};
+ghost use Rattle.macsec_secy.specs.Answers.{MakesEndpoint};
+ghost use Rattle.macsec_lines.specs.Fields.{map_ok};
 ghost use Rattle.macsec_c.specs.Answers.{Makes};
 ghost use Rattle.macsec_c.specs.Configs.{config_of};
 
@@ -33,6 +35,21 @@ fn config_of(config: &Config) -> Result<EndConfig, ArgumentFault>
     })
 }
 
+/// An endpoint of this configuration, on the heap.
+pub(crate) fn endpoint_of(alloc: Global, config: EndConfig) -> Result<Box<Secy, Global>, NewFault>
+    ensures { MakesEndpoint config (map_ok (λ secy. secy.value) result) }
+{
+    // By `?` and a second `match` an endpoint would take twice the stack.
+    let secy = match Secy::new(alloc, config) {
+        Ok(secy) => secy,
+        Err(fault) => return Err(fault),
+    };
+    let Ok(secy) = Box::new(alloc, secy) else {
+        return Err(NewFault::Memory);
+    };
+    Ok(secy)
+}
+
 /// Creates an endpoint of this configuration on the heap, in a handle that holds none.
 #[unsafe(no_mangle)]
 pub extern "C" fn macsec_new(alloc: Global, e: &mut Endpoint, config: &Config) -> u32
@@ -45,15 +62,13 @@ pub extern "C" fn macsec_new(alloc: Global, e: &mut Endpoint, config: &Config) -
         Ok(config) => config,
         Err(fault) => return fault.status(),
     };
-    let secy = match Secy::new(alloc, config) {
-        Ok(secy) => secy,
-        Err(fault) => return status_of_new_fault(fault),
-    };
-    let Ok(secy) = Box::new(alloc, secy) else {
-        return status_of_new_fault(NewFault::Memory);
-    };
-    e.put(Loose::of(secy));
-    DONE
+    match endpoint_of(alloc, config) {
+        Ok(secy) => {
+            e.put(Loose::of(secy));
+            DONE
+        }
+        Err(fault) => status_of_new_fault(fault),
+    }
 }
 
 /// Frees the endpoint of a handle, if it holds one; it holds none then.

@@ -2,7 +2,9 @@
 //!
 //! Proved: each export makes or frees an endpoint, or is one step of the machine of `macsec_secy`, or one reader of its
 //! state, for the arguments that C gave (`specs/Answers.antt`, `specs/SentParts.antt`, `specs/ReceivedParts.antt`,
-//! `specs/Shown.antt`): the status, what is shown, and what the handle holds after it. Numbers and lengths that name
+//! `specs/Shown.antt`): the status, what is shown, and what the handle holds after it. `macsec_configure` makes the
+//! endpoint of a text's lines, as `parse_config` reads them, after the steps of all their commands, or none;
+//! `macsec_command_line` is the step that a line says (`specs/Texts.antt`). Numbers and lengths that name
 //! nothing are refused by statuses of their own before anything else happens (`specs/Arguments.antt`), and a handle
 //! without an endpoint before those. A frame that is lent lies in the endpoint or is the caller's, and the endpoint's
 //! state after the loan is known. A handle owns its endpoint: `macsec_free` frees it once, and leaves a handle without
@@ -15,6 +17,7 @@
 
 mod arguments;
 mod commands;
+mod configuring;
 mod creating;
 mod endpoint;
 mod loose;

@@ -1,8 +1,9 @@
 //! The numbers that the calls return.
 
 ghost use Rattle.std.specs.Prelude.{◌≡◌};
-ghost use Rattle.macsec_c.specs.Statuses.{number_of_verdict, status_of_frame_fault, status_of_new_fault};
+ghost use Rattle.macsec_c.specs.Statuses.{number_of_verdict, status_of_frame_fault, status_of_line_fault, status_of_new_fault, status_of_script_fault};
 
+use macsec_lines::{LineFault, ScriptFault};
 use macsec_secy::{FrameFault, NewFault, Verdict};
 
 /// It is done.
@@ -50,6 +51,39 @@ pub(crate) fn status_of_frame_fault(fault: FrameFault) -> u32
     match fault {
         FrameFault::Short => 44,
         FrameFault::Long => 45,
+    }
+}
+
+/// The status of a fault of a line.
+pub(crate) fn status_of_line_fault(fault: LineFault) -> u32
+    ensures { result ≡ status_of_line_fault fault }
+{
+    match fault {
+        LineFault::Word => 46,
+        LineFault::Count => 47,
+        LineFault::Hex => 48,
+        LineFault::Number => 49,
+        LineFault::Ends => 50,
+        LineFault::LineLong => 51,
+        LineFault::Memory => status_of_new_fault(NewFault::Memory),
+    }
+}
+
+/// The status of a fault of a text, of which no reader and no writer has a part.
+pub(crate) fn status_of_script_fault(fault: ScriptFault) -> u32
+    ensures { result ≡ status_of_script_fault fault }
+{
+    match fault {
+        ScriptFault::Word(_) => status_of_line_fault(LineFault::Word),
+        ScriptFault::Count(_) => status_of_line_fault(LineFault::Count),
+        ScriptFault::Hex(_) => status_of_line_fault(LineFault::Hex),
+        ScriptFault::Number(_) => status_of_line_fault(LineFault::Number),
+        ScriptFault::Ends(_) => status_of_line_fault(LineFault::Ends),
+        ScriptFault::LineLong(_) => status_of_line_fault(LineFault::LineLong),
+        ScriptFault::ScriptLong => 52,
+        ScriptFault::Memory | ScriptFault::Read | ScriptFault::Write => {
+            status_of_new_fault(NewFault::Memory)
+        }
     }
 }
 

@@ -1,0 +1,8 @@
+use Rattle.std.proofs.Common.{rules}
+use Rattle.std.specs.Prelude.{Err}
+use Rattle.macsec_lines.specs.declared.lines.LineFault.TheVariants.{Memory}
+use Rattle.macsec_c.proofs.configuring.macsec_command_line.Goals as goal
+
+-- nothing is read where there is no endpoint
+pub returns-then-not-is_made : goal.returns-then-not-is_made
+returns-then-not-is_made c = (Err Memory, tt, search rules)

@@ -1,0 +1,197 @@
+//! Text: the configuration of an endpoint, and a line of one command.
+
+ghost use Rattle.std.specs.Prelude.{◌≡◌, option_map};
+ghost use Rattle.macsec_lines.specs.Fields.{map_ok};
+ghost use Rattle.macsec_lines.specs.Readings.{Reads};
+ghost use Rattle.macsec_lines.specs.Scripts.{a_config};
+ghost use Rattle.macsec_c.specs.Texts.{CommandsLine, Configures, Gives, after_command, carried_out, command_of, configured, endpoint_of, line_command, line_of_config_fault, status_of_config_fault};
+
+use crate::commands::carry_out;
+use crate::creating::endpoint_of;
+use crate::endpoint::Endpoint;
+use crate::loose::Loose;
+use crate::statuses::{
+    DONE, EMPTY, TAKEN, status_of_line_fault, status_of_new_fault, status_of_script_fault,
+};
+use macsec_commands::{End, Event};
+use macsec_lines::{Line, LineFault, ScriptFault, parse_config, parse_line};
+use macsec_secy::{Command, EndConfig, NewFault, Refusal, Secy};
+use std::alloc::Global;
+
+/// Why a text makes no endpoint.
+#[derive(Clone, Copy)]
+pub enum ConfigFault {
+    /// The text has a fault, or there is no memory to read it.
+    Text(ScriptFault),
+    /// No endpoint can be created.
+    New(NewFault),
+    /// The command of this line is refused.
+    Refused(u32, Refusal),
+}
+
+impl ConfigFault {
+    /// The status.
+    fn status(self) -> u32
+        ensures { result ≡ status_of_config_fault self }
+    {
+        match self {
+            ConfigFault::Text(fault) => status_of_script_fault(fault),
+            ConfigFault::New(fault) => status_of_new_fault(fault),
+            ConfigFault::Refused(_, refusal) => u32::from(refusal.number()),
+        }
+    }
+
+    /// The number of the line at fault, from 1, or 0 if it is no line's.
+    fn line(self) -> u32
+        ensures { result ≡ line_of_config_fault self }
+    {
+        match self {
+            ConfigFault::Text(fault) => fault.line().unwrap_or(0),
+            ConfigFault::New(_) => 0,
+            ConfigFault::Refused(n, _) => n,
+        }
+    }
+}
+
+impl From<ScriptFault> for ConfigFault {
+    ghost use Rattle.macsec_c.specs.declared.configuring.ConfigFault.TheVariants.{Text};
+    ghost use Rattle.std.specs.Prelude.{◌≡◌};
+
+    ghost from_gives = { λ fault r. r ≡ Text fault };
+
+    fn from(fault: ScriptFault) -> ConfigFault {
+        ConfigFault::Text(fault)
+    }
+}
+
+impl From<NewFault> for ConfigFault {
+    ghost use Rattle.macsec_c.specs.declared.configuring.ConfigFault.TheVariants.{New};
+    ghost use Rattle.std.specs.Prelude.{◌≡◌};
+
+    ghost from_gives = { λ fault r. r ≡ New fault };
+
+    fn from(fault: NewFault) -> ConfigFault {
+        ConfigFault::New(fault)
+    }
+}
+
+/// The configuration of end A, if the line is its line.
+fn config_at_a(line: &Line) -> Option<EndConfig>
+    ensures { result ≡ a_config line.now }
+{
+    match line {
+        Line::End(End::A, config) => Some(*config),
+        _ => None,
+    }
+}
+
+/// The command at end A that a line says, if it says one.
+fn command_of(line: &Line) -> Option<Command>
+    ensures { result ≡ command_of line.now }
+{
+    match line {
+        Line::Event(Event::Command(End::A, command)) => Some(*command),
+        _ => None,
+    }
+}
+
+/// Carries out the command of line `n`.
+fn carry_out_line(secy: &mut Secy, n: u32, line: &Line) -> Result<(), ConfigFault>
+    ensures { map_ok (λ done. secy.new) result ≡ after_command n secy.old (command_of line.now) }
+{
+    let Some(command) = command_of(line) else {
+        return Err(ConfigFault::Text(ScriptFault::Ends(n)));
+    };
+    match secy.command(&command) {
+        Ok(()) => Ok(()),
+        Err(refusal) => Err(ConfigFault::Refused(n, refusal)),
+    }
+}
+
+/// Carries out the commands of these lines, until one is refused.
+fn carry_out_lines(secy: &mut Secy, lines: &[(u32, Line)]) -> Result<(), ConfigFault>
+    ensures { map_ok (λ done. secy.new) result ≡ carried_out secy.old lines.now }
+{
+    for (n, line) in lines {
+        carry_out_line(secy, *n, line)?;
+    }
+    Ok(())
+}
+
+/// The endpoint that the first line creates, after the commands of the others.
+fn endpoint_of_lines(alloc: Global, lines: &[(u32, Line)]) -> Result<Box<Secy, Global>, ConfigFault>
+    ensures { Gives (endpoint_of lines.now) (map_ok (λ secy. secy.value) result) }
+{
+    let Some((first, commands)) = lines.split_first() else {
+        return Err(ConfigFault::Text(ScriptFault::Ends(0)));
+    };
+    let Some(config) = config_at_a(&first.1) else {
+        return Err(ConfigFault::Text(ScriptFault::Ends(first.0)));
+    };
+    let mut secy = endpoint_of(alloc, config)?;
+    carry_out_lines(&mut *secy, commands)?;
+    Ok(secy)
+}
+
+/// The endpoint of a configuration, after its commands.
+fn configured(alloc: Global, text: &[u8]) -> Result<Box<Secy, Global>, ConfigFault>
+    ensures { Gives (configured text.now) (map_ok (λ secy. secy.value) result) }
+{
+    let lines = parse_config(alloc, text)?;
+    endpoint_of_lines(alloc, lines.as_slice())
+}
+
+/// Creates the endpoint of a configuration, and carries out its commands, in a handle that holds none. It holds none
+/// still if the text has a fault or a command is refused.
+#[unsafe(no_mangle)]
+pub extern "C" fn macsec_configure(
+    alloc: Global,
+    e: &mut Endpoint,
+    text: &[u8],
+    line: &mut u32,
+) -> u32
+    ensures { Configures e.old.state text.now (result, line.new) e.new.state }
+{
+    *line = 0;
+    if e.is_made() {
+        return TAKEN;
+    }
+    match configured(alloc, text) {
+        Ok(secy) => {
+            e.put(Loose::of(secy));
+            DONE
+        }
+        Err(fault) => {
+            *line = fault.line();
+            fault.status()
+        }
+    }
+}
+
+/// The command at end A that a line says, or `None` if it is skipped.
+fn line_command(alloc: Global, text: &[u8]) -> Result<Option<Command>, LineFault>
+    ensures { Reads (line_command text.now) result }
+{
+    let Some(line) = parse_line(alloc, text)? else {
+        return Ok(None);
+    };
+    match command_of(&line) {
+        Some(command) => Ok(Some(command)),
+        None => Err(LineFault::Ends),
+    }
+}
+
+/// Carries out the command at end A that a line says, or refuses it and changes nothing.
+#[unsafe(no_mangle)]
+pub extern "C" fn macsec_command_line(alloc: Global, e: &mut Endpoint, text: &[u8]) -> u32
+    ensures { CommandsLine e.old.state text.now result e.new.state }
+{
+    if !e.is_made() {
+        return EMPTY;
+    }
+    match line_command(alloc, text) {
+        Ok(Some(command)) => carry_out(e, Ok(command)),
+        Ok(None) => DONE,
+        Err(fault) => status_of_line_fault(fault),
+    }
+}
