@@ -1,14 +1,16 @@
 """What the program must print, write and return, by the rules of docs/: scripts, endpoints, links and captures.
 
 The rules of docs/ are written here once more, in Python, so that an answer of the program can be compared with them.
-Standard library alone. FIPS 197 and SP 800-38D are at the end of this file.
+captures.py has those of capture files. Standard library alone. FIPS 197 and SP 800-38D are at the end of this file.
 """
 
 import functools
 import struct
 
+import captures
+
 MAX_SCRIPT, MAX_LINES, MAX_LINE = 1_048_576, 65_536, 20_000
-MAX_LINK_FRAMES, MIN_FRAME, MAX_FRAME, MAX_RECORD = 65_536, 14, 9_248, 262_144
+MAX_LINK_FRAMES, MIN_FRAME, MAX_FRAME = 65_536, 14, 9_248
 SUITES = {"gcm128": (16, False), "gcm256": (32, False), "xpn128": (16, True), "xpn256": (32, True)}
 FORMS, MODES = ("auto", "sci", "es", "scb"), ("disabled", "check", "strict")
 REFUSALS = (
@@ -601,49 +603,6 @@ def run_script(script, make_world=World):
 # Captures.
 
 
-class PcapFault(Exception):
-    """The fault of a capture file."""
-
-
-def read_header(file):
-    """The order of octets, and whether the unit is a nanosecond."""
-    if len(file) < 24:
-        raise PcapFault("CutHeader")
-    for order in "<>":
-        magic, major, minor = struct.unpack_from(order + "IHH", file)
-        if magic in (0xA1B2C3D4, 0xA1B23C4D):
-            if (major, minor) != (2, 4):
-                raise PcapFault("Version")
-            if struct.unpack_from(order + "I", file, 20) != (1,):
-                raise PcapFault("LinkType")
-            return order, magic == 0xA1B23C4D
-    raise PcapFault("Magic")
-
-
-def read_records(file, order):
-    """The records: seconds, fraction, and the frame, or None where it is partial."""
-    place = 24
-    while place < len(file):
-        if len(file) - place < 16:
-            raise PcapFault("CutRecord")
-        seconds, fraction, captured, original = struct.unpack_from(order + "IIII", file, place)
-        place += 16
-        if captured > MAX_RECORD:
-            raise PcapFault("RecordLength")
-        if len(file) - place < captured:
-            raise PcapFault("CutRecord")
-        yield seconds, fraction, file[place : place + captured] if captured >= original else None
-        place += captured
-
-
-def write_header(is_nano):
-    return struct.pack("<IHHIIII", 0xA1B23C4D if is_nano else 0xA1B2C3D4, 2, 4, 0, 0, 65_535, 1)
-
-
-def write_record(seconds, fraction, frame):
-    return struct.pack("<IIII", seconds, fraction, len(frame), len(frame)) + frame
-
-
 def run_capture(direction, config, file):
     """Status, text, the line on standard error, and the output file."""
     try:
@@ -654,14 +613,14 @@ def run_capture(direction, config, file):
     text = [f"{number} {command_result(endpoint, keyword, values)}" for number, keyword, _, values in lines[1:]]
     output = b""
     try:
-        order, is_nano = read_header(file)
-        output = write_header(is_nano)
-        for number, (seconds, fraction, frame) in enumerate(read_records(file, order)):
+        is_nano, records = captures.read_capture(file)
+        output = captures.write_header(is_nano)
+        for number, (seconds, fraction, frame) in enumerate(records):
             told, sent = record_result(endpoint, direction, frame)
             text.append(f"record {number} {told}")
             if sent is not None:
-                output += write_record(seconds, fraction, sent)
-    except PcapFault as fault:
+                output += captures.write_record(seconds, fraction, sent)
+    except captures.PcapFault as fault:
         return 1, text_of(text), f"macsec: pcap {fault}\n".encode(), output
     return 0, text_of(text + endpoint.counter_lines("end")), b"", output
 

@@ -26,14 +26,17 @@ import tempfile
 import time
 
 sys.dont_write_bytecode = True
-import expected
+import captures
 import promises
 from inputs import ROOT, Corpus, case_of
 
 SECONDS = 20
 PROGRAMS = [ROOT / "build/macsec", ROOT / "build/macsec-rattle"]
 SCRIPT_FAULTS = "Word Count Hex Number Ends LineLong".split()
-PCAP_FAULTS = "Magic Version LinkType CutHeader CutRecord RecordLength Read Write Memory RecordCount".split()
+PCAP_FAULTS = (
+    "Magic Version LinkType CutHeader CutRecord RecordLength Read Write Memory RecordCount BlockLength NoInterface "
+    "InterfaceCount Time"
+).split()
 # What standard error may have, and the status that goes with it.
 STATED = [
     (0, rb""),
@@ -75,9 +78,9 @@ def answer_of(program, case, folder):
 def is_capture(octets):
     """Is it nothing, or a header and whole records?"""
     try:
-        order, _ = expected.read_header(octets)
-        return order == "<" and all(it is not None for *_, it in expected.read_records(octets, order))
-    except expected.PcapFault:
+        order, _ = captures.read_header(octets)
+        return order == "<" and all(it is not None for *_, it in captures.read_records(octets, order))
+    except captures.PcapFault:
         return not octets
 
 

@@ -10,6 +10,8 @@ import random
 import re
 import struct
 
+import blocks
+import captures
 import expected
 import made
 import promises
@@ -267,7 +269,7 @@ def of_frame(rng, frame):
         frame[rng.randrange(len(frame))] ^= 1 << rng.randrange(8)
     elif way == 4:
         sizes = (13, 14, 59, 60, 61, 63, 64, 1_486, 1_494, 1_518, 9_216, 9_248, 9_249)
-        size = rng.choice(sizes if rng.randrange(30) else (expected.MAX_RECORD, expected.MAX_RECORD + 1))
+        size = rng.choice(sizes if rng.randrange(30) else (captures.MAX_RECORD, captures.MAX_RECORD + 1))
         return (bytes(frame) + bytes(size))[:size]
     elif way == 5:
         return rng.randbytes(rng.randrange(100))
@@ -275,7 +277,19 @@ def of_frame(rng, frame):
 
 
 def of_capture(rng, frames):
-    """A capture file of these frames, in any form, after some mutations of frames, records, fields and octets."""
+    """A capture file of these frames in one of the two formats, in any form, after some mutations."""
+    octets = of_blocks(rng, frames) if rng.randrange(3) == 0 else of_records(rng, frames)
+    return octets if rng.random() < 0.7 else of_octets(rng, octets)
+
+
+def of_blocks(rng, frames):
+    """A file in the format pcapng, after some mutations of frames and blocks."""
+    frames = [of_frame(rng, it) if rng.randrange(4) == 0 else it for it in frames]
+    return blocks.made_file(rng, frames, is_sound=rng.randrange(3) == 0)
+
+
+def of_records(rng, frames):
+    """A file in the format pcap, after some mutations of frames, records and fields."""
     capture = Capture(frames, rng.choice("<<>"), rng.random() < 0.3)
     for _ in range(rng.choice((0, 1, 1, 2, 3))):
         records, place = capture.records, rng.randrange(len(capture.records) or 1)
@@ -294,8 +308,7 @@ def of_capture(rng, frames):
             capture.fields[name] = rng.choice((0, 1, 2, 3, 4, 256, 65_535))
         elif way == 7 and records and rng.randrange(60) == 0 and len(capture.octets()) < 5_000:
             capture.records = records * (3_000 // len(records))
-    octets = capture.octets()
-    return octets if rng.random() < 0.7 else of_octets(rng, octets)
+    return capture.octets()
 
 
 # Cases.

@@ -1,5 +1,7 @@
 #!/usr/bin/env python3
-"""Puts a wrong rule into a copy of expected.py, one at a time, and says which input of fuzz.py first shows it.
+"""Puts a wrong rule into a copy of the rules, one at a time, and says which input of fuzz.py first shows it.
+
+The rules are expected.py and captures.py.
 
     python3 fuzz/planted.py [--inputs N] [--seed TEXT]
 
@@ -18,7 +20,7 @@ sys.dont_write_bytecode = True
 import inputs
 import promises
 
-# The mistake, and a text of expected.py, which stands there once, with the one that takes its place.
+# The mistake, and a text of the rules, which stands there once, with the one that takes its place.
 PLANTED = [
     (
         "a late frame is one at the lowest acceptable number too",
@@ -262,18 +264,18 @@ PLANTED = [
     ),
     (
         "a capture of more octets than the frame had is partial",
-        "if captured >= original",
-        "if captured == original",
+        "place + captured] if captured >= original",
+        "place + captured] if captured == original",
     ),
     (
         "the captured length comes after the octets",
-        "if captured > MAX_RECORD:",
-        "if captured > MAX_RECORD and len(file) - place >= captured:",
+        "        if captured > MAX_RECORD:\n            raise",
+        "        if captured > MAX_RECORD and len(file) - place >= captured:\n            raise",
     ),
     (
         "nanoseconds are written as microseconds",
-        "output = write_header(is_nano)",
-        "output = write_header(False)",
+        "output = captures.write_header(is_nano)",
+        "output = captures.write_header(False)",
     ),
     (
         "another minor version is taken",
@@ -282,8 +284,48 @@ PLANTED = [
     ),
     (
         "a partial record has no number",
-        "enumerate(read_records(file, order)):",
-        "enumerate(it for it in read_records(file, order) if it[2] is not None):",
+        "enumerate(records):",
+        "enumerate(it for it in records if it[2] is not None):",
+    ),
+    (
+        "the padding of a packet is taken for data",
+        "start + captured] if captured >= original",
+        "start + (captured + 3) // 4 * 4] if captured >= original",
+    ),
+    (
+        "a section is read in the order of the one before it",
+        "order = ORDERS[magic]",
+        "order = order if place else ORDERS[magic]",
+    ),
+    (
+        "a section has the interfaces of the one before it",
+        "            interfaces = []\n        elif",
+        "            pass\n        elif",
+    ),
+    (
+        "times are in the unit of the first interface",
+        "_, resolution, offset = interface_of(interfaces, number)",
+        "_, resolution, offset = interface_of(interfaces, number) and interfaces[0][1:]",
+    ),
+    (
+        "a power of two is taken for one of ten",
+        "2 ** (resolution - 128) if",
+        "10 ** (resolution - 128) if",
+    ),
+    (
+        "an offset has no sign",
+        'order + "q"',
+        'order + "Q"',
+    ),
+    (
+        "a simple packet has more octets than the snap length",
+        "min(original, snap or original)",
+        "original",
+    ),
+    (
+        "a block is skipped without its last four octets",
+        "file[place + 8 : end - 4], end\n",
+        "file[place + 8 : end - 4], end - 4 * (kind not in LEAST)\n",
     ),
 ]
 
@@ -414,13 +456,14 @@ BREAKING = [
 
 
 class Plant:
-    """A copy of expected.py with a wrong rule, and the promise that the rule breaks or None."""
+    """A copy of the rules with a wrong one, and the promise that the rule breaks or None."""
 
     def __init__(self, promise, mistake, old, new):
-        self.promise, self.mistake, self.model = promise, mistake, types.ModuleType("planted")
-        text = (inputs.ROOT / "fuzz/expected.py").read_text()
-        assert text.count(old) == 1, mistake
-        exec(compile(text.replace(old, new), "planted", "exec"), self.model.__dict__)
+        self.promise, self.mistake = promise, mistake
+        texts = [(inputs.ROOT / "fuzz" / name).read_text() for name in ("expected.py", "captures.py")]
+        assert sum(it.count(old) for it in texts) == 1, mistake
+        self.model, rules = (module_of(it.replace(old, new)) for it in texts)
+        self.model.captures = rules
 
     def is_shown(self, case):
         """Is the answer to an input another one; or is the promise seen to be broken?"""
@@ -438,6 +481,12 @@ class Plant:
         except promises.Broken as broken:
             return broken.args[0] == self.promise
         return False
+
+
+def module_of(text):
+    module = types.ModuleType("planted")
+    exec(compile(text, "planted", "exec"), module.__dict__)
+    return module
 
 
 def script_of(case):

@@ -3,6 +3,7 @@
 use crate::room::{fill, one, write_answer};
 use macsec_capture::{CaptureFault, Direction, run_capture};
 use macsec_pcap::{PcapFault, PcapReader};
+use macsec_pcapng::{CaptureReader, PcapngReader};
 use macsec_print::write_fault;
 use macsec_script::ScriptFault;
 use std::alloc::Global;
@@ -22,16 +23,55 @@ const RECORD: [u8; 30] = [
     0, 0, 1, 8, 0,
 ];
 
+/// A section header of a file in the format pcapng.
+const SECTION: [u8; 28] = [
+    0x0a, 0x0d, 0x0d, 0x0a, 28, 0, 0, 0, 0x4d, 0x3c, 0x2b, 0x1a, 1, 0, 0, 0, 0xff, 0xff, 0xff,
+    0xff, 0xff, 0xff, 0xff, 0xff, 28, 0, 0, 0,
+];
+
 /// `PcapReader::new`.
 pub fn reader<W: Write>(alloc: Global, before: u32, writer: &mut W) -> Result<(), ScriptFault> {
     let filled = fill(alloc, before);
     let reader = PcapReader::new(alloc, HEADER.as_slice());
     let after = one(alloc);
-    let answer = match reader {
+    write_answer(writer, filled, answer_of(&reader), after)
+}
+
+/// `PcapngReader::new`.
+pub fn pcapng_reader<W: Write>(
+    alloc: Global,
+    before: u32,
+    writer: &mut W,
+) -> Result<(), ScriptFault> {
+    let filled = fill(alloc, before);
+    let reader = PcapngReader::new(alloc, SECTION.as_slice());
+    let after = one(alloc);
+    write_answer(writer, filled, answer_of(&reader), after)
+}
+
+/// `CaptureReader::new`, of a file in the format of this name.
+pub fn capture_reader<W: Write>(
+    alloc: Global,
+    before: u32,
+    format: &[u8],
+    writer: &mut W,
+) -> Result<(), ScriptFault> {
+    let file = match format {
+        b"pcapng" => SECTION.as_slice(),
+        _ => HEADER.as_slice(),
+    };
+    let filled = fill(alloc, before);
+    let reader = CaptureReader::new(alloc, file);
+    let after = one(alloc);
+    write_answer(writer, filled, answer_of(&reader), after)
+}
+
+/// What the making of a reader answers.
+fn answer_of<T>(made: &Result<T, PcapFault>) -> &'static str {
+    match made {
         Ok(_) => "done",
         Err(fault) => fault.name(),
-    };
-    write_answer(writer, filled, answer, after)
+    }
 }
 
 /// A capture file of that record, three times.

@@ -36,6 +36,8 @@ pub fn report(
         "parse_config" => scripts::config(alloc, before, text, writer),
         "run_script" => scripts::run(alloc, before, text, writer),
         "PcapReader::new" => captures::reader(alloc, before, writer),
+        "PcapngReader::new" => captures::pcapng_reader(alloc, before, writer),
+        "CaptureReader::new" => captures::capture_reader(alloc, before, text, writer),
         "run_capture" => captures::run(alloc, before, text, writer),
         _ => return None,
     };

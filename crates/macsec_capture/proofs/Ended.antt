@@ -8,7 +8,8 @@ use Rattle.macsec_lines.specs.Scripts.{NumberedLine, config_of}
 use Rattle.macsec_lines.specs.declared.faults.ScriptFault.{ScriptFault}
 use Rattle.macsec_lines.specs.declared.faults.ScriptFault.TheVariants as script
 use Rattle.macsec_pcap.specs.declared.fault.PcapFault.{PcapFault}
-use Rattle.macsec_pcap.specs.Captures.{CaptureFile, file_of}
+use Rattle.macsec_pcap.specs.Captures.{CaptureFile}
+use Rattle.macsec_pcapng.specs.Captures.{captures_of}
 use Rattle.macsec_capture.specs.declared.Direction.{Direction}
 use Rattle.macsec_capture.specs.declared.fault.CaptureFault.TheVariants.{Script}
 use Rattle.macsec_capture.specs.Captured.{Captured, Part, captured, captured_after, captured_at, captured_by, commands_part, one_end}
@@ -26,7 +27,7 @@ after_end old new direction ready (Ok file) none adds = at_last direction ready 
 at_end : (old new : Option (List ℕ)) (direction : Direction) (end : Option (EndConfig × List NumberedLine)) (file : List ℕ) → IsAtOutput old new (captured_at direction end file)
 at_end old new direction None file none adds = (record { output = []; text = [] }, (0, omega arith, refl), adds)
 at_end old new direction (Some (config, commands)) file none adds =
-    after_end old new direction (commands_part (start config) commands) (file_of file) none adds
+    after_end old new direction (commands_part (start config) commands) (captures_of file) none adds
 
 by_end : (old new : Option (List ℕ)) (direction : Direction) (lines : Result (List NumberedLine) ScriptFault) (file : List ℕ) → IsAtOutput old new (captured_by direction lines file)
 by_end old new direction (Err fault) file none adds = cc

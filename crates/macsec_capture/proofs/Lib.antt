@@ -3,7 +3,6 @@ pub mod Configured
 pub mod Cuts
 pub mod Ended
 pub mod Ends
-pub mod Formats
 pub mod Grown
 pub mod Lengths
 pub mod Stops

@@ -16,7 +16,8 @@ use Rattle.macsec_capture.specs.declared.Direction.{Direction}
 use Rattle.macsec_capture.specs.declared.fault.CaptureFault.{CaptureFault}
 use Rattle.macsec_capture.specs.declared.fault.CaptureFault.TheVariants.{Script, Pcap}
 use Rattle.macsec_capture.specs.Captured.{Part, and_after, nothing, record_part, records_part}
-use Rattle.macsec_capture.specs.Runs.{Adds, CutsOutput, FailsIn, Grows, IsLateFault, IsOfFormat, RunsHeld, RunsRecords, Written, first_part, part_stop}
+use Rattle.macsec_pcapng.specs.Laws.{IsOfFormat}
+use Rattle.macsec_capture.specs.Runs.{Adds, CutsOutput, FailsIn, Grows, IsLateFault, RunsHeld, RunsRecords, Written, first_part, part_stop}
 use Rattle.macsec_capture.proofs.Cuts.{up_to_front}
 use Rattle.macsec_capture.proofs.Grown.{Grows-more, Grows-nothing}
 

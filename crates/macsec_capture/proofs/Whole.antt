@@ -14,17 +14,18 @@ use Rattle.macsec_print.specs.Counters.{counters_text}
 use Rattle.macsec_pcap.specs.declared.fault.PcapFault.{PcapFault}
 use Rattle.macsec_pcap.specs.declared.fault.PcapFault.TheVariants.{Magic, Version, LinkType, CutHeader, CutRecord, RecordLength, Read, Write, Memory, RecordCount, BlockLength, NoInterface, InterfaceCount, Time}
 use Rattle.macsec_pcap.specs.declared.form.Resolution.{Resolution}
-use Rattle.macsec_pcap.specs.Captures.{CaptureFile, file_of}
+use Rattle.macsec_pcap.specs.Captures.{CaptureFile}
 use Rattle.macsec_pcap.specs.Reading.{Opens, Reading, opened}
 use Rattle.macsec_pcap.specs.Writing.{AppendsFront}
 use Rattle.macsec_pcap.specs.Written.{header_octets}
+use Rattle.macsec_pcapng.specs.Captures.{captures_of}
+use Rattle.macsec_pcapng.specs.Laws.{FileIsOfFormat, IsOfFormat}
 use Rattle.macsec_capture.specs.declared.Direction.{Direction}
 use Rattle.macsec_capture.specs.declared.fault.CaptureFault.{CaptureFault}
 use Rattle.macsec_capture.specs.declared.fault.CaptureFault.TheVariants.{Script, Pcap}
 use Rattle.macsec_capture.specs.Captured.{Captured, Part, Stop, captured_after, captured_at, commands_part, last_lines, nothing, records_part, stops_of}
-use Rattle.macsec_capture.specs.Runs.{Adds, AtFirst, AtSome, CaptureGives, CutsOutput, Grows, InLast, IsOfFormat, IsLateFault, RunsHeld, RunsRecords, TakesFile, Written, behind_header, first_part, flushed_end, known}
+use Rattle.macsec_capture.specs.Runs.{Adds, AtFirst, AtSome, CaptureGives, CutsOutput, Grows, InLast, IsLateFault, RunsHeld, RunsRecords, TakesFile, Written, behind_header, first_part, flushed_end, known}
 use Rattle.macsec_capture.proofs.Cuts.{at_flush, at_header, at_record, cut_put, next_put, up_to_behind}
-use Rattle.macsec_capture.proofs.Formats.{file_format, header_fault_format}
 use Rattle.macsec_capture.proofs.Grown.{Grows-kept, Grows-more, Grows-nothing, Kept, fault_kept}
 use Rattle.macsec_capture.proofs.Stops.{at_first, at_last, first_put, put_before, some_at_first, some_behind, some_put, stops_put}
 
@@ -93,19 +94,19 @@ held_takes direction s file taken old mid new after (Err (Pcap fault)) first for
     held_fault direction s file taken old mid new after first format fault runs
 
 -- the header is the file's, and the reader holds its records
-pub taken_of_file : (direction : Direction) (s : State) (reader : Reading) (unit : Resolution) (taken : ℕ) (o m n x t u : Option (List ℕ)) (after : State) (answer : Result (Unit {0}) CaptureFault) →
+pub taken_of_file : ((file : List ℕ) → FileIsOfFormat (captures_of file)) → (direction : Direction) (s : State) (reader : Reading) (unit : Resolution) (taken : ℕ) (o m n x t u : Option (List ℕ)) (after : State) (answer : Result (Unit {0}) CaptureFault) →
     x ≡ n → unit ≡ reader.resolution → Appends o m (header_octets unit) → RunsRecords direction s reader.ahead taken (known m t) (known n u) after answer →
-    (octets : List ℕ) (file : CaptureFile) → file_of octets ≡ Ok file → reader ≡ opened file → TakesFile direction s file (known o t) (known x u) after answer
-taken_of_file direction s reader unit taken o m n x t u after answer back same adds runs octets file read stands =
+    (octets : List ℕ) (file : CaptureFile) → captures_of octets ≡ Ok file → reader ≡ opened file → TakesFile direction s file (known o t) (known x u) after answer
+taken_of_file law direction s reader unit taken o m n x t u after answer back same adds runs octets file read stands =
     subst (λ held. TakesFile direction s file (known o t) (known held u) after answer) (sym back)
     (held_takes direction s file taken (known o t) (known m t) (known n u) after answer
     (record { output = subst (λ u. Appends o m (header_octets u)) (same ∙ ap (λ (r : Reading). r.resolution) stands) adds; text = Appends-nil t })
-    (file_format octets file read) (subst (λ (r : Reading). RunsRecords direction s r.ahead taken (known m t) (known n u) after answer) stands runs))
+    (subst FileIsOfFormat read (law octets)) (subst (λ (r : Reading). RunsRecords direction s r.ahead taken (known m t) (known n u) after answer) stands runs))
 
 -- the header can't be written
 pub headless : (direction : Direction) (s : State) (reader : Reading) (unit : Resolution) (o m t : Option (List ℕ)) (fault : PcapFault) → fault ≡ Write →
     unit ≡ reader.resolution → AppendsFront o m (header_octets unit) →
-    (octets : List ℕ) (file : CaptureFile) → file_of octets ≡ Ok file → reader ≡ opened file →
+    (octets : List ℕ) (file : CaptureFile) → captures_of octets ≡ Ok file → reader ≡ opened file →
     TakesFile direction s file (known o t) (known m t) s (Err (Pcap fault))
 headless direction s reader unit o m t fault is same cut octets file read stands =
     let header : AppendsFront o m (header_octets file.resolution) =
@@ -136,8 +137,8 @@ flushed_file direction s file old mid new after kept (Ok done) (Ok flushed) take
 
 pub flushed : {E : Type 0} (direction : Direction) (s : State) (reader : Reading) (o m n t u : Option (List ℕ)) (after : State) → Keeps m n →
     (written : Result (Unit {0}) CaptureFault) (ended : Result (Unit {0}) E) →
-    ((octets : List ℕ) (file : CaptureFile) → file_of octets ≡ Ok file → reader ≡ opened file → TakesFile direction s file (known o t) (known m u) after written) →
-    (octets : List ℕ) (file : CaptureFile) → file_of octets ≡ Ok file → reader ≡ opened file →
+    ((octets : List ℕ) (file : CaptureFile) → captures_of octets ≡ Ok file → reader ≡ opened file → TakesFile direction s file (known o t) (known m u) after written) →
+    (octets : List ℕ) (file : CaptureFile) → captures_of octets ≡ Ok file → reader ≡ opened file →
     TakesFile direction s file (known o t) (known n u) after (flushed_end written ended)
 flushed direction s reader o m n t u after keeps written ended takes octets file read stands =
     flushed_file direction s file (known o t) (known m u) (known n u) after (record { output = keeps; text = Keeps-refl u }) written ended
@@ -178,38 +179,38 @@ same_stops : (direction : Direction) (ready : Part) (file : Result CaptureFile P
 same_stops direction ready (Err fault) = refl
 same_stops direction ready (Ok file) = refl
 
-unopened_gives : (direction : Direction) (s : State) (octets : List ℕ) (w : Written) (fault : PcapFault) →
-    Opens (file_of octets) (Err fault) → CaptureGives (captured_after direction (nothing s) (file_of octets)) w w (Err (Pcap fault))
-unopened_gives direction s octets w Read h =
-    subst (λ stops. AtSome stops (λ stop. Grows w w stop.output stop.text)) (same_stops direction (nothing s) (file_of octets))
-    (some_at_first direction (nothing s) (file_of octets) (λ stop. Grows w w stop.output stop.text) (Grows-nothing w))
-unopened_gives direction s octets w Memory h =
-    subst (λ stops. AtFirst stops (λ stop. Grows w w stop.output stop.text)) (same_stops direction (nothing s) (file_of octets))
-    (at_first direction (nothing s) (file_of octets) (λ stop. Grows w w stop.output stop.text) (Grows-nothing w))
-unopened_gives direction s octets w Write h = absurd (header_fault_format octets Write h)
-unopened_gives direction s octets w Magic h = header_fault direction s (file_of octets) w Magic h
-unopened_gives direction s octets w Version h = header_fault direction s (file_of octets) w Version h
-unopened_gives direction s octets w LinkType h = header_fault direction s (file_of octets) w LinkType h
-unopened_gives direction s octets w CutHeader h = header_fault direction s (file_of octets) w CutHeader h
-unopened_gives direction s octets w CutRecord h = header_fault direction s (file_of octets) w CutRecord h
-unopened_gives direction s octets w RecordLength h = header_fault direction s (file_of octets) w RecordLength h
-unopened_gives direction s octets w RecordCount h = header_fault direction s (file_of octets) w RecordCount h
-unopened_gives direction s octets w BlockLength h = header_fault direction s (file_of octets) w BlockLength h
-unopened_gives direction s octets w NoInterface h = header_fault direction s (file_of octets) w NoInterface h
-unopened_gives direction s octets w InterfaceCount h = header_fault direction s (file_of octets) w InterfaceCount h
-unopened_gives direction s octets w Time h = header_fault direction s (file_of octets) w Time h
+unopened_gives : ((file : List ℕ) → FileIsOfFormat (captures_of file)) → (direction : Direction) (s : State) (octets : List ℕ) (w : Written) (fault : PcapFault) →
+    Opens (captures_of octets) (Err fault) → CaptureGives (captured_after direction (nothing s) (captures_of octets)) w w (Err (Pcap fault))
+unopened_gives law direction s octets w Read h =
+    subst (λ stops. AtSome stops (λ stop. Grows w w stop.output stop.text)) (same_stops direction (nothing s) (captures_of octets))
+    (some_at_first direction (nothing s) (captures_of octets) (λ stop. Grows w w stop.output stop.text) (Grows-nothing w))
+unopened_gives law direction s octets w Memory h =
+    subst (λ stops. AtFirst stops (λ stop. Grows w w stop.output stop.text)) (same_stops direction (nothing s) (captures_of octets))
+    (at_first direction (nothing s) (captures_of octets) (λ stop. Grows w w stop.output stop.text) (Grows-nothing w))
+unopened_gives law direction s octets w Write h = absurd (subst FileIsOfFormat (sym h) (law octets))
+unopened_gives law direction s octets w Magic h = header_fault direction s (captures_of octets) w Magic h
+unopened_gives law direction s octets w Version h = header_fault direction s (captures_of octets) w Version h
+unopened_gives law direction s octets w LinkType h = header_fault direction s (captures_of octets) w LinkType h
+unopened_gives law direction s octets w CutHeader h = header_fault direction s (captures_of octets) w CutHeader h
+unopened_gives law direction s octets w CutRecord h = header_fault direction s (captures_of octets) w CutRecord h
+unopened_gives law direction s octets w RecordLength h = header_fault direction s (captures_of octets) w RecordLength h
+unopened_gives law direction s octets w RecordCount h = header_fault direction s (captures_of octets) w RecordCount h
+unopened_gives law direction s octets w BlockLength h = header_fault direction s (captures_of octets) w BlockLength h
+unopened_gives law direction s octets w NoInterface h = header_fault direction s (captures_of octets) w NoInterface h
+unopened_gives law direction s octets w InterfaceCount h = header_fault direction s (captures_of octets) w InterfaceCount h
+unopened_gives law direction s octets w Time h = header_fault direction s (captures_of octets) w Time h
 
-pub unopened : (direction : Direction) (s : State) (input : Option (List ℕ)) (w : Written) (fault : PcapFault) →
-    IfSome input (λ file. Opens (file_of file) (Err fault)) → IfSome input (λ file. CaptureGives (captured_after direction (nothing s) (file_of file)) w w (Err (Pcap fault)))
-unopened direction s None w fault h = tt
-unopened direction s (Some octets) w fault h = unopened_gives direction s octets w fault h
+pub unopened : ((file : List ℕ) → FileIsOfFormat (captures_of file)) → (direction : Direction) (s : State) (input : Option (List ℕ)) (w : Written) (fault : PcapFault) →
+    IfSome input (λ file. Opens (captures_of file) (Err fault)) → IfSome input (λ file. CaptureGives (captured_after direction (nothing s) (captures_of file)) w w (Err (Pcap fault)))
+unopened law direction s None w fault h = tt
+unopened law direction s (Some octets) w fault h = unopened_gives law direction s octets w fault h
 
 -- ---- a file that was opened
 
 pub opened_gives : (direction : Direction) (s : State) (input : Option (List ℕ)) (reader : Reading) (old new : Written) (answer : Result (Unit {0}) CaptureFault) →
-    IfSome input (λ file. Opens (file_of file) (Ok reader)) →
-    ((octets : List ℕ) (file : CaptureFile) → file_of octets ≡ Ok file → reader ≡ opened file → CaptureGives (of_file direction s file) old new answer) →
-    IfSome input (λ file. CaptureGives (captured_after direction (nothing s) (file_of file)) old new answer)
+    IfSome input (λ file. Opens (captures_of file) (Ok reader)) →
+    ((octets : List ℕ) (file : CaptureFile) → captures_of octets ≡ Ok file → reader ≡ opened file → CaptureGives (of_file direction s file) old new answer) →
+    IfSome input (λ file. CaptureGives (captured_after direction (nothing s) (captures_of file)) old new answer)
 opened_gives direction s None reader old new answer opens gives = tt
 opened_gives direction s (Some octets) reader old new answer opens gives =
     subst (λ f. CaptureGives (captured_after direction (nothing s) f) old new answer) (sym opens.1) (gives octets opens.0 opens.1 opens.2)
@@ -281,11 +282,11 @@ ready_gives direction ready s file old mid new is same prints answer late gives 
 
 pub configured_gives : (direction : Direction) (config : EndConfig) (commands : List NumberedLine) (first s : State) (input o n t m u : Option (List ℕ)) (answer : Result (Unit {0}) CaptureFault) →
     first ≡ start config → s ≡ (commands_part first commands).state → Appends t m (commands_part first commands).text → IfErr answer IsLateFault →
-    IfSome input (λ file. CaptureGives (captured_after direction (nothing s) (file_of file)) (known o m) (known n u) answer) →
+    IfSome input (λ file. CaptureGives (captured_after direction (nothing s) (captures_of file)) (known o m) (known n u) answer) →
     IfSome input (λ file. CaptureGives (captured_at direction (Some (config, commands)) file) (known o t) (known n u) answer)
 configured_gives direction config commands first s None o n t m u answer created same adds late gives = tt
 configured_gives direction config commands first s (Some file) o n t m u answer created same adds late gives =
-    ready_gives direction (commands_part (start config) commands) s (file_of file) (known o t) (known o m) (known n u)
+    ready_gives direction (commands_part (start config) commands) s (captures_of file) (known o t) (known o m) (known n u)
     (same ∙ ap (λ v. (commands_part v commands).state) created) refl (subst (λ v. Appends t m (commands_part v commands).text) created adds) answer late gives
 
 -- the commands can't be printed
@@ -295,5 +296,5 @@ unprinted direction config commands None o t u fault is = tt
 unprinted direction config commands (Some file) o t u fault is =
     let ready = commands_part (start config) commands in
     subst (λ f. CaptureGives (captured_at direction (Some (config, commands)) file) (known o t) (known o u) (Err (Script f))) (sym is)
-    (subst (λ stops. AtSome stops (λ stop. Appends o o stop.output)) (same_stops direction ready (file_of file))
-    (some_at_first direction ready (file_of file) (λ stop. Appends o o stop.output) (Appends-nil o)))
+    (subst (λ stops. AtSome stops (λ stop. Appends o o stop.output)) (same_stops direction ready (captures_of file))
+    (some_at_first direction ready (captures_of file) (λ stop. Appends o o stop.output) (Appends-nil o)))

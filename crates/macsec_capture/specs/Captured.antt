@@ -15,8 +15,9 @@ use Rattle.macsec_print.specs.Counters.{counters_text}
 use Rattle.macsec_print.specs.Outcomes.{outcome_text}
 use Rattle.macsec_pcap.specs.declared.fault.PcapFault.{PcapFault}
 use Rattle.macsec_pcap.specs.Records.{CaptureRecord}
-use Rattle.macsec_pcap.specs.Captures.{CaptureFile, file_of}
+use Rattle.macsec_pcap.specs.Captures.{CaptureFile}
 use Rattle.macsec_pcap.specs.Written.{header_octets, record_octets}
+use Rattle.macsec_pcapng.specs.Captures.{captures_of}
 use Rattle.macsec_capture.specs.declared.Direction.{Direction}
 use Rattle.macsec_capture.specs.declared.Direction.TheVariants.{Protect, Validate}
 use Rattle.macsec_capture.specs.declared.fault.CaptureFault.{CaptureFault}
@@ -165,7 +166,7 @@ captured_after direction ready (Ok file) =
 abbrev pub captured_at : Direction → Option (EndConfig × List NumberedLine) → List ℕ → Captured
 captured_at direction None file = record { output = []; text = []; fault = None; stops = record { output = []; text = [] } ∷ [] }
 captured_at direction (Some (config, commands)) file =
-    captured_after direction (commands_part (start config) commands) (file_of file)
+    captured_after direction (commands_part (start config) commands) (captures_of file)
 
 abbrev pub captured_by : Direction → Result (List NumberedLine) ScriptFault → List ℕ → Captured
 captured_by direction (Err fault) file = record { output = []; text = []; fault = Some (Script fault); stops = [] }

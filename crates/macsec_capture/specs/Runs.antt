@@ -6,13 +6,13 @@ use Rattle.macsec_secy.specs.State.{State}
 use Rattle.macsec_lines.specs.declared.faults.ScriptFault.{ScriptFault}
 use Rattle.macsec_lines.specs.declared.faults.ScriptFault.TheVariants as script
 use Rattle.macsec_lines.specs.Scripts.{NumberedLine, config_of}
-use Rattle.macsec_pcap.specs.declared.fault.PcapFault.{PcapFault}
 use Rattle.macsec_pcap.specs.declared.fault.PcapFault.TheVariants as pcap
 use Rattle.macsec_pcap.specs.Records.{CaptureRecord}
 use Rattle.macsec_pcap.specs.Captures.{Capture, CaptureFile}
 use Rattle.macsec_pcap.specs.Reading.{Ahead, over, failed, holds, untold}
 use Rattle.macsec_pcap.specs.Writing.{AppendsFront}
 use Rattle.macsec_pcap.specs.Written.{header_octets}
+use Rattle.macsec_pcapng.specs.Laws.{IsOfFormat}
 use Rattle.macsec_capture.specs.declared.Direction.{Direction}
 use Rattle.macsec_capture.specs.declared.fault.CaptureFault.{CaptureFault}
 use Rattle.macsec_capture.specs.declared.fault.CaptureFault.TheVariants.{Script, Pcap}
@@ -65,13 +65,6 @@ AppendsUpTo old new first whole = (octets : List ℕ) × StartsWith octets first
 -- that the stop before has, and nothing behind it
 abbrev pub CutsOutput : Written → Written → Stop → Stop → Type 0
 CutsOutput old new before after = Appends old.text new.text after.text × AppendsUpTo old.output new.output before.output after.output
-
--- a fault of a file's format: none of memory or of a device
-abbrev pub IsOfFormat : Option PcapFault → Type 0
-IsOfFormat (Some pcap.Memory) = ⊥
-IsOfFormat (Some pcap.Read) = ⊥
-IsOfFormat (Some pcap.Write) = ⊥
-IsOfFormat other = Unit {0}
 
 -- what the first n of these records write
 abbrev pub first_part : Direction → State → List CaptureRecord → ℕ → Part

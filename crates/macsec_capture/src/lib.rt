@@ -1,5 +1,5 @@
-//! Runs an endpoint over a capture file: protects client frames, or validates link frames, and writes what is sent or
-//! delivered to another capture file.
+//! Runs an endpoint over a capture file, in the format pcap or pcapng: protects client frames, or validates link frames,
+//! and writes what is sent or delivered to another capture file, in the format pcap.
 //!
 //! The definition `captured` (`specs/Captured.antt`) says of a direction, a configuration and a file what a run writes
 //! to the output and to the text, and the fault that ends it: the commands and then the frames go through the steps of

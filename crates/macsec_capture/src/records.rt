@@ -15,7 +15,8 @@ ghost use Rattle.macsec_capture.specs.Runs.{FailsIn, IsLateFault, RunsRecords, k
 
 use crate::lines::{write_partial, write_received, write_sent};
 use crate::{CaptureFault, Direction};
-use macsec_pcap::{Body, MAX_RECORDS, PcapReader, PcapWriter, Record};
+use macsec_pcap::{Body, MAX_RECORDS, PcapWriter, Record};
+use macsec_pcapng::CaptureReader;
 use macsec_print::write_fault;
 use macsec_secy::laws::lengths_of_frames;
 use macsec_secy::{FrameFault, Received, Secy, Sent};
@@ -25,7 +26,7 @@ use std::io::{Read, Write};
 pub(crate) fn run_records<R: Read, W: Write, T: Write>(
     direction: Direction,
     endpoint: &mut Secy,
-    reader: &mut PcapReader<R>,
+    reader: &mut CaptureReader<R>,
     writer: &mut PcapWriter<'_, W>,
     text: &mut T,
 ) -> Result<(), CaptureFault>

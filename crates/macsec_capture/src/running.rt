@@ -5,9 +5,10 @@ ghost use Rattle.macsec_commands.specs.Configs.{config_fault};
 ghost use Rattle.macsec_secy.specs.Sound.{IsSound};
 ghost use Rattle.macsec_lines.specs.Fields.{map_ok};
 ghost use Rattle.macsec_lines.specs.Laws.{AreFit};
-ghost use Rattle.macsec_pcap.specs.Captures.{CaptureFile, file_of};
+ghost use Rattle.macsec_pcap.specs.Captures.{CaptureFile};
 ghost use Rattle.macsec_pcap.specs.Limits.{max_records};
 ghost use Rattle.macsec_pcap.specs.Reading.{opened};
+ghost use Rattle.macsec_pcapng.specs.Captures.{captures_of};
 ghost use Rattle.macsec_capture.specs.Captured.{captured, captured_after, captured_at, nothing};
 ghost use Rattle.macsec_capture.specs.Runs.{CaptureGives, IsLateFault, LeavesBoth, ReadsConfig, TakesFile, flushed_end};
 
@@ -17,7 +18,9 @@ use crate::{CaptureFault, Direction};
 use macsec_commands::EndConfig;
 use macsec_lines::laws::parsed_lines_fit;
 use macsec_lines::{Line, ScriptFault, parse_config, read_text};
-use macsec_pcap::{PcapFault, PcapReader, PcapWriter, write_header};
+use macsec_pcap::{PcapFault, PcapWriter, write_header};
+use macsec_pcapng::CaptureReader;
+use macsec_pcapng::laws::faults_are_of_format;
 use macsec_print::{Label, print_counters};
 use macsec_secy::Secy;
 use std::alloc::Global;
@@ -100,11 +103,13 @@ fn run_file<R: Read, W: Write, T: Write>(
 ) -> Result<(), CaptureFault>
     requires sound { IsSound endpoint.old }
     ensures run { IfSome (R.remaining input.old) (λ file.
-        CaptureGives (captured_after direction (nothing endpoint.old) (file_of file)) (record { output = W.contents output.old; text = T.contents text.old })
+        CaptureGives (captured_after direction (nothing endpoint.old) (captures_of file)) (record { output = W.contents output.old; text = T.contents text.old })
         (record { output = W.contents output.new; text = T.contents text.new }) result) }
     ensures fault { IfErr result IsLateFault }
 {
-    let mut reader = PcapReader::new(alloc, input)?;
+    // A law that the proof cites.
+    faults_are_of_format();
+    let mut reader = CaptureReader::new(alloc, input)?;
     run_opened(direction, endpoint, &mut reader, output, text)
 }
 
@@ -112,13 +117,13 @@ fn run_file<R: Read, W: Write, T: Write>(
 fn run_opened<R: Read, W: Write, T: Write>(
     direction: Direction,
     endpoint: &mut Secy,
-    reader: &mut PcapReader<R>,
+    reader: &mut CaptureReader<R>,
     output: &mut W,
     text: &mut T,
 ) -> Result<(), CaptureFault>
     requires sound { IsSound endpoint.old }
     requires places { reader.old.places ≡ max_records }
-    ensures run { (octets : List ℕ) (file : CaptureFile) → file_of octets ≡ Ok file → reader.old ≡ opened file →
+    ensures run { (octets : List ℕ) (file : CaptureFile) → captures_of octets ≡ Ok file → reader.old ≡ opened file →
         CaptureGives (captured_after direction (nothing endpoint.old) (Ok file)) (record { output = W.contents output.old; text = T.contents text.old })
         (record { output = W.contents output.new; text = T.contents text.new }) result }
     ensures fault { IfErr result IsLateFault }
@@ -132,13 +137,13 @@ fn run_opened<R: Read, W: Write, T: Write>(
 fn write_and_flush<R: Read, W: Write, T: Write>(
     direction: Direction,
     endpoint: &mut Secy,
-    reader: &mut PcapReader<R>,
+    reader: &mut CaptureReader<R>,
     output: &mut W,
     text: &mut T,
 ) -> Result<(), CaptureFault>
     requires sound { IsSound endpoint.old }
     requires places { reader.old.places ≡ max_records }
-    ensures run { (octets : List ℕ) (file : CaptureFile) → file_of octets ≡ Ok file → reader.old ≡ opened file →
+    ensures run { (octets : List ℕ) (file : CaptureFile) → captures_of octets ≡ Ok file → reader.old ≡ opened file →
         TakesFile direction endpoint.old file (record { output = W.contents output.old; text = T.contents text.old })
         (record { output = W.contents output.new; text = T.contents text.new }) endpoint.new result }
     ensures fault { IfErr result IsLateFault }
@@ -166,17 +171,19 @@ fn records_end(
 fn write_output<R: Read, W: Write, T: Write>(
     direction: Direction,
     endpoint: &mut Secy,
-    reader: &mut PcapReader<R>,
+    reader: &mut CaptureReader<R>,
     output: &mut W,
     text: &mut T,
 ) -> Result<(), CaptureFault>
     requires sound { IsSound endpoint.old }
     requires places { reader.old.places ≡ max_records }
-    ensures run { (octets : List ℕ) (file : CaptureFile) → file_of octets ≡ Ok file → reader.old ≡ opened file →
+    ensures run { (octets : List ℕ) (file : CaptureFile) → captures_of octets ≡ Ok file → reader.old ≡ opened file →
         TakesFile direction endpoint.old file (record { output = W.contents output.old; text = T.contents text.old })
         (record { output = W.contents output.new; text = T.contents text.new }) endpoint.new result }
     ensures fault { IfErr result IsLateFault }
 {
+    // A law that the proof cites.
+    faults_are_of_format();
     write_header(output, reader.resolution())?;
     let mut writer = PcapWriter::behind_header(output);
     run_records(direction, endpoint, reader, &mut writer, text)

@@ -24,6 +24,20 @@ pub const MICRO: &str = "d4c3b2a1020004000000000000000000ffff000001000000";
 /// A record of a client frame of 14 octets, with the lowest octets first.
 pub const RECORD: &str = "00000000000000000e0000000e000000ffffffffffff0200000000010800";
 
+/// The header of a file in nanoseconds, with the lowest octets first.
+const NANO: &str = "4d3cb2a1020004000000000000000000ffff000001000000";
+
+/// Blocks of a file in the format pcapng, with the lowest octets first: a section header, an interface, a packet of that
+/// client frame, and statistics.
+const SECTION: &str = "0a0d0d0a1c0000004d3c2b1a01000000ffffffffffffffff1c000000";
+
+const INTERFACE: &str = "0100000014000000010000000000040014000000";
+
+const PACKET: &str =
+    "06000000300000000000000000000000000000000e0000000e000000ffffffffffff0200000000010800000030000000";
+
+const STATISTICS: &str = "050000001800000000000000000000000000000018000000";
+
 /// An endpoint that protects client frames for integrity, from packet number 1 on, and what its commands print.
 pub const SENDER: &str =
     "end A gcm128 0200000000010001 1518 sci\nA key 0 ad7a2bd03eac835a6f620fdcb506b345 0\nA txsa 0 0 1 int\nA txon 0\n";
@@ -123,12 +137,26 @@ fn outcome(alloc: Global, direction: Direction, config: &str, input: &[u8]) -> R
 }
 
 /// The runs of `captures`.
-const ROWS: [Row; 11] = [
+const ROWS: [Row; 12] = [
     (
         Direction::Protect,
         &[SENDER],
         &[MICRO, RECORD, RECORD],
         &[MICRO, SENT_1, SENT_2],
+        &[
+            SENDER_DONE,
+            "record 0 link 46\nrecord 1 link 46\n",
+            NONE_IN,
+            TWO_OUT,
+        ],
+        "",
+    ),
+    // The same in the format pcapng, in microseconds, with statistics between: in nanoseconds.
+    (
+        Direction::Protect,
+        &[SENDER],
+        &[SECTION, INTERFACE, PACKET, STATISTICS, PACKET],
+        &[NANO, SENT_1, SENT_2],
         &[
             SENDER_DONE,
             "record 0 link 46\nrecord 1 link 46\n",

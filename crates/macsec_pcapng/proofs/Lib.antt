@@ -3,3 +3,7 @@ pub mod TakenBlocks
 pub mod Options
 pub mod OneTaken
 pub mod Ahead
+pub mod Whole
+pub mod OfFormat
+pub mod PcapngFormats
+pub mod Formats

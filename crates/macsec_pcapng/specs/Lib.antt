@@ -7,4 +7,7 @@ pub mod Section
 pub mod Sections
 pub mod Files
 pub mod Answers
+pub mod Captures
+pub mod Laws
+pub mod Formats
 pub mod Reading

@@ -72,7 +72,7 @@ pub(crate) fn kept(len: u32) -> usize
 }
 
 /// Is this the type of a section header?
-fn is_section(head: &[u8]) -> bool
+pub(crate) fn is_section(head: &[u8]) -> bool
     requires { 4 ≤ length head.now }
     ensures { result ≡ is_section head.now }
 {

@@ -1,4 +1,5 @@
-//! Capture files in the format pcapng (draft-ietf-opsawg-pcapng), of Ethernet frames: a reader.
+//! Capture files in the format pcapng (draft-ietf-opsawg-pcapng), of Ethernet frames: a reader, and one of files in that
+//! format or pcap.
 //!
 //! The definition `pcapng_of` (`specs/Files.antt`) says of every list of octets what it is as such a file: its records in
 //! order, whole or partial, with times in nanoseconds, and the fault of the format after them; or the first fault of its
@@ -11,12 +12,16 @@
 //! returns `None`, and after a fault that fault; each record takes one of 16,777,216 places, so a loop of such calls
 //! ends. Only `new` is handed an allocator.
 //!
-//! The contracts are those of `macsec_pcap`'s `PcapReader`, with `pcapng_of` in place of `file_of`; a record, a fault and
-//! what lies ahead of a reader are as there.
+//! `CaptureReader` reads files in either format, which their first four octets tell: the same is proved of it, by the
+//! definition `captures_of` (`specs/Captures.antt`), `pcapng_of` of a file that begins with 0a 0d 0d 0a and else `file_of`
+//! of `macsec_pcap`. The contracts are those of the `PcapReader` there, as are a record, a fault and what lies ahead. The
+//! law `laws::faults_are_of_format`: no file has `Memory`, `Read` or `Write` for its fault.
 #![tactic(auto)]
 
 mod blocks;
+mod captures;
 mod interfaces;
+pub mod laws;
 mod octets;
 mod packets;
 mod reader;
@@ -24,4 +29,5 @@ mod section;
 mod taking;
 mod times;
 
+pub use captures::CaptureReader;
 pub use reader::PcapngReader;

@@ -13,7 +13,7 @@ ghost use Rattle.macsec_pcapng.specs.Files.{in_header, pcapng_of};
 use crate::blocks::{ROOM_LEN, SECTION_HEADER, kept, take_block};
 use crate::section::Section;
 use crate::taking::take_packet;
-use macsec_pcap::{MAX_RECORDS, Order, PcapFault, Record};
+use macsec_pcap::{MAX_RECORDS, Order, PcapFault, Record, Resolution};
 use std::alloc::Global;
 use std::io::Read;
 use std::marker::Model;
@@ -83,6 +83,14 @@ impl<R: Read + Drop> PcapngReader<R> {
 }
 
 impl<R: Read> PcapngReader<R> {
+    /// The unit of the times that are returned: nanoseconds.
+    pub fn resolution(&self) -> Resolution
+        ensures { result ≡ self.now.resolution }
+    {
+        let _ = &self.course;
+        Resolution::Nano
+    }
+
     /// The next record, with its time in nanoseconds, or `None` if the file has ended, and from then on. Returns the fault
     /// of the format before the next record, or `Read` if a read fails first; either is returned by each later call too.
     pub fn next(&mut self) -> Result<Option<Record<'_>>, PcapFault>

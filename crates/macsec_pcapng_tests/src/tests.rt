@@ -3,7 +3,7 @@
 
 use macsec_devices::{FailingReader, Fails};
 use macsec_pcap::{Body, Record};
-use macsec_pcapng::PcapngReader;
+use macsec_pcapng::{CaptureReader, PcapngReader};
 use std::alloc::{AllocError, Global};
 use std::fmt::Write;
 use std::io::Read;
@@ -19,6 +19,9 @@ const BIG: &str = "0a0d0d0a0000001c1a2b3c4d00010000ffffffffffffffff0000001c";
 const ETHERNET: &str = "0100000014000000010000000000040014000000";
 
 const ETHERNET_BIG: &str = "0000000100000014000100000004000000000014";
+
+/// The header of a file in the format pcap, in nanoseconds.
+const NANO: &str = "4d3cb2a1020004000000000000000000ffff000001000000";
 
 /// A client frame of 14 octets at time 0, with two octets of padding.
 const PACKET: &str =
@@ -46,7 +49,7 @@ fn tell_record(alloc: Global, text: &mut String, record: Record<'_>) -> Result<(
 /// What a reader returns of a file, up to two calls after the last record.
 fn told<R: Read + Drop>(alloc: Global, source: R) -> Result<String, Fail> {
     let mut text = String::new(alloc);
-    let mut reader = match PcapngReader::new(alloc, source) {
+    let mut reader = match CaptureReader::new(alloc, source) {
         Ok(reader) => reader,
         Err(fault) => {
             text.push_str(fault.name())?;
@@ -309,6 +312,53 @@ fn resolutions(rt: HostRuntime) -> Result<(), Fail> {
     )
 }
 
+/// The records of a file in the format pcap, in nanoseconds, are those of one in the format pcapng of the same records: of
+/// each of these resolutions, with so many units, and so many seconds and nanoseconds.
+#[test]
+fn either_format(rt: HostRuntime) -> Result<(), Fail> {
+    let alloc = rt.alloc();
+    let whole = "0e0000000e000000ffffffffffff0200000000010800";
+    let partial = "0e0000003c000000ffffffffffff0200000000010800";
+    for (resolution, units, time) in [
+        ("00", "0000000003000000", "0300000000000000"),
+        ("03", "00000000ac0d0000", "030000000065cd1d"),
+        ("06", "00000000e0673500", "030000000065cd1d"),
+        ("09", "0000000000c39dd0", "030000000065cd1d"),
+        ("0c", "2e03000000b841e8", "030000000065cd1d"),
+        ("8a", "00000000000e0000", "030000000065cd1d"),
+        ("94", "0000000000003800", "030000000065cd1d"),
+        ("9e", "00000000000000e0", "030000000065cd1d"),
+        ("a0", "0300000000000080", "030000000065cd1d"),
+    ] {
+        let pcap = octets(alloc, &[NANO, time, whole, time, partial])?;
+        let pcapng = octets(
+            alloc,
+            &[
+                LITTLE,
+                "010000001c0000000100000000000400",
+                "09000100",
+                resolution,
+                "0000001c000000",
+                "060000003000000000000000",
+                units,
+                whole,
+                "0000",
+                "30000000",
+                "060000003000000000000000",
+                units,
+                partial,
+                "0000",
+                "30000000",
+            ],
+        )?;
+        let wanted = told(alloc, pcap.as_slice())?;
+        let text = told(alloc, pcapng.as_slice())?;
+        assert_eq!(&rt; text.as_str(), wanted.as_str());
+        assert!(&rt; text.as_str().ends_with(" partial end end"));
+    }
+    Ok(())
+}
+
 /// Each fault of the format.
 #[test]
 fn faults(rt: HostRuntime) -> Result<(), Fail> {
@@ -333,8 +383,12 @@ fn faults(rt: HostRuntime) -> Result<(), Fail> {
                 &["0a0d0d0a180000004d3c2b1a010000000000000018000000"],
                 &["BlockLength"],
             ),
-            (&["000000010000000c0000000c"], &["BlockLength"]),
-            (&["0000000d0000000c0000000c"], &["Magic"]),
+            // A file in neither format, with fewer octets than a header of the format pcap, and with as many.
+            (&["0000000d0000000c0000000c"], &["CutHeader"]),
+            (
+                &["0000000d0000000c0000000c0000000d0000000c0000000c"],
+                &["Magic"],
+            ),
             // In a later one.
             (
                 &[

@@ -22,8 +22,9 @@ enum Place {
 /// leaves the run at the stop behind so many steps.
 type Device = (Place, &'static str, &'static str, &'static [(usize, usize)]);
 
-/// A read gives 16 octets at most, and the last one none. The header of a file is written by one call, and a record by
-/// two; a script's line by one; and of a capture's line each piece, as `3` and ` done`, and each octet in hex by one.
+/// A read gives 16 octets at most, and the last one none; the first read of a capture file is one of four octets. The
+/// header of a file is written by one call, and a record by two; a script's line by one; and of a capture's line each
+/// piece, as `3` and ` done`, and each octet in hex by one.
 const OF_SCRIPT: [Device; 2] = [
     (Place::Script, "script", "Read", &[(13, 0)]),
     (Place::Text, "script", "Write", &[(4, 0)]),
@@ -35,7 +36,7 @@ const OF_PROTECTION: [Device; 4] = [
         Place::Input,
         "pcap",
         "Read",
-        &[(2, 1), (2, 2), (2, 3), (1, 4)],
+        &[(3, 1), (2, 2), (2, 3), (1, 4)],
     ),
     (Place::Output, "pcap", "Write", &[(1, 1), (2, 3), (2, 4)]),
     (
@@ -52,7 +53,7 @@ const OF_VALIDATION: [Device; 4] = [
         Place::Input,
         "pcap",
         "Read",
-        &[(2, 1), (4, 2), (4, 3), (1, 4)],
+        &[(3, 1), (4, 2), (4, 3), (1, 4)],
     ),
     (Place::Output, "pcap", "Write", &[(1, 1), (2, 3), (2, 4)]),
     (

@@ -17,4 +17,4 @@ returns-clause-run g c =
     let header : Appends (g.W.Write.contents c.args.output.now) (contents g.W.Write.contents c.behind_header-writer.result) (header_octets c.resolution.result) =
     subst (λ held. Appends (g.W.Write.contents c.args.output.now) held (header_octets c.resolution.result)) (sym c.behind_header-writer.ensures.header)
     c.in_ok-write_header.ensures.whole in
-    taken_of_file _ _ _ _ _ _ _ _ _ _ _ _ _ (ap g.W.Write.contents back) c.resolution.ensures header c.run_records.ensures.records
+    taken_of_file c.faults_are_of_format.ensures _ _ _ _ _ _ _ _ _ _ _ _ _ (ap g.W.Write.contents back) c.resolution.ensures header c.run_records.ensures.records

@@ -1,0 +1,16 @@
+-- What is read of a file has no fault of memory or of a device.
+use Rattle.std.specs.Prelude.{Bool, true, false, if◌then◌else◌, Some, Result, Ok, Err}
+use Rattle.macsec_pcap.specs.declared.fault.PcapFault.{PcapFault}
+use Rattle.macsec_pcapng.specs.Laws.{IsOfFormat}
+
+abbrev pub FaultIsOfFormat : {X : Type 0} → Result X PcapFault → Type 0
+FaultIsOfFormat (Ok x) = Unit {0}
+FaultIsOfFormat (Err fault) = IsOfFormat (Some fault)
+
+-- of two, by a test
+pub picked : {X : Type 0} (P : X → Type 0) (b : Bool) (x y : X) → P x → P y → P (if b then x else y)
+picked P true x y first second = first
+picked P false x y first second = second
+
+pub chosen : {X : Type 0} (b : Bool) (x y : Result X PcapFault) → FaultIsOfFormat x → FaultIsOfFormat y → FaultIsOfFormat (if b then x else y)
+chosen b x y first second = picked FaultIsOfFormat b x y first second

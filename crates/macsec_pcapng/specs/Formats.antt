@@ -1,0 +1,8 @@
+-- A reader of files in either format: what callers see of the reader of the format that the file has.
+use Rattle.macsec_pcap.specs.Reading.{Reading}
+use Rattle.macsec_pcapng.specs.declared.captures.Format.{Format}
+use Rattle.macsec_pcapng.specs.declared.captures.Format.TheVariants.{Pcap, Pcapng}
+
+abbrev pub reading_in : {R : Type 0} → Format R → Reading
+reading_in (Pcap reading) = reading
+reading_in (Pcapng reading) = reading

@@ -1,0 +1,94 @@
+//! The reader of capture files in either format.
+
+ghost use Rattle.std.specs.Prelude.{◌≡◌, ◌≤◌, IfOk, IfSome, length};
+ghost use Rattle.std.specs.Borrow.{sem};
+ghost use Rattle.std.specs.Io.BufRead.{Rests};
+ghost use Rattle.macsec_pcap.specs.Answers.{answer_of};
+ghost use Rattle.macsec_pcap.specs.Limits.{max_records};
+ghost use Rattle.macsec_pcap.specs.Reading.{Answers, IsAfter, Opens};
+ghost use Rattle.macsec_pcapng.specs.contracts.captures.CaptureReader.{the_row};
+ghost use Rattle.macsec_pcapng.specs.Captures.{captures_of};
+
+use crate::blocks::is_section;
+use crate::reader::PcapngReader;
+use macsec_pcap::{PcapFault, PcapReader, Record, Resolution, fill};
+use std::alloc::Global;
+use std::io::{Chain, Cursor, Read};
+use std::marker::Model;
+
+/// How many octets of a file tell its format.
+const FRONT_LEN: usize = 4;
+
+/// A source whose first octets were read to tell the format, and are read again.
+type Whole<R> = Chain<Cursor<[u8; FRONT_LEN]>, R>;
+
+/// The reader of the format that a file has.
+#[derive(Drop)]
+pub(crate) enum Format<R: Read> {
+    /// The file is one in the format pcap.
+    Pcap(PcapReader<Whole<R>>),
+    /// The file is one in the format pcapng.
+    Pcapng(PcapngReader<Whole<R>>),
+}
+
+/// Reads a capture file in either format, record by record. It takes memory when it is created, for one record, and none
+/// afterwards.
+#[derive(Drop)]
+pub struct CaptureReader<R: Read> {
+    format: Format<R>,
+}
+
+impl<R: Read> Model for CaptureReader<R> {
+    ghost use Rattle.macsec_pcap.specs.Reading.{Reading};
+
+    ghost Value = { Reading };
+
+    ghost use Rattle.macsec_pcapng.specs.Formats.{reading_in};
+
+    ghost view = { λ r. reading_in r.format };
+}
+
+impl<R: Read + Drop> CaptureReader<R> {
+    /// Reads the header of a file from its source, in the format that the first four octets tell. Returns the first fault
+    /// of the header, `Read` if a read fails first, or `Memory`.
+    pub fn new(alloc: Global, mut source: R) -> Result<CaptureReader<R>, PcapFault>
+        ensures opened { IfSome (R.remaining source) (λ file. Opens (captures_of file) result) }
+        ensures places { IfOk result (λ reader. reader.places ≡ max_records) }
+    {
+        let mut front = [0; FRONT_LEN];
+        if fill(&mut source, &mut front)? < FRONT_LEN {
+            return Err(PcapFault::CutHeader);
+        }
+        let whole = Cursor::new(front).chain(source);
+        let format = if is_section(&front) {
+            Format::Pcapng(PcapngReader::new(alloc, whole)?)
+        } else {
+            Format::Pcap(PcapReader::new(alloc, whole)?)
+        };
+        Ok(CaptureReader { format })
+    }
+}
+
+impl<R: Read> CaptureReader<R> {
+    /// The unit of the file's times: nanoseconds in the format pcapng.
+    pub fn resolution(&self) -> Resolution
+        ensures { result ≡ self.now.resolution }
+    {
+        match &self.format {
+            Format::Pcap(reader) => reader.resolution(),
+            Format::Pcapng(reader) => reader.resolution(),
+        }
+    }
+
+    /// The next record, or `None` if the file has ended, and from then on. Returns the fault of the format before the next
+    /// record, or `Read` if a read fails first; either is returned by each later call too.
+    pub fn next(&mut self) -> Result<Option<Record<'_>>, PcapFault>
+        ensures* after { sem 𝓛 (Rests (the_row R.row R.Read) self.entry (IsAfter self.old (answer_of result))) }
+        ensures answer { Answers self.old.ahead (answer_of result) }
+    {
+        match &mut self.format {
+            Format::Pcap(reader) => reader.next(),
+            Format::Pcapng(reader) => reader.next(),
+        }
+    }
+}

@@ -1,0 +1,144 @@
+"""Made capture files in the format pcapng: of some frames, in any form that docs/CAPTURES.md names, and at fault.
+
+A file has one section or some, each in an order of octets and with interfaces of its own. Between the blocks of its
+packets stand others, which say nothing.
+"""
+
+import struct
+
+SECTION, INTERFACE, SIMPLE, ENHANCED = 0x0A0D0D0A, 1, 3, 6
+# Old packets, names, statistics, secrets, and blocks of makers; and types that no one has.
+OTHERS = (2, 4, 5, 10, 0x0BAD, 0x40000BAD, 0, 7, 0xFFFFFFFF)
+# What if_tsresol says: powers of ten and of two, some of them with units that are finer than a nanosecond.
+RESOLUTIONS = (0, 3, 6, 6, 9, 9, 10, 12, 19, 20, 127, 0x80, 0x80 | 10, 0x80 | 20, 0x80 | 30, 0x80 | 63, 0x80 | 64, 0xFF)
+OFFSETS = (0, 1, -1, 1_700_000_000, -(2**31), 2**32 - 1, 2**63 - 1, -(2**63))
+
+
+def padded(octets):
+    return octets + bytes(-len(octets) % 4)
+
+
+def units_of(resolution):
+    """How many units a second has."""
+    return 2 ** (resolution - 128) if resolution > 127 else 10**resolution
+
+
+def option(order, code, value):
+    return struct.pack(order + "HH", code, len(value)) + padded(value)
+
+
+class Blocks:
+    """The blocks of a file, one after another."""
+
+    def __init__(self, rng, is_sound):
+        self.rng, self.is_sound, self.octets = rng, is_sound, b""
+        self.begin_section()
+
+    def odd(self, odds, choices, usual):
+        """Mostly what is usual; in a file that can be at fault, one time of so many one of these."""
+        return usual if self.is_sound or self.rng.randrange(odds) else self.rng.choice(choices)
+
+    def add(self, kind, body):
+        """A block; seldom with a length that is none."""
+        body, length = padded(body), len(padded(body)) + 12
+        first = self.odd(80, (length - 4, length + 4, length + 1, 0, 8, 2**32 - 4), length)
+        last = self.odd(80, (length - 4, length + 4, 0, 2**32 - 4), first)
+        self.octets += struct.pack(self.order + "II", kind, first) + body + struct.pack(self.order + "I", last)
+
+    def begin_section(self):
+        """A section header; some sections know their length."""
+        rng = self.rng
+        self.order, self.interfaces = rng.choice("<<>"), []
+        magic = self.odd(40, (0x1A2B3C4E, 0, 0xA1B2C3D4), 0x1A2B3C4D)
+        version = self.odd(20, ((2, 0), (1, 1), (0, 0), (1, 256)), rng.choice(((1, 0), (1, 0), (1, 2))))
+        length = rng.choice((2**64 - 1, 2**64 - 1, 0, rng.randrange(2**64)))
+        options = rng.choice((b"", option(self.order, 4, b"a maker") + option(self.order, 0, b"")))
+        self.add(SECTION, struct.pack(self.order + "IHHQ", magic, *version, length) + options)
+        for _ in range(rng.choice((1, 1, 2, 3))):
+            self.describe()
+
+    def describe(self):
+        """An interface, with options in any order, some of which are read past."""
+        rng, order = self.rng, self.order
+        resolution, offset, options = 6, 0, []
+        if rng.randrange(4):
+            resolution = rng.choice(RESOLUTIONS)
+            value = bytes((resolution,))
+            options.append(option(order, 9, value + self.odd(30, (b"\0", b"\0\0\0"), b"")))
+        if rng.randrange(3) == 0:
+            offset = rng.choice((0, 1, -1, -(2**31), 1_700_000_000) if self.is_sound or rng.randrange(2) else OFFSETS)
+            if self.is_sound and (1 - offset) * units_of(resolution) > 2**64:
+                offset = 0
+            options.append(option(order, 14, struct.pack(order + "q", offset)[: self.odd(30, (0, 4, 7), 8)]))
+        others = ((2, b"eth0"), (11, b"\0tcp"), (3, b""))
+        options += [option(order, code, value) for code, value in others if rng.randrange(2)]
+        rng.shuffle(options)
+        if rng.randrange(2):
+            # What comes behind the last option is not read.
+            options += [option(order, 0, b""), rng.choice((b"", option(order, 9, b"\x03"), b"\xff" * 4))]
+        link = self.odd(20, (0, 113, 257, 65_535), 1)
+        snap = rng.choice((0, 262_144, 65_535, 65_535, 14, 20, 1_518))
+        self.interfaces.append((snap, resolution, offset))
+        self.add(INTERFACE, struct.pack(order + "HHI", link, rng.choice((0, 0, 9)), snap) + b"".join(options))
+
+    def between(self):
+        """A block that says nothing, of an interface or of nobody."""
+        rng = self.rng
+        self.add(rng.choice(OTHERS), rng.randbytes(rng.choice((0, 4, 20, 20, 33, 100, 5_000))))
+
+    def ticks(self, resolution, offset):
+        """A time that mostly is one of some seconds; in a file that can be at fault, any."""
+        rng, units = self.rng, units_of(resolution)
+        odd = self.odd(4, (2**32, -1 - offset), 0)
+        seconds = max(0, rng.choice((rng.randrange(100), 2**32 - 1 - offset, 1_700_000_000, odd)))
+        if self.is_sound or rng.randrange(2):
+            seconds = max(seconds, -offset)
+        ticks = seconds * units + rng.choice((0, units - 1, rng.randrange(units)))
+        if self.is_sound:
+            return ticks if ticks < 2**64 else max(0, -offset) * units
+        return ticks % 2**64 if rng.randrange(4) else rng.choice((1, rng.randrange(2**32), 2**64 - 1))
+
+    def send(self, frame):
+        """A packet of this frame, or of a part of it."""
+        rng = self.rng
+        whole = len(frame) + self.odd(12, (1, 6, 1_000, -6, -1), 0)
+        if self.interfaces and rng.randrange(5) == 0 and self.fits(len(frame)):
+            self.add(SIMPLE, struct.pack(self.order + "I", max(0, whole)) + frame)
+            return
+        number = rng.randrange(len(self.interfaces))
+        _, resolution, offset = self.interfaces[number]
+        number = self.odd(40, (len(self.interfaces), 255, 256, 2**32 - 1), number)
+        captured = self.odd(25, (len(frame) + 1, len(frame) + 8, 262_144, 262_145, max(0, len(frame) - 3)), len(frame))
+        high, low = divmod(self.ticks(resolution, offset), 2**32)
+        fields = struct.pack(self.order + "IIIII", number, high, low, captured, max(0, whole))
+        options = rng.choice((b"", b"", option(self.order, 1, b"a comment"), b"\xff" * 8))
+        self.add(ENHANCED, fields + padded(frame) + options)
+
+    def fits(self, size):
+        """Can a simple packet have all of so many octets?"""
+        snap = self.interfaces[0][0]
+        return not self.is_sound or snap == 0 or size <= snap
+
+    def many(self):
+        """As many interfaces as a section can have, or one more."""
+        for _ in range(256 + self.rng.randrange(2) - len(self.interfaces)):
+            self.describe()
+
+
+def made_file(rng, frames, is_sound=False):
+    """A file of these frames; one that is sound has all of them, whole."""
+    blocks = Blocks(rng, is_sound)
+    for frame in frames:
+        way = rng.randrange(12)
+        if way == 0:
+            blocks.begin_section()
+        elif way < 4:
+            blocks.between()
+        elif way == 4:
+            blocks.describe()
+        elif way == 5 and not is_sound and rng.randrange(30) == 0:
+            blocks.many()
+        blocks.send(frame)
+    if rng.randrange(3) == 0:
+        blocks.between()
+    return blocks.octets

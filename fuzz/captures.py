@@ -1,0 +1,178 @@
+"""Capture files, by the rules of docs/CAPTURES.md: what a file holds in either format, and what is written.
+
+Standard library alone.
+"""
+
+import struct
+
+MAX_RECORD, MAX_BODY, MAX_INTERFACES = 262_144, 262_164, 256
+# The types of the blocks that are not skipped, and the fewest octets of each; of any other block they are 12.
+SECTION, INTERFACE, SIMPLE, ENHANCED = 0x0A0D0D0A, 1, 3, 6
+LEAST = {SECTION: 28, INTERFACE: 20, SIMPLE: 16, ENHANCED: 32}
+ORDERS = {b"\x1a\x2b\x3c\x4d": ">", b"\x4d\x3c\x2b\x1a": "<"}
+
+
+class PcapFault(Exception):
+    """The fault of a capture file."""
+
+
+def read_capture(file):
+    """Whether the unit is a nanosecond, and the records: seconds, fraction, and the frame, or None of a partial one."""
+    if file[:4] == struct.pack(">I", SECTION):
+        return True, read_packets(file, *read_first_block(file))
+    order, is_nano = read_header(file)
+    return is_nano, read_records(file, order)
+
+
+# The format pcap.
+
+
+def read_header(file):
+    """The order of octets, and whether the unit is a nanosecond."""
+    if len(file) < 24:
+        raise PcapFault("CutHeader")
+    for order in "<>":
+        magic, major, minor = struct.unpack_from(order + "IHH", file)
+        if magic in (0xA1B2C3D4, 0xA1B23C4D):
+            if (major, minor) != (2, 4):
+                raise PcapFault("Version")
+            if struct.unpack_from(order + "I", file, 20) != (1,):
+                raise PcapFault("LinkType")
+            return order, magic == 0xA1B23C4D
+    raise PcapFault("Magic")
+
+
+def read_records(file, order):
+    """The records of a file in the format pcap."""
+    place = 24
+    while place < len(file):
+        if len(file) - place < 16:
+            raise PcapFault("CutRecord")
+        seconds, fraction, captured, original = struct.unpack_from(order + "IIII", file, place)
+        place += 16
+        if captured > MAX_RECORD:
+            raise PcapFault("RecordLength")
+        if len(file) - place < captured:
+            raise PcapFault("CutRecord")
+        yield seconds, fraction, file[place : place + captured] if captured >= original else None
+        place += captured
+
+
+def write_header(is_nano):
+    return struct.pack("<IHHIIII", 0xA1B23C4D if is_nano else 0xA1B2C3D4, 2, 4, 0, 0, 65_535, 1)
+
+
+def write_record(seconds, fraction, frame):
+    return struct.pack("<IIII", seconds, fraction, len(frame), len(frame)) + frame
+
+
+# The format pcapng.
+
+
+def read_block(file, place, order):
+    """The block at a place: the order of its octets, its type, its body, and the place behind it."""
+    if len(file) - place < 8:
+        raise PcapFault("CutRecord")
+    (kind,) = struct.unpack_from(order + "I", file, place)
+    if kind == SECTION:
+        magic = file[place + 8 : place + 12]
+        if len(magic) < 4:
+            raise PcapFault("CutRecord")
+        if magic not in ORDERS:
+            raise PcapFault("Magic")
+        order = ORDERS[magic]
+    (length,) = struct.unpack_from(order + "I", file, place + 4)
+    if length % 4 or length < LEAST.get(kind, 12):
+        raise PcapFault("BlockLength")
+    end = place + length
+    if len(file) < end:
+        raise PcapFault("CutRecord")
+    if struct.unpack_from(order + "I", file, end - 4) != (length,):
+        raise PcapFault("BlockLength")
+    return order, kind, file[place + 8 : end - 4], end
+
+
+def test_version(order, body):
+    if struct.unpack_from(order + "HH", body, 4) not in ((1, 0), (1, 2)):
+        raise PcapFault("Version")
+
+
+def read_first_block(file):
+    """The order of octets of the first section, and the place behind its header."""
+    try:
+        order, _, body, place = read_block(file, 0, ">")
+    except PcapFault as fault:
+        raise PcapFault("CutHeader" if fault.args == ("CutRecord",) else fault.args[0]) from None
+    test_version(order, body)
+    return order, place
+
+
+def read_packets(file, order, place):
+    """The packets behind the first section header, with times in nanoseconds."""
+    interfaces = []
+    while place < len(file):
+        order, kind, body, place = read_block(file, place, order)
+        if kind == SECTION:
+            test_version(order, body)
+            interfaces = []
+        elif kind == INTERFACE:
+            interface = read_interface(order, body)
+            if len(interfaces) == MAX_INTERFACES:
+                raise PcapFault("InterfaceCount")
+            interfaces.append(interface)
+        elif kind == ENHANCED:
+            number, high, low, captured, original = struct.unpack_from(order + "IIIII", body)
+            _, resolution, offset = interface_of(interfaces, number)
+            yield packet(body, 20, captured, original, lambda: time_of(high << 32 | low, resolution, offset))
+        elif kind == SIMPLE:
+            snap, *_ = interface_of(interfaces, 0)
+            (original,) = struct.unpack_from(order + "I", body)
+            yield packet(body, 4, min(original, snap or original), original, lambda: (0, 0))
+
+
+def read_interface(order, body):
+    """The link type, the snap length, the resolution of the times, and their offset in seconds."""
+    if len(body) > MAX_BODY:
+        raise PcapFault("BlockLength")
+    link, snap = struct.unpack_from(order + "HxxI", body)
+    resolution, offset, place = 6, 0, 8
+    while len(body) - place >= 4:
+        code, size = struct.unpack_from(order + "HH", body, place)
+        if code == 0:
+            break
+        value = body[place + 4 : place + 4 + size]
+        place += 4 + (size + 3) // 4 * 4
+        if len(body) < place or size != {9: 1, 14: 8}.get(code, size):
+            raise PcapFault("BlockLength")
+        if code == 9:
+            resolution = value[0]
+        elif code == 14:
+            (offset,) = struct.unpack(order + "q", value)
+    return link, snap, resolution, offset
+
+
+def interface_of(interfaces, number):
+    """What is known of the interface of a packet, which is one of Ethernet: all but its link type."""
+    if number >= len(interfaces):
+        raise PcapFault("NoInterface")
+    link, *rest = interfaces[number]
+    if link != 1:
+        raise PcapFault("LinkType")
+    return rest
+
+
+def packet(body, start, captured, original, time):
+    if captured > MAX_RECORD:
+        raise PcapFault("RecordLength")
+    if len(body) < start + captured:
+        raise PcapFault("BlockLength")
+    return *time(), body[start : start + captured] if captured >= original else None
+
+
+def time_of(ticks, resolution, offset):
+    """Seconds and nanoseconds, rounded down."""
+    units = 2 ** (resolution - 128) if resolution > 127 else 10**resolution
+    seconds, fraction = divmod(ticks * 10**9 // units, 10**9)
+    if not 0 <= seconds + offset < 2**32:
+        raise PcapFault("Time")
+    return seconds + offset, fraction
