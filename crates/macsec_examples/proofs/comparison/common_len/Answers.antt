@@ -12,8 +12,12 @@ returns c =
     let wanted = c.args.wanted.now in
     let same = c.loop-octet.same in
     let left = common_prefix_len-le nat_eq (drop same text) (drop same wanted) in
-    let first : iter_rest (zip_first c.into_iter-octet-iterator.result) ≡ text = ap iter_rest (ap zip_first c.into_iter-octet-iterator.ensures.into_iter_gives ∙ c.zip-octet-items.ensures.first) ∙ c.iter.ensures.rest in
+    let pairs = c.into_iter-octet-iterator in
+    let gives = pairs.ensures.into_iter_gives in
+    let next = c.next in
+    let first : iter_rest (zip_first pairs.result) ≡ text = ap iter_rest (ap zip_first gives ∙ c.zip-octet-items.ensures.first) ∙ c.iter.ensures.rest in
     let zipped : iter_rest (zip_second c.zip-octet-items.result) ≡ wanted = c.zip-octet-items.ensures.second.0 in
-    let second : iter_rest (zip_second c.into_iter-octet-iterator.result) ≡ wanted = ap (λ it. iter_rest (zip_second it)) c.into_iter-octet-iterator.ensures.into_iter_gives ∙ zipped in
-    let end = zip_end text wanted c.loop-octet.yielded c.into_iter-octet-iterator.result c.loop-octet.octet-iterator c.next.new.self c.next.result first second c.loop-octet.yielded_by c.in-None.is c.next.ensures.steps in
+    let second : iter_rest (zip_second pairs.result) ≡ wanted = ap (λ it. iter_rest (zip_second it)) gives ∙ zipped in
+    let loop = c.loop-octet in
+    let end = zip_end text wanted loop.yielded pairs.result loop.octet-iterator next.new.self next.result first second loop.yielded_by c.in-None.is next.ensures.steps in
     omega (arith, left.0, left.1, end, length-drop same text, length-drop same wanted, c.loop-octet.invariant.0, c.loop-octet.invariant.1)
