@@ -60,6 +60,7 @@ install: build/macsec build/libmacsec.a
 check: toolchain
 	rm -rf crates/*/out/rlib
 	tools/failures calls
+	tools/c-header
 	tools/kept-frames & frames=$$!; tools/lanes-used & lanes=$$!; rt ci && wait $$frames && wait $$lanes
 	@mkdir -p build
 	cp crates/macsec_cli/out/macsec_cli build/macsec
