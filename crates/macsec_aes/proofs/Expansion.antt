@@ -1,11 +1,13 @@
 -- The key schedule.
-use Rattle.std.proofs.Common.{◌≡◌, ◌≤◌, ◌<◌, ◌+◌, ◌-◌, ◌*◌, ℕ, zero, suc, ◌/◌, List, [], ◌∷◌, ◌++◌, take, drop, map, length, get_or, set, ◌⊎◌, inl, inr, arith, refl, ap, ◌∙◌, sym, add-one, add-zero, length-append, take-add}
+use Rattle.std.proofs.Common.{◌≡◌, ◌≤◌, ◌<◌, ◌+◌, ◌-◌, ◌*◌, ℕ, zero, suc, ◌/◌, List, [], ◌∷◌, ◌++◌, take, drop, map, length, get_or}
+use Rattle.std.proofs.Common.{set, ◌⊎◌, inl, inr, arith, refl, ap, ◌∙◌, sym, add-one, add-zero, length-append, take-add}
 use Rattle.std.proofs.lemmas.List.{get_or-take, take-take, take-append-le, take_all, drop_more, take_more_set, append-nil}
 use Rattle.std.proofs.lemmas.List.FromFn.{map-range_with_len_more, length-map-range_with_len}
 use Rattle.std.proofs.lemmas.List.Folds.{concat-append}
 use Rattle.std.specs.List.{concat, range_with_len}
 use Rattle.macsec_aes.specs.Schedule.{IsSchedule, key_of}
-use Rattle.macsec_aes.specs.Aes.{schedule_of, word, rounds_of, key_words, key_expansion, added_word, sum_of_words, after_rounds, add_round_key, mix_columns, shift_rows, sub_bytes, round_key}
+use Rattle.macsec_aes.specs.Aes.{schedule_of, word, rounds_of, key_words, key_expansion, added_word, sum_of_words}
+use Rattle.macsec_aes.specs.Aes.{after_rounds, add_round_key, mix_columns, shift_rows, sub_bytes, round_key}
 
 -- ---- reading a schedule
 
@@ -94,7 +96,11 @@ expansion_more key words n i t w en n1 ni lt held et ew =
 length-expansion : (key : List ℕ) (m : ℕ) → length (key_expansion key m) ≡ length key / 4 + m
 unfolding key_expansion key_words
 length-expansion key zero = rw add-zero (length-words_of key (length key / 4))
-length-expansion key (suc m) = omega (arith, length-append (key_expansion key m) (sum_of_words (word (key_expansion key m) m) (added_word (length key / 4) (length key / 4 + m) (word (key_expansion key m) (length key / 4 + m - 1))) ∷ []), length-expansion key m)
+length-expansion key (suc m) =
+    let n = length key / 4 in
+    let words = key_expansion key m in
+    let next = sum_of_words (word words m) (added_word n (n + m) (word words (n + m - 1))) in
+    omega (arith, length-append words (next ∷ []), length-expansion key m)
 
 -- the words of the key stay first
 pub expansion_first : (key : List ℕ) (m : ℕ) → take (length key / 4) (key_expansion key m) ≡ words_of key (length key / 4)
@@ -126,6 +132,7 @@ schedule_made key words rounds sized er held =
 
 -- ---- the rounds
 
-pub after_rounds_next : (ws : List (List ℕ)) (block : List ℕ) (r : ℕ) → after_rounds ws block (r + 1) ≡ add_round_key (mix_columns (shift_rows (sub_bytes (after_rounds ws block r)))) (round_key ws (r + 1))
+pub after_rounds_next : (ws : List (List ℕ)) (block : List ℕ) (r : ℕ) →
+    after_rounds ws block (r + 1) ≡ add_round_key (mix_columns (shift_rows (sub_bytes (after_rounds ws block r)))) (round_key ws (r + 1))
 unfolding after_rounds
 after_rounds_next ws block r = rw add-one refl

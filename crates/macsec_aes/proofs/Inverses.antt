@@ -1,5 +1,6 @@
 -- Inverses of bytes, by a table of them: that each of its entries is one is computed over the bytes with one bit.
-use Rattle.std.proofs.Common.{◌≡◌, ℕ, zero, suc, ◌+◌, ◌-◌, ◌%◌, ◌^◌, ◌<◌, true, false, inl, inr, Option, None, Some, List, [], ◌∷◌, map, length, get_or, unwrap_or, refl, sym, subst, ap, ◌∙◌, arith}
+use Rattle.std.proofs.Common.{◌≡◌, ℕ, zero, suc, ◌+◌, ◌-◌, ◌%◌, ◌^◌, ◌<◌, true, false, inl, inr, Option, None, Some}
+use Rattle.std.proofs.Common.{List, [], ◌∷◌, map, length, get_or, unwrap_or, refl, sym, subst, ap, ◌∙◌, arith}
 use Rattle.std.specs.Prelude.{◌==◌, Bool, position}
 use Rattle.std.proofs.lemmas.Bool.{lt-ltb}
 use Rattle.std.proofs.lemmas.Bool.Decides.{eqb_tells}
@@ -77,8 +78,9 @@ one_restored a k la lk =
 -- to multiply by a byte other than 0 and then by its entry changes nothing
 restored : (a b : ℕ) → a < 255 → b < 256 → byte_product (entry (a + 1)) (byte_product (a + 1) b) ≡ b
 restored a b la lb =
-    same_from_ones (λ b. byte_product (entry (a + 1)) (byte_product (a + 1) b)) (λ b. b)
-    (record { adds = λ b c. ap (byte_product (entry (a + 1))) ((byte_product_adds (a + 1)).adds b c) ∙ (byte_product_adds (entry (a + 1))).adds (byte_product (a + 1) b) (byte_product (a + 1) c) })
+    let n = entry (a + 1) in
+    same_from_ones (λ b. byte_product n (byte_product (a + 1) b)) (λ b. b)
+    (record { adds = λ b c. ap (byte_product n) ((byte_product_adds (a + 1)).adds b c) ∙ (byte_product_adds n).adds (byte_product (a + 1) b) (byte_product (a + 1) c) })
     (record { adds = λ b c. refl })
     8 (λ k lk. one_restored a k la lk) b lb
 

@@ -11,7 +11,8 @@
 
 ghost use Rattle.std.specs.Prelude.{◌≡◌, ◌+◌, ◌*◌, ◌/◌, ◌%◌, ◌<◌, ◌≤◌, ◌⊎◌, length, bit_xor, slice_index};
 ghost use Rattle.macsec_aes.specs.Field.{byte_product, s_box};
-ghost use Rattle.macsec_aes.specs.Aes.{mixed_entry, word, add_round_key, added_word, aes, mix_columns, schedule_of, round_key, rounds_of, shift_rows, sub_bytes, sub_word, sum_of_words};
+ghost use Rattle.macsec_aes.specs.Aes.{mixed_entry, word, add_round_key, added_word, aes, mix_columns, schedule_of};
+ghost use Rattle.macsec_aes.specs.Aes.{round_key, rounds_of, shift_rows, sub_bytes, sub_word, sum_of_words};
 ghost use Rattle.macsec_aes.specs.Keys.{key_bytes};
 
 use std::array;
