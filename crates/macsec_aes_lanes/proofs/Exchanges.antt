@@ -1,5 +1,6 @@
 -- One bit of two bytes after some of their bits are exchanged.
-use Rattle.std.proofs.Common.{◌≡◌, ℕ, ◌+◌, ◌-◌, ◌*◌, ◌/◌, ◌%◌, ◌^◌, ◌<◌, ◌≤◌, ◌⊎◌, inl, inr, List, [], ◌∷◌, slice_index, replicate, bit_and, bit_xor, min, refl, sym, ap, ◌∙◌, arith}
+use Rattle.std.proofs.Common.{◌≡◌, ℕ, ◌+◌, ◌-◌, ◌*◌, ◌/◌, ◌%◌, ◌^◌, ◌<◌, ◌≤◌, ◌⊎◌, inl, inr, List, [], ◌∷◌}
+use Rattle.std.proofs.Common.{slice_index, replicate, bit_and, bit_xor, min, refl, sym, ap, ◌∙◌, arith}
 use Rattle.std.proofs.lemmas.Bool.{cases_lt}
 use Rattle.std.specs.Int.{bit_at}
 use Rattle.std.specs.Simd.Lanes.{zip2}
@@ -111,15 +112,18 @@ pub raised_is : (d mask : ℕ) → IsMask d mask → (a b : List ℕ) (j k : ℕ
     → bit_at (raised (slice_index a j) (slice_index b j) d mask) k ≡ bit_of (a ∷ b ∷ []) (digit d k) j (with_digit d k 0)
 raised_is d mask (inl e) a b j k lt =
     rw (e.0, e.1) (raised_bit (slice_index a j) (slice_index b j) 1 0x55 k lt
-    ∙ below_eight (λ k. slice_index (bit_at (slice_index a j) k ∷ bit_at (slice_index b j) (k - 1) ∷ []) (bit_at (0x55 * 2 ^ 1 % 2 ^ 8) k) ≡ bit_of (a ∷ b ∷ []) (digit 1 k) j (with_digit 1 k 0))
+    ∙ below_eight (λ k. slice_index (bit_at (slice_index a j) k ∷ bit_at (slice_index b j) (k - 1) ∷ []) (bit_at (0x55 * 2 ^ 1 % 2 ^ 8) k)
+    ≡ bit_of (a ∷ b ∷ []) (digit 1 k) j (with_digit 1 k 0))
     refl refl refl refl refl refl refl refl k lt)
 raised_is d mask (inr (inl e)) a b j k lt =
     rw (e.0, e.1) (raised_bit (slice_index a j) (slice_index b j) 2 0x33 k lt
-    ∙ below_eight (λ k. slice_index (bit_at (slice_index a j) k ∷ bit_at (slice_index b j) (k - 2) ∷ []) (bit_at (0x33 * 2 ^ 2 % 2 ^ 8) k) ≡ bit_of (a ∷ b ∷ []) (digit 2 k) j (with_digit 2 k 0))
+    ∙ below_eight (λ k. slice_index (bit_at (slice_index a j) k ∷ bit_at (slice_index b j) (k - 2) ∷ []) (bit_at (0x33 * 2 ^ 2 % 2 ^ 8) k)
+    ≡ bit_of (a ∷ b ∷ []) (digit 2 k) j (with_digit 2 k 0))
     refl refl refl refl refl refl refl refl k lt)
 raised_is d mask (inr (inr e)) a b j k lt =
     rw (e.0, e.1) (raised_bit (slice_index a j) (slice_index b j) 4 0x0f k lt
-    ∙ below_eight (λ k. slice_index (bit_at (slice_index a j) k ∷ bit_at (slice_index b j) (k - 4) ∷ []) (bit_at (0x0f * 2 ^ 4 % 2 ^ 8) k) ≡ bit_of (a ∷ b ∷ []) (digit 4 k) j (with_digit 4 k 0))
+    ∙ below_eight (λ k. slice_index (bit_at (slice_index a j) k ∷ bit_at (slice_index b j) (k - 4) ∷ []) (bit_at (0x0f * 2 ^ 4 % 2 ^ 8) k)
+    ≡ bit_of (a ∷ b ∷ []) (digit 4 k) j (with_digit 4 k 0))
     refl refl refl refl refl refl refl refl k lt)
 
 pub lowered_is : (d mask : ℕ) → IsMask d mask → (a b : List ℕ) (j k : ℕ) → k < 8

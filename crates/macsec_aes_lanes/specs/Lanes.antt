@@ -1,4 +1,5 @@
--- Vectors of sixteen lanes, which are the entries of a state row by row: lane 4 * r + c is its entry at row r and column c.
+-- Vectors of sixteen lanes, which are the entries of a state row by row: lane 4 * r + c is its entry at row r and
+-- column c.
 use Rattle.std.specs.Prelude.{ℕ, ◌+◌, ◌*◌, ◌/◌, ◌%◌, List, [], slice_index, slice_index_or}
 
 -- lane j of vector i

@@ -1,6 +1,6 @@
--- The inverse of a byte (FIPS 197, 4.2) by way of the subfield of 16 elements. The power 17 of each byte is in it, and the
--- inverse of x is x^16 times that of x^17. A nibble is the element of the subfield that is the sum of 0c, 51, b0 and ec
--- hexadecimal where it has bits.
+-- The inverse of a byte (FIPS 197, 4.2) by way of the subfield of 16 elements. The power 17 of each byte is in it, and
+-- the inverse of x is x^16 times that of x^17. A nibble is the element of the subfield that is the sum of 0c, 51, b0
+-- and ec hexadecimal where it has bits.
 use Rattle.std.specs.Prelude.{ℕ, ◌*◌, List, [], ◌∷◌, bit_and, slice_index}
 use Rattle.std.specs.Int.{bit_at}
 use Rattle.macsec_aes.specs.Field.{sum_below, byte_product}

@@ -50,7 +50,8 @@ pub fn bytes_of(a: u8x16) -> [u8; 16]
         .to_array()
 }
 
-/// For each entry of a state the one that is as many columns to the right as its row says, from which ShiftRows takes it.
+/// For each entry of a state the one that is as many columns to the right as its row says, from which ShiftRows takes
+/// it.
 #[inline(always)]
 pub fn shifted(a: u8x16) -> u8x16
     ensures { (j : ℕ) → j < 16 → slice_index result j ≡ slice_index a (columns_right j) }

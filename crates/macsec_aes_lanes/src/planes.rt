@@ -1,8 +1,8 @@
 //! Eight bytes of each lane as eight bit planes, and back.
 //!
-//! A computation with the bits of bytes is done on planes: plane i has bit i of each byte, so that one operation works on
-//! the bits of 128 bytes. To go from bytes to planes is to transpose a square of 8 by 8 bits in each lane. A bit at place
-//! k of vector i goes to place i of vector k: the three binary digits of i and k are exchanged one after another.
+//! A computation with the bits of bytes is done on planes: plane i has bit i of each byte, so that one operation works
+//! on the bits of 128 bytes. To go from bytes to planes is to transpose a square of 8 by 8 bits in each lane. A bit at
+//! place k of vector i goes to place i of vector k: the three binary digits of i and k are exchanged one after another.
 
 ghost use Rattle.std.specs.Prelude.{◌≡◌, ℕ, ◌+◌, ◌*◌, ◌-◌, ◌/◌, ◌%◌, ◌^◌, ◌<◌, List, [], ◌∷◌, slice_index};
 ghost use Rattle.macsec_aes_lanes.specs.Lanes.{lane_at};
@@ -10,8 +10,9 @@ ghost use Rattle.macsec_aes_lanes.specs.Planes.{AreBytes, IsMask, bit_of, digit,
 
 use std::simd::u8x16;
 
-/// Exchanges, in two vectors, the digit of weight `d` of a bit's place with that of its vector: each bit of `a` at a place
-/// where the digit is 1 changes places with the bit of `b` that is `d` places lower. `mask` has the places where it is 0.
+/// Exchanges, in two vectors, the digit of weight `d` of a bit's place with that of its vector: each bit of `a` at a
+/// place where the digit is 1 changes places with the bit of `b` that is `d` places lower. `mask` has the places where
+/// it is 0.
 #[inline(always)]
 fn exchange(a: u8x16, b: u8x16, d: u8, mask: u8) -> [u8x16; 2]
     requires { IsMask d mask }

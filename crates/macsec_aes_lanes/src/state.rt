@@ -1,5 +1,5 @@
-//! The transformations of a round on eight states at once, in eight bit planes. The lanes of a plane are the entries of a
-//! state, row by row, so that a move by whole rows is one of words; bit k of a lane belongs to the state of block k
+//! The transformations of a round on eight states at once, in eight bit planes. The lanes of a plane are the entries of
+//! a state, row by row, so that a move by whole rows is one of words; bit k of a lane belongs to the state of block k
 //! (FIPS 197, 3.4).
 
 ghost use Rattle.std.specs.Prelude.{◌≡◌, ℕ, ◌<◌, List, [], bit_xor, length, slice_index_or};
@@ -128,7 +128,8 @@ fn sum(v: States, w: States) -> States
     ]
 }
 
-/// Each entry times 02 (FIPS 197, 4.2): its bits go up by one place, and the highest is added where the modulus has bits.
+/// Each entry times 02 (FIPS 197, 4.2): its bits go up by one place, and the highest is added where the modulus has
+/// bits.
 #[inline(always)]
 fn double(v: States) -> States
     ensures { (k : ℕ) → k < 8 → (j : ℕ) → j < 16 → octet result j k ≡ byte_product 2 (octet v j k) }

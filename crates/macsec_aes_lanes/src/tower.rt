@@ -1,10 +1,10 @@
 //! The S-box on bit planes, with no table.
 //!
-//! The S-box needs the inverse of a byte in its field. For each byte x the power 17 lies in the subfield of 16 elements, and
-//! the inverse of x is x^16 times the inverse of x^17. All of this is sums and products of bits, and is done on planes, by
-//! the circuit of Boyar and Peralta, of 32 products and 83 sums: the bits of x are first summed to the factors of its
-//! products, of which there are nine for x^17 and eighteen with the inverse of x^17. The names of planes are those of the
-//! circuit.
+//! The S-box needs the inverse of a byte in its field. For each byte x the power 17 lies in the subfield of 16
+//! elements, and the inverse of x is x^16 times the inverse of x^17. All of this is sums and products of bits, and is
+//! done on planes, by the circuit of Boyar and Peralta, of 32 products and 83 sums: the bits of x are first summed to
+//! the factors of its products, of which there are nine for x^17 and eighteen with the inverse of x^17. The names of
+//! planes are those of the circuit, whose x0 is the highest bit of x.
 
 ghost use Rattle.std.specs.Prelude.{◌≡◌, ℕ, ◌^◌, ◌<◌};
 ghost use Rattle.macsec_aes.specs.Field.{s_box};
@@ -14,36 +14,38 @@ ghost use Rattle.macsec_aes_lanes.specs.Tower.{nibble_inverse, norm, products, s
 use crate::lanes::{add, and};
 use std::simd::u8x16;
 
-/// The sums of bits of each byte: the second factors of its nine products, the first ones, and four that are added to them.
+/// The sums of bits of each byte: the second factors of its nine products, the first ones, and four that are added to
+/// them.
 #[inline(always)]
 fn sums(x: [u8x16; 8]) -> [u8x16; 22]
     ensures { (j : ℕ) → j < 16 → (k : ℕ) → k < 8 → element 22 result j k ≡ sums (octet x j k) }
 {
-    let y14 = add(x[4], x[2]);
-    let y13 = add(x[7], x[1]);
-    let y9 = add(x[7], x[4]);
-    let y8 = add(x[7], x[2]);
-    let t0 = add(x[6], x[5]);
-    let y1 = add(t0, x[0]);
-    let y4 = add(y1, x[4]);
+    let [x7, x6, x5, x4, x3, x2, x1, x0] = x;
+    let y14 = add(x3, x5);
+    let y13 = add(x0, x6);
+    let y9 = add(x0, x3);
+    let y8 = add(x0, x5);
+    let t0 = add(x1, x2);
+    let y1 = add(t0, x7);
+    let y4 = add(y1, x3);
     let y12 = add(y13, y14);
-    let y2 = add(y1, x[7]);
-    let y5 = add(y1, x[1]);
+    let y2 = add(y1, x0);
+    let y5 = add(y1, x6);
     let y3 = add(y5, y8);
-    let t1 = add(x[3], y12);
-    let y15 = add(t1, x[2]);
-    let y20 = add(t1, x[6]);
-    let y6 = add(y15, x[0]);
+    let t1 = add(x4, y12);
+    let y15 = add(t1, x5);
+    let y20 = add(t1, x1);
+    let y6 = add(y15, x7);
     let y10 = add(y15, t0);
     let y11 = add(y20, y9);
-    let y7 = add(x[0], y11);
+    let y7 = add(x7, y11);
     let y17 = add(y10, y11);
     let y19 = add(y10, y8);
     let y16 = add(t0, y11);
     let y21 = add(y13, y16);
-    let y18 = add(x[7], y16);
+    let y18 = add(x0, y16);
     [
-        y15, y6, x[0], y16, y1, y7, y11, y17, y10, y12, y3, y4, y13, y5, y2, y9, y14, y8, y20, y19,
+        y15, y6, x7, y16, y1, y7, y11, y17, y10, y12, y3, y4, y13, y5, y2, y9, y14, y8, y20, y19,
         y21, y18,
     ]
 }
@@ -54,29 +56,32 @@ fn norm(s: [u8x16; 22]) -> [u8x16; 4]
     ensures { (j : ℕ) → j < 16 → (k : ℕ) → k < 8 → (x : ℕ) → x < 2 ^ 8 → element 22 s j k ≡ sums x
         → nibble result j k ≡ norm x }
 {
-    let t2 = and(s[9], s[0]);
-    let t3 = and(s[10], s[1]);
+    let [y15, y6, x7, y16, y1, y7, y11, y17, y10, ..] = s;
+    let [.., y12, y3, y4, y13, y5, y2, y9, y14, y8, _, _, _, _] = s;
+    let [.., y20, y19, y21, y18] = s;
+    let t2 = and(y12, y15);
+    let t3 = and(y3, y6);
     let t4 = add(t3, t2);
-    let t5 = and(s[11], s[2]);
+    let t5 = and(y4, x7);
     let t6 = add(t5, t2);
-    let t7 = and(s[12], s[3]);
-    let t8 = and(s[13], s[4]);
+    let t7 = and(y13, y16);
+    let t8 = and(y5, y1);
     let t9 = add(t8, t7);
-    let t10 = and(s[14], s[5]);
+    let t10 = and(y2, y7);
     let t11 = add(t10, t7);
-    let t12 = and(s[15], s[6]);
-    let t13 = and(s[16], s[7]);
+    let t12 = and(y9, y11);
+    let t13 = and(y14, y17);
     let t14 = add(t13, t12);
-    let t15 = and(s[17], s[8]);
+    let t15 = and(y8, y10);
     let t16 = add(t15, t12);
     let t17 = add(t4, t14);
     let t18 = add(t6, t16);
     let t19 = add(t9, t14);
     let t20 = add(t11, t16);
-    let t21 = add(t17, s[18]);
-    let t22 = add(t18, s[19]);
-    let t23 = add(t19, s[20]);
-    let t24 = add(t20, s[21]);
+    let t21 = add(t17, y20);
+    let t22 = add(t18, y19);
+    let t23 = add(t19, y21);
+    let t24 = add(t20, y18);
     [t21, t22, t23, t24]
 }
 
@@ -85,18 +90,19 @@ fn norm(s: [u8x16; 22]) -> [u8x16; 4]
 fn inverse(n: [u8x16; 4]) -> [u8x16; 4]
     ensures { (j : ℕ) → j < 16 → (k : ℕ) → k < 8 → nibble result j k ≡ nibble_inverse (nibble n j k) }
 {
-    let t25 = add(n[0], n[1]);
-    let t26 = and(n[0], n[2]);
-    let t27 = add(n[3], t26);
+    let [t21, t22, t23, t24] = n;
+    let t25 = add(t21, t22);
+    let t26 = and(t21, t23);
+    let t27 = add(t24, t26);
     let t28 = and(t25, t27);
-    let t29 = add(t28, n[1]);
-    let t30 = add(n[2], n[3]);
-    let t31 = add(n[1], t26);
+    let t29 = add(t28, t22);
+    let t30 = add(t23, t24);
+    let t31 = add(t22, t26);
     let t32 = and(t31, t30);
-    let t33 = add(t32, n[3]);
-    let t34 = add(n[2], t33);
+    let t33 = add(t32, t24);
+    let t34 = add(t23, t33);
     let t35 = add(t27, t33);
-    let t36 = and(n[3], t35);
+    let t36 = and(t24, t35);
     let t37 = add(t36, t34);
     let t38 = add(t27, t36);
     let t39 = and(t29, t38);
@@ -110,29 +116,32 @@ fn products(s: [u8x16; 22], n: [u8x16; 4]) -> [u8x16; 18]
     ensures { (j : ℕ) → j < 16 → (k : ℕ) → k < 8 → (x : ℕ) → x < 2 ^ 8 → element 22 s j k ≡ sums x
         → nibble n j k ≡ nibble_inverse (norm x) → element 18 result j k ≡ products x }
 {
-    let t41 = add(n[2], n[0]);
-    let t42 = add(n[3], n[1]);
-    let t43 = add(n[3], n[2]);
-    let t44 = add(n[1], n[0]);
+    let [y15, y6, x7, y16, y1, y7, y11, y17, y10, ..] = s;
+    let [.., y12, y3, y4, y13, y5, y2, y9, y14, y8, _, _, _, _] = s;
+    let [t37, t33, t40, t29] = n;
+    let t41 = add(t40, t37);
+    let t42 = add(t29, t33);
+    let t43 = add(t29, t40);
+    let t44 = add(t33, t37);
     let t45 = add(t42, t41);
-    let z0 = and(t44, s[0]);
-    let z1 = and(n[0], s[1]);
-    let z2 = and(n[1], s[2]);
-    let z3 = and(t43, s[3]);
-    let z4 = and(n[2], s[4]);
-    let z5 = and(n[3], s[5]);
-    let z6 = and(t42, s[6]);
-    let z7 = and(t45, s[7]);
-    let z8 = and(t41, s[8]);
-    let z9 = and(t44, s[9]);
-    let z10 = and(n[0], s[10]);
-    let z11 = and(n[1], s[11]);
-    let z12 = and(t43, s[12]);
-    let z13 = and(n[2], s[13]);
-    let z14 = and(n[3], s[14]);
-    let z15 = and(t42, s[15]);
-    let z16 = and(t45, s[16]);
-    let z17 = and(t41, s[17]);
+    let z0 = and(t44, y15);
+    let z1 = and(t37, y6);
+    let z2 = and(t33, x7);
+    let z3 = and(t43, y16);
+    let z4 = and(t40, y1);
+    let z5 = and(t29, y7);
+    let z6 = and(t42, y11);
+    let z7 = and(t45, y17);
+    let z8 = and(t41, y10);
+    let z9 = and(t44, y12);
+    let z10 = and(t37, y3);
+    let z11 = and(t33, y4);
+    let z12 = and(t43, y13);
+    let z13 = and(t40, y5);
+    let z14 = and(t29, y2);
+    let z15 = and(t42, y9);
+    let z16 = and(t45, y14);
+    let z17 = and(t41, y8);
     [
         z0, z1, z2, z3, z4, z5, z6, z7, z8, z9, z10, z11, z12, z13, z14, z15, z16, z17,
     ]

@@ -32,7 +32,8 @@ returns c j h k l x lx es en =
     let z15 = c.and-z15.ensures j h ∙ ap₂ bit_and t42 refl in
     let z16 = c.and-z16.ensures j h ∙ ap₂ bit_and t45 refl in
     let z17 = c.and-z17.ensures j h ∙ ap₂ bit_and t41 refl in
-    let planes = (cons z0 (cons z1 (cons z2 (cons z3 (cons z4 (cons z5 (cons z6 (cons z7 (cons z8 (cons z9 (cons z10 (cons z11 (cons z12 (cons z13 (cons z14 (cons z15 (cons z16 (cons z17 no_more)))))))))))))))))) in
+    let planes = (cons z0 (cons z1 (cons z2 (cons z3 (cons z4 (cons z5 (cons z6 (cons z7 (cons z8
+    (cons z9 (cons z10 (cons z11 (cons z12 (cons z13 (cons z14 (cons z15 (cons z16 (cons z17 no_more)))))))))))))))))) in
     let bits = ap₂ (λ (xs ys : List ℕ). xs ++ ys) (bits_are 22 s refl k (sums x) es) (bits_are 4 n refl k (nibble_inverse (norm x)) en) in
     ap (λ (xs : List ℕ). number (bits_at k xs)) planes
     ∙ circuit_from (λ x. bits_of 22 (sums x) ++ bits_of 4 (nibble_inverse (norm x))) gates_of_products products computes_products (s ++ n) k l x lx bits

@@ -31,5 +31,6 @@ returns c j h k l =
     let y16 = c.add-y16.ensures j h ∙ ap₂ bit_xor t0 y11 in
     let y21 = c.add-y21.ensures j h ∙ ap₂ bit_xor y13 y16 in
     let y18 = c.add-y18.ensures j h ∙ ap₂ bit_xor refl y16 in
-    let planes = (cons y15 (cons y6 (cons refl (cons y16 (cons y1 (cons y7 (cons y11 (cons y17 (cons y10 (cons y12 (cons y3 (cons y4 (cons y13 (cons y5 (cons y2 (cons y9 (cons y14 (cons y8 (cons y20 (cons y19 (cons y21 (cons y18 no_more)))))))))))))))))))))) in
+    let planes = (cons y15 (cons y6 (cons refl (cons y16 (cons y1 (cons y7 (cons y11 (cons y17 (cons y10 (cons y12
+    (cons y3 (cons y4 (cons y13 (cons y5 (cons y2 (cons y9 (cons y14 (cons y8 (cons y20 (cons y19 (cons y21 (cons y18 no_more)))))))))))))))))))))) in
     ap (λ (xs : List ℕ). number (bits_at k xs)) planes ∙ circuit 8 gates_of_sums sums computes_sums x refl k l
