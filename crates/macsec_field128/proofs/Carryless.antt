@@ -8,8 +8,10 @@ use Rattle.std.proofs.lemmas.Nat.{or_shifted, pow-add, pow_pos, xor_block, xor_m
 use Rattle.std.proofs.lemmas.Nat.Bits.{bit_at_xor, bit_at-lt, bit_at-pow_same, bit_at-pow_other}
 use Rattle.std.proofs.lemmas.Bool.{cases_lt}
 use Rattle.macsec_field128.specs.Field.{block_product, sum_below, times_x}
-use Rattle.macsec_field128.specs.Carryless.{carryless, residue, CarrylessAddsInFirst, CarrylessAddsInSecond, CarrylessOfOne, CarrylessMovesWithFirst, CarrylessMovesWithSecond, ProductIsResidue, ResidueAdds}
-use Rattle.macsec_field128.proofs.Additive.{IsAdditive, additive_bit, additive_sum, bit_times_sum, iterate_adds, no_term, one_term, one_times, zero_times, same_from_ones, same_sums, sum_of_bits_times, sum_of_sums}
+use Rattle.macsec_field128.specs.Carryless.{carryless, residue, CarrylessAddsInFirst, CarrylessAddsInSecond, CarrylessOfOne}
+use Rattle.macsec_field128.specs.Carryless.{CarrylessMovesWithFirst, CarrylessMovesWithSecond, ProductIsResidue, ResidueAdds}
+use Rattle.macsec_field128.proofs.Additive.{IsAdditive, additive_bit, additive_sum, bit_times_sum, iterate_adds, no_term, one_term}
+use Rattle.macsec_field128.proofs.Additive.{one_times, zero_times, same_from_ones, same_sums, sum_of_bits_times, sum_of_sums}
 use Rattle.macsec_field128.proofs.ProductLaws.{adds_in_first, product_with_one, same_below, sum_adds, times_x_of_one}
 
 -- ---- functions that keep sums
@@ -227,7 +229,8 @@ folded_is_residue z lt = same_from_ones folded residue folded_adds the_residue_a
 
 -- by halves
 pub residue_of_halves : (l r w : ℕ) → l < 2 ^ 128 → r < 2 ^ 128
-    → w ≡ bit_xor (bit_xor (bit_xor (r * 2 ^ 1 % 2 ^ 128) (r * 2 ^ 1 % 2 ^ 128 * 2 ^ 127 % 2 ^ 128)) (r * 2 ^ 1 % 2 ^ 128 * 2 ^ 126 % 2 ^ 128)) (r * 2 ^ 1 % 2 ^ 128 * 2 ^ 121 % 2 ^ 128)
+    → w ≡ bit_xor (bit_xor (bit_xor (r * 2 ^ 1 % 2 ^ 128) (r * 2 ^ 1 % 2 ^ 128 * 2 ^ 127 % 2 ^ 128)) (r * 2 ^ 1 % 2 ^ 128 * 2 ^ 126 % 2 ^ 128))
+    (r * 2 ^ 1 % 2 ^ 128 * 2 ^ 121 % 2 ^ 128)
     → bit_xor (bit_or (l * 2 ^ 1 % 2 ^ 128) (r / 2 ^ 127)) (bit_xor (bit_xor (bit_xor w (w / 2 ^ 1)) (w / 2 ^ 2)) (w / 2 ^ 7)) ≡ residue (l * 2 ^ 128 + r)
 unfolding folded reduced wrapped
 residue_of_halves l r w ll lr e =

@@ -11,7 +11,8 @@ use Rattle.std.proofs.lemmas.List.FromFn.{get_or-map-range_with_len}
 use Rattle.macsec_field128.specs.Field.{bit_of, block_product, reduction, sum_below, times_x}
 use Rattle.macsec_field128.specs.Laws.{AddsInFirst, AddsInSecond, Associates, ProductIsBlock}
 use Rattle.macsec_field128.proofs.Iterations.{iterate_more}
-use Rattle.macsec_field128.proofs.Additive.{IsAdditive, additive_bit, additive_sum, bit_cases, bit_times_sum, iterate_adds, one_term, one_times, zero_times, same_from_ones, same_sums, sum_of_bits_times, sum_of_sums, times_x_adds, xor_swap}
+use Rattle.macsec_field128.proofs.Additive.{IsAdditive, additive_bit, additive_sum, bit_cases, bit_times_sum, iterate_adds, one_term, one_times}
+use Rattle.macsec_field128.proofs.Additive.{zero_times, same_from_ones, same_sums, sum_of_bits_times, sum_of_sums, times_x_adds, xor_swap}
 
 -- two functions that agree on a table agree below its length
 pub same_below : (f g : ℕ → ℕ) (n : ℕ) → map f (range_with_len 0 n) ≡ map g (range_with_len 0 n) → (a : ℕ) → a < n → f a ≡ g a

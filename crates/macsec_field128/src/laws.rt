@@ -1,5 +1,5 @@
-//! Laws of the product of two blocks and of its two steps, of their definitions alone: they are the contracts of functions
-//! with empty bodies.
+//! Laws of the product of two blocks and of its two steps, of their definitions alone: they are the contracts of
+//! functions with empty bodies.
 
 ghost use Rattle.macsec_field128.specs.Carryless.{CarrylessLaws, ProductIsResidue, ResidueAdds};
 ghost use Rattle.macsec_field128.specs.Laws.{AddsInFirst, AddsInSecond, Associates, ProductIsBlock};

@@ -59,8 +59,8 @@ pub fn mul(a: Block, b: Block) -> Block
     sum
 }
 
-/// The element that a polynomial of 255 coefficients is, given in two halves of 128 bits: its residue modulo the polynomial
-/// of the field (SP 800-38D, 6.3). Bit 254 is the coefficient of x^0; bit 255 does not count.
+/// The element that a polynomial of 255 coefficients is, given in two halves of 128 bits: its residue modulo the
+/// polynomial of the field (SP 800-38D, 6.3). Bit 254 is the coefficient of x^0; bit 255 does not count.
 pub fn residue(left: u128, right: u128) -> Block
     ensures { result.0 ≡ residue (left * 2 ^ 128 + right) }
 {
