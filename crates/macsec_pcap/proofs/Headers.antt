@@ -3,7 +3,8 @@ use Rattle.std.proofs.Common.{◌≡◌, ℕ, ◌≤◌, List, ◌++◌, length,
 use Rattle.std.specs.Prelude.{Option, Some, None, IfSome, Result, Ok, Err, false, nat_lt}
 use Rattle.std.proofs.lemmas.Bool.{le-ltb}
 use Rattle.macsec_pcap.specs.declared.fault.PcapFault.{PcapFault}
-use Rattle.macsec_pcap.specs.declared.fault.PcapFault.TheVariants.{Magic, Version, LinkType, CutHeader, CutRecord, RecordLength, Read, Write, Memory, RecordCount, BlockLength, NoInterface, InterfaceCount, Time}
+use Rattle.macsec_pcap.specs.declared.fault.PcapFault.TheVariants.{Magic, Version, LinkType, CutHeader, CutRecord, RecordLength, Read, Write}
+use Rattle.macsec_pcap.specs.declared.fault.PcapFault.TheVariants.{Memory, RecordCount, BlockLength, NoInterface, InterfaceCount, Time}
 use Rattle.macsec_pcap.specs.declared.form.Form.{Form}
 use Rattle.macsec_pcap.specs.declared.form.Order.TheVariants.{Big, Little}
 use Rattle.macsec_pcap.specs.Filled.{IsFilled}

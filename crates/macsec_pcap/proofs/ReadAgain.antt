@@ -27,7 +27,8 @@ numbers seconds fraction captured original = record { seconds = seconds; fractio
 abbrev numbers_of : ℕ → ℕ → ℕ → Head
 numbers_of seconds fraction len = numbers seconds fraction len len
 
-head_of-written : (seconds fraction len : ℕ) → seconds < 2 ^ 32 → fraction < 2 ^ 32 → len < 2 ^ 32 → head_of Little (record_head seconds fraction len) ≡ numbers_of seconds fraction len
+head_of-written : (seconds fraction len : ℕ) → seconds < 2 ^ 32 → fraction < 2 ^ 32 → len < 2 ^ 32 →
+    head_of Little (record_head seconds fraction len) ≡ numbers_of seconds fraction len
 head_of-written seconds fraction len s f l =
     let octets = record_head seconds fraction len in
     let first : number Little 4 octets ≡ seconds = little_number-reads_back 4 seconds (little_bytes 4 fraction ++ little_bytes 4 len ++ little_bytes 4 len) s in

@@ -56,7 +56,8 @@ record_in head room = record {
   frame = if nat_lt head.captured head.original then None else Some (take head.captured room);
 }
 
--- of a read of a record, with the octets that the source then has left: its captured octets are at the front of the room
+-- of a read of a record, with the octets that the source then has left: its captured octets are at the front of the
+-- room
 abbrev pub TakesRecord : Order → ℕ → List ℕ → Option (List ℕ) → List ℕ → Result (Option Head) PcapFault → Type 0
 TakesRecord order places octets new room (Ok (Some head)) =
     (rest : List ℕ) × (record_within order places octets ≡ Ok (Some (record_in head room, rest))) × (new ≡ Some rest)

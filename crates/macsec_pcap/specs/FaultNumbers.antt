@@ -1,7 +1,8 @@
 -- The numbers and the names of the faults of capture files.
 use Rattle.std.specs.Prelude.{ℕ, List, codes}
 use Rattle.macsec_pcap.specs.declared.fault.PcapFault.{PcapFault}
-use Rattle.macsec_pcap.specs.declared.fault.PcapFault.TheVariants.{Magic, Version, LinkType, CutHeader, CutRecord, RecordLength, Read, Write, Memory, RecordCount, BlockLength, NoInterface, InterfaceCount, Time}
+use Rattle.macsec_pcap.specs.declared.fault.PcapFault.TheVariants.{Magic, Version, LinkType, CutHeader, CutRecord, RecordLength, Read, Write}
+use Rattle.macsec_pcap.specs.declared.fault.PcapFault.TheVariants.{Memory, RecordCount, BlockLength, NoInterface, InterfaceCount, Time}
 
 abbrev pub number_of_fault : PcapFault → ℕ
 number_of_fault Magic = 1

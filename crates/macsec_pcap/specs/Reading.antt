@@ -11,8 +11,8 @@ use Rattle.macsec_pcap.specs.Answers.{UnlessRead}
 use Rattle.macsec_pcap.specs.Records.{CaptureRecord}
 use Rattle.macsec_pcap.specs.Captures.{Capture, CaptureFile, records_of}
 
--- what lies ahead: nothing, since the end of the file or a fault was returned; records and what is after them; or what is
--- not known, if the source doesn't tell its octets
+-- what lies ahead: nothing, since the end of the file or a fault was returned; records and what is after them; or what
+-- is not known, if the source doesn't tell its octets
 pub data Ahead : Type 0 where
   over : Ahead
   failed : PcapFault → Ahead
@@ -39,8 +39,8 @@ ahead_of (Failed fault) order places octets = failed fault
 abbrev pub opened : CaptureFile → Reading
 opened file = record { resolution = file.resolution; places = max_records; ahead = holds file.capture }
 
--- of `new`, by what the file is: a reader of it, or the fault of its header, unless it is out of memory or a read failed
--- first
+-- of `new`, by what the file is: a reader of it, or the fault of its header, unless it is out of memory or a read
+-- failed first
 abbrev pub Opens : Result CaptureFile PcapFault → Result Reading PcapFault → Type 0
 Opens meant (Ok reading) = (whole : CaptureFile) × (meant ≡ Ok whole) × (reading ≡ opened whole)
 Opens meant (Err Memory) = Unit {0}

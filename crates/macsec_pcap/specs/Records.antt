@@ -1,5 +1,5 @@
--- The records of a capture file: seconds (4 octets), fraction of a second (4), captured length (4), original length (4),
--- and then the captured octets.
+-- The records of a capture file: seconds (4 octets), fraction of a second (4), captured length (4), original length
+-- (4), and then the captured octets.
 use Rattle.std.specs.Prelude.{ℕ, ◌+◌, ◌==◌, List, length, take, drop, nat_lt, if◌then◌else◌, Option, Some, None, Result, Ok, Err}
 use Rattle.macsec_pcap.specs.declared.fault.PcapFault.{PcapFault}
 use Rattle.macsec_pcap.specs.declared.fault.PcapFault.TheVariants.{CutRecord, RecordLength}

@@ -11,11 +11,11 @@
 //! ends. Only `new` is handed an allocator.
 //!
 //! Proved, over a writer whose octets a contract can name: with `Ok` `PcapWriter::new` wrote the header and `write` the
-//! record of that time and frame; with `RecordLength`, and after a fault, nothing was written; with `Write` from `write`
-//! or `write_header` a front of the record or the header was, and nothing else. Over any writer:
-//! `RecordLength` is returned exactly for a frame of more than 262,144 octets, by a writer that has not returned a
-//! fault; the only other fault is `Write`; after a fault each later call returns that fault. The law
-//! `laws::read_again`: a file of at most 16,777,216 records that is written so is read as those records.
+//! record of that time and frame; with `RecordLength`, and after a fault, nothing was written; with `Write` from
+//! `write` or `write_header` a front of the record or the header was, and nothing else. Over any writer: `RecordLength`
+//! is returned exactly for a frame of more than 262,144 octets, by a writer that has not returned a fault; the only
+//! other fault is `Write`; after a fault each later call returns that fault. The law `laws::read_again`: a file of at
+//! most 16,777,216 records that is written so is read as those records.
 //!
 //! `fill` and the numbers of `Order`, which want as many octets as they read, serve the readers of other formats too;
 //! the faults from `BlockLength` on are theirs.

@@ -16,8 +16,8 @@ use std::io::{ErrorKind, Write};
 /// The snapshot length of a written file.
 const SNAPSHOT_LEN: u32 = 65_535;
 
-/// Writes a capture file of whole frames, record by record: numbers with their lowest octet first, version 2.4, the link
-/// type of Ethernet. It takes no memory.
+/// Writes a capture file of whole frames, record by record: numbers with their lowest octet first, version 2.4, the
+/// link type of Ethernet. It takes no memory.
 #[derive(Drop)]
 pub struct PcapWriter<'a, W: Write> {
     destination: &'a mut W,
@@ -52,8 +52,8 @@ impl<'a, W: Write> PcapWriter<'a, W> {
     }
 
     /// Writes a record of this time and frame, of at most `MAX_RECORD_LEN` octets. Returns `RecordLength` for a longer
-    /// one, having written nothing, or `Write`, having written a front of the record at most; either is returned by each
-    /// later call too, which writes nothing.
+    /// one, having written nothing, or `Write`, having written a front of the record at most; either is returned by
+    /// each later call too, which writes nothing.
     pub fn write(&mut self, seconds: u32, fraction: u32, frame: &[u8]) -> Result<(), PcapFault>
         ensures lent { (lent self.new).ghost_name ≡ (lent self.old).ghost_name }
         ensures written { Writes (fault_of self.old) (contents W.contents self.old) (contents W.contents self.new) seconds fraction frame.now result }
