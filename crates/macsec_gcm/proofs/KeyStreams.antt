@@ -1,5 +1,6 @@
 -- Key streams, and the texts to which they are added.
-use Rattle.std.proofs.Common.{◌≡◌, ℕ, suc, ◌+◌, ◌-◌, ◌*◌, ◌/◌, ◌%◌, ◌<◌, ◌≤◌, List, [], ◌∷◌, length, get_or, take, drop, bit_xor, map, replicate, refl, sym, ap, ap₂, ◌∙◌, arith, inl, inr, length-drop, length-append, ◌++◌}
+use Rattle.std.proofs.Common.{◌≡◌, ℕ, suc, ◌+◌, ◌-◌, ◌*◌, ◌/◌, ◌%◌, ◌<◌, ◌≤◌, List, [], ◌∷◌, length, get_or, take, drop, bit_xor}
+use Rattle.std.proofs.Common.{map, replicate, refl, sym, ap, ap₂, ◌∙◌, arith, inl, inr, length-drop, length-append, ◌++◌}
 use Rattle.std.proofs.lemmas.List.{length-map, length-replicate, length-take-le, get_or_append_left, get_or-append_right, get_or-map, get_or-take, get_or-drop}
 use Rattle.std.proofs.lemmas.List.FromFn.{length-map-range_with_len, get_or-map-range_with_len}
 use Rattle.std.proofs.lemmas.Bool.{cases_lt}

@@ -2,3 +2,4 @@ pub mod Iterations
 pub mod KeyStreams
 pub mod Opening
 pub mod States
+pub mod Tags

@@ -46,7 +46,8 @@ same_octets-refl : (xs : List ℕ) → same_octets xs xs ≡ true
 same_octets-refl [] = refl
 same_octets-refl (x ∷ xs) = rw (eq-eqb x x refl, same_octets-refl xs) refl
 
-pub open_of-by_test : (key iv aad ciphertext tag : List ℕ) → open_of key iv aad ciphertext tag ≡ cond (same_octets (tag_of key iv aad ciphertext) tag) (Some (decrypted key iv ciphertext)) None
+pub open_of-by_test : (key iv aad ciphertext tag : List ℕ) →
+    open_of key iv aad ciphertext tag ≡ cond (same_octets (tag_of key iv aad ciphertext) tag) (Some (decrypted key iv ciphertext)) None
 unfolding open_of
 open_of-by_test key iv aad ciphertext tag = rw (seal_of-decrypted key iv aad ciphertext, same_octets-refl ciphertext) refl
 
@@ -65,7 +66,8 @@ test_by_sealed key iv aad ciphertext tag plaintext e = rw (tag_from_sealed key i
 seals_where_opens : (key iv aad ciphertext tag plaintext : List ℕ) → open_of key iv aad ciphertext tag ≡ Some plaintext → seal_of key iv aad plaintext ≡ (ciphertext, tag)
 seals_where_opens key iv aad ciphertext tag plaintext e = by (same_octets (tag_of key iv aad ciphertext) tag) refl (sym (open_of-by_test key iv aad ciphertext tag) ∙ e)
   where
-    by : (b : Bool) → same_octets (tag_of key iv aad ciphertext) tag ≡ b → cond b (Some (decrypted key iv ciphertext)) None ≡ Some plaintext → seal_of key iv aad plaintext ≡ (ciphertext, tag)
+    by : (b : Bool) → same_octets (tag_of key iv aad ciphertext) tag ≡ b → cond b (Some (decrypted key iv ciphertext)) None ≡ Some plaintext →
+        seal_of key iv aad plaintext ≡ (ciphertext, tag)
     by true right given =
         let same : decrypted key iv ciphertext ≡ plaintext = cc in
         ap (seal_of key iv aad) (sym same) ∙ (sealed_by_test key iv aad ciphertext tag right).1

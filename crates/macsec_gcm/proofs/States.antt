@@ -1,5 +1,6 @@
 -- The states of texts in pieces, step by step.
-use Rattle.std.proofs.Common.{◌≡◌, ℕ, zero, suc, ◌+◌, ◌-◌, ◌*◌, ◌/◌, ◌%◌, ◌<◌, ◌≤◌, List, [], ◌++◌, length, get_or, take, drop, refl, sym, ap, ◌∙◌, arith, inl, inr, length-append, length-drop, append_assoc}
+use Rattle.std.proofs.Common.{◌≡◌, ℕ, zero, suc, ◌+◌, ◌-◌, ◌*◌, ◌/◌, ◌%◌, ◌<◌, ◌≤◌, List, [], ◌++◌, length, get_or, take}
+use Rattle.std.proofs.Common.{drop, refl, sym, ap, ◌∙◌, arith, inl, inr, length-append, length-drop, append_assoc}
 use Rattle.std.proofs.lemmas.List.{append-nil, drop-append-le, drop_all, get_or_append_left, get_or-append_right, length-take-le, nil_from_length, take-append-drop, take-append-le}
 use Rattle.std.proofs.lemmas.Bool.{cases_lt}
 use Rattle.std.specs.Fn.{iterate}
@@ -93,7 +94,8 @@ pub padded : (blocks whole rest : List ℕ) → length whole % 16 ≡ 0 → (blo
 padded blocks whole rest is_whole = append_assoc blocks (pad whole) (pad rest) ∙ ap (λ (b : List ℕ). blocks ++ b) (sym (pad-append whole rest is_whole))
 
 -- octets that make the block of the waiting ones whole, and whole blocks after that, were hashed
-pub hashing_more : (s t : PaddedHash) (h : ℕ) (blocks text ys : List ℕ) (at : IsHashing s h blocks text) → length (take s.waiting_count s.waiting ++ ys) % 16 ≡ 0 → t.waiting_count ≡ 0
+pub hashing_more : (s t : PaddedHash) (h : ℕ) (blocks text ys : List ℕ) (at : IsHashing s h blocks text)
+    → length (take s.waiting_count s.waiting ++ ys) % 16 ≡ 0 → t.waiting_count ≡ 0
     → t.powers.now ≡ s.powers.now → HasRun t.hash t.powers.now ((blocks ++ pad at.whole) ++ pad (take s.waiting_count s.waiting ++ ys)) → IsHashing t h blocks (text ++ ys)
 hashing_more s t h blocks text ys at all none same hashed =
     let rest : List ℕ = take s.waiting_count s.waiting in

@@ -1,6 +1,7 @@
 -- GCM with IVs of 96 bits and tags of 128 bits (SP 800-38D). Keys, IVs, texts, blocks and tags are
 -- lists of octets.
-use Rattle.std.specs.Prelude.{ℕ, ◌+◌, ◌-◌, ◌*◌, ◌/◌, ◌%◌, ◌^◌, List, [], ◌∷◌, ◌++◌, length, take, drop, map, replicate, bit_xor, slice_index, Option, Some, None, ◌&&◌, if◌then◌else◌}
+use Rattle.std.specs.Prelude.{ℕ, ◌+◌, ◌-◌, ◌*◌, ◌/◌, ◌%◌, ◌^◌, List, [], ◌∷◌, ◌++◌, length, take, drop, map}
+use Rattle.std.specs.Prelude.{replicate, bit_xor, slice_index, Option, Some, None, ◌&&◌, if◌then◌else◌}
 use Rattle.std.specs.Fn.{iterate}
 use Rattle.std.specs.Int.{w32, w64, w128, from_be_bytes, to_be_bytes}
 use Rattle.std.specs.List.{range_with_len}

@@ -31,8 +31,8 @@ pub record IsHashing (s : PaddedHash) (h : ℕ) (blocks text : List ℕ) : Type 
   pub key_is : s.powers.now ≡ h
   pub hashed : HasRun s.hash s.powers.now (blocks ++ pad whole)
 
--- the additional authenticated data and the ciphertext so far were taken in; the first octet of the ciphertext has ended
--- the additional authenticated data
+-- the additional authenticated data and the ciphertext so far were taken in; the first octet of the ciphertext has
+-- ended the additional authenticated data
 pub record HasAuthenticated (s : Authenticator) (key j0 aad ciphertext : List ℕ) : Type 0 where
   pub mask : s.mask ≡ gctr key j0 (replicate 16 0)
   pub aad_len : s.aad_len ≡ min (length aad) (2 ^ 64 - 1)

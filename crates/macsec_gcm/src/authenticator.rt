@@ -22,7 +22,8 @@ impl<'k> Authenticator<'k> {
     ghost use Rattle.macsec_ghash.specs.Ghash.{pad};
     ghost use Rattle.macsec_gcm.specs.Pieces.{HasAuthenticated, IsHashing};
 
-    /// Nothing is authenticated yet, by these powers of the hash subkey. `mask` is the key stream of the pre-counter block.
+    /// Nothing is authenticated yet, by these powers of the hash subkey. `mask` is the key stream of the pre-counter
+    /// block.
     #[inline(always)]
     pub fn start(powers: &'k KeyPowers, mask: [u8; 16]) -> Authenticator<'k>
         ensures { (key j0 : List ℕ) → powers.now ≡ hash_subkey key

@@ -46,8 +46,8 @@ pub fn add_octets(text: &mut [u8], stream: &[u8])
     }
 }
 
-/// A key stream from an initial counter block on, of which some octets are used. What a piece of a text leaves of a batch
-/// is kept for the next piece.
+/// A key stream from an initial counter block on, of which some octets are used. What a piece of a text leaves of a
+/// batch is kept for the next piece.
 #[derive(Drop)]
 pub struct KeyStream<'k> {
     schedule: &'k LaneSchedule,
@@ -115,7 +115,8 @@ impl<'k> KeyStream<'k> {
         count
     }
 
-    /// Makes the next batch where all octets are used: of sixteen blocks where more than eight are `wanted`, else of eight.
+    /// Makes the next batch where all octets are used: of sixteen blocks where more than eight are `wanted`, else of
+    /// eight.
     fn refill(&mut self, wanted: usize)
         ensures some { self.new.used < 256 }
         ensures same { (key icb : List ℕ) (n : ℕ) → IsStreamAt self.old key icb n → IsStreamAt self.new key icb n }

@@ -2,6 +2,7 @@
 
 ghost use Rattle.std.specs.Prelude.{◌≡◌, ◌≤◌, ◌++◌, [], ℕ, List, length, Some, None, IfSome, IfNone};
 ghost use Rattle.macsec_gcm.specs.Gcm.{inc32, max_aad_len, max_plaintext_len, open_of, pre_counter_block, seal_of};
+ghost use Rattle.macsec_gcm.specs.Octets.{same_octets};
 ghost use Rattle.macsec_gcm.specs.Pieces.{HasAuthenticated, HasChecked, HasOpened, HasSealed, IsStreamAt, decrypted};
 
 use crate::GcmKey;
@@ -20,8 +21,8 @@ fn started<'k>(key: &'k GcmKey, iv: &[u8; 12]) -> (KeyStream<'k>, Authenticator<
 }
 
 /// Seals a text in pieces (SP 800-38D, 7.1): first the additional authenticated data, at most 2^61 - 1 octets, then the
-/// plaintext, at most 2^36 - 32 octets. Of lengths beyond these, and of additional authenticated data that come after an
-/// octet of the plaintext, no clause says what the tag is.
+/// plaintext, at most 2^36 - 32 octets. Of lengths beyond these, and of additional authenticated data that come after
+/// an octet of the plaintext, no clause says what the tag is.
 #[derive(Drop)]
 pub struct Sealer<'k> {
     stream: KeyStream<'k>,
@@ -71,8 +72,17 @@ impl<'k> Sealer<'k> {
     }
 }
 
-/// Checks a text in pieces, without a change to any (SP 800-38D, 7.2): first the additional authenticated data, then the
-/// ciphertext, with the lengths and the order of `Sealer`.
+/// Whether two tags are the same. The sum of the two is tested, and no octet by itself: the source has no exit at the
+/// first octet that differs.
+#[inline(always)]
+fn are_same(a: [u8; 16], b: [u8; 16]) -> bool
+    ensures { result ≡ same_octets a b }
+{
+    u128::from_be_bytes(a) ^ u128::from_be_bytes(b) == 0
+}
+
+/// Checks a text in pieces, without a change to any (SP 800-38D, 7.2): first the additional authenticated data, then
+/// the ciphertext, with the lengths and the order of `Sealer`.
 #[derive(Drop)]
 pub struct Opener<'k> {
     stream: KeyStream<'k>,
@@ -108,7 +118,8 @@ impl<'k> Opener<'k> {
         self.authenticator.ciphertext(piece);
     }
 
-    /// What decrypts the pieces of the ciphertext, if this is the tag of all pieces; else `None`: nothing seals to them.
+    /// What decrypts the pieces of the ciphertext, if this is the tag of all pieces; else `None`: nothing seals to
+    /// them.
     #[inline(always)]
     pub fn finish(self, tag: &[u8; 16]) -> Option<Unlocked<'k>>
         ensures opened { (key iv aad ciphertext : List ℕ) → HasChecked self.entry key iv aad ciphertext
@@ -120,7 +131,7 @@ impl<'k> Opener<'k> {
             → IfNone result (open_of key iv aad ciphertext tag.now ≡ None) }
     {
         let mut authenticator = self.authenticator;
-        if authenticator.tag() == *tag {
+        if are_same(authenticator.tag(), *tag) {
             Some(Unlocked { rest: self.stream })
         } else {
             None
@@ -128,8 +139,8 @@ impl<'k> Opener<'k> {
     }
 }
 
-/// Decrypts a ciphertext whose tag was right, in pieces, from its first octet on. The pieces need not be those that were
-/// checked, but their octets must be the same.
+/// Decrypts a ciphertext whose tag was right, in pieces, from its first octet on. The pieces need not be those that
+/// were checked, but their octets must be the same.
 #[derive(Drop)]
 pub struct Unlocked<'k> {
     /// The key stream of the rest of the ciphertext.

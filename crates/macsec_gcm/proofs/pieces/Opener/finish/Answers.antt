@@ -3,14 +3,14 @@ use Rattle.macsec_gcm.specs.Octets.{same_octets}
 use Rattle.macsec_gcm.proofs.Opening.{open_of-by_test}
 use Rattle.macsec_gcm.proofs.pieces.Opener.finish.Goals as goal
 
-pub returns-then-eq-clause-opened : goal.returns-then-eq-clause-opened
-returns-then-eq-clause-opened c = λ key iv aad ciphertext at aad_fits ciphertext_fits.
+pub returns-then-are_same-clause-opened : goal.returns-then-are_same-clause-opened
+returns-then-are_same-clause-opened c = λ key iv aad ciphertext at aad_fits ciphertext_fits.
     let tag = c.tag.ensures key _ aad ciphertext at.authenticator aad_fits ciphertext_fits in
     let same : same_octets c.tag.result c.args.tag.now ≡ true = search rules in
     (record { rest = at.stream }, open_of-by_test key iv aad ciphertext c.args.tag.now ∙ rw (← tag, same) refl)
 
-pub returns-else-eq-clause-refused : goal.returns-else-eq-clause-refused
-returns-else-eq-clause-refused c = λ key iv aad ciphertext at aad_fits ciphertext_fits.
+pub returns-else-are_same-clause-refused : goal.returns-else-are_same-clause-refused
+returns-else-are_same-clause-refused c = λ key iv aad ciphertext at aad_fits ciphertext_fits.
     let tag = c.tag.ensures key _ aad ciphertext at.authenticator aad_fits ciphertext_fits in
     let different : same_octets c.tag.result c.args.tag.now ≡ false = search rules in
     open_of-by_test key iv aad ciphertext c.args.tag.now ∙ rw (← tag, different) refl
