@@ -33,7 +33,8 @@ all_pieces text i behind = take_all (end_of text i) text (omega (arith, behind))
 -- ---- a text whose pieces are written in their place, one after another
 
 -- what was written stands after the pieces before it
-one_written : (text new : List ℕ) (written : List ℕ) (i e : ℕ) → length new ≡ length text → 256 * i ≤ length text → e ≡ min (length text) (256 * i + 256) → length written ≡ e - 256 * i
+one_written : (text new : List ℕ) (written : List ℕ) (i e : ℕ) → length new ≡ length text → 256 * i ≤ length text
+    → e ≡ min (length text) (256 * i + 256) → length written ≡ e - 256 * i
     → take (end_of text (i + 1)) (put_mid (256 * i) (e - 256 * i) new written) ≡ take (end_of text i) new ++ written
 one_written text new written i e same before end long =
     let first : 256 * i ≡ end_of text i = omega (arith, before) in
@@ -41,7 +42,8 @@ one_written text new written i e same before end long =
     ∙ ap (λ (n : ℕ). take n new ++ written) first
 
 -- and the octets behind it stay
-rest_stays : (text new : List ℕ) (written : List ℕ) (i e : ℕ) → length new ≡ length text → 256 * i ≤ length text → e ≡ min (length text) (256 * i + 256) → length written ≡ e - 256 * i
+rest_stays : (text new : List ℕ) (written : List ℕ) (i e : ℕ) → length new ≡ length text → 256 * i ≤ length text
+    → e ≡ min (length text) (256 * i + 256) → length written ≡ e - 256 * i
     → drop (end_of text i) new ≡ drop (end_of text i) text
     → drop (end_of text (i + 1)) (put_mid (256 * i) (e - 256 * i) new written) ≡ drop (end_of text (i + 1)) text
 rest_stays text new written i e same before end long held =
@@ -57,7 +59,8 @@ next_piece text new i e before held =
     let first : end_of text i ≡ 256 * i = omega (arith, before) in
     ap (take (e - 256 * i)) (ap (λ (n : ℕ). drop n new) (sym first) ∙ held ∙ ap (λ (n : ℕ). drop n text) first)
 
--- a state has taken in the first i pieces, what f gives for them stands in their place, and what follows them is as it was
+-- a state has taken in the first i pieces, what f gives for them stands in their place, and what follows them is as it
+-- was
 pub record AreWritten (Has : List ℕ → Type 0) (f : List ℕ → List ℕ) (text new : List ℕ) (i : ℕ) : Type 0 where
   pub taken : Has (pieces text i)
   pub done : take (end_of text i) new ≡ f (pieces text i)

@@ -1,5 +1,6 @@
 -- The index of a table of keys, and a change of the one row that it finds.
-use Rattle.std.proofs.Common.{◌≡◌, ℕ, ◌<◌, ◌+◌, Bool, true, false, cond, List, [], ◌∷◌, ◌++◌, map, length, zero, suc, get_or, refl, sym, ap, ◌∙◌, arith, inl, inr, subst, eq-eqb, get_or-set_other, get_or-set_same, length-append, length-set}
+use Rattle.std.proofs.Common.{◌≡◌, ℕ, ◌<◌, ◌+◌, Bool, true, false, cond, List, [], ◌∷◌, ◌++◌, map, length, zero, suc, get_or, refl, sym}
+use Rattle.std.proofs.Common.{ap, ◌∙◌, arith, inl, inr, subst, eq-eqb, get_or-set_other, get_or-set_same, length-append, length-set}
 use Rattle.std.specs.Prelude.{Option, Some, None, IsSome, option_map, slice_get, ◌==◌}
 use Rattle.std.proofs.Math.ListN.{replicate, set}
 use Rattle.std.proofs.lemmas.List.{get_or-replicate, length-map, length-replicate, map-set}
@@ -166,7 +167,8 @@ pub record IsChanged (change : InstalledKey → InstalledKey) (number : ℕ) (pl
   pub index : IsIndex places (map stored_row new)
 
 -- the key that the index finds is changed at its place
-pub IsChanged-set : (change : InstalledKey → InstalledKey) → ((row : InstalledKey) → (change row).number ≡ row.number) → ((row : InstalledKey) → IsKeyRow row → IsKeyRow (change row)) →
+pub IsChanged-set : (change : InstalledKey → InstalledKey) → ((row : InstalledKey) → (change row).number ≡ row.number) →
+    ((row : InstalledKey) → IsKeyRow row → IsKeyRow (change row)) →
     (number place : ℕ) (places : List ℕ) (keys : List StoredKey) (old new : StoredKey) → AreStoredKeys keys → IsIndex places (map stored_row keys) →
     key_row (map stored_row keys) number ≡ slice_get (map stored_row keys) place → IsSome (key_row (map stored_row keys) number) → old ≡ get_or keys place old →
     stored_row new ≡ change (stored_row old) → (HasOwnKey old.row → HasOwnKey new.row) → IsChanged change number places keys (set keys place new)

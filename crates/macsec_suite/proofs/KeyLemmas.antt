@@ -67,7 +67,8 @@ AreKeyRows-push (row ∷ rows) new h free new_is =
     let parts = cond_none (row.number == new.number) row (key_row rows new.number) free in
     (h.0, free-push rows new row.number h.1 (ne_eqb new.number row.number (λ e. eqb-false row.number new.number parts.0 (sym e))), AreKeyRows-push rows new h.2 parts.1 new_is)
 
-free-map : (f : InstalledKey → InstalledKey) → ((row : InstalledKey) → (f row).number ≡ row.number) → (rows : List InstalledKey) (n : ℕ) → key_row rows n ≡ None → key_row (map f rows) n ≡ None
+free-map : (f : InstalledKey → InstalledKey) → ((row : InstalledKey) → (f row).number ≡ row.number) → (rows : List InstalledKey) (n : ℕ) →
+    key_row rows n ≡ None → key_row (map f rows) n ≡ None
 free-map f same [] n free = refl
 free-map f same (row ∷ rows) n free =
     let parts = cond_none (row.number == n) row (key_row rows n) free in
@@ -81,7 +82,8 @@ AreKeyRows-map f same keeps (row ∷ rows) h =
     (keeps row h.0, subst (λ n. key_row (map f rows) n ≡ None) (sym (same row)) (free-map f same rows row.number h.1), AreKeyRows-map f same keeps rows h.2)
 
 -- a change of one row keeps the numbers, where it keeps that row's
-pub number-at_number : (change : InstalledKey → InstalledKey) → ((row : InstalledKey) → (change row).number ≡ row.number) → (n : ℕ) (row : InstalledKey) → (at_number change n row).number ≡ row.number
+pub number-at_number : (change : InstalledKey → InstalledKey) → ((row : InstalledKey) → (change row).number ≡ row.number) → (n : ℕ) (row : InstalledKey) →
+    (at_number change n row).number ≡ row.number
 number-at_number change same n row = by_test (row.number == n) (change row) row (same row)
   where
     by_test : (b : Bool) (x y : InstalledKey) → x.number ≡ y.number → (if b then x else y).number ≡ y.number
@@ -89,7 +91,8 @@ number-at_number change same n row = by_test (row.number == n) (change row) row 
     by_test false x y e = refl
 
 -- and what holds of each row, where it keeps that
-pub kept-at_number : (change : InstalledKey → InstalledKey) → ((row : InstalledKey) → IsKeyRow row → IsKeyRow (change row)) → (n : ℕ) (row : InstalledKey) → IsKeyRow row → IsKeyRow (at_number change n row)
+pub kept-at_number : (change : InstalledKey → InstalledKey) → ((row : InstalledKey) → IsKeyRow row → IsKeyRow (change row)) → (n : ℕ) (row : InstalledKey) →
+    IsKeyRow row → IsKeyRow (at_number change n row)
 kept-at_number change keeps n row is = by_test (row.number == n) (change row) row (keeps row is) is
   where
     by_test : (b : Bool) (x y : InstalledKey) → IsKeyRow x → IsKeyRow y → IsKeyRow (if b then x else y)

@@ -30,8 +30,8 @@ abbrev pub HasOwnKey : KeyRow → Type 0
 HasOwnKey row = (row.suite_key ≡ prepared_from row.suite_key.suite row.key.bytes row.key.offset)
     × (row.key.suite ≡ Some row.suite_key.suite)
 
--- the index of the rows: it has a place for each number, and there the place of the row of this number, or, if there is none, a place past all
--- that there can be
+-- the index of the rows: it has a place for each number, and there the place of the row of this number, or, if there is
+-- none, a place past all that there can be
 pub record IsIndex (places : List ℕ) (rows : List InstalledKey) : Type 0 where
   pub covers : length places ≡ max_key_count
   pub finds : (n : ℕ) → n < max_key_count → key_row rows n ≡ slice_get rows (slice_index places n)

@@ -1,7 +1,8 @@
 -- The numbers of the refusals, which are one list for all commands.
 use Rattle.std.specs.Prelude.{ℕ}
 use Rattle.macsec_suite.specs.declared.refusal.Refusal.{Refusal}
-use Rattle.macsec_suite.specs.declared.refusal.Refusal.TheVariants.{KeyLength, Offset, KeyNumberUsed, KeyRepeated, NoKey, KeyRetired, KeyInUse, OwnSci, ScTaken, ScFull, NoSc, AnTaken, NoSa, PnRange, PnLower, PnFloor, SsciOwn, Window, SciForm, Exhausted}
+use Rattle.macsec_suite.specs.declared.refusal.Refusal.TheVariants.{KeyLength, Offset, KeyNumberUsed, KeyRepeated, NoKey, KeyRetired, KeyInUse, OwnSci, ScTaken}
+use Rattle.macsec_suite.specs.declared.refusal.Refusal.TheVariants.{ScFull, NoSc, AnTaken, NoSa, PnRange, PnLower, PnFloor, SsciOwn, Window, SciForm, Exhausted}
 
 abbrev pub number_of_refusal : Refusal → ℕ
 number_of_refusal KeyLength = 1

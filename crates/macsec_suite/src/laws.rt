@@ -13,8 +13,8 @@ pub fn parts_in_place()
 {}
 
 /// Under one suite two frames have equal IVs only if their packet numbers are the same and their SCIs are; if packet
-/// numbers are extended and the salts are the same, only if their packet numbers and their SSCIs are (IEEE 802.1AE, 14.5
-/// to 14.8).
+/// numbers are extended and the salts are the same, only if their packet numbers and their SSCIs are (IEEE 802.1AE,
+/// 14.5 to 14.8).
 pub fn equal_ivs()
     ensures { (suite : Suite) (p q : IvParts) → EqualIvs suite p q }
 {}

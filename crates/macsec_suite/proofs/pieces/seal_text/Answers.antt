@@ -12,9 +12,11 @@ loop-i-init c = λ key iv aad.
 
 pub loop-i-preserved : goal.loop-i-preserved
 loop-i-preserved c = λ key iv aad none.
-    one_more_written (HasSealed c.loop-i.sealer key iv aad) (HasSealed c.data.new.self key iv aad) (ciphertext key iv aad) c.args.text.now c.loop-i.text c.data.new.piece c.loop-i.i c.min-end.result
+    one_more_written (HasSealed c.loop-i.sealer key iv aad) (HasSealed c.data.new.self key iv aad) (ciphertext key iv aad)
+    c.args.text.now c.loop-i.text c.data.new.piece c.loop-i.i c.min-end.result
     c.loop-i.auto.text (omega arith) (omega arith) (omega arith) (c.data.ensures key iv aad) (c.loop-i.invariant key iv aad none)
 
 pub returns : goal.returns
 returns c = λ key iv aad none.
-    all_written (HasSealed c.loop-i.sealer key iv aad) (ciphertext key iv aad) c.args.text.now c.loop-i.text c.loop-i.i c.loop-i.auto.text (omega arith) (c.loop-i.invariant key iv aad none)
+    all_written (HasSealed c.loop-i.sealer key iv aad) (ciphertext key iv aad) c.args.text.now c.loop-i.text c.loop-i.i
+    c.loop-i.auto.text (omega arith) (c.loop-i.invariant key iv aad none)

@@ -27,17 +27,25 @@ invariant_of-self c =
     let new : StoredKey = record { row = c.args.added; first_unused = 1 } in
     let items : keys ++ new ∷ [] ≡ c.push.new.self.items = sym (pushed (new ∷ []) refl c.unwrap.ensures c.push.ensures.items) in
     let free : key_row (map stored_row keys) c.args.added.key.number ≡ None = rw c.self.view_is c.requires.free in
-    let new_is : IsKeyRow (stored_row new) = record { number = omega arith; bytes = c.requires.length; salt = search rules; ssci = omega arith; first_unused_least = omega arith; first_unused = omega arith } in
+    let new_is : IsKeyRow (stored_row new) = record {
+      number = omega arith;
+      bytes = c.requires.length;
+      salt = search rules;
+      ssci = omega arith;
+      first_unused_least = omega arith;
+      first_unused = omega arith;
+    } in
     let all = AreStoredKeys-push keys new (c.self.invariant.1, c.self.invariant.2) free new_is c.requires.prepared in
     let kept = subst AreStoredKeys items all in
     let rows = map stored_row keys in
     let room : length rows < max_key_count = omega (arith, has_room keys c.args.added.key.number c.self.invariant.1 free (omega arith), length-map keys stored_row) in
-    let found : IsIndex (set c.self.inside.places.items c.args.added.key.number (length rows)) (rows ++ stored_row new ∷ []) =
+    let index = set c.self.inside.places.items c.args.added.key.number (length rows) in
+    let found : IsIndex index (rows ++ stored_row new ∷ []) =
     IsIndex-push c.self.inside.places.items rows (stored_row new) c.self.invariant.3 room (omega arith) free in
     let same : rows ++ stored_row new ∷ [] ≡ map stored_row c.push.new.self.items = sym (map-append stored_row keys (new ∷ [])) ∙ ap (map stored_row) items in
-    let places : set c.self.inside.places.items c.args.added.key.number (length rows) ≡ set c.self.inside.places.items c.number.result c.len.result =
+    let places : index ≡ set c.self.inside.places.items c.number.result c.len.result =
     rw c.number.ensures.value (ap (set c.self.inside.places.items c.args.added.key.number) (omega (arith, length-map keys stored_row))) in
-    (omega arith, kept.0, kept.1, subst (λ p. IsIndex p (map stored_row c.push.new.self.items)) places (subst (IsIndex (set c.self.inside.places.items c.args.added.key.number (length rows))) same found))
+    (omega arith, kept.0, kept.1, subst (λ p. IsIndex p (map stored_row c.push.new.self.items)) places (subst (IsIndex index) same found))
 
 pub returns-clause-rows : goal.returns-clause-rows
 returns-clause-rows c = (invariant_of-self c).1

@@ -3,17 +3,23 @@
 use Rattle.std.proofs.Common.{rules, true, refl, ap, ◌∙◌}
 use Rattle.std.specs.Prelude.{IsSome}
 use Rattle.std.proofs.Math.ListN.{set}
+use Rattle.macsec_suite.specs.declared.key_table.StoredKey.{StoredKey}
 use Rattle.macsec_suite.specs.KeyRows.{key_row, keys_retiring, retired_row}
 use Rattle.macsec_suite.proofs.KeyIndex.{IsChanged, IsChanged-set}
 use Rattle.macsec_suite.proofs.key_table.KeyTable.retire.Goals as goal
 
+-- a stored key, retired
+abbrev retired : StoredKey → StoredKey
+retired key = record { row = record key.row { retired = true }; first_unused = key.first_unused }
+
 is_changed : (c : goal.After-self-1) → IsChanged retired_row c.args.number c.self.inside.places.items c.self.inside.rows.items
-    (set c.self.inside.rows.items c.place_of-place.result (record { row = record c.index_mut-stored.result.now.row { retired = true }; first_unused = c.index_mut-stored.result.now.first_unused }))
+    (set c.self.inside.rows.items c.place_of-place.result (retired c.index_mut-stored.result.now))
 is_changed c =
     let some : IsSome (key_row c.args.self.now c.args.number) = rw c.in-Some.ensures.row refl in
     IsChanged-set retired_row (λ row. refl)
     (λ row is. record { number = is.number; bytes = is.bytes; salt = is.salt; ssci = is.ssci; first_unused_least = is.first_unused_least; first_unused = is.first_unused })
-    c.args.number c.place_of-place.result c.self.inside.places.items c.self.inside.rows.items c.index_mut-stored.result.now _ (c.self.invariant.1, c.self.invariant.2) c.self.invariant.3
+    c.args.number c.place_of-place.result c.self.inside.places.items c.self.inside.rows.items c.index_mut-stored.result.now _
+    (c.self.invariant.1, c.self.invariant.2) c.self.invariant.3
     (rw c.self.view_is c.place_of-place.ensures) (rw c.self.view_is some) c.index_mut-stored.ensures.value refl (λ own. own)
 
 pub invariant_of-self : goal.invariant_of-self
