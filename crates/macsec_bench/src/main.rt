@@ -1,22 +1,35 @@
-//! Octets per second of AES, GHASH and sealing, block by block and in lanes, and of protecting and receiving frames; and
-//! how long a full link of two ends and the longest scripts take. Without an argument it measures nothing and prints
-//! nothing.
+//! Octets per second of AES, GHASH and sealing, block by block and in lanes, and of protecting and receiving frames;
+//! frames and keys per second of an endpoint; and how long a full link of two ends and the longest scripts take. By other
+//! words it sends or receives so many frames, for a tool that counts instructions. Without words it does nothing.
 #![tactic(auto)]
 
 mod cipher;
+mod endpoints;
 mod frames;
 mod link;
 mod plain;
 mod scripts;
 
+use anyhow::bail;
 use std::env;
 
+/// Measures everything, and prints it.
+fn measure(rt: &HostRuntime) -> anyhow::Result<()> {
+    cipher::report(rt)?;
+    frames::report(rt)?;
+    endpoints::report(rt)?;
+    link::report(rt)?;
+    scripts::report(rt)
+}
+
 fn main(rt: HostRuntime) -> anyhow::Result<()> {
-    if env::args(&rt)?.count() < 2 {
-        return Ok(());
+    let mut words = env::args(&rt)?.skip(1);
+    match (words.next(), words.next(), words.next()) {
+        (None, _, _) => Ok(()),
+        (Some(_), None, _) => measure(&rt),
+        (Some(what), Some(length), Some(count)) => {
+            endpoints::repeat(&rt, what.as_str(), length.as_str(), count.as_str())
+        }
+        _ => bail!("the words are measure, or send or receive, LENGTH and COUNT"),
     }
-    cipher::report(&rt)?;
-    frames::report(&rt)?;
-    link::report(&rt)?;
-    scripts::report(&rt)
 }
