@@ -1,4 +1,4 @@
-use Rattle.std.proofs.Common.{◌≡◌, ◌+◌, ◌++◌, ℕ, List, length, take, drop, ap, sym, ◌∙◌, arith}
+use Rattle.std.proofs.Common.{◌≡◌, ◌+◌, ◌++◌, ℕ, List, length, take, drop, ap, sym, ◌∙◌, arith, rules}
 use Rattle.std.proofs.lemmas.List.{length-take-le}
 use Rattle.macsec_tag.specs.Tag.{encoding}
 use Rattle.macsec_rx.proofs.Placed.{placed}
@@ -23,3 +23,6 @@ returns-clause-octets c =
     ∙ ap (λ (xs : List ℕ). xs ++ take m (drop (n + 12) out)) c.addresses.ensures.octets
     ∙ ap (λ (j : ℕ). (p.da ++ p.sa) ++ take j (drop (n + 12) out)) m_is
     ∙ ap (λ (j : ℕ). (p.da ++ p.sa) ++ take (length p.secure_data) (drop j out)) place
+
+pub returns-clause-place : goal.returns-clause-place
+returns-clause-place c = search rules

@@ -1,6 +1,6 @@
 -- What is delivered is the plaintext of the definition if the ICV is valid, and else nothing.
 -- By the lemmas that opening by position is opening by parts (`Opened`).
-use Rattle.std.proofs.Common.{◌≡◌, ℕ, ◌+◌, length, drop, ap, sym, ◌∙◌}
+use Rattle.std.proofs.Common.{◌≡◌, ℕ, ◌+◌, length, drop, ap, sym, ◌∙◌, rules}
 use Rattle.std.specs.Prelude.{Some, None}
 use Rattle.macsec_suite.specs.InPlace.{validated_octets}
 use Rattle.macsec_rx.specs.Delivered.{received_octets}
@@ -27,3 +27,7 @@ returns-else-validate_in_place-clause-octets c =
     let false_frame : validated_octets c.args.key.now c.args.iv.now p.tag.e (data_place p) end (received_octets p) ≡ None =
     rw (c.e.ensures, c.length.ensures.length, c.secure_data-data_length.ensures, c.lay_out-end.ensures.octets, c.tag-tag.ensures) at c.if-validate_in_place.ensures.false_frame in
     sym (refused laws c.args.key.now c.args.iv.now p c.lay_out-end.ensures.lengths false_frame)
+
+pub returns-else-validate_in_place-clause-undelivered :
+    goal.returns-else-validate_in_place-clause-undelivered
+returns-else-validate_in_place-clause-undelivered c = search rules

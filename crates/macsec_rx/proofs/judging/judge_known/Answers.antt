@@ -1,6 +1,6 @@
 -- The judgement with the key that was found and the packet number that was recovered is that of the definition.
 -- By the lemma `judged` (`Recovered`), once for the outcome and once for the association.
-use Rattle.std.proofs.Common.{◌≡◌, subst}
+use Rattle.std.proofs.Common.{◌≡◌, rules, subst}
 use Rattle.std.specs.Prelude.{IfSome, Some}
 use Rattle.macsec_suite.specs.KeyRows.{the_key}
 use Rattle.macsec_rx.specs.Judged.{ShowsOutcome}
@@ -22,3 +22,6 @@ returns-clause-row c =
     subst (λ j. IfSome c.judge_number.result.accepted (λ n. j.row ≡ Some c.args.row.now))
     (judged c.args.options.now c.args.keys.now c.args.mpdu.now c.args.row.now c.unwrap-key.result.now _ c.in-Some.number there number)
     (c.judge_number.ensures.row (the_key c.args.keys.now c.args.row.now.key).first_unused)
+
+pub judge_number-requires-clause-number : goal.judge_number-requires-clause-number
+judge_number-requires-clause-number c = search rules

@@ -1,6 +1,6 @@
 -- What holds of the channels and of the index holds with a new one, whose SCI is free.
 -- By the lemmas on a channel that joins (`Scis`, `RxRows`, `RowIndex`).
-use Rattle.std.proofs.Common.{◌≡◌, ◌∙◌, ◌<◌, ◌≤◌, ap, sym, false, length, arith, rules}
+use Rattle.std.proofs.Common.{◌≡◌, ◌∙◌, ◌<◌, ◌≤◌, ap, sym, false, length, arith, rules, tests}
 use Rattle.macsec_rx.specs.Commands.{has_channel}
 use Rattle.macsec_rx.proofs.Room.{rows_fit}
 use Rattle.macsec_rx.proofs.RowIndex.{IsIndex-more_channels}
@@ -27,3 +27,13 @@ invariant_of-self c =
 
 pub returns-clause-channels : goal.returns-clause-channels
 returns-clause-channels c = (invariant_of-self c).0
+
+-- For speed: the prover finds these by itself too, but on a mutant it would try more than this search.
+pub returns-then-has_channel-clause-refusal : goal.returns-then-has_channel-clause-refusal
+returns-then-has_channel-clause-refusal c = search (tests, rules)
+
+pub returns-then-is_full-clause-refusal : goal.returns-then-is_full-clause-refusal
+returns-then-is_full-clause-refusal c = search (tests, rules)
+
+pub returns-clause-refusal : goal.returns-clause-refusal
+returns-clause-refusal c = search (tests, rules)

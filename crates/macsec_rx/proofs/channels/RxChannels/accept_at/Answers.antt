@@ -1,0 +1,7 @@
+-- The association at the place is the one that was found there.
+-- By search; this proof is here for speed.
+use Rattle.std.proofs.Common.{rules}
+use Rattle.macsec_rx.proofs.channels.RxChannels.accept_at.Goals as goal
+
+pub accept-requires : goal.accept-requires
+accept-requires c = search rules

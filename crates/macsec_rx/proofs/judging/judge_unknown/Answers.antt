@@ -1,0 +1,10 @@
+-- The judgement does not depend on the packet number where there is no association.
+-- By search; these proofs are here for speed.
+use Rattle.std.proofs.Common.{rules, tests}
+use Rattle.macsec_rx.proofs.judging.judge_unknown.Goals as goal
+
+pub returns-then-is_strict-clause-outcome : goal.returns-then-is_strict-clause-outcome
+returns-then-is_strict-clause-outcome c = search (tests, rules)
+
+pub returns-clause-outcome : goal.returns-clause-outcome
+returns-clause-outcome c = search (tests, rules)
