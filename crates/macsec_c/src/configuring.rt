@@ -4,7 +4,8 @@ ghost use Rattle.std.specs.Prelude.{◌≡◌, option_map};
 ghost use Rattle.macsec_lines.specs.Fields.{map_ok};
 ghost use Rattle.macsec_lines.specs.Readings.{Reads};
 ghost use Rattle.macsec_lines.specs.Scripts.{a_config};
-ghost use Rattle.macsec_c.specs.Texts.{CommandsLine, Configures, Gives, after_command, carried_out, command_of, configured, endpoint_of, line_command, line_of_config_fault, status_of_config_fault};
+ghost use Rattle.macsec_c.specs.Texts.{CommandsLine, Configures, Gives, after_command, carried_out, command_of, configured, endpoint_of, line_command};
+ghost use Rattle.macsec_c.specs.Texts.{line_of_config_fault, status_of_config_fault};
 
 use crate::commands::carry_out;
 use crate::creating::endpoint_of;
