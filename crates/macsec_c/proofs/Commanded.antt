@@ -16,5 +16,5 @@ first_left lines i entry item within = drop_more lines i entry within ∙ ap (λ
 pub one_more : (whole answer : Result State ConfigFault) (s : State) (lines : List NumberedLine) (i : ℕ) (entry : NumberedLine) →
     entry ≡ get_or lines i entry → i < length lines → whole ≡ carried_out s (drop i lines) → answer ≡ after_command entry.0 s (command_of entry.1) →
     whole ≡ and_then answer (λ after. carried_out after (drop (i + 1) lines))
-one_more whole answer s lines i entry item within way told =
-    way ∙ ap (carried_out s) (first_left lines i entry item within) ∙ ap (λ r. and_then r (λ after. carried_out after (drop (i + 1) lines))) (sym told)
+one_more whole answer s lines i entry item within way by_command =
+    way ∙ ap (carried_out s) (first_left lines i entry item within) ∙ ap (λ r. and_then r (λ after. carried_out after (drop (i + 1) lines))) (sym by_command)

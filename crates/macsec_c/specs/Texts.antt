@@ -9,7 +9,7 @@ use Rattle.macsec_commands.specs.declared.fault.NewFault.{NewFault}
 use Rattle.macsec_commands.specs.declared.fault.NewFault.TheVariants as new
 use Rattle.macsec_commands.specs.Configs.{config_fault}
 use Rattle.macsec_lines.specs.declared.lines.Line.{Line}
-use Rattle.macsec_lines.specs.declared.lines.Line.TheVariants as line
+use Rattle.macsec_lines.specs.declared.lines.Line.TheVariants.{Event}
 use Rattle.macsec_lines.specs.declared.lines.LineFault.{LineFault}
 use Rattle.macsec_lines.specs.declared.lines.LineFault.TheVariants.{Ends}
 use Rattle.macsec_lines.specs.declared.faults.ScriptFault.{ScriptFault}
@@ -27,7 +27,7 @@ use Rattle.macsec_c.specs.Statuses.{done_status, empty_status, taken_status, sta
 
 -- the command at end A that a line says, if it says one
 abbrev pub command_of : Line → Option Command
-command_of (line.Event (event.Command A command)) = Some command
+command_of (Event (event.Command A command)) = Some command
 command_of other = None
 
 -- ---- a configuration
@@ -44,7 +44,7 @@ after_command n s (Some c) = after_output n (step s (operator_command c)).0 (ste
 -- the endpoint after the commands of these lines, which are carried out in their order until one is refused
 abbrev pub carried_out : State → List NumberedLine → Result State ConfigFault
 carried_out s [] = Ok s
-carried_out s (said ∷ more) = and_then (after_command said.0 s (command_of said.1)) (λ after. carried_out after more)
+carried_out s (first ∷ more) = and_then (after_command first.0 s (command_of first.1)) (λ after. carried_out after more)
 
 -- the endpoint of a configuration of which one can be created, after these commands
 abbrev pub unless_new_fault : Option NewFault → Result State ConfigFault → Result State ConfigFault
@@ -68,12 +68,12 @@ endpoint_of_parsed (Err f) = Err (Text f)
 abbrev pub configured : List ℕ → Result State ConfigFault
 configured text = endpoint_of_parsed (config_of text)
 
--- what a configuration gives is what is meant, or that there is no memory
-abbrev pub Gives : Result State ConfigFault → Result State ConfigFault → Type 0
-Gives meant (Ok s) = meant ≡ Ok s
-Gives meant (Err (Text script.Memory)) = Unit {0}
-Gives meant (Err (New new.Memory)) = Unit {0}
-Gives meant (Err f) = meant ≡ Err f
+-- what is made of a configuration is its endpoint or its fault, or that there is no memory
+abbrev pub MakesConfigured : Result State ConfigFault → Result State ConfigFault → Type 0
+MakesConfigured meant (Ok s) = meant ≡ Ok s
+MakesConfigured meant (Err (Text script.Memory)) = Unit {0}
+MakesConfigured meant (Err (New new.Memory)) = Unit {0}
+MakesConfigured meant (Err f) = meant ≡ Err f
 
 abbrev pub status_of_config_fault : ConfigFault → ℕ
 status_of_config_fault (Text f) = status_of_script_fault f
@@ -86,19 +86,19 @@ line_of_config_fault (Text f) = unwrap_or (fault_line f) 0
 line_of_config_fault (New f) = 0
 line_of_config_fault (Refused n r) = n
 
--- what is told of a configuration: the status, and the number of a line
-abbrev pub Told : Type 0
-Told = ℕ × ℕ
+-- the report on a configuration: its status, and the number of the line at fault
+abbrev pub Report : Type 0
+Report = ℕ × ℕ
 
-abbrev pub told_of : ConfigFault → Told
-told_of f = (status_of_config_fault f, line_of_config_fault f)
+abbrev pub report_of : ConfigFault → Report
+report_of f = (status_of_config_fault f, line_of_config_fault f)
 
--- what is told of a text that is given to a handle, and what the handle holds then: in one that holds none the endpoint
--- of the text with all its commands carried out, or none and why there is none
-abbrev pub Configures : Option State → List ℕ → Told → Option State → Type 0
-Configures (Some s) text told after = (told ≡ (taken_status, 0)) × (after ≡ Some s)
-Configures None text told (Some s) = (told ≡ (done_status, 0)) × (configured text ≡ Ok s)
-Configures None text told None = (f : ConfigFault) × (told ≡ told_of f) × Gives (configured text) (Err f)
+-- the report on a text that is given to a handle, and what the handle holds then: in one that holds none the endpoint of
+-- the text with all its commands carried out, or none and why there is none
+abbrev pub Configures : Option State → List ℕ → Report → Option State → Type 0
+Configures (Some s) text report after = (report ≡ (taken_status, 0)) × (after ≡ Some s)
+Configures None text report (Some s) = (report ≡ (done_status, 0)) × (configured text ≡ Ok s)
+Configures None text report None = (f : ConfigFault) × (report ≡ report_of f) × MakesConfigured (configured text) (Err f)
 
 -- ---- a line
 
@@ -107,12 +107,12 @@ abbrev pub only_command : Option Command → Result (Option Command) LineFault
 only_command None = Err Ends
 only_command (Some c) = Ok (Some c)
 
-abbrev pub command_said : Option Line → Result (Option Command) LineFault
-command_said None = Ok None
-command_said (Some said) = only_command (command_of said)
+abbrev pub command_of_parsed : Option Line → Result (Option Command) LineFault
+command_of_parsed None = Ok None
+command_of_parsed (Some line) = only_command (command_of line)
 
 abbrev pub line_command : List ℕ → Result (Option Command) LineFault
-line_command text = and_then (line_of text) command_said
+line_command text = and_then (line_of text) command_of_parsed
 
 -- the status of what was read of a line, and what the handle holds then
 abbrev pub line_commanded : Option State → Result (Option Command) LineFault → ℕ × Option State

@@ -4,7 +4,7 @@ ghost use Rattle.std.specs.Prelude.{◌≡◌, option_map};
 ghost use Rattle.macsec_lines.specs.Fields.{map_ok};
 ghost use Rattle.macsec_lines.specs.Readings.{Reads};
 ghost use Rattle.macsec_lines.specs.Scripts.{a_config};
-ghost use Rattle.macsec_c.specs.Texts.{CommandsLine, Configures, Gives, after_command, carried_out, command_of, configured, endpoint_of, line_command};
+ghost use Rattle.macsec_c.specs.Texts.{CommandsLine, Configures, MakesConfigured, after_command, carried_out, command_of, configured, endpoint_of, line_command};
 ghost use Rattle.macsec_c.specs.Texts.{line_of_config_fault, status_of_config_fault};
 
 use crate::commands::carry_out;
@@ -121,7 +121,7 @@ fn carry_out_lines(secy: &mut Secy, lines: &[(u32, Line)]) -> Result<(), ConfigF
 
 /// The endpoint that the first line creates, after the commands of the others.
 fn endpoint_of_lines(alloc: Global, lines: &[(u32, Line)]) -> Result<Box<Secy, Global>, ConfigFault>
-    ensures { Gives (endpoint_of lines.now) (map_ok (λ secy. secy.value) result) }
+    ensures { MakesConfigured (endpoint_of lines.now) (map_ok (λ secy. secy.value) result) }
 {
     let Some((first, commands)) = lines.split_first() else {
         return Err(ConfigFault::Text(ScriptFault::Ends(0)));
@@ -136,7 +136,7 @@ fn endpoint_of_lines(alloc: Global, lines: &[(u32, Line)]) -> Result<Box<Secy, G
 
 /// The endpoint of a configuration, after its commands.
 fn configured(alloc: Global, text: &[u8]) -> Result<Box<Secy, Global>, ConfigFault>
-    ensures { Gives (configured text.now) (map_ok (λ secy. secy.value) result) }
+    ensures { MakesConfigured (configured text.now) (map_ok (λ secy. secy.value) result) }
 {
     let lines = parse_config(alloc, text)?;
     endpoint_of_lines(alloc, lines.as_slice())

@@ -9,5 +9,5 @@ loop-n-preserved c =
 
 pub returns-in_err-carry_out_line : goal.returns-in_err-carry_out_line
 returns-in_err-carry_out_line c =
-    let told = one_more _ _ _ c.args.lines.now c.loop-n.n-index _ c.loop-n-item.is (omega arith) c.loop-n.invariant c.in_err-carry_out_line.ensures in
-    grind (arith, common_steps, told)
+    let refused = one_more _ _ _ c.args.lines.now c.loop-n.n-index _ c.loop-n-item.is (omega arith) c.loop-n.invariant c.in_err-carry_out_line.ensures in
+    grind (arith, common_steps, refused)
