@@ -61,7 +61,8 @@ goes_end blocks left after section next last (Some octets) mid new room some goe
     ∙ ap (λ t. begun_by t places (λ n k xs. capture_of (left - 1) n k xs)) here
 
 -- a packet was found
-pub goes_found : (blocks left : ℕ) (section next last : Section) (old mid new : Option (List ℕ)) (room : List ℕ) (packet : Packet) → 0 < left → Goes blocks section old left next mid →
+pub goes_found : (blocks left : ℕ) (section next last : Section) (old mid new : Option (List ℕ)) (room : List ℕ) (packet : Packet) → 0 < left →
+    Goes blocks section old left next mid →
     IfSome mid (λ octets. TakesOne next octets last new room (Ok (Found packet))) →
     IfSome old (λ octets. TakesPacket blocks section octets (left - 1) last new room (Ok (Some packet)))
 goes_found blocks left section next last None mid new room packet some goes taken = tt
@@ -81,7 +82,8 @@ told_fault : (blocks after : ℕ) (section last : Section) (octets room : List �
 told_fault blocks after section last octets room new meant Read h each = tt
 told_fault blocks after section last octets room new meant fault h each = λ places. each places (sym h)
 
-pub goes_fault : (blocks left after : ℕ) (section next last : Section) (old mid new : Option (List ℕ)) (room : List ℕ) (fault : PcapFault) → 0 < left → Goes blocks section old left next mid →
+pub goes_fault : (blocks left after : ℕ) (section next last : Section) (old mid new : Option (List ℕ)) (room : List ℕ) (fault : PcapFault) → 0 < left →
+    Goes blocks section old left next mid →
     IfSome mid (λ octets. TakesOne next octets last new room (Err fault)) → IfSome old (λ octets. TakesPacket blocks section octets after last new room (Err fault))
 goes_fault blocks left after section next last None mid new room fault some goes taken = tt
 goes_fault blocks left after section next last (Some octets) mid new room fault some goes taken =
@@ -112,7 +114,8 @@ abbrev pub Steps : Reading → Result (Option CaptureRecord) PcapFault → Readi
 Steps now answer new = IsAfter now answer new × Answers now.ahead answer
 
 -- it was going
-going : (now : Reading) (course : Course) (blocks : ℕ) (section : Section) (places : ℕ) (octets : Option (List ℕ)) → course ≡ Going → standing course blocks section places octets ≡ now →
+going : (now : Reading) (course : Course) (blocks : ℕ) (section : Section) (places : ℕ) (octets : Option (List ℕ)) → course ≡ Going →
+    standing course blocks section places octets ≡ now →
     standing Going blocks section places octets ≡ now
 going now course blocks section places octets is same = ap (λ c. standing c blocks section places octets) (sym is) ∙ same
 
@@ -134,7 +137,8 @@ full_answers blocks left places section last None new room packet none taken = t
 full_answers blocks left zero section last (Some octets) new room packet none taken = sym (ap first_of (taken.2 zero))
 full_answers blocks left (suc places) section last (Some octets) new room packet none taken = absurd (omega (arith, none))
 
-record_answers : (blocks left places : ℕ) (section last : Section) (old new : Option (List ℕ)) (room : List ℕ) (packet : Packet) (first : CaptureRecord) → first ≡ record_in packet room → 1 ≤ places →
+record_answers : (blocks left places : ℕ) (section last : Section) (old new : Option (List ℕ)) (room : List ℕ) (packet : Packet) (first : CaptureRecord) →
+    first ≡ record_in packet room → 1 ≤ places →
     IfSome old (λ octets. TakesPacket blocks section octets left last new room (Ok (Some packet))) → Answers (told blocks section places old) (Ok (Some first))
 record_answers blocks left places section last None new room packet first same place taken = tt
 record_answers blocks left zero section last (Some octets) new room packet first same place taken = absurd (omega (arith, place))
@@ -151,7 +155,8 @@ record_ahead blocks left (suc places) section last (Some octets) new room packet
     ap (told left last (suc places - 1)) taken.1 ∙ ap (λ n. holds (capture_of left last n taken.0)) less
     ∙ ap (λ capture. past_first (holds capture)) (sym (taken.2 (suc places)))
 
-pub steps_record : (now : Reading) (course : Course) (blocks left places : ℕ) (section last : Section) (old new : Option (List ℕ)) (room : List ℕ) (packet : Packet) (first : CaptureRecord) →
+pub steps_record : (now : Reading) (course : Course) (blocks left places : ℕ) (section last : Section) (old new : Option (List ℕ)) (room : List ℕ)
+    (packet : Packet) (first : CaptureRecord) →
     course ≡ Going → standing course blocks section places old ≡ now → 1 ≤ places → first ≡ record_in packet room →
     IfSome old (λ octets. TakesPacket blocks section octets left last new room (Ok (Some packet))) →
     Steps now (Ok (Some first)) (standing course left last (places - 1) new)

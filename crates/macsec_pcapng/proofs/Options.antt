@@ -7,7 +7,8 @@ use Rattle.macsec_pcapng.specs.declared.interfaces.Interface.{Interface}
 use Rattle.macsec_pcapng.specs.Interfaces.{after_option, option_at, options_in}
 
 -- what is read of octets is what is read after their first option
-pub options_in-more : (order : Order) (n k : ℕ) (octets : List ℕ) (interface described : Interface) (len : ℕ) → k < n → option_at order octets interface ≡ Ok (Some (described, len)) →
+pub options_in-more : (order : Order) (n k : ℕ) (octets : List ℕ) (interface described : Interface) (len : ℕ) → k < n →
+    option_at order octets interface ≡ Ok (Some (described, len)) →
     options_in order (n - k) octets interface ≡ options_in order (n - (k + 1)) (drop len octets) described
 unfolding options_in
 options_in-more order n k octets interface described len below found =

@@ -12,7 +12,8 @@ use Rattle.macsec_pcap.specs.Filled.{IsFilled}
 use Rattle.macsec_pcap.specs.Numbers.{number}
 use Rattle.macsec_pcapng.specs.declared.blocks.Head.{Head}
 use Rattle.macsec_pcapng.specs.Answers.{Fetches, Skips, TakesBlock, TakesBody, TakesTrailer}
-use Rattle.macsec_pcapng.specs.Blocks.{block_at, block_of, block_of_len, block_with, is_length, is_section, kept, order_of_magic, section_header, section_in, section_in_order, total_length}
+use Rattle.macsec_pcapng.specs.Blocks.{block_at, block_of, block_of_len, block_with, is_length, is_section, kept}
+use Rattle.macsec_pcapng.specs.Blocks.{order_of_magic, section_header, section_in, section_in_order, total_length}
 use Rattle.macsec_pcapng.proofs.TakenOctets.{fetches}
 
 -- ---- the first eight octets
@@ -101,7 +102,8 @@ section_taken head four start room (Some behind) mid new order total answer long
 -- ---- the body, and the length behind it
 
 -- the length can be that of such a block
-pub block_of-length : (order : Order) (kind total : ℕ) (behind : List ℕ) → is_length kind total ≡ true → block_of order kind total behind ≡ block_of_len order kind total (total - 12) behind
+pub block_of-length : (order : Order) (kind total : ℕ) (behind : List ℕ) → is_length kind total ≡ true →
+    block_of order kind total behind ≡ block_of_len order kind total (total - 12) behind
 block_of-length order kind total behind can = rw can refl
 
 block_of_len-cut : (order : Order) (kind total len : ℕ) (behind : List ℕ) → length behind < len + 4 → block_of_len order kind total len behind ≡ Err CutRecord
@@ -130,7 +132,8 @@ block_of_len-whole order kind total len behind long same =
     alike a b eq = grind (arith, nat_tests)
 
 -- the body was read, and the length behind it was not, or is another
-pub trailer_fault : (order : Order) (kind total len : ℕ) (front : List ℕ) (old mid new last : Option (List ℕ)) (room : List ℕ) (fault : PcapFault) → is_length kind total ≡ true → len ≡ total - 12 →
+pub trailer_fault : (order : Order) (kind total len : ℕ) (front : List ℕ) (old mid new last : Option (List ℕ)) (room : List ℕ) (fault : PcapFault) →
+    is_length kind total ≡ true → len ≡ total - 12 →
     IfSome old (λ rest. TakesBody len (front ++ rest) mid room (Ok tt)) → IfSome mid (λ octets. TakesTrailer order total octets new (Err fault)) →
     IfSome old (λ rest. TakesBlock (block_of order kind total (front ++ rest)) last room (Err fault))
 trailer_fault order kind total len front None mid new last room fault can same body failed = tt
@@ -141,13 +144,15 @@ trailer_fault order kind total len front (Some rest) mid new last room CutRecord
     ∙ block_of_len-cut order kind total (total - 12) behind (omega (arith, here, body.0, same, length-drop len behind)))
 trailer_fault order kind total len front (Some rest) mid new last room BlockLength can same body failed =
     let behind = front ++ rest in
-    let here : TakesTrailer order total (drop len behind) new (Err BlockLength) = subst (λ m. IfSome m (λ octets. TakesTrailer order total octets new (Err BlockLength))) body.2 failed in
+    let here : TakesTrailer order total (drop len behind) new (Err BlockLength) =
+    subst (λ m. IfSome m (λ octets. TakesTrailer order total octets new (Err BlockLength))) body.2 failed in
     sym (block_of-length order kind total behind can
     ∙ ap (λ n. block_of_len order kind total n behind) (sym same)
     ∙ block_of_len-wrong order kind total len behind (omega (arith, here.0, body.0, length-drop len behind)) here.1)
 trailer_fault order kind total len front (Some rest) mid new last room Read can same body failed = tt
 trailer_fault order kind total len front (Some rest) mid new last room fault can same body failed =
-    let here : TakesTrailer order total (drop len (front ++ rest)) new (Err fault) = subst (λ m. IfSome m (λ octets. TakesTrailer order total octets new (Err fault))) body.2 failed in cc
+    let here : TakesTrailer order total (drop len (front ++ rest)) new (Err fault) =
+    subst (λ m. IfSome m (λ octets. TakesTrailer order total octets new (Err fault))) body.2 failed in cc
 
 -- both were
 pub block_taken : (order : Order) (kind total len : ℕ) (front : List ℕ) (old mid new : Option (List ℕ)) (room : List ℕ) → is_length kind total ≡ true → len ≡ total - 12 →

@@ -14,5 +14,5 @@ pub returns-clause-block : goal.returns-clause-block
 returns-clause-block g c =
     let whole : 8 ≤ c.in_ok-count.count = omega arith in
     let is : is_section c.fill.new.room ≡ false = sym c.is_section.ensures ∙ c.if-is_section.false in
-    takes_other c.args.order _ _ _ c.fill.new.room _ c.in_ok-count.count c.u32.result c.total_length-total.result c.take_known.result c.fill.auto.room whole c.in_ok-count.ensures is
-    c.u32.ensures c.total_length-total.ensures c.take_known.ensures.block
+    takes_other c.args.order _ _ _ c.fill.new.room _ c.in_ok-count.count c.u32.result c.total_length-total.result c.take_known.result
+    c.fill.auto.room whole c.in_ok-count.ensures is c.u32.ensures c.total_length-total.ensures c.take_known.ensures.block

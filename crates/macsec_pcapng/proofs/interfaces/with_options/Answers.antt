@@ -9,13 +9,17 @@ pub loop-preserved : goal.loop-preserved
 loop-preserved c =
     let some = c.in-Ok-Some in
     let below : c.loop.counter < max_options = omega arith in
-    c.loop.invariant ∙ options_in-more c.args.order max_options c.loop.counter c.loop.rest.now c.loop.interface some.described some.len below (sym (rw some.field-0-is at some.ensures.option))
+    let found = sym (rw some.field-0-is at some.ensures.option) in
+    c.loop.invariant
+    ∙ options_in-more c.args.order max_options c.loop.counter c.loop.rest.now c.loop.interface some.described some.len below found
     ∙ ap (λ xs. options_in c.args.order (max_options - (c.loop.counter + 1)) xs some.described) (sym (take_rest c.loop.rest.now some.len))
 
 pub returns-in-Ok-None : goal.returns-in-Ok-None
 returns-in-Ok-None c =
+    let none = c.in-Ok-None in
     let below : c.loop.counter < max_options = omega arith in
-    sym (c.loop.invariant ∙ options_in-none c.args.order max_options c.loop.counter c.loop.rest.now c.loop.interface below (sym (rw c.in-Ok-None.field-0-is at c.in-Ok-None.ensures.option)))
+    let ends = sym (rw none.field-0-is at none.ensures.option) in
+    sym (c.loop.invariant ∙ options_in-none c.args.order max_options c.loop.counter c.loop.rest.now c.loop.interface below ends)
 
 pub returns-in-Err : goal.returns-in-Err
 returns-in-Err c =

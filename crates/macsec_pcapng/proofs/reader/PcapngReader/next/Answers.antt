@@ -21,8 +21,9 @@ pub returns-in-Err : goal.returns-in-Err
 returns-in-Err g c =
     let s = c.self.inside in
     let octets = g.R.Read.remaining in
-    let steps = steps_fault c.args.self.now s.course s.blocks c.take_packet.new.blocks s.places s.section c.take_packet.new.section (octets s.source) (octets c.take_packet.new.source)
-    c.take_packet.new.room c.in-Err.fault c.in-Going.is c.self.view_is c.in-Err.ensures.taken in
+    let new = c.take_packet.new in
+    let steps = steps_fault c.args.self.now s.course s.blocks new.blocks s.places s.section new.section (octets s.source) (octets new.source)
+    new.room c.in-Err.fault c.in-Going.is c.self.view_is c.in-Err.ensures.taken in
     ((refl, λ x. tt, steps.0), record { after = tt; answer = steps.1 })
 
 pub returns-in-Ok-None : goal.returns-in-Ok-None
@@ -30,8 +31,9 @@ returns-in-Ok-None g c =
     let s = c.self.inside in
     let none = c.in-Ok-None in
     let octets = g.R.Read.remaining in
-    let steps = steps_end c.args.self.now s.course s.blocks c.take_packet.new.blocks s.places s.section c.take_packet.new.section (octets s.source) (octets c.take_packet.new.source)
-    c.take_packet.new.room c.in-Going.is c.self.view_is (rw none.field-0-is at none.ensures.taken) in
+    let new = c.take_packet.new in
+    let steps = steps_end c.args.self.now s.course s.blocks new.blocks s.places s.section new.section (octets s.source) (octets new.source)
+    new.room c.in-Going.is c.self.view_is (rw none.field-0-is at none.ensures.taken) in
     ((refl, λ x. tt, steps.0), record { after = tt; answer = steps.1 })
 
 pub take_packet-requires : goal.take_packet-requires
@@ -42,8 +44,9 @@ returns-then-self-eq0 g c =
     let s = c.self.inside in
     let some = c.in-Ok-Some in
     let octets = g.R.Read.remaining in
-    let steps = steps_full c.args.self.now s.course s.blocks c.take_packet.new.blocks s.places s.section c.take_packet.new.section (octets s.source) (octets c.take_packet.new.source)
-    c.take_packet.new.room some.packet c.in-Going.is c.self.view_is c.if-self-eq0.true (rw some.field-0-is at some.ensures.taken) in
+    let new = c.take_packet.new in
+    let steps = steps_full c.args.self.now s.course s.blocks new.blocks s.places s.section new.section (octets s.source) (octets new.source)
+    new.room some.packet c.in-Going.is c.self.view_is c.if-self-eq0.true (rw some.field-0-is at some.ensures.taken) in
     ((refl, λ x. tt, steps.0), record { after = tt; answer = steps.1 })
 
 pub returns-else-self-eq0 : goal.returns-else-self-eq0
@@ -51,9 +54,10 @@ returns-else-self-eq0 g c =
     let s = c.self.inside in
     let some = c.in-Ok-Some in
     let octets = g.R.Read.remaining in
+    let new = c.take_packet.new in
     let place : 1 ≤ s.places = omega (arith, c.if-self-eq0.false) in
-    let len : length c.take_packet.new.room ≡ s.room.len = omega arith in
-    let same = c.record.ensures ∙ ap (record_in some.packet) (c.as_slice.ensures.value ∙ take_at c.take_packet.new.room _ s.room.len len) in
-    let steps = steps_record c.args.self.now s.course s.blocks c.take_packet.new.blocks s.places s.section c.take_packet.new.section (octets s.source) (octets c.take_packet.new.source)
-    c.take_packet.new.room some.packet (shown c.record.result) c.in-Going.is c.self.view_is place same (rw some.field-0-is at some.ensures.taken) in
+    let len : length new.room ≡ s.room.len = omega arith in
+    let same = c.record.ensures ∙ ap (record_in some.packet) (c.as_slice.ensures.value ∙ take_at new.room _ s.room.len len) in
+    let steps = steps_record c.args.self.now s.course s.blocks new.blocks s.places s.section new.section (octets s.source) (octets new.source)
+    new.room some.packet (shown c.record.result) c.in-Going.is c.self.view_is place same (rw some.field-0-is at some.ensures.taken) in
     ((refl, λ x. tt, steps.0), record { after = tt; answer = steps.1 })
