@@ -6,6 +6,7 @@ ghost use Rattle.std.specs.Io.BufRead.{Rests};
 ghost use Rattle.macsec_pcap.specs.Answers.{answer_of};
 ghost use Rattle.macsec_pcap.specs.Limits.{max_records};
 ghost use Rattle.macsec_pcap.specs.Reading.{Answers, IsAfter, Opens};
+ghost use Rattle.macsec_pcapng.specs.Blocks.{is_section};
 ghost use Rattle.macsec_pcapng.specs.contracts.captures.CaptureReader.{the_row};
 ghost use Rattle.macsec_pcapng.specs.Captures.{captures_of};
 
@@ -60,7 +61,7 @@ impl<R: Read + Drop> CaptureReader<R> {
             return Err(PcapFault::CutHeader);
         }
         let whole = Cursor::new(front).chain(source);
-        let format = if is_section(&front) {
+        let format = if is_pcapng(&front) {
             Format::Pcapng(PcapngReader::new(alloc, whole)?)
         } else {
             Format::Pcap(PcapReader::new(alloc, whole)?)
@@ -91,4 +92,12 @@ impl<R: Read> CaptureReader<R> {
             Format::Pcapng(reader) => reader.next(),
         }
     }
+}
+
+/// Is a file that begins with these octets one in the format pcapng? Any other is one in the format pcap.
+fn is_pcapng(front: &[u8]) -> bool
+    requires { 4 ≤ length front.now }
+    ensures { result ≡ is_section front.now }
+{
+    is_section(front)
 }
