@@ -29,7 +29,8 @@ at_end old new direction None file none adds = (record { output = []; text = [] 
 at_end old new direction (Some (config, commands)) file none adds =
     after_end old new direction (commands_part (start config) commands) (captures_of file) none adds
 
-by_end : (old new : Option (List ℕ)) (direction : Direction) (lines : Result (List NumberedLine) ScriptFault) (file : List ℕ) → IsAtOutput old new (captured_by direction lines file)
+by_end : (old new : Option (List ℕ)) (direction : Direction) (lines : Result (List NumberedLine) ScriptFault) (file : List ℕ) →
+    IsAtOutput old new (captured_by direction lines file)
 by_end old new direction (Err fault) file none adds = cc
 by_end old new direction (Ok lines) file none adds = at_end old new direction (one_end lines) file none adds
 

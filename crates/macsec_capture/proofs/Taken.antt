@@ -6,7 +6,8 @@ use Rattle.std.specs.Io.KnownBytes.{Appends}
 use Rattle.std.proofs.KnownBytes.{Appends-trans}
 use Rattle.macsec_secy.specs.State.{State}
 use Rattle.macsec_pcap.specs.declared.fault.PcapFault.{PcapFault}
-use Rattle.macsec_pcap.specs.declared.fault.PcapFault.TheVariants.{Magic, Version, LinkType, CutHeader, CutRecord, RecordLength, Read, Write, Memory, RecordCount, BlockLength, NoInterface, InterfaceCount, Time}
+use Rattle.macsec_pcap.specs.declared.fault.PcapFault.TheVariants.{Magic, Version, LinkType, CutHeader, CutRecord, RecordLength, Read, Write, Memory}
+use Rattle.macsec_pcap.specs.declared.fault.PcapFault.TheVariants.{RecordCount, BlockLength, NoInterface, InterfaceCount, Time}
 use Rattle.macsec_pcap.specs.Records.{CaptureRecord}
 use Rattle.macsec_pcap.specs.Captures.{Capture}
 use Rattle.macsec_pcap.specs.Answers.{UnlessRead}
@@ -240,8 +241,13 @@ taken_fault direction first (failed other) ahead old now s k count fault same ta
 
 -- ---- a writer that failed
 
-held_write : (direction : Direction) (first : State) (capture : Capture) (ahead : Ahead) (old now new : Written) (s after : State) (k taken : ℕ) (r : CaptureRecord) (fault : CaptureFault) →
-    k + 1 ≡ taken → IsHeld direction first capture ahead old now s k → Answers ahead (Ok (Some r)) → FailsIn (record_part direction s k r) now new fault →
+-- the output's writer failed in a part
+abbrev Fails : Part → Written → Written → Type 0
+Fails part now new = Appends now.text new.text part.text × AppendsFront now.output new.output part.output
+
+held_write : (direction : Direction) (first : State) (capture : Capture) (ahead : Ahead) (old now new : Written) (s after : State) (k taken : ℕ)
+    (r : CaptureRecord) (fault : CaptureFault) → k + 1 ≡ taken → IsHeld direction first capture ahead old now s k → Answers ahead (Ok (Some r)) →
+    FailsIn (record_part direction s k r) now new fault →
     RunsHeld direction first capture taken old new after (Err fault)
 held_write direction first capture ahead old now new s after k taken r (Script fault) same held answer fails =
     let at = next_held direction first capture ahead old now s k r held answer in (
@@ -259,8 +265,7 @@ held_write direction first capture ahead old now new s after k taken r (Pcap fau
     let at = next_held direction first capture ahead old now s k r held answer in
     let part = records_part direction first 0 at.front in
     let last = record_part direction part.state k r in
-    let piece : Appends now.text new.text last.text × AppendsFront now.output new.output last.output =
-    subst (λ v. Appends now.text new.text (record_part direction v k r).text × AppendsFront now.output new.output (record_part direction v k r).output) at.adds.state (fails.1, fails.2) in
+    let piece : Fails last now new = subst (λ v. Fails (record_part direction v k r) now new) at.adds.state (fails.1, fails.2) in
     let cut : CutsOutput old new (part_stop part) (part_stop (and_after part (λ after. record_part direction after k r))) = (
       Appends-trans old.text now.text new.text part.text last.text at.adds.grows.text piece.0,
       up_to_front old.output now.output new.output part.output last.output at.adds.grows.output piece.1,
@@ -277,8 +282,9 @@ held_write direction first capture ahead old now new s after k taken r (Pcap fau
           (subst (λ (p : Part). CutsOutput old new (part_stop part) (part_stop p)) (sym (with_next direction first at.front k r at.count)) cut)),
     ))
 
-pub taken_write : (direction : Direction) (first : State) (begins ahead : Ahead) (old now new : Written) (s after : State) (k count : ℕ) (r : CaptureRecord) (fault : CaptureFault) →
-    k + 1 ≡ count → AreTaken direction first begins ahead old now s k → Answers ahead (Ok (Some r)) → FailsIn (record_part direction s k r) now new fault →
+pub taken_write : (direction : Direction) (first : State) (begins ahead : Ahead) (old now new : Written) (s after : State) (k count : ℕ)
+    (r : CaptureRecord) (fault : CaptureFault) → k + 1 ≡ count → AreTaken direction first begins ahead old now s k → Answers ahead (Ok (Some r)) →
+    FailsIn (record_part direction s k r) now new fault →
     RunsRecords direction first begins count old new after (Err fault)
 taken_write direction first (holds capture) ahead old now new s after k count r fault same taken answer fails =
     held_write direction first capture ahead old now new s after k count r fault same taken answer fails

@@ -12,7 +12,8 @@ use Rattle.macsec_lines.specs.declared.faults.ScriptFault.TheVariants as script
 use Rattle.macsec_print.specs.declared.counters.Label.TheVariants.{End}
 use Rattle.macsec_print.specs.Counters.{counters_text}
 use Rattle.macsec_pcap.specs.declared.fault.PcapFault.{PcapFault}
-use Rattle.macsec_pcap.specs.declared.fault.PcapFault.TheVariants.{Magic, Version, LinkType, CutHeader, CutRecord, RecordLength, Read, Write, Memory, RecordCount, BlockLength, NoInterface, InterfaceCount, Time}
+use Rattle.macsec_pcap.specs.declared.fault.PcapFault.TheVariants.{Magic, Version, LinkType, CutHeader, CutRecord, RecordLength, Read, Write, Memory}
+use Rattle.macsec_pcap.specs.declared.fault.PcapFault.TheVariants.{RecordCount, BlockLength, NoInterface, InterfaceCount, Time}
 use Rattle.macsec_pcap.specs.declared.form.Resolution.{Resolution}
 use Rattle.macsec_pcap.specs.Captures.{CaptureFile}
 use Rattle.macsec_pcap.specs.Reading.{Opens, Reading, opened}
@@ -24,7 +25,8 @@ use Rattle.macsec_capture.specs.declared.Direction.{Direction}
 use Rattle.macsec_capture.specs.declared.fault.CaptureFault.{CaptureFault}
 use Rattle.macsec_capture.specs.declared.fault.CaptureFault.TheVariants.{Script, Pcap}
 use Rattle.macsec_capture.specs.Captured.{Captured, Part, Stop, captured_after, captured_at, commands_part, last_lines, nothing, records_part, stops_of}
-use Rattle.macsec_capture.specs.Runs.{Adds, AtFirst, AtSome, CaptureGives, CutsOutput, Grows, InLast, IsLateFault, RunsHeld, RunsRecords, TakesFile, Written, behind_header, first_part, flushed_end, known}
+use Rattle.macsec_capture.specs.Runs.{Adds, AtFirst, AtSome, CaptureGives, CutsOutput, Grows, InLast, IsLateFault, RunsHeld, RunsRecords, TakesFile}
+use Rattle.macsec_capture.specs.Runs.{Written, behind_header, first_part, flushed_end, known}
 use Rattle.macsec_capture.proofs.Cuts.{at_flush, at_header, at_record, cut_put, next_put, up_to_behind}
 use Rattle.macsec_capture.proofs.Grown.{Grows-kept, Grows-more, Grows-nothing, Kept, fault_kept}
 use Rattle.macsec_capture.proofs.Stops.{at_first, at_last, first_put, put_before, some_at_first, some_behind, some_put, stops_put}
@@ -94,7 +96,8 @@ held_takes direction s file taken old mid new after (Err (Pcap fault)) first for
     held_fault direction s file taken old mid new after first format fault runs
 
 -- the header is the file's, and the reader holds its records
-pub taken_of_file : ((file : List ℕ) → FileIsOfFormat (captures_of file)) → (direction : Direction) (s : State) (reader : Reading) (unit : Resolution) (taken : ℕ) (o m n x t u : Option (List ℕ)) (after : State) (answer : Result (Unit {0}) CaptureFault) →
+pub taken_of_file : ((file : List ℕ) → FileIsOfFormat (captures_of file)) → (direction : Direction) (s : State) (reader : Reading) (unit : Resolution)
+    (taken : ℕ) (o m n x t u : Option (List ℕ)) (after : State) (answer : Result (Unit {0}) CaptureFault) →
     x ≡ n → unit ≡ reader.resolution → Appends o m (header_octets unit) → RunsRecords direction s reader.ahead taken (known m t) (known n u) after answer →
     (octets : List ℕ) (file : CaptureFile) → captures_of octets ≡ Ok file → reader ≡ opened file → TakesFile direction s file (known o t) (known x u) after answer
 taken_of_file law direction s reader unit taken o m n x t u after answer back same adds runs octets file read stands =
@@ -201,7 +204,8 @@ unopened_gives law direction s octets w InterfaceCount h = header_fault directio
 unopened_gives law direction s octets w Time h = header_fault direction s (captures_of octets) w Time h
 
 pub unopened : ((file : List ℕ) → FileIsOfFormat (captures_of file)) → (direction : Direction) (s : State) (input : Option (List ℕ)) (w : Written) (fault : PcapFault) →
-    IfSome input (λ file. Opens (captures_of file) (Err fault)) → IfSome input (λ file. CaptureGives (captured_after direction (nothing s) (captures_of file)) w w (Err (Pcap fault)))
+    IfSome input (λ file. Opens (captures_of file) (Err fault)) →
+    IfSome input (λ file. CaptureGives (captured_after direction (nothing s) (captures_of file)) w w (Err (Pcap fault)))
 unopened law direction s None w fault h = tt
 unopened law direction s (Some octets) w fault h = unopened_gives law direction s octets w fault h
 
@@ -280,7 +284,8 @@ ready_gives direction ready s file old mid new is same prints answer late gives 
     (behind_gives ready.text (captured_after direction (nothing ready.state) file) old mid new same prints answer late
     (subst (λ v. CaptureGives (captured_after direction (nothing v) file) mid new answer) is gives))
 
-pub configured_gives : (direction : Direction) (config : EndConfig) (commands : List NumberedLine) (first s : State) (input o n t m u : Option (List ℕ)) (answer : Result (Unit {0}) CaptureFault) →
+pub configured_gives : (direction : Direction) (config : EndConfig) (commands : List NumberedLine) (first s : State) (input o n t m u : Option (List ℕ))
+    (answer : Result (Unit {0}) CaptureFault) →
     first ≡ start config → s ≡ (commands_part first commands).state → Appends t m (commands_part first commands).text → IfErr answer IsLateFault →
     IfSome input (λ file. CaptureGives (captured_after direction (nothing s) (captures_of file)) (known o m) (known n u) answer) →
     IfSome input (λ file. CaptureGives (captured_at direction (Some (config, commands)) file) (known o t) (known n u) answer)

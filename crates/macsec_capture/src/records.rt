@@ -95,12 +95,14 @@ fn protect_frame<W: Write, T: Write>(
     requires no_fault { fault_of writer.old ≡ None }
     ensures lent { (lent writer.new).ghost_name ≡ (lent writer.old).ghost_name }
     ensures no_fault { OnOk result (fault_of writer.new ≡ None) }
-    ensures output { OnOk result (Appends (contents W.contents writer.old) (contents W.contents writer.new) (frame_part k (shown «record».now) (step endpoint.old (client_frame frame.now))).output) }
-    ensures text { OnOk result (Appends (T.contents text.old) (T.contents text.new) (frame_part k (shown «record».now) (step endpoint.old (client_frame frame.now))).text) }
+    ensures output { OnOk result (Appends (contents W.contents writer.old) (contents W.contents writer.new)
+        (frame_part k (shown «record».now) (step endpoint.old (client_frame frame.now))).output) }
+    ensures text { OnOk result (Appends (T.contents text.old) (T.contents text.new)
+        (frame_part k (shown «record».now) (step endpoint.old (client_frame frame.now))).text) }
     ensures state { OnOk result (endpoint.new ≡ (step endpoint.old (client_frame frame.now)).1) }
     ensures sound { OnOk result (IsSound endpoint.new) }
-    ensures fault { IfErr result (FailsIn (frame_part k (shown «record».now) (step endpoint.old (client_frame frame.now))) (known (contents W.contents writer.old) (T.contents text.old))
-        (known (contents W.contents writer.new) (T.contents text.new))) }
+    ensures fault { IfErr result (FailsIn (frame_part k (shown «record».now) (step endpoint.old (client_frame frame.now)))
+        (known (contents W.contents writer.old) (T.contents text.old)) (known (contents W.contents writer.new) (T.contents text.new))) }
 {
     lengths_of_frames();
     let sent = endpoint.send(frame);
@@ -122,12 +124,14 @@ fn validate_frame<W: Write, T: Write>(
     requires no_fault { fault_of writer.old ≡ None }
     ensures lent { (lent writer.new).ghost_name ≡ (lent writer.old).ghost_name }
     ensures no_fault { OnOk result (fault_of writer.new ≡ None) }
-    ensures output { OnOk result (Appends (contents W.contents writer.old) (contents W.contents writer.new) (frame_part k (shown «record».now) (step endpoint.old (link_frame frame.now))).output) }
-    ensures text { OnOk result (Appends (T.contents text.old) (T.contents text.new) (frame_part k (shown «record».now) (step endpoint.old (link_frame frame.now))).text) }
+    ensures output { OnOk result (Appends (contents W.contents writer.old) (contents W.contents writer.new)
+        (frame_part k (shown «record».now) (step endpoint.old (link_frame frame.now))).output) }
+    ensures text { OnOk result (Appends (T.contents text.old) (T.contents text.new)
+        (frame_part k (shown «record».now) (step endpoint.old (link_frame frame.now))).text) }
     ensures state { OnOk result (endpoint.new ≡ (step endpoint.old (link_frame frame.now)).1) }
     ensures sound { OnOk result (IsSound endpoint.new) }
-    ensures fault { IfErr result (FailsIn (frame_part k (shown «record».now) (step endpoint.old (link_frame frame.now))) (known (contents W.contents writer.old) (T.contents text.old))
-        (known (contents W.contents writer.new) (T.contents text.new))) }
+    ensures fault { IfErr result (FailsIn (frame_part k (shown «record».now) (step endpoint.old (link_frame frame.now)))
+        (known (contents W.contents writer.old) (T.contents text.old)) (known (contents W.contents writer.new) (T.contents text.new))) }
 {
     lengths_of_frames();
     let received = endpoint.receive(frame);

@@ -10,5 +10,6 @@ returns-in_err-run_commands-clause-run g c =
 
 pub returns-clause-run : goal.returns-clause-run
 returns-clause-run g c =
-    configured_gives c.args.direction c.args.end c.args.commands.now _ _ _ _ _ _ _ _ _ c.in_ok-endpoint.ensures.state c.in_ok-run_commands.ensures.state c.in_ok-run_commands.ensures.text
+    let commanded = c.in_ok-run_commands.ensures in
+    configured_gives c.args.direction c.args.end c.args.commands.now _ _ _ _ _ _ _ _ _ c.in_ok-endpoint.ensures.state commanded.state commanded.text
     c.run_file.ensures.fault c.run_file.ensures.run
