@@ -39,34 +39,71 @@ const PACKET: &str =
 const STATISTICS: &str = "050000001800000000000000000000000000000018000000";
 
 /// An endpoint that protects client frames for integrity, from packet number 1 on, and what its commands print.
-pub const SENDER: &str =
-    "end A gcm128 0200000000010001 1518 sci\nA key 0 ad7a2bd03eac835a6f620fdcb506b345 0\nA txsa 0 0 1 int\nA txon 0\n";
+pub const SENDER: &str = "end A gcm128 0200000000010001 1518 sci\n\
+    A key 0 ad7a2bd03eac835a6f620fdcb506b345 0\n\
+    A txsa 0 0 1 int\n\
+    A txon 0\n";
 
 pub const SENDER_DONE: &str = "2 done\n3 done\n4 done\n";
 
 /// An endpoint that receives what that one sends, and what its commands print.
-pub const RECEIVER: &str =
-    "end A gcm128 0000000000000002 1518 auto\nA key 0 ad7a2bd03eac835a6f620fdcb506b345 0\nA rxsc 0200000000010001\nA rxsa 0200000000010001 0 0 1\nA rxon 0200000000010001 0\n";
+pub const RECEIVER: &str = "end A gcm128 0000000000000002 1518 auto\n\
+    A key 0 ad7a2bd03eac835a6f620fdcb506b345 0\n\
+    A rxsc 0200000000010001\n\
+    A rxsa 0200000000010001 0 0 1\n\
+    A rxon 0200000000010001 0\n";
 
 const RECEIVER_DONE: &str = "2 done\n3 done\n4 done\n5 done\n";
 
 /// The counters of the endpoint, up to those of transmission, where nothing was received.
-const NONE_IN: &str =
-    "end InPktsUntagged 0\nend InPktsNoTag 0\nend InPktsBadTag 0\nend InPktsReserved 0\nend InPktsNoSA 0\nend InPktsNoSAError 0\nend InOctetsValidated 0\nend InOctetsDecrypted 0\nend OutPktsUntagged 0\nend OutPktsTooLong 0\n";
+const NONE_IN: &str = "end InPktsUntagged 0\n\
+    end InPktsNoTag 0\n\
+    end InPktsBadTag 0\n\
+    end InPktsReserved 0\n\
+    end InPktsNoSA 0\n\
+    end InPktsNoSAError 0\n\
+    end InOctetsValidated 0\n\
+    end InOctetsDecrypted 0\n\
+    end OutPktsUntagged 0\n\
+    end OutPktsTooLong 0\n";
 
 /// The rest of them where nothing was sent, and where two frames of 2 octets of data were.
-const NONE_OUT: &str =
-    "end OutPktsNoSA 0\nend OutPktsProtected 0\nend OutPktsEncrypted 0\nend OutOctetsProtected 0\nend OutOctetsEncrypted 0\n";
+const NONE_OUT: &str = "end OutPktsNoSA 0\n\
+    end OutPktsProtected 0\n\
+    end OutPktsEncrypted 0\n\
+    end OutOctetsProtected 0\n\
+    end OutOctetsEncrypted 0\n";
 
-const TWO_OUT: &str =
-    "end OutPktsNoSA 0\nend OutPktsProtected 2\nend OutPktsEncrypted 0\nend OutOctetsProtected 4\nend OutOctetsEncrypted 0\n";
+const TWO_OUT: &str = "end OutPktsNoSA 0\n\
+    end OutPktsProtected 2\n\
+    end OutPktsEncrypted 0\n\
+    end OutOctetsProtected 4\n\
+    end OutOctetsEncrypted 0\n";
 
 /// All of them where two such frames were received.
-const TWO_IN: &str =
-    "end InPktsUntagged 0\nend InPktsNoTag 0\nend InPktsBadTag 0\nend InPktsReserved 0\nend InPktsNoSA 0\nend InPktsNoSAError 0\nend InOctetsValidated 4\nend InOctetsDecrypted 0\nend OutPktsUntagged 0\nend OutPktsTooLong 0\n";
+const TWO_IN: &str = "end InPktsUntagged 0\n\
+    end InPktsNoTag 0\n\
+    end InPktsBadTag 0\n\
+    end InPktsReserved 0\n\
+    end InPktsNoSA 0\n\
+    end InPktsNoSAError 0\n\
+    end InOctetsValidated 4\n\
+    end InOctetsDecrypted 0\n\
+    end OutPktsUntagged 0\n\
+    end OutPktsTooLong 0\n";
 
-const CHANNEL: &str =
-    "end 0200000000010001 InPktsOK 2\nend 0200000000010001 InPktsUnchecked 0\nend 0200000000010001 InPktsDelayed 0\nend 0200000000010001 InPktsLate 0\nend 0200000000010001 InPktsInvalid 0\nend 0200000000010001 InPktsNotValid 0\nend 0200000000010001 0 InPktsOK 2\nend 0200000000010001 0 InPktsUnchecked 0\nend 0200000000010001 0 InPktsDelayed 0\nend 0200000000010001 0 InPktsLate 0\nend 0200000000010001 0 InPktsInvalid 0\nend 0200000000010001 0 InPktsNotValid 0\n";
+const CHANNEL: &str = "end 0200000000010001 InPktsOK 2\n\
+    end 0200000000010001 InPktsUnchecked 0\n\
+    end 0200000000010001 InPktsDelayed 0\n\
+    end 0200000000010001 InPktsLate 0\n\
+    end 0200000000010001 InPktsInvalid 0\n\
+    end 0200000000010001 InPktsNotValid 0\n\
+    end 0200000000010001 0 InPktsOK 2\n\
+    end 0200000000010001 0 InPktsUnchecked 0\n\
+    end 0200000000010001 0 InPktsDelayed 0\n\
+    end 0200000000010001 0 InPktsLate 0\n\
+    end 0200000000010001 0 InPktsInvalid 0\n\
+    end 0200000000010001 0 InPktsNotValid 0\n";
 
 /// What is sent for the client frame of the record with packet numbers 1 and 2, in records, with any ICV.
 const SENT_1: &str =
