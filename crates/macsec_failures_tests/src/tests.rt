@@ -9,20 +9,29 @@ use std::alloc::{AllocError, Global};
 use std::test::Fail;
 
 /// A script without a fault.
-const SCRIPT: &str =
-    "end A gcm128 12153524c0895e81 1518 sci\nend B gcm128 0000000000000002 1518 auto\nA key 0 ad7a2bd03eac835a6f620fdcb506b345 0\nA txsa 2 0 1 int\nA sendu ffffffffffff0200000000010800\nA numbers\n";
+const SCRIPT: &str = "end A gcm128 12153524c0895e81 1518 sci\n\
+    end B gcm128 0000000000000002 1518 auto\n\
+    A key 0 ad7a2bd03eac835a6f620fdcb506b345 0\n\
+    A txsa 2 0 1 int\n\
+    A sendu ffffffffffff0200000000010800\n\
+    A numbers\n";
 
 /// What it prints, in four lines.
 const SCRIPT_TEXT: &str =
     "3 done\n4 done\n5 frame 0 ffffffffffff0200000000010800\n6 tx 2 0 0000000000000001 off int\n";
 
 /// An endpoint that protects client frames for integrity, from packet number 1 on.
-const SENDER: &str =
-    "end A gcm128 0200000000010001 1518 sci\nA key 0 ad7a2bd03eac835a6f620fdcb506b345 0\nA txsa 0 0 1 int\nA txon 0\n";
+const SENDER: &str = "end A gcm128 0200000000010001 1518 sci\n\
+    A key 0 ad7a2bd03eac835a6f620fdcb506b345 0\n\
+    A txsa 0 0 1 int\n\
+    A txon 0\n";
 
 /// An endpoint that receives what that one sends.
-const RECEIVER: &str =
-    "end A gcm128 0000000000000002 1518 auto\nA key 0 ad7a2bd03eac835a6f620fdcb506b345 0\nA rxsc 0200000000010001\nA rxsa 0200000000010001 0 0 1\nA rxon 0200000000010001 0\n";
+const RECEIVER: &str = "end A gcm128 0000000000000002 1518 auto\n\
+    A key 0 ad7a2bd03eac835a6f620fdcb506b345 0\n\
+    A rxsc 0200000000010001\n\
+    A rxsa 0200000000010001 0 0 1\n\
+    A rxon 0200000000010001 0\n";
 
 /// The header of a capture file in microseconds, and the record of a client frame of 14 octets.
 const HEADER: &str = "d4c3b2a1020004000000000000000000ffff000001000000";

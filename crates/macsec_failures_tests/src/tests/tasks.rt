@@ -28,7 +28,21 @@ const PROTECT_STEPS: [Step; 5] = [
     (SENT_2, "record 1 link 46\n"),
     (
         "",
-        "end InPktsUntagged 0\nend InPktsNoTag 0\nend InPktsBadTag 0\nend InPktsReserved 0\nend InPktsNoSA 0\nend InPktsNoSAError 0\nend InOctetsValidated 0\nend InOctetsDecrypted 0\nend OutPktsUntagged 0\nend OutPktsTooLong 0\nend OutPktsNoSA 0\nend OutPktsProtected 2\nend OutPktsEncrypted 0\nend OutOctetsProtected 4\nend OutOctetsEncrypted 0\n",
+        "end InPktsUntagged 0\n\
+            end InPktsNoTag 0\n\
+            end InPktsBadTag 0\n\
+            end InPktsReserved 0\n\
+            end InPktsNoSA 0\n\
+            end InPktsNoSAError 0\n\
+            end InOctetsValidated 0\n\
+            end InOctetsDecrypted 0\n\
+            end OutPktsUntagged 0\n\
+            end OutPktsTooLong 0\n\
+            end OutPktsNoSA 0\n\
+            end OutPktsProtected 2\n\
+            end OutPktsEncrypted 0\n\
+            end OutOctetsProtected 4\n\
+            end OutOctetsEncrypted 0\n",
     ),
 ];
 
@@ -39,7 +53,33 @@ const VALIDATE_STEPS: [Step; 5] = [
     (RECORD, "record 1 OK 14\n"),
     (
         "",
-        "end InPktsUntagged 0\nend InPktsNoTag 0\nend InPktsBadTag 0\nend InPktsReserved 0\nend InPktsNoSA 0\nend InPktsNoSAError 0\nend InOctetsValidated 4\nend InOctetsDecrypted 0\nend OutPktsUntagged 0\nend OutPktsTooLong 0\nend OutPktsNoSA 0\nend OutPktsProtected 0\nend OutPktsEncrypted 0\nend OutOctetsProtected 0\nend OutOctetsEncrypted 0\nend 0200000000010001 InPktsOK 2\nend 0200000000010001 InPktsUnchecked 0\nend 0200000000010001 InPktsDelayed 0\nend 0200000000010001 InPktsLate 0\nend 0200000000010001 InPktsInvalid 0\nend 0200000000010001 InPktsNotValid 0\nend 0200000000010001 0 InPktsOK 2\nend 0200000000010001 0 InPktsUnchecked 0\nend 0200000000010001 0 InPktsDelayed 0\nend 0200000000010001 0 InPktsLate 0\nend 0200000000010001 0 InPktsInvalid 0\nend 0200000000010001 0 InPktsNotValid 0\n",
+        "end InPktsUntagged 0\n\
+            end InPktsNoTag 0\n\
+            end InPktsBadTag 0\n\
+            end InPktsReserved 0\n\
+            end InPktsNoSA 0\n\
+            end InPktsNoSAError 0\n\
+            end InOctetsValidated 4\n\
+            end InOctetsDecrypted 0\n\
+            end OutPktsUntagged 0\n\
+            end OutPktsTooLong 0\n\
+            end OutPktsNoSA 0\n\
+            end OutPktsProtected 0\n\
+            end OutPktsEncrypted 0\n\
+            end OutOctetsProtected 0\n\
+            end OutOctetsEncrypted 0\n\
+            end 0200000000010001 InPktsOK 2\n\
+            end 0200000000010001 InPktsUnchecked 0\n\
+            end 0200000000010001 InPktsDelayed 0\n\
+            end 0200000000010001 InPktsLate 0\n\
+            end 0200000000010001 InPktsInvalid 0\n\
+            end 0200000000010001 InPktsNotValid 0\n\
+            end 0200000000010001 0 InPktsOK 2\n\
+            end 0200000000010001 0 InPktsUnchecked 0\n\
+            end 0200000000010001 0 InPktsDelayed 0\n\
+            end 0200000000010001 0 InPktsLate 0\n\
+            end 0200000000010001 0 InPktsInvalid 0\n\
+            end 0200000000010001 0 InPktsNotValid 0\n",
     ),
 ];
 
