@@ -33,8 +33,9 @@ const FILES: &[(&str, &[u8])] = &[
 ];
 
 /// A capture file of two client frames of 14 octets.
-const FRAMES: &[u8] =
-    b"\xd4\xc3\xb2\xa1\x02\0\x04\0\0\0\0\0\0\0\0\0\xff\xff\0\0\x01\0\0\0\0\0\0\0\0\0\0\0\x0e\0\0\0\x0e\0\0\0\xff\xff\xff\xff\xff\xff\x02\0\0\0\0\x01\x08\0\0\0\0\0\0\0\0\0\x0e\0\0\0\x0e\0\0\0\xff\xff\xff\xff\xff\xff\x02\0\0\0\0\x01\x08\0";
+const FRAMES: &[u8] = b"\xd4\xc3\xb2\xa1\x02\0\x04\0\0\0\0\0\0\0\0\0\xff\xff\0\0\x01\0\0\0\
+      \0\0\0\0\0\0\0\0\x0e\0\0\0\x0e\0\0\0\xff\xff\xff\xff\xff\xff\x02\0\0\0\0\x01\x08\0\
+      \0\0\0\0\0\0\0\0\x0e\0\0\0\x0e\0\0\0\xff\xff\xff\xff\xff\xff\x02\0\0\0\0\x01\x08\0";
 
 /// How the program ends by these words behind its own name: its status, and what is told.
 fn end_of(rt: &HostRuntime, words: &[&str]) -> Result<(u8, Vec<u8>), AllocError> {
