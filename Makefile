@@ -55,8 +55,8 @@ install: build/macsec build/libmacsec.a
 	sed 's|@PREFIX@|$(PREFIX)|' include/macsec.pc.in > "$(DESTDIR)$(PREFIX)/lib/pkgconfig/macsec.pc"
 
 # Every proof from nothing, the must-fail edits, the tests and the programs, and beside them what needs no proof; then
-# the programs that were proved, macsec as both compilers built it, and the library for C over the libraries that
-# `rt ci` left. (It would put those of earlier checks back in their place, so these go first.)
+# the programs that were proved, macsec as both compilers built it, and beside them the library for C over the libraries
+# that `rt ci` left. (It would put those of earlier checks back in their place, so these go first.)
 check: toolchain
 	rm -rf crates/*/out/rlib
 	tools/failures calls
@@ -66,11 +66,9 @@ check: toolchain
 	cp crates/macsec_cli/out/macsec_cli build/macsec
 	cp crates/macsec_cli/out/macsec_cli.by-rattle build/macsec-rattle
 	cp crates/macsec_failures/out/macsec_failures build/macsec-failures
-	tools/failures memory
-	tools/stored-runs
-	python3 fuzz/fuzz.py --inputs $(GATE_INPUTS) --seed $(SEED)
-	python3 fuzz/planted.py --inputs $(GATE_INPUTS) --seed $(SEED)
-	tools/prove --after-ci libmacsec_c.a
+	tools/prove --after-ci libmacsec_c.a & library=$$!; tools/failures memory && tools/stored-runs && \
+	    python3 fuzz/fuzz.py --inputs $(GATE_INPUTS) --seed $(SEED) && \
+	    python3 fuzz/planted.py --inputs $(GATE_INPUTS) --seed $(SEED) && wait $$library
 	tools/merged-library build/libmacsec_c.a build/libmacsec.a
 	tools/c-programs --calls $(GATE_CALLS) --seed $(SEED)
 
