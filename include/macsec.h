@@ -30,7 +30,7 @@
  *            of macsec_configure are always filled in). First the handle is tested (MACSEC_EMPTY, MACSEC_TAKEN), then
  *            the arguments (MACSEC_NO_SUCH_..), then the rest; of several statuses of arguments, or of several
  *            refusals of a command, the lowest is returned.
- * MEMORY     macsec_new takes four blocks by malloc, 11.1 MB in all: two for 4,096 keys, one for a frame, one for the
+ * MEMORY     macsec_new takes four blocks by malloc, 17.6 MB in all: two for 4,096 keys, one for a frame, one for the
  *            rest. macsec_free gives them back. macsec_configure takes these too, and it and macsec_command_line
  *            some for the words of their text, which they give back before they return. No other call takes any, and
  *            none can fail for want of it. The memory is not wiped: keys may stay in it. Give each call 64 KB of
