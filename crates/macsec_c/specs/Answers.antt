@@ -8,8 +8,8 @@ use Rattle.macsec_commands.specs.declared.fault.NewFault.TheVariants.{Memory}
 use Rattle.macsec_commands.specs.Configs.{config_fault}
 use Rattle.macsec_secy.specs.State.{State, start}
 use Rattle.macsec_secy.specs.Step.{Input, Output, done, refused, leaves, dropped_no_sa, dropped_too_long, received, fault, operator_command, step}
-use Rattle.macsec_c.specs.Arguments.{Named}
-use Rattle.macsec_c.specs.Statuses.{done_status, empty_status, taken_status, status_of_argument_fault, status_of_new_fault, status_of_frame_fault}
+use Rattle.macsec_c_numbers.specs.Arguments.{Named}
+use Rattle.macsec_c_numbers.specs.Statuses.{done_status, empty_status, taken_status, status_of_argument_fault, status_of_new_fault, status_of_frame_fault}
 
 -- the status that an output of the machine gives
 abbrev pub status_of : Output → ℕ

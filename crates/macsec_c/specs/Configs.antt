@@ -3,7 +3,7 @@ use Rattle.macsec_suite.specs.declared.suite.Suite.{Suite}
 use Rattle.macsec_commands.specs.declared.form.TagForm.{TagForm}
 use Rattle.macsec_commands.specs.declared.config.EndConfig.{EndConfig}
 use Rattle.macsec_c.specs.declared.creating.Config.{Config}
-use Rattle.macsec_c.specs.Arguments.{Named, form_of, naming_both, sci_of, suite_of}
+use Rattle.macsec_c_numbers.specs.Arguments.{Named, form_of, naming_both, sci_of, suite_of}
 
 -- with this suite and tag form
 abbrev pub config_with : Config → Suite → TagForm → EndConfig

@@ -4,7 +4,7 @@ use Rattle.macsec_aes.specs.declared.Key.{Key}
 use Rattle.macsec_suite.specs.declared.suite.Suite.{Suite}
 use Rattle.macsec_suite.specs.declared.key_row.NewKey.{NewKey}
 use Rattle.macsec_c.specs.declared.commands.Sak.{Sak}
-use Rattle.macsec_c.specs.Arguments.{Named, key_number_of, key_of, key_suite_of}
+use Rattle.macsec_c_numbers.specs.Arguments.{Named, key_number_of, key_of, key_suite_of}
 
 -- with this suite, number and octets, which are tested in this order
 abbrev pub key_with : Sak → Named (Option Suite) → Named ℕ → Named Key → Named NewKey

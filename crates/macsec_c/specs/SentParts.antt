@@ -3,7 +3,7 @@ use Rattle.std.specs.Prelude.{ℕ, List, [], Option, Some, None}
 use Rattle.macsec_secy.specs.State.{State}
 use Rattle.macsec_secy.specs.Step.{Output, done, refused, leaves, dropped_no_sa, dropped_too_long, received, fault, client_frame, step}
 use Rattle.macsec_c.specs.declared.sending.Sent.{Sent}
-use Rattle.macsec_c.specs.Statuses.{done_status, empty_status, status_of_frame_fault}
+use Rattle.macsec_c_numbers.specs.Statuses.{done_status, empty_status, status_of_frame_fault}
 
 pub record SentParts : Type 0 where
   pub status : ℕ

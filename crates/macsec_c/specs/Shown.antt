@@ -17,8 +17,8 @@ use Rattle.macsec_c.specs.declared.showing.TxCountersShown.{TxCountersShown}
 use Rattle.macsec_c.specs.declared.showing.RxCountersShown.{RxCountersShown}
 use Rattle.macsec_c.specs.declared.showing.TxRowShown.{TxRowShown}
 use Rattle.macsec_c.specs.declared.showing.RxRowShown.{RxRowShown}
-use Rattle.macsec_c.specs.Arguments.{Named}
-use Rattle.macsec_c.specs.Statuses.{done_status, empty_status, none_status, status_of_argument_fault}
+use Rattle.macsec_c_numbers.specs.Arguments.{Named}
+use Rattle.macsec_c_numbers.specs.Statuses.{done_status, empty_status, none_status, status_of_argument_fault}
 
 -- what a handle's endpoint has, if it holds one
 abbrev pub found : {A : Type 0} → Option State → (State → Option A) → Option A

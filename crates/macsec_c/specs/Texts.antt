@@ -23,7 +23,7 @@ use Rattle.macsec_secy.specs.Step.{Output, refused, operator_command, step}
 use Rattle.macsec_c.specs.declared.configuring.ConfigFault.{ConfigFault}
 use Rattle.macsec_c.specs.declared.configuring.ConfigFault.TheVariants.{Text, New, Refused}
 use Rattle.macsec_c.specs.Answers.{commanded}
-use Rattle.macsec_c.specs.Statuses.{done_status, empty_status, taken_status, status_of_line_fault, status_of_new_fault, status_of_script_fault}
+use Rattle.macsec_c_numbers.specs.Statuses.{done_status, empty_status, taken_status, status_of_line_fault, status_of_new_fault, status_of_script_fault}
 
 -- the command at end A that a line says, if it says one
 abbrev pub command_of : Line → Option Command

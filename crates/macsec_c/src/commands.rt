@@ -3,14 +3,13 @@
 ghost use Rattle.std.specs.Prelude.{◌≡◌, Ok};
 ghost use Rattle.macsec_commands.specs.declared.command.Command.TheVariants as by;
 ghost use Rattle.macsec_c.specs.Answers.{commanded};
-ghost use Rattle.macsec_c.specs.Arguments.{an_of, form_of, key_number_of, mode_of, naming, naming_both, sci_of};
+ghost use Rattle.macsec_c_numbers.specs.Arguments.{an_of, form_of, key_number_of, mode_of, naming, naming_both, sci_of};
 ghost use Rattle.macsec_c.specs.Keys.{new_key_of};
 
-use crate::arguments::{
-    ArgumentFault, an_of, form_of, key_number_of, key_of, key_suite_of, mode_of,
-};
 use crate::endpoint::Endpoint;
-use crate::statuses::{DONE, EMPTY};
+use macsec_c_numbers::{
+    ArgumentFault, DONE, EMPTY, an_of, form_of, key_number_of, key_of, key_suite_of, mode_of,
+};
 use macsec_secy::{Command, NewKey, Sci};
 
 /// Carries out a command, or refuses it and changes nothing.

@@ -11,7 +11,7 @@ use crate::commands::carry_out;
 use crate::creating::endpoint_of;
 use crate::endpoint::Endpoint;
 use crate::loose::Loose;
-use crate::statuses::{
+use macsec_c_numbers::{
     DONE, EMPTY, TAKEN, status_of_line_fault, status_of_new_fault, status_of_script_fault,
 };
 use macsec_commands::{End, Event};

@@ -6,10 +6,9 @@ ghost use Rattle.macsec_lines.specs.Fields.{map_ok};
 ghost use Rattle.macsec_c.specs.Answers.{Makes};
 ghost use Rattle.macsec_c.specs.Configs.{config_of};
 
-use crate::arguments::{ArgumentFault, form_of, suite_of};
 use crate::endpoint::Endpoint;
 use crate::loose::Loose;
-use crate::statuses::{DONE, TAKEN, status_of_new_fault};
+use macsec_c_numbers::{ArgumentFault, DONE, TAKEN, form_of, status_of_new_fault, suite_of};
 use macsec_secy::{EndConfig, NewFault, Sci, Secy};
 use std::alloc::Global;
 

@@ -5,7 +5,7 @@
 //! `specs/Shown.antt`): the status, what is shown, and what the handle holds after it. `macsec_configure` makes the
 //! endpoint of a text's lines, as `parse_config` reads them, after the steps of all their commands, or none;
 //! `macsec_command_line` is the step that a line says (`specs/Texts.antt`). Numbers and lengths that name
-//! nothing are refused by statuses of their own before anything else happens (`specs/Arguments.antt`), and a handle
+//! nothing are refused by statuses of their own (`macsec_c_numbers`) before anything else happens, and a handle
 //! without an endpoint before those. A frame that is lent lies in the endpoint or is the caller's, and the endpoint's
 //! state after the loan is known. A handle owns its endpoint: `macsec_free` frees it once, and leaves a handle without
 //! one.
@@ -15,7 +15,6 @@
 //! that begins as zeros and that nobody but these calls writes to.
 #![tactic(auto)]
 
-mod arguments;
 mod commands;
 mod configuring;
 mod creating;
@@ -24,4 +23,3 @@ mod loose;
 mod receiving;
 mod sending;
 mod showing;
-mod statuses;

@@ -8,7 +8,7 @@ ghost use Rattle.macsec_c.specs.Lending.{RestsAs};
 ghost use Rattle.macsec_c.specs.ReceivedParts.{delivered_parts, parts_of_received, place_parts, received_parts, unreceived};
 
 use crate::endpoint::Endpoint;
-use crate::statuses::{DONE, EMPTY, number_of_verdict, status_of_frame_fault};
+use macsec_c_numbers::{DONE, EMPTY, number_of_verdict, status_of_frame_fault};
 
 /// What becomes of a link frame.
 #[repr(C)]

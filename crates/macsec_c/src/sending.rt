@@ -8,7 +8,7 @@ ghost use Rattle.macsec_c.specs.Lending.{RestsAs};
 ghost use Rattle.macsec_c.specs.SentParts.{parts_of_sent, sent_as, sent_parts, unsent};
 
 use crate::endpoint::Endpoint;
-use crate::statuses::{
+use macsec_c_numbers::{
     DONE, EMPTY, FATE_NO_SA, FATE_NONE, FATE_PLAIN, FATE_PROTECTED, FATE_TOO_LONG,
     status_of_frame_fault,
 };

@@ -4,14 +4,13 @@ ghost use Rattle.std.specs.Prelude.{◌≡◌, Some, IfSome, slice_get};
 ghost use Rattle.macsec_tx.specs.Transmit.{tx_row};
 ghost use Rattle.macsec_rx.specs.Channels.{rx_row};
 ghost use Rattle.macsec_secy.specs.Answers.{rx_counters_of, rx_removed_of, rx_sa_counters_of};
-ghost use Rattle.macsec_c.specs.Arguments.{an_of, sci_of};
+ghost use Rattle.macsec_c_numbers.specs.Arguments.{an_of, sci_of};
 ghost use Rattle.macsec_c.specs.Shown.{counters_shown, options_shown, rx_counters_shown, rx_row_shown, tx_counters_shown, tx_row_shown};
 ghost use Rattle.macsec_c.specs.Shown.{high_half, low_half, number_of_form, number_of_mode};
 ghost use Rattle.macsec_c.specs.Shown.{found, found_at, status_of_an, status_of_found};
 
-use crate::arguments::an_of;
 use crate::endpoint::Endpoint;
-use crate::statuses::{DONE, EMPTY, NONE};
+use macsec_c_numbers::{DONE, EMPTY, NONE, an_of};
 use macsec_secy::{Counters, Mode, Options, RxCounters, RxRow, Sci, TagForm, TxCounters, TxRow};
 
 /// The options.

@@ -1,8 +1,8 @@
 //! What the arguments of a caller in C name. Those that name nothing are refused.
 
 ghost use Rattle.std.specs.Prelude.{◌≡◌};
-ghost use Rattle.macsec_c.specs.Arguments.{an_of, form_of, key_number_of, key_of, key_suite_of, mode_of, suite_of};
-ghost use Rattle.macsec_c.specs.Statuses.{status_of_argument_fault};
+ghost use Rattle.macsec_c_numbers.specs.Arguments.{an_of, form_of, key_number_of, key_of, key_suite_of, mode_of, suite_of};
+ghost use Rattle.macsec_c_numbers.specs.Statuses.{status_of_argument_fault};
 
 use macsec_secy::{An, Key, KeyNumber, Mode, Suite, TagForm};
 
@@ -25,7 +25,7 @@ pub enum ArgumentFault {
 
 impl ArgumentFault {
     /// The status.
-    pub(crate) fn status(self) -> u32
+    pub fn status(self) -> u32
         ensures { result ≡ status_of_argument_fault self }
     {
         self as u32
@@ -33,7 +33,7 @@ impl ArgumentFault {
 }
 
 /// The suite of a number.
-pub(crate) fn suite_of(number: u32) -> Result<Suite, ArgumentFault>
+pub fn suite_of(number: u32) -> Result<Suite, ArgumentFault>
     ensures { result ≡ suite_of number }
 {
     match number {
@@ -46,7 +46,7 @@ pub(crate) fn suite_of(number: u32) -> Result<Suite, ArgumentFault>
 }
 
 /// The suite that a key names: 0 is the endpoint's default.
-pub(crate) fn key_suite_of(number: u32) -> Result<Option<Suite>, ArgumentFault>
+pub fn key_suite_of(number: u32) -> Result<Option<Suite>, ArgumentFault>
     ensures { result ≡ key_suite_of number }
 {
     if number == 0 {
@@ -56,7 +56,7 @@ pub(crate) fn key_suite_of(number: u32) -> Result<Option<Suite>, ArgumentFault>
 }
 
 /// The tag form of a number.
-pub(crate) fn form_of(number: u32) -> Result<TagForm, ArgumentFault>
+pub fn form_of(number: u32) -> Result<TagForm, ArgumentFault>
     ensures { result ≡ form_of number }
 {
     match number {
@@ -69,7 +69,7 @@ pub(crate) fn form_of(number: u32) -> Result<TagForm, ArgumentFault>
 }
 
 /// The mode of a number.
-pub(crate) fn mode_of(number: u32) -> Result<Mode, ArgumentFault>
+pub fn mode_of(number: u32) -> Result<Mode, ArgumentFault>
     ensures { result ≡ mode_of number }
 {
     match number {
@@ -81,7 +81,7 @@ pub(crate) fn mode_of(number: u32) -> Result<Mode, ArgumentFault>
 }
 
 /// The association number `n`.
-pub(crate) fn an_of(n: u8) -> Result<An, ArgumentFault>
+pub fn an_of(n: u8) -> Result<An, ArgumentFault>
     ensures { result ≡ an_of n }
 {
     match An::new(n) {
@@ -91,7 +91,7 @@ pub(crate) fn an_of(n: u8) -> Result<An, ArgumentFault>
 }
 
 /// The key number `n`.
-pub(crate) fn key_number_of(n: u16) -> Result<KeyNumber, ArgumentFault>
+pub fn key_number_of(n: u16) -> Result<KeyNumber, ArgumentFault>
     ensures { result ≡ key_number_of n }
 {
     match KeyNumber::new(n) {
@@ -101,7 +101,7 @@ pub(crate) fn key_number_of(n: u16) -> Result<KeyNumber, ArgumentFault>
 }
 
 /// The first octets of 32 as a key of this length.
-pub(crate) fn key_of(bytes: &[u8; 32], length: u8) -> Result<Key, ArgumentFault>
+pub fn key_of(bytes: &[u8; 32], length: u8) -> Result<Key, ArgumentFault>
     ensures { result ≡ key_of bytes.now length }
 {
     match length {

@@ -10,8 +10,8 @@ use Rattle.macsec_commands.specs.declared.form.TagForm.{TagForm}
 use Rattle.macsec_commands.specs.declared.form.TagForm.TheVariants as form
 use Rattle.macsec_commands.specs.declared.mode.Mode.{Mode}
 use Rattle.macsec_commands.specs.declared.mode.Mode.TheVariants.{Disabled, Check, Strict}
-use Rattle.macsec_c.specs.declared.arguments.ArgumentFault.{ArgumentFault}
-use Rattle.macsec_c.specs.declared.arguments.ArgumentFault.TheVariants as argument
+use Rattle.macsec_c_numbers.specs.declared.arguments.ArgumentFault.{ArgumentFault}
+use Rattle.macsec_c_numbers.specs.declared.arguments.ArgumentFault.TheVariants as argument
 
 -- what an argument names, or that it names nothing
 abbrev pub Named : Type 0 → Type 0

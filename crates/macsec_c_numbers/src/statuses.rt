@@ -1,40 +1,40 @@
 //! The numbers that the calls return.
 
 ghost use Rattle.std.specs.Prelude.{◌≡◌};
-ghost use Rattle.macsec_c.specs.Statuses.{number_of_verdict, status_of_frame_fault, status_of_line_fault, status_of_new_fault, status_of_script_fault};
+ghost use Rattle.macsec_c_numbers.specs.Statuses.{number_of_verdict, status_of_frame_fault, status_of_line_fault, status_of_new_fault, status_of_script_fault};
 
 use macsec_lines::{LineFault, ScriptFault};
 use macsec_secy::{FrameFault, NewFault, Verdict};
 
 /// It is done.
-pub(crate) const DONE: u32 = 0;
+pub const DONE: u32 = 0;
 
 /// The handle holds no endpoint.
-pub(crate) const EMPTY: u32 = 32;
+pub const EMPTY: u32 = 32;
 
 /// It holds one already.
-pub(crate) const TAKEN: u32 = 33;
+pub const TAKEN: u32 = 33;
 
 /// There is no such channel or association.
-pub(crate) const NONE: u32 = 40;
+pub const NONE: u32 = 40;
 
 /// No client frame was taken.
-pub(crate) const FATE_NONE: u32 = 0;
+pub const FATE_NONE: u32 = 0;
 
 /// The frame is sent protected.
-pub(crate) const FATE_PROTECTED: u32 = 1;
+pub const FATE_PROTECTED: u32 = 1;
 
 /// It is sent as it is.
-pub(crate) const FATE_PLAIN: u32 = 2;
+pub const FATE_PLAIN: u32 = 2;
 
 /// It is dropped: no association is enabled, or the enabled one is exhausted.
-pub(crate) const FATE_NO_SA: u32 = 3;
+pub const FATE_NO_SA: u32 = 3;
 
 /// It is dropped: it would be too long.
-pub(crate) const FATE_TOO_LONG: u32 = 4;
+pub const FATE_TOO_LONG: u32 = 4;
 
 /// The status of a fault of a configuration.
-pub(crate) fn status_of_new_fault(fault: NewFault) -> u32
+pub fn status_of_new_fault(fault: NewFault) -> u32
     ensures { result ≡ status_of_new_fault fault }
 {
     match fault {
@@ -45,7 +45,7 @@ pub(crate) fn status_of_new_fault(fault: NewFault) -> u32
 }
 
 /// The status of a fault of a frame.
-pub(crate) fn status_of_frame_fault(fault: FrameFault) -> u32
+pub fn status_of_frame_fault(fault: FrameFault) -> u32
     ensures { result ≡ status_of_frame_fault fault }
 {
     match fault {
@@ -55,7 +55,7 @@ pub(crate) fn status_of_frame_fault(fault: FrameFault) -> u32
 }
 
 /// The status of a fault of a line.
-pub(crate) fn status_of_line_fault(fault: LineFault) -> u32
+pub fn status_of_line_fault(fault: LineFault) -> u32
     ensures { result ≡ status_of_line_fault fault }
 {
     match fault {
@@ -70,7 +70,7 @@ pub(crate) fn status_of_line_fault(fault: LineFault) -> u32
 }
 
 /// The status of a fault of a text, of which no reader and no writer has a part.
-pub(crate) fn status_of_script_fault(fault: ScriptFault) -> u32
+pub fn status_of_script_fault(fault: ScriptFault) -> u32
     ensures { result ≡ status_of_script_fault fault }
 {
     match fault {
@@ -88,7 +88,7 @@ pub(crate) fn status_of_script_fault(fault: ScriptFault) -> u32
 }
 
 /// The number of a verdict.
-pub(crate) fn number_of_verdict(verdict: Verdict) -> u32
+pub fn number_of_verdict(verdict: Verdict) -> u32
     ensures { result ≡ number_of_verdict verdict }
 {
     match verdict {

@@ -10,8 +10,8 @@ use Rattle.macsec_lines.specs.declared.lines.LineFault.{LineFault}
 use Rattle.macsec_lines.specs.declared.lines.LineFault.TheVariants as line
 use Rattle.macsec_lines.specs.declared.faults.ScriptFault.{ScriptFault}
 use Rattle.macsec_lines.specs.declared.faults.ScriptFault.TheVariants as script
-use Rattle.macsec_c.specs.declared.arguments.ArgumentFault.{ArgumentFault}
-use Rattle.macsec_c.specs.declared.arguments.ArgumentFault.TheVariants as argument
+use Rattle.macsec_c_numbers.specs.declared.arguments.ArgumentFault.{ArgumentFault}
+use Rattle.macsec_c_numbers.specs.declared.arguments.ArgumentFault.TheVariants as argument
 
 abbrev pub done_status : ℕ
 done_status = 0

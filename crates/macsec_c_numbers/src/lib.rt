@@ -1,0 +1,17 @@
+//! Numbers of callers in C: what the ones that they give name, and those that the calls of `macsec_c` return.
+//!
+//! Proved: each number that is given names what `specs/Arguments.antt` says, or is refused by the fault of its kind; and
+//! the status of each fault and the number of each verdict are those of `specs/Statuses.antt`.
+#![tactic(auto)]
+
+mod arguments;
+mod statuses;
+
+pub use arguments::{
+    ArgumentFault, an_of, form_of, key_number_of, key_of, key_suite_of, mode_of, suite_of,
+};
+pub use statuses::{
+    DONE, EMPTY, FATE_NO_SA, FATE_NONE, FATE_PLAIN, FATE_PROTECTED, FATE_TOO_LONG, NONE, TAKEN,
+    number_of_verdict, status_of_frame_fault, status_of_line_fault, status_of_new_fault,
+    status_of_script_fault,
+};
