@@ -66,9 +66,10 @@ check: toolchain
 	cp crates/macsec_cli/out/macsec_cli build/macsec
 	cp crates/macsec_cli/out/macsec_cli.by-rattle build/macsec-rattle
 	cp crates/macsec_failures/out/macsec_failures build/macsec-failures
-	tools/prove --after-ci libmacsec_c.a & library=$$!; tools/failures memory && tools/stored-runs && \
-	    python3 fuzz/fuzz.py --inputs $(GATE_INPUTS) --seed $(SEED) && \
-	    python3 fuzz/planted.py --inputs $(GATE_INPUTS) --seed $(SEED) && wait $$library
+	tools/prove --after-ci libmacsec_c.a & library=$$!; \
+	    python3 fuzz/planted.py --inputs $(GATE_INPUTS) --seed $(SEED) & planted=$$!; \
+	    tools/failures memory && tools/stored-runs && \
+	    python3 fuzz/fuzz.py --inputs $(GATE_INPUTS) --seed $(SEED) && wait $$planted && wait $$library
 	tools/merged-library build/libmacsec_c.a build/libmacsec.a
 	tools/c-programs --calls $(GATE_CALLS) --seed $(SEED)
 
