@@ -5,7 +5,7 @@ use Rattle.std.specs.Int.{bit_at}
 use Rattle.std.specs.Int.Bits.{xor_add_and}
 use Rattle.std.specs.List.{range_with_len}
 use Rattle.std.proofs.lemmas.Nat.{xor_lt}
-use Rattle.std.proofs.lemmas.Nat.Bits.{bit_at-lt, bit_at-zero, bit_at_and, bit_at_xor, bit_at_ones}
+use Rattle.std.proofs.lemmas.Nat.Bits.{bit_at-lt, bit_at-zero, bit_at_and, bit_at_xor}
 use Rattle.std.proofs.Math.Nat.{pow-suc}
 use Rattle.macsec_aes_lanes.specs.Lanes.{lane_at}
 use Rattle.macsec_aes_lanes.specs.Planes.{number}
@@ -15,14 +15,12 @@ pub data Gate : Type 0 where
   Input : ℕ → Gate
   Add : Gate → Gate → Gate
   And : Gate → Gate → Gate
-  Ones : Gate
 
--- what a gate computes of these inputs, where `ones` has all bits
-abbrev pub value : ℕ → List ℕ → Gate → ℕ
-value ones xs (Input i) = slice_index xs i
-value ones xs (Add g h) = bit_xor (value ones xs g) (value ones xs h)
-value ones xs (And g h) = bit_and (value ones xs g) (value ones xs h)
-value ones xs Ones = ones
+-- what a gate computes of these inputs
+abbrev pub value : List ℕ → Gate → ℕ
+value xs (Input i) = slice_index xs i
+value xs (Add g h) = bit_xor (value xs g) (value xs h)
+value xs (And g h) = bit_and (value xs g) (value xs h)
 
 -- ---- one bit of what a gate computes
 
@@ -41,23 +39,22 @@ input_at [] i k = bit_at-zero k
 input_at (x ∷ xs) zero k = refl
 input_at (x ∷ xs) (suc i) k = input_at xs i k
 
-value_at : (xs : List ℕ) (k : ℕ) → k < 8 → (g : Gate) → bit_at (value 0xff xs g) k ≡ value 1 (bits_at k xs) g
-value_at xs k lt (Input i) = input_at xs i k
-value_at xs k lt (Add g h) =
-    let x = value 0xff xs g in
-    let y = value 0xff xs h in
+value_at : (xs : List ℕ) (k : ℕ) (g : Gate) → bit_at (value xs g) k ≡ value (bits_at k xs) g
+value_at xs k (Input i) = input_at xs i k
+value_at xs k (Add g h) =
+    let x = value xs g in
+    let y = value xs h in
     bit_at_xor x y k ∙ sum_of_bits (bit_at x k) (bit_at y k) (bit_at-lt x k) (bit_at-lt y k)
-    ∙ ap₂ bit_xor (value_at xs k lt g) (value_at xs k lt h)
-value_at xs k lt (And g h) =
-    let x = value 0xff xs g in
-    let y = value 0xff xs h in
+    ∙ ap₂ bit_xor (value_at xs k g) (value_at xs k h)
+value_at xs k (And g h) =
+    let x = value xs g in
+    let y = value xs h in
     bit_at_and x y k ∙ product_of_bits (bit_at x k) (bit_at y k) (bit_at-lt x k) (bit_at-lt y k)
-    ∙ ap₂ bit_and (value_at xs k lt g) (value_at xs k lt h)
-value_at xs k lt Ones = bit_at_ones 8 k lt
+    ∙ ap₂ bit_and (value_at xs k g) (value_at xs k h)
 
-values_at : (xs : List ℕ) (k : ℕ) → k < 8 → (gs : List Gate) → map (λ g. bit_at (value 0xff xs g) k) gs ≡ map (value 1 (bits_at k xs)) gs
-values_at xs k lt [] = refl
-values_at xs k lt (g ∷ gs) = ap₂ (λ (b : ℕ) (bs : List ℕ). b ∷ bs) (value_at xs k lt g) (values_at xs k lt gs)
+values_at : (xs : List ℕ) (k : ℕ) (gs : List Gate) → map (λ g. bit_at (value xs g) k) gs ≡ map (value (bits_at k xs)) gs
+values_at xs k [] = refl
+values_at xs k (g ∷ gs) = ap₂ (λ (b : ℕ) (bs : List ℕ). b ∷ bs) (value_at xs k g) (values_at xs k gs)
 
 -- ---- a number and its bits
 
@@ -96,26 +93,26 @@ bits_are n xs long k m e = sym (rw (long, e) at (bits_of-number xs k))
 
 -- the numbers whose bits the gates compute of these inputs, which go with the bytes
 abbrev pub table_from : (ℕ → List ℕ) → List Gate → List ℕ
-table_from inputs gs = map (λ x. number (map (value 1 (inputs x)) gs)) (range_with_len 0 256)
+table_from inputs gs = map (λ x. number (map (value (inputs x)) gs)) (range_with_len 0 256)
 
 pub circuit_from : (inputs : ℕ → List ℕ) (gs : List Gate) (f : ℕ → ℕ) → table_from inputs gs ≡ map f (range_with_len 0 256)
-    → (xs : List ℕ) (k : ℕ) → k < 8 → (x : ℕ) → x < 256 → bits_at k xs ≡ inputs x → number (map (λ g. bit_at (value 0xff xs g) k) gs) ≡ f x
-circuit_from inputs gs f same xs k lt x small bits =
-    ap number (values_at xs k lt gs ∙ ap (λ (bs : List ℕ). map (value 1 bs) gs) bits)
-    ∙ same_below (λ x. number (map (value 1 (inputs x)) gs)) f 256 same x small
+    → (xs : List ℕ) (k x : ℕ) → x < 256 → bits_at k xs ≡ inputs x → number (map (λ g. bit_at (value xs g) k) gs) ≡ f x
+circuit_from inputs gs f same xs k x small bits =
+    ap number (values_at xs k gs ∙ ap (λ (bs : List ℕ). map (value bs) gs) bits)
+    ∙ same_below (λ x. number (map (value (inputs x)) gs)) f 256 same x small
 
 -- the same of all n inputs
 abbrev pub table : ℕ → List Gate → List ℕ
-table n gs = map (λ x. number (map (value 1 (bits_of n x)) gs)) (range_with_len 0 (2 ^ n))
+table n gs = map (λ x. number (map (value (bits_of n x)) gs)) (range_with_len 0 (2 ^ n))
 
-pub circuit : (n : ℕ) (gs : List Gate) (f : ℕ → ℕ) → table n gs ≡ map f (range_with_len 0 (2 ^ n)) → (xs : List ℕ) → length xs ≡ n → (k : ℕ) → k < 8
-    → number (map (λ g. bit_at (value 0xff xs g) k) gs) ≡ f (number (bits_at k xs))
-circuit n gs f same xs long k lt =
+pub circuit : (n : ℕ) (gs : List Gate) (f : ℕ → ℕ) → table n gs ≡ map f (range_with_len 0 (2 ^ n)) → (xs : List ℕ) → length xs ≡ n → (k : ℕ)
+    → number (map (λ g. bit_at (value xs g) k) gs) ≡ f (number (bits_at k xs))
+circuit n gs f same xs long k =
     let x = number (bits_at k xs) in
     let bits : bits_of n x ≡ bits_at k xs = rw long at (bits_of-number xs k) in
     let small : x < 2 ^ n = rw long at (number-lt xs k) in
-    ap number (values_at xs k lt gs ∙ ap (λ (bs : List ℕ). map (value 1 bs) gs) (sym bits))
-    ∙ same_below (λ x. number (map (value 1 (bits_of n x)) gs)) f (2 ^ n) same x small
+    ap number (values_at xs k gs ∙ ap (λ (bs : List ℕ). map (value bs) gs) (sym bits))
+    ∙ same_below (λ x. number (map (value (bits_of n x)) gs)) f (2 ^ n) same x small
 
 -- the lanes of n planes
 abbrev pub lanes : ℕ → List (List ℕ) → ℕ → List ℕ

@@ -7,5 +7,6 @@ pub mod Transposed
 pub mod Gates
 pub mod TowerGates
 pub mod Octets
+pub mod ConstantKept
 pub mod Rounds
 pub mod RoundKeysAt

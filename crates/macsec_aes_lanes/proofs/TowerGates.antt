@@ -1,12 +1,14 @@
 -- The circuit of the S-box, and that each part of it computes what its definition says, by computation over all of its
 -- inputs: nibbles, or what the part before it computes of each byte.
-use Rattle.std.proofs.Common.{◌≡◌, List, [], ◌∷◌, ◌++◌, map, refl, ◌∙◌}
+use Rattle.std.proofs.Common.{◌≡◌, List, [], ◌∷◌, ◌++◌, map, refl, ap, ◌∙◌}
+use Rattle.std.proofs.lemmas.Simd.{map-map}
 use Rattle.std.specs.List.{range_with_len}
 use Rattle.macsec_aes.specs.Field.{sum_below, polynomial_product, remainder, byte_product, s_box}
 use Rattle.macsec_aes.proofs.SBox.{S_BOX_lem}
+use Rattle.macsec_aes_lanes.specs.AffineConstant.{plus_constant}
 use Rattle.macsec_aes_lanes.specs.Planes.{number}
 use Rattle.macsec_aes_lanes.specs.Tower.{linear, element_of_nibble, nibble_of_element, square, norm, nibble_inverse, sums, factors, products}
-use Rattle.macsec_aes_lanes.proofs.Gates.{Gate, Input, Add, And, Ones, bits_of, table, table_from}
+use Rattle.macsec_aes_lanes.proofs.Gates.{Gate, Input, Add, And, bits_of, table, table_from}
 
 abbrev pub gates_of_sums : List Gate
 gates_of_sums =
@@ -125,8 +127,8 @@ pub computes_products : table_from (λ x. bits_of 22 (sums x) ++ bits_of 4 (nibb
 unfolding number products sums factors linear sum_below norm square nibble_of_element byte_product polynomial_product remainder nibble_inverse element_of_nibble
 computes_products = refl
 
-abbrev pub gates_of_affine_of_products : List Gate
-gates_of_affine_of_products =
+abbrev pub gates_of_linear_of_products : List Gate
+gates_of_linear_of_products =
     let t46 = Add (Input 15) (Input 16) in
     let t47 = Add (Input 10) (Input 11) in
     let t48 = Add (Input 5) (Input 13) in
@@ -149,16 +151,16 @@ gates_of_affine_of_products =
     let t65 = Add t61 t62 in
     let t66 = Add (Input 1) t63 in
     let r0 = Add t59 t63 in
-    let r6 = Add t56 (Add t62 Ones) in
-    let r7 = Add t48 (Add t60 Ones) in
+    let r6 = Add t56 t62 in
+    let r7 = Add t48 t60 in
     let t67 = Add t64 t65 in
     let r3 = Add t53 t66 in
     let r4 = Add t51 t66 in
     let r5 = Add t47 t65 in
-    let r1 = Add t64 (Add r3 Ones) in
-    let r2 = Add t55 (Add t67 Ones) in
+    let r1 = Add t64 r3 in
+    let r2 = Add t55 t67 in
     r7 ∷ r6 ∷ r5 ∷ r4 ∷ r3 ∷ r2 ∷ r1 ∷ r0 ∷ []
 
-pub computes_affine : table_from (λ x. bits_of 18 (products x)) gates_of_affine_of_products ≡ map s_box (range_with_len 0 256)
+pub computes_linear : table_from (λ x. bits_of 18 (products x)) gates_of_linear_of_products ≡ map (λ x. plus_constant (s_box x)) (range_with_len 0 256)
 unfolding number products sums factors linear sum_below norm square nibble_of_element byte_product polynomial_product remainder nibble_inverse element_of_nibble
-computes_affine = refl ∙ S_BOX_lem
+computes_linear = refl ∙ ap (map plus_constant) S_BOX_lem ∙ map-map plus_constant s_box (range_with_len 0 256)

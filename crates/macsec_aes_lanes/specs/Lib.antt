@@ -1,3 +1,4 @@
+pub mod AffineConstant
 pub mod Lanes
 pub mod Planes
 pub mod RoundKeys

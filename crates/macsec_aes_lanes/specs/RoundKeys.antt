@@ -1,6 +1,7 @@
 -- Round keys in planes.
 use Rattle.std.specs.Prelude.{◌≡◌, ℕ, ◌≤◌, List, [], ◌∷◌, ◌⊎◌, length, map, slice_index_or}
-use Rattle.macsec_aes.specs.Aes.{round_key, rounds_of, schedule_of}
+use Rattle.macsec_aes.specs.Aes.{rounds_of, schedule_of}
+use Rattle.macsec_aes_lanes.specs.AffineConstant.{kept_round_key}
 use Rattle.macsec_aes_lanes.specs.Planes.{AreAll}
 use Rattle.macsec_aes_lanes.specs.declared.schedule.RoundKey.{RoundKey}
 
@@ -13,4 +14,4 @@ pub record AreRoundKeys (keys : List RoundKey) (rounds : ℕ) (key : List ℕ) :
   pub long : length keys ≡ 15
   pub lengths : (rounds ≡ 10) ⊎ (rounds ≡ 14)
   pub rounds_are : rounds ≡ rounds_of key
-  pub each : (r : ℕ) → r ≤ rounds → AreAll (slice_index_or (map planes_of keys) r []) (round_key (schedule_of key) r)
+  pub each : (r : ℕ) → r ≤ rounds → AreAll (slice_index_or (map planes_of keys) r []) (kept_round_key (schedule_of key) r)

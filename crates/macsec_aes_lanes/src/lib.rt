@@ -17,7 +17,7 @@ mod state;
 mod tower;
 
 pub use schedule::LaneSchedule;
-use state::{add_round_key, blocks_of, mix_columns, shift_rows, states_of, sub_bytes};
+use state::{add_round_key, blocks_of, mix_columns, shift_rows, states_of, sub_bytes_but_constant};
 
 /// Encrypts each of eight blocks of 16 bytes under the key of a schedule: Cipher (FIPS 197, 5.1).
 pub fn encrypt8(schedule: &LaneSchedule, blocks: &mut [[u8; 16]; 8])
@@ -26,10 +26,10 @@ pub fn encrypt8(schedule: &LaneSchedule, blocks: &mut [[u8; 16]; 8])
     let rounds = schedule.rounds();
     let mut states = add_round_key(states_of(blocks), schedule.round_key(0));
     for round in 1..rounds {
-        let shifted = shift_rows(sub_bytes(states));
+        let shifted = shift_rows(sub_bytes_but_constant(states));
         states = add_round_key(mix_columns(shifted), schedule.round_key(round));
     }
-    let last = shift_rows(sub_bytes(states));
+    let last = shift_rows(sub_bytes_but_constant(states));
     *blocks = blocks_of(add_round_key(last, schedule.round_key(rounds)));
 }
 

@@ -1,18 +1,36 @@
 //! Key schedules in planes.
 
-ghost use Rattle.std.specs.Prelude.{◌≡◌, ◌≤◌};
-ghost use Rattle.macsec_aes.specs.Aes.{round_key, rounds_of, schedule_of};
+ghost use Rattle.std.specs.Prelude.{◌≡◌, ◌<◌, ◌≤◌, slice_index};
+ghost use Rattle.macsec_aes.specs.Aes.{rounds_of, schedule_of};
 ghost use Rattle.macsec_aes.specs.Keys.{key_bytes};
+ghost use Rattle.macsec_aes_lanes.specs.AffineConstant.{kept_round_key, plus_constant, with_constant};
 ghost use Rattle.macsec_aes_lanes.specs.Planes.{AreAll};
 
 use crate::lanes::{bit_everywhere, lanes_of};
 use crate::state::States;
 use macsec_aes::{Key, Schedule};
+use std::array;
 use std::marker::Model;
 use std::simd::u8x16;
 
 /// The round keys of the longest schedule, that of a key of 256 bits.
 const MAX_ROUND_KEYS: usize = 15;
+
+/// The constant of the affine transformation in the S-box (FIPS 197, 5.1.1).
+const AFFINE_CONSTANT: u8 = 0x63;
+
+/// A round key with the constant added to each byte, since SubBytes in planes does not add it. ShiftRows and MixColumns,
+/// which come between, keep it: 02 of it, 03 of it and twice itself sum to itself.
+fn with_constant(key: [u8; 16]) -> [u8; 16]
+    ensures { result ≡ with_constant key }
+{
+    array::from_fn(
+        |k: usize| -> u8
+            requires { k < 16 }
+            ensures { result ≡ plus_constant (slice_index key k) }
+        { key[k] ^ AFFINE_CONSTANT },
+    )
+}
 
 /// A round key in the place of each of eight states: bit i of each of its entries, at each place of a byte.
 #[derive(Clone, Copy)]
@@ -59,8 +77,8 @@ impl RoundKey {
     }
 }
 
-/// The key schedule of a key (FIPS 197, 5.2) with its round keys in planes, as the lanes need them. Contracts see it as
-/// the bytes of the key.
+/// The key schedule of a key (FIPS 197, 5.2) with its round keys in planes, as the lanes need them: from that of round 1
+/// on with the constant of the affine transformation. Contracts see it as the bytes of the key.
 #[derive(Drop)]
 pub struct LaneSchedule {
     key: Key,
@@ -88,8 +106,10 @@ impl LaneSchedule {
         let schedule = Schedule::expand(key);
         let rounds = schedule.rounds();
         let mut round_keys = [RoundKey::of([0; 16]); MAX_ROUND_KEYS];
-        for round in 0..rounds + 1 {
-            round_keys[round] = RoundKey::of(schedule.round_key(round));
+        round_keys[0] = RoundKey::of(schedule.round_key(0));
+        for round in 1..rounds + 1 {
+            let round_key = schedule.round_key(round);
+            round_keys[round] = RoundKey::of(with_constant(round_key));
         }
         LaneSchedule {
             key: *key,
@@ -106,11 +126,12 @@ impl LaneSchedule {
         self.rounds
     }
 
-    /// The round key of a round from 1, or at 0 the one that is added before the first round.
+    /// The round key of a round from 1, with the constant of the affine transformation, or at 0 the one that is added
+    /// before the first round.
     #[inline(always)]
     pub(crate) fn round_key(&self, round: usize) -> States
         requires { round ≤ rounds_of self.now }
-        ensures { AreAll result (round_key (schedule_of self.now) round) }
+        ensures { AreAll result (kept_round_key (schedule_of self.now) round) }
     {
         let round_keys = &self.round_keys;
         round_keys[round].planes()

@@ -5,12 +5,13 @@
 ghost use Rattle.std.specs.Prelude.{◌≡◌, ℕ, ◌<◌, List, [], bit_xor, length, slice_index_or};
 ghost use Rattle.macsec_aes.specs.Aes.{add_round_key, mix_columns, shift_rows, sub_bytes};
 ghost use Rattle.macsec_aes.specs.Field.{byte_product};
+ghost use Rattle.macsec_aes_lanes.specs.AffineConstant.{with_constant};
 ghost use Rattle.macsec_aes_lanes.specs.Lanes.{lane_at, columns_right, rows_below};
 ghost use Rattle.macsec_aes_lanes.specs.Planes.{AreAll, block_of, byte_of, octet};
 
 use crate::lanes::{add, bytes_of, from_next_row, from_second_row, lanes_of, shifted};
 use crate::planes::transpose;
-use crate::tower::s_box;
+use crate::tower::s_box_but_constant;
 use std::simd::u8x16;
 
 /// The states of eight blocks.
@@ -52,12 +53,13 @@ pub fn blocks_of(v: States) -> [[u8; 16]; 8]
     ]
 }
 
-/// SubBytes (FIPS 197, 5.1.1).
+/// SubBytes (FIPS 197, 5.1.1), but for the constant of its affine transformation, which the next round key has in its
+/// place.
 #[inline(always)]
-pub fn sub_bytes(v: States) -> States
-    ensures { (k : ℕ) → k < 8 → block_of result k ≡ sub_bytes (block_of v k) }
+pub fn sub_bytes_but_constant(v: States) -> States
+    ensures { (k : ℕ) → k < 8 → block_of result k ≡ with_constant (sub_bytes (block_of v k)) }
 {
-    s_box(v)
+    s_box_but_constant(v)
 }
 
 /// ShiftRows (FIPS 197, 5.1.2).

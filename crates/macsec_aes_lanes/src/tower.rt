@@ -4,10 +4,12 @@
 //! elements, and the inverse of x is x^16 times the inverse of x^17. All of this is sums and products of bits, and is
 //! done on planes, by the circuit of Boyar and Peralta, of 32 products and 83 sums: the bits of x are first summed to
 //! the factors of its products, of which there are nine for x^17 and eighteen with the inverse of x^17. The names of
-//! planes are those of the circuit, whose x0 is the highest bit of x.
+//! planes are those of the circuit, whose x0 is the highest bit of x. The circuit ends with four complements, which add
+//! the constant of the affine transformation: they stand in the round keys, and so the sums here leave it out.
 
 ghost use Rattle.std.specs.Prelude.{◌≡◌, ℕ, ◌^◌, ◌<◌};
 ghost use Rattle.macsec_aes.specs.Field.{s_box};
+ghost use Rattle.macsec_aes_lanes.specs.AffineConstant.{plus_constant};
 ghost use Rattle.macsec_aes_lanes.specs.Planes.{element, nibble, octet};
 ghost use Rattle.macsec_aes_lanes.specs.Tower.{nibble_inverse, norm, products, sums};
 
@@ -147,13 +149,13 @@ fn products(s: [u8x16; 22], n: [u8x16; 4]) -> [u8x16; 18]
     ]
 }
 
-/// The affine transformation (FIPS 197, 5.1.1) of the inverse of each byte, from its products.
+/// The affine transformation (FIPS 197, 5.1.1) of the inverse of each byte, from its products, but for its constant, with
+/// which the circuit complements r1, r2, r6 and r7.
 #[inline(always)]
-fn affine_of_products(z: [u8x16; 18]) -> [u8x16; 8]
+fn linear_of_products(z: [u8x16; 18]) -> [u8x16; 8]
     ensures { (j : ℕ) → j < 16 → (k : ℕ) → k < 8 → (x : ℕ) → x < 2 ^ 8 → element 18 z j k ≡ products x
-        → octet result j k ≡ s_box x }
+        → octet result j k ≡ plus_constant (s_box x) }
 {
-    let ones = u8x16::splat(0xff);
     let t46 = add(z[15], z[16]);
     let t47 = add(z[10], z[11]);
     let t48 = add(z[5], z[13]);
@@ -176,23 +178,23 @@ fn affine_of_products(z: [u8x16; 18]) -> [u8x16; 8]
     let t65 = add(t61, t62);
     let t66 = add(z[1], t63);
     let r0 = add(t59, t63);
-    let r6 = add(t56, add(t62, ones));
-    let r7 = add(t48, add(t60, ones));
+    let r6 = add(t56, t62);
+    let r7 = add(t48, t60);
     let t67 = add(t64, t65);
     let r3 = add(t53, t66);
     let r4 = add(t51, t66);
     let r5 = add(t47, t65);
-    let r1 = add(t64, add(r3, ones));
-    let r2 = add(t55, add(t67, ones));
+    let r1 = add(t64, r3);
+    let r2 = add(t55, t67);
     [r7, r6, r5, r4, r3, r2, r1, r0]
 }
 
-/// The S-box at each byte.
+/// The S-box at each byte, but for the constant of its affine transformation.
 #[inline(always)]
-pub fn s_box(x: [u8x16; 8]) -> [u8x16; 8]
-    ensures { (j : ℕ) → j < 16 → (k : ℕ) → k < 8 → octet result j k ≡ s_box (octet x j k) }
+pub fn s_box_but_constant(x: [u8x16; 8]) -> [u8x16; 8]
+    ensures { (j : ℕ) → j < 16 → (k : ℕ) → k < 8 → octet result j k ≡ plus_constant (s_box (octet x j k)) }
 {
     let sums = sums(x);
     let inverse_of_norm = inverse(norm(sums));
-    affine_of_products(products(sums, inverse_of_norm))
+    linear_of_products(products(sums, inverse_of_norm))
 }
