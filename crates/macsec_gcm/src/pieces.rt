@@ -62,13 +62,12 @@ impl<'k> Sealer<'k> {
 
     /// The authentication tag of all pieces.
     #[inline(always)]
-    pub fn finish(self) -> [u8; 16]
+    pub fn finish(mut self) -> [u8; 16]
         ensures { (key iv aad plaintext : List ℕ) → HasSealed self.entry key iv aad plaintext
             → length aad ≤ max_aad_len → length plaintext ≤ max_plaintext_len
             → result ≡ (seal_of key iv aad plaintext).1 }
     {
-        let mut authenticator = self.authenticator;
-        authenticator.tag()
+        self.authenticator.tag()
     }
 }
 
@@ -121,7 +120,7 @@ impl<'k> Opener<'k> {
     /// What decrypts the pieces of the ciphertext, if this is the tag of all pieces; else `None`: nothing seals to
     /// them.
     #[inline(always)]
-    pub fn finish(self, tag: &[u8; 16]) -> Option<Unlocked<'k>>
+    pub fn finish(mut self, tag: &[u8; 16]) -> Option<Unlocked<'k>>
         ensures opened { (key iv aad ciphertext : List ℕ) → HasChecked self.entry key iv aad ciphertext
             → length aad ≤ max_aad_len → length ciphertext ≤ max_plaintext_len
             → IfSome result (λ unlocked. HasOpened unlocked key iv []
@@ -130,8 +129,7 @@ impl<'k> Opener<'k> {
             → length aad ≤ max_aad_len → length ciphertext ≤ max_plaintext_len
             → IfNone result (open_of key iv aad ciphertext tag.now ≡ None) }
     {
-        let mut authenticator = self.authenticator;
-        if are_same(authenticator.tag(), *tag) {
+        if are_same(self.authenticator.tag(), *tag) {
             Some(Unlocked { rest: self.stream })
         } else {
             None

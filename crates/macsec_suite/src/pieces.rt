@@ -37,9 +37,11 @@ pub fn open(key: &GcmKey, iv: &[u8; 12], aad: &[u8], text: &mut [u8], tag: &[u8;
     let mut opener = Opener::start(key, iv);
     check_aad(&mut opener, aad);
     check_text(&mut opener, text);
-    match opener.finish(tag) {
-        Some(mut unlocked) => {
-            decrypt(&mut unlocked, text);
+    // Its key stream stays in place: to move it out would copy a batch.
+    let mut finished = opener.finish(tag);
+    match &mut finished {
+        Some(unlocked) => {
+            decrypt(unlocked, text);
             true
         }
         None => false,

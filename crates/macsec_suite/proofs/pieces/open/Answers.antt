@@ -1,15 +1,21 @@
 -- All pieces were checked, so the answer is that of the whole text; if they have the tag, all of them are decrypted.
-use Rattle.std.proofs.Common.{ap, sym, ◌∙◌}
-use Rattle.std.specs.Prelude.{Some}
+use Rattle.std.proofs.Common.{ap, sym, ◌∙◌, subst}
+use Rattle.std.specs.Prelude.{◌≡◌, ℕ, List, [], Some, None, IfSome, IfNone}
+use Rattle.macsec_gcm.specs.Gcm.{open_of}
+use Rattle.macsec_gcm.specs.Pieces.{HasOpened, decrypted}
 use Rattle.macsec_suite.proofs.pieces.open.Goals as goal
 
 pub returns-in-Some-clause-gives : goal.returns-in-Some-clause-gives
 returns-in-Some-clause-gives c =
     let checked = c.check_text.ensures _ _ _ (c.check_aad.ensures _ _ c.start-opener.ensures) in
-    let opened = c.in-Some.ensures.opened _ _ _ _ checked c.requires.aad_length c.requires.text_length in
+    let opens = λ (text : List ℕ). open_of c.args.key.now c.args.iv.now c.args.aad.now c.args.text.now c.args.tag.now ≡ Some text in
+    let opened = subst (λ o. IfSome o (λ unlocked. HasOpened unlocked c.args.key.now c.args.iv.now []
+    × opens (decrypted c.args.key.now c.args.iv.now c.args.text.now))) c.in-Some.is
+    (c.finish-finished.ensures.opened _ _ _ _ checked c.requires.aad_length c.requires.text_length) in
     opened.1 ∙ ap Some (sym (c.decrypt.ensures _ _ opened.0))
 
 pub returns-in-None-clause-gives : goal.returns-in-None-clause-gives
 returns-in-None-clause-gives c =
     let checked = c.check_text.ensures _ _ _ (c.check_aad.ensures _ _ c.start-opener.ensures) in
-    c.in-None.ensures.refused _ _ _ _ checked c.requires.aad_length c.requires.text_length
+    subst (λ o. IfNone o (open_of c.args.key.now c.args.iv.now c.args.aad.now c.args.text.now c.args.tag.now ≡ None)) c.in-None.is
+    (c.finish-finished.ensures.refused _ _ _ _ checked c.requires.aad_length c.requires.text_length)
