@@ -24,25 +24,19 @@ impl RxCounters {
         }
     }
 
-    /// The counters with a frame of a verdict counted, if channels and associations count it.
-    fn with(self, verdict: Verdict) -> RxCounters
-        ensures { result ≡ count_verdict verdict self }
+    /// Counts a frame of a verdict, if channels and associations count it.
+    fn count(&mut self, verdict: Verdict)
+        ensures { self.new ≡ count_verdict verdict self.old }
     {
-        let mut counters = self;
         match verdict {
-            Verdict::Passed => counters.in_pkts_ok = self.in_pkts_ok.wrapping_add(1),
-            Verdict::Unchecked => {
-                counters.in_pkts_unchecked = self.in_pkts_unchecked.wrapping_add(1);
-            }
-            Verdict::Delayed => counters.in_pkts_delayed = self.in_pkts_delayed.wrapping_add(1),
-            Verdict::Late => counters.in_pkts_late = self.in_pkts_late.wrapping_add(1),
-            Verdict::Invalid => counters.in_pkts_invalid = self.in_pkts_invalid.wrapping_add(1),
-            Verdict::NotValid => {
-                counters.in_pkts_not_valid = self.in_pkts_not_valid.wrapping_add(1);
-            }
+            Verdict::Passed => self.in_pkts_ok = self.in_pkts_ok.wrapping_add(1),
+            Verdict::Unchecked => self.in_pkts_unchecked = self.in_pkts_unchecked.wrapping_add(1),
+            Verdict::Delayed => self.in_pkts_delayed = self.in_pkts_delayed.wrapping_add(1),
+            Verdict::Late => self.in_pkts_late = self.in_pkts_late.wrapping_add(1),
+            Verdict::Invalid => self.in_pkts_invalid = self.in_pkts_invalid.wrapping_add(1),
+            Verdict::NotValid => self.in_pkts_not_valid = self.in_pkts_not_valid.wrapping_add(1),
             _ => {}
         }
-        counters
     }
 
     /// The sums of these counters and others.
@@ -77,10 +71,9 @@ impl ChannelCounters {
     fn count(&mut self, verdict: Verdict, an: An)
         ensures { self.new ≡ count_in_channel verdict an self.old }
     {
-        let place = usize::from(an.number());
-        self.counters = self.counters.with(verdict);
-        if let Some(counters) = self.associations[place] {
-            self.associations[place] = Some(counters.with(verdict));
+        self.counters.count(verdict);
+        if let Some(counters) = &mut self.associations[usize::from(an.number())] {
+            counters.count(verdict);
         }
     }
 
