@@ -124,28 +124,43 @@ fn count_verdict(counts: &mut [u64; 12], verdict: Verdict) {
 
 impl fmt::Display for Coverage {
     fn fmt<W: fmt::Write>(&self, f: &mut fmt::Formatter<W>) -> fmt::Result {
+        self.write_lists(f)?;
+        self.write_events(f)?;
+        self.write_verdicts(f)?;
+        self.write_refusals(f)
+    }
+}
+
+impl Coverage {
+    fn write_lists<W: fmt::Write>(&self, f: &mut fmt::Formatter<W>) -> fmt::Result {
         write!(
             f,
             "lists {} for {}, steps {}: ",
             self.lists, self.stand_for, self.steps
-        )?;
-        write!(
-            f,
-            "commands done {}, link frames {}, ",
-            self.done, self.link_frames
-        )?;
-        write!(f, "seals {}, delivered {}, ", self.seals, self.delivered)?;
-        write!(
-            f,
-            "accepted as they had to be {}, drops {}, ",
-            self.accepted, self.dropped
-        )?;
-        write!(f, "faults {}\nverdicts:", self.faults)?;
+        )
+    }
+
+    fn write_events<W: fmt::Write>(&self, f: &mut fmt::Formatter<W>) -> fmt::Result {
+        write_count(f, "commands done", self.done)?;
+        write_count(f, ", link frames", self.link_frames)?;
+        write_count(f, ", seals", self.seals)?;
+        write_count(f, ", delivered", self.delivered)?;
+        write_count(f, ", accepted as they had to be", self.accepted)?;
+        write_count(f, ", drops", self.dropped)?;
+        write_count(f, ", faults", self.faults)
+    }
+
+    fn write_verdicts<W: fmt::Write>(&self, f: &mut fmt::Formatter<W>) -> fmt::Result {
+        write!(f, "\nverdicts:")?;
         for (verdict, count) in VERDICTS.iter().zip(&self.verdicts) {
             if *count > 0 {
                 write!(f, " {verdict} {count}")?;
             }
         }
+        Ok(())
+    }
+
+    fn write_refusals<W: fmt::Write>(&self, f: &mut fmt::Formatter<W>) -> fmt::Result {
         write!(f, "\nrefusals:")?;
         for (refusal, count) in REFUSALS.iter().zip(&self.refusals) {
             if *count > 0 {
@@ -154,4 +169,9 @@ impl fmt::Display for Coverage {
         }
         writeln!(f)
     }
+}
+
+/// Writes how many events were of a kind.
+fn write_count<W: fmt::Write>(f: &mut fmt::Formatter<W>, kind: &str, count: u64) -> fmt::Result {
+    write!(f, "{kind} {count}")
 }

@@ -57,7 +57,7 @@ fn report_world(
 ) -> anyhow::Result<bool> {
     let mut coverage = Coverage::new();
     let found = search_all(alloc, By::Code, scenario, depth, &mut coverage)?;
-    print_world(rt, alloc, scenario, &coverage, found)
+    print_world(rt, alloc, scenario, &coverage, found.as_ref())
 }
 
 /// Carries out so many random lists in each world.
@@ -81,7 +81,7 @@ fn report_random_world(
 ) -> anyhow::Result<bool> {
     let mut coverage = Coverage::new();
     let found = search_random(alloc, scenario, lists, RANDOM_LENGTH, random, &mut coverage)?;
-    print_world(rt, alloc, scenario, &coverage, found)
+    print_world(rt, alloc, scenario, &coverage, found.as_ref())
 }
 
 /// Prints what was gone through in a world, and what was found. Returns whether nothing was.
@@ -90,22 +90,33 @@ fn print_world(
     alloc: Global,
     scenario: Scenario,
     coverage: &Coverage,
-    found: Option<Finding>,
+    found: Option<&Finding>,
 ) -> anyhow::Result<bool> {
-    let name = scenario.name();
     let letters = scenario.alphabet(alloc)?.len();
+    print_coverage(rt, scenario, letters, coverage)?;
+    match found {
+        None => print_line(rt, "no counter-example")?,
+        Some(found) => print_finding(rt, found)?,
+    }
+    Ok(found.is_none())
+}
+
+/// Prints what was gone through in a world, whose alphabet has so many letters.
+fn print_coverage(
+    rt: &impl Print,
+    scenario: Scenario,
+    letters: usize,
+    coverage: &Coverage,
+) -> anyhow::Result<()> {
+    let name = scenario.name();
     println!(rt; "world {name}, {letters} moves")?;
     print!(rt; "{coverage}")?;
-    match found {
-        None => {
-            println!(rt; "no counter-example")?;
-            Ok(true)
-        }
-        Some(found) => {
-            print_finding(rt, &found)?;
-            Ok(false)
-        }
-    }
+    Ok(())
+}
+
+fn print_line(rt: &impl Print, line: &str) -> anyhow::Result<()> {
+    println!(rt; "{line}")?;
+    Ok(())
 }
 
 /// Prints a counter-example, its script included.
@@ -140,17 +151,37 @@ fn report_plants(rt: &impl Print, alloc: Global) -> anyhow::Result<bool> {
     println!(rt; "planted mistakes")?;
     let mut good = true;
     for plant in Plant::BREAKING {
-        let (found, lists) = find_plant(alloc, By::Planted(plant))?;
-        print_found(rt, plant, found.as_ref(), lists)?;
-        good &= report_disagreement(rt, alloc, plant, found.as_ref())?;
+        good &= report_breaking(rt, alloc, plant)?;
     }
     println!(rt; "planted mistakes beside the code")?;
     for plant in Plant::COMPARED {
-        let (found, lists) = find_plant(alloc, By::Beside(plant))?;
-        good &= found.is_some();
-        print_found(rt, plant, found.as_ref(), lists)?;
+        good &= report_compared(rt, alloc, plant)?;
     }
     Ok(good)
+}
+
+/// Looks for a mistake that breaks a promise. Returns whether it is found, and the code disagrees.
+fn report_breaking(rt: &impl Print, alloc: Global, plant: Plant) -> anyhow::Result<bool> {
+    let (found, lists) = find_plant(alloc, By::Planted(plant))?;
+    print_breaking(rt, alloc, plant, found.as_ref(), lists)
+}
+
+fn print_breaking(
+    rt: &impl Print,
+    alloc: Global,
+    plant: Plant,
+    found: Option<&Finding>,
+    lists: u64,
+) -> anyhow::Result<bool> {
+    print_found(rt, plant, found, lists)?;
+    report_disagreement(rt, alloc, plant, found)
+}
+
+/// Looks for a mistake that only the comparison with the code finds. Returns whether it is found.
+fn report_compared(rt: &impl Print, alloc: Global, plant: Plant) -> anyhow::Result<bool> {
+    let (found, lists) = find_plant(alloc, By::Beside(plant))?;
+    print_found(rt, plant, found.as_ref(), lists)?;
+    Ok(found.is_some())
 }
 
 /// Carries out a counter-example by the code and by the plain rule with the mistake beside it, and prints after how many moves
@@ -207,15 +238,23 @@ fn report_plant(rt: &impl Print, alloc: Global, name: &str) -> anyhow::Result<bo
         By::Planted(plant)
     };
     let (found, lists) = find_plant(alloc, by)?;
-    match found {
-        None => {
-            println!(rt; "{name}: not found in {lists} lists")?;
-            Ok(false)
-        }
-        Some(found) => {
-            println!(rt; "{name}: found after {lists} lists")?;
-            print_finding(rt, &found)?;
-            report_disagreement(rt, alloc, plant, Some(&found))
-        }
-    }
+    print_plant(rt, alloc, plant, found.as_ref(), lists)
+}
+
+/// Prints what one planted mistake brought about after so many lists, with the counter-example.
+fn print_plant(
+    rt: &impl Print,
+    alloc: Global,
+    plant: Plant,
+    found: Option<&Finding>,
+    lists: u64,
+) -> anyhow::Result<bool> {
+    let name = plant.name();
+    let Some(found) = found else {
+        println!(rt; "{name}: not found in {lists} lists")?;
+        return Ok(false);
+    };
+    println!(rt; "{name}: found after {lists} lists")?;
+    print_finding(rt, found)?;
+    report_disagreement(rt, alloc, plant, Some(found))
 }

@@ -3,7 +3,7 @@
 use crate::agreement::{agrees, logs_agree};
 use crate::coverage::Coverage;
 use crate::{Move, Scenario};
-use macsec_link::{End, Event, Outcome, World, WorldFault};
+use macsec_link::{End, EndConfig, Event, Outcome, World, WorldFault};
 use macsec_plain_rule::{Answer, Breach, PlainWorld, Plant, Step};
 use rand_core::utils::NextWord;
 use rand_pcg::Pcg32;
@@ -60,10 +60,7 @@ impl Run {
     fn new(alloc: Global, by: By, scenario: Scenario) -> anyhow::Result<Run> {
         let a = scenario.config(End::A);
         let b = scenario.config(End::B);
-        let world = match by {
-            By::Planted(_) => None,
-            By::Code | By::Beside(_) => Some(World::new(alloc, a, b)?),
-        };
+        let world = world_by(alloc, by, a, b)?;
         Ok(Run {
             alloc,
             by,
@@ -77,9 +74,14 @@ impl Run {
     fn step(&mut self, done: Move, coverage: &mut Coverage) -> Result<Went, AllocError> {
         let event = done.event(self.alloc, self.sent)?;
         self.sent = self.sent.wrapping_add(u8::from(done.is_send()));
-        let step = self.plain.step(&event)?;
+        self.carry_out(&event, coverage)
+    }
+
+    /// Carries out an event.
+    fn carry_out(&mut self, event: &Event, coverage: &mut Coverage) -> Result<Went, AllocError> {
+        let step = self.plain.step(event)?;
         coverage.count(&step);
-        Ok(self.compare(&event, &step))
+        Ok(self.compare(event, &step))
     }
 
     /// Carries out an event by the code, and compares what came of it.
@@ -116,6 +118,14 @@ impl Run {
     }
 }
 
+/// The world of the code, if lists are carried out by it.
+fn world_by(alloc: Global, by: By, a: EndConfig, b: EndConfig) -> anyhow::Result<Option<World>> {
+    match by {
+        By::Planted(_) => Ok(None),
+        By::Code | By::Beside(_) => Ok(Some(World::new(alloc, a, b)?)),
+    }
+}
+
 /// What comes of an event.
 fn result_of(world: &mut World, event: &Event) -> Result<Outcome, WorldFault> {
     world.step(event)
@@ -140,6 +150,16 @@ fn run_list(
     coverage: &mut Coverage,
 ) -> anyhow::Result<Ended> {
     let mut run = Run::new(alloc, by, scenario)?;
+    run_moves(&mut run, moves, leaves_idle, coverage)
+}
+
+/// The same from the beginning of a world.
+fn run_moves(
+    run: &mut Run,
+    moves: &[Move],
+    leaves_idle: bool,
+    coverage: &mut Coverage,
+) -> anyhow::Result<Ended> {
     for (place, done) in moves.iter().enumerate() {
         let went = run.step(*done, coverage)?;
         if let Some(breach) = went.breach {
@@ -181,19 +201,29 @@ pub fn disagreement(
     })
 }
 
-/// What was found after these of the moves.
+/// What was found after these of the moves, if anything was.
 fn found_after(
-    breach: Breach,
+    found: Option<(Breach, usize)>,
     scenario: Scenario,
     mut moves: Vec<Move>,
-    place: usize,
 ) -> Option<Finding> {
+    let (breach, place) = found?;
     moves.truncate(place.saturating_add(1));
     Some(Finding {
         breach,
         scenario,
         moves,
     })
+}
+
+/// A search: by what lists are carried out, the world and its alphabet, and the length of the lists.
+#[derive(Clone, Copy)]
+struct Search<'a> {
+    alloc: Global,
+    by: By,
+    scenario: Scenario,
+    alphabet: &'a [Move],
+    length: u32,
 }
 
 /// Carries out all lists of a world's alphabet of this length, and with them all shorter ones. Returns what was found first.
@@ -205,31 +235,64 @@ pub fn search_all(
     coverage: &mut Coverage,
 ) -> anyhow::Result<Option<Finding>> {
     let alphabet = scenario.alphabet(alloc)?;
-    let letters = alphabet.len() as u64;
     let mut moves = scenario.base(alloc)?;
+    let search = Search {
+        alloc,
+        by,
+        scenario,
+        alphabet: alphabet.as_slice(),
+        length: depth,
+    };
+    let found = all_lists(search, &mut moves, coverage)?;
+    Ok(found_after(found, scenario, moves))
+}
+
+/// Carries out all lists, each after these moves. Returns the first breach, with its place in the list that `moves` then has.
+fn all_lists(
+    search: Search<'_>,
+    moves: &mut Vec<Move>,
+    coverage: &mut Coverage,
+) -> anyhow::Result<Option<(Breach, usize)>> {
+    let letters = search.alphabet.len() as u64;
     let base = moves.len();
     let mut next = 0;
-    for number in 0..power(letters, depth) {
+    for number in 0..power(letters, search.length) {
         if number < next {
             continue;
         }
         moves.truncate(base);
-        push_list(&mut moves, alphabet.as_slice(), depth, number)?;
-        let ended = run_list(alloc, by, scenario, moves.as_slice(), true, coverage)?;
-        let left = match ended {
+        push_list(moves, search.alphabet, search.length, number)?;
+        let left = match carry_out(search, moves.as_slice(), true, coverage)? {
             Ended::Well => 0,
             Ended::Idle(place) => moves.len().saturating_sub(place).saturating_sub(1),
             Ended::Breach(breach, place) => {
                 coverage.count_list(1);
-                return Ok(found_after(breach, scenario, moves, place));
+                return Ok(Some((breach, place)));
             }
         };
         // The lists that begin as this one did, up to the move that changed nothing.
-        let alike = power(letters, u32::try_from(left).unwrap_or(depth));
+        let alike = power(letters, u32::try_from(left).unwrap_or(search.length));
         coverage.count_list(alike);
         next = number.saturating_add(alike);
     }
     Ok(None)
+}
+
+/// Carries out a list of a search.
+fn carry_out(
+    search: Search<'_>,
+    moves: &[Move],
+    leaves_idle: bool,
+    coverage: &mut Coverage,
+) -> anyhow::Result<Ended> {
+    run_list(
+        search.alloc,
+        search.by,
+        search.scenario,
+        moves,
+        leaves_idle,
+        coverage,
+    )
 }
 
 /// So many letters to this power, or the greatest number.
@@ -269,21 +332,51 @@ pub fn search_random(
 ) -> anyhow::Result<Option<Finding>> {
     let alphabet = scenario.alphabet(alloc)?;
     let mut moves = scenario.base(alloc)?;
+    let search = Search {
+        alloc,
+        by: By::Code,
+        scenario,
+        alphabet: alphabet.as_slice(),
+        length,
+    };
+    let found = random_lists(search, lists, &mut moves, random, coverage)?;
+    Ok(found_after(found, scenario, moves))
+}
+
+/// Carries out so many random lists, each after these moves. Returns the first breach, with its place in the list that `moves`
+/// then has.
+fn random_lists(
+    search: Search<'_>,
+    lists: u32,
+    moves: &mut Vec<Move>,
+    random: &mut Pcg32,
+    coverage: &mut Coverage,
+) -> anyhow::Result<Option<(Breach, usize)>> {
     let base = moves.len();
     for _ in 0..lists {
         moves.truncate(base);
-        for _ in 0..length {
-            if let Some(letter) = random_move(alphabet.as_slice(), random) {
-                moves.push(letter)?;
-            }
-        }
-        let ended = run_list(alloc, By::Code, scenario, moves.as_slice(), false, coverage)?;
+        push_random(search, moves, random)?;
+        let ended = carry_out(search, moves.as_slice(), false, coverage)?;
         coverage.count_list(1);
         if let Ended::Breach(breach, place) = ended {
-            return Ok(found_after(breach, scenario, moves, place));
+            return Ok(Some((breach, place)));
         }
     }
     Ok(None)
+}
+
+/// Adds a random list.
+fn push_random(
+    search: Search<'_>,
+    moves: &mut Vec<Move>,
+    random: &mut Pcg32,
+) -> Result<(), AllocError> {
+    for _ in 0..search.length {
+        if let Some(letter) = random_move(search.alphabet, random) {
+            moves.push(letter)?;
+        }
+    }
+    Ok(())
 }
 
 /// A random letter; half of those at a link frame are at a random one of the first eight.
