@@ -1,7 +1,7 @@
 //! What the tests share: two ends, their commands, and frames.
 
 use macsec_link::{
-    An, Command, End, EndConfig, Event, Frame, Key, KeyNumber, NewKey, Outcome, Sci, Suite,
+    An, Command, End, EndConfig, Event, Frame, Key, KeyNumber, NewKey, Outcome, Report, Sci, Suite,
     TagForm, Verdict, World, WorldFault,
 };
 use macsec_vectors::{KEY_128, SCI};
@@ -86,17 +86,59 @@ pub fn frame(alloc: Global, octets: &[u8]) -> Result<Frame, Fail> {
     Ok(Frame::new(octets.to_vec(alloc)?))
 }
 
+/// Two ends of these configurations.
+pub fn world_of(alloc: Global, a: EndConfig, b: EndConfig) -> Result<World, WorldFault> {
+    World::new(alloc, a, b)
+}
+
+/// What comes of a run.
+pub fn run_of(
+    alloc: Global,
+    a: EndConfig,
+    b: EndConfig,
+    events: &[Event],
+) -> Result<Report, WorldFault> {
+    World::run(alloc, a, b, events)
+}
+
 /// What comes of an event.
 pub fn result_of(world: &mut World, event: &Event) -> Result<Outcome, WorldFault> {
     world.step(event)
 }
 
-/// Two ends with an association between them, from A to B. The receiver is in Strict with a replay window of 0, as
-/// every endpoint is at first.
-pub fn associated(rt: &impl Abort, alloc: Global, protection: Protection) -> Result<World, Fail> {
-    let Protection { suite, conf } = protection;
+/// Is the link frame of this number created?
+pub fn is_made(got: &Result<Outcome, WorldFault>, n: u32) -> bool {
+    matches!(got, Ok(Outcome::Made(made)) if *made == n)
+}
+
+/// An event happens, by which the link frame of this number is created.
+pub fn make(rt: &impl Abort, world: &mut World, event: &Event, n: u32) {
+    let got = result_of(world, event);
+    assert!(rt; is_made(&got, n));
+}
+
+/// A client of A sends a frame with this last octet, which is the link frame of this number.
+pub fn send(
+    rt: &impl Abort,
+    alloc: Global,
+    world: &mut World,
+    last: u8,
+    n: u32,
+) -> Result<(), Fail> {
+    let event = Event::Send(End::A, frame(alloc, &client(last))?);
+    make(rt, world, &event, n);
+    Ok(())
+}
+
+/// A command is carried out.
+fn carry_out(rt: &impl Abort, world: &mut World, end: End, command: Command) {
+    let got = result_of(world, &Event::Command(end, command));
+    assert!(rt; matches!(&got, Ok(Outcome::Done)));
+}
+
+/// An association between two ends, from A to B.
+fn associate(rt: &impl Abort, world: &mut World, conf: bool) {
     let an = an(rt, 0);
-    let mut world = World::new(alloc, EndConfig { suite, ..A }, EndConfig { suite, ..B })?;
     for (end, command) in [
         (End::A, key(0, 1)),
         (End::A, tx_sa(an, 0, conf)),
@@ -106,9 +148,16 @@ pub fn associated(rt: &impl Abort, alloc: Global, protection: Protection) -> Res
         (End::B, rx_sa(an, 0, 1)),
         (End::B, Command::RxOn(A.sci, an)),
     ] {
-        let done = result_of(&mut world, &Event::Command(end, command))?;
-        assert!(rt; matches!(done, Outcome::Done));
+        carry_out(rt, world, end, command);
     }
+}
+
+/// Two ends with an association between them, from A to B. The receiver is in Strict with a replay window of 0, as
+/// every endpoint is at first.
+pub fn associated(rt: &impl Abort, alloc: Global, protection: Protection) -> Result<World, Fail> {
+    let Protection { suite, conf } = protection;
+    let mut world = world_of(alloc, EndConfig { suite, ..A }, EndConfig { suite, ..B })?;
+    associate(rt, &mut world, conf);
     Ok(world)
 }
 

@@ -1,6 +1,6 @@
 //! Ten frames over a link that repeats them, turns their order round and alters them.
 
-use crate::fixture::{Protection, associated, client, frame, key_number, result_of, verdict_on};
+use crate::fixture::{Protection, associated, client, key_number, result_of, send, verdict_on};
 use macsec_link::{End, Event, Outcome, Suite, Verdict, World};
 use std::alloc::Global;
 use std::process::Abort;
@@ -26,8 +26,7 @@ enum Way {
 /// The frames are sent, and are the first ones on the link.
 fn send_all(rt: &impl Abort, alloc: Global, world: &mut World) -> Result<(), Fail> {
     for last in 0..10 {
-        let sent = result_of(world, &Event::Send(End::A, frame(alloc, &client(last))?))?;
-        assert!(rt; matches!(sent, Outcome::Made(n) if n == u32::from(last)));
+        send(rt, alloc, world, last, u32::from(last))?;
     }
     Ok(())
 }
@@ -101,7 +100,7 @@ fn deliver_altered(
 
 /// An octet of a link frame.
 fn octet_at(world: &World, n: u32, place: u32) -> Option<u8> {
-    world.frame(n)?.get(usize::try_from(place).ok()?).copied()
+    world.frame(n)?.get(place as usize).copied()
 }
 
 /// The link brings the frames in one way to a receiver with this lowest acceptable packet number.
@@ -180,9 +179,21 @@ fn check_ways(
     lasts: &[u8],
 ) -> Result<(), Fail> {
     let mut world = associated(rt, alloc, protection)?;
-    send_all(rt, alloc, &mut world)?;
-    bring_all(rt, &mut world, protection.conf, ways)?;
-    assert_delivered(rt, &world, lasts);
+    check_over(rt, alloc, &mut world, protection.conf, ways, lasts)
+}
+
+/// So it is over this association.
+fn check_over(
+    rt: &impl Abort,
+    alloc: Global,
+    world: &mut World,
+    conf: bool,
+    ways: &[Way],
+    lasts: &[u8],
+) -> Result<(), Fail> {
+    send_all(rt, alloc, world)?;
+    bring_all(rt, world, conf, ways)?;
+    assert_delivered(rt, world, lasts);
     Ok(())
 }
 

@@ -1,6 +1,9 @@
 //! A full link, and the creation of a world.
 
-use crate::fixture::{A, B, Protection, an, associated, client, frame, result_of, verdict_on};
+use crate::fixture::{
+    A, B, Protection, an, associated, client, frame, make, result_of, run_of, send, verdict_on,
+    world_of,
+};
 use macsec_link::{
     End, EndConfig, Event, NewFault, Outcome, Suite, TagForm, Verdict, World, WorldFault,
 };
@@ -8,6 +11,16 @@ use macsec_secy::{Counters, RxCounters, RxRow, TxCounters, TxRow};
 use std::alloc::Global;
 use std::process::Abort;
 use std::test::Fail;
+
+/// The fault of a world of these ends.
+fn fault_of_new(alloc: Global, a: EndConfig, b: EndConfig) -> Option<WorldFault> {
+    world_of(alloc, a, b).err()
+}
+
+/// The fault of a run of these ends without an event.
+fn fault_of_run(alloc: Global, a: EndConfig, b: EndConfig) -> Option<WorldFault> {
+    run_of(alloc, a, b, &[]).err()
+}
 
 /// A's fault comes before B's.
 #[test]
@@ -24,45 +37,43 @@ fn creations(rt: HostRuntime) {
         (A, small_b, End::B, NewFault::MaxFrame),
     ] {
         let wanted = Some(WorldFault::Make(end, fault));
-        assert_eq!(rt; World::new(rt.alloc(), a, b).err(), wanted);
-        assert_eq!(rt; World::run(rt.alloc(), a, b, &[]).err(), wanted);
+        assert!(rt; fault_of_new(rt.alloc(), a, b) == wanted);
+        assert!(rt; fault_of_run(rt.alloc(), a, b) == wanted);
     }
 }
 
-/// Is the link frame of this number created?
-fn is_made(got: &Result<Outcome, WorldFault>, n: u32) -> bool {
-    matches!(got, Ok(Outcome::Made(made)) if *made == n)
+/// A frame of one octet is put on the link, and has this number.
+fn inject(rt: &impl Abort, alloc: Global, world: &mut World, n: u32) -> Result<(), Fail> {
+    let event = Event::Inject(frame(alloc, &[0])?);
+    make(rt, world, &event, n);
+    Ok(())
 }
 
-/// Two ends with an association, over which a frame has passed, and whose link has 65,536 frames: that one, and 65,535
-/// of one octet.
-fn full_world(rt: &impl Abort, alloc: Global) -> Result<World, Fail> {
-    let protection = Protection {
-        suite: Suite::Gcm128,
-        conf: true,
-    };
-    let mut world = associated(rt, alloc, protection)?;
-    let sent = result_of(&mut world, &Event::Send(End::A, frame(alloc, &client(0))?));
-    assert!(rt; is_made(&sent, 0));
-    let passed = verdict_on(rt, &mut world, 0)?;
+/// A frame passes over the association, and the link then has 65,536 frames: that one, and 65,535 of one octet.
+fn fill(rt: &impl Abort, alloc: Global, world: &mut World) -> Result<(), Fail> {
+    send(rt, alloc, world, 0, 0)?;
+    let passed = verdict_on(rt, world, 0)?;
     assert!(rt; passed == (Verdict::Passed, true));
     for n in 1..65536 {
-        let event = Event::Inject(frame(alloc, &[0])?);
-        let got = result_of(&mut world, &event);
-        assert!(rt; is_made(&got, n));
+        inject(rt, alloc, world, n)?;
     }
-    Ok(world)
+    Ok(())
+}
+
+/// Is this the fault of an event?
+fn is_fault(got: &Result<Outcome, WorldFault>, fault: WorldFault) -> bool {
+    matches!(got, Err(found) if *found == fault)
 }
 
 /// None of these events happens, for the reason beside it.
 fn assert_faults(rt: &impl Abort, world: &mut World, events: &[(Event, WorldFault)]) {
     for (event, fault) in events {
-        assert_eq!(rt; result_of(world, event).err(), Some(*fault));
+        assert!(rt; is_fault(&result_of(world, event), *fault));
     }
 }
 
 /// What an end shows: its counters, and the packet numbers of the association.
-#[derive(Clone, Copy, PartialEq, Eq, Debug)]
+#[derive(Clone, Copy, PartialEq, Eq)]
 struct Shown {
     counters: Counters,
     tx_counters: TxCounters,
@@ -86,24 +97,20 @@ fn state_of(rt: &impl Abort, world: &World, end: End) -> Shown {
 }
 
 /// One frame was encrypted at A, and passed at B.
-fn assert_counted(rt: &impl Abort, a: Shown, b: Shown) {
-    assert_eq!(rt; a.tx_counters.out_pkts_encrypted, 1);
-    assert_eq!(rt; a.tx_row.map(|row| row.next), Some(2));
-    assert_eq!(rt; b.rx_counters.map(|counters| counters.in_pkts_ok), Some(1));
-    assert_eq!(rt; b.rx_sa_counters, b.rx_counters);
-    assert_eq!(rt; b.rx_row.map(|row| row.next), Some(2));
+fn assert_counted(rt: &impl Abort, a: &Shown, b: &Shown) {
+    assert!(rt; a.tx_counters.out_pkts_encrypted == 1);
+    assert!(rt; matches!(a.tx_row, Some(row) if row.next == 2));
+    assert!(rt; matches!(b.rx_counters, Some(counters) if counters.in_pkts_ok == 1));
+    assert!(rt; b.rx_sa_counters == b.rx_counters);
+    assert!(rt; matches!(b.rx_row, Some(row) if row.next == 2));
 }
 
-/// Each fault in its order, and no counter changes, nor a packet number.
-#[test]
-fn full_link(rt: HostRuntime) -> Result<(), Fail> {
-    let mut world = full_world(&rt, rt.alloc())?;
-    let (a, b) = (state_of(&rt, &world, End::A), state_of(&rt, &world, End::B));
-    assert_counted(&rt, a, b);
-    let nothing = frame(rt.alloc(), &[])?;
-    let octet = frame(rt.alloc(), &[0])?;
-    let controlled = frame(rt.alloc(), &client(0))?;
-    let uncontrolled = frame(rt.alloc(), &client(0))?;
+/// Each fault of a full link, in its order.
+fn assert_full(rt: &impl Abort, alloc: Global, world: &mut World) -> Result<(), Fail> {
+    let nothing = frame(alloc, &[])?;
+    let octet = frame(alloc, &[0])?;
+    let controlled = frame(alloc, &client(0))?;
+    let uncontrolled = frame(alloc, &client(0))?;
     let events = [
         (Event::Inject(octet), WorldFault::LinkFull),
         (Event::Inject(nothing), WorldFault::Short),
@@ -118,8 +125,32 @@ fn full_link(rt: HostRuntime) -> Result<(), Fail> {
             WorldFault::LinkFull,
         ),
     ];
-    assert_faults(&rt, &mut world, &events);
-    assert_eq!(rt; state_of(&rt, &world, End::A), a);
-    assert_eq!(rt; state_of(&rt, &world, End::B), b);
+    assert_faults(rt, world, &events);
     Ok(())
+}
+
+/// Is this what the ends show?
+fn are_shown(rt: &impl Abort, world: &World, a: &Shown, b: &Shown) -> bool {
+    state_of(rt, world, End::A) == *a && state_of(rt, world, End::B) == *b
+}
+
+/// Two ends with an association, over a full link: no fault changes a counter, nor a packet number.
+fn check_full(rt: &impl Abort, alloc: Global, world: &mut World) -> Result<(), Fail> {
+    fill(rt, alloc, world)?;
+    let (a, b) = (state_of(rt, world, End::A), state_of(rt, world, End::B));
+    assert_counted(rt, &a, &b);
+    assert_full(rt, alloc, world)?;
+    assert!(rt; are_shown(rt, world, &a, &b));
+    Ok(())
+}
+
+/// Each fault in its order, and no counter changes, nor a packet number.
+#[test]
+fn full_link(rt: HostRuntime) -> Result<(), Fail> {
+    let protection = Protection {
+        suite: Suite::Gcm128,
+        conf: true,
+    };
+    let mut world = associated(&rt, rt.alloc(), protection)?;
+    check_full(&rt, rt.alloc(), &mut world)
 }

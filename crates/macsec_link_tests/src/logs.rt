@@ -1,6 +1,6 @@
 //! A whole run, and what was sent under each key and delivered from each association.
 
-use crate::fixture::{self, A, B, an, client, frame};
+use crate::fixture::{self, A, B, an, client, frame, run_of};
 use macsec_link::{An, Command, End, Event, Outcome, Report, Verdict, World, WorldFault};
 use std::alloc::Global;
 use std::process::Abort;
@@ -75,41 +75,76 @@ fn rx_sa(an: An, key: u8) -> Wanted {
     Wanted::Done(End::B, fixture::rx_sa(an, key, 0))
 }
 
+/// A receive association of this number is created at B, under this key, and taken into use.
+fn receiving(an: An, key: u8) -> [Wanted; 2] {
+    [
+        rx_sa(an, key),
+        Wanted::Done(End::B, Command::RxOn(A.sci, an)),
+    ]
+}
+
+/// A key for both ends, and an association of this number under it at A, which is taken into use.
+fn sending(an: An, number: u8) -> [Wanted; 4] {
+    [
+        key(End::A, number),
+        tx_sa(an, number),
+        Wanted::Done(End::A, Command::TxOn(an)),
+        key(End::B, number),
+    ]
+}
+
+/// Events behind others.
+fn push_all(all: &mut Vec<Wanted>, more: &[Wanted]) -> Result<(), Fail> {
+    for wanted in more {
+        all.push(*wanted)?;
+    }
+    Ok(())
+}
+
+/// The first association, from A to B.
+fn push_first(all: &mut Vec<Wanted>, first: An) -> Result<(), Fail> {
+    push_all(all, &sending(first, 0))?;
+    push_all(all, &[Wanted::Done(End::B, Command::RxSc(A.sci))])?;
+    push_all(all, &receiving(first, 0))
+}
+
+/// What passes over the first association of the run.
+const OF_FIRST: [Wanted; 5] = [
+    Wanted::Sent(0),
+    Wanted::Sent(1),
+    Wanted::Passed(0, 0),
+    Wanted::Passed(1, 1),
+    Wanted::Late(0),
+];
+
+/// What passes over the second one, before it is created again.
+const OF_SECOND: [Wanted; 3] = [
+    Wanted::Sent(2),
+    Wanted::Passed(2, 2),
+    Wanted::SentUncontrolled(3),
+];
+
+/// The events of `rollover`.
+fn push_rollover(all: &mut Vec<Wanted>, first: An, second: An) -> Result<(), Fail> {
+    push_first(all, first)?;
+    push_all(all, &OF_FIRST)?;
+    push_all(all, &sending(second, 1))?;
+    push_all(all, &receiving(second, 1))?;
+    push_all(all, &OF_SECOND)?;
+    push_all(all, &[Wanted::Done(End::B, Command::RxDel(A.sci, second))])?;
+    push_all(all, &receiving(second, 1))?;
+    push_all(all, &[Wanted::Passed(2, 2)])
+}
+
 /// The sender goes over to another association under another key, and its receiver with it. A receive association
 /// that is created again begins a new log. A late frame and a frame of the uncontrolled port's client are in none.
 #[test]
 fn rollover(rt: HostRuntime) -> Result<(), Fail> {
-    let first = an(&rt, 0);
-    let second = an(&rt, 1);
-    let table = [
-        key(End::A, 0),
-        tx_sa(first, 0),
-        Wanted::Done(End::A, Command::TxOn(first)),
-        key(End::B, 0),
-        Wanted::Done(End::B, Command::RxSc(A.sci)),
-        rx_sa(first, 0),
-        Wanted::Done(End::B, Command::RxOn(A.sci, first)),
-        Wanted::Sent(0),
-        Wanted::Sent(1),
-        Wanted::Passed(0, 0),
-        Wanted::Passed(1, 1),
-        Wanted::Late(0),
-        key(End::A, 1),
-        tx_sa(second, 1),
-        Wanted::Done(End::A, Command::TxOn(second)),
-        key(End::B, 1),
-        rx_sa(second, 1),
-        Wanted::Done(End::B, Command::RxOn(A.sci, second)),
-        Wanted::Sent(2),
-        Wanted::Passed(2, 2),
-        Wanted::SentUncontrolled(3),
-        Wanted::Done(End::B, Command::RxDel(A.sci, second)),
-        rx_sa(second, 1),
-        Wanted::Done(End::B, Command::RxOn(A.sci, second)),
-        Wanted::Passed(2, 2),
-    ];
-    let world = world_after(&rt, rt.alloc(), &table)?;
-    assert_logs(&rt, &world);
+    let mut all = Vec::new(rt.alloc());
+    push_rollover(&mut all, an(&rt, 0), an(&rt, 1))?;
+    let report = report_of(rt.alloc(), all.as_slice())?;
+    assert_results(&rt, report.results.as_slice(), all.as_slice());
+    assert_logs(&rt, &report.world);
     Ok(())
 }
 
@@ -119,34 +154,29 @@ fn replay(protect: bool, window: u64) -> Wanted {
 }
 
 /// Frames 0 to 2 are sent, and delivered at B with these results under this option.
+fn push_order(
+    all: &mut Vec<Wanted>,
+    first: An,
+    option: Wanted,
+    deliveries: &[Wanted],
+) -> Result<(), Fail> {
+    push_all(all, &[option])?;
+    push_first(all, first)?;
+    push_all(all, &[Wanted::Sent(0), Wanted::Sent(1), Wanted::Sent(2)])?;
+    push_all(all, deliveries)
+}
+
+/// So it is in a run.
 fn assert_order(
     rt: &impl Abort,
     alloc: Global,
     option: Wanted,
     deliveries: &[Wanted],
 ) -> Result<(), Fail> {
-    let first = an(rt, 0);
-    let before = [
-        key(End::A, 0),
-        tx_sa(first, 0),
-        Wanted::Done(End::A, Command::TxOn(first)),
-        option,
-        key(End::B, 0),
-        Wanted::Done(End::B, Command::RxSc(A.sci)),
-        rx_sa(first, 0),
-        Wanted::Done(End::B, Command::RxOn(A.sci, first)),
-        Wanted::Sent(0),
-        Wanted::Sent(1),
-        Wanted::Sent(2),
-    ];
     let mut all = Vec::new(alloc);
-    for wanted in &before {
-        all.push(*wanted)?;
-    }
-    for wanted in deliveries {
-        all.push(*wanted)?;
-    }
-    let _world = world_after(rt, alloc, all.as_slice())?;
+    push_order(&mut all, an(rt, 0), option, deliveries)?;
+    let report = report_of(alloc, all.as_slice())?;
+    assert_results(rt, report.results.as_slice(), all.as_slice());
     Ok(())
 }
 
@@ -177,23 +207,27 @@ fn orders(rt: HostRuntime) -> Result<(), Fail> {
     assert_order(&rt, rt.alloc(), replay(true, 1), &inside)
 }
 
-/// The report of a run of these events.
-fn report_of(alloc: Global, all: &[Wanted]) -> Result<Report, Fail> {
+/// These events.
+fn events_of(alloc: Global, all: &[Wanted]) -> Result<Vec<Event>, Fail> {
     let mut events = Vec::new(alloc);
     for wanted in all {
         events.push(event_of(alloc, *wanted)?)?;
     }
-    Ok(World::run(alloc, A, B, events.as_slice())?)
+    Ok(events)
 }
 
-/// The world after a run of these events, each of which has the result that is wanted.
-fn world_after(rt: &impl Abort, alloc: Global, all: &[Wanted]) -> Result<World, Fail> {
-    let report = report_of(alloc, all)?;
-    assert_eq!(rt; report.results.len(), all.len());
-    for (got, wanted) in report.results.iter().zip(all) {
+/// The report of a run of these events.
+fn report_of(alloc: Global, all: &[Wanted]) -> Result<Report, Fail> {
+    let events = events_of(alloc, all)?;
+    Ok(run_of(alloc, A, B, events.as_slice())?)
+}
+
+/// Each event has the result that is wanted.
+fn assert_results(rt: &impl Abort, results: &[Result<Outcome, WorldFault>], all: &[Wanted]) {
+    assert_eq!(rt; results.len(), all.len());
+    for (got, wanted) in results.iter().zip(all) {
         assert!(rt; is_wanted(got, *wanted));
     }
-    Ok(report.world)
 }
 
 /// Are these the frames of a log, by their last octets?
@@ -209,35 +243,35 @@ fn is_log(log: Option<&[Vec<u8>]>, clients: Option<&[u8]>) -> bool {
     }
 }
 
+/// These were sent under a key.
+fn assert_sent(rt: &impl Abort, world: &World, end: End, key: u8, clients: &[u8]) {
+    let log = world.sent(end, fixture::key_number(key));
+    assert!(rt; is_log(Some(log), Some(clients)), "sent under {key}");
+}
+
+/// These were delivered from an association.
+fn assert_delivered(
+    rt: &impl Abort,
+    world: &World,
+    end: End,
+    number: usize,
+    clients: Option<&[u8]>,
+) {
+    let log = world.delivered(end, number);
+    assert!(rt; is_log(log, clients), "delivered from {number}");
+}
+
 /// The logs of both ends, and the link frame of the uncontrolled port's client.
 fn assert_logs(rt: &impl Abort, world: &World) {
-    let octets = [0, 1, 2];
-    for (end, key, clients) in [
-        (End::A, 0, &octets[..2]),
-        (End::A, 1, &octets[2..]),
-        (End::A, 2, &octets[..0]),
-        (End::B, 0, &octets[..0]),
-    ] {
-        assert!(rt;
-            is_log(
-                Some(world.sent(end, fixture::key_number(key))),
-                Some(clients)
-            ),
-            "sent under {key}"
-        );
-    }
-    for (end, number, clients) in [
-        (End::B, 0, Some(&octets[..2])),
-        (End::B, 1, Some(&octets[2..])),
-        (End::B, 2, Some(&octets[2..])),
-        (End::B, 3, None),
-        (End::A, 0, None),
-    ] {
-        assert!(rt;
-            is_log(world.delivered(end, number), clients),
-            "delivered from {number}"
-        );
-    }
+    assert_sent(rt, world, End::A, 0, &[0, 1]);
+    assert_sent(rt, world, End::A, 1, &[2]);
+    assert_sent(rt, world, End::A, 2, &[]);
+    assert_sent(rt, world, End::B, 0, &[]);
+    assert_delivered(rt, world, End::B, 0, Some(&[0, 1]));
+    assert_delivered(rt, world, End::B, 1, Some(&[2]));
+    assert_delivered(rt, world, End::B, 2, Some(&[2]));
+    assert_delivered(rt, world, End::B, 3, None);
+    assert_delivered(rt, world, End::A, 0, None);
     assert_eq!(rt; world.frame(3), Some(client(3).as_slice()));
     assert_eq!(rt; world.frame(4), None);
 }
