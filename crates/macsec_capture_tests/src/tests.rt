@@ -304,49 +304,77 @@ const ROWS: [Row; 12] = [
     (Direction::Validate, &["# no end\n"], &[], &[], &[], "Ends"),
 ];
 
-/// The run of a row writes and prints what it wants, and ends as it wants.
-fn check_row(rt: &impl Abort, alloc: Global, row: Row) -> Result<(), Fail> {
-    let (direction, config, input, output, text, fault) = row;
-    let config = joined(alloc, config)?;
-    let input = octets(alloc, input)?;
-    let run = outcome(alloc, direction, config.as_str(), input.as_slice());
-    assert_eq!(rt; run.fault, fault);
-    check_text(rt, run.text.as_slice(), joined(alloc, text)?.as_str());
-    let written = hex::encode(alloc, run.output.as_slice())?;
-    let wanted = joined(alloc, output)?;
-    assert!(rt;
-        is_as_wanted(written.as_bytes(), wanted.as_bytes()),
-        "{written}"
-    );
+/// Is what was written these pieces of hex, in which a question mark is any digit?
+fn is_written(alloc: Global, output: &[u8], pieces: &[&str]) -> Result<bool, Fail> {
+    let written = hex::encode(alloc, output)?;
+    let wanted = joined(alloc, pieces)?;
+    Ok(is_as_wanted(written.as_bytes(), wanted.as_bytes()))
+}
+
+/// These pieces of text were printed.
+fn check_text(rt: &impl Abort, alloc: Global, text: &[u8], pieces: &[&str]) -> Result<(), Fail> {
+    let wanted = joined(alloc, pieces)?;
+    assert_eq!(rt; text, wanted.as_bytes());
     Ok(())
 }
 
-/// This text was printed.
-fn check_text(rt: &impl Abort, text: &[u8], wanted: &str) {
-    assert_eq!(rt; text, wanted.as_bytes());
+/// The run over a configuration and a capture file in pieces.
+fn run_of(
+    alloc: Global,
+    direction: Direction,
+    config: &[&str],
+    input: &[&str],
+) -> Result<Run, Fail> {
+    let config = joined(alloc, config)?;
+    let input = octets(alloc, input)?;
+    Ok(outcome(alloc, direction, config.as_str(), input.as_slice()))
+}
+
+/// A run writes and prints what a row wants, and ends as it wants.
+fn check_run(rt: &impl Abort, alloc: Global, run: &Run, row: &Row) -> Result<(), Fail> {
+    let (_, _, _, output, text, fault) = *row;
+    assert_eq!(rt; run.fault, fault);
+    check_text(rt, alloc, run.text.as_slice(), text)?;
+    assert!(rt; is_written(alloc, run.output.as_slice(), output)?);
+    Ok(())
+}
+
+/// The runs of rows.
+fn check_rows(rt: &impl Abort, alloc: Global, rows: &[Row]) -> Result<(), Fail> {
+    for row in rows {
+        let (direction, config, input, _, _, _) = *row;
+        let run = run_of(alloc, direction, config, input)?;
+        check_run(rt, alloc, &run, row)?;
+    }
+    Ok(())
 }
 
 /// Captures that end well, that end with a fault of the input's format, and with one of the configuration: what was
 /// written before it stays, and there are no counters.
 #[test]
 fn captures(rt: HostRuntime) -> Result<(), Fail> {
-    for row in ROWS {
-        check_row(&rt, rt.alloc(), row)?;
-    }
-    Ok(())
+    check_rows(&rt, rt.alloc(), &ROWS)
+}
+
+/// So it is with this capture file.
+fn check_back(rt: &impl Abort, alloc: Global, input: &[u8]) -> Result<(), Fail> {
+    let sent = outcome(alloc, Direction::Protect, SENDER, input);
+    let back = outcome(alloc, Direction::Validate, RECEIVER, sent.output.as_slice());
+    assert_back(rt, alloc, &back, input)
+}
+
+/// A run ends well with these client frames.
+fn assert_back(rt: &impl Abort, alloc: Global, back: &Run, input: &[u8]) -> Result<(), Fail> {
+    assert_eq!(rt; back.fault, "");
+    assert_eq!(rt; back.output.as_slice(), input);
+    let lines = "record 0 OK 14\nrecord 1 OK 14\n";
+    let wanted = [RECEIVER_DONE, lines, TWO_IN, NONE_OUT, CHANNEL];
+    check_text(rt, alloc, back.text.as_slice(), &wanted)
 }
 
 /// What was protected is validated by the endpoint at the other end, and gives the client frames.
 #[test]
 fn there_and_back(rt: HostRuntime) -> Result<(), Fail> {
-    let alloc = rt.alloc();
-    let input = octets(alloc, &[MICRO, RECORD, RECORD])?;
-    let sent = outcome(alloc, Direction::Protect, SENDER, input.as_slice());
-    let back = outcome(alloc, Direction::Validate, RECEIVER, sent.output.as_slice());
-    let lines = "record 0 OK 14\nrecord 1 OK 14\n";
-    let wanted = joined(alloc, &[RECEIVER_DONE, lines, TWO_IN, NONE_OUT, CHANNEL])?;
-    assert_eq!(&rt; back.fault, "");
-    check_text(&rt, back.text.as_slice(), wanted.as_str());
-    assert_eq!(&rt; back.output.as_slice(), input.as_slice());
-    Ok(())
+    let input = octets(rt.alloc(), &[MICRO, RECORD, RECORD])?;
+    check_back(&rt, rt.alloc(), input.as_slice())
 }
