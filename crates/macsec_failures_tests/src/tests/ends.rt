@@ -6,56 +6,84 @@ use macsec_files::{
     CapturePaths, Direction, Failure, PcapFault, ScriptFault, capture_named, open_stand_ins,
     run_named, tell,
 };
-use std::alloc::Global;
-use std::fs;
+use std::alloc::{AllocError, Global};
 use std::process::Abort;
 use std::test::Fail;
+use std::{fs, io};
+
+/// The status of a failure that is told to this device, and whether its line is written.
+fn told_to(device: &mut FailingWriter, failure: Failure<'_>) -> (u8, bool) {
+    let (status, done) = tell(device, Err(failure));
+    (status, done.is_ok())
+}
 
 /// A failure is this line, written with one call, and has this status, on a full device too.
 fn check_line(rt: &impl Abort, alloc: Global, failure: Failure<'_>, wanted: (u8, &str)) {
+    let (status, text) = wanted;
     let mut line = FailingWriter::new(alloc, Fails::Never, false);
-    let (status, done) = tell(&mut line, Err(failure));
-    assert!(rt; done.is_ok());
-    assert_eq!(rt; (status, line.written()), (wanted.0, wanted.1.as_bytes()));
-    assert_eq!(rt; line.calls(), 1, "{failure}");
     let mut full = FailingWriter::new(alloc, Fails::From(0), false);
-    let (status, done) = tell(&mut full, Err(failure));
-    assert!(rt; done.is_err());
-    assert_eq!(rt; status, wanted.0);
+    let on_line = told_to(&mut line, failure);
+    let on_full = told_to(&mut full, failure);
+    assert!(rt;
+        on_line == (status, true) && on_full == (status, false),
+        "{failure}"
+    );
+    assert_line(rt, &line, text);
+}
+
+/// This line was written with one call.
+fn assert_line(rt: &impl Abort, line: &FailingWriter, text: &str) {
+    assert_eq!(rt; line.written(), text.as_bytes());
+    assert_eq!(rt; line.calls(), 1, "{text}");
+}
+
+/// Failures with their statuses and lines.
+const LINES: [(Failure<'static>, u8, &str); 5] = [
+    (Failure::Usage, 2, "macsec: usage\n"),
+    (
+        Failure::CannotOpen("no/such"),
+        1,
+        "macsec: cannot open no/such\n",
+    ),
+    (
+        Failure::Script(ScriptFault::Hex(65536)),
+        2,
+        "macsec: line 65536: Hex\n",
+    ),
+    (Failure::Script(ScriptFault::Memory), 1, "macsec: Memory\n"),
+    (
+        Failure::Pcap(PcapFault::RecordLength),
+        1,
+        "macsec: pcap RecordLength\n",
+    ),
+];
+
+/// A long path, in 4,096 octets.
+fn long_path(alloc: Global) -> Result<String, AllocError> {
+    let mut longest = String::new(alloc);
+    for _ in 0..4096 {
+        longest.push_str("p")?;
+    }
+    Ok(longest)
+}
+
+/// The line of a path that can't be opened.
+fn line_of_path(alloc: Global, path: &str) -> Result<String, AllocError> {
+    let mut line = String::new(alloc);
+    push_all(&mut line, &["macsec: cannot open ", path, "\n"])?;
+    Ok(line)
 }
 
 /// Each failure is one line, and is written with one call; a status needs no line.
 #[test]
 fn lines_are_written_at_once(rt: HostRuntime) -> Result<(), Fail> {
-    let alloc = rt.alloc();
-    let mut longest = String::new(alloc);
-    for _ in 0..4096 {
-        longest.push_str("p")?;
+    for (failure, status, told) in LINES {
+        check_line(&rt, rt.alloc(), failure, (status, told));
     }
-    let mut line = String::new(alloc);
-    push_all(&mut line, &["macsec: cannot open ", longest.as_str(), "\n"])?;
-    for (failure, status, told) in [
-        (Failure::Usage, 2, "macsec: usage\n"),
-        (
-            Failure::CannotOpen("no/such"),
-            1,
-            "macsec: cannot open no/such\n",
-        ),
-        (Failure::CannotOpen(longest.as_str()), 1, line.as_str()),
-        (
-            Failure::Script(ScriptFault::Hex(65536)),
-            2,
-            "macsec: line 65536: Hex\n",
-        ),
-        (Failure::Script(ScriptFault::Memory), 1, "macsec: Memory\n"),
-        (
-            Failure::Pcap(PcapFault::RecordLength),
-            1,
-            "macsec: pcap RecordLength\n",
-        ),
-    ] {
-        check_line(&rt, alloc, failure, (status, told));
-    }
+    let path = long_path(rt.alloc())?;
+    let line = line_of_path(rt.alloc(), path.as_str())?;
+    let failure = Failure::CannotOpen(path.as_str());
+    check_line(&rt, rt.alloc(), failure, (1, line.as_str()));
     Ok(())
 }
 
@@ -71,15 +99,22 @@ fn end_of_script(rt: &HostRuntime, script: &str) -> (u8, Vec<u8>) {
     (status, told)
 }
 
+/// A run has this status, and this is told.
+fn assert_told(rt: &impl Abort, (status, told): (u8, &[u8]), (wanted, line): (u8, &str)) {
+    assert_eq!(rt; status, wanted, "{line}");
+    assert_eq!(rt; told, line.as_bytes());
+}
+
 /// A flush that fails is told, but not in place of the run's own fault.
 #[test]
 fn flushes_of_scripts_that_fail(rt: HostRuntime) {
-    let (status, told) = end_of_script(&rt, SCRIPT);
-    assert_eq!(&rt; status, 1);
-    assert_eq!(&rt; told.as_slice(), "macsec: Write\n".as_bytes());
-    let (status, told) = end_of_script(&rt, "frob\n");
-    assert_eq!(&rt; status, 2);
-    assert_eq!(&rt; told.as_slice(), "macsec: line 1: Word\n".as_bytes());
+    for (script, wanted) in [
+        (SCRIPT, (1, "macsec: Write\n")),
+        ("frob\n", (2, "macsec: line 1: Word\n")),
+    ] {
+        let (status, told) = end_of_script(&rt, script);
+        assert_told(&rt, (status, told.as_slice()), wanted);
+    }
 }
 
 /// How a capture ends that is written to this file, and whose text's flush fails if it is to: its status, what is told,
@@ -108,28 +143,54 @@ fn end_of_capture(
     (status, told, text.written().ends_with(last.as_bytes()))
 }
 
+/// Writes a file of this name.
+fn write_file(rt: &HostRuntime, name: &str, octets: &[u8]) -> io::Result<()> {
+    fs::write(rt, name, octets)
+}
+
+/// Writes the configurations and the capture files.
+fn write_files(rt: &HostRuntime, client: &[u8], link: &[u8]) -> io::Result<()> {
+    write_file(rt, "sender", SENDER.as_bytes())?;
+    write_file(rt, "receiver", RECEIVER.as_bytes())?;
+    write_file(rt, "client", client)?;
+    write_file(rt, "link", link)
+}
+
+/// Removes what was written.
+fn remove_files(rt: &HostRuntime) -> io::Result<()> {
+    for name in ["sender", "receiver", "client", "link", "written"] {
+        fs::remove_file(rt, name)?;
+    }
+    Ok(())
+}
+
+/// A capture ends with status 1, tells this, and has the line of the second record as its last one, or has not.
+fn assert_end(
+    rt: &impl Abort,
+    (status, told, ended): (u8, &[u8], bool),
+    (wanted, ends_with_record): (&str, bool),
+) {
+    assert!(rt; status == 1 && ended == ends_with_record, "{wanted}");
+    assert_eq!(rt; told, wanted.as_bytes());
+}
+
 /// The same of an output on a full device, behind which there are no counters, and of the text of a capture.
 #[test]
 fn flushes_of_captures_that_fail(rt: HostRuntime) -> Result<(), Fail> {
-    let alloc = rt.alloc();
-    fs::write(&rt, "sender", SENDER)?;
-    fs::write(&rt, "receiver", RECEIVER)?;
-    fs::write(&rt, "client", client_file(alloc)?.as_slice())?;
-    fs::write(&rt, "link", link_file(alloc)?.as_slice())?;
+    let client = client_file(rt.alloc())?;
+    let link = link_file(rt.alloc())?;
+    write_files(&rt, client.as_slice(), link.as_slice())?;
     for direction in [Direction::Protect, Direction::Validate] {
-        for (output, flush_fails, wanted, ends_with_record) in [
-            ("/dev/full", false, "macsec: pcap Write\n", true),
-            ("written", true, "macsec: Write\n", false),
-            ("/dev/full", true, "macsec: pcap Write\n", true),
+        for ((output, flush_fails), wanted) in [
+            (("/dev/full", false), ("macsec: pcap Write\n", true)),
+            (("written", true), ("macsec: Write\n", false)),
+            (("/dev/full", true), ("macsec: pcap Write\n", true)),
         ] {
             let (status, told, ended) = end_of_capture(&rt, direction, output, flush_fails);
-            assert_eq!(&rt; (status, told.as_slice()), (1, wanted.as_bytes()));
-            assert_eq!(&rt; ended, ends_with_record, "{output}");
+            assert_end(&rt, (status, told.as_slice(), ended), wanted);
         }
     }
-    for name in ["sender", "receiver", "client", "link", "written"] {
-        fs::remove_file(&rt, name)?;
-    }
+    remove_files(&rt)?;
     Ok(())
 }
 

@@ -4,6 +4,7 @@ use super::client_file;
 use macsec_devices::{FailingReader, FailingWriter, Fails};
 use macsec_pcap::{PcapFault, PcapReader, PcapWriter, Resolution};
 use std::alloc::Global;
+use std::process::Abort;
 use std::test::Fail;
 
 /// Is there a next record?
@@ -13,29 +14,35 @@ fn has_next(reader: &mut PcapReader<&mut FailingReader<'_>>) -> Result<bool, Pca
 
 /// How many records a file has, up to eight, and what the call behind them returns; `None` if one of the next three calls
 /// returns something else.
-fn counted(
-    alloc: Global,
-    source: &mut FailingReader<'_>,
+fn counted_of(
+    reader: &mut PcapReader<&mut FailingReader<'_>>,
 ) -> Option<(usize, Result<bool, PcapFault>)> {
-    let mut reader = match PcapReader::new(alloc, source) {
-        Ok(reader) => reader,
-        Err(fault) => return Some((0, Err(fault))),
-    };
     let mut count = 0;
     let mut ended = Ok(true);
     for i in 0..8 {
-        ended = has_next(&mut reader);
+        ended = has_next(reader);
         if ended != Ok(true) {
             break;
         }
         count = i + 1;
     }
     for _ in 0..3 {
-        if has_next(&mut reader) != ended {
+        if has_next(reader) != ended {
             return None;
         }
     }
     Some((count, ended))
+}
+
+/// The same of this source, if its header can be read.
+fn counted(
+    alloc: Global,
+    source: &mut FailingReader<'_>,
+) -> Option<(usize, Result<bool, PcapFault>)> {
+    match PcapReader::new(alloc, source) {
+        Ok(mut reader) => counted_of(&mut reader),
+        Err(fault) => Some((0, Err(fault))),
+    }
 }
 
 /// What is counted of the file of two records if the read of this number fails: in pieces of 7 octets the header takes 4
@@ -60,18 +67,22 @@ fn counted_failing(
     (found, source.calls_after())
 }
 
+/// The read of this number fails of this file.
+fn check_read(rt: &impl Abort, alloc: Global, file: &[u8], at: usize) {
+    for fails in [Fails::At(at), Fails::From(at)] {
+        let (found, calls_after) = counted_failing(alloc, file, fails);
+        assert!(rt; found == Some(wanted_count(at)), "at {at}");
+        assert_eq!(rt; calls_after, 0, "at {at}");
+    }
+}
+
 /// A read that fails is returned as such, whichever it is, for good, and the source is not read again, whether it would
 /// fail again or not; an end is not read past.
 #[test]
 fn reads_that_fail(rt: HostRuntime) -> Result<(), Fail> {
-    let alloc = rt.alloc();
-    let file = client_file(alloc)?;
+    let file = client_file(rt.alloc())?;
     for at in 0..=15 {
-        for fails in [Fails::At(at), Fails::From(at)] {
-            let (found, calls_after) = counted_failing(alloc, file.as_slice(), fails);
-            assert!(&rt; found == Some(wanted_count(at)), "at {at}");
-            assert_eq!(&rt; calls_after, 0, "at {at}");
-        }
+        check_read(&rt, rt.alloc(), file.as_slice(), at);
     }
     Ok(())
 }
@@ -117,6 +128,15 @@ fn written_failing(alloc: Global, fails: Fails) -> ([Result<(), PcapFault>; 5], 
     (found, destination.calls(), destination.calls_after())
 }
 
+/// The write of this number fails, and so many of the five are written.
+fn check_write(rt: &impl Abort, alloc: Global, at: usize, count: usize) {
+    for fails in [Fails::At(at), Fails::From(at)] {
+        let (found, _, calls_after) = written_failing(alloc, fails);
+        assert!(rt; are_written(&found, count), "at {at}");
+        assert_eq!(rt; calls_after, 0, "at {at}");
+    }
+}
+
 /// A write that fails is returned as such, whichever it is, for good, and nothing is written after it.
 #[test]
 fn writes_that_fail(rt: HostRuntime) {
@@ -125,11 +145,7 @@ fn writes_that_fail(rt: HostRuntime) {
     // The header by one call, a record by two, and an empty one by one.
     assert_eq!(&rt; calls, 6);
     // How many of the five are written.
-    for (at, count) in [0, 1, 1, 2, 3, 4].into_iter().enumerate() {
-        for fails in [Fails::At(at), Fails::From(at)] {
-            let (found, _, calls_after) = written_failing(rt.alloc(), fails);
-            assert!(&rt; are_written(&found, count), "at {at}");
-            assert_eq!(&rt; calls_after, 0, "at {at}");
-        }
+    for (at, count) in [(0, 0), (1, 1), (2, 1), (3, 2), (4, 3), (5, 4)] {
+        check_write(&rt, rt.alloc(), at, count);
     }
 }

@@ -68,17 +68,18 @@ const OF_VALIDATION: [Device; 4] = [
 /// the end of a validation.
 const CHECKED_CALLS: usize = 112;
 
-/// What a run answers, how often its device was called, before it failed or ended and after, and what was written: to
-/// the output, and to the text.
+/// The devices of a run: the source is the script, or the configuration of the capture.
 #[derive(Drop)]
-struct Run {
-    of: &'static str,
-    name: &'static str,
-    calls: usize,
-    calls_after: usize,
+struct Devices<'a> {
+    source: FailingReader<'a>,
+    input: FailingReader<'a>,
     output: FailingWriter,
     text: FailingWriter,
 }
+
+/// What a run answers: for what it failed, and by which name.
+#[derive(Clone, Copy, PartialEq, Eq)]
+struct Answer(&'static str, &'static str);
 
 /// When a device fails, if the one of this place does.
 fn if_at(place: Place, other: Place, fails: Fails) -> Fails {
@@ -86,107 +87,91 @@ fn if_at(place: Place, other: Place, fails: Fails) -> Fails {
 }
 
 /// What a script answers.
-fn of_script(done: Result<(), ScriptFault>) -> (&'static str, &'static str) {
+fn of_script(done: Result<(), ScriptFault>) -> Answer {
     match done {
-        Ok(()) => ("", ""),
-        Err(fault) => ("script", fault.name()),
+        Ok(()) => Answer("", ""),
+        Err(fault) => Answer("script", fault.name()),
     }
 }
 
 /// What a capture answers.
-fn of_capture(done: Result<(), CaptureFault>) -> (&'static str, &'static str) {
+fn of_capture(done: Result<(), CaptureFault>) -> Answer {
     match done {
-        Ok(()) => ("", ""),
-        Err(CaptureFault::Script(fault)) => ("script", fault.name()),
-        Err(CaptureFault::Pcap(fault)) => ("pcap", fault.name()),
+        Ok(()) => Answer("", ""),
+        Err(CaptureFault::Script(fault)) => Answer("script", fault.name()),
+        Err(CaptureFault::Pcap(fault)) => Answer("pcap", fault.name()),
+    }
+}
+
+/// The place of a task's source.
+fn source_of(task: Task) -> Place {
+    match task {
+        Task::Script => Place::Script,
+        Task::Capture(_) => Place::Config,
+    }
+}
+
+/// The devices of a run of which the one of this place fails.
+fn devices_of(alloc: Global, task: Task, file: &[u8], place: Place, fails: Fails) -> Devices<'_> {
+    let source = task.source().as_bytes();
+    let of_source = if_at(place, source_of(task), fails);
+    Devices {
+        source: FailingReader::new(source, 16, of_source),
+        input: FailingReader::new(file, 16, if_at(place, Place::Input, fails)),
+        output: FailingWriter::new(alloc, if_at(place, Place::Output, fails), false),
+        text: FailingWriter::new(alloc, if_at(place, Place::Text, fails), false),
     }
 }
 
 /// A run of the script.
-fn script_run(alloc: Global, script: &str, place: Place, fails: Fails) -> Run {
-    let output = FailingWriter::new(alloc, Fails::Never, false);
-    let mut reader = FailingReader::new(script.as_bytes(), 16, if_at(place, Place::Script, fails));
-    let mut text = FailingWriter::new(alloc, if_at(place, Place::Text, fails), false);
-    let (of, name) = of_script(run_script(alloc, &mut reader, &mut text));
-    let (calls, calls_after) = match place {
-        Place::Script => (reader.calls(), reader.calls_after()),
-        _ => (text.calls(), text.calls_after()),
-    };
-    Run {
-        of,
-        name,
-        calls,
-        calls_after,
-        output,
-        text,
-    }
+fn script_run(alloc: Global, devices: &mut Devices<'_>) -> Answer {
+    of_script(run_script(alloc, &mut devices.source, &mut devices.text))
 }
 
 /// A run of a capture.
-fn capture_run(
-    alloc: Global,
-    direction: Direction,
-    config: &str,
-    file: &[u8],
-    place: Place,
-    fails: Fails,
-) -> Run {
-    let fails_of = |other: Place| if_at(place, other, fails);
-    let mut config = FailingReader::new(config.as_bytes(), 16, fails_of(Place::Config));
-    let mut input = FailingReader::new(file, 16, fails_of(Place::Input));
-    let mut output = FailingWriter::new(alloc, fails_of(Place::Output), false);
-    let mut text = FailingWriter::new(alloc, fails_of(Place::Text), false);
-    let (of, name) = of_capture(run_capture(
+fn capture_run(alloc: Global, direction: Direction, devices: &mut Devices<'_>) -> Answer {
+    of_capture(run_capture(
         alloc,
         direction,
-        &mut config,
-        &mut input,
-        &mut output,
-        &mut text,
-    ));
-    let (calls, calls_after) = match place {
-        Place::Config => (config.calls(), config.calls_after()),
-        Place::Input => (input.calls(), input.calls_after()),
-        Place::Output => (output.calls(), output.calls_after()),
-        _ => (text.calls(), text.calls_after()),
-    };
-    Run {
-        of,
-        name,
-        calls,
-        calls_after,
-        output,
-        text,
-    }
+        &mut devices.source,
+        &mut devices.input,
+        &mut devices.output,
+        &mut devices.text,
+    ))
 }
 
-/// A run of which the device of this place fails.
-fn run_of(alloc: Global, task: Task, file: &[u8], place: Place, fails: Fails) -> Run {
+/// A run over these devices.
+fn run_over(alloc: Global, task: Task, devices: &mut Devices<'_>) -> Answer {
     match task {
-        Task::Script => script_run(alloc, task.source(), place, fails),
-        Task::Capture(direction) => {
-            capture_run(alloc, direction, task.source(), file, place, fails)
-        }
+        Task::Script => script_run(alloc, devices),
+        Task::Capture(direction) => capture_run(alloc, direction, devices),
     }
 }
 
-/// Does a run answer this?
-fn answers(run: &Run, of: &str, name: &str) -> bool {
-    run.of == of && run.name == name
+/// How often the device of this place was called, before it failed or ended, and after.
+fn calls_of(devices: &Devices<'_>, place: Place) -> (usize, usize) {
+    match place {
+        Place::Script | Place::Config => (devices.source.calls(), devices.source.calls_after()),
+        Place::Input => (devices.input.calls(), devices.input.calls_after()),
+        Place::Output => (devices.output.calls(), devices.output.calls_after()),
+        Place::Text => (devices.text.calls(), devices.text.calls_after()),
+    }
 }
 
 /// Is what a run wrote that of the stop? Of the device that failed it need only begin what there is at the end.
-fn is_at(run: &Run, place: Place, stop: &Stop, end: &Stop) -> bool {
-    let (output, text) = (run.output.written(), run.text.written());
-    let output_is = match place {
-        Place::Output => end.output.as_slice().starts_with(output),
-        _ => output == stop.output.as_slice(),
-    };
-    let text_is = match place {
-        Place::Text => end.text.as_bytes().starts_with(text),
-        _ => text == stop.text.as_bytes(),
-    };
-    output_is && text_is
+fn is_at(devices: &Devices<'_>, place: Place, stop: &Stop, end: &Stop) -> bool {
+    let output = devices.output.written();
+    let text = devices.text.written();
+    match place {
+        Place::Output => is_begun(output, end.output.as_slice()) && text == stop.text.as_bytes(),
+        Place::Text => output == stop.output.as_slice() && is_begun(text, end.text.as_bytes()),
+        _ => output == stop.output.as_slice() && text == stop.text.as_bytes(),
+    }
+}
+
+/// Does the whole begin with this part?
+fn is_begun(part: &[u8], whole: &[u8]) -> bool {
+    whole.starts_with(part)
 }
 
 /// How many calls these are.
@@ -210,28 +195,42 @@ fn stop_of(calls: &[(usize, usize)], at: usize) -> usize {
     0
 }
 
-/// Whether the call of this number fails alone or with all after it, the run ends with the answer of its device, which
-/// is not called again, and is at the stop of this call.
-fn check_call(
-    rt: &impl Abort,
-    alloc: Global,
+/// The call of a device that fails, what the run then answers, and the stop at which it is.
+#[derive(Clone, Copy)]
+struct Call<'a> {
     task: Task,
-    file: &[u8],
-    (place, of, name, calls): Device,
+    file: &'a [u8],
+    place: Place,
+    answer: Answer,
     at: usize,
-) -> Result<(), Fail> {
-    let stop = Stop::behind(alloc, task.steps(), stop_of(calls, at))?;
-    let end = Stop::behind(alloc, task.steps(), task.steps().len())?;
-    for fails in [Fails::At(at), Fails::From(at)] {
-        let found = run_of(alloc, task, file, place, fails);
-        assert!(rt; answers(&found, of, name), "{place:?} at {at}");
-        assert!(rt;
-            found.calls == at.saturating_add(1) && found.calls_after == 0,
-            "{place:?} at {at}"
-        );
-        assert!(rt; is_at(&found, place, &stop, &end), "{place:?} at {at}");
+    stop: &'a Stop,
+    end: &'a Stop,
+}
+
+/// A run answers as the call wants, its device is not called again, and it is at the stop of this call.
+fn assert_failed(rt: &impl Abort, devices: &Devices<'_>, answer: Answer, call: &Call<'_>) {
+    let (place, at) = (call.place, call.at);
+    let calls = calls_of(devices, place);
+    let is_failed = answer == call.answer && calls == (at.saturating_add(1), 0);
+    assert!(rt; is_failed, "{place:?} at {at}");
+    assert!(rt;
+        is_at(devices, place, call.stop, call.end),
+        "{place:?} at {at}"
+    );
+}
+
+/// Whether the call of this number fails alone or with all after it, the run ends with the answer of its device.
+fn check_call(rt: &impl Abort, alloc: Global, call: &Call<'_>) {
+    for fails in [Fails::At(call.at), Fails::From(call.at)] {
+        let mut devices = devices_of(alloc, call.task, call.file, call.place, fails);
+        let answer = run_over(alloc, call.task, &mut devices);
+        assert_failed(rt, &devices, answer, call);
     }
-    Ok(())
+}
+
+/// These octets were written by a run of which a device of this place could fail.
+fn assert_written(rt: &impl Abort, place: Place, written: &[u8], wanted: &[u8]) {
+    assert_eq!(rt; written, wanted, "{place:?}");
 }
 
 /// A run none of whose calls fails is at its end.
@@ -239,16 +238,50 @@ fn check_end(
     rt: &impl Abort,
     alloc: Global,
     task: Task,
+    place: Place,
+    devices: &mut Devices<'_>,
+    count: usize,
+    end: &Stop,
+) {
+    let answer = run_over(alloc, task, devices);
+    assert!(rt; answer == Answer("", ""), "{place:?}");
+    let (calls, _) = calls_of(devices, place);
+    assert_eq!(rt; calls, count, "{place:?}");
+    assert_written(rt, place, devices.output.written(), end.output.as_slice());
+    assert_written(rt, place, devices.text.written(), end.text.as_bytes());
+}
+
+/// Each call of this device.
+fn check_device(
+    rt: &impl Abort,
+    alloc: Global,
+    task: Task,
     file: &[u8],
-    (place, _, _, calls): Device,
-    fails: Fails,
+    device: &Device,
+    end: &Stop,
 ) -> Result<(), Fail> {
-    let end = Stop::behind(alloc, task.steps(), task.steps().len())?;
-    let found = run_of(alloc, task, file, place, fails);
-    assert!(rt; answers(&found, "", ""), "{place:?}");
-    assert_eq!(rt; found.calls, count_of(calls), "{place:?}");
-    assert_eq!(rt; found.output.written(), end.output.as_slice(), "{place:?}");
-    assert_eq!(rt; found.text.written(), end.text.as_bytes(), "{place:?}");
+    let (place, of, name, calls) = *device;
+    let count = count_of(calls);
+    for fails in [Fails::Never, Fails::At(count)] {
+        let mut devices = devices_of(alloc, task, file, place, fails);
+        check_end(rt, alloc, task, place, &mut devices, count, end);
+    }
+    for at in 0..count.min(CHECKED_CALLS) {
+        let stop = Stop::behind(alloc, task.steps(), stop_of(calls, at))?;
+        check_call(
+            rt,
+            alloc,
+            &Call {
+                task,
+                file,
+                place,
+                answer: Answer(of, name),
+                at,
+                stop: &stop,
+                end,
+            },
+        );
+    }
     Ok(())
 }
 
@@ -260,14 +293,9 @@ fn check_devices(
     devices: &[Device],
 ) -> Result<(), Fail> {
     let file = task.input(alloc)?;
+    let end = Stop::behind(alloc, task.steps(), task.steps().len())?;
     for device in devices {
-        let (_, _, _, calls) = *device;
-        let count = count_of(calls);
-        check_end(rt, alloc, task, file.as_slice(), *device, Fails::Never)?;
-        check_end(rt, alloc, task, file.as_slice(), *device, Fails::At(count))?;
-        for at in 0..count.min(CHECKED_CALLS) {
-            check_call(rt, alloc, task, file.as_slice(), *device, at)?;
-        }
+        check_device(rt, alloc, task, file.as_slice(), device, &end)?;
     }
     Ok(())
 }
@@ -299,28 +327,24 @@ enum Flush {
     OfText,
 }
 
-/// A run of a capture of which a flush fails.
-fn flush_run(alloc: Global, direction: Direction, config: &str, file: &[u8], flush: Flush) -> Run {
-    let mut config = config.as_bytes();
-    let mut input = FailingReader::new(file, 16, Fails::Never);
-    let mut output = FailingWriter::new(alloc, Fails::Never, flush == Flush::OfOutput);
-    let mut text = FailingWriter::new(alloc, Fails::Never, flush == Flush::OfText);
-    let (of, name) = of_capture(run_capture(
-        alloc,
-        direction,
-        &mut config,
-        &mut input,
-        &mut output,
-        &mut text,
-    ));
-    Run {
-        of,
-        name,
-        calls: input.calls(),
-        calls_after: input.calls_after(),
-        output,
-        text,
+/// The devices of a capture of which a flush fails.
+fn flushing<'a>(alloc: Global, config: &'a str, file: &'a [u8], flush: Flush) -> Devices<'a> {
+    Devices {
+        source: FailingReader::new(config.as_bytes(), 16, Fails::Never),
+        input: FailingReader::new(file, 16, Fails::Never),
+        output: FailingWriter::new(alloc, Fails::Never, flush == Flush::OfOutput),
+        text: FailingWriter::new(alloc, Fails::Never, flush == Flush::OfText),
     }
+}
+
+/// A run whose flush fails is at this stop.
+fn assert_flushed(rt: &impl Abort, devices: &Devices<'_>, flush: Flush, stop: &Stop) {
+    assert_eq!(rt;
+        devices.output.written(),
+        stop.output.as_slice(),
+        "{flush:?}"
+    );
+    assert_eq!(rt; devices.text.written(), stop.text.as_bytes(), "{flush:?}");
 }
 
 /// A run whose flush fails answers this, and is at the stop behind so many steps.
@@ -330,14 +354,32 @@ fn check_flush(
     direction: Direction,
     file: &[u8],
     flush: Flush,
-    (of, name, steps): (&str, &str, usize),
+    (wanted, steps): (Answer, usize),
 ) -> Result<(), Fail> {
     let task = Task::Capture(direction);
     let stop = Stop::behind(alloc, task.steps(), steps)?;
-    let found = flush_run(alloc, direction, task.source(), file, flush);
-    assert!(rt; answers(&found, of, name), "{flush:?}");
-    assert_eq!(rt; found.output.written(), stop.output.as_slice(), "{flush:?}");
-    assert_eq!(rt; found.text.written(), stop.text.as_bytes(), "{flush:?}");
+    let mut devices = flushing(alloc, task.source(), file, flush);
+    let answer = capture_run(alloc, direction, &mut devices);
+    assert!(rt; answer == wanted, "{flush:?}");
+    assert_flushed(rt, &devices, flush, &stop);
+    Ok(())
+}
+
+/// So it is for each flush of a capture in this direction.
+fn check_flushes(
+    rt: &impl Abort,
+    alloc: Global,
+    direction: Direction,
+    file: &[u8],
+) -> Result<(), Fail> {
+    let cut = &file[..file.len().saturating_sub(1)];
+    for (file, flush, wanted) in [
+        (file, Flush::OfOutput, (Answer("pcap", "Write"), 4)),
+        (cut, Flush::OfOutput, (Answer("pcap", "CutRecord"), 3)),
+        (file, Flush::OfText, (Answer("", ""), 5)),
+    ] {
+        check_flush(rt, alloc, direction, file, flush, wanted)?;
+    }
     Ok(())
 }
 
@@ -348,15 +390,7 @@ fn flushes_of_a_capture(rt: HostRuntime) -> Result<(), Fail> {
     let alloc = rt.alloc();
     for direction in [Direction::Protect, Direction::Validate] {
         let file = Task::Capture(direction).input(alloc)?;
-        let file = file.as_slice();
-        let cut = &file[..file.len().saturating_sub(1)];
-        for (file, flush, wanted) in [
-            (file, Flush::OfOutput, ("pcap", "Write", 4)),
-            (cut, Flush::OfOutput, ("pcap", "CutRecord", 3)),
-            (file, Flush::OfText, ("", "", 5)),
-        ] {
-            check_flush(&rt, alloc, direction, file, flush, wanted)?;
-        }
+        check_flushes(&rt, alloc, direction, file.as_slice())?;
     }
     Ok(())
 }
