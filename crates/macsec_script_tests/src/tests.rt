@@ -34,22 +34,34 @@ fn end_of(alloc: Global, script: &str, text: &mut Vec<u8>) -> Result<(), ScriptF
     run_script(alloc, &mut reader, text)
 }
 
+/// The status of an end, and what standard error gets of it.
+fn told_of(alloc: Global, ended: Result<(), Failure<'_>>) -> (u8, Vec<u8>) {
+    let mut told = Vec::new(alloc);
+    let (status, _) = tell(&mut told, ended);
+    (status, told)
+}
+
 /// What standard error gets of a failure, and the status.
-fn assert_told(rt: &(impl Abort + AllocGlobal), failure: Failure<'_>, wanted: &str, status: u8) {
-    let mut told = Vec::new(rt.alloc());
-    let (found, _) = tell(&mut told, Err(failure));
+fn assert_told(rt: &impl Abort, alloc: Global, failure: Failure<'_>, wanted: &str, status: u8) {
+    let (found, told) = told_of(alloc, Err(failure));
     assert_eq!(rt; told.as_slice(), wanted.as_bytes());
     assert_eq!(rt; found, status);
 }
 
+/// How the run of a script ends, and whether it prints nothing.
+fn silent_end_of(alloc: Global, script: &str) -> (Result<(), ScriptFault>, bool) {
+    let mut text = Vec::new(alloc);
+    let done = end_of(alloc, script, &mut text);
+    (done, text.is_empty())
+}
+
 /// A script prints nothing; its fault, if one is wanted, is told.
-fn assert_ends(rt: &(impl Abort + AllocGlobal), script: &str, wanted: Option<&str>) {
-    let mut text = Vec::new(rt.alloc());
-    let done = end_of(rt.alloc(), script, &mut text);
-    assert!(rt; text.is_empty());
+fn assert_ends(rt: &impl Abort, alloc: Global, script: &str, wanted: Option<&str>) {
+    let (done, is_silent) = silent_end_of(alloc, script);
+    assert!(rt; is_silent);
     match (done, wanted) {
         (Ok(()), None) => {}
-        (Err(fault), Some(told)) => assert_told(rt, Failure::Script(fault), told, 2),
+        (Err(fault), Some(told)) => assert_told(rt, alloc, Failure::Script(fault), told, 2),
         _ => panic!(rt; "another end than {wanted:?}"),
     }
 }

@@ -3,6 +3,7 @@
 use super::assert_ends;
 use macsec_script::{LineFault, parse_line};
 use std::alloc::{AllocError, Global};
+use std::process::Abort;
 
 /// The first two lines of a script.
 const ENDS: &str =
@@ -87,60 +88,77 @@ fn told_of(fault: LineFault) -> &'static str {
     }
 }
 
-/// Each line alone, and as the third of a script, of which nothing is printed then.
+/// This line as the third of a script.
+fn script_with(alloc: Global, line: &str) -> Result<String, AllocError> {
+    format!(in alloc; "{ENDS}{line}\nA numbers\n")
+}
+
+/// The line alone, and as the third of a script, of which nothing is printed then.
+fn check_line(
+    rt: &impl Abort,
+    alloc: Global,
+    line: &str,
+    fault: LineFault,
+) -> Result<(), AllocError> {
+    assert!(rt; fault_of(alloc, line) == Some(fault), "{line}");
+    let script = script_with(alloc, line)?;
+    assert_ends(rt, alloc, script.as_str(), Some(told_of(fault)));
+    Ok(())
+}
+
 #[test]
 fn lines_at_fault(rt: HostRuntime) -> Result<(), AllocError> {
-    for (line, fault) in LINES_AT_FAULT {
-        let found = fault_of(rt.alloc(), line);
-        assert!(rt; found == Some(fault), "{line}");
-        let script = format!(in rt.alloc(); "{ENDS}{line}\nA numbers\n")?;
-        assert_ends(&rt, script.as_str(), Some(told_of(fault)));
+    for (line, fault) in &LINES_AT_FAULT {
+        check_line(&rt, rt.alloc(), line, *fault)?;
     }
     Ok(())
 }
 
+/// Scripts at fault, and what is told of them.
+const SCRIPTS_AT_FAULT: [(&str, &str); 12] = [
+    ("frob\nend\n", "macsec: line 1: Word\n"),
+    ("#\nend\nfrob\n", "macsec: line 2: Count\n"),
+    ("\n\nalter 0 0 100", "macsec: line 3: Hex\n"),
+    ("pad 4294967296\r\n", "macsec: line 1: Number\n"),
+    (
+        "end A gcm128 12153524c0895e81 1518 es\n",
+        "macsec: line 1: Ends\n",
+    ),
+    (
+        "end A gcm128 12153524c0895e81 1518 sci\n# the end\n",
+        "macsec: line 2: Ends\n",
+    ),
+    (
+        "end B gcm128 12153524c0895e81 1518 sci\n",
+        "macsec: line 1: Ends\n",
+    ),
+    (
+        "A numbers\nend A gcm128 12153524c0895e81 1518 sci\n",
+        "macsec: line 1: Ends\n",
+    ),
+    (
+        "end A gcm128 12153524c0895e81 1518 sci\nA txon 2\nA send 00\n",
+        "macsec: line 2: Ends\n",
+    ),
+    (
+        "end A gcm128 12153524c0895e81 1518 sci\nend B gcm128 0000000000000002 1518 auto\nA txon 2\nend A gcm128 12153524c0895e81 1518 sci\n",
+        "macsec: line 4: Ends\n",
+    ),
+    (
+        "end A gcm128 12153524c0895e81 1518 sci\nend B gcm128 0000000000000002 1518 auto\nA send 0g\nfrob\n",
+        "macsec: line 3: Hex\n",
+    ),
+    (
+        "end A gcm128 12153524c0895e81 1518 sci\nend B gcm128 0000000000000002 1518 auto\nend A gcm128 12153524c0895e81 1518 sci\n",
+        "macsec: line 3: Ends\n",
+    ),
+];
+
 /// The first fault is told, and a line in a wrong place by `Ends`.
 #[test]
 fn scripts_at_fault(rt: HostRuntime) {
-    for (script, told) in [
-        ("frob\nend\n", "macsec: line 1: Word\n"),
-        ("#\nend\nfrob\n", "macsec: line 2: Count\n"),
-        ("\n\nalter 0 0 100", "macsec: line 3: Hex\n"),
-        ("pad 4294967296\r\n", "macsec: line 1: Number\n"),
-        (
-            "end A gcm128 12153524c0895e81 1518 es\n",
-            "macsec: line 1: Ends\n",
-        ),
-        (
-            "end A gcm128 12153524c0895e81 1518 sci\n# the end\n",
-            "macsec: line 2: Ends\n",
-        ),
-        (
-            "end B gcm128 12153524c0895e81 1518 sci\n",
-            "macsec: line 1: Ends\n",
-        ),
-        (
-            "A numbers\nend A gcm128 12153524c0895e81 1518 sci\n",
-            "macsec: line 1: Ends\n",
-        ),
-        (
-            "end A gcm128 12153524c0895e81 1518 sci\nA txon 2\nA send 00\n",
-            "macsec: line 2: Ends\n",
-        ),
-        (
-            "end A gcm128 12153524c0895e81 1518 sci\nend B gcm128 0000000000000002 1518 auto\nA txon 2\nend A gcm128 12153524c0895e81 1518 sci\n",
-            "macsec: line 4: Ends\n",
-        ),
-        (
-            "end A gcm128 12153524c0895e81 1518 sci\nend B gcm128 0000000000000002 1518 auto\nA send 0g\nfrob\n",
-            "macsec: line 3: Hex\n",
-        ),
-        (
-            "end A gcm128 12153524c0895e81 1518 sci\nend B gcm128 0000000000000002 1518 auto\nend A gcm128 12153524c0895e81 1518 sci\n",
-            "macsec: line 3: Ends\n",
-        ),
-    ] {
-        assert_ends(&rt, script, Some(told));
+    for (script, told) in &SCRIPTS_AT_FAULT {
+        assert_ends(&rt, rt.alloc(), script, Some(told));
     }
 }
 
@@ -156,6 +174,19 @@ fn repeated(alloc: Global, piece: &str, count: u32) -> Result<String, AllocError
 /// A line of 32 octets with its line feed.
 const OF_32_OCTETS: &str = "# a line of a comment, repeated\n";
 
+/// A script is skipped, and with this rest it is at fault.
+fn check_long(
+    rt: &impl Abort,
+    alloc: Global,
+    script: &mut String,
+    (rest, fault): (&str, &str),
+) -> Result<(), AllocError> {
+    assert_ends(rt, alloc, script.as_str(), None);
+    script.push_str(rest)?;
+    assert_ends(rt, alloc, script.as_str(), Some(fault));
+    Ok(())
+}
+
 /// A line of 20,000 octets, a script of 65,536 lines, or one of 1,048,576 octets, is skipped, and a longer one is at
 /// fault.
 #[test]
@@ -166,9 +197,7 @@ fn long_lines_and_scripts(rt: HostRuntime) -> Result<(), AllocError> {
         (OF_32_OCTETS, 32_768, "#", "macsec: ScriptLong\n"),
     ] {
         let mut script = repeated(rt.alloc(), piece, count)?;
-        assert_ends(&rt, script.as_str(), None);
-        script.push_str(rest)?;
-        assert_ends(&rt, script.as_str(), Some(fault));
+        check_long(&rt, rt.alloc(), &mut script, (rest, fault))?;
     }
     Ok(())
 }

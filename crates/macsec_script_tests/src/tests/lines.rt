@@ -1,13 +1,13 @@
 //! Lines, scripts and configurations without a fault, as they are read.
 
 use macsec_script::{
-    Command, End, Event, Line, ScriptFault, parse_config, parse_line, parse_script,
+    Command, End, Event, Line, LineFault, ScriptFault, parse_config, parse_line, parse_script,
 };
 use std::alloc::Global;
 use std::process::Abort;
 
 /// What a line says, in short: of a frame, its last octet.
-#[derive(Clone, Copy, PartialEq, Eq, Debug)]
+#[derive(Clone, Copy, PartialEq, Eq)]
 enum Said {
     Skipped,
     Counters(End),
@@ -38,39 +38,46 @@ fn of_event(event: &Event) -> Said {
 }
 
 /// What a line says, in short.
-fn of_line(alloc: Global, text: &str) -> Said {
-    match parse_line(alloc, text.as_bytes()) {
+fn of_line(read: &Result<Option<Line>, LineFault>) -> Said {
+    match read {
         Ok(None) => Said::Skipped,
-        Ok(Some(Line::Counters(end))) => Said::Counters(end),
-        Ok(Some(Line::Numbers(end))) => Said::Numbers(end),
-        Ok(Some(Line::Event(event))) => of_event(&event),
+        Ok(Some(Line::Counters(end))) => Said::Counters(*end),
+        Ok(Some(Line::Numbers(end))) => Said::Numbers(*end),
+        Ok(Some(Line::Event(event))) => of_event(event),
         Ok(Some(Line::End(_, _))) => Said::Other,
         Err(_) => Said::Fault,
     }
 }
 
+/// Does a line say this?
+fn says(alloc: Global, line: &str, wanted: Said) -> bool {
+    of_line(&parse_line(alloc, line.as_bytes())) == wanted
+}
+
+/// Lines without a fault.
+const GOOD_LINES: [(&str, Said); 10] = [
+    ("", Said::Skipped),
+    ("# B frob", Said::Skipped),
+    ("A counters", Said::Counters(End::A)),
+    ("B numbers", Said::Numbers(End::B)),
+    ("A send 0001fe", Said::Send(End::A, Some(0xfe))),
+    ("B deliver 7", Said::Deliver(End::B, 7)),
+    ("alter 1 2 fF", Said::Alter(1, 2, 0xff)),
+    ("pad 4294967295", Said::Pad(4_294_967_295)),
+    ("A txon 3", Said::TxOn(End::A, 3)),
+    ("B replay off 5", Said::Replay(End::B, false, 5)),
+];
+
 #[test]
 fn good_lines(rt: HostRuntime) {
-    for (line, wanted) in [
-        ("", Said::Skipped),
-        ("# B frob", Said::Skipped),
-        ("A counters", Said::Counters(End::A)),
-        ("B numbers", Said::Numbers(End::B)),
-        ("A send 0001fe", Said::Send(End::A, Some(0xfe))),
-        ("B deliver 7", Said::Deliver(End::B, 7)),
-        ("alter 1 2 fF", Said::Alter(1, 2, 0xff)),
-        ("pad 4294967295", Said::Pad(4_294_967_295)),
-        ("A txon 3", Said::TxOn(End::A, 3)),
-        ("B replay off 5", Said::Replay(End::B, false, 5)),
-    ] {
-        let found = of_line(rt.alloc(), line);
-        assert!(rt; found == wanted, "{line}");
+    for (line, wanted) in &GOOD_LINES {
+        assert!(rt; says(rt.alloc(), line, *wanted), "{line}");
     }
 }
 
 /// How many lines are not skipped, and the number of the last of them; or the fault.
 fn counted(
-    read: Result<Vec<(u32, Line)>, ScriptFault>,
+    read: &Result<Vec<(u32, Line)>, ScriptFault>,
 ) -> Result<(usize, Option<u32>), (&'static str, Option<u32>)> {
     match read {
         Ok(lines) => Ok((lines.len(), lines.last().map(|(n, _)| *n))),
@@ -82,14 +89,14 @@ fn script_counted(
     alloc: Global,
     text: &str,
 ) -> Result<(usize, Option<u32>), (&'static str, Option<u32>)> {
-    counted(parse_script(alloc, text.as_bytes()))
+    counted(&parse_script(alloc, text.as_bytes()))
 }
 
 fn config_counted(
     alloc: Global,
     text: &str,
 ) -> Result<(usize, Option<u32>), (&'static str, Option<u32>)> {
-    counted(parse_config(alloc, text.as_bytes()))
+    counted(&parse_config(alloc, text.as_bytes()))
 }
 
 /// Lines of the ends, one that is skipped, and a command; and texts at fault.

@@ -186,18 +186,41 @@ const FAILURE: [(Failure<'static>, &str); 4] = [
     ),
 ];
 
+/// The sentences of faults of frames and keys.
+fn check_parts(rt: &impl Abort, alloc: Global) -> Result<(), Fail> {
+    assert_told(rt, alloc, &TAG)?;
+    assert_told(rt, alloc, &SUITE)?;
+    assert_told(rt, alloc, &FRAME)
+}
+
+/// Those of refusals.
+fn check_refusals(rt: &impl Abort, alloc: Global) -> Result<(), Fail> {
+    assert_told(rt, alloc, &REFUSAL)
+}
+
+/// Those of ends and their link.
+fn check_ends(rt: &impl Abort, alloc: Global) -> Result<(), Fail> {
+    assert_told(rt, alloc, &NEW)?;
+    assert_told(rt, alloc, &WORLD)
+}
+
+/// Those of capture files.
+fn check_files(rt: &impl Abort, alloc: Global) -> Result<(), Fail> {
+    assert_told(rt, alloc, &PCAP)
+}
+
+/// Those of runs.
+fn check_runs(rt: &impl Abort, alloc: Global) -> Result<(), Fail> {
+    assert_told(rt, alloc, &SCRIPT)?;
+    assert_told(rt, alloc, &HELD)?;
+    assert_told(rt, alloc, &FAILURE)
+}
+
 #[test]
 fn sentences(rt: HostRuntime) -> Result<(), Fail> {
-    let alloc = rt.alloc();
-    assert_told(&rt, alloc, &TAG)?;
-    assert_told(&rt, alloc, &SUITE)?;
-    assert_told(&rt, alloc, &REFUSAL)?;
-    assert_told(&rt, alloc, &NEW)?;
-    assert_told(&rt, alloc, &FRAME)?;
-    assert_told(&rt, alloc, &WORLD)?;
-    assert_told(&rt, alloc, &PCAP)?;
-    assert_told(&rt, alloc, &SCRIPT)?;
-    assert_told(&rt, alloc, &HELD)?;
-    assert_told(&rt, alloc, &FAILURE)?;
-    Ok(())
+    check_parts(&rt, rt.alloc())?;
+    check_refusals(&rt, rt.alloc())?;
+    check_ends(&rt, rt.alloc())?;
+    check_files(&rt, rt.alloc())?;
+    check_runs(&rt, rt.alloc())
 }
