@@ -150,40 +150,41 @@ fn products(s: [u8x16; 22], n: [u8x16; 4]) -> [u8x16; 18]
 }
 
 /// The affine transformation (FIPS 197, 5.1.1) of the inverse of each byte, from its products, but for its constant, with
-/// which the circuit complements r1, r2, r6 and r7.
+/// which the circuit complements r1, r2, r6 and r7. The sums stand in an order for which the compiler keeps few planes in
+/// memory, and not in the circuit's.
 #[inline(always)]
 fn linear_of_products(z: [u8x16; 18]) -> [u8x16; 8]
     ensures { (j : ℕ) → j < 16 → (k : ℕ) → k < 8 → (x : ℕ) → x < 2 ^ 8 → element 18 z j k ≡ products x
         → octet result j k ≡ plus_constant (s_box x) }
 {
-    let t46 = add(z[15], z[16]);
-    let t47 = add(z[10], z[11]);
     let t48 = add(z[5], z[13]);
-    let t49 = add(z[9], z[10]);
-    let t50 = add(z[2], z[12]);
+    let t53 = add(z[0], z[3]);
     let t51 = add(z[2], z[5]);
     let t52 = add(z[7], z[8]);
-    let t53 = add(z[0], z[3]);
+    let t47 = add(z[10], z[11]);
+    let t46 = add(z[15], z[16]);
+    let t50 = add(z[2], z[12]);
     let t54 = add(z[6], z[7]);
-    let t55 = add(z[16], z[17]);
-    let t56 = add(z[12], t48);
-    let t57 = add(t50, t53);
-    let t58 = add(z[4], t46);
     let t59 = add(z[3], t54);
+    let t55 = add(z[16], z[17]);
+    let t58 = add(z[4], t46);
+    let t56 = add(z[12], t48);
+    let t62 = add(t52, t58);
+    let r6 = add(t56, t62);
+    let t57 = add(t50, t53);
+    let t49 = add(z[9], z[10]);
+    let t64 = add(z[4], t59);
     let t60 = add(t46, t57);
     let t61 = add(z[14], t57);
-    let t62 = add(t52, t58);
     let t63 = add(t49, t58);
-    let t64 = add(z[4], t59);
-    let t65 = add(t61, t62);
-    let t66 = add(z[1], t63);
-    let r0 = add(t59, t63);
-    let r6 = add(t56, t62);
     let r7 = add(t48, t60);
+    let t65 = add(t61, t62);
+    let r5 = add(t47, t65);
+    let r0 = add(t59, t63);
+    let t66 = add(z[1], t63);
+    let r4 = add(t51, t66);
     let t67 = add(t64, t65);
     let r3 = add(t53, t66);
-    let r4 = add(t51, t66);
-    let r5 = add(t47, t65);
     let r1 = add(t64, r3);
     let r2 = add(t55, t67);
     [r7, r6, r5, r4, r3, r2, r1, r0]
