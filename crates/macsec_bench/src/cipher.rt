@@ -17,6 +17,9 @@ struct Work {
     turns: u32,
 }
 
+/// The number of octets of the longest text.
+const MAX_LENGTH: usize = 9_216;
+
 /// Short, usual and longest frames: some four million octets of each.
 const WORKS: [Work; 3] = [
     Work {
@@ -40,17 +43,88 @@ const SUBKEY: Block = Block(0x66e9_4bd4_ef8a_2c3b_884c_fa59_ca34_2b2e);
 /// How long a measured function took, and an octet of its result, so that the result is computed.
 type Measured = (Duration, u8);
 
+/// A measured function.
+#[derive(Clone, Copy)]
+enum Function {
+    Encrypt,
+    Encrypt16,
+    PlainHash,
+    LaneHash,
+    PlainSeal,
+    Seal,
+}
+
+/// The functions, in the order in which they are measured.
+const FUNCTIONS: [Function; 6] = [
+    Function::Encrypt,
+    Function::Encrypt16,
+    Function::PlainHash,
+    Function::LaneHash,
+    Function::PlainSeal,
+    Function::Seal,
+];
+
+impl Function {
+    /// Its name.
+    fn name(self) -> &'static str {
+        match self {
+            Function::Encrypt => "encrypt",
+            Function::Encrypt16 => "encrypt16",
+            Function::PlainHash => "PlainHash",
+            Function::LaneHash => "LaneHash",
+            Function::PlainSeal => "plain seal",
+            Function::Seal => "seal",
+        }
+    }
+
+    /// Does it so often. Returns an octet of the result.
+    fn run(self, keys: &Keys, work: Work) -> u8 {
+        match self {
+            Function::Encrypt => encrypted(&keys.schedule, work),
+            Function::Encrypt16 => encrypted16(&keys.lanes, work),
+            Function::PlainHash => hashed::<PlainHash>(work),
+            Function::LaneHash => hashed::<LaneHash>(work),
+            Function::PlainSeal => plainly_sealed(&keys.plain, work),
+            Function::Seal => sealed(&keys.gcm, work),
+        }
+    }
+}
+
+/// The same key for each function.
+#[derive(Drop)]
+struct Keys {
+    schedule: Schedule,
+    lanes: LaneSchedule,
+    plain: PlainKey,
+    gcm: GcmKey,
+}
+
 /// Measures each function, and prints how fast it is.
 pub fn report(rt: &HostRuntime) -> io::Result<()> {
+    let keys = Keys {
+        schedule: Schedule::expand(&KEY),
+        lanes: LaneSchedule::expand(&KEY),
+        plain: PlainKey::new(&KEY),
+        gcm: GcmKey::new(KEY),
+    };
+    report_works(rt, &keys)
+}
+
+/// Measures each function with each text, and prints how fast it is.
+fn report_works(rt: &HostRuntime, keys: &Keys) -> io::Result<()> {
     for work in WORKS {
-        line(rt, "encrypt", work, time_encrypt(rt, work)?)?;
-        line(rt, "encrypt16", work, time_encrypt16(rt, work)?)?;
-        line(rt, "PlainHash", work, time_hash::<PlainHash>(rt, work)?)?;
-        line(rt, "LaneHash", work, time_hash::<LaneHash>(rt, work)?)?;
-        line(rt, "plain seal", work, time_plain_seal(rt, work)?)?;
-        line(rt, "seal", work, time_seal(rt, work)?)?;
+        for function in FUNCTIONS {
+            line(rt, function.name(), work, time(rt, function, keys, work)?)?;
+        }
     }
     Ok(())
+}
+
+/// How long it takes to do it so often.
+fn time(rt: &HostRuntime, function: Function, keys: &Keys, work: Work) -> io::Result<Measured> {
+    let start = Instant::now(rt)?;
+    let last = function.run(keys, work);
+    Ok((start.elapsed(rt)?, last))
 }
 
 /// Prints a line of what was measured.
@@ -63,62 +137,56 @@ fn line(rt: &HostRuntime, name: &str, work: Work, measured: Measured) -> io::Res
 }
 
 /// Encrypts blocks one after another, each the result of the one before.
-fn time_encrypt(rt: &HostRuntime, work: Work) -> io::Result<Measured> {
-    let schedule = Schedule::expand(&KEY);
-    let start = Instant::now(rt)?;
+fn encrypted(schedule: &Schedule, work: Work) -> u8 {
     let mut block = [0; 16];
     for _ in 0..work.turns {
         for _ in 0..work.length.div_ceil(16) {
-            block = encrypt(&schedule, block);
+            block = encrypt(schedule, block);
         }
     }
-    Ok((start.elapsed(rt)?, block[0]))
+    block[0]
 }
 
 /// Encrypts as many blocks, sixteen at a time, each the result of the one before.
-fn time_encrypt16(rt: &HostRuntime, work: Work) -> io::Result<Measured> {
-    let schedule = LaneSchedule::expand(&KEY);
-    let start = Instant::now(rt)?;
+fn encrypted16(schedule: &LaneSchedule, work: Work) -> u8 {
     let mut blocks = [[0; 16]; 16];
     for _ in 0..work.turns.div_ceil(16) {
         for _ in 0..work.length.div_ceil(16) {
-            encrypt16(&schedule, &mut blocks);
+            encrypt16(schedule, &mut blocks);
         }
     }
-    Ok((start.elapsed(rt)?, blocks[0][0]))
+    blocks[0][0]
 }
 
 /// Hashes the same text again and again.
-fn time_hash<H: Hash128 + Drop>(rt: &HostRuntime, work: Work) -> io::Result<Measured> {
-    let text = vec![in rt.alloc(); 0x5a; usize::from(work.length)]?;
-    let start = Instant::now(rt)?;
+fn hashed<H: Hash128 + Drop>(work: Work) -> u8 {
+    let text = [0x5a; MAX_LENGTH];
+    let length = MAX_LENGTH.min(usize::from(work.length));
     let mut hash = H::start(SUBKEY);
     for _ in 0..work.turns {
-        hash.absorb(text.as_slice());
+        hash.absorb(&text[..length]);
     }
-    Ok((start.elapsed(rt)?, hash.value().0.to_be_bytes()[0]))
+    hash.value().0.to_be_bytes()[0]
 }
 
 /// Seals a text in place again and again, block by block.
-fn time_plain_seal(rt: &HostRuntime, work: Work) -> io::Result<Measured> {
-    let key = PlainKey::new(&KEY);
-    let mut text = vec![in rt.alloc(); 0x5a; usize::from(work.length)]?;
-    let start = Instant::now(rt)?;
+fn plainly_sealed(key: &PlainKey, work: Work) -> u8 {
+    let mut text = [0x5a; MAX_LENGTH];
+    let length = MAX_LENGTH.min(usize::from(work.length));
     let mut last = 0;
     for _ in 0..work.turns {
-        last = key.seal(&[0; 12], text.as_mut_slice())[0];
+        last = key.seal(&[0; 12], &mut text[..length])[0];
     }
-    Ok((start.elapsed(rt)?, last))
+    last
 }
 
 /// Seals a text in place again and again.
-fn time_seal(rt: &HostRuntime, work: Work) -> io::Result<Measured> {
-    let key = GcmKey::new(KEY);
-    let mut text = vec![in rt.alloc(); 0x5a; usize::from(work.length)]?;
-    let start = Instant::now(rt)?;
+fn sealed(key: &GcmKey, work: Work) -> u8 {
+    let mut text = [0x5a; MAX_LENGTH];
+    let length = MAX_LENGTH.min(usize::from(work.length));
     let mut last = 0;
     for _ in 0..work.turns {
-        last = key.seal(&[0; 12], &[], text.as_mut_slice())[0];
+        last = key.seal(&[0; 12], &[], &mut text[..length])[0];
     }
-    Ok((start.elapsed(rt)?, last))
+    last
 }

@@ -26,9 +26,75 @@ const SENDER: Sci = Sci([2, 0, 0, 0, 0, 1, 0, 1]);
 
 const RECEIVER: Sci = Sci([2, 0, 0, 0, 0, 2, 0, 1]);
 
+/// What an endpoint does with a frame, again and again.
+#[derive(Clone, Copy)]
+enum Work {
+    Send,
+    Receive,
+}
+
+impl Work {
+    /// Its name on the command line, and that of the endpoint's call.
+    fn name(self) -> &'static str {
+        match self {
+            Work::Send => "send",
+            Work::Receive => "receive",
+        }
+    }
+
+    /// What becomes of the frame each time.
+    fn result(self) -> &'static str {
+        match self {
+            Work::Send => "sent",
+            Work::Receive => "passed",
+        }
+    }
+
+    /// A new endpoint that does it.
+    fn endpoint(self, alloc: Global, an: An) -> anyhow::Result<Secy> {
+        match self {
+            Work::Send => sender(alloc, an),
+            Work::Receive => receiver(alloc, an),
+        }
+    }
+
+    /// A frame with so many octets of data with which it is done.
+    fn frame(self, alloc: Global, an: An, data_length: u16) -> anyhow::Result<Vec<u8>> {
+        match self {
+            Work::Send => client_frame(alloc, data_length),
+            Work::Receive => link_frame(alloc, an, data_length),
+        }
+    }
+
+    /// Does the endpoint send or pass the frame?
+    fn is_done(self, secy: &mut Secy, frame: &[u8]) -> anyhow::Result<bool> {
+        match self {
+            Work::Send => is_sent(secy, frame),
+            Work::Receive => is_passed(secy, frame),
+        }
+    }
+
+    /// Does it so each of so many times?
+    fn is_always_done(self, secy: &mut Secy, frame: &[u8], turns: u32) -> anyhow::Result<bool> {
+        let mut all_done = true;
+        for _ in 0..turns {
+            all_done = self.is_done(secy, frame)? && all_done;
+        }
+        Ok(all_done)
+    }
+}
+
 /// Has an endpoint carry a command out.
 fn order(secy: &mut Secy, command: &Command) -> anyhow::Result<()> {
     secy.command(command)?;
+    Ok(())
+}
+
+/// Has an endpoint carry commands out.
+fn order_all(secy: &mut Secy, commands: &[Command]) -> anyhow::Result<()> {
+    for command in commands {
+        order(secy, command)?;
+    }
     Ok(())
 }
 
@@ -63,47 +129,49 @@ fn endpoint(alloc: Global, sci: Sci) -> anyhow::Result<Secy> {
     Ok(secy)
 }
 
+/// An endpoint of this SCI that has carried out these commands.
+fn ready_endpoint(alloc: Global, sci: Sci, commands: &[Command]) -> anyhow::Result<Secy> {
+    let mut secy = endpoint(alloc, sci)?;
+    order_all(&mut secy, commands)?;
+    Ok(secy)
+}
+
 /// An endpoint that sends encrypted.
-pub fn sender(alloc: Global, an: An) -> anyhow::Result<Secy> {
-    let mut secy = endpoint(alloc, SENDER)?;
-    order(&mut secy, &new_key(key_number(), BYTES))?;
-    order(
-        &mut secy,
-        &Command::TxSa {
+fn sender(alloc: Global, an: An) -> anyhow::Result<Secy> {
+    let key = key_number();
+    let commands = [
+        new_key(key, BYTES),
+        Command::TxSa {
             an,
-            key: key_number(),
+            key,
             next: 1,
             conf: true,
         },
-    )?;
-    order(&mut secy, &Command::TxOn(an))?;
-    Ok(secy)
+        Command::TxOn(an),
+    ];
+    ready_endpoint(alloc, SENDER, &commands)
 }
 
 /// An endpoint that receives what that one sends, and takes a packet number again and again.
 pub fn receiver(alloc: Global, an: An) -> anyhow::Result<Secy> {
-    let mut secy = endpoint(alloc, RECEIVER)?;
-    order(&mut secy, &new_key(key_number(), BYTES))?;
-    order(
-        &mut secy,
-        &Command::Replay {
+    let key = key_number();
+    let commands = [
+        new_key(key, BYTES),
+        Command::Replay {
             protect: true,
             window: u64::from(u32::MAX),
         },
-    )?;
-    order(&mut secy, &Command::RxSc(SENDER))?;
-    order(
-        &mut secy,
-        &Command::RxSa {
+        Command::RxSc(SENDER),
+        Command::RxSa {
             sci: SENDER,
             an,
-            key: key_number(),
+            key,
             ssci: 0,
             lowest: 1,
         },
-    )?;
-    order(&mut secy, &Command::RxOn(SENDER, an))?;
-    Ok(secy)
+        Command::RxOn(SENDER, an),
+    ];
+    ready_endpoint(alloc, RECEIVER, &commands)
 }
 
 /// A client frame of so many octets of data, behind DA and SA.
@@ -112,15 +180,19 @@ fn client_frame(alloc: Global, data_length: u16) -> anyhow::Result<Vec<u8>> {
     Ok(frame)
 }
 
-/// That frame as the endpoint sends it.
-pub fn link_frame(alloc: Global, an: An, data_length: u16) -> anyhow::Result<Vec<u8>> {
-    let mut secy = sender(alloc, an)?;
-    let client = client_frame(alloc, data_length)?;
-    let frame = match secy.send(client.as_slice())? {
+/// The frame as the endpoint sends it.
+fn sent_frame(alloc: Global, secy: &mut Secy, frame: &[u8]) -> anyhow::Result<Vec<u8>> {
+    let sent = match secy.send(frame)? {
         Sent::Link { frame, under: _ } => Vec::from_slice(alloc, frame)?,
         Sent::Dropped(_) => Vec::new(alloc),
     };
-    Ok(frame)
+    Ok(sent)
+}
+
+/// A client frame of so many octets of data as an endpoint sends it.
+pub fn link_frame(alloc: Global, an: An, data_length: u16) -> anyhow::Result<Vec<u8>> {
+    let client = client_frame(alloc, data_length)?;
+    sent_frame(alloc, &mut sender(alloc, an)?, client.as_slice())
 }
 
 /// Does an endpoint send a frame?
@@ -133,22 +205,9 @@ fn is_passed(secy: &mut Secy, frame: &[u8]) -> anyhow::Result<bool> {
     Ok(secy.receive(frame)?.verdict == Verdict::Passed)
 }
 
-/// Does an endpoint send a frame so many times?
-fn is_always_sent(secy: &mut Secy, frame: &[u8], turns: u32) -> anyhow::Result<bool> {
-    let mut all_sent = true;
-    for _ in 0..turns {
-        all_sent = is_sent(secy, frame)? && all_sent;
-    }
-    Ok(all_sent)
-}
-
 /// Does an endpoint pass a frame each time that it is received, so many times?
 pub fn is_always_passed(secy: &mut Secy, frame: &[u8], turns: u32) -> anyhow::Result<bool> {
-    let mut all_passed = true;
-    for _ in 0..turns {
-        all_passed = is_passed(secy, frame)? && all_passed;
-    }
-    Ok(all_passed)
+    Work::Receive.is_always_done(secy, frame, turns)
 }
 
 /// Bytes that no other of these numbers has.
@@ -160,15 +219,21 @@ fn bytes_of(number: u16) -> [u8; 16] {
     bytes
 }
 
+/// Installs keys at an endpoint without any.
+fn install_keys(secy: &mut Secy) -> anyhow::Result<()> {
+    for n in 0..KEY_COUNT {
+        if let Some(number) = KeyNumber::new(n) {
+            order(secy, &new_key(number, bytes_of(n)))?;
+        }
+    }
+    Ok(())
+}
+
 /// How long it takes to install keys at an endpoint without any.
 fn time_keys(rt: &HostRuntime) -> anyhow::Result<Duration> {
     let mut secy = endpoint(rt.alloc(), SENDER)?;
     let start = Instant::now(rt)?;
-    for n in 0..KEY_COUNT {
-        if let Some(number) = KeyNumber::new(n) {
-            order(&mut secy, &new_key(number, bytes_of(n)))?;
-        }
-    }
+    install_keys(&mut secy)?;
     Ok(start.elapsed(rt)?)
 }
 
@@ -186,85 +251,72 @@ fn number_in(word: &str) -> anyhow::Result<u16> {
 /// Sends a frame with so many octets of data so many times, or receives its link frame.
 pub fn repeat(rt: &HostRuntime, what: &str, length: &str, count: &str) -> anyhow::Result<()> {
     let (length, turns) = (number_in(length)?, u32::from(number_in(count)?));
-    let an = An::new(0).unwrap();
     let is_right = match what {
-        "send" => {
-            let client = client_frame(rt.alloc(), length)?;
-            is_always_sent(&mut sender(rt.alloc(), an)?, client.as_slice(), turns)?
-        }
-        "receive" => {
-            let frame = link_frame(rt.alloc(), an, length)?;
-            is_always_passed(&mut receiver(rt.alloc(), an)?, frame.as_slice(), turns)?
-        }
+        "send" => repeat_work(rt, Work::Send, length, turns)?,
+        "receive" => repeat_work(rt, Work::Receive, length, turns)?,
         _ => bail!("{what} is neither send nor receive"),
     };
     println!(rt; "each frame was sent or passed: {is_right}")?;
     Ok(())
 }
 
-/// How long it takes to send a frame so many times.
-fn time_sends(rt: &HostRuntime, secy: &mut Secy, frame: &[u8]) -> anyhow::Result<Duration> {
+/// Is a new frame with so many octets of data sent or passed by a new endpoint each of so many times?
+fn repeat_work(rt: &HostRuntime, work: Work, data_length: u16, turns: u32) -> anyhow::Result<bool> {
+    let an = An::new(0).unwrap();
+    let frame = work.frame(rt.alloc(), an, data_length)?;
+    work.is_always_done(&mut work.endpoint(rt.alloc(), an)?, frame.as_slice(), turns)
+}
+
+/// How long it takes to send or receive a frame so many times.
+fn time_work(
+    rt: &HostRuntime,
+    work: Work,
+    secy: &mut Secy,
+    frame: &[u8],
+) -> anyhow::Result<Duration> {
     let start = Instant::now(rt)?;
-    if !is_always_sent(secy, frame, TURN_COUNT)? {
-        bail!("a frame was not sent");
+    if !work.is_always_done(secy, frame, TURN_COUNT)? {
+        let result = work.result();
+        bail!("a frame was not {result}");
     }
     Ok(start.elapsed(rt)?)
 }
 
-/// How long it takes to receive a frame so many times.
-fn time_receipts(rt: &HostRuntime, secy: &mut Secy, frame: &[u8]) -> anyhow::Result<Duration> {
-    let start = Instant::now(rt)?;
-    if !is_always_passed(secy, frame, TURN_COUNT)? {
-        bail!("a frame was not passed");
-    }
-    Ok(start.elapsed(rt)?)
-}
-
-/// The shortest time of a round in which a frame is sent.
-fn fastest_sends(rt: &HostRuntime, secy: &mut Secy, frame: &[u8]) -> anyhow::Result<Duration> {
+/// The shortest time of a round in which a frame is sent or received.
+fn fastest_work(
+    rt: &HostRuntime,
+    work: Work,
+    secy: &mut Secy,
+    frame: &[u8],
+) -> anyhow::Result<Duration> {
     let mut fastest = Duration::MAX;
     for _ in 0..ROUND_COUNT {
-        fastest = fastest.min(time_sends(rt, secy, frame)?);
+        fastest = fastest.min(time_work(rt, work, secy, frame)?);
     }
     Ok(fastest)
 }
 
-/// The shortest time of a round in which a frame is received.
-fn fastest_receipts(rt: &HostRuntime, secy: &mut Secy, frame: &[u8]) -> anyhow::Result<Duration> {
-    let mut fastest = Duration::MAX;
-    for _ in 0..ROUND_COUNT {
-        fastest = fastest.min(time_receipts(rt, secy, frame)?);
-    }
-    Ok(fastest)
+/// The shortest time of a round in which frames with so many octets of data are sent or received.
+fn measure(rt: &HostRuntime, work: Work, an: An, data_length: u16) -> anyhow::Result<Duration> {
+    let frame = work.frame(rt.alloc(), an, data_length)?;
+    fastest_work(
+        rt,
+        work,
+        &mut work.endpoint(rt.alloc(), an)?,
+        frame.as_slice(),
+    )
 }
 
-/// The shortest time of a round in which frames with so many octets of data are sent.
-fn sending(rt: &HostRuntime, an: An, data_length: u16) -> anyhow::Result<Duration> {
-    let client = client_frame(rt.alloc(), data_length)?;
-    fastest_sends(rt, &mut sender(rt.alloc(), an)?, client.as_slice())
-}
-
-/// The shortest time of a round in which their link frames are received.
-fn receiving(rt: &HostRuntime, an: An, data_length: u16) -> anyhow::Result<Duration> {
-    let frame = link_frame(rt.alloc(), an, data_length)?;
-    fastest_receipts(rt, &mut receiver(rt.alloc(), an)?, frame.as_slice())
-}
-
-/// Measures sending and receiving frames of one length, and prints how fast they are.
-fn report_frames(rt: &HostRuntime, an: An, data_length: u16) -> anyhow::Result<()> {
-    let sends = rate(TURN_COUNT, sending(rt, an, data_length)?);
-    println!(rt; "Secy::send {data_length} {sends} frames per second")?;
-    let receipts = rate(TURN_COUNT, receiving(rt, an, data_length)?);
-    println!(rt; "Secy::receive {data_length} {receipts} frames per second")?;
+/// Measures sending or receiving frames of one length, and prints how fast it is.
+fn report_work(rt: &HostRuntime, work: Work, an: An, data_length: u16) -> anyhow::Result<()> {
+    let frames = rate(TURN_COUNT, measure(rt, work, an, data_length)?);
+    let name = work.name();
+    println!(rt; "Secy::{name} {data_length} {frames} frames per second")?;
     Ok(())
 }
 
-/// Measures frames and keys at an endpoint, and prints how fast they are.
-pub fn report(rt: &HostRuntime) -> anyhow::Result<()> {
-    let an = An::new(0).unwrap();
-    for data_length in DATA_LENGTHS {
-        report_frames(rt, an, data_length)?;
-    }
+/// Measures installing keys, and prints how fast it is.
+fn report_keys(rt: &HostRuntime) -> anyhow::Result<()> {
     let mut fastest = Duration::MAX;
     for _ in 0..ROUND_COUNT {
         fastest = fastest.min(time_keys(rt)?);
@@ -272,4 +324,14 @@ pub fn report(rt: &HostRuntime) -> anyhow::Result<()> {
     let keys = rate(u32::from(KEY_COUNT), fastest);
     println!(rt; "Command::Key {keys} keys per second")?;
     Ok(())
+}
+
+/// Measures frames and keys at an endpoint, and prints how fast they are.
+pub fn report(rt: &HostRuntime) -> anyhow::Result<()> {
+    let an = An::new(0).unwrap();
+    for data_length in DATA_LENGTHS {
+        report_work(rt, Work::Send, an, data_length)?;
+        report_work(rt, Work::Receive, an, data_length)?;
+    }
+    report_keys(rt)
 }

@@ -5,6 +5,7 @@ use crate::endpoints::{is_always_passed, link_frame, receiver};
 use macsec_gcm::GcmKey;
 use macsec_secy::{An, Key, Secy, Suite};
 use macsec_suite::{SuiteKey, protect_in_place};
+use std::io;
 use std::num::saturating_f64_to_u64;
 use std::time::{Duration, Instant};
 
@@ -21,43 +22,61 @@ const ROUND_COUNT: u32 = 16;
 
 const BYTES: [u8; 16] = [0x2b; 16];
 
-/// The shortest times of a round.
+/// What is measured.
 #[derive(Clone, Copy)]
-struct Fastest {
-    seal: Duration,
-    protect: Duration,
-    receive: Duration,
+enum Work {
+    Seal,
+    Protect,
+    Receive,
 }
 
-/// How long it takes to receive a frame again and again, and whether it is passed each time.
-fn time_receive(
-    rt: &HostRuntime,
-    secy: &mut Secy,
-    frame: &[u8],
-) -> anyhow::Result<(Duration, bool)> {
-    let start = Instant::now(rt)?;
-    let all_passed = is_always_passed(secy, frame, TURN_COUNT)?;
-    Ok((start.elapsed(rt)?, all_passed))
+/// What is measured, in turn.
+const WORKS: [Work; 3] = [Work::Seal, Work::Protect, Work::Receive];
+
+/// The keys and the frame with which it is done.
+#[derive(Clone, Copy)]
+struct Parts<'a> {
+    gcm_key: &'a GcmKey,
+    suite_key: &'a SuiteKey,
+    frame: &'a [u8],
 }
 
-/// How long it takes to seal a text again and again.
-fn time_seal(rt: &HostRuntime, key: &GcmKey) -> anyhow::Result<Duration> {
+/// Seals a text again and again.
+fn seal(key: &GcmKey) {
     let mut text = [0x5a; DATA_LENGTH as usize];
-    let start = Instant::now(rt)?;
     for _ in 0..TURN_COUNT {
         key.seal(&[0; 12], &[], &mut text);
     }
-    Ok(start.elapsed(rt)?)
 }
 
-/// How long it takes to protect a frame in place again and again.
-fn time_protect(rt: &HostRuntime, key: &SuiteKey) -> anyhow::Result<Duration> {
+/// Protects a frame in place again and again.
+fn protect(key: &SuiteKey) {
     let mut frame = [0x5a; LINK_LENGTH];
-    let start = Instant::now(rt)?;
     for _ in 0..TURN_COUNT {
         protect_in_place(key, &[0; 12], true, 16, &mut frame);
     }
-    Ok(start.elapsed(rt)?)
+}
+
+/// Does it again and again. Returns whether each frame was passed, if frames are received.
+fn is_done(work: Work, parts: Parts, secy: &mut Secy) -> anyhow::Result<bool> {
+    match work {
+        Work::Seal => seal(parts.gcm_key),
+        Work::Protect => protect(parts.suite_key),
+        Work::Receive => return is_always_passed(secy, parts.frame, TURN_COUNT),
+    }
+    Ok(true)
+}
+
+/// How long it takes to do it again and again.
+fn time(
+    rt: &HostRuntime,
+    work: Work,
+    parts: Parts,
+    secy: &mut Secy,
+) -> anyhow::Result<(Duration, bool)> {
+    let start = Instant::now(rt)?;
+    let is_done = is_done(work, parts, secy)?;
+    Ok((start.elapsed(rt)?, is_done))
 }
 
 /// Octets of data per second.
@@ -66,38 +85,62 @@ fn rate(took: Duration) -> f64 {
 }
 
 /// Prints how fast that was, and the ratio to sealing in hundredths.
-fn line(rt: &HostRuntime, name: &str, took: Duration, seal: Duration) -> anyhow::Result<()> {
+fn line(rt: &HostRuntime, name: &str, took: Duration, seal: Duration) -> io::Result<()> {
     let octets = saturating_f64_to_u64(rate(took));
     let ratio = saturating_f64_to_u64(100.0 * rate(took) / rate(seal));
-    println!(rt; "{name} {DATA_LENGTH} {octets} octets per second, {ratio} hundredths of seal")?;
-    Ok(())
+    println!(rt; "{name} {DATA_LENGTH} {octets} octets per second, {ratio} hundredths of seal")
+}
+
+/// The shortest times of a round of each of the three, and whether each frame was passed.
+fn shortest_times(
+    rt: &HostRuntime,
+    parts: Parts,
+    secy: &mut Secy,
+) -> anyhow::Result<([Duration; 3], bool)> {
+    let mut shortest = [Duration::MAX; 3];
+    let mut all_passed = true;
+    for _ in 0..ROUND_COUNT {
+        for place in 0..3usize {
+            let (took, is_passed) = time(rt, WORKS[place], parts, secy)?;
+            shortest[place] = shortest[place].min(took);
+            all_passed = all_passed && is_passed;
+        }
+    }
+    Ok((shortest, all_passed))
+}
+
+/// Prints how fast the three are, and whether each frame was passed.
+fn print(rt: &HostRuntime, shortest: [Duration; 3], all_passed: bool) -> io::Result<()> {
+    let [seal, protect, receive] = shortest;
+    line(rt, "seal", seal, seal)?;
+    line(rt, "protect_in_place", protect, seal)?;
+    line(rt, "receive", receive, seal)?;
+    println!(rt; "each frame was passed: {all_passed}")
 }
 
 /// Measures sealing, protecting and receiving in turn, and prints how fast they are.
+fn measure(rt: &HostRuntime, parts: Parts, secy: &mut Secy) -> anyhow::Result<()> {
+    let (shortest, all_passed) = shortest_times(rt, parts, secy)?;
+    print(rt, shortest, all_passed)?;
+    Ok(())
+}
+
+/// Measures them with new keys and this frame.
+fn measure_new(rt: &HostRuntime, secy: &mut Secy, frame: &[u8]) -> anyhow::Result<()> {
+    let suite_key = SuiteKey::new(Suite::Gcm128, Key::K128(BYTES), [0; 12], 0)?;
+    let gcm_key = GcmKey::new(Key::K128(BYTES));
+    let parts = Parts {
+        gcm_key: &gcm_key,
+        suite_key: &suite_key,
+        frame,
+    };
+    measure(rt, parts, secy)
+}
+
+/// Measures them with a new frame, and prints how fast they are.
 pub fn report(rt: &HostRuntime) -> anyhow::Result<()> {
     let an = An::new(0).unwrap();
-    let gcm_key = GcmKey::new(Key::K128(BYTES));
-    let suite_key = SuiteKey::new(Suite::Gcm128, Key::K128(BYTES), [0; 12], 0)?;
     let frame = link_frame(rt.alloc(), an, DATA_LENGTH)?;
     let mut secy = receiver(rt.alloc(), an)?;
-    let mut fastest = Fastest {
-        seal: Duration::MAX,
-        protect: Duration::MAX,
-        receive: Duration::MAX,
-    };
-    let mut all_passed = true;
-    for _ in 0..ROUND_COUNT {
-        let (received, is_passed) = time_receive(rt, &mut secy, &frame)?;
-        all_passed = all_passed && is_passed;
-        fastest = Fastest {
-            seal: fastest.seal.min(time_seal(rt, &gcm_key)?),
-            protect: fastest.protect.min(time_protect(rt, &suite_key)?),
-            receive: fastest.receive.min(received),
-        };
-    }
-    line(rt, "seal", fastest.seal, fastest.seal)?;
-    line(rt, "protect_in_place", fastest.protect, fastest.seal)?;
-    line(rt, "receive", fastest.receive, fastest.seal)?;
-    println!(rt; "each frame was passed: {all_passed}")?;
-    Ok(())
+    measure_new(rt, &mut secy, frame.as_slice())
 }

@@ -4,7 +4,6 @@ use macsec_link::{
     An, Command, End, EndConfig, Event, Frame, Key, KeyNumber, NewKey, Outcome, Sci, Suite,
     TagForm, Verdict, World,
 };
-use std::alloc::Global;
 use std::io;
 use std::time::{Duration, Instant};
 
@@ -73,65 +72,72 @@ fn commands(an: An) -> [(End, Command); 7] {
     ]
 }
 
-/// Has the two ends and the link carry an event out.
-fn step(world: &mut World, event: &Event) -> anyhow::Result<()> {
-    world.step(event)?;
-    Ok(())
+/// Has the two ends and the link carry an event out. Returns whether it was a frame that was passed.
+fn step(world: &mut World, event: &Event) -> anyhow::Result<bool> {
+    let outcome = world.step(event)?;
+    Ok(is_passed(&outcome))
 }
 
-/// Two ends of which A sends and B receives.
-fn ready_world(alloc: Global) -> anyhow::Result<World> {
-    let receiver = Sci([2, 0, 0, 0, 0, 2, 0, 1]);
-    let mut world = World::new(alloc, config(SENDER), config(receiver))?;
-    for (end, command) in commands(An::new(0).unwrap()) {
-        step(&mut world, &Event::Command(end, command))?;
-    }
-    Ok(world)
-}
-
-/// Fills the link with a frame of A.
-fn fill(world: &mut World, alloc: Global) -> anyhow::Result<()> {
-    let send = Event::Send(End::A, Frame::new(vec![in alloc; 0x5a; FRAME_LENGTH]?));
-    for _ in 0..FRAME_COUNT {
-        step(world, &send)?;
-    }
-    Ok(())
-}
-
-/// Is the link's frame passed when it comes to B?
-fn is_passed(world: &mut World, n: u32) -> anyhow::Result<bool> {
-    let outcome = world.step(&Event::Deliver(End::B, n))?;
-    Ok(matches!(
+/// Was a frame passed?
+fn is_passed(outcome: &Outcome) -> bool {
+    matches!(
         outcome,
         Outcome::Heard {
             verdict: Verdict::Passed,
             ..
         }
-    ))
+    )
 }
 
-/// The number of the link's frames that are passed when they come to B, in their order.
-fn passed_count(world: &mut World) -> anyhow::Result<u32> {
+/// Has an end carry a command out.
+fn order(world: &mut World, end: End, command: Command) -> anyhow::Result<bool> {
+    step(world, &Event::Command(end, command))
+}
+
+/// Delivers a frame of the link to B. Returns whether it was passed.
+fn deliver(world: &mut World, n: u32) -> anyhow::Result<bool> {
+    step(world, &Event::Deliver(End::B, n))
+}
+
+/// Has the two ends carry commands out.
+fn order_all(world: &mut World, commands: &[(End, Command)]) -> anyhow::Result<()> {
+    for (end, command) in commands {
+        order(world, *end, *command)?;
+    }
+    Ok(())
+}
+
+/// What is timed.
+#[derive(Clone, Copy)]
+enum Phase {
+    /// The link is filled with a frame of A.
+    Fill,
+    /// Each frame of the link comes to B, in their order.
+    Deliver,
+}
+
+/// The number of the link's frames that are passed in a phase in which A sends by this event.
+fn passed_in(world: &mut World, phase: Phase, send: &Event) -> anyhow::Result<u32> {
     let mut passed: u32 = 0;
     for n in 0..FRAME_COUNT {
-        if is_passed(world, n)? {
-            passed = passed.saturating_add(1);
-        }
+        let is_passed = match phase {
+            Phase::Fill => step(world, send)?,
+            Phase::Deliver => deliver(world, n)?,
+        };
+        passed = passed.saturating_add(u32::from(is_passed));
     }
     Ok(passed)
 }
 
-/// How long it takes to fill the link.
-fn time_fill(rt: &HostRuntime, world: &mut World) -> anyhow::Result<Duration> {
+/// How long a phase takes, and how many frames are passed.
+fn time(
+    rt: &HostRuntime,
+    world: &mut World,
+    phase: Phase,
+    send: &Event,
+) -> anyhow::Result<(Duration, u32)> {
     let start = Instant::now(rt)?;
-    fill(world, rt.alloc())?;
-    Ok(start.elapsed(rt)?)
-}
-
-/// How long it takes to deliver each frame of the link, and how many are passed.
-fn time_deliveries(rt: &HostRuntime, world: &mut World) -> anyhow::Result<(Duration, u32)> {
-    let start = Instant::now(rt)?;
-    let passed = passed_count(world)?;
+    let passed = passed_in(world, phase, send)?;
     Ok((start.elapsed(rt)?, passed))
 }
 
@@ -143,11 +149,24 @@ fn line(rt: &HostRuntime, sent: Duration, delivered: Duration, passed: u32) -> i
     )
 }
 
-/// Fills a link with frames of A and delivers each to B, and prints how long both took.
-pub fn report(rt: &HostRuntime) -> anyhow::Result<()> {
-    let mut world = ready_world(rt.alloc())?;
-    let sent = time_fill(rt, &mut world)?;
-    let (delivered, passed) = time_deliveries(rt, &mut world)?;
+/// Fills the link of two new ends with a frame of A and delivers each to B, and prints how long both took.
+fn measure(rt: &HostRuntime, world: &mut World, send: &Event) -> anyhow::Result<()> {
+    order_all(world, &commands(An::new(0).unwrap()))?;
+    let (sent, _) = time(rt, world, Phase::Fill, send)?;
+    let (delivered, passed) = time(rt, world, Phase::Deliver, send)?;
     line(rt, sent, delivered, passed)?;
     Ok(())
+}
+
+/// Measures the link of two new ends.
+fn measure_new(rt: &HostRuntime, send: &Event) -> anyhow::Result<()> {
+    let receiver = Sci([2, 0, 0, 0, 0, 2, 0, 1]);
+    let mut world = World::new(rt.alloc(), config(SENDER), config(receiver))?;
+    measure(rt, &mut world, send)
+}
+
+/// Measures a link of two ends of which A sends and B receives, and prints how fast it is.
+pub fn report(rt: &HostRuntime) -> anyhow::Result<()> {
+    let frame = Frame::new(vec![in rt.alloc(); 0x5a; FRAME_LENGTH]?);
+    measure_new(rt, &Event::Send(End::A, frame))
 }

@@ -47,19 +47,24 @@ const SCRIPTS: [Script; 8] = [
 ];
 
 impl Script {
+    /// Adds its lines after the first ones.
+    fn push_to(self, text: &mut String) -> Result<(), AllocError> {
+        match self {
+            Script::Commands => push_times(text, "A protect on\n", 65_526),
+            Script::LongFrames => push_long_frames(text),
+            Script::ClientFrames(count) => push_times(text, SEND, count),
+            Script::LinkFrames(count) => push_link_frames(text, count),
+            Script::Deliveries(count) => {
+                push_link_frames(text, count)?;
+                push_times(text, "B deliver 0\n", 5_000)
+            }
+        }
+    }
+
     /// The whole text.
     fn text(self, alloc: Global) -> Result<String, AllocError> {
         let mut text = String::from_str(alloc, READY)?;
-        match self {
-            Script::Commands => push_times(&mut text, "A protect on\n", 65_526)?,
-            Script::LongFrames => push_long_frames(&mut text)?,
-            Script::ClientFrames(count) => push_times(&mut text, SEND, count)?,
-            Script::LinkFrames(count) => push_link_frames(&mut text, count)?,
-            Script::Deliveries(count) => {
-                push_link_frames(&mut text, count)?;
-                push_times(&mut text, "B deliver 0\n", 5_000)?;
-            }
-        }
+        self.push_to(&mut text)?;
         Ok(text)
     }
 }
@@ -72,12 +77,17 @@ fn push_times(text: &mut String, piece: &str, count: u32) -> Result<(), AllocErr
     Ok(())
 }
 
+/// Adds a line that sends a client frame of 1,518 octets.
+fn push_long_frame(text: &mut String) -> Result<(), AllocError> {
+    text.push_str("A send ")?;
+    push_times(text, "5a", 1518)?;
+    text.push_str("\n")
+}
+
 /// Adds lines that send client frames of 1,518 octets, and a comment up to the end of the longest script.
 fn push_long_frames(text: &mut String) -> Result<(), AllocError> {
     for _ in 0..344 {
-        text.push_str("A send ")?;
-        push_times(text, "5a", 1518)?;
-        text.push_str("\n")?;
+        push_long_frame(text)?;
     }
     push_times(text, "#", 1_145)?;
     text.push_str("\n")
@@ -89,17 +99,34 @@ fn push_link_frames(text: &mut String, count: u32) -> Result<(), AllocError> {
     push_times(text, "pad 0\n", count.saturating_sub(1))
 }
 
+/// Runs a script, and returns what it prints.
+fn printed_by(alloc: Global, text: &str) -> anyhow::Result<Vec<u8>> {
+    let mut printed = Vec::new(alloc);
+    run_script(alloc, &mut text.as_bytes(), &mut printed)?;
+    Ok(printed)
+}
+
+/// How many milliseconds it takes to run a script, and how many octets it prints.
+fn time_script(rt: &HostRuntime, text: &str) -> anyhow::Result<(u128, usize)> {
+    let start = Instant::now(rt)?;
+    let printed = printed_by(rt.alloc(), text)?;
+    let took = start.elapsed(rt)?.as_millis();
+    Ok((took, printed.len()))
+}
+
+/// Runs a script, and prints how long it took.
+fn report_script(rt: &HostRuntime, script: Script, text: &str) -> anyhow::Result<()> {
+    let (took, length) = time_script(rt, text)?;
+    let octets = text.len();
+    println!(rt; "script {script:?}: {octets} octets, {took} ms, {length} octets printed")?;
+    Ok(())
+}
+
 /// Runs each script, and prints how long it took.
 pub fn report(rt: &HostRuntime) -> anyhow::Result<()> {
     for script in SCRIPTS {
         let text = script.text(rt.alloc())?;
-        let octets = text.len();
-        let mut printed = Vec::new(rt.alloc());
-        let start = Instant::now(rt)?;
-        run_script(rt.alloc(), &mut text.as_bytes(), &mut printed)?;
-        let took = start.elapsed(rt)?.as_millis();
-        let length = printed.len();
-        println!(rt; "script {script:?}: {octets} octets, {took} ms, {length} octets printed")?;
+        report_script(rt, script, text.as_str())?;
     }
     Ok(())
 }
