@@ -88,7 +88,7 @@ fn capture_file() -> [u8; 114] {
 pub fn run<W: Write>(
     alloc: Global,
     before: u32,
-    mut text: &[u8],
+    text: &[u8],
     writer: &mut W,
 ) -> Result<(), ScriptFault> {
     let (Ok(mut output), Ok(mut printed)) = (
@@ -99,22 +99,46 @@ pub fn run<W: Write>(
     };
     let file = capture_file();
     let filled = fill(alloc, before);
-    let ended = run_capture(
+    let ended = protect(alloc, text, file.as_slice(), &mut output, &mut printed);
+    let after = one(alloc);
+    write_answer(writer, filled, answer_of_run(&ended), after)?;
+    write_outputs(writer, output.as_slice(), printed.as_slice())
+}
+
+/// `run_capture`, of this configuration and this file.
+fn protect(
+    alloc: Global,
+    mut text: &[u8],
+    mut file: &[u8],
+    output: &mut Vec<u8>,
+    printed: &mut Vec<u8>,
+) -> Result<(), CaptureFault> {
+    run_capture(
         alloc,
         Direction::Protect,
         &mut text,
-        &mut file.as_slice(),
-        &mut output,
-        &mut printed,
-    );
-    let after = one(alloc);
-    let answer = match ended {
+        &mut file,
+        output,
+        printed,
+    )
+}
+
+/// What a run answers.
+fn answer_of_run(ended: &Result<(), CaptureFault>) -> &'static str {
+    match ended {
         Ok(()) => "done",
         Err(CaptureFault::Script(ScriptFault::Memory)) => "script Memory",
         Err(CaptureFault::Pcap(PcapFault::Memory)) => "pcap Memory",
         Err(_) => "another fault",
-    };
-    write_answer(writer, filled, answer, after)?;
-    write_fault(writer.write_all(printed.as_slice()))?;
+    }
+}
+
+/// Writes the text and the output of a run.
+fn write_outputs<W: Write>(
+    writer: &mut W,
+    output: &[u8],
+    printed: &[u8],
+) -> Result<(), ScriptFault> {
+    write_fault(writer.write_all(printed))?;
     write_fault(writeln!(writer, "output {output:?}"))
 }

@@ -1,7 +1,7 @@
 //! Key tables and endpoints.
 
 use crate::room::{fill, one, write_answer};
-use macsec_link::{End, EndConfig, Event, Sci, Secy, Suite, TagForm};
+use macsec_link::{Command, End, EndConfig, Event, Sci, Secy, Suite, TagForm};
 use macsec_print::{Label, print_counters};
 use macsec_script::{Line, ScriptFault, parse_script};
 use macsec_secy::{NewFault, Sent};
@@ -65,26 +65,65 @@ pub fn turns<W: Write>(
     writer: &mut W,
 ) -> Result<(), ScriptFault> {
     let lines = parse_script(alloc, text)?;
-    let (Ok(mut a), Ok(mut b)) = (Secy::new(alloc, A), Secy::new(alloc, B)) else {
-        return Err(ScriptFault::Memory);
-    };
+    turns_of(alloc, before, lines.as_slice(), writer)
+}
+
+/// The same of these lines.
+fn turns_of<W: Write>(
+    alloc: Global,
+    before: u32,
+    lines: &[(u32, Line)],
+    writer: &mut W,
+) -> Result<(), ScriptFault> {
+    let mut a = endpoint(alloc, A)?;
+    let mut b = endpoint(alloc, B)?;
+    write_turns(alloc, before, &mut a, &mut b, lines, writer)
+}
+
+/// A new endpoint.
+fn endpoint(alloc: Global, config: EndConfig) -> Result<Secy, ScriptFault> {
+    match Secy::new(alloc, config) {
+        Ok(endpoint) => Ok(endpoint),
+        Err(_) => Err(ScriptFault::Memory),
+    }
+}
+
+/// The same of these endpoints.
+fn write_turns<W: Write>(
+    alloc: Global,
+    before: u32,
+    a: &mut Secy,
+    b: &mut Secy,
+    lines: &[(u32, Line)],
+    writer: &mut W,
+) -> Result<(), ScriptFault> {
     let mut last = LastSent::new();
     let filled = fill(alloc, before);
     for _ in 0..ROUND_COUNT {
-        for (_, line) in &lines {
-            if let Line::Event(event) = line {
-                match end_of(event) {
-                    Some(End::A) => turn(&mut a, &mut last, event),
-                    Some(End::B) => turn(&mut b, &mut last, event),
-                    None => {}
-                }
-            }
-        }
+        go_through(a, b, &mut last, lines);
     }
     let after = one(alloc);
     write_answer(writer, filled, "done", after)?;
-    print_counters(writer, Label::End, &a)?;
-    print_counters(writer, Label::End, &b)
+    write_counters(writer, a)?;
+    write_counters(writer, b)
+}
+
+/// Carries out the events of these lines.
+fn go_through(a: &mut Secy, b: &mut Secy, last: &mut LastSent, lines: &[(u32, Line)]) {
+    for (_, line) in lines {
+        if let Line::Event(event) = line {
+            match end_of(event) {
+                Some(End::A) => turn(a, last, event),
+                Some(End::B) => turn(b, last, event),
+                None => {}
+            }
+        }
+    }
+}
+
+/// Writes the counters of an endpoint.
+fn write_counters<W: Write>(writer: &mut W, endpoint: &Secy) -> Result<(), ScriptFault> {
+    print_counters(writer, Label::End, endpoint)
 }
 
 /// The link frame that was sent last.
@@ -122,22 +161,31 @@ impl LastSent {
 /// One event at an endpoint.
 fn turn(secy: &mut Secy, last: &mut LastSent, event: &Event) {
     match event {
-        Event::Command(_, command) => {
-            let _ = secy.command(command);
-        }
-        Event::Send(_, frame) => {
-            if let Ok(Sent::Link { frame, .. }) = secy.send(frame.octets()) {
-                last.keep(frame);
-            }
-        }
-        Event::SendUncontrolled(_, frame) => {
-            let _ = secy.send_uncontrolled(frame.octets());
-        }
-        Event::Deliver(_, _) => {
-            let _ = secy.receive(last.frame());
-        }
+        Event::Command(_, command) => order(secy, command),
+        Event::Send(_, frame) => send(secy, last, frame.octets()),
+        Event::SendUncontrolled(_, frame) => send_uncontrolled(secy, frame.octets()),
+        Event::Deliver(_, _) => receive(secy, last.frame()),
         _ => {}
     }
+}
+
+fn order(secy: &mut Secy, command: &Command) {
+    let _ = secy.command(command);
+}
+
+/// Sends a frame, and keeps the link frame.
+fn send(secy: &mut Secy, last: &mut LastSent, frame: &[u8]) {
+    if let Ok(Sent::Link { frame, .. }) = secy.send(frame) {
+        last.keep(frame);
+    }
+}
+
+fn send_uncontrolled(secy: &mut Secy, frame: &[u8]) {
+    let _ = secy.send_uncontrolled(frame);
+}
+
+fn receive(secy: &mut Secy, frame: &[u8]) {
+    let _ = secy.receive(frame);
 }
 
 /// The end of an event, if it has one.
