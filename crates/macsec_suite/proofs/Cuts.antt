@@ -1,9 +1,38 @@
--- A text cut into pieces of 256 octets, of which the last may be shorter.
-use Rattle.std.proofs.Common.{◌≡◌, ℕ, ◌+◌, ◌-◌, ◌*◌, ◌≤◌, List, [], ◌++◌, length, take, drop, min, refl, subst, ap, sym, ◌∙◌, arith}
+-- Texts that are taken in piece by piece.
+use Rattle.std.proofs.Common.{◌≡◌, ℕ, ◌+◌, ◌-◌, ◌*◌, ◌≤◌, List, [], ◌++◌, length, take, drop, min, refl, subst, ap, sym, ◌∙◌, arith, append_assoc}
 use Rattle.std.proofs.Math.Seq.{take-add}
-use Rattle.std.proofs.lemmas.List.{drop-drop, take_all}
+use Rattle.std.proofs.lemmas.List.{append-nil, drop-drop, nil_from_length, take_all}
 use Rattle.std.proofs.lemmas.Slice.{take-put_mid, drop-put_mid}
 use borrow.Rule.Slice.PartMut.{put_mid}
+
+-- ---- a text that is lent in pieces and stays as it is
+
+-- a state has taken in what stands before the rest of a text
+pub record AreTaken (Has : List ℕ → Type 0) (text rest : List ℕ) : Type 0 where
+  pub done : List ℕ
+  pub text_is : done ++ rest ≡ text
+  pub taken : Has done
+
+-- before the first piece the rest is the whole text
+pub none_taken : (Has : List ℕ → Type 0) {text rest : List ℕ} → rest ≡ text → Has [] → AreTaken Has text rest
+none_taken Has whole taken = record { done = []; text_is = whole; taken = taken }
+
+-- the state after the next piece has taken it in too
+pub one_more_taken : (Has After : List ℕ → Type 0) {text rest piece after : List ℕ} → rest ≡ piece ++ after
+    → ((done : List ℕ) → Has done → After (done ++ piece)) → AreTaken Has text rest → AreTaken After text after
+one_more_taken Has After {text} {rest} {piece} {after} cut takes are = record {
+  done = are.done ++ piece;
+  text_is = append_assoc are.done piece after ∙ ap (◌++◌ are.done) (sym cut) ∙ are.text_is;
+  taken = takes are.done are.taken;
+}
+
+-- where nothing is left, the whole text was taken in
+pub all_taken : (Has : List ℕ → Type 0) {text rest : List ℕ} → length rest ≡ 0 → AreTaken Has text rest → Has text
+all_taken Has {text} {rest} none are =
+    let nothing : [] ≡ rest = sym (nil_from_length rest none) in
+    subst Has (sym (append-nil are.done) ∙ ap (◌++◌ are.done) nothing ∙ are.text_is) are.taken
+
+-- ---- a text cut into pieces of 256 octets, of which the last may be shorter
 
 -- where the first i pieces end
 abbrev pub end_of : List ℕ → ℕ → ℕ
@@ -13,13 +42,13 @@ end_of text i = min (length text) (256 * i)
 abbrev pub pieces : List ℕ → ℕ → List ℕ
 pieces text i = take (end_of text i) text
 
-pub no_piece : (text : List ℕ) → pieces text 0 ≡ []
+no_piece : (text : List ℕ) → pieces text 0 ≡ []
 no_piece text =
     let none : end_of text 0 ≡ 0 = omega arith in
     ap (λ (n : ℕ). take n text) none
 
 -- one piece more
-pub one_more : (text : List ℕ) (i e : ℕ) → 256 * i ≤ length text → e ≡ min (length text) (256 * i + 256)
+one_more : (text : List ℕ) (i e : ℕ) → 256 * i ≤ length text → e ≡ min (length text) (256 * i + 256)
     → pieces text i ++ take (e - 256 * i) (drop (256 * i) text) ≡ pieces text (i + 1)
 one_more text i e before end =
     let a : ℕ = 256 * i in
@@ -27,7 +56,7 @@ one_more text i e before end =
     let next : a + (e - a) ≡ end_of text (i + 1) = omega (arith, before, end) in
     ap (λ (n : ℕ). take n text ++ take (e - a) (drop a text)) first ∙ sym (take-add a (e - a) text) ∙ ap (λ (n : ℕ). take n text) next
 
-pub all_pieces : (text : List ℕ) (i : ℕ) → length text ≤ 256 * i → pieces text i ≡ text
+all_pieces : (text : List ℕ) (i : ℕ) → length text ≤ 256 * i → pieces text i ≡ text
 all_pieces text i behind = take_all (end_of text i) text (omega (arith, behind))
 
 -- ---- a text whose pieces are written in their place, one after another

@@ -52,9 +52,8 @@ pub fn open(key: &GcmKey, iv: &[u8; 12], aad: &[u8], text: &mut [u8], tag: &[u8;
 fn seal_aad(sealer: &mut Sealer<'_>, aad: &[u8])
     ensures { (key iv : List ℕ) → HasSealed sealer.old key iv [] [] → HasSealed sealer.new key iv aad.now [] }
 {
-    for i in 0..aad.len().div_ceil(PIECE_LENGTH) {
-        let end = aad.len().min(PIECE_LENGTH * i + PIECE_LENGTH);
-        sealer.aad(&aad[PIECE_LENGTH * i..end]);
+    for piece in aad.chunks(PIECE_LENGTH) {
+        sealer.aad(piece);
     }
 }
 
@@ -65,6 +64,7 @@ fn seal_text(sealer: &mut Sealer<'_>, text: &mut [u8])
 {
     // A law that the proof cites; the call does nothing.
     sealed_lengths();
+    // By index: of a text that was lent by `chunks_mut` std says the length, and not what was written.
     for i in 0..text.len().div_ceil(PIECE_LENGTH) {
         let end = text.len().min(PIECE_LENGTH * i + PIECE_LENGTH);
         sealer.data(&mut text[PIECE_LENGTH * i..end]);
@@ -75,9 +75,8 @@ fn seal_text(sealer: &mut Sealer<'_>, text: &mut [u8])
 fn check_aad(opener: &mut Opener<'_>, aad: &[u8])
     ensures { (key iv : List ℕ) → HasChecked opener.old key iv [] [] → HasChecked opener.new key iv aad.now [] }
 {
-    for i in 0..aad.len().div_ceil(PIECE_LENGTH) {
-        let end = aad.len().min(PIECE_LENGTH * i + PIECE_LENGTH);
-        opener.aad(&aad[PIECE_LENGTH * i..end]);
+    for piece in aad.chunks(PIECE_LENGTH) {
+        opener.aad(piece);
     }
 }
 
@@ -85,9 +84,8 @@ fn check_aad(opener: &mut Opener<'_>, aad: &[u8])
 fn check_text(opener: &mut Opener<'_>, text: &[u8])
     ensures { (key iv aad : List ℕ) → HasChecked opener.old key iv aad [] → HasChecked opener.new key iv aad text.now }
 {
-    for i in 0..text.len().div_ceil(PIECE_LENGTH) {
-        let end = text.len().min(PIECE_LENGTH * i + PIECE_LENGTH);
-        opener.check(&text[PIECE_LENGTH * i..end]);
+    for piece in text.chunks(PIECE_LENGTH) {
+        opener.check(piece);
     }
 }
 
@@ -95,6 +93,7 @@ fn check_text(opener: &mut Opener<'_>, text: &[u8])
 fn decrypt(unlocked: &mut Unlocked<'_>, text: &mut [u8])
     ensures { (key iv : List ℕ) → HasOpened unlocked.old key iv [] → text.new ≡ decrypted key iv text.old }
 {
+    // By index, as in `seal_text`.
     for i in 0..text.len().div_ceil(PIECE_LENGTH) {
         let end = text.len().min(PIECE_LENGTH * i + PIECE_LENGTH);
         unlocked.data(&mut text[PIECE_LENGTH * i..end]);

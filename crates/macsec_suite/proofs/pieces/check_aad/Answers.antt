@@ -1,17 +1,18 @@
-use Rattle.std.proofs.Common.{ℕ, List, [], subst, sym, arith}
+use Rattle.std.proofs.Common.{[], rules}
 use Rattle.macsec_gcm.specs.Pieces.{HasChecked}
-use Rattle.macsec_suite.proofs.Cuts.{all_pieces, no_piece, one_more, pieces}
+use Rattle.macsec_suite.proofs.Cuts.{all_taken, none_taken, one_more_taken}
 use Rattle.macsec_suite.proofs.pieces.check_aad.Goals as goal
 
-pub loop-i-init : goal.loop-i-init
-loop-i-init c = λ key iv none. subst (λ (aad : List ℕ). HasChecked c.args.opener.now key iv aad []) (sym (no_piece c.args.aad.now)) none
+pub loop-piece-init : goal.loop-piece-init
+loop-piece-init c = λ key iv. none_taken (λ aad. HasChecked c.args.opener.now key iv aad []) (search rules)
 
-pub loop-i-preserved : goal.loop-i-preserved
-loop-i-preserved c = λ key iv none.
-    subst (λ (aad : List ℕ). HasChecked c.aad.new.self key iv aad [])
-    (one_more c.args.aad.now c.loop-i.i c.min-end.result (omega arith) (omega arith))
-    (c.aad.ensures key iv (pieces c.args.aad.now c.loop-i.i) (c.loop-i.invariant key iv none))
+pub loop-piece-preserved : goal.loop-piece-preserved
+loop-piece-preserved c = λ key iv none.
+    one_more_taken (λ aad. HasChecked c.loop-piece.opener key iv aad [])
+    (λ aad. HasChecked c.aad.new.self key iv aad [])
+    c.in-Some.ensures.steps.1.0 (c.aad.ensures key iv) (c.loop-piece.invariant key iv none)
 
 pub returns : goal.returns
 returns c = λ key iv none.
-    subst (λ (aad : List ℕ). HasChecked c.loop-i.opener key iv aad []) (all_pieces c.args.aad.now c.loop-i.i (omega arith)) (c.loop-i.invariant key iv none)
+    all_taken (λ aad. HasChecked c.loop-piece.opener key iv aad [])
+    c.in-None.ensures.steps.1.0 (c.loop-piece.invariant key iv none)

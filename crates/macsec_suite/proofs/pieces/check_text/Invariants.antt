@@ -1,8 +1,9 @@
 use Rattle.std.proofs.Common.{ℕ, List, []}
 use Rattle.macsec_gcm.specs.Pieces.{HasChecked}
-use Rattle.macsec_suite.proofs.Cuts.{pieces}
+use Rattle.macsec_suite.proofs.Cuts.{AreTaken}
 use Rattle.macsec_suite.proofs.pieces.check_text.Given as goal
 
--- the first i pieces were checked
-abbrev pub invariant-loop-i : goal.invariant-loop-i
-invariant-loop-i l = (key iv aad : List ℕ) → HasChecked l.initial.opener key iv aad [] → HasChecked l.opener key iv aad (pieces l.text l.i)
+-- the pieces before the rest were checked
+abbrev pub invariant-loop-piece : goal.invariant-loop-piece
+invariant-loop-piece l = (key iv aad : List ℕ) → HasChecked l.initial.opener key iv aad []
+    → AreTaken (HasChecked l.opener key iv aad) l.text l.piece-iterator.rest.now

@@ -1,8 +1,9 @@
 use Rattle.std.proofs.Common.{ℕ, List, []}
 use Rattle.macsec_gcm.specs.Pieces.{HasSealed}
-use Rattle.macsec_suite.proofs.Cuts.{pieces}
+use Rattle.macsec_suite.proofs.Cuts.{AreTaken}
 use Rattle.macsec_suite.proofs.pieces.seal_aad.Given as goal
 
--- the first i pieces were authenticated
-abbrev pub invariant-loop-i : goal.invariant-loop-i
-invariant-loop-i l = (key iv : List ℕ) → HasSealed l.initial.sealer key iv [] [] → HasSealed l.sealer key iv (pieces l.aad l.i) []
+-- the pieces before the rest were authenticated
+abbrev pub invariant-loop-piece : goal.invariant-loop-piece
+invariant-loop-piece l = (key iv : List ℕ) → HasSealed l.initial.sealer key iv [] []
+    → AreTaken (λ aad. HasSealed l.sealer key iv aad []) l.aad l.piece-iterator.rest.now
