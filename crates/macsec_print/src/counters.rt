@@ -7,9 +7,10 @@ ghost use Rattle.macsec_print.specs.Counters.{associations_text, channel_counter
 ghost use Rattle.macsec_print.specs.Counters.{rx_counter_text, rx_counters_text, sa_counter_text, sa_counters_text};
 ghost use Rattle.macsec_print.specs.Printing.{Prints};
 
-use crate::numbers::{MAX_CHANNEL_COUNT, association_numbers};
+use crate::numbers::association_numbers;
 use crate::writing::{write_fault, write_hex};
 use macsec_lines::ScriptFault;
+use macsec_rx::MAX_CHANNEL_COUNT;
 use macsec_secy::{An, Counters, RxCounters, Sci, Secy, TxCounters};
 use std::fmt;
 use std::io::{self, Write};

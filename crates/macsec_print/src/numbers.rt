@@ -9,12 +9,10 @@ ghost use Rattle.macsec_print.specs.Printing.{Prints};
 
 use crate::writing::{write_fault, write_hex};
 use macsec_lines::ScriptFault;
+use macsec_rx::MAX_CHANNEL_COUNT;
 use macsec_secy::{An, RxRow, Sci, Secy, TxRow};
 use std::fmt;
 use std::io::{self, Write};
-
-/// The most receive channels of an endpoint.
-pub const MAX_CHANNEL_COUNT: usize = 64;
 
 /// A packet number, which prints itself in hex, with leading zeros up to 16 digits.
 #[derive(Clone, Copy)]
