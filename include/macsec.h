@@ -8,7 +8,7 @@
  *
  *     macsec_endpoint a = MACSEC_ENDPOINT_INIT;
  *     macsec_config config = { { 0x12, 0x15, 0x35, 0x24, 0xc0, 0x89, 0x5e, 0x81 },
- *                              MACSEC_SUITE_GCM_AES_128, MACSEC_FORM_SCI, 1518 };
+ *                              MACSEC_SUITE_GCM_AES_128, MACSEC_FORM_SCI, 1546 };
  *     if (macsec_new(&a, &config) != MACSEC_OK) ...
  *     macsec_key(&a, &sak); macsec_tx_sa(&a, 0, sak.number, 1, true); macsec_tx_on(&a, 0);
  *
@@ -346,13 +346,15 @@ uint32_t macsec_replay(macsec_endpoint *e, bool protect, uint64_t window);
 /* Set the tag form. */
 uint32_t macsec_tag(macsec_endpoint *e, uint32_t form);
 
-/* Install a key. Its number and its octets can never be used again by this endpoint. */
+/* Install a key. Its number and its octets can never be used again by this endpoint. Another endpoint, or the next run
+ * of the program, knows nothing of it: see macsec_tx_sa. */
 uint32_t macsec_key(macsec_endpoint *e, const macsec_sak *key);
 /* Retire a key that no association uses: no new association may use it. */
 uint32_t macsec_retire(macsec_endpoint *e, uint16_t key);
 
 /* Create a transmit association (an: 0 to 3), disabled, whose first packet number is `next`; it encrypts if `conf`,
- * and else protects integrity only. */
+ * and else protects integrity only. Packet numbers are forgotten when the endpoint is freed or the process ends: with
+ * a key that was used before, `next` must be above all numbers used under it, else IVs repeat, which breaks GCM. */
 uint32_t macsec_tx_sa(macsec_endpoint *e, uint8_t an, uint16_t key, uint64_t next, bool conf);
 /* Enable it, and disable every other one; disable it; delete it. */
 uint32_t macsec_tx_on(macsec_endpoint *e, uint8_t an);
