@@ -1,7 +1,7 @@
 //! What no clause says: that the definitions give the test frames of IEEE 802.1AE, Annex C, and that
 //! the calls succeed.
 
-ghost use Rattle.std.specs.Prelude.{◌≤◌, length};
+ghost use Rattle.std.specs.Prelude.{◌≤◌};
 
 use macsec_aes::Key;
 use macsec_suite::{Suite, SuiteFault, SuiteKey, iv_of, protect_in_place, validate_in_place};
@@ -10,25 +10,29 @@ use macsec_vectors::{
     CLIENT_54, CLIENT_60, KEY_128, KEY_256, LINK_54, LINK_54_256, LINK_60, LINK_60_256,
     PACKET_NUMBER, SCI,
 };
-use std::test::Fail;
 
-/// A client's frame with the SecTAG of its protected frame, and zeros to the end.
-fn tagged(client: &[u8], link: &[u8]) -> [u8; 96]
-    requires link { 28 ≤ length link.now }
-    requires client { 12 ≤ length client.now }
-    requires room { length client.now ≤ 60 }
-{
-    let mut octets = padded(&link[..28]);
-    octets[28..16 + client.len()].copy_from_slice(&client[12..]);
+/// With this salt, SSCI 1 and packet number 1b2c28465 an extended IV is that of the test frames.
+const SALT: [u8; 12] = [0x12, 0x15, 0x35, 0x25, 0xc0, 0x89, 0x5e, 0x80, 0, 0, 0, 0];
+
+/// Writes octets into a frame from a place on, as many as it has room for.
+fn put(frame: &mut [u8; 96], place: usize, octets: &[u8]) {
+    for (octet, wanted) in frame.iter_mut().skip(place).zip(octets) {
+        *octet = *wanted;
+    }
+}
+
+/// A client's data behind the addresses and the SecTAG of the protected frame, and zeros to the end.
+fn tagged(front: &[u8], data: &[u8]) -> [u8; 96] {
+    let mut octets = [0; 96];
+    put(&mut octets, 0, front);
+    put(&mut octets, 28, data);
     octets
 }
 
 /// The frame with zeros to the end.
-fn padded(frame: &[u8]) -> [u8; 96]
-    requires { length frame.now ≤ 96 }
-{
+fn padded(frame: &[u8]) -> [u8; 96] {
     let mut octets = [0; 96];
-    octets[..frame.len()].copy_from_slice(frame);
+    put(&mut octets, 0, frame);
     octets
 }
 
@@ -42,19 +46,7 @@ fn bytes_of(suite: Suite) -> Key {
 
 /// A key prepared for a suite, with a confidentiality offset.
 fn prepared(suite: Suite, key: Key, offset: u8) -> Result<SuiteKey, SuiteFault> {
-    SuiteKey::new(suite, key, salt(), offset)
-}
-
-/// The key of the test frames prepared for a suite, with a confidentiality offset.
-fn key_of(suite: Suite, offset: u8) -> Result<SuiteKey, SuiteFault> {
-    prepared(suite, bytes_of(suite), offset)
-}
-
-/// With this salt, SSCI 1 and packet number 1b2c28465 an extended IV is that of the test frames.
-fn salt() -> [u8; 12] {
-    let mut salt = [0; 12];
-    salt[..8].copy_from_slice(&0x1215_3525_c089_5e80u64.to_be_bytes());
-    salt
+    SuiteKey::new(suite, key, SALT, offset)
 }
 
 /// The IV of the test frames' SCI, where the suite has such a packet number.
@@ -72,7 +64,7 @@ fn iv(suite: Suite) -> [u8; 12] {
     } else {
         0xb2c2_8465
     };
-    iv_with(suite, 1, salt(), pn).unwrap_or([0; 12])
+    iv_with(suite, 1, SALT, pn).unwrap_or([0; 12])
 }
 
 /// The length of a suite's keys, and its last packet number.
@@ -97,52 +89,71 @@ fn preparation(suite: Suite, key: Key, offset: u8) -> Result<Suite, SuiteFault> 
     Ok(prepared(suite, key, offset)?.suite())
 }
 
+const SHORT: Key = Key::K128(KEY_128);
+
+const LONG: Key = Key::K256(KEY_256);
+
+/// Suites, keys and offsets, and the fault of those that are refused.
+const PREPARED: [(Suite, Key, u8, Option<SuiteFault>); 14] = [
+    (Suite::Gcm128, SHORT, 0, None),
+    (Suite::Gcm128, SHORT, 30, None),
+    (Suite::Gcm128, SHORT, 50, None),
+    (Suite::Gcm128, SHORT, 40, Some(SuiteFault::Offset)),
+    (Suite::Gcm256, LONG, 0, None),
+    (Suite::Gcm256, LONG, 30, None),
+    (Suite::Gcm256, LONG, 50, None),
+    (Suite::Gcm256, LONG, 40, Some(SuiteFault::Offset)),
+    (Suite::Xpn128, SHORT, 0, None),
+    (Suite::Xpn128, SHORT, 30, Some(SuiteFault::Offset)),
+    (Suite::Xpn256, LONG, 0, None),
+    (Suite::Xpn256, LONG, 30, Some(SuiteFault::Offset)),
+    (Suite::Gcm256, SHORT, 40, Some(SuiteFault::KeyLength)),
+    (
+        Suite::Gcm128,
+        Key::K256([0; 32]),
+        0,
+        Some(SuiteFault::KeyLength),
+    ),
+];
+
 #[test]
 fn prepared_and_refused_keys(rt: HostRuntime) {
-    for (suite, offset, fault) in [
-        (Suite::Gcm128, 0, None),
-        (Suite::Gcm128, 30, None),
-        (Suite::Gcm128, 50, None),
-        (Suite::Gcm128, 40, Some(SuiteFault::Offset)),
-        (Suite::Gcm256, 0, None),
-        (Suite::Gcm256, 30, None),
-        (Suite::Gcm256, 50, None),
-        (Suite::Gcm256, 40, Some(SuiteFault::Offset)),
-        (Suite::Xpn128, 0, None),
-        (Suite::Xpn128, 30, Some(SuiteFault::Offset)),
-        (Suite::Xpn256, 0, None),
-        (Suite::Xpn256, 30, Some(SuiteFault::Offset)),
-    ] {
+    for (suite, key, offset, fault) in PREPARED {
         let wanted = match fault {
             None => Ok(suite),
             Some(fault) => Err(fault),
         };
-        assert_eq!(rt; preparation(suite, bytes_of(suite), offset), wanted);
-    }
-    for (suite, key, offset) in [
-        (Suite::Gcm256, Key::K128(KEY_128), 40),
-        (Suite::Gcm128, Key::K256([0; 32]), 0),
-    ] {
-        assert_eq!(rt; preparation(suite, key, offset), Err(SuiteFault::KeyLength));
+        assert_eq!(rt; preparation(suite, key, offset), wanted);
     }
 }
 
+/// The IV of the test frames.
+const IV: [u8; 12] = [
+    0x12, 0x15, 0x35, 0x24, 0xc0, 0x89, 0x5e, 0x81, 0xb2, 0xc2, 0x84, 0x65,
+];
+
+/// The same under SSCI 2.
+const OTHER_SSCI: [u8; 12] = [
+    0x12, 0x15, 0x35, 0x27, 0xc0, 0x89, 0x5e, 0x81, 0xb2, 0xc2, 0x84, 0x65,
+];
+
+/// The same of a packet number without its higher half.
+const LOWER_HALF: [u8; 12] = [
+    0x12, 0x15, 0x35, 0x24, 0xc0, 0x89, 0x5e, 0x80, 0xb2, 0xc2, 0x84, 0x65,
+];
+
 #[test]
 fn ivs(rt: HostRuntime) {
-    let mut wanted = [0; 12];
-    wanted[..8].copy_from_slice(&SCI);
-    wanted[8..].copy_from_slice(&PACKET_NUMBER.to_be_bytes());
+    let mut octets = padded(&SCI);
+    put(&mut octets, 8, &PACKET_NUMBER.to_be_bytes());
+    assert_eq!(rt; octets, padded(&IV));
     for suite in [Suite::Gcm128, Suite::Gcm256, Suite::Xpn128, Suite::Xpn256] {
-        assert_eq!(rt; iv(suite), wanted);
+        assert_eq!(rt; iv(suite), IV);
     }
-    let mut other_ssci = wanted;
-    other_ssci[3] ^= 3;
-    let mut lower_half = wanted;
-    lower_half[7] ^= 1;
     for (suite, ssci, salt, pn, iv) in [
-        (Suite::Gcm256, 2, [0xff; 12], 0xb2c2_8465, wanted),
-        (Suite::Xpn128, 2, salt(), 0x1_b2c2_8465, other_ssci),
-        (Suite::Xpn256, 1, salt(), 0xb2c2_8465, lower_half),
+        (Suite::Gcm256, 2, [0xff; 12], 0xb2c2_8465, IV),
+        (Suite::Xpn128, 2, SALT, 0x1_b2c2_8465, OTHER_SSCI),
+        (Suite::Xpn256, 1, SALT, 0xb2c2_8465, LOWER_HALF),
     ] {
         assert_eq!(rt; iv_with(suite, ssci, salt, pn), Some(iv));
     }
@@ -158,14 +169,9 @@ fn link_frame(
 ) -> Result<[u8; 96], SuiteFault>
     requires { length ≤ 52 }
 {
+    let key = prepared(suite, bytes_of(suite), offset)?;
     let mut octets = frame;
-    protect_in_place(
-        &key_of(suite, offset)?,
-        &iv(suite),
-        conf,
-        16,
-        &mut octets[..44 + length],
-    );
+    protect_in_place(&key, &iv(suite), conf, 16, &mut octets[..44 + length]);
     Ok(octets)
 }
 
@@ -178,8 +184,9 @@ fn validated_frame(
 ) -> Result<(bool, [u8; 96]), SuiteFault>
     requires { length ≤ 52 }
 {
+    let key = prepared(suite, bytes_of(suite), 0)?;
     let mut octets = frame;
-    let is_genuine = validate_in_place(&key_of(suite, 0)?, &iv(suite), e, 16, length, &mut octets);
+    let is_genuine = validate_in_place(&key, &iv(suite), e, 16, length, &mut octets);
     Ok((is_genuine, octets))
 }
 
@@ -192,44 +199,76 @@ fn with_zeros_from(frame: [u8; 96], place: usize) -> [u8; 96] {
     octets
 }
 
-#[test]
-fn integrity(rt: HostRuntime) -> Result<(), Fail> {
-    let frame = tagged(&CLIENT_54, &LINK_54);
-    for (suite, wanted) in [(Suite::Gcm128, LINK_54), (Suite::Gcm256, LINK_54_256)] {
-        let link = link_frame(suite, 0, false, frame, 42)?;
-        assert_eq!(&rt; link, padded(&wanted));
-        assert_eq!(&rt; validated_frame(suite, false, link, 42)?, (true, link));
-    }
-    Ok(())
+/// A frame as it is protected; whether that is genuine, and what validation leaves of it, with zeros from a
+/// place on.
+fn there_and_back(
+    suite: Suite,
+    conf: bool,
+    frame: [u8; 96],
+    length: usize,
+    place: usize,
+) -> Result<([u8; 96], bool, [u8; 96]), SuiteFault>
+    requires { length ≤ 52 }
+{
+    let link = link_frame(suite, 0, conf, frame, length)?;
+    let (is_genuine, left) = validated_frame(suite, conf, link, length)?;
+    Ok((link, is_genuine, with_zeros_from(left, place)))
 }
 
 #[test]
-fn confidentiality(rt: HostRuntime) -> Result<(), Fail> {
-    let frame = tagged(&CLIENT_60, &LINK_60);
-    for (suite, wanted) in [
+fn integrity(rt: HostRuntime) {
+    let frame = tagged(&LINK_54[..28], &CLIENT_54[12..]);
+    for (suite, link) in [(Suite::Gcm128, LINK_54), (Suite::Gcm256, LINK_54_256)] {
+        let link = padded(&link);
+        let found = there_and_back(suite, false, frame, 42, 96);
+        assert_eq!(rt; found, Ok((link, true, link)));
+    }
+}
+
+#[test]
+fn confidentiality(rt: HostRuntime) {
+    let frame = tagged(&LINK_60[..28], &CLIENT_60[12..]);
+    for (suite, link) in [
         (Suite::Gcm128, LINK_60),
         (Suite::Xpn128, LINK_60),
         (Suite::Gcm256, LINK_60_256),
         (Suite::Xpn256, LINK_60_256),
     ] {
-        let link = link_frame(suite, 0, true, frame, 48)?;
-        assert_eq!(&rt; link, padded(&wanted));
-        let (is_genuine, opened) = validated_frame(suite, true, link, 48)?;
-        assert_eq!(&rt; (is_genuine, with_zeros_from(opened, 76)), (true, frame));
+        let found = there_and_back(suite, true, frame, 48, 76);
+        assert_eq!(rt; found, Ok((padded(&link), true, frame)));
     }
     let mut altered = padded(&LINK_60);
     altered[28] = 0x71;
-    assert_eq!(&rt;
-        validated_frame(Suite::Gcm128, true, altered, 48)?,
-        (false, altered)
-    );
-    Ok(())
+    let found = validated_frame(Suite::Gcm128, true, altered, 48);
+    assert_eq!(rt; found, Ok((false, altered)));
+}
+
+/// Whether two frames have the same octets before a place.
+fn agree_before(place: usize, one: [u8; 96], other: [u8; 96]) -> bool {
+    with_zeros_from(one, place) == with_zeros_from(other, place)
+}
+
+/// Whether the octets before the data and `clear` octets of the data stay as they are, and whether all data do.
+fn clear_octets_of(
+    offset: u8,
+    frame: [u8; 96],
+    length: usize,
+    clear: usize,
+) -> Result<(bool, bool), SuiteFault>
+    requires length { length ≤ 52 }
+    requires clear { clear ≤ 52 }
+{
+    let link = link_frame(Suite::Gcm128, offset, true, frame, length)?;
+    Ok((
+        agree_before(28 + clear, link, frame),
+        agree_before(28 + length, link, frame),
+    ))
 }
 
 /// The first octets of the data stay clear: as many as the offset says, or all of fewer.
 #[test]
-fn clear_octets(rt: HostRuntime) -> Result<(), Fail> {
-    let client = tagged(&CLIENT_60, &LINK_60);
+fn clear_octets(rt: HostRuntime) {
+    let frame = tagged(&LINK_60[..28], &CLIENT_60[12..]);
     for (offset, length, clear) in [
         (30, 29, 29),
         (30, 30, 30),
@@ -238,15 +277,11 @@ fn clear_octets(rt: HostRuntime) -> Result<(), Fail> {
         (50, 50, 50),
         (50, 51, 50),
     ] {
-        assert!(&rt; clear <= length && length <= 52);
-        let frame = link_frame(Suite::Gcm128, offset, true, client, length)?;
-        assert_eq!(&rt; frame[..28 + clear], client[..28 + clear]);
-        let is_encrypted = frame[28 + clear..28 + length] != client[28 + clear..28 + length];
-        assert_eq!(&rt;
-            is_encrypted,
-            clear < length,
+        assert!(rt; clear <= length && length <= 52);
+        assert_eq!(rt;
+            clear_octets_of(offset, frame, length, clear),
+            Ok((true, clear == length)),
             "{length} octets under {offset}"
         );
     }
-    Ok(())
 }

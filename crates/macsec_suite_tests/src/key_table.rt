@@ -8,12 +8,10 @@ use std::process::Abort;
 use std::test::Fail;
 
 /// A call that changes a table, whose default suite is GCM-AES-128.
-#[derive(Clone, Copy, Debug)]
+#[derive(Clone, Copy)]
 enum Call {
-    /// Installs a key of this number and these bytes, which names no suite, beside a window of 0.
-    Install(u16, [u8; 16]),
-    /// Installs a key of this number, whose bytes are all that number, and of this suite beside this window.
-    InstallOf(u8, Suite, u64),
+    /// Installs a key of this number and these bytes, which names this suite or none, beside this window.
+    Install(u16, [u8; 16], Option<Suite>, u64),
     /// Retires the key of this number, of which this says whether it is in use.
     Retire(u16, bool),
     /// Notes that a packet number was used under the key of this number, where it is there.
@@ -25,119 +23,167 @@ fn key_number(rt: &impl Abort, n: u16) -> KeyNumber {
     KeyNumber::new(n).expect(rt, "a key number")
 }
 
-/// A key of these 128 bits, with an offset.
-fn key_of(number: KeyNumber, bytes: [u8; 16], offset: u8) -> NewKey {
+/// A key of these 128 bits, with an offset, which names this suite or none.
+fn key_of(number: KeyNumber, bytes: [u8; 16], offset: u8, suite: Option<Suite>) -> NewKey {
     NewKey {
         number,
         bytes: Key::K128(bytes),
         salt: [0; 12],
         ssci: 0,
         offset,
-        suite: None,
+        suite,
     }
 }
 
-/// The same with the offset 0 and of this suite.
-fn key_of_suite(number: KeyNumber, bytes: [u8; 16], suite: Suite) -> NewKey {
-    NewKey {
-        suite: Some(suite),
-        ..key_of(number, bytes, 0)
+/// What a table with this default suite answers to the installation of a key.
+fn answer_to_key(
+    table: &mut KeyTable,
+    default: Suite,
+    key: &NewKey,
+    window: u64,
+) -> Result<(), Refusal> {
+    table.install(default, key, window)
+}
+
+/// Notes that a packet number was used under a key, where it is there.
+fn note(table: &mut KeyTable, number: KeyNumber, pn: u64) {
+    if table.key(number).is_some() {
+        table.note_used(number, pn);
     }
 }
 
 /// What a table answers to a call.
 fn answer_to(rt: &impl Abort, table: &mut KeyTable, call: Call) -> Result<(), Refusal> {
     match call {
-        Call::Install(number, bytes) => {
-            let key = key_of(key_number(rt, number), bytes, 0);
-            table.install(Suite::Gcm128, &key, 0)
-        }
-        Call::InstallOf(number, suite, window) => {
-            let key = key_of_suite(key_number(rt, u16::from(number)), [number; 16], suite);
-            table.install(Suite::Gcm128, &key, window)
+        Call::Install(number, bytes, suite, window) => {
+            let key = key_of(key_number(rt, number), bytes, 0, suite);
+            answer_to_key(table, Suite::Gcm128, &key, window)
         }
         Call::Retire(number, in_use) => table.retire(key_number(rt, number), in_use),
         Call::Note(number, pn) => {
-            let number = key_number(rt, number);
-            if table.key(number).is_some() {
-                table.note_used(number, pn);
-            }
+            note(table, key_number(rt, number), pn);
             Ok(())
         }
     }
 }
 
+/// The number and the suite of the key that is found by a number, and whether it is retired.
+fn found(rt: &impl Abort, table: &KeyTable, number: u16) -> Option<(u16, Option<Suite>, bool)> {
+    let row = table.key(key_number(rt, number))?;
+    Some((row.key.number.number(), row.key.suite, row.retired))
+}
+
 /// Whether the key of a number is retired, where it is there.
 fn is_retired(rt: &impl Abort, table: &KeyTable, number: u16) -> Option<bool> {
-    table.key(key_number(rt, number)).map(|row| row.retired)
+    let (_, _, retired) = found(rt, table, number)?;
+    Some(retired)
 }
 
-/// The first unused packet number under the key of a number, where it is there.
-fn first_unused(rt: &impl Abort, table: &KeyTable, number: u16) -> Option<u128> {
-    table.first_unused(key_number(rt, number))
+/// Whether a key is retired, and its first unused packet number, where it is there.
+type Use = (Option<bool>, Option<u128>);
+
+/// The use of the key of a number.
+fn use_of(rt: &impl Abort, table: &KeyTable, number: u16) -> Use {
+    let unused = table.first_unused(key_number(rt, number));
+    (is_retired(rt, table, number), unused)
 }
 
-/// Whether key 0 is retired, and its first unused packet number, where it is there.
-fn key_0(rt: &impl Abort, table: &KeyTable) -> (Option<bool>, Option<u128>) {
-    (is_retired(rt, table, 0), first_unused(rt, table, 0))
+const NONE: Use = (None, None);
+
+const UNUSED: Use = (Some(false), Some(1));
+
+const USED: Use = (Some(false), Some(6));
+
+const RETIRED: Use = (Some(true), Some(6));
+
+/// The widest replay window beside extended packet numbers, and beside others.
+const EXTENDED: u64 = 0x3fff_ffff;
+
+const SHORT: u64 = 0xffff_ffff;
+
+/// A call, what a table answers to it, and then the use of key 0 and the widest replay window.
+type Row = (Call, Result<(), Refusal>, Use, u64);
+
+/// Calls of keys that name no suite, one after another.
+const CALLS: [Row; 14] = [
+    (Call::Retire(9, false), Err(Refusal::NoKey), NONE, SHORT),
+    (Call::Install(0, KEY_128, None, 0), Ok(()), UNUSED, SHORT),
+    (
+        Call::Install(0, [1; 16], None, 0),
+        Err(Refusal::KeyNumberUsed),
+        UNUSED,
+        SHORT,
+    ),
+    (
+        Call::Install(0, KEY_128, None, 0),
+        Err(Refusal::KeyNumberUsed),
+        UNUSED,
+        SHORT,
+    ),
+    (
+        Call::Install(1, KEY_128, None, 0),
+        Err(Refusal::KeyRepeated),
+        UNUSED,
+        SHORT,
+    ),
+    (Call::Note(0, 5), Ok(()), USED, SHORT),
+    (Call::Install(1, [1; 16], None, 0), Ok(()), USED, SHORT),
+    (Call::Note(1, 8), Ok(()), USED, SHORT),
+    (Call::Retire(0, true), Err(Refusal::KeyInUse), USED, SHORT),
+    (Call::Retire(0, false), Ok(()), RETIRED, SHORT),
+    (
+        Call::Retire(0, true),
+        Err(Refusal::KeyRetired),
+        RETIRED,
+        SHORT,
+    ),
+    (
+        Call::Install(0, [2; 16], None, 0),
+        Err(Refusal::KeyNumberUsed),
+        RETIRED,
+        SHORT,
+    ),
+    (
+        Call::Install(2, KEY_128, None, 0),
+        Err(Refusal::KeyRepeated),
+        RETIRED,
+        SHORT,
+    ),
+    (Call::Retire(9, true), Err(Refusal::NoKey), RETIRED, SHORT),
+];
+
+/// What a table answers to a call, and then the use of key 0 and the widest replay window.
+fn after(rt: &impl Abort, table: &mut KeyTable, call: Call) -> (Result<(), Refusal>, Use, u64) {
+    let answer = answer_to(rt, table, call);
+    (answer, use_of(rt, table, 0), table.widest_window())
 }
 
-/// Calls, with what a table answers to them one after another, and what becomes of key 0.
-fn calls() -> [(Call, Result<(), Refusal>, (Option<bool>, Option<u128>)); 14] {
-    let none = (None, None);
-    let unused = (Some(false), Some(1));
-    let used = (Some(false), Some(6));
-    let retired = (Some(true), Some(6));
-    [
-        (Call::Retire(9, false), Err(Refusal::NoKey), none),
-        (Call::Install(0, KEY_128), Ok(()), unused),
-        (
-            Call::Install(0, [1; 16]),
-            Err(Refusal::KeyNumberUsed),
-            unused,
-        ),
-        (
-            Call::Install(0, KEY_128),
-            Err(Refusal::KeyNumberUsed),
-            unused,
-        ),
-        (Call::Install(1, KEY_128), Err(Refusal::KeyRepeated), unused),
-        (Call::Note(0, 5), Ok(()), used),
-        (Call::Install(1, [1; 16]), Ok(()), used),
-        (Call::Note(1, 8), Ok(()), used),
-        (Call::Retire(0, true), Err(Refusal::KeyInUse), used),
-        (Call::Retire(0, false), Ok(()), retired),
-        (Call::Retire(0, true), Err(Refusal::KeyRetired), retired),
-        (
-            Call::Install(0, [2; 16]),
-            Err(Refusal::KeyNumberUsed),
-            retired,
-        ),
-        (
-            Call::Install(2, KEY_128),
-            Err(Refusal::KeyRepeated),
-            retired,
-        ),
-        (Call::Retire(9, true), Err(Refusal::NoKey), retired),
-    ]
+/// A table answers as is wanted to calls, one after another.
+fn assert_calls(rt: &impl Abort, table: &mut KeyTable, rows: &[Row]) {
+    for (place, (call, answer, used, widest)) in rows.iter().enumerate() {
+        let found = after(rt, table, *call);
+        assert_eq!(rt; found, (*answer, *used, *widest), "at {place}");
+    }
 }
 
 #[test]
 fn calls_in_a_row(rt: HostRuntime) -> Result<(), Fail> {
     let mut table = KeyTable::new(rt.alloc())?;
-    for (call, answer, after) in calls() {
-        assert_eq!(&rt; answer_to(&rt, &mut table, call), answer, "{call:?}");
-        assert_eq!(&rt; key_0(&rt, &table), after, "after {call:?}");
-    }
-    assert_eq!(&rt; is_retired(&rt, &table, 1), Some(false));
-    assert_eq!(&rt; first_unused(&rt, &table, 1), Some(9));
-    assert_eq!(&rt; is_retired(&rt, &table, 9), None);
+    assert_calls(&rt, &mut table, &CALLS);
+    let others = (use_of(&rt, &table, 1), is_retired(&rt, &table, 9));
+    assert_eq!(&rt; others, ((Some(false), Some(9)), None));
     Ok(())
 }
 
-/// What an empty table answers to the installation of a key of 128 bits and offset 40.
-fn answer_to_offset_40(rt: &impl Abort, table: &mut KeyTable, suite: Suite) -> Result<(), Refusal> {
-    table.install(suite, &key_of(key_number(rt, 0), KEY_128, 40), 0)
+/// What a table answers to the installation of a key of 128 bits and offset 40, and whether it is there then.
+fn answer_to_offset_40(
+    rt: &impl Abort,
+    table: &mut KeyTable,
+    default: Suite,
+) -> (Result<(), Refusal>, Option<bool>) {
+    let key = key_of(key_number(rt, 0), KEY_128, 40, None);
+    let answer = answer_to_key(table, default, &key, 0);
+    (answer, is_retired(rt, table, 0))
 }
 
 #[test]
@@ -147,89 +193,107 @@ fn wrong_lengths_and_offsets(rt: HostRuntime) -> Result<(), Fail> {
         (Suite::Gcm256, Refusal::KeyLength),
         (Suite::Gcm128, Refusal::Offset),
     ] {
-        assert_eq!(&rt; answer_to_offset_40(&rt, &mut table, suite), Err(refusal));
-        assert_eq!(&rt; is_retired(&rt, &table, 0), None);
+        let answer = answer_to_offset_40(&rt, &mut table, suite);
+        assert_eq!(&rt; answer, (Err(refusal), None));
     }
     Ok(())
 }
 
 /// The number of the key that is found by a number.
 fn number_found(rt: &impl Abort, table: &KeyTable, number: u16) -> Option<u16> {
-    table
-        .key(key_number(rt, number))
-        .map(|row| row.key.number.number())
+    let (number, _, _) = found(rt, table, number)?;
+    Some(number)
+}
+
+/// The number of the key that is found by a number before one of these octets is installed, and the answer.
+fn answer_to_number(
+    rt: &impl Abort,
+    table: &mut KeyTable,
+    number: u16,
+    octet: u8,
+) -> (Option<u16>, Result<(), Refusal>) {
+    let before = number_found(rt, table, number);
+    let call = Call::Install(number, [octet; 16], None, 0);
+    (before, answer_to(rt, table, call))
+}
+
+/// Keys of several numbers are installed, each of which is found by its number alone.
+fn assert_numbers(rt: &impl Abort, table: &mut KeyTable) {
+    for (number, octet) in [(4095, 1), (255, 2), (0, 3), (256, 4), (4094, 5)] {
+        let answer = answer_to_number(rt, table, number, octet);
+        assert_eq!(rt; answer, (None, Ok(())), "at {number}");
+    }
+    for (number, is_there) in [
+        (4095, true),
+        (255, true),
+        (0, true),
+        (256, true),
+        (4094, true),
+        (1, false),
+        (254, false),
+        (257, false),
+        (4093, false),
+    ] {
+        let wanted = if is_there { Some(number) } else { None };
+        assert_eq!(rt; number_found(rt, table, number), wanted);
+    }
 }
 
 #[test]
 fn numbers_of_more_than_an_octet(rt: HostRuntime) -> Result<(), Fail> {
     let mut table = KeyTable::new(rt.alloc())?;
-    for (number, octet) in [(4095, 1), (255, 2), (0, 3), (256, 4), (4094, 5)] {
-        let install = Call::Install(number, [octet; 16]);
-        assert_eq!(&rt; number_found(&rt, &table, number), None);
-        assert_eq!(&rt; answer_to(&rt, &mut table, install), Ok(()), "at {number}");
-    }
-    for number in [4095, 255, 0, 256, 4094] {
-        assert_eq!(&rt; number_found(&rt, &table, number), Some(number));
-    }
-    for number in [1, 254, 257, 4093] {
-        assert_eq!(&rt; number_found(&rt, &table, number), None);
-    }
+    assert_numbers(&rt, &mut table);
     assert!(&rt; KeyNumber::new(4096).is_none());
     Ok(())
 }
 
 /// The suite that the key that is found by a number names.
 fn suite_found(rt: &impl Abort, table: &KeyTable, number: u16) -> Option<Suite> {
-    table.key(key_number(rt, number))?.key.suite
+    let (_, suite, _) = found(rt, table, number)?;
+    suite
 }
 
-/// The widest replay window beside the keys of a table.
-fn widest_window(table: &KeyTable) -> u64 {
-    table.widest_window()
-}
-
-/// Calls, with what a table answers to them one after another, and the widest replay window after each.
-fn calls_with_suites() -> [(Call, Result<(), Refusal>, u64); 8] {
-    let (short, extended) = (0xffff_ffff, 0x3fff_ffff);
-    [
-        (Call::Install(0, KEY_128), Ok(()), short),
-        (
-            Call::InstallOf(1, Suite::Gcm256, short),
-            Err(Refusal::KeyLength),
-            short,
-        ),
-        (
-            Call::InstallOf(1, Suite::Xpn128, extended + 1),
-            Err(Refusal::Window),
-            short,
-        ),
-        (
-            Call::InstallOf(0, Suite::Xpn128, extended + 1),
-            Err(Refusal::KeyNumberUsed),
-            short,
-        ),
-        (
-            Call::InstallOf(1, Suite::Xpn128, extended),
-            Ok(()),
-            extended,
-        ),
-        (
-            Call::InstallOf(2, Suite::Gcm128, extended + 1),
-            Ok(()),
-            extended,
-        ),
-        (Call::Retire(2, false), Ok(()), extended),
-        (Call::Retire(1, false), Ok(()), short),
-    ]
-}
+/// Calls of keys that name suites, one after another.
+const CALLS_WITH_SUITES: [Row; 8] = [
+    (Call::Install(0, KEY_128, None, 0), Ok(()), UNUSED, SHORT),
+    (
+        Call::Install(1, [1; 16], Some(Suite::Gcm256), SHORT),
+        Err(Refusal::KeyLength),
+        UNUSED,
+        SHORT,
+    ),
+    (
+        Call::Install(1, [1; 16], Some(Suite::Xpn128), EXTENDED + 1),
+        Err(Refusal::Window),
+        UNUSED,
+        SHORT,
+    ),
+    (
+        Call::Install(0, [0; 16], Some(Suite::Xpn128), EXTENDED + 1),
+        Err(Refusal::KeyNumberUsed),
+        UNUSED,
+        SHORT,
+    ),
+    (
+        Call::Install(1, [1; 16], Some(Suite::Xpn128), EXTENDED),
+        Ok(()),
+        UNUSED,
+        EXTENDED,
+    ),
+    (
+        Call::Install(2, [2; 16], Some(Suite::Gcm128), EXTENDED + 1),
+        Ok(()),
+        UNUSED,
+        EXTENDED,
+    ),
+    (Call::Retire(2, false), Ok(()), UNUSED, EXTENDED),
+    (Call::Retire(1, false), Ok(()), UNUSED, SHORT),
+];
 
 #[test]
 fn suites_of_their_own(rt: HostRuntime) -> Result<(), Fail> {
     let mut table = KeyTable::new(rt.alloc())?;
-    for (call, answer, widest) in calls_with_suites() {
-        assert_eq!(&rt; answer_to(&rt, &mut table, call), answer, "{call:?}");
-        assert_eq!(&rt; widest_window(&table), widest, "after {call:?}");
-    }
+    assert_calls(&rt, &mut table, &CALLS_WITH_SUITES);
     for (number, suite) in [
         (0, Some(Suite::Gcm128)),
         (1, Some(Suite::Xpn128)),
