@@ -8,8 +8,8 @@ use std::alloc::Global;
 use std::test::Fail;
 
 /// The association number of the test frames.
-pub fn an() -> Result<An, Fail> {
-    Ok(An::new(2).ok_or("an association number is 0 to 3")?)
+pub fn an() -> An {
+    An::new(2).unwrap()
 }
 
 /// The number of the key of the test frames.

@@ -5,17 +5,17 @@ use macsec_pn::{RxNumbers, TxNumbers};
 #[test]
 fn last_number_is_used_once(rt: HostRuntime) {
     let mut numbers = TxNumbers::at(0xffff_fffe);
-    assert_eq!(rt; numbers.take(0xffff_ffff), Some(0xffff_fffe));
-    assert_eq!(rt; numbers.take(0xffff_ffff), Some(0xffff_ffff));
-    assert_eq!(rt; numbers.take(0xffff_ffff), None);
-    assert_eq!(rt; numbers.next, 0x1_0000_0000);
+    assert!(rt; numbers.take(0xffff_ffff) == Some(0xffff_fffe));
+    assert!(rt; numbers.take(0xffff_ffff) == Some(0xffff_ffff));
+    assert!(rt; numbers.take(0xffff_ffff).is_none());
+    assert!(rt; numbers.next == 0x1_0000_0000);
 }
 
 #[test]
 fn numbers_of_64_bits(rt: HostRuntime) {
     let mut numbers = TxNumbers::at(u64::MAX);
-    assert_eq!(rt; numbers.take(u64::MAX), Some(u64::MAX));
-    assert_eq!(rt; numbers.take(u64::MAX), None);
+    assert!(rt; numbers.take(u64::MAX) == Some(u64::MAX));
+    assert!(rt; numbers.take(u64::MAX).is_none());
 }
 
 #[test]
@@ -26,31 +26,22 @@ fn window_of_one(rt: HostRuntime) {
     assert!(rt; !numbers.is_late(2));
     assert!(rt; numbers.is_late(1));
     numbers.raise(7);
-    assert_eq!(rt; numbers, RxNumbers { next: 7, lowest: 7 });
+    assert!(rt; (numbers.next, numbers.lowest) == (7, 7));
     numbers.accept(9, 4);
-    assert_eq!(rt;
-        numbers,
-        RxNumbers {
-            next: 10,
-            lowest: 7
-        }
-    );
+    assert!(rt; (numbers.next, numbers.lowest) == (10, 7));
     numbers.narrow(0);
-    assert_eq!(rt;
-        numbers,
-        RxNumbers {
-            next: 10,
-            lowest: 10
-        }
-    );
+    assert!(rt; (numbers.next, numbers.lowest) == (10, 10));
 }
 
 #[test]
 fn recovery_across_2_to_the_32(rt: HostRuntime) {
-    let numbers = RxNumbers::at(0xffff_ff00);
-    assert_eq!(rt; numbers.recover(false, 0xffff_ffff), Some(0xffff_ffff));
-    assert_eq!(rt; numbers.recover(true, 0xffff_ffff), Some(0xffff_ffff));
-    assert_eq!(rt; numbers.recover(true, 5), Some(0x1_0000_0005));
-    assert_eq!(rt; RxNumbers::at(1).recover(true, 0), None);
-    assert_eq!(rt; RxNumbers::at(u64::MAX).recover(true, 5), None);
+    for (next, extended, low, recovered) in [
+        (0xffff_ff00, false, 0xffff_ffff, Some(0xffff_ffff)),
+        (0xffff_ff00, true, 0xffff_ffff, Some(0xffff_ffff)),
+        (0xffff_ff00, true, 5, Some(0x1_0000_0005)),
+        (1, true, 0, None),
+        (u64::MAX, true, 5, None),
+    ] {
+        assert!(rt; RxNumbers::at(next).recover(extended, low) == recovered);
+    }
 }

@@ -7,8 +7,9 @@ use crate::fixture::{an, key_number, key_table, unused_number};
 use macsec_rx::{Judged, Mode, RxChannels, RxOptions, RxRow, Verdict};
 use macsec_suite::{KeyTable, Refusal};
 use macsec_tag::reading::read;
-use macsec_tag::{An, Read, Sci};
+use macsec_tag::{MAX_FRAME_LEN, Read, Sci};
 use macsec_vectors::{CLIENT_54, CLIENT_60, LINK_54, LINK_60, PACKET_NUMBER, SCI};
+use std::alloc::Global;
 use std::process::Abort;
 use std::test::Fail;
 
@@ -27,26 +28,26 @@ fn channel_on(keys: &KeyTable) -> Result<RxChannels, Fail>
     channels.rx_sa(
         keys,
         SENDER,
-        an()?,
+        an(),
         key_number(),
         0,
         u64::from(PACKET_NUMBER),
     )?;
-    channels.rx_on(SENDER, an()?)?;
+    channels.rx_on(SENDER, an())?;
     Ok(channels)
 }
 
 /// The association of these packet numbers, next and lowest acceptable.
-fn row(next: u64, lowest: u64, on: bool) -> Result<RxRow, Fail> {
-    Ok(RxRow {
+fn row(next: u64, lowest: u64, on: bool) -> RxRow {
+    RxRow {
         sci: SENDER,
-        an: an()?,
+        an: an(),
         key: key_number(),
         ssci: 0,
         next: u128::from(next),
         lowest: u128::from(lowest),
         on,
-    })
+    }
 }
 
 /// Replay protection with a window of 1, in this mode.
@@ -64,6 +65,26 @@ fn delivered_octets(judged: Judged, out: &[u8]) -> Option<&[u8]> {
     out.get(place..)?.get(..length)
 }
 
+/// What a new association makes of a link frame, and the association afterwards. What is delivered stands in the
+/// slice.
+fn judged(
+    rt: &impl Abort,
+    keys: &KeyTable,
+    link: &[u8],
+    mode: Mode,
+    out: &mut [u8; MAX_FRAME_LEN],
+) -> Result<(Judged, Option<RxRow>), Fail> {
+    let Read::Tagged(mpdu) = read(link) else {
+        panic!(rt; "the frame isn't tagged");
+    };
+    let tag_length = mpdu.tag_bytes().len();
+    let data_length = mpdu.secure_data().len();
+    assert!(rt; tag_length <= 16 && data_length <= 9_204);
+    let mut channels = channel_on(keys)?;
+    let judged = channels.judge(keys, &options(mode), &mpdu, out);
+    Ok((judged, channels.row(SENDER, an())))
+}
+
 /// A test frame gets this verdict from a new association and gives this client frame, and its packet number is
 /// accepted if it is valid.
 fn check_frame(
@@ -74,21 +95,13 @@ fn check_frame(
     verdict: Verdict,
     client: Option<&[u8]>,
 ) -> Result<(), Fail> {
-    let Read::Tagged(mpdu) = read(link) else {
-        panic!(rt; "the frame isn't tagged");
-    };
-    let tag_length = mpdu.tag_bytes().len();
-    let data_length = mpdu.secure_data().len();
-    assert!(rt; tag_length <= 16 && data_length <= 9_204);
-    let mut channels = channel_on(keys)?;
-    let mut out = [0; 9_248];
-    let judged = channels.judge(keys, &options(mode), &mpdu, &mut out);
-    assert_eq!(rt; judged.verdict, verdict);
-    assert_eq!(rt; judged.row, Some((SENDER, an()?)));
-    assert_eq!(rt; delivered_octets(judged, &out), client);
+    let mut out = [0; MAX_FRAME_LEN];
+    let (judged, found) = judged(rt, keys, link, mode, &mut out)?;
     let lowest = u64::from(PACKET_NUMBER);
     let next = lowest + u64::from(verdict == Verdict::Passed);
-    assert_eq!(rt; channels.row(SENDER, an()?), Some(row(next, lowest, true)?));
+    assert!(rt; (judged.verdict, judged.row) == (verdict, Some((SENDER, an()))));
+    assert!(rt; delivered_octets(judged, &out) == client);
+    assert!(rt; found == Some(row(next, lowest, true)));
     Ok(())
 }
 
@@ -116,22 +129,24 @@ fn frame_of_0(tci_an: u8) -> [u8; 86] {
     link
 }
 
-/// The verdict of a new association on a frame in Strict, and the association that the frame is for.
-fn verdict_on(
+/// A frame of PN 0 with this octet of TCI and AN gets this verdict from a new association in Strict, and is for the
+/// association or for none.
+fn check_frame_of_0(
     rt: &impl Abort,
     keys: &KeyTable,
-    link: &[u8],
-) -> Result<(Verdict, Option<(Sci, An)>), Fail> {
-    let Read::Tagged(mpdu) = read(link) else {
-        panic!(rt; "the frame isn't tagged");
-    };
-    let tag_length = mpdu.tag_bytes().len();
-    let data_length = mpdu.secure_data().len();
-    assert!(rt; tag_length <= 16 && data_length <= 9_204);
-    let mut channels = channel_on(keys)?;
-    let mut out = [0; 9_248];
-    let judged = channels.judge(keys, &options(Mode::Strict), &mpdu, &mut out);
-    Ok((judged.verdict, judged.row))
+    tci_an: u8,
+    verdict: Verdict,
+    is_for_association: bool,
+) -> Result<(), Fail> {
+    let link = frame_of_0(tci_an);
+    let mut out = [0; MAX_FRAME_LEN];
+    let (judged, _) = judged(rt, keys, &link, Mode::Strict, &mut out)?;
+    let row = is_for_association.then_some((SENDER, an()));
+    assert!(rt;
+        (judged.verdict, judged.row) == (verdict, row),
+        "{tci_an:x}"
+    );
+    Ok(())
 }
 
 /// PN 0 is at fault under the key of an association with packet numbers of 32 bits, so not before E without C, and not
@@ -139,49 +154,87 @@ fn verdict_on(
 #[test]
 fn packet_number_0(rt: HostRuntime) -> Result<(), Fail> {
     let keys = key_table(rt.alloc())?;
-    let row = Some((SENDER, an()?));
-    for (tci_an, wanted) in [
-        (0x22, (Verdict::BadTag, row)),
-        (0x2e, (Verdict::BadTag, row)),
-        (0x2a, (Verdict::Reserved, None)),
-        (0x21, (Verdict::NoSaError, None)),
+    for (tci_an, verdict, is_for_association) in [
+        (0x22, Verdict::BadTag, true),
+        (0x2e, Verdict::BadTag, true),
+        (0x2a, Verdict::Reserved, false),
+        (0x21, Verdict::NoSaError, false),
     ] {
-        let link = frame_of_0(tci_an);
-        assert_eq!(&rt; verdict_on(&rt, &keys, &link)?, wanted, "{tci_an:x}");
+        check_frame_of_0(&rt, &keys, tci_an, verdict, is_for_association)?;
     }
     Ok(())
+}
+
+/// A command on the association or on its channel.
+#[derive(Clone, Copy)]
+enum Command {
+    Off,
+    Delete,
+    DeleteChannel,
+}
+
+/// The answer of the channels to a command.
+fn answer_to(channels: &mut RxChannels, command: Command) -> Result<(), Refusal> {
+    match command {
+        Command::Off => channels.rx_off(SENDER, an()),
+        Command::Delete => channels.rx_del(SENDER, an()),
+        Command::DeleteChannel => channels.rx_sc_del(SENDER),
+    }
+}
+
+/// The association, whether it uses the key of the test frames, and the first channel; no other key is ever used.
+fn seen(rt: &impl Abort, channels: &RxChannels) -> (Option<RxRow>, bool, Option<Sci>) {
+    assert!(rt; !channels.uses(unused_number()));
+    let row = channels.row(SENDER, an());
+    (row, channels.uses(key_number()), channels.channel(0))
+}
+
+/// The packet number after that of the test frames.
+const RAISED: u64 = PACKET_NUMBER as u64 + 1;
+
+/// The sender's channel, after its lowest acceptable packet number was raised and its window narrowed to 0.
+fn raised_channel(alloc: Global) -> Result<RxChannels, Fail> {
+    let keys = key_table(alloc)?;
+    let mut channels = channel_on(&keys)?;
+    channels.rx_low(&keys, SENDER, an(), RAISED)?;
+    channels.narrow(0);
+    Ok(channels)
+}
+
+/// A command, its answer, and afterwards whether the association is there, disabled, and the first channel.
+const COMMANDS: [(Command, Result<(), Refusal>, bool, Option<Sci>); 4] = [
+    (Command::Off, Ok(()), true, Some(SENDER)),
+    (Command::Delete, Ok(()), false, Some(SENDER)),
+    (Command::Delete, Err(Refusal::NoSa), false, Some(SENDER)),
+    (Command::DeleteChannel, Ok(()), false, None),
+];
+
+/// The association and the first channel are these, and the key is used while the association is there.
+fn check_seen(rt: &impl Abort, channels: &RxChannels, row: Option<RxRow>, channel: Option<Sci>) {
+    assert!(rt; seen(rt, channels) == (row, row.is_some(), channel));
 }
 
 /// The lowest acceptable packet number is raised, and then the next one with it; a window of 0 leaves both.
 #[test]
 fn commands(rt: HostRuntime) -> Result<(), Fail> {
-    let keys = key_table(rt.alloc())?;
-    let mut channels = channel_on(&keys)?;
-    let raised = u64::from(PACKET_NUMBER) + 1;
-    assert_eq!(&rt; channels.rx_low(&keys, SENDER, an()?, raised), Ok(()));
-    channels.narrow(0);
-    assert_eq!(&rt;
-        channels.row(SENDER, an()?),
-        Some(row(raised, raised, true)?)
+    let mut channels = raised_channel(rt.alloc())?;
+    check_seen(
+        &rt,
+        &channels,
+        Some(row(RAISED, RAISED, true)),
+        Some(SENDER),
     );
-    assert_eq!(&rt; channels.rx_off(SENDER, an()?), Ok(()));
-    assert_eq!(&rt;
-        channels.row(SENDER, an()?),
-        Some(row(raised, raised, false)?)
-    );
-    assert!(&rt; channels.uses(key_number()) && !channels.uses(unused_number()));
-    assert_eq!(&rt; channels.rx_del(SENDER, an()?), Ok(()));
-    assert_eq!(&rt; channels.rx_del(SENDER, an()?), Err(Refusal::NoSa));
-    assert!(&rt; !channels.uses(key_number()));
-    assert_eq!(&rt; channels.channel(0), Some(SENDER));
-    assert_eq!(&rt; channels.rx_sc_del(SENDER), Ok(()));
-    assert_eq!(&rt; channels.channel(0), None);
+    for (command, answer, is_there, channel) in &COMMANDS {
+        assert!(&rt; answer_to(&mut channels, *command) == *answer);
+        let row = is_there.then_some(row(RAISED, RAISED, false));
+        check_seen(&rt, &channels, row, *channel);
+    }
     Ok(())
 }
 
 #[test]
 fn printed_verdicts(rt: HostRuntime) -> Result<(), Fail> {
     let told = format!(in rt.alloc(); "{} {}", Verdict::Passed, Verdict::NoSaError)?;
-    assert_eq!(&rt; told.as_str(), "OK NoSAError");
+    assert!(&rt; told.as_str() == "OK NoSAError");
     Ok(())
 }

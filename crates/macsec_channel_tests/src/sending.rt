@@ -5,9 +5,11 @@ ghost use Rattle.macsec_tx.specs.Commands.{HaveKeys};
 
 use crate::fixture::{an, key_number, key_table, unused_number};
 use macsec_suite::{KeyTable, Refusal};
-use macsec_tag::Sci;
+use macsec_tag::{MAX_FRAME_LEN, MIN_FRAME_LEN, Sci};
 use macsec_tx::{TagForm, TxChannel, TxOptions, TxResult, TxRow};
 use macsec_vectors::{CLIENT_54, CLIENT_60, LINK_54, LINK_60, PACKET_NUMBER, SCI};
+use std::alloc::Global;
+use std::process::Abort;
 use std::test::Fail;
 
 /// Protection with the SCI in each SecTAG, up to frames of 1,518 octets.
@@ -24,9 +26,37 @@ fn channel_on(keys: &KeyTable, conf: bool) -> Result<TxChannel, Fail>
     ensures { IfOk result (λ channel. HaveKeys keys.now channel) }
 {
     let mut channel = TxChannel::new();
-    channel.tx_sa(keys, an()?, key_number(), u64::from(PACKET_NUMBER), conf)?;
-    channel.tx_on(keys, an()?)?;
+    channel.tx_sa(keys, an(), key_number(), u64::from(PACKET_NUMBER), conf)?;
+    channel.tx_on(keys, an())?;
     Ok(channel)
+}
+
+/// The enabled association of this packet number.
+fn row(next: u128, conf: bool) -> TxRow {
+    TxRow {
+        an: an(),
+        key: key_number(),
+        next,
+        conf,
+        on: true,
+    }
+}
+
+/// What becomes of a client frame at a new channel, its association afterwards, and the first unused packet number of
+/// the key. What is sent stands in the slice.
+fn sent(
+    alloc: Global,
+    conf: bool,
+    client: &[u8],
+    out: &mut [u8; MAX_FRAME_LEN],
+) -> Result<(TxResult, Option<TxRow>, Option<u128>), Fail> {
+    if client.len() < MIN_FRAME_LEN || client.len() > MAX_FRAME_LEN {
+        Err("a client frame has 14 to 9,248 octets")?;
+    }
+    let mut keys = key_table(alloc)?;
+    let mut channel = channel_on(&keys, conf)?;
+    let sent = channel.next_frame(&mut keys, &OPTIONS, client, out);
+    Ok((sent, channel.row(an()), keys.first_unused(key_number())))
 }
 
 #[test]
@@ -35,43 +65,63 @@ fn frames_of_the_standard(rt: HostRuntime) -> Result<(), Fail> {
         (false, CLIENT_54.as_slice(), LINK_54.as_slice()),
         (true, CLIENT_60.as_slice(), LINK_60.as_slice()),
     ] {
-        let mut keys = key_table(rt.alloc())?;
-        let mut channel = channel_on(&keys, conf)?;
-        let mut out = [0; 9248];
-        let sent = channel.next_frame(&mut keys, &OPTIONS, client, &mut out);
+        let mut out = [0; MAX_FRAME_LEN];
         let len = link.len();
-        assert_eq!(&rt;
-            sent,
-            TxResult::Made {
-                len,
-                key: key_number()
-            }
-        );
-        assert_eq!(&rt; out.get(..len), Some(link));
+        let key = key_number();
         let next = u128::from(PACKET_NUMBER) + 1;
-        assert_eq!(&rt; channel.row(an()?).map(|row| row.next), Some(next));
-        assert_eq!(&rt; keys.first_unused(key_number()), Some(next));
+        let wanted = (
+            TxResult::Made { len, key },
+            Some(row(next, conf)),
+            Some(next),
+        );
+        assert!(&rt; sent(rt.alloc(), conf, client, &mut out)? == wanted);
+        assert!(&rt; out.get(..len) == Some(link));
     }
     Ok(())
 }
 
+/// A command on the association.
+#[derive(Clone, Copy)]
+enum Command {
+    Off,
+    Delete,
+}
+
+/// The channel's answer to a command.
+fn answer_to(channel: &mut TxChannel, command: Command) -> Result<(), Refusal> {
+    match command {
+        Command::Off => channel.tx_off(an()),
+        Command::Delete => channel.tx_del(an()),
+    }
+}
+
+/// The enabled association, and whether the channel uses the key of the test frames; it never uses another.
+fn seen(rt: &impl Abort, channel: &TxChannel) -> (Option<TxRow>, bool) {
+    assert!(rt; !channel.uses(unused_number()));
+    (channel.row_on(), channel.uses(key_number()))
+}
+
+/// A new channel.
+fn new_channel(alloc: Global) -> Result<TxChannel, Fail> {
+    let keys = key_table(alloc)?;
+    channel_on(&keys, false)
+}
+
+/// A command, its answer, and whether the channel uses the key of the test frames afterwards.
+const COMMANDS: [(Command, Result<(), Refusal>, bool); 3] = [
+    (Command::Off, Ok(()), true),
+    (Command::Delete, Ok(()), false),
+    (Command::Delete, Err(Refusal::NoSa), false),
+];
+
 #[test]
 fn commands(rt: HostRuntime) -> Result<(), Fail> {
-    let keys = key_table(rt.alloc())?;
-    let mut channel = channel_on(&keys, false)?;
-    let row = TxRow {
-        an: an()?,
-        key: key_number(),
-        next: u128::from(PACKET_NUMBER),
-        conf: false,
-        on: true,
-    };
-    assert_eq!(&rt; channel.row_on(), Some(row));
-    assert!(&rt; channel.uses(key_number()) && !channel.uses(unused_number()));
-    assert_eq!(&rt; channel.tx_off(an()?), Ok(()));
-    assert_eq!(&rt; channel.row_on(), None);
-    assert_eq!(&rt; channel.tx_del(an()?), Ok(()));
-    assert_eq!(&rt; channel.tx_del(an()?), Err(Refusal::NoSa));
-    assert!(&rt; !channel.uses(key_number()));
+    let mut channel = new_channel(rt.alloc())?;
+    let enabled = row(u128::from(PACKET_NUMBER), false);
+    assert!(&rt; seen(&rt, &channel) == (Some(enabled), true));
+    for (command, answer, uses) in &COMMANDS {
+        assert!(&rt; answer_to(&mut channel, *command) == *answer);
+        assert!(&rt; seen(&rt, &channel) == (None, *uses));
+    }
     Ok(())
 }
