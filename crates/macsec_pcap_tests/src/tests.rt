@@ -1,23 +1,39 @@
 //! A file is given as hex, and what a reader returns as one text: the unit of the times, then what the calls of `next`
-//! return, one after another.
+//! return, one after another. Both are written in words, of which some stand for more (`WORDS`).
 
 use macsec_pcap::{Body, PcapFault, PcapReader, PcapWriter, Record, Resolution};
 use std::alloc::{AllocError, Global};
 use std::fmt::Write;
 use std::io::{self, Read};
+use std::process::Abort;
 use std::test::Fail;
 
-/// The header of a file in microseconds, with the lowest octets first.
-const MICRO: &str = "d4c3b2a1020004000000000000000000ffff000001000000";
+/// Words that stand for octets of a file, or for what is told of it.
+const WORDS: [(&str, &str); 4] = [
+    // The header of a file in microseconds, with the lowest octets first.
+    ("micro", "d4c3b2a1020004000000000000000000ffff000001000000"),
+    // The header of a file in nanoseconds, with the highest octets first.
+    (
+        "nano_big",
+        "a1b23c4d0002000400000000000000000000ffff00000001",
+    ),
+    // A record of a client frame of 14 octets, with the lowest octets first; and how it is told.
+    (
+        "record",
+        "00000000000000000e0000000e000000ffffffffffff0200000000010800",
+    ),
+    ("told", "0.0:ffffffffffff0200000000010800"),
+];
 
-/// The header of a file in nanoseconds, with the highest octets first.
-const NANO_BIG: &str = "a1b23c4d0002000400000000000000000000ffff00000001";
-
-/// A record of a client frame of 14 octets, with the lowest octets first.
-const RECORD: &str = "00000000000000000e0000000e000000ffffffffffff0200000000010800";
-
-/// How that record is told.
-const TOLD: &str = " 0.0:ffffffffffff0200000000010800";
+/// What a word stands for: itself, if it is no word of the table.
+fn spelled(word: &str) -> &str {
+    for (name, text) in WORDS {
+        if name == word {
+            return text;
+        }
+    }
+    word
+}
 
 /// What a record says, as text.
 fn tell_record(alloc: Global, text: &mut String, record: Record<'_>) -> Result<(), Fail> {
@@ -32,256 +48,313 @@ fn tell_record(alloc: Global, text: &mut String, record: Record<'_>) -> Result<(
     Ok(())
 }
 
-/// What a reader returns of a file, up to two calls after the last record.
-fn told<R: Read + Drop>(alloc: Global, source: R) -> Result<String, Fail> {
-    let mut text = String::new(alloc);
-    let mut reader = match PcapReader::new(alloc, source) {
-        Ok(reader) => reader,
-        Err(fault) => {
-            text.push_str(fault.name())?;
-            return Ok(text);
+/// What a reader's next call returns, as text; says whether it is a record.
+fn tell_next<R: Read + Drop>(
+    alloc: Global,
+    reader: &mut PcapReader<R>,
+    text: &mut String,
+) -> Result<bool, Fail> {
+    let ending = match reader.next() {
+        Ok(Some(record)) => {
+            tell_record(alloc, text, record)?;
+            return Ok(true);
         }
+        Ok(None) => "end",
+        Err(fault) => fault.name(),
     };
-    match reader.resolution() {
-        Resolution::Micro => text.push_str("Micro")?,
-        Resolution::Nano => text.push_str("Nano")?,
-    }
+    write!(text, " {ending}")?;
+    Ok(false)
+}
+
+/// The unit of a reader's times, and what the reader returns, up to two calls after the last record.
+fn tell_records<R: Read + Drop>(
+    alloc: Global,
+    reader: &mut PcapReader<R>,
+    text: &mut String,
+) -> Result<(), Fail> {
+    let unit = match reader.resolution() {
+        Resolution::Micro => " Micro",
+        Resolution::Nano => " Nano",
+    };
+    text.push_str(unit)?;
     let mut has_ended = false;
     for _ in 0..8 {
-        let goes_on = match reader.next() {
-            Ok(Some(record)) => {
-                tell_record(alloc, &mut text, record)?;
-                true
-            }
-            Ok(None) => {
-                text.push_str(" end")?;
-                false
-            }
-            Err(fault) => {
-                text.push_str(" ")?;
-                text.push_str(fault.name())?;
-                false
-            }
-        };
+        let goes_on = tell_next(alloc, reader, text)?;
         if has_ended && !goes_on {
             break;
         }
         has_ended = !goes_on;
     }
+    Ok(())
+}
+
+/// What a reader returns of a file, or why there is none.
+fn tell_file<R: Read + Drop>(alloc: Global, source: R, text: &mut String) -> Result<(), Fail> {
+    match PcapReader::new(alloc, source) {
+        Ok(mut reader) => tell_records(alloc, &mut reader, text),
+        Err(fault) => Ok(write!(text, " {}", fault.name())?),
+    }
+}
+
+/// What is told of a file.
+fn told(alloc: Global, file: &[u8]) -> Result<String, Fail> {
+    let mut text = String::new(alloc);
+    tell_file(alloc, file, &mut text)?;
     Ok(text)
 }
 
-/// Pieces of text, one after another.
-fn joined(alloc: Global, pieces: &[&str]) -> Result<String, AllocError> {
+/// What words stand for, each behind a gap.
+fn spelled_out(alloc: Global, words: &str, gap: &str) -> Result<String, AllocError> {
     let mut text = String::new(alloc);
-    for piece in pieces {
-        text.push_str(piece)?;
+    for word in words.split_whitespace() {
+        text.push_str(gap)?;
+        text.push_str(spelled(word))?;
     }
     Ok(text)
 }
 
-/// The octets of pieces of hex, one after another.
-fn octets(alloc: Global, pieces: &[&str]) -> Result<Vec<u8>, Fail> {
-    let text = joined(alloc, pieces)?;
+/// The octets of a file of these words.
+fn octets(alloc: Global, words: &str) -> Result<Vec<u8>, Fail> {
+    let text = spelled_out(alloc, words, "")?;
     Ok(hex::decode(alloc, text.as_str())?)
 }
 
+/// A file is told as is wanted; if not, the place of the case is shown.
+fn assert_told(
+    rt: &impl Abort,
+    alloc: Global,
+    file: &[u8],
+    wanted: &str,
+    place: usize,
+) -> Result<(), Fail> {
+    let wanted = spelled_out(alloc, wanted, " ")?;
+    let text = told(alloc, file)?;
+    assert_eq!(rt; text.as_str(), wanted.as_str(), "at {place}");
+    Ok(())
+}
+
 /// Files in each order and unit, with whole, partial and empty records, and with each fault of the format.
+const FILES: [(&str, &str); 24] = [
+    ("micro", "Micro end end"),
+    ("micro record record", "Micro told told end end"),
+    ("nano_big", "Nano end end"),
+    // A record with the highest octets first: time 1.2, five octets captured of five.
+    (
+        "nano_big 00000001000000020000000500000005 0102030405",
+        "Nano 1.2:0102030405 end end",
+    ),
+    // The other two forms.
+    (
+        "a1b2c3d40002000400000000000000000000ffff00000001",
+        "Micro end end",
+    ),
+    (
+        "4d3cb2a1020004000000000000000000ffff000001000000",
+        "Nano end end",
+    ),
+    // Time zone, accuracy and snapshot length are not tested.
+    (
+        "d4c3b2a102000400010203040506070800000000 01000000",
+        "Micro end end",
+    ),
+    // The faults of the header, each alone and in their order.
+    ("00c3b2a1020004000000000000000000ffff000001000000", "Magic"),
+    (
+        "d4c3b2a1030004000000000000000000ffff000001000000",
+        "Version",
+    ),
+    (
+        "d4c3b2a1020003000000000000000000ffff000001000000",
+        "Version",
+    ),
+    (
+        "d4c3b2a1020004000000000000000000ffff000000000000",
+        "LinkType",
+    ),
+    (
+        "d4c3b2a1020004000000000000000000ffff000001000001",
+        "LinkType",
+    ),
+    ("00c3b2a1030004000000000000000000ffff000000000000", "Magic"),
+    (
+        "d4c3b2a1030004000000000000000000ffff000000000000",
+        "Version",
+    ),
+    ("00", "CutHeader"),
+    // A file in one order whose version is in the other.
+    (
+        "d4c3b2a1000200040000000000000000ffff000001000000",
+        "Version",
+    ),
+    // 20 octets were captured of a frame of 14: the record is whole, and has all of them.
+    (
+        "micro 0000000000000000140000000e000000 ffffffffffff0200000000010800010203040506",
+        "Micro 0.0:ffffffffffff0200000000010800010203040506 end end",
+    ),
+    // One octet more was captured than the frame had, one less, none of an empty frame, and none of a frame.
+    (
+        "micro 0000000000000000020000000100000011222222",
+        "Micro 0.0:1122 CutRecord CutRecord",
+    ),
+    (
+        "micro 00000000000000000e0000000f000000ffffffffffff0200000000010800 record",
+        "Micro 0.0 partial told end end",
+    ),
+    (
+        "micro ffffffff010000000000000000000000 record",
+        "Micro 4294967295.1: told end end",
+    ),
+    (
+        "micro 01000000ffffffff0000000001000000 record",
+        "Micro 1.4294967295 partial told end end",
+    ),
+    // Captured lengths of 262,145 and of 2^32 - 1, though no captured octet is there; 262,144 is no fault.
+    (
+        "micro record 00000000000000000100040001000400",
+        "Micro told RecordLength RecordLength",
+    ),
+    (
+        "micro 0000000000000000ffffffff00000000 record",
+        "Micro RecordLength RecordLength",
+    ),
+    (
+        "micro 00000000000000000000040000000400 record",
+        "Micro CutRecord CutRecord",
+    ),
+];
+
 #[test]
 fn files(rt: HostRuntime) -> Result<(), Fail> {
-    let alloc = rt.alloc();
-    let rows: [(&[&str], &[&str]); 24] = [
-        (&[MICRO], &["Micro end end"]),
-        (&[MICRO, RECORD, RECORD], &["Micro", TOLD, TOLD, " end end"]),
-        (&[NANO_BIG], &["Nano end end"]),
-        // A record with the highest octets first: time 1.2, five octets captured of five.
-        (
-            &[NANO_BIG, "00000001000000020000000500000005", "0102030405"],
-            &["Nano 1.2:0102030405 end end"],
-        ),
-        // The other two forms.
-        (
-            &["a1b2c3d40002000400000000000000000000ffff00000001"],
-            &["Micro end end"],
-        ),
-        (
-            &["4d3cb2a1020004000000000000000000ffff000001000000"],
-            &["Nano end end"],
-        ),
-        // Time zone, accuracy and snapshot length are not tested.
-        (
-            &["d4c3b2a102000400010203040506070800000000", "01000000"],
-            &["Micro end end"],
-        ),
-        // The faults of the header, each alone and in their order.
-        (
-            &["00c3b2a1020004000000000000000000ffff000001000000"],
-            &["Magic"],
-        ),
-        (
-            &["d4c3b2a1030004000000000000000000ffff000001000000"],
-            &["Version"],
-        ),
-        (
-            &["d4c3b2a1020003000000000000000000ffff000001000000"],
-            &["Version"],
-        ),
-        (
-            &["d4c3b2a1020004000000000000000000ffff000000000000"],
-            &["LinkType"],
-        ),
-        (
-            &["d4c3b2a1020004000000000000000000ffff000001000001"],
-            &["LinkType"],
-        ),
-        (
-            &["00c3b2a1030004000000000000000000ffff000000000000"],
-            &["Magic"],
-        ),
-        (
-            &["d4c3b2a1030004000000000000000000ffff000000000000"],
-            &["Version"],
-        ),
-        (&["00"], &["CutHeader"]),
-        // A file in one order whose version is in the other.
-        (
-            &["d4c3b2a1000200040000000000000000ffff000001000000"],
-            &["Version"],
-        ),
-        // 20 octets were captured of a frame of 14: the record is whole, and has all of them.
-        (
-            &[
-                MICRO,
-                "0000000000000000140000000e000000",
-                "ffffffffffff0200000000010800010203040506",
-            ],
-            &["Micro 0.0:ffffffffffff0200000000010800010203040506 end end"],
-        ),
-        // One octet more was captured than the frame had, one less, none of an empty frame, and none of a frame.
-        (
-            &[MICRO, "0000000000000000020000000100000011222222"],
-            &["Micro 0.0:1122 CutRecord CutRecord"],
-        ),
-        (
-            &[
-                MICRO,
-                "00000000000000000e0000000f000000ffffffffffff0200000000010800",
-                RECORD,
-            ],
-            &["Micro 0.0 partial", TOLD, " end end"],
-        ),
-        (
-            &[MICRO, "ffffffff010000000000000000000000", RECORD],
-            &["Micro 4294967295.1:", TOLD, " end end"],
-        ),
-        (
-            &[MICRO, "01000000ffffffff0000000001000000", RECORD],
-            &["Micro 1.4294967295 partial", TOLD, " end end"],
-        ),
-        // Captured lengths of 262,145 and of 2^32 - 1, though no captured octet is there; 262,144 is no fault.
-        (
-            &[MICRO, RECORD, "00000000000000000100040001000400"],
-            &["Micro", TOLD, " RecordLength RecordLength"],
-        ),
-        (
-            &[MICRO, "0000000000000000ffffffff00000000", RECORD],
-            &["Micro RecordLength RecordLength"],
-        ),
-        (
-            &[MICRO, "00000000000000000000040000000400", RECORD],
-            &["Micro CutRecord CutRecord"],
-        ),
-    ];
-    for (file, wanted) in rows {
-        let file = octets(alloc, file)?;
-        let wanted = joined(alloc, wanted)?;
-        let text = told(alloc, file.as_slice())?;
-        assert_eq!(&rt; text.as_str(), wanted.as_str());
+    for (place, (file, wanted)) in FILES.iter().enumerate() {
+        let file = octets(rt.alloc(), file)?;
+        assert_told(&rt, rt.alloc(), file.as_slice(), wanted, place)?;
     }
     Ok(())
+}
+
+/// What is told of so many octets of a file of two records.
+fn told_of_prefix(len: usize) -> &'static str {
+    match len {
+        0..24 => "CutHeader",
+        24 => "Micro end end",
+        25..54 => "Micro CutRecord CutRecord",
+        54 => "Micro told end end",
+        55..84 => "Micro told CutRecord CutRecord",
+        _ => "Micro told told end end",
+    }
 }
 
 /// Every prefix of a file of two records.
 #[test]
 fn prefixes(rt: HostRuntime) -> Result<(), Fail> {
-    let alloc = rt.alloc();
-    let file = octets(alloc, &[MICRO, RECORD, RECORD])?;
+    let file = octets(rt.alloc(), "micro record record")?;
+    let file = file.as_slice();
     assert_eq!(&rt; file.len(), 84);
     for len in 0..=file.len() {
-        let wanted: &[&str] = match len {
-            0..24 => &["CutHeader"],
-            24 => &["Micro end end"],
-            25..54 => &["Micro CutRecord CutRecord"],
-            54 => &["Micro", TOLD, " end end"],
-            55..84 => &["Micro", TOLD, " CutRecord CutRecord"],
-            _ => &["Micro", TOLD, TOLD, " end end"],
-        };
-        let wanted = joined(alloc, wanted)?;
-        let text = told(alloc, &file.as_slice()[..len])?;
-        assert_eq!(&rt; text.as_str(), wanted.as_str(), "at {len}");
+        assert_told(&rt, rt.alloc(), &file[..len], told_of_prefix(len), len)?;
     }
     Ok(())
+}
+
+/// What a writer answers to a frame with this time.
+fn answer_to(
+    writer: &mut PcapWriter<'_, Vec<u8>>,
+    seconds: u32,
+    fraction: u32,
+    frame: &[u8],
+) -> Result<(), PcapFault> {
+    writer.write(seconds, fraction, frame)
+}
+
+/// Writes a file of two frames with these times.
+fn write_two(file: &mut Vec<u8>, resolution: Resolution, frame: &[u8]) -> Result<(), PcapFault> {
+    let mut writer = PcapWriter::new(file, resolution)?;
+    answer_to(&mut writer, 0, 0, frame)?;
+    answer_to(&mut writer, 0x0102_0304, 0x0506_0708, &[])
 }
 
 /// What is written of two frames with these times.
 fn written(alloc: Global, resolution: Resolution, frame: &[u8]) -> Result<Vec<u8>, Fail> {
     let mut file = Vec::new(alloc);
-    let mut writer = PcapWriter::new(&mut file, resolution)?;
-    writer.write(0, 0, frame)?;
-    writer.write(0x0102_0304, 0x0506_0708, &[])?;
+    write_two(&mut file, resolution, frame)?;
     Ok(file)
 }
+
+/// A file has the octets of these words.
+fn assert_octets(rt: &impl Abort, alloc: Global, file: &[u8], wanted: &str) -> Result<(), Fail> {
+    let wanted = octets(alloc, wanted)?;
+    assert_eq!(rt; file, wanted.as_slice());
+    Ok(())
+}
+
+/// What is written in each unit, and how it is told.
+const WRITTEN: [(Resolution, &str, &str); 2] = [
+    (
+        Resolution::Micro,
+        "micro record 04030201080706050000000000000000",
+        "Micro told 16909060.84281096: end end",
+    ),
+    (
+        Resolution::Nano,
+        "4d3cb2a1020004000000000000000000ffff000001000000 record 04030201080706050000000000000000",
+        "Nano told 16909060.84281096: end end",
+    ),
+];
 
 /// Both headers and two records, as they are written and as they are read again.
 #[test]
 fn files_are_written(rt: HostRuntime) -> Result<(), Fail> {
-    let alloc = rt.alloc();
-    let frame = octets(alloc, &["ffffffffffff0200000000010800"])?;
-    let empty = "04030201080706050000000000000000";
-    let nano = "4d3cb2a1020004000000000000000000ffff000001000000";
-    for (resolution, header, name) in [
-        (Resolution::Micro, MICRO, "Micro"),
-        (Resolution::Nano, nano, "Nano"),
-    ] {
-        let file = written(alloc, resolution, frame.as_slice())?;
-        let wanted = octets(alloc, &[header, RECORD, empty])?;
-        assert_eq!(&rt; file.as_slice(), wanted.as_slice());
-        let wanted = joined(alloc, &[name, TOLD, " 16909060.84281096: end end"])?;
-        let text = told(alloc, file.as_slice())?;
-        assert_eq!(&rt; text.as_str(), wanted.as_str());
+    let frame = [0xff, 0xff, 0xff, 0xff, 0xff, 0xff, 2, 0, 0, 0, 0, 1, 8, 0];
+    for (resolution, octets, wanted) in WRITTEN {
+        let file = written(rt.alloc(), resolution, &frame)?;
+        assert_octets(&rt, rt.alloc(), file.as_slice(), octets)?;
+        assert_told(&rt, rt.alloc(), file.as_slice(), wanted, 0)?;
     }
     Ok(())
 }
 
-/// A frame of this many octets.
-fn frame_of(alloc: Global, len: usize) -> Result<Vec<u8>, AllocError> {
-    vec![in alloc; 0x5a; len]
+/// Whether a writer takes a frame of so many octets, or why not.
+fn answer_to_length(
+    alloc: Global,
+    writer: &mut PcapWriter<'_, Vec<u8>>,
+    len: usize,
+) -> Result<Result<(), PcapFault>, AllocError> {
+    let frame = vec![in alloc; 0x5a; len]?;
+    Ok(answer_to(writer, 1, 2, frame.as_slice()))
+}
+
+/// A frame of 262,144 octets is written, one of 262,145 is not, nor is any after it.
+fn assert_answers(rt: &impl Abort, alloc: Global, file: &mut Vec<u8>) -> Result<(), Fail> {
+    let mut writer = PcapWriter::new(file, Resolution::Micro)?;
+    for (len, answer) in [
+        (262_144, Ok(())),
+        (262_145, Err(PcapFault::RecordLength)),
+        (0, Err(PcapFault::RecordLength)),
+    ] {
+        assert_eq!(rt; answer_to_length(alloc, &mut writer, len)?, answer);
+    }
+    Ok(())
+}
+
+/// What is told of a file of one frame of so many octets 5a.
+fn told_of_frame(alloc: Global, len: usize) -> Result<String, AllocError> {
+    let mut text = String::new(alloc);
+    text.push_str("Micro 1.2:")?;
+    for _ in 0..len {
+        text.push_str("5a")?;
+    }
+    text.push_str(" end end")?;
+    Ok(text)
 }
 
 /// A frame of 262,144 octets is written and read, one of 262,145 is not written, nor is any after it.
 #[test]
 fn longest_frame(rt: HostRuntime) -> Result<(), Fail> {
-    let alloc = rt.alloc();
-    let longest = frame_of(alloc, 262_144)?;
-    let too_long = frame_of(alloc, 262_145)?;
-    let mut file = Vec::new(alloc);
-    let mut writer = PcapWriter::new(&mut file, Resolution::Micro)?;
-    assert!(&rt; writer.write(1, 2, longest.as_slice()).is_ok());
-    let refused = writer.write(1, 2, too_long.as_slice());
-    assert_eq!(&rt; refused, Err(PcapFault::RecordLength));
-    let refused = writer.write(1, 2, &[]);
-    assert_eq!(&rt; refused, Err(PcapFault::RecordLength));
+    let mut file = Vec::new(rt.alloc());
+    assert_answers(&rt, rt.alloc(), &mut file)?;
     assert_eq!(&rt; file.len(), 24 + 16 + 262_144);
-    let mut reader = PcapReader::new(alloc, file.as_slice())?;
-    let Ok(Some(record)) = reader.next() else {
-        panic!(&rt; "no record");
-    };
-    let Body::Whole(read) = record.body else {
-        panic!(&rt; "no whole record");
-    };
-    assert_eq!(&rt; read, longest.as_slice());
-    assert!(&rt; matches!(reader.next(), Ok(None)));
-    Ok(())
+    let wanted = told_of_frame(rt.alloc(), 262_144)?;
+    assert_told(&rt, rt.alloc(), file.as_slice(), wanted.as_str(), 0)
 }
 
 /// A file of empty records at time 0: its header, and then so many octets of 0.
@@ -307,29 +380,28 @@ impl Read for EmptyRecords<'_> {
 }
 
 /// How many records a reader returns, and the fault after them, if there is one.
-fn count_of<R: Read + Drop>(alloc: Global, source: R) -> Result<(u32, Option<PcapFault>), Fail> {
-    let mut reader = PcapReader::new(alloc, source)?;
+fn count_of<R: Read + Drop>(reader: &mut PcapReader<R>) -> (u32, Option<PcapFault>) {
     for n in 0..16_777_218 {
         match reader.next() {
             Ok(Some(_)) => {}
-            Ok(None) => return Ok((n, None)),
-            Err(fault) => return Ok((n, Some(fault))),
+            Ok(None) => return (n, None),
+            Err(fault) => return (n, Some(fault)),
         }
     }
-    Ok((16_777_218, None))
+    (16_777_218, None)
 }
 
 /// A file of 16,777,216 records is read, and if one octet follows them, the fault is `RecordCount`, though no record is
 /// whole there.
 #[test]
 fn most_records(rt: HostRuntime) -> Result<(), Fail> {
-    let alloc = rt.alloc();
-    let header = octets(alloc, &[MICRO])?;
+    let header = octets(rt.alloc(), "micro")?;
     let source = EmptyRecords {
         header: header.as_slice(),
         zeros: 16 * 16_777_216 + 1,
     };
-    let found = count_of(alloc, source)?;
+    let mut reader = PcapReader::new(rt.alloc(), source)?;
+    let found = count_of(&mut reader);
     assert_eq!(&rt; found, (16_777_216, Some(PcapFault::RecordCount)));
     Ok(())
 }
