@@ -111,16 +111,37 @@ fn configurations(rt: HostRuntime) {
     }
 }
 
+/// What is sent at the uncontrolled port.
+fn uncontrolled<'a>(secy: &Secy, frame: &'a [u8]) -> Result<&'a [u8], FrameFault> {
+    secy.send_uncontrolled(frame)
+}
+
+/// The fault of a received frame.
+fn fault_of(secy: &mut Secy, frame: &[u8]) -> Option<FrameFault> {
+    secy.receive(frame).err()
+}
+
 /// A frame at the uncontrolled port is sent as it is, and received, or both have this fault.
 fn assert_uncontrolled(rt: &impl Abort, secy: &mut Secy, frame: &[u8], fault: Option<FrameFault>) {
-    match secy.send_uncontrolled(frame) {
-        Ok(sent) => {
-            assert!(rt; sent == frame);
-            assert!(rt; fault.is_none());
-        }
-        Err(found) => assert!(rt; fault == Some(found)),
-    }
-    assert!(rt; secy.receive(frame).err() == fault);
+    let wanted = match fault {
+        Some(fault) => Err(fault),
+        None => Ok(frame),
+    };
+    assert!(rt; uncontrolled(secy, frame) == wanted);
+    assert!(rt; fault_of(secy, frame) == fault);
+}
+
+/// What becomes of a client frame of so many octets, protected or not.
+fn assert_length(rt: &impl Abort, secy: &mut Secy, protect: bool, length: usize, wanted: Answer) {
+    let octets = [0; 9249];
+    carry_out(rt, secy, &Command::Protect(protect));
+    let client = octets.get(..length).expect(rt, "so many octets");
+    assert!(rt; answer_to(secy, client) == wanted, "{length} octets");
+    let fault = match wanted {
+        Answer::Fault(fault) => Some(fault),
+        _ => None,
+    };
+    assert_uncontrolled(rt, secy, client, fault);
 }
 
 #[test]
@@ -141,7 +162,6 @@ fn lengths_of_frames(rt: HostRuntime) {
         Command::TxOn(an),
     ];
     let mut secy = endpoint(&rt, rt.alloc(), config, &commands);
-    let octets = [0; 9249];
     for (protect, length, wanted) in [
         (true, 13, Answer::Fault(FrameFault::Short)),
         (true, 14, Answer::Sent(46, Some(4095))),
@@ -154,14 +174,7 @@ fn lengths_of_frames(rt: HostRuntime) {
         (false, 9248, Answer::Sent(9248, None)),
         (false, 9249, Answer::Fault(FrameFault::Long)),
     ] {
-        carry_out(&rt, &mut secy, &Command::Protect(protect));
-        let client = octets.get(..length).expect(&rt, "so many octets");
-        assert_eq!(rt; answer_to(&mut secy, client), wanted, "{length} octets");
-        let fault = match wanted {
-            Answer::Fault(fault) => Some(fault),
-            _ => None,
-        };
-        assert_uncontrolled(&rt, &mut secy, client, fault);
+        assert_length(&rt, &mut secy, protect, length, wanted);
     }
     assert!(rt; secy.tx_counters().out_octets_encrypted == 2 + 9204);
 }
@@ -232,95 +245,143 @@ fn receiver(rt: &impl Abort, alloc: Global) -> Secy {
     endpoint(rt, alloc, config, &commands)
 }
 
-/// The frame with another octet at a place.
-fn altered<const N: usize>(frame: [u8; N], place: usize, octet: u8) -> [u8; N] {
-    let mut altered = frame;
-    if let Some(at) = altered.get_mut(place) {
-        *at = octet;
-    }
-    altered
+/// What becomes of a link frame: the verdict, the association that it is for, and what is delivered.
+type Wanted<'a> = (Verdict, Option<(Sci, u8)>, Option<&'a [u8]>);
+
+/// What becomes of a link frame that is not at fault, and what is shown of it at the uncontrolled port.
+fn received<'a>(secy: &'a mut Secy, link: &'a [u8]) -> Option<(Wanted<'a>, &'a [u8])> {
+    let Ok(received) = secy.receive(link) else {
+        return None;
+    };
+    let found = (received.verdict, received.row, received.controlled);
+    Some((found, received.uncontrolled))
 }
 
-/// Gives the endpoint a link frame: this is the verdict, the association that it is for, and what is delivered.
-fn assert_received(
-    rt: &impl Abort,
-    secy: &mut Secy,
-    link: &[u8],
-    wanted: (Verdict, Option<(Sci, u8)>, Option<&[u8]>),
-) {
-    let (verdict, row, delivered) = wanted;
-    match secy.receive(link) {
-        Ok(received) => {
-            assert!(rt; received.verdict == verdict, "{verdict:?}");
-            assert!(rt; received.row == row, "{verdict:?}");
-            assert!(rt; received.controlled == delivered, "{verdict:?}");
-            assert!(rt; received.uncontrolled == link, "{verdict:?}");
-        }
-        Err(_) => panic!(rt; "the frame is at fault"),
+/// Gives the endpoint a link frame: this becomes of it, and it is shown as it is at the uncontrolled port.
+fn assert_received(rt: &impl Abort, secy: &mut Secy, link: &[u8], wanted: Wanted<'_>) {
+    let (verdict, _, _) = wanted;
+    assert!(rt; received(secy, link) == Some((wanted, link)), "{verdict:?}");
+}
+
+const STRICT: Command = Command::Validate(Mode::Strict);
+
+const CHECK: Command = Command::Validate(Mode::Check);
+
+const DISABLED: Command = Command::Validate(Mode::Disabled);
+
+const REPLAY_OFF: Command = Command::Replay {
+    protect: false,
+    window: 0,
+};
+
+/// A command, a frame, the octets of it that are others, and what becomes of it then.
+type Case = (
+    Command,
+    &'static [u8],
+    &'static [(usize, u8)],
+    Wanted<'static>,
+);
+
+/// The frames that the receiver of the test frames gets, one after another.
+const CASES: [Case; 13] = [
+    (STRICT, &CLIENT_54, &[], (Verdict::NoTag, None, None)),
+    (
+        CHECK,
+        &CLIENT_54,
+        &[],
+        (Verdict::Untagged, None, Some(&CLIENT_54)),
+    ),
+    (
+        STRICT,
+        &LINK_54,
+        &[(14, 0xa2)],
+        (Verdict::BadTag, None, None),
+    ),
+    (
+        STRICT,
+        &LINK_54,
+        &[(14, 0x2a)],
+        (Verdict::Reserved, None, None),
+    ),
+    (
+        STRICT,
+        &LINK_54,
+        &[(14, 0x21)],
+        (Verdict::NoSaError, None, None),
+    ),
+    (
+        CHECK,
+        &LINK_54,
+        &[(14, 0x21)],
+        (Verdict::NoSa, None, Some(&CLIENT_54)),
+    ),
+    (
+        STRICT,
+        &LINK_54,
+        &[(14, 0x23), (16, 0x32)],
+        (Verdict::BadTag, OF_3, None),
+    ),
+    (
+        STRICT,
+        &LINK_54,
+        &[(85, 0xde)],
+        (Verdict::NotValid, OF_2, None),
+    ),
+    (
+        CHECK,
+        &LINK_54,
+        &[(85, 0xde)],
+        (Verdict::Invalid, OF_2, Some(&CLIENT_54)),
+    ),
+    (
+        DISABLED,
+        &LINK_54,
+        &[],
+        (Verdict::Unchecked, OF_2, Some(&CLIENT_54)),
+    ),
+    (
+        STRICT,
+        &LINK_60,
+        &[],
+        (Verdict::Passed, OF_2, Some(&CLIENT_60)),
+    ),
+    (STRICT, &LINK_54, &[], (Verdict::Late, OF_2, None)),
+    (
+        REPLAY_OFF,
+        &LINK_54,
+        &[],
+        (Verdict::Delayed, OF_2, Some(&CLIENT_54)),
+    ),
+];
+
+/// Sets the octet at a place.
+fn set(link: &mut [u8], place: usize, octet: u8) {
+    if let Some(at) = link.get_mut(place) {
+        *at = octet;
     }
+}
+
+/// Carries out the command of a case, and receives its frame.
+fn assert_case(rt: &impl Abort, secy: &mut Secy, case: &Case) {
+    let (command, frame, changes, wanted) = case;
+    let mut octets = [0; 92];
+    let link = octets
+        .get_mut(..frame.len())
+        .expect(rt, "a frame of at most 92 octets");
+    link.copy_from_slice(frame);
+    for (place, octet) in *changes {
+        set(link, *place, *octet);
+    }
+    carry_out(rt, secy, command);
+    assert_received(rt, secy, link, *wanted);
 }
 
 /// From the recovery of its packet number on a frame is for an association, also if no packet number is recovered.
 #[test]
 fn associations_of_frames(rt: HostRuntime) {
     let mut secy = receiver(&rt, rt.alloc());
-    let mode = Command::Validate;
-    let (strict, check, disabled) = (Mode::Strict, Mode::Check, Mode::Disabled);
-    let replay_off = Command::Replay {
-        protect: false,
-        window: 0,
-    };
-    let (client_54, client_60) = (Some(&CLIENT_54[..]), Some(&CLIENT_60[..]));
-    let of_no_number = altered(altered(LINK_54, 14, 0x23), 16, 0x32);
-    for (command, link, wanted) in [
-        (mode(strict), &CLIENT_54[..], (Verdict::NoTag, None, None)),
-        (
-            mode(check),
-            &CLIENT_54[..],
-            (Verdict::Untagged, None, client_54),
-        ),
-        (
-            mode(strict),
-            &altered(LINK_54, 14, 0xa2),
-            (Verdict::BadTag, None, None),
-        ),
-        (
-            mode(strict),
-            &altered(LINK_54, 14, 0x2a),
-            (Verdict::Reserved, None, None),
-        ),
-        (
-            mode(strict),
-            &altered(LINK_54, 14, 0x21),
-            (Verdict::NoSaError, None, None),
-        ),
-        (
-            mode(check),
-            &altered(LINK_54, 14, 0x21),
-            (Verdict::NoSa, None, client_54),
-        ),
-        (mode(strict), &of_no_number, (Verdict::BadTag, OF_3, None)),
-        (
-            mode(strict),
-            &altered(LINK_54, 85, 0xde),
-            (Verdict::NotValid, OF_2, None),
-        ),
-        (
-            mode(check),
-            &altered(LINK_54, 85, 0xde),
-            (Verdict::Invalid, OF_2, client_54),
-        ),
-        (
-            mode(disabled),
-            &LINK_54,
-            (Verdict::Unchecked, OF_2, client_54),
-        ),
-        (mode(strict), &LINK_60, (Verdict::Passed, OF_2, client_60)),
-        (mode(strict), &LINK_54, (Verdict::Late, OF_2, None)),
-        (replay_off, &LINK_54, (Verdict::Delayed, OF_2, client_54)),
-    ] {
-        carry_out(&rt, &mut secy, &command);
-        assert_received(&rt, &mut secy, link, wanted);
+    for case in &CASES {
+        assert_case(&rt, &mut secy, case);
     }
 }
 
@@ -339,12 +400,11 @@ fn assert_counted(
     removed: (u64, u64),
 ) {
     let sci = SENDER.sci;
-    assert_eq!(rt; passed_and_late(secy.rx_counters(sci)), Some(channel));
-    assert_eq!(rt;
-        passed_and_late(secy.rx_sa_counters(sci, an(rt, 2))),
-        association
-    );
-    assert_eq!(rt; passed_and_late(secy.rx_removed(sci)), Some(removed));
+    let of_channel = passed_and_late(secy.rx_counters(sci));
+    let of_association = passed_and_late(secy.rx_sa_counters(sci, an(rt, 2)));
+    let of_removed = passed_and_late(secy.rx_removed(sci));
+    let counted = (of_channel, of_association, of_removed);
+    assert!(rt; counted == (Some(channel), association, Some(removed)));
 }
 
 /// What a deleted association had counted stays with its channel, and a new one of its number begins at 0.
