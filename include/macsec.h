@@ -6,6 +6,9 @@
  * GCM-AES-128, GCM-AES-256, GCM-AES-XPN-128 and GCM-AES-XPN-256. It opens no socket and no file, starts no thread,
  * has no clock, and keeps no state outside of its endpoints.
  *
+ * Packet numbers are forgotten with an endpoint: the next one takes new keys, or begins above all numbers that were used
+ * under its key. Else IVs repeat, which breaks GCM.
+ *
  *     macsec_endpoint a = MACSEC_ENDPOINT_INIT;
  *     macsec_config config = { { 0x12, 0x15, 0x35, 0x24, 0xc0, 0x89, 0x5e, 0x81 },
  *                              MACSEC_SUITE_GCM_AES_128, MACSEC_FORM_SCI, 1546 };
