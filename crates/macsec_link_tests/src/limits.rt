@@ -65,11 +65,9 @@ fn is_fault(got: &Result<Outcome, WorldFault>, fault: WorldFault) -> bool {
     matches!(got, Err(found) if *found == fault)
 }
 
-/// None of these events happens, for the reason beside it.
-fn assert_faults(rt: &impl Abort, world: &mut World, events: &[(Event, WorldFault)]) {
-    for (event, fault) in events {
-        assert!(rt; is_fault(&result_of(world, event), *fault));
-    }
+/// This event does not happen, for this reason.
+fn assert_fault(rt: &impl Abort, world: &mut World, event: &Event, fault: WorldFault) {
+    assert!(rt; is_fault(&result_of(world, event), fault));
 }
 
 /// What an end shows: its counters, and the packet numbers of the association.
@@ -105,28 +103,38 @@ fn assert_counted(rt: &impl Abort, a: &Shown, b: &Shown) {
     assert!(rt; matches!(b.rx_row, Some(row) if row.next == 2));
 }
 
+/// A frame of no octet and one of one octet are not put on the link.
+fn assert_no_room(rt: &impl Abort, alloc: Global, world: &mut World) -> Result<(), Fail> {
+    let octet = Event::Inject(frame(alloc, &[0])?);
+    assert_fault(rt, world, &octet, WorldFault::LinkFull);
+    let nothing = Event::Inject(frame(alloc, &[])?);
+    assert_fault(rt, world, &nothing, WorldFault::Short);
+    Ok(())
+}
+
+/// No client of A sends.
+fn assert_unsent(rt: &impl Abort, alloc: Global, world: &mut World) -> Result<(), Fail> {
+    let controlled = Event::Send(End::A, frame(alloc, &client(0))?);
+    assert_fault(rt, world, &controlled, WorldFault::LinkFull);
+    let uncontrolled = Event::SendUncontrolled(End::A, frame(alloc, &client(0))?);
+    assert_fault(rt, world, &uncontrolled, WorldFault::LinkFull);
+    Ok(())
+}
+
 /// Each fault of a full link, in its order.
 fn assert_full(rt: &impl Abort, alloc: Global, world: &mut World) -> Result<(), Fail> {
-    let nothing = frame(alloc, &[])?;
-    let octet = frame(alloc, &[0])?;
-    let controlled = frame(alloc, &client(0))?;
-    let uncontrolled = frame(alloc, &client(0))?;
-    let events = [
-        (Event::Inject(octet), WorldFault::LinkFull),
-        (Event::Inject(nothing), WorldFault::Short),
-        (Event::Deliver(End::B, 65536), WorldFault::NoFrame),
-        (Event::Deliver(End::B, 1), WorldFault::Short),
-        (Event::Alter(1, 1, 0), WorldFault::AlterRange),
-        (Event::Alter(0, 0, 1), WorldFault::LinkFull),
-        (Event::Pad(0), WorldFault::LinkFull),
-        (Event::Send(End::A, controlled), WorldFault::LinkFull),
-        (
-            Event::SendUncontrolled(End::A, uncontrolled),
-            WorldFault::LinkFull,
-        ),
-    ];
-    assert_faults(rt, world, &events);
-    Ok(())
+    assert_no_room(rt, alloc, world)?;
+    assert_fault(
+        rt,
+        world,
+        &Event::Deliver(End::B, 65536),
+        WorldFault::NoFrame,
+    );
+    assert_fault(rt, world, &Event::Deliver(End::B, 1), WorldFault::Short);
+    assert_fault(rt, world, &Event::Alter(1, 1, 0), WorldFault::AlterRange);
+    assert_fault(rt, world, &Event::Alter(0, 0, 1), WorldFault::LinkFull);
+    assert_fault(rt, world, &Event::Pad(0), WorldFault::LinkFull);
+    assert_unsent(rt, alloc, world)
 }
 
 /// Is this what the ends show?

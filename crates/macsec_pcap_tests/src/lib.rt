@@ -1,5 +1,10 @@
-//! Tests of capture files: what no clause says of `macsec_pcap`, over its public face alone.
+//! Tests of capture files of both formats: what no clause says of `macsec_pcap` and `macsec_pcapng`, over their public
+//! faces alone.
 #![tactic(auto)]
 
 #[cfg(test)]
-mod tests;
+mod pcap;
+#[cfg(test)]
+mod pcapng;
+#[cfg(test)]
+mod words;

@@ -3,7 +3,7 @@
 ghost use Rattle.std.specs.Prelude.{IfOk};
 ghost use Rattle.macsec_rx.specs.Commands.{HaveRxKeys};
 
-use crate::fixture::{an, key_number, key_table, unused_number};
+use crate::channels::{an, key_number, key_table, unused_number};
 use macsec_rx::{Judged, Mode, RxChannels, RxOptions, RxRow, Verdict};
 use macsec_suite::{KeyTable, Refusal};
 use macsec_tag::reading::read;

@@ -1,70 +1,13 @@
-//! A file is given as hex, and what a reader returns as one text: the unit of the times, then what the calls of `next`
-//! return, one after another. Both are written in words, of which some stand for more (`WORDS`).
+//! Files in the format pcap. What a reader returns is told as one text: the unit of the times, then what the calls of
+//! `next` return, one after another.
 
-use macsec_pcap::{Body, PcapFault, PcapReader, PcapWriter, Record, Resolution};
+use crate::words::{Row, assert_text, octets, tell_answer};
+use macsec_pcap::{PcapFault, PcapReader, PcapWriter, Resolution};
 use std::alloc::{AllocError, Global};
 use std::fmt::Write;
 use std::io::{self, Read};
 use std::process::Abort;
 use std::test::Fail;
-
-/// Words that stand for octets of a file, or for what is told of it.
-const WORDS: [(&str, &str); 4] = [
-    // The header of a file in microseconds, with the lowest octets first.
-    ("micro", "d4c3b2a1020004000000000000000000ffff000001000000"),
-    // The header of a file in nanoseconds, with the highest octets first.
-    (
-        "nano_big",
-        "a1b23c4d0002000400000000000000000000ffff00000001",
-    ),
-    // A record of a client frame of 14 octets, with the lowest octets first; and how it is told.
-    (
-        "record",
-        "00000000000000000e0000000e000000ffffffffffff0200000000010800",
-    ),
-    ("told", "0.0:ffffffffffff0200000000010800"),
-];
-
-/// What a word stands for: itself, if it is no word of the table.
-fn spelled(word: &str) -> &str {
-    for (name, text) in WORDS {
-        if name == word {
-            return text;
-        }
-    }
-    word
-}
-
-/// What a record says, as text.
-fn tell_record(alloc: Global, text: &mut String, record: Record<'_>) -> Result<(), Fail> {
-    let (seconds, fraction) = (record.seconds, record.fraction);
-    match record.body {
-        Body::Whole(frame) => {
-            let frame = hex::encode(alloc, frame)?;
-            write!(text, " {seconds}.{fraction}:{frame}")?;
-        }
-        Body::Partial => write!(text, " {seconds}.{fraction} partial")?,
-    }
-    Ok(())
-}
-
-/// What a reader's next call returns, as text; says whether it is a record.
-fn tell_next<R: Read + Drop>(
-    alloc: Global,
-    reader: &mut PcapReader<R>,
-    text: &mut String,
-) -> Result<bool, Fail> {
-    let ending = match reader.next() {
-        Ok(Some(record)) => {
-            tell_record(alloc, text, record)?;
-            return Ok(true);
-        }
-        Ok(None) => "end",
-        Err(fault) => fault.name(),
-    };
-    write!(text, " {ending}")?;
-    Ok(false)
-}
 
 /// The unit of a reader's times, and what the reader returns, up to two calls after the last record.
 fn tell_records<R: Read + Drop>(
@@ -79,7 +22,7 @@ fn tell_records<R: Read + Drop>(
     text.push_str(unit)?;
     let mut has_ended = false;
     for _ in 0..8 {
-        let goes_on = tell_next(alloc, reader, text)?;
+        let goes_on = tell_answer(alloc, reader.next(), text)?;
         if has_ended && !goes_on {
             break;
         }
@@ -103,22 +46,6 @@ fn told(alloc: Global, file: &[u8]) -> Result<String, Fail> {
     Ok(text)
 }
 
-/// What words stand for, each behind a gap.
-fn spelled_out(alloc: Global, words: &str, gap: &str) -> Result<String, AllocError> {
-    let mut text = String::new(alloc);
-    for word in words.split_whitespace() {
-        text.push_str(gap)?;
-        text.push_str(spelled(word))?;
-    }
-    Ok(text)
-}
-
-/// The octets of a file of these words.
-fn octets(alloc: Global, words: &str) -> Result<Vec<u8>, Fail> {
-    let text = spelled_out(alloc, words, "")?;
-    Ok(hex::decode(alloc, text.as_str())?)
-}
-
 /// A file is told as is wanted; if not, the place of the case is shown.
 fn assert_told(
     rt: &impl Abort,
@@ -127,14 +54,12 @@ fn assert_told(
     wanted: &str,
     place: usize,
 ) -> Result<(), Fail> {
-    let wanted = spelled_out(alloc, wanted, " ")?;
     let text = told(alloc, file)?;
-    assert_eq!(rt; text.as_str(), wanted.as_str(), "at {place}");
-    Ok(())
+    assert_text(rt, alloc, text.as_str(), wanted, place)
 }
 
 /// Files in each order and unit, with whole, partial and empty records, and with each fault of the format.
-const FILES: [(&str, &str); 24] = [
+const FILES: [Row; 24] = [
     ("micro", "Micro end end"),
     ("micro record record", "Micro told told end end"),
     ("nano_big", "Nano end end"),

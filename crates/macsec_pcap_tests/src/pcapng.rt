@@ -1,100 +1,15 @@
-//! A file is given as hex, block by block, and what a reader returns as one text: what the calls of `next` return, one after
-//! another, up to two calls after the last record. Both are written in words, of which some stand for more (`WORDS`).
+//! Files in the format pcapng, given block by block. What a reader returns is told as one text: what the calls of `next`
+//! return, one after another, up to two calls after the last record.
 
+use crate::words::{Row, assert_text, octets, spelled, tell_answer};
 use macsec_devices::{FailingReader, Fails};
-use macsec_pcap::{Body, PcapFault, Record};
+use macsec_pcap::{Body, PcapFault};
 use macsec_pcapng::{CaptureReader, PcapngReader};
 use std::alloc::{AllocError, Global};
 use std::fmt::Write;
 use std::io::Read;
 use std::process::Abort;
 use std::test::Fail;
-
-/// Words that stand for octets of a file, or for what is told of it.
-const WORDS: [(&str, &str); 13] = [
-    // Section headers of an unknown length, in both orders.
-    (
-        "little",
-        "0a0d0d0a1c0000004d3c2b1a01000000ffffffffffffffff1c000000",
-    ),
-    (
-        "big",
-        "0a0d0d0a0000001c1a2b3c4d00010000ffffffffffffffff0000001c",
-    ),
-    // An interface of Ethernet without options, so in microseconds, of snap length 262,144; in both orders.
-    ("ethernet", "0100000014000000010000000000040014000000"),
-    ("ethernet_big", "0000000100000014000100000004000000000014"),
-    // An interface up to the number of its resolution, and what follows it.
-    ("resolution", "010000001c000000010000000000040009000100"),
-    ("resolved", "0000001c000000"),
-    // A client frame of 14 octets at time 0, with two octets of padding; and how it is told.
-    (
-        "packet",
-        "06000000300000000000000000000000000000000e0000000e000000ffffffffffff0200000000010800000030000000",
-    ),
-    ("told", "0.0:ffffffffffff0200000000010800"),
-    // An empty packet at time 0.
-    (
-        "empty",
-        "0600000020000000000000000000000000000000000000000000000020000000",
-    ),
-    // The header of a file in the format pcap, in nanoseconds; and the lengths and the octets of records there.
-    ("nano", "4d3cb2a1020004000000000000000000ffff000001000000"),
-    (
-        "whole_record",
-        "0e0000000e000000ffffffffffff0200000000010800",
-    ),
-    (
-        "partial_record",
-        "0e0000003c000000ffffffffffff0200000000010800",
-    ),
-    // The end of a packet of 14 octets.
-    ("end_of_14", "000030000000"),
-];
-
-/// What a word stands for: itself, if it is no word of the table.
-fn spelled(word: &str) -> &str {
-    for (name, text) in WORDS {
-        if name == word {
-            return text;
-        }
-    }
-    word
-}
-
-/// Words of a file, and words of what is told of it.
-type Row = (&'static str, &'static str);
-
-/// What a record says, as text.
-fn tell_record(alloc: Global, text: &mut String, record: Record<'_>) -> Result<(), Fail> {
-    let (seconds, fraction) = (record.seconds, record.fraction);
-    match record.body {
-        Body::Whole(frame) => {
-            let frame = hex::encode(alloc, frame)?;
-            write!(text, " {seconds}.{fraction}:{frame}")?;
-        }
-        Body::Partial => write!(text, " {seconds}.{fraction} partial")?,
-    }
-    Ok(())
-}
-
-/// What a reader's next call returns, as text; says whether it is a record.
-fn tell_next<R: Read + Drop>(
-    alloc: Global,
-    reader: &mut CaptureReader<R>,
-    text: &mut String,
-) -> Result<bool, Fail> {
-    let ending = match reader.next() {
-        Ok(Some(record)) => {
-            tell_record(alloc, text, record)?;
-            return Ok(true);
-        }
-        Ok(None) => "end",
-        Err(fault) => fault.name(),
-    };
-    write!(text, " {ending}")?;
-    Ok(false)
-}
 
 /// What a reader returns, up to two calls after the last record.
 fn tell_records<R: Read + Drop>(
@@ -104,7 +19,7 @@ fn tell_records<R: Read + Drop>(
 ) -> Result<(), Fail> {
     let mut has_ended = false;
     for _ in 0..16 {
-        let goes_on = tell_next(alloc, reader, text)?;
+        let goes_on = tell_answer(alloc, reader.next(), text)?;
         if has_ended && !goes_on {
             break;
         }
@@ -128,22 +43,6 @@ fn told<R: Read + Drop>(alloc: Global, source: R) -> Result<String, Fail> {
     Ok(text)
 }
 
-/// What words stand for, each behind a gap.
-fn spelled_out(alloc: Global, words: &str, gap: &str) -> Result<String, AllocError> {
-    let mut text = String::new(alloc);
-    for word in words.split_whitespace() {
-        text.push_str(gap)?;
-        text.push_str(spelled(word))?;
-    }
-    Ok(text)
-}
-
-/// The octets of a file of these words.
-fn octets(alloc: Global, words: &str) -> Result<Vec<u8>, Fail> {
-    let text = spelled_out(alloc, words, "")?;
-    Ok(hex::decode(alloc, text.as_str())?)
-}
-
 /// A file is told as is wanted; if not, the place of the case is shown.
 fn assert_told(
     rt: &impl Abort,
@@ -152,10 +51,8 @@ fn assert_told(
     wanted: &str,
     place: usize,
 ) -> Result<(), Fail> {
-    let wanted = spelled_out(alloc, wanted, " ")?;
     let text = told(alloc, file)?;
-    assert_eq!(rt; text.as_str(), wanted.as_str(), "at {place}");
-    Ok(())
+    assert_text(rt, alloc, text.as_str(), wanted, place)
 }
 
 /// Each file is told as is wanted.

@@ -3,7 +3,7 @@
 ghost use Rattle.std.specs.Prelude.{IfOk};
 ghost use Rattle.macsec_tx.specs.Commands.{HaveKeys};
 
-use crate::fixture::{an, key_number, key_table, unused_number};
+use crate::channels::{an, key_number, key_table, unused_number};
 use macsec_suite::{KeyTable, Refusal};
 use macsec_tag::{MAX_FRAME_LEN, MIN_FRAME_LEN, Sci};
 use macsec_tx::{TagForm, TxChannel, TxOptions, TxResult, TxRow};
