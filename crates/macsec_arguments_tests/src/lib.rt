@@ -1,5 +1,11 @@
-//! Tests of the whole program but for its `main`: runs by words of the command line, over files.
+//! Tests of scripts, of captures, and of the whole program but for its `main`: what no clause of `macsec_lines`,
+//! `macsec_print`, `macsec_script`, `macsec_capture`, `macsec_files` and `macsec_arguments` says, over their public faces
+//! alone.
 #![tactic(auto)]
 
 #[cfg(test)]
-mod tests;
+mod captures;
+#[cfg(test)]
+mod program;
+#[cfg(test)]
+mod scripts;

@@ -14,20 +14,20 @@ const FILES: &[(&str, &[u8])] = &[
         b"end A gcm128 12153524c0895e81 1518 sci\nend B gcm128 0000000000000002 1518 auto\nA send ffffffffffff0200000000010800\n",
     ),
     (
-        "fault",
+        "broken",
         b"end A gcm128 12153524c0895e81 1518 sci\nend B gcm128 0000000000000002 1518 auto\nA send 0g\n",
     ),
     (
-        "from",
+        "protects",
         b"end A gcm128 0200000000010001 1518 sci\nA key 0 ad7a2bd03eac835a6f620fdcb506b345 0\nA txsa 0 0 1 int\nA txon 0\n",
     ),
     (
-        "to",
+        "validates",
         b"end A gcm128 0000000000000002 1518 auto\nA key 0 ad7a2bd03eac835a6f620fdcb506b345 0\nA rxsc 0200000000010001\nA rxsa 0200000000010001 0 0 1\nA rxon 0200000000010001 0\n",
     ),
-    ("frames", FRAMES),
+    ("clients", FRAMES),
     (
-        "cut",
+        "clipped",
         b"\xd4\xc3\xb2\xa1\x02\0\x04\0\0\0\0\0\0\0\0\0\xff\xff\0\0\x01\0\0\0\0",
     ),
 ];
@@ -71,7 +71,7 @@ fn remove_files(rt: &HostRuntime) -> io::Result<()> {
     for (name, _) in FILES {
         fs::remove_file(rt, *name)?;
     }
-    for name in ["sent", "back"] {
+    for name in ["protected", "validated"] {
         fs::remove_file(rt, name)?;
     }
     Ok(())
@@ -90,19 +90,22 @@ fn ends_of_words(rt: HostRuntime) -> Result<(), Fail> {
         (&["run", "script", "script"], usage),
         (&["--help"], usage),
         (&["run", "no"], (1, "macsec: cannot open no\n")),
-        (&["run", "fault"], (2, "macsec: line 3: Hex\n")),
+        (&["run", "broken"], (2, "macsec: line 3: Hex\n")),
         (&["run", "script"], (0, "")),
         (
-            &["protect", "from", "cut", "sent"],
+            &["protect", "protects", "clipped", "protected"],
             (1, "macsec: pcap CutRecord\n"),
         ),
-        (&["protect", "from", "frames", "sent"], (0, "")),
-        (&["validate", "to", "sent", "back"], (0, "")),
+        (&["protect", "protects", "clients", "protected"], (0, "")),
+        (
+            &["validate", "validates", "protected", "validated"],
+            (0, ""),
+        ),
     ];
     for (words, wanted) in rows {
         check_end(&rt, words, end_of(&rt, words)?, wanted);
     }
-    let (sent, back) = (fs::read(&rt, "sent")?, fs::read(&rt, "back")?);
+    let (sent, back) = (fs::read(&rt, "protected")?, fs::read(&rt, "validated")?);
     assert_eq!(&rt; sent.len(), FRAMES.len() + 64);
     assert_eq!(&rt; back.as_slice(), FRAMES);
     remove_files(&rt)?;
