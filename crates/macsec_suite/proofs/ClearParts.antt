@@ -1,9 +1,13 @@
 -- Parts of a frame in place, as parts of its octets concatenated.
-use Rattle.std.proofs.Common.{◌≡◌, ℕ, ◌+◌, List, ◌++◌, length, take, drop, Bool, ap, ◌∙◌, arith, length-append}
+use Rattle.std.proofs.Common.{◌≡◌, ℕ, ◌+◌, ◌-◌, List, ◌++◌, length, take, drop, min, Bool, refl, ap, ◌∙◌, arith}
+use Rattle.std.proofs.Common.{length-append, length-drop}
+use Rattle.std.specs.Prelude.{if◌then◌else◌, Option, option_map}
 use Rattle.std.proofs.Math.Seq.{take-append-add, drop-append-add, drop-append_seam}
 use Rattle.macsec_tag.specs.Tag.{Tag, encoding}
 use Rattle.macsec_suite.specs.Parts.{clear_length}
-use Rattle.macsec_suite.specs.InPlace.{clear_and_rest}
+use Rattle.macsec_gcm.specs.Gcm.{seal_of, open_of}
+use Rattle.macsec_suite.specs.InPlace.{clear_and_rest, protected_octets, validated_octets}
+use Rattle.macsec_suite.specs.Keys.{PreparedKey}
 use Rattle.macsec_suite.specs.Laws.{PartsInPlace}
 
 -- the octets before the data and the clear octets of the data, and the rest
@@ -25,3 +29,37 @@ parts_in_place offset e da sa tag user_data da_long sa_long =
     let head : List ℕ = da ++ sa ++ encoding tag in
     let long : 12 + length (encoding tag) ≡ length head = omega (arith, length-append (da ++ sa) (encoding tag), length-append da sa, da_long, sa_long) in
     ap (λ (n : ℕ). clear_and_rest offset e n (head ++ user_data)) long ∙ cut_behind offset e head user_data
+
+-- the clear length of a body whose length is known
+clear_of : (offset : ℕ) (e : Bool) (head n : ℕ) (body : List ℕ) → length body ≡ n →
+    (if e then min offset (n - head) else n - head) ≡ clear_length offset e (drop head body)
+clear_of offset e head n body long =
+    let rest : length (drop head body) ≡ n - head = length-drop head body ∙ ap (λ m. m - head) long in
+    rw rest refl
+
+-- the clear octets, the sealed rest and its tag are those of the definition over the octets of the whole frame
+pub protected_in_place : (key : PreparedKey) (iv : List ℕ) (conf : Bool) (head : ℕ) {clear : ℕ} (frame : List ℕ)
+    {body aad text bytes ct tag icv : List ℕ} → body ≡ take (length frame - 16) frame → length body ≡ length frame - 16 →
+    clear ≡ (if conf then min key.offset (length frame - 16 - head) else length frame - 16 - head) →
+    aad ≡ take (head + clear) body → text ≡ drop (head + clear) body → bytes ≡ key.bytes →
+    ◌≡◌ {A = List ℕ × List ℕ} (ct, tag) (seal_of bytes iv aad text) → icv ≡ tag →
+    aad ++ ct ++ icv ≡ protected_octets key iv conf head frame
+protected_in_place key iv conf head {clear} frame {body} body_is long clear_is aad_is text_is bytes_are sealed icv_is =
+    let cut : clear ≡ clear_length key.offset conf (drop head body) =
+    clear_is ∙ clear_of key.offset conf head (length frame - 16) body long in
+    rw (icv_is, ← body_is, ← cut, ← aad_is, ← text_is, ← bytes_are, ← sealed) refl
+
+-- what opening gives is that of the definition over the octets of the whole frame
+pub validated_in_place : (key : PreparedKey) (iv : List ℕ) (e : Bool) (head n length_of_data : ℕ) (frame : List ℕ)
+    {clear : ℕ} {body behind aad text bytes icv : List ℕ} {opened : Option (List ℕ)} →
+    body ≡ take n frame → behind ≡ drop n frame → length body ≡ n → n ≡ head + length_of_data →
+    clear ≡ (if e then min key.offset length_of_data else length_of_data) →
+    aad ≡ take (head + clear) body → text ≡ drop (head + clear) body → bytes ≡ key.bytes → icv ≡ take 16 behind →
+    open_of bytes iv aad text icv ≡ opened →
+    validated_octets key iv e head n frame ≡ option_map (λ plaintext. aad ++ plaintext ++ behind) opened
+validated_in_place key iv e head n length_of_data frame {clear} {body} body_is behind_is long n_is clear_is aad_is text_is
+    bytes_are icv_is opened_is =
+    let rest : n - head ≡ length_of_data = omega (arith, n_is) in
+    let cut : clear ≡ clear_length key.offset e (drop head body) =
+    clear_is ∙ rw (← rest) (clear_of key.offset e head n body long) in
+    rw (← body_is, ← behind_is, ← cut, ← aad_is, ← text_is, ← bytes_are, ← icv_is, opened_is) refl

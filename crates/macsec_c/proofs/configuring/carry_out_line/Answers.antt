@@ -3,4 +3,4 @@ use Rattle.std.proofs.Common.{rules}
 use Rattle.macsec_c.proofs.configuring.carry_out_line.Goals as goal
 
 pub returns-in-Ok : goal.returns-in-Ok
-returns-in-Ok c = search rules
+returns-in-Ok c = search rules steps 800000

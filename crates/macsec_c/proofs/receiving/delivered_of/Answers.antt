@@ -3,7 +3,7 @@ use Rattle.std.proofs.Common.{rules}
 use Rattle.macsec_c.proofs.receiving.delivered_of.Goals as goal
 
 pub returns-in-Some : goal.returns-in-Some
-returns-in-Some c = search rules
+returns-in-Some c = search rules steps 200000
 
 pub returns-in-None : goal.returns-in-None
-returns-in-None c = search rules
+returns-in-None c = search rules steps 200000

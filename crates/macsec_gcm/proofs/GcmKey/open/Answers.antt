@@ -1,4 +1,4 @@
-use Rattle.std.proofs.Common.{◌∙◌, [], List, ℕ, Some, ap}
+use Rattle.std.proofs.Common.{◌∙◌, [], List, ℕ, Some, ap, rules}
 use Rattle.macsec_gcm.specs.Gcm.{gctr}
 use Rattle.macsec_gcm.proofs.Opening.{open_undoes_seal}
 use Rattle.macsec_gcm.proofs.GcmKey.open.Goals as goal
@@ -27,3 +27,6 @@ returns-in-None-clause-refused c = λ p sealed.
     let opens = (open_undoes_seal c.args.self.now c.args.iv.now c.args.aad.now c.args.text.now c.args.tag.now p).1 sealed in
     let refuses = returns-in-None-clause-gives c in
     absurd (cc (opens, refuses))
+
+pub returns-in-None-clause-unchanged : goal.returns-in-None-clause-unchanged
+returns-in-None-clause-unchanged c = search rules

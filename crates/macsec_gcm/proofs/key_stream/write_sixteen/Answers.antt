@@ -1,4 +1,4 @@
-use Rattle.std.proofs.Common.{arith}
+use Rattle.std.proofs.Common.{arith, rules}
 use Rattle.macsec_gcm.proofs.KeyStreams.{stream_of_blocks}
 use Rattle.macsec_gcm.proofs.key_stream.write_sixteen.Goals as goal
 
@@ -6,3 +6,6 @@ pub returns-clause-stream : goal.returns-clause-stream
 returns-clause-stream c = λ k lt.
     rw (c.copy_from_slice.ensures.after, c.as_flattened.ensures.value, c.encrypt16.ensures)
     (stream_of_blocks c.args.schedule.now c.args.first 16 c.blocks_from-blocks.result c.blocks_from-blocks.ensures.count c.blocks_from-blocks.ensures.each k (omega arith))
+
+pub returns-clause-next : goal.returns-clause-next
+returns-clause-next c = search rules

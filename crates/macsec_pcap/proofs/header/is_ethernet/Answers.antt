@@ -1,6 +1,15 @@
-use Rattle.std.proofs.Common.{arith}
-use Rattle.std.proofs.lemmas.Grind.{common_steps}
+-- The number behind the first 20 octets, by its equation alone, so that a number of fewer octets is refused soon.
+use Rattle.std.proofs.Common.{◌≡◌, ◌∙◌, ◌-◌, ℕ, List, ap, drop, length, take}
+use Rattle.std.specs.Prelude.{◌==◌}
+use Rattle.std.proofs.lemmas.List.{take_rest}
+use Rattle.macsec_pcap.specs.declared.form.Order.{Order}
+use Rattle.macsec_pcap.specs.Header.{is_ethernet}
+use Rattle.macsec_pcap.specs.Numbers.{number}
 use Rattle.macsec_pcap.proofs.header.is_ethernet.Goals as goal
 
+is_one : (order : Order) (front : List ℕ) (n : ℕ) → n ≡ number order 4 (take (length front - 20) (drop 20 front)) →
+    (n == 1) ≡ is_ethernet order front
+is_one order front n is = ap (λ k. k == 1) (is ∙ ap (number order 4) (take_rest front 20))
+
 pub returns : goal.returns
-returns c = grind (arith, common_steps)
+returns c = search is_one

@@ -1,5 +1,5 @@
 use Rattle.std.proofs.Common.{◌≡◌, [], drop_of_length-le, rules}
-use Rattle.macsec_pcap.proofs.WrittenRecords.{all_written, more_written, still_written}
+use Rattle.macsec_pcap.proofs.WrittenRecords.{all_written, front_written, more_written, still_written}
 use Rattle.macsec_pcap.proofs.writer.write_octets.Goals as goal
 use Rattle.macsec_pcap.proofs.writer.write_octets.Goals.{in-Ok, in-Err}
 
@@ -13,3 +13,15 @@ pub returns-then-is_empty-clause-whole : goal.returns-then-is_empty-clause-whole
 returns-then-is_empty-clause-whole g c =
     let empty : c.loop.rest.now ≡ [] = drop_of_length-le c.loop.rest.now {i = 0} (search rules) in
     all_written _ _ _ c.loop.rest.now c.loop.invariant empty
+
+pub returns-in-Ok-eq0-clause-cut : goal.returns-in-Ok-eq0-clause-cut
+returns-in-Ok-eq0-clause-cut g c =
+    let taken = rw c.in-Ok-eq0.is at c.write.ensures.bytes in
+    front_written _ _ _ _ (more_written _ _ _ _ _ _ c.loop.invariant taken)
+
+pub returns-in-Err-2-clause-cut : goal.returns-in-Err-2-clause-cut
+returns-in-Err-2-clause-cut g c =
+    front_written _ _ _ _ (still_written _ _ _ _ _ c.loop.invariant c.in-Err-2.ensures.bytes)
+
+pub returns-clause-cut : goal.returns-clause-cut
+returns-clause-cut g c = front_written _ _ _ _ c.loop.invariant

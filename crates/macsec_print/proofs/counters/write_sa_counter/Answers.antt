@@ -5,12 +5,12 @@ use Rattle.macsec_print.proofs.Pieces.{end_of_text}
 use Rattle.macsec_print.proofs.counters.write_sa_counter.Goals as goal
 
 -- the pieces of the line, joined from the right and from the left
-joined : (label sci an name value : List ℕ) →
-    label ++ codes " " ++ sci ++ (codes " " ++ (an ++ (codes " " ++ (name ++ (codes " " ++ (value ++ codes "\n")))))) ≡
-    label ++ codes " " ++ sci ++ codes " " ++ an ++ codes " " ++ name ++ codes " " ++ value ++ codes "\n"
-joined label sci an name value = simp append_assoc refl
+joined : (label space sci an name value end : List ℕ) →
+    label ++ space ++ sci ++ (space ++ (an ++ (space ++ (name ++ (space ++ (value ++ end)))))) ≡
+    label ++ space ++ sci ++ space ++ an ++ space ++ name ++ space ++ value ++ end
+joined label space sci an name value end = simp append_assoc refl
 
 pub returns : goal.returns
 returns g c =
     let front = Appends-trans _ _ _ _ _ c.in_ok-write.ensures.bytes c.in_ok-write_hex.ensures in
-    end_of_text c.writeln.result _ _ _ _ _ _ front c.writeln.ensures.bytes (joined _ _ _ _ _)
+    end_of_text c.writeln.result _ _ _ _ _ _ front c.writeln.ensures.bytes (joined _ (codes " ") _ _ _ _ (codes "\n"))

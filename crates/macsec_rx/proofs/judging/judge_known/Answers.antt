@@ -25,3 +25,9 @@ returns-clause-row c =
 
 pub judge_number-requires-clause-number : goal.judge_number-requires-clause-number
 judge_number-requires-clause-number c = search rules
+
+pub returns-in_default-clause-outcome : goal.returns-in_default-clause-outcome
+returns-in_default-clause-outcome c =
+    let there = rw c.unwrap-key.ensures at c.key.ensures.row in
+    let number = rw (c.suite.ensures, c.pn.ensures, c.tag.ensures) at c.in_default.ensures.number in
+    rw (there, ← number) (search rules)

@@ -1,6 +1,6 @@
 -- A new endpoint is in the machine's start, which is sound for a configuration without a fault (`at_start`): its tables and
 -- counters are those of their own `new` and `zero`.
-use Rattle.std.proofs.Common.{◌≡◌, rules, subst}
+use Rattle.std.proofs.Common.{◌≡◌, refl, rules, subst}
 use Rattle.std.specs.Prelude.{None}
 use Rattle.macsec_rx.specs.Rows.{AreChannels}
 use Rattle.macsec_secy.specs.State.{start}
@@ -22,4 +22,8 @@ pub returns-clause-sound : goal.returns-clause-sound
 returns-clause-sound c = (invariant_of-result c).sound
 
 pub returns-clause-result : goal.returns-clause-result
-returns-clause-result c = search rules
+returns-clause-result c =
+    let good : config_fault c.args.config ≡ None = search rules in (
+      good,
+      rw (c.new-2.ensures, c.new-3.ensures.none, c.new-4.ensures, c.zero.ensures, c.zero-2.ensures, c.in-Ok.ensures) refl,
+    )

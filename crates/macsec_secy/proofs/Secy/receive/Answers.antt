@@ -91,4 +91,16 @@ returns-in-Tagged c =
     )
 
 pub returns-in-Bad : goal.returns-in-Bad
-returns-in-Bad c = search rules
+returns-in-Bad c =
+    let s = c.self in
+    let left : record (the_view s.inside) { counters = c.count_packet-in-Bad.new.self } ≡
+    (step (the_view s.inside) (link_frame c.args.frame.now)).1 = search rules in
+    let tables = subst TablesHold left (record { keys = s.invariant.sound.keys; tx = s.invariant.sound.tx; rx = s.invariant.sound.rx }) in (
+      (refl, λ x. tt, left ∙ ap (λ t. (step t (link_frame c.args.frame.now)).1) s.view_is),
+      record {
+        after = tt;
+        output = search rules steps 400000;
+        sum = sum_after (the_view s.inside) c.args.self.now c.args.frame.now s.view_is s.invariant.sound;
+        sound = sound_after (the_view s.inside) c.args.self.now c.args.frame.now s.view_is s.invariant.sound tables;
+      },
+    )

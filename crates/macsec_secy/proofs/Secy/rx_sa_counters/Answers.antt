@@ -1,6 +1,6 @@
 -- There are counters exactly where there is an association: a channel has counters for its own associations alone, which
 -- is what `IsSound` says (`shown_there`), and no association is of an SCI without a channel.
-use Rattle.std.proofs.Common.{◌∙◌, ap}
+use Rattle.std.proofs.Common.{◌∙◌, ap, rules}
 use Rattle.std.specs.Prelude.{is_some, option_and_then}
 use Rattle.macsec_secy.specs.declared.counters.ChannelCounters.{ChannelCounters}
 use Rattle.macsec_secy.specs.Counting.{counters_at}
@@ -17,3 +17,7 @@ returns-clause-there c =
     ap (λ n. is_some (counters_at c.in_ok-channel.channel.associations n)) (c.from.ensures ∙ c.number.ensures.value) ∙
     ap (λ o. is_some (option_and_then (λ (row : ChannelCounters). counters_at row.associations c.args.an) o)) c.in_ok-channel.ensures.row ∙
     shown_there c.args.self.now c.channel_counters.ensures.sound c.args.sci c.args.an
+
+-- By search; this proof is here so that a wrong body is refused soon.
+pub returns-clause-counters : goal.returns-clause-counters
+returns-clause-counters c = search rules steps 100000

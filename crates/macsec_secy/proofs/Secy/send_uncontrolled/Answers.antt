@@ -3,4 +3,4 @@ use Rattle.std.proofs.Common.{rules}
 use Rattle.macsec_secy.proofs.Secy.send_uncontrolled.Goals as goal
 
 pub returns-clause-output : goal.returns-clause-output
-returns-clause-output c = search rules
+returns-clause-output c = search rules steps 100000

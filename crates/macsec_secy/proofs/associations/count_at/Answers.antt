@@ -8,4 +8,5 @@ returns-then-same_sci c =
     let l = c.loop-row in
     let counted = count_in_channel c.args.verdict c.args.an in
     rw c.count.ensures
-    (set-at_first counted c.args.sci c.args.rows.now l.rows l.row-index _ (omega arith) l.invariant.same l.invariant.behind (search rules))
+    (set-at_first counted c.args.sci c.args.rows.now l.rows l.row-index _ (omega arith) l.invariant.same
+    l.invariant.behind (search rules steps 100000))

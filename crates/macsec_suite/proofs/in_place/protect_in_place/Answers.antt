@@ -1,6 +1,13 @@
-use Rattle.std.proofs.Common.{arith}
-use Rattle.std.proofs.lemmas.Grind.{common_steps}
+-- The clear octets, the sealed rest and its tag are those of the definition over the octets of the whole frame.
+-- By the contracts of the calls (`protected_in_place` of `ClearParts`).
+use Rattle.std.proofs.Common.{◌+◌, ap}
+use Rattle.macsec_suite.proofs.ClearParts.{protected_in_place}
 use Rattle.macsec_suite.proofs.in_place.protect_in_place.Goals as goal
 
 pub returns : goal.returns
-returns c = grind (arith, common_steps)
+returns c =
+    let body = c.split_at_mut-body.ensures in
+    let rest = c.split_at_mut-aad.ensures in
+    protected_in_place c.args.key.now c.args.iv.now c.args.conf (12 + c.args.tag_len) c.args.frame.now
+    body.front body.front_len c.clear_length.ensures rest.front rest.back (ap (λ k. k.bytes) c.key.view_is)
+    c.seal-tag.ensures c.copy_from_slice.ensures.after

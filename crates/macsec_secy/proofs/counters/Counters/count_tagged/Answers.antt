@@ -4,7 +4,7 @@ use Rattle.std.proofs.Common.{rules}
 use Rattle.macsec_secy.proofs.counters.Counters.count_tagged.Goals as goal
 
 pub returns-then-e : goal.returns-then-e
-returns-then-e c = search rules
+returns-then-e c = search rules steps 100000
 
 pub returns-else-e : goal.returns-else-e
-returns-else-e c = search rules
+returns-else-e c = search rules steps 100000

@@ -1,6 +1,6 @@
 -- The one row of the key's number is retired, and all else that holds of the table stays.
 -- By the lemma on a change of the one row that the index finds (`IsChanged-set` of `KeyIndex`).
-use Rattle.std.proofs.Common.{rules, true, refl, ap, ◌∙◌}
+use Rattle.std.proofs.Common.{true, refl, ap, ◌∙◌}
 use Rattle.std.specs.Prelude.{IsSome}
 use Rattle.std.proofs.Math.ListN.{set}
 use Rattle.macsec_suite.specs.declared.key_table.StoredKey.{StoredKey}
@@ -32,4 +32,4 @@ pub returns-clause-rows : goal.returns-clause-rows
 returns-clause-rows c = (is_changed c).are.0
 
 pub returns-clause-refusal : goal.returns-clause-refusal
-returns-clause-refusal c = search rules
+returns-clause-refusal c = rw (c.in-Some.ensures.row, c.if-row.false, c.if-in_use.false) refl

@@ -1,0 +1,13 @@
+-- Each by the definition, at the value that the arm is for.
+use Rattle.std.proofs.Common.{ap, sym}
+use Rattle.macsec_c_numbers.specs.Arguments.{mode_of}
+use Rattle.macsec_c_numbers.proofs.arguments.mode_of.Goals as goal
+
+pub returns-in-0 : goal.returns-in-0
+returns-in-0 c = ap mode_of (sym c.in-0.is)
+
+pub returns-in-1 : goal.returns-in-1
+returns-in-1 c = ap mode_of (sym c.in-1.is)
+
+pub returns-in-2 : goal.returns-in-2
+returns-in-2 c = ap mode_of (sym c.in-2.is)

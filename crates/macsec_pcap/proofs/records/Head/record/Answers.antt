@@ -1,0 +1,6 @@
+-- By search alone: without this proof the prover tries other tactics on a mutant, which takes longer.
+use Rattle.std.proofs.Common.{rules}
+use Rattle.macsec_pcap.proofs.records.Head.record.Goals as goal
+
+pub returns : goal.returns
+returns c = search rules

@@ -1,0 +1,50 @@
+-- Each number of the packet by an equation of its own, so that a wrong number is refused soon.
+use Rattle.std.proofs.Common.{◌≡◌, ◌∙◌, ◌-◌, ◌<◌, ℕ, zero, suc, List, [], ◌∷◌, Option, Some, Result, true}
+use Rattle.std.proofs.Common.{ap, arith, drop, get_or, length, refl, sym, take}
+use Rattle.std.proofs.lemmas.List.{take_rest}
+use Rattle.std.specs.List.{slice_get}
+use Rattle.macsec_pcap.specs.declared.fault.PcapFault.{PcapFault}
+use Rattle.macsec_pcap.specs.declared.form.Order.{Order}
+use Rattle.macsec_pcap.specs.Numbers.{number}
+use Rattle.macsec_pcapng.specs.declared.interfaces.Interface.{Interface}
+use Rattle.macsec_pcapng.specs.declared.packets.Packet.{Packet}
+use Rattle.macsec_pcapng.specs.declared.times.Time.{Time}
+use Rattle.macsec_pcapng.specs.Interfaces.{is_ethernet}
+use Rattle.macsec_pcapng.specs.Packets.{enhanced, packet_of, ticks}
+use Rattle.macsec_pcapng.specs.Times.{time_of}
+use Rattle.macsec_pcapng.proofs.packets.enhanced.Goals as goal
+
+found_at : {X : Type 0} (xs : List X) (n : ℕ) (x : X) → n < length xs → ((d : X) → x ≡ get_or xs n d) →
+    slice_get xs n ≡ Some x
+found_at [] n x within is = absurd (omega (arith, within))
+found_at (y ∷ ys) zero x within is = ap Some (sym (is x))
+found_at (y ∷ ys) (suc n) x within is = found_at ys n x (omega (arith, within)) is
+
+-- the number behind the first n octets, which are all but the last
+behind : (n : ℕ) (order : Order) (front : List ℕ) →
+    number order 4 (take (length front - n) (drop n front)) ≡ number order 4 (drop n front)
+behind n order front = ap (number order 4) (take_rest front n)
+
+is_enhanced : (interfaces : List Interface) (order : Order) (len : ℕ) (front : List ℕ) (interface : Interface)
+    (time : Option Time) (captured original : ℕ) (answer : Result Packet PcapFault) →
+    slice_get interfaces (number order 4 front) ≡ Some interface → is_ethernet interface ≡ true →
+    time ≡ time_of interface (ticks order front) →
+    captured ≡ number order 4 (take (length front - 12) (drop 12 front)) →
+    original ≡ number order 4 (take (length front - 16) (drop 16 front)) →
+    answer ≡ packet_of time len 20 captured original → answer ≡ enhanced interfaces order len front
+is_enhanced interfaces order len front interface time captured original answer found ethernet at some all is =
+    let told = time_of interface (ticks order front) in
+    is ∙ ap (λ t. packet_of t len 20 captured original) at
+    ∙ ap (λ n. packet_of told len 20 n original) (some ∙ behind 12 order front)
+    ∙ ap (λ n. packet_of told len 20 (number order 4 (drop 12 front)) n) (all ∙ behind 16 order front)
+    ∙ rw (found, ethernet) refl
+
+pub returns-clause-packet : goal.returns-clause-packet
+returns-clause-packet c =
+    let interface = c.in-Some.interface.now in
+    let at = c.in-Some.ensures.lookup.3 in
+    is_enhanced c.args.interfaces.now c.args.order c.args.len c.args.front.now interface _ _ _ c.packet_of.result
+    (ap (slice_get c.args.interfaces.now) (sym c.u32.ensures) ∙ found_at _ _ interface at.0 at.1)
+    (sym c.is_ethernet.ensures ∙ c.if-not-is_ethernet.false)
+    (c.time-time.ensures ∙ ap (time_of interface) c.ticks.ensures)
+    c.u32-captured.ensures c.u32-2.ensures c.packet_of.ensures.packet

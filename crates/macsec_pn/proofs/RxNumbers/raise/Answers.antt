@@ -1,0 +1,6 @@
+-- By search; this proof is here for speed.
+use Rattle.std.proofs.Common.{rules}
+use Rattle.macsec_pn.proofs.RxNumbers.raise.Goals as goal
+
+pub returns : goal.returns
+returns c = search rules

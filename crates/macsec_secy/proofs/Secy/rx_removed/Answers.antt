@@ -1,0 +1,6 @@
+-- By search; this proof is here so that a wrong body is refused soon.
+use Rattle.std.proofs.Common.{rules}
+use Rattle.macsec_secy.proofs.Secy.rx_removed.Goals as goal
+
+pub returns : goal.returns
+returns c = search rules steps 100000

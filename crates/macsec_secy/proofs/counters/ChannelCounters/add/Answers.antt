@@ -1,0 +1,6 @@
+-- By search; this proof is here so that a wrong body is refused soon.
+use Rattle.std.proofs.Common.{rules}
+use Rattle.macsec_secy.proofs.counters.ChannelCounters.add.Goals as goal
+
+pub returns-then-eq : goal.returns-then-eq
+returns-then-eq c = search rules steps 100000

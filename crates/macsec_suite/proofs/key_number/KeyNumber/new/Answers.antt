@@ -1,0 +1,13 @@
+-- A key number is made of each number below 4,096, and of no other.
+-- By search; these proofs are here so that a wrong body is refused soon.
+use Rattle.std.proofs.Common.{rules}
+use Rattle.macsec_suite.proofs.key_number.KeyNumber.new.Goals as goal
+
+pub invariant_of-result : goal.invariant_of-result
+invariant_of-result c = search rules
+
+pub returns-then-n-lt-MAX_KEY_COUNT-clause-valid : goal.returns-then-n-lt-MAX_KEY_COUNT-clause-valid
+returns-then-n-lt-MAX_KEY_COUNT-clause-valid c = search rules
+
+pub returns-else-n-lt-MAX_KEY_COUNT-clause-valid : goal.returns-else-n-lt-MAX_KEY_COUNT-clause-valid
+returns-else-n-lt-MAX_KEY_COUNT-clause-valid c = search rules

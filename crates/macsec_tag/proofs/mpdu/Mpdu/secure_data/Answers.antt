@@ -1,0 +1,6 @@
+-- By search; this proof is here for speed.
+use Rattle.std.proofs.Common.{rules}
+use Rattle.macsec_tag.proofs.mpdu.Mpdu.secure_data.Goals as goal
+
+pub returns : goal.returns
+returns c = search rules
