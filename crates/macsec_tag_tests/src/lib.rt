@@ -1,6 +1,0 @@
-//! Tests of `macsec_tag` through its public face: they stand in a crate of their own, so that its proof is
-//! made once.
-#![tactic(auto)]
-
-#[cfg(test)]
-mod frames;
