@@ -1,11 +1,7 @@
--- By these tactics alone: without these proofs the prover tries others before them, which takes longer, and on a
--- mutant it tries all.
-use Rattle.std.proofs.Common.{arith}
-use Rattle.std.proofs.lemmas.Grind.{common_steps}
+-- The octet is the first of the one octet that is read.
+use Rattle.std.proofs.Common.{◌∙◌, ap, sym}
+use Rattle.macsec_lines.specs.Fields.{as_octet, map_ok}
 use Rattle.macsec_lines.proofs.words.octet.Goals as goal
 
-pub returns-in_err-octets : goal.returns-in_err-octets
-returns-in_err-octets c = grind (arith, common_steps)
-
 pub returns : goal.returns
-returns c = grind (arith, common_steps)
+returns c = ap (map_ok as_octet) (sym c.in_ok-octets.was ∙ c.fixed_octets.ensures)

@@ -15,13 +15,25 @@ pub returns-in_err-offset : goal.returns-in_err-offset
 returns-in_err-offset c = grind (arith, common_steps)
 
 pub returns-in_err-suite-in-Some : goal.returns-in_err-suite-in-Some
-returns-in_err-suite-in-Some c = grind (arith, common_steps)
+returns-in_err-suite-in-Some c = grind (arith, common_steps) steps 2600000
 
 pub returns-in_err-ssci-in-Some-more : goal.returns-in_err-ssci-in-Some-more
-returns-in_err-ssci-in-Some-more c = grind (arith, common_steps)
+returns-in_err-ssci-in-Some-more c =
+    elim c.if-words-lt4.branch [
+      | in-len3 w ↦ grind (arith, common_steps)
+      | in-len4 w ↦ grind (arith, common_steps) steps 1500000
+      | in-len5 w ↦ grind (arith, common_steps)
+      | in-len6 w ↦ grind (arith, common_steps)
+    ]
 
 pub returns-in_err-salt-in-Some-more : goal.returns-in_err-salt-in-Some-more
-returns-in_err-salt-in-Some-more c = grind (arith, common_steps)
+returns-in_err-salt-in-Some-more c =
+    elim c.if-words-lt4.branch [
+      | in-len3 w ↦ grind (arith, common_steps)
+      | in-len4 w ↦ grind (arith, common_steps) steps 1500000
+      | in-len5 w ↦ grind (arith, common_steps)
+      | in-len6 w ↦ grind (arith, common_steps)
+    ]
 
 pub returns : goal.returns
 returns c =

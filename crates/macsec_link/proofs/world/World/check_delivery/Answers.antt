@@ -11,3 +11,9 @@ returns-then-found-lt-MIN_FRAME_LEN-clause-admits c = search rules
 
 pub returns-clause-admits : goal.returns-clause-admits
 returns-clause-admits c = search rules
+
+pub returns-clause-there : goal.returns-clause-there
+returns-clause-there c = search rules
+
+pub returns-clause-fits : goal.returns-clause-fits
+returns-clause-fits c = search rules
