@@ -130,14 +130,15 @@ fn value_of<'a>(matches: &ArgMatches<'a>, id: &str) -> Option<&'a str>
 fn command<'a>(alloc: Global) -> Result<Command<'a>, AllocError>
     ensures { IfOk result (λ command. app_of command ≡ macsec_app) }
 {
+    // At each `?` at most one command is there to be dropped, which keeps the proof short.
     let run = Command::new(alloc, "run").arg(name_argument(alloc, "SCRIPT"))?;
-    let protect = capture_command(alloc, "protect")?;
-    let validate = capture_command(alloc, "validate")?;
-    Command::new(alloc, "macsec")
+    let runs = Command::new(alloc, "macsec")
         .subcommand_required(true)
-        .subcommand(run)?
-        .subcommand(protect)?
-        .subcommand(validate)
+        .subcommand(run)?;
+    let protect = capture_command(alloc, "protect")?;
+    let protects = runs.subcommand(protect)?;
+    let validate = capture_command(alloc, "validate")?;
+    protects.subcommand(validate)
 }
 
 /// A subcommand for captures.

@@ -20,6 +20,6 @@ returns c =
     let run_plain = no_globals _ _ _ _ (ap (λ (app : App). app.top.is_plain) run_is) in
     let protect_plain = no_globals _ _ _ _ (ap (λ (app : App). app.top.is_plain) c.in_ok-protect.ensures) in
     let validate_plain = no_globals _ _ _ _ (ap (λ (app : App). app.top.is_plain) c.in_ok-validate.ensures) in
-    let one = c.in_ok-subcommand.ensures.shape run_plain ∙ ap₂ with_subcommand top_is (ap top run_is) in
-    let two = c.in_ok-subcommand-2.ensures.shape protect_plain ∙ ap₂ with_subcommand one (ap top c.in_ok-protect.ensures) in
+    let one = c.in_ok-runs.ensures.shape run_plain ∙ ap₂ with_subcommand top_is (ap top run_is) in
+    let two = c.in_ok-protects.ensures.shape protect_plain ∙ ap₂ with_subcommand one (ap top c.in_ok-protect.ensures) in
     IfOk-weaker c.subcommand-3.result _ _ (λ command added. added.shape validate_plain ∙ ap₂ with_subcommand two (ap top c.in_ok-validate.ensures)) c.subcommand-3.ensures

@@ -1,8 +1,10 @@
-use Rattle.std.proofs.Common.{◌≡◌, ◌∙◌, arith, refl, rules, subst}
+use Rattle.std.proofs.Common.{◌≡◌, ◌∙◌, ap, arith, refl, rules, subst}
 use Rattle.std.proofs.lemmas.Result.{err_from_is_err_and}
 use Rattle.std.specs.Prelude.{Ok, Some}
 use Rattle.macsec_pcap.specs.Answers.{answer_of}
 use Rattle.macsec_pcap.specs.Reading.{Answers, IsAfter}
+use Rattle.macsec_pcap.specs.Writing.{contents}
+use Rattle.macsec_capture.specs.Runs.{Written}
 use Rattle.macsec_capture.proofs.Taken.{none_taken, taken_more, taken_write}
 use Rattle.macsec_capture.proofs.records.run_records.Goals as goal
 
@@ -13,7 +15,7 @@ pub loop-k-preserved : goal.loop-k-preserved
 loop-k-preserved g c =
     let inv = c.loop-k.invariant in
     let it = c.in_ok-run_record.ensures in
-    let got : c.next.result ≡ Ok (Some c.in-Some.record) = search rules in
+    let got : c.next.result ≡ Ok (Some c.in-Some.record) = c.in_ok-record.was ∙ ap Ok c.in-Some.is in
     let after : IsAfter c.loop-k.reader (answer_of c.next.result) c.next.follows.lender-at-none = search rules in
     let later = subst (λ a. IsAfter c.loop-k.reader (answer_of a) c.next.follows.lender-at-none) got after in (
       taken_more _ _ _ _ _ _ _ _ _ _ _ _ inv.0
@@ -28,9 +30,13 @@ loop-k-preserved g c =
 pub returns-in_err-run_record-clause-records : goal.returns-in_err-run_record-clause-records
 returns-in_err-run_record-clause-records g c =
     let p = err_from_is_err_and c.from_residual-in_err-run_record.result c.from_residual-in_err-run_record.ensures.1 in
-    let got : c.next.result ≡ Ok (Some c.in-Some.record) = search rules in
+    let got : c.next.result ≡ Ok (Some c.in-Some.record) = c.in_ok-record.was ∙ ap Ok c.in-Some.is in
     let after : IsAfter c.loop-k.reader (answer_of c.next.result) c.next.follows.lender-at-none = search rules in
     let later = subst (λ a. IsAfter c.loop-k.reader (answer_of a) c.next.follows.lender-at-none) got after in
+    let written : Written = record {
+      output = contents g.W.Write.contents c.run_record.new.writer;
+      text = g.T.Write.contents c.run_record.new.text;
+    } in
     rw (p.1, p.2)
-    (taken_write _ _ _ _ _ _ _ _ _ _ _ _ _ (omega (arith, c.requires.places, c.loop-k.invariant.1, later.places)) c.loop-k.invariant.0
+    (taken_write _ _ _ _ _ _ written _ _ _ _ _ _ (omega (arith, c.requires.places, c.loop-k.invariant.1, later.places)) c.loop-k.invariant.0
     (subst (λ a. Answers c.loop-k.reader.ahead (answer_of a)) got c.next.ensures.answer) c.in_err-run_record.ensures.fault)
