@@ -7,8 +7,7 @@
 # make install       copies the program, its manual page, the library for C, its header and its pkg-config file to
 #                    PREFIX, /usr/local if nothing else is said, under DESTDIR
 # make check         the gate
-# make bench         measures the cipher, frames, scripts and a full link
-# make search        looks for counter-examples to what is promised of two ends and their link
+# make bench         measures the cipher and frames
 # make fuzz          gives mutated inputs to the program as both compilers build it
 # make failures      makes files and streams fail, refuses memory, and lists the calls that take it
 # make stored-runs   compares the program's answers with stored ones
@@ -28,7 +27,7 @@ PREFIX ?= /usr/local
 CPU ?= x86-64-v2
 BUILT := build/macsec$(if $(filter x86-64-v3,$(CPU)),-x86-64-v3)
 
-.PHONY: all try run lib kept install check bench search fuzz failures stored-runs peer kept-frames c-programs \
+.PHONY: all try run lib kept install check bench fuzz failures stored-runs peer kept-frames c-programs \
     lanes-used toolchain clean
 
 all: $(BUILT)
@@ -75,10 +74,6 @@ check: toolchain
 
 bench: toolchain
 	cd crates/macsec_bench && rt run -- measure
-
-search: toolchain
-	cd crates/macsec_search && rt run -- 5
-	cd crates/macsec_search && rt run -- --random 100000 --seed 1
 
 fuzz: build/macsec build/macsec-rattle
 	python3 fuzz/fuzz.py --inputs $(INPUTS) --seed $(SEED)

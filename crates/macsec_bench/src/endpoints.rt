@@ -1,5 +1,4 @@
-//! Frames per second of `Secy::send` and `Secy::receive`, encrypted frames of usual lengths, and keys installed per
-//! second.
+//! Frames per second of `Secy::send` and `Secy::receive`: encrypted frames of usual lengths.
 
 use anyhow::{Context, bail};
 use macsec_secy::{
@@ -16,9 +15,6 @@ const DATA_LENGTHS: [u16; 3] = [64, 512, 1_500];
 const TURN_COUNT: u32 = 1_024;
 
 const ROUND_COUNT: u32 = 16;
-
-/// The number of keys that are installed at one endpoint.
-const KEY_COUNT: u16 = 256;
 
 const BYTES: [u8; 16] = [0x2b; 16];
 
@@ -210,33 +206,6 @@ pub fn is_always_passed(secy: &mut Secy, frame: &[u8], turns: u32) -> anyhow::Re
     Work::Receive.is_always_done(secy, frame, turns)
 }
 
-/// Bytes that no other of these numbers has.
-fn bytes_of(number: u16) -> [u8; 16] {
-    let [high, low] = number.to_be_bytes();
-    let mut bytes = BYTES;
-    bytes[0] = high;
-    bytes[1] = low;
-    bytes
-}
-
-/// Installs keys at an endpoint without any.
-fn install_keys(secy: &mut Secy) -> anyhow::Result<()> {
-    for n in 0..KEY_COUNT {
-        if let Some(number) = KeyNumber::new(n) {
-            order(secy, &new_key(number, bytes_of(n)))?;
-        }
-    }
-    Ok(())
-}
-
-/// How long it takes to install keys at an endpoint without any.
-fn time_keys(rt: &HostRuntime) -> anyhow::Result<Duration> {
-    let mut secy = endpoint(rt.alloc(), SENDER)?;
-    let start = Instant::now(rt)?;
-    install_keys(&mut secy)?;
-    Ok(start.elapsed(rt)?)
-}
-
 /// How many times a second something is done that was done so many times.
 fn rate(count: u32, took: Duration) -> u64 {
     saturating_f64_to_u64(f64::from(count) / took.as_secs_f64())
@@ -315,23 +284,12 @@ fn report_work(rt: &HostRuntime, work: Work, an: An, data_length: u16) -> anyhow
     Ok(())
 }
 
-/// Measures installing keys, and prints how fast it is.
-fn report_keys(rt: &HostRuntime) -> anyhow::Result<()> {
-    let mut fastest = Duration::MAX;
-    for _ in 0..ROUND_COUNT {
-        fastest = fastest.min(time_keys(rt)?);
-    }
-    let keys = rate(u32::from(KEY_COUNT), fastest);
-    println!(rt; "Command::Key {keys} keys per second")?;
-    Ok(())
-}
-
-/// Measures frames and keys at an endpoint, and prints how fast they are.
+/// Measures frames at an endpoint, and prints how fast they are.
 pub fn report(rt: &HostRuntime) -> anyhow::Result<()> {
     let an = An::new(0).unwrap();
     for data_length in DATA_LENGTHS {
         report_work(rt, Work::Send, an, data_length)?;
         report_work(rt, Work::Receive, an, data_length)?;
     }
-    report_keys(rt)
+    Ok(())
 }

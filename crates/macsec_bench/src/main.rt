@@ -1,14 +1,12 @@
 //! Octets per second of AES, GHASH and sealing, block by block and in lanes, and of protecting and receiving frames;
-//! frames and keys per second of an endpoint; and how long a full link of two ends and the longest scripts take. By other
-//! words it sends or receives so many frames, for a tool that counts instructions. Without words it does nothing.
+//! frames per second of an endpoint. With the arguments `send LENGTH COUNT` or `receive LENGTH COUNT` the program sends
+//! or receives that many frames, for a tool that counts instructions. Without arguments it does nothing.
 #![tactic(auto)]
 
 mod cipher;
 mod endpoints;
 mod frames;
-mod link;
 mod plain;
-mod scripts;
 
 use anyhow::bail;
 use std::env;
@@ -17,9 +15,7 @@ use std::env;
 fn measure(rt: &HostRuntime) -> anyhow::Result<()> {
     cipher::report(rt)?;
     frames::report(rt)?;
-    endpoints::report(rt)?;
-    link::report(rt)?;
-    scripts::report(rt)
+    endpoints::report(rt)
 }
 
 fn main(rt: HostRuntime) -> anyhow::Result<()> {

@@ -2,8 +2,8 @@
 use Rattle.std.proofs.Common.{◌≡◌, ℕ, ◌+◌, ◌<◌, List, ◌∷◌, drop, get_or, length, sym, ap, ◌∙◌}
 use Rattle.std.proofs.lemmas.List.{drop_more}
 use Rattle.std.specs.Prelude.{Result}
-use Rattle.macsec_lines.specs.Kinds.{and_then}
-use Rattle.macsec_lines.specs.Scripts.{NumberedLine}
+use Rattle.macsec_script_parser.specs.Kinds.{and_then}
+use Rattle.macsec_script_parser.specs.Scripts.{NumberedLine}
 use Rattle.macsec_secy.specs.State.{State}
 use Rattle.macsec_c.specs.declared.configuring.ConfigFault.{ConfigFault}
 use Rattle.macsec_c.specs.Texts.{after_command, carried_out, command_of}

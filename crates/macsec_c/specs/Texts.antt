@@ -8,16 +8,16 @@ use Rattle.macsec_commands.specs.declared.event.Event.TheVariants as event
 use Rattle.macsec_commands.specs.declared.fault.NewFault.{NewFault}
 use Rattle.macsec_commands.specs.declared.fault.NewFault.TheVariants as new
 use Rattle.macsec_commands.specs.Configs.{config_fault}
-use Rattle.macsec_lines.specs.declared.lines.Line.{Line}
-use Rattle.macsec_lines.specs.declared.lines.Line.TheVariants.{Event}
-use Rattle.macsec_lines.specs.declared.lines.LineFault.{LineFault}
-use Rattle.macsec_lines.specs.declared.lines.LineFault.TheVariants.{Ends}
-use Rattle.macsec_lines.specs.declared.faults.ScriptFault.{ScriptFault}
-use Rattle.macsec_lines.specs.declared.faults.ScriptFault.TheVariants as script
-use Rattle.macsec_lines.specs.Faults.{fault_line}
-use Rattle.macsec_lines.specs.Kinds.{and_then, line_of}
-use Rattle.macsec_lines.specs.Readings.{Reads}
-use Rattle.macsec_lines.specs.Scripts.{NumberedLine, a_config, config_of}
+use Rattle.macsec_script_parser.specs.declared.lines.Line.{Line}
+use Rattle.macsec_script_parser.specs.declared.lines.Line.TheVariants.{Event}
+use Rattle.macsec_script_parser.specs.declared.lines.LineFault.{LineFault}
+use Rattle.macsec_script_parser.specs.declared.lines.LineFault.TheVariants.{Ends}
+use Rattle.macsec_script_parser.specs.declared.faults.ScriptFault.{ScriptFault}
+use Rattle.macsec_script_parser.specs.declared.faults.ScriptFault.TheVariants as script
+use Rattle.macsec_script_parser.specs.Faults.{fault_line}
+use Rattle.macsec_script_parser.specs.Kinds.{and_then, line_of}
+use Rattle.macsec_script_parser.specs.Readings.{Reads}
+use Rattle.macsec_script_parser.specs.Scripts.{NumberedLine, a_config, config_of}
 use Rattle.macsec_secy.specs.State.{State, start}
 use Rattle.macsec_secy.specs.Step.{Output, refused, operator_command, step}
 use Rattle.macsec_c.specs.declared.configuring.ConfigFault.{ConfigFault}

@@ -1,9 +1,9 @@
 //! Text: the configuration of an endpoint, and a line of one command.
 
 ghost use Rattle.std.specs.Prelude.{◌≡◌, option_map};
-ghost use Rattle.macsec_lines.specs.Fields.{map_ok};
-ghost use Rattle.macsec_lines.specs.Readings.{Reads};
-ghost use Rattle.macsec_lines.specs.Scripts.{a_config};
+ghost use Rattle.macsec_script_parser.specs.Fields.{map_ok};
+ghost use Rattle.macsec_script_parser.specs.Readings.{Reads};
+ghost use Rattle.macsec_script_parser.specs.Scripts.{a_config};
 ghost use Rattle.macsec_c.specs.Texts.{CommandsLine, Configures, MakesConfigured, after_command, carried_out, command_of, configured, endpoint_of, line_command};
 ghost use Rattle.macsec_c.specs.Texts.{line_of_config_fault, status_of_config_fault};
 
@@ -15,7 +15,7 @@ use macsec_c_numbers::{
     DONE, EMPTY, TAKEN, status_of_line_fault, status_of_new_fault, status_of_script_fault,
 };
 use macsec_commands::{End, Event};
-use macsec_lines::{Line, LineFault, ScriptFault, parse_config, parse_line};
+use macsec_script_parser::{Line, LineFault, ScriptFault, parse_config, parse_line};
 use macsec_secy::{Command, EndConfig, NewFault, Refusal, Secy};
 use std::alloc::Global;
 

@@ -2,7 +2,7 @@
 
 ghost use Rattle.std.specs.Prelude.{◌≡◌, None};
 ghost use Rattle.macsec_secy.specs.Answers.{MakesEndpoint};
-ghost use Rattle.macsec_lines.specs.Fields.{map_ok};
+ghost use Rattle.macsec_script_parser.specs.Fields.{map_ok};
 ghost use Rattle.macsec_c.specs.Answers.{Makes};
 ghost use Rattle.macsec_c.specs.Configs.{config_of};
 

@@ -6,10 +6,10 @@ use Rattle.macsec_commands.specs.declared.fault.NewFault.{NewFault}
 use Rattle.macsec_commands.specs.declared.fault.NewFault.TheVariants.{Memory, MaxFrame, SciForm}
 use Rattle.macsec_secy.specs.declared.fault.FrameFault.{FrameFault}
 use Rattle.macsec_secy.specs.declared.fault.FrameFault.TheVariants.{Short, Long}
-use Rattle.macsec_lines.specs.declared.lines.LineFault.{LineFault}
-use Rattle.macsec_lines.specs.declared.lines.LineFault.TheVariants as line
-use Rattle.macsec_lines.specs.declared.faults.ScriptFault.{ScriptFault}
-use Rattle.macsec_lines.specs.declared.faults.ScriptFault.TheVariants as script
+use Rattle.macsec_script_parser.specs.declared.lines.LineFault.{LineFault}
+use Rattle.macsec_script_parser.specs.declared.lines.LineFault.TheVariants as line
+use Rattle.macsec_script_parser.specs.declared.faults.ScriptFault.{ScriptFault}
+use Rattle.macsec_script_parser.specs.declared.faults.ScriptFault.TheVariants as script
 use Rattle.macsec_c_numbers.specs.declared.arguments.ArgumentFault.{ArgumentFault}
 use Rattle.macsec_c_numbers.specs.declared.arguments.ArgumentFault.TheVariants as argument
 

@@ -3,7 +3,7 @@
 ghost use Rattle.std.specs.Prelude.{◌≡◌};
 ghost use Rattle.macsec_c_numbers.specs.Statuses.{number_of_verdict, status_of_frame_fault, status_of_line_fault, status_of_new_fault, status_of_script_fault};
 
-use macsec_lines::{LineFault, ScriptFault};
+use macsec_script_parser::{LineFault, ScriptFault};
 use macsec_secy::{FrameFault, NewFault, Verdict};
 
 /// It is done.

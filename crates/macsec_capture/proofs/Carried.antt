@@ -5,7 +5,7 @@ use Rattle.std.specs.Prelude.{Option}
 use Rattle.std.specs.Io.KnownBytes.{Appends}
 use Rattle.std.proofs.KnownBytes.{Appends-trans}
 use Rattle.macsec_secy.specs.State.{State}
-use Rattle.macsec_lines.specs.Scripts.{NumberedLine}
+use Rattle.macsec_script_parser.specs.Scripts.{NumberedLine}
 use Rattle.macsec_capture.specs.Captured.{Part, commands_part, line_part}
 
 -- what was printed, with what is still to come, is the whole

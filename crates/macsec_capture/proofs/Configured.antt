@@ -5,13 +5,13 @@ use Rattle.macsec_commands.specs.declared.config.EndConfig.{EndConfig}
 use Rattle.macsec_commands.specs.declared.fault.NewFault.{NewFault}
 use Rattle.macsec_commands.specs.Configs.{config_fault}
 use Rattle.macsec_commands.specs.declared.event.End.TheVariants.{A, B}
-use Rattle.macsec_lines.specs.declared.lines.Line.{Line}
-use Rattle.macsec_lines.specs.declared.lines.Line.TheVariants as line
-use Rattle.macsec_lines.specs.declared.faults.ScriptFault.{ScriptFault}
-use Rattle.macsec_lines.specs.declared.faults.ScriptFault.TheVariants as script
-use Rattle.macsec_lines.specs.Kinds.{is_fit}
-use Rattle.macsec_lines.specs.Laws.{AreFit}
-use Rattle.macsec_lines.specs.Scripts.{NumberedLine, a_config, config_of}
+use Rattle.macsec_script_parser.specs.declared.lines.Line.{Line}
+use Rattle.macsec_script_parser.specs.declared.lines.Line.TheVariants as line
+use Rattle.macsec_script_parser.specs.declared.faults.ScriptFault.{ScriptFault}
+use Rattle.macsec_script_parser.specs.declared.faults.ScriptFault.TheVariants as script
+use Rattle.macsec_script_parser.specs.Kinds.{is_fit}
+use Rattle.macsec_script_parser.specs.Laws.{AreFit}
+use Rattle.macsec_script_parser.specs.Scripts.{NumberedLine, a_config, config_of}
 use Rattle.macsec_capture.specs.declared.Direction.{Direction}
 use Rattle.macsec_capture.specs.declared.fault.CaptureFault.{CaptureFault}
 use Rattle.macsec_capture.specs.declared.fault.CaptureFault.TheVariants.{Script}

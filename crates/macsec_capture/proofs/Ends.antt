@@ -3,17 +3,17 @@ use Rattle.std.proofs.Common.{◌≡◌, ℕ, ◌+◌, List, [], ◌∷◌, refl
 use Rattle.std.specs.Prelude.{Bool, true, false, cond, IsSome, Option, Some, None, Result, Ok, Err}
 use Rattle.macsec_commands.specs.declared.config.EndConfig.{EndConfig}
 use Rattle.macsec_commands.specs.declared.event.End.TheVariants.{A, B}
-use Rattle.macsec_lines.specs.declared.lines.Line.{Line}
-use Rattle.macsec_lines.specs.declared.lines.Line.TheVariants as line
-use Rattle.macsec_lines.specs.declared.lines.LineFault.{LineFault}
-use Rattle.macsec_lines.specs.declared.script.Place.{Place}
-use Rattle.macsec_lines.specs.declared.script.Place.TheVariants.{OnlyEnd}
-use Rattle.macsec_lines.specs.declared.faults.ScriptFault.{ScriptFault}
-use Rattle.macsec_lines.specs.declared.faults.ScriptFault.TheVariants.{ScriptLong}
-use Rattle.macsec_lines.specs.Words.{lines_of}
-use Rattle.macsec_lines.specs.Fields.{map_ok}
-use Rattle.macsec_lines.specs.Kinds.{and_then, line_of}
-use Rattle.macsec_lines.specs.Scripts.{NumberedLine, config_of, is_too_long, line_before, lines_from, next_place, place_after, result_at_line}
+use Rattle.macsec_script_parser.specs.declared.lines.Line.{Line}
+use Rattle.macsec_script_parser.specs.declared.lines.Line.TheVariants as line
+use Rattle.macsec_script_parser.specs.declared.lines.LineFault.{LineFault}
+use Rattle.macsec_script_parser.specs.declared.script.Place.{Place}
+use Rattle.macsec_script_parser.specs.declared.script.Place.TheVariants.{OnlyEnd}
+use Rattle.macsec_script_parser.specs.declared.faults.ScriptFault.{ScriptFault}
+use Rattle.macsec_script_parser.specs.declared.faults.ScriptFault.TheVariants.{ScriptLong}
+use Rattle.macsec_script_parser.specs.Words.{lines_of}
+use Rattle.macsec_script_parser.specs.Fields.{map_ok}
+use Rattle.macsec_script_parser.specs.Kinds.{and_then, line_of}
+use Rattle.macsec_script_parser.specs.Scripts.{NumberedLine, config_of, is_too_long, line_before, lines_from, next_place, place_after, result_at_line}
 use Rattle.macsec_capture.specs.Captured.{one_end}
 
 abbrev GiveEnd : Result (List NumberedLine) ScriptFault → Type 0

@@ -3,7 +3,7 @@ use Rattle.std.proofs.Common.{ℕ, List, [], ◌∷◌, ◌++◌}
 use Rattle.std.specs.Io.KnownBytes.{Keeps}
 use Rattle.std.specs.Prelude.{Err}
 use Rattle.std.proofs.KnownBytes.{Appends-kept, Appends-nil, Appends-trans, Keeps-refl, Keeps-trans}
-use Rattle.macsec_lines.specs.declared.faults.ScriptFault.TheVariants as script
+use Rattle.macsec_script_parser.specs.declared.faults.ScriptFault.TheVariants as script
 use Rattle.macsec_pcap.specs.declared.fault.PcapFault.TheVariants.{Read, Write, Memory}
 use Rattle.macsec_capture.specs.declared.fault.CaptureFault.{CaptureFault}
 use Rattle.macsec_capture.specs.declared.fault.CaptureFault.TheVariants.{Script, Pcap}

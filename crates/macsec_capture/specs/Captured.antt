@@ -4,15 +4,15 @@ use Rattle.std.specs.List.{range_with_len}
 use Rattle.macsec_commands.specs.declared.config.EndConfig.{EndConfig}
 use Rattle.macsec_secy.specs.State.{State, start}
 use Rattle.macsec_secy.specs.Step.{Input, client_frame, link_frame, operator_command, Output, refused, leaves, received, step}
-use Rattle.macsec_outcomes.specs.declared.Outcome.{Outcome}
-use Rattle.macsec_outcomes.specs.declared.Outcome.TheVariants.{Done, Refused}
+use Rattle.macsec_link_events.specs.declared.Outcome.{Outcome}
+use Rattle.macsec_link_events.specs.declared.Outcome.TheVariants.{Done, Refused}
 use Rattle.macsec_commands.specs.declared.event.Event.TheVariants as event
-use Rattle.macsec_lines.specs.declared.lines.Line.TheVariants as line
-use Rattle.macsec_lines.specs.declared.faults.ScriptFault.{ScriptFault}
-use Rattle.macsec_lines.specs.Scripts.{NumberedLine, a_config, config_of}
-use Rattle.macsec_print.specs.declared.counters.Label.TheVariants.{End}
-use Rattle.macsec_print.specs.Counters.{counters_text}
-use Rattle.macsec_print.specs.Outcomes.{outcome_text}
+use Rattle.macsec_script_parser.specs.declared.lines.Line.TheVariants as line
+use Rattle.macsec_script_parser.specs.declared.faults.ScriptFault.{ScriptFault}
+use Rattle.macsec_script_parser.specs.Scripts.{NumberedLine, a_config, config_of}
+use Rattle.macsec_script_printer.specs.declared.counters.Label.TheVariants.{End}
+use Rattle.macsec_script_printer.specs.Counters.{counters_text}
+use Rattle.macsec_script_printer.specs.Outcomes.{outcome_text}
 use Rattle.macsec_pcap.specs.declared.fault.PcapFault.{PcapFault}
 use Rattle.macsec_pcap.specs.Records.{CaptureRecord}
 use Rattle.macsec_pcap.specs.Captures.{CaptureFile}

@@ -6,7 +6,7 @@ use Rattle.macsec_secy.specs.declared.answers.DropReason.TheVariants.{NoSa, TooL
 use Rattle.macsec_secy.specs.declared.fault.FrameFault.{FrameFault}
 use Rattle.macsec_secy.specs.declared.fault.FrameFault.TheVariants.{Short, Long}
 use Rattle.macsec_secy.specs.Step.{Output, done, refused, leaves, dropped_no_sa, dropped_too_long, received, fault}
-use Rattle.macsec_print.specs.Outcomes.{drop_text}
+use Rattle.macsec_script_printer.specs.Outcomes.{drop_text}
 
 -- a fault of a frame by its number and its name
 abbrev pub frame_fault_text : FrameFault → List ℕ

@@ -6,13 +6,13 @@ ghost use Rattle.macsec_secy.specs.Answers.{output_of_command};
 ghost use Rattle.macsec_commands.specs.Configs.{config_fault};
 ghost use Rattle.macsec_secy.specs.Sound.{IsSound};
 ghost use Rattle.macsec_secy.specs.State.{start};
-ghost use Rattle.macsec_lines.specs.declared.faults.ScriptFault.TheVariants.{Memory, Write};
+ghost use Rattle.macsec_script_parser.specs.declared.faults.ScriptFault.TheVariants.{Memory, Write};
 ghost use Rattle.macsec_capture.specs.Captured.{command_outcome, commands_part, line_part, one_end};
 
 use macsec_commands::{End, EndConfig, Event};
-use macsec_lines::{Line, ScriptFault};
-use macsec_outcomes::Outcome;
-use macsec_print::print_outcome;
+use macsec_link_events::Outcome;
+use macsec_script_parser::{Line, ScriptFault};
+use macsec_script_printer::print_outcome;
 use macsec_secy::{NewFault, Refusal, Secy};
 use std::alloc::Global;
 use std::io::Write;

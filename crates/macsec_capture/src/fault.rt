@@ -1,7 +1,7 @@
 //! Why a capture is not run to its end.
 
-use macsec_lines::ScriptFault;
 use macsec_pcap::PcapFault;
+use macsec_script_parser::ScriptFault;
 use thiserror::Error;
 
 /// Why a capture is not run to its end.

@@ -1,7 +1,7 @@
 //! Laws of captures, of their definitions alone: each is the contract of a function with an empty body.
 
 ghost use Rattle.std.specs.Prelude.{◌≡◌, ℕ, IsSome, List, Ok};
-ghost use Rattle.macsec_lines.specs.Scripts.{NumberedLine, config_of};
+ghost use Rattle.macsec_script_parser.specs.Scripts.{NumberedLine, config_of};
 ghost use Rattle.macsec_capture.specs.Captured.{one_end};
 
 /// Every configuration without a fault begins with its end.

@@ -6,7 +6,7 @@ ghost use Rattle.macsec_secy.specs.Answers.{output_of_received, output_of_sent};
 ghost use Rattle.macsec_secy.specs.Step.{fault};
 ghost use Rattle.macsec_capture.specs.Lines.{frame_fault_text, frame_line, partial_line, verdict_line};
 
-use macsec_print::drop_text;
+use macsec_script_printer::drop_text;
 use macsec_secy::{FrameFault, Received, Sent, Verdict};
 use std::io::{self, Write};
 

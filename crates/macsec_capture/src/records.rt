@@ -17,7 +17,7 @@ use crate::lines::{write_partial, write_received, write_sent};
 use crate::{CaptureFault, Direction};
 use macsec_pcap::{Body, MAX_RECORDS, PcapWriter, Record};
 use macsec_pcapng::CaptureReader;
-use macsec_print::write_fault;
+use macsec_script_printer::write_fault;
 use macsec_secy::laws::lengths_of_frames;
 use macsec_secy::{FrameFault, Received, Secy, Sent};
 use std::io::{Read, Write};

@@ -4,7 +4,7 @@
 //! `tools/stored-runs`, and no clause says it.
 #![tactic(auto)]
 
-use macsec_arguments::run_program;
+use macsec_cli_args::run_program;
 use std::process::ExitCode;
 
 fn main(rt: HostRuntime) -> ExitCode {

@@ -1,9 +1,21 @@
-//! The program `macsec_failures`: makes a call that takes memory, of which one allocation may be refused, and prints what
-//! came of it. The call works on standard input; its name is the first word, and the second is the number of allocations
-//! before it.
+//! The program `macsec_failures`: makes a call that allocates, of which one allocation may be refused, and prints the
+//! result of the call and the state after it.
+//!
+//! The arguments are the name of the call and a number; standard input is the text that the call works on. The program
+//! first makes that many allocations and frees them. Where the toolchain refuses the N-th allocation of a process, the
+//! number so chooses which allocation of the call is refused: with one allocation less before the call, the refused one
+//! comes one later in it. After the call the program makes one more allocation. If that is the refused one, the call
+//! made fewer.
 #![tactic(auto)]
 
-use macsec_allocations::report;
+mod calls;
+mod captures;
+mod endpoints;
+mod room;
+mod scripts;
+mod worlds;
+
+use calls::report;
 use macsec_script::read_text;
 use std::env;
 use std::process::ExitCode;

@@ -4,9 +4,9 @@ use Rattle.std.specs.Prelude.{Option, Some, None, Result, Err, MatchBool, if◌t
 use Rattle.macsec_suite.specs.FirstThatHolds.{first_that_holds}
 use Rattle.macsec_commands.specs.declared.event.Event.{Event}
 use Rattle.macsec_commands.specs.declared.event.Event.TheVariants.{Command, Send, SendUncontrolled, Deliver, Alter, Pad, Inject}
-use Rattle.macsec_outcomes.specs.declared.Outcome.{Outcome}
-use Rattle.macsec_outcomes.specs.declared.WorldFault.{WorldFault}
-use Rattle.macsec_outcomes.specs.declared.WorldFault.TheVariants.{Memory, NoFrame, LinkFull, AlterRange, Short, Long, Make}
+use Rattle.macsec_link_events.specs.declared.Outcome.{Outcome}
+use Rattle.macsec_link_events.specs.declared.WorldFault.{WorldFault}
+use Rattle.macsec_link_events.specs.declared.WorldFault.TheVariants.{Memory, NoFrame, LinkFull, AlterRange, Short, Long, Make}
 use Rattle.macsec_commands.specs.declared.config.EndConfig.{EndConfig}
 use Rattle.macsec_commands.specs.declared.fault.NewFault.{NewFault}
 use Rattle.macsec_commands.specs.Configs.{config_fault}

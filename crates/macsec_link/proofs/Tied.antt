@@ -4,9 +4,9 @@ use Rattle.std.specs.Prelude.{slice_get, Some}
 use Rattle.macsec_tag.specs.declared.identifiers.Sci.{Sci}
 use Rattle.macsec_rx.specs.declared.RxRow.{RxRow}
 use Rattle.macsec_rx.specs.Channels.{rx_row}
-use Rattle.macsec_ends.specs.Ends.{EndState}
-use Rattle.macsec_ends.specs.Logs.{DeliveryLog, association_of_log, association_of_row, live_logs}
-use Rattle.macsec_ends.specs.Sound.{IsSoundEnd}
+use Rattle.macsec_link_logs.specs.Ends.{EndState}
+use Rattle.macsec_link_logs.specs.Logs.{DeliveryLog, association_of_log, association_of_row, live_logs}
+use Rattle.macsec_link_logs.specs.Sound.{IsSoundEnd}
 use Rattle.macsec_link.proofs.EndpointLaws.{EndpointLaws}
 use Rattle.macsec_link.proofs.Members.{IsMember, contained, found_member, from_map, left_member, member_of_map}
 

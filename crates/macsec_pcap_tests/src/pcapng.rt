@@ -2,7 +2,7 @@
 //! return, one after another, up to two calls after the last record.
 
 use crate::words::{Row, assert_text, octets, spelled, tell_answer};
-use macsec_devices::{FailingReader, Fails};
+use macsec_failing_io::{FailingReader, Fails};
 use macsec_pcap::{Body, PcapFault};
 use macsec_pcapng::{CaptureReader, PcapngReader};
 use std::alloc::{AllocError, Global};

@@ -2,7 +2,7 @@
 use Rattle.std.specs.Prelude.{◌≡◌, ℕ, ◌++◌, List, [], codes, Ok, Err, refl}
 use Rattle.std.specs.Fmt.{digits}
 use Rattle.hex.proofs.OnLiterals.{hex_on_literals}
-use Rattle.macsec_lines.specs.declared.faults.ScriptFault.TheVariants as script
+use Rattle.macsec_script_parser.specs.declared.faults.ScriptFault.TheVariants as script
 use Rattle.macsec_script.specs.Printed.{printed_text}
 
 abbrev both_ends : List ℕ

@@ -5,12 +5,12 @@ use Rattle.macsec_commands.specs.declared.fault.NewFault.{NewFault}
 use Rattle.macsec_commands.specs.Configs.{config_fault}
 use Rattle.macsec_commands.specs.declared.event.End.TheVariants.{A, B}
 use Rattle.macsec_link.specs.Answers.{make_fault, make_fault_of}
-use Rattle.macsec_lines.specs.declared.lines.Line.{Line}
-use Rattle.macsec_lines.specs.declared.lines.Line.TheVariants as line
-use Rattle.macsec_lines.specs.declared.script.Place.TheVariants.{EndA}
-use Rattle.macsec_lines.specs.Kinds.{is_fit}
-use Rattle.macsec_lines.specs.Laws.{AreFit, ParsedFit}
-use Rattle.macsec_lines.specs.Scripts.{NumberedLine, a_config, b_config, script_of}
+use Rattle.macsec_script_parser.specs.declared.lines.Line.{Line}
+use Rattle.macsec_script_parser.specs.declared.lines.Line.TheVariants as line
+use Rattle.macsec_script_parser.specs.declared.script.Place.TheVariants.{EndA}
+use Rattle.macsec_script_parser.specs.Kinds.{is_fit}
+use Rattle.macsec_script_parser.specs.Laws.{AreFit, ParsedFit}
+use Rattle.macsec_script_parser.specs.Scripts.{NumberedLine, a_config, b_config, script_of}
 use Rattle.macsec_script.specs.Printed.{two_ends, two_ends_of}
 
 no_fault : (a b : Option NewFault) → not (is_some a) ≡ true → not (is_some b) ≡ true → make_fault_of a b ≡ None

@@ -7,8 +7,8 @@ use Rattle.macsec_link.specs.World.{WorldState, new_world}
 use Rattle.macsec_link.specs.Sound.{IsSound}
 use Rattle.macsec_link.specs.Beginnings.{AreSound, StaysSound}
 use Rattle.macsec_link.specs.Promises.{KeepsPromises}
-use Rattle.macsec_lines.specs.declared.faults.ScriptFault.{ScriptFault}
-use Rattle.macsec_lines.specs.Scripts.{NumberedLine, script_of}
+use Rattle.macsec_script_parser.specs.declared.faults.ScriptFault.{ScriptFault}
+use Rattle.macsec_script_parser.specs.Scripts.{NumberedLine, script_of}
 use Rattle.macsec_script.specs.Printed.{TwoEnds, two_ends}
 use Rattle.macsec_script.specs.Promised.{ArePromised, IsPromised, events_of}
 

@@ -9,12 +9,12 @@ use Rattle.macsec_link.specs.World.{WorldState}
 use Rattle.macsec_link.specs.Step.{world_after, world_step}
 use Rattle.macsec_link.specs.Sound.{IsSound}
 use Rattle.macsec_link.specs.Beginnings.{StaysSound}
-use Rattle.macsec_lines.specs.declared.lines.Line.{Line}
-use Rattle.macsec_lines.specs.declared.lines.Line.TheVariants as line
-use Rattle.macsec_lines.specs.declared.faults.ScriptFault.{ScriptFault}
-use Rattle.macsec_lines.specs.declared.faults.ScriptFault.TheVariants.{Memory, Write}
-use Rattle.macsec_lines.specs.Scripts.{NumberedLine}
-use Rattle.macsec_print.specs.Printing.{Prints}
+use Rattle.macsec_script_parser.specs.declared.lines.Line.{Line}
+use Rattle.macsec_script_parser.specs.declared.lines.Line.TheVariants as line
+use Rattle.macsec_script_parser.specs.declared.faults.ScriptFault.{ScriptFault}
+use Rattle.macsec_script_parser.specs.declared.faults.ScriptFault.TheVariants.{Memory, Write}
+use Rattle.macsec_script_parser.specs.Scripts.{NumberedLine}
+use Rattle.macsec_script_printer.specs.Printing.{Prints}
 use Rattle.macsec_script.specs.Printed.{line_step, text_from}
 use Rattle.macsec_script.specs.Promised.{event_of, events_of, text_after}
 use Rattle.macsec_script.proofs.TextOfWorlds.{events_with, text_of_worlds, text_with, world_with}

@@ -3,9 +3,9 @@ use Rattle.std.proofs.Common.{◌≡◌, ℕ, List, [], ◌∷◌, ◌++◌, ref
 use Rattle.macsec_commands.specs.declared.event.Event.{Event}
 use Rattle.macsec_link.specs.World.{WorldState}
 use Rattle.macsec_link.specs.Step.{world_after, world_step}
-use Rattle.macsec_lines.specs.declared.lines.Line.{Line}
-use Rattle.macsec_lines.specs.declared.lines.Line.TheVariants as line
-use Rattle.macsec_lines.specs.Scripts.{NumberedLine}
+use Rattle.macsec_script_parser.specs.declared.lines.Line.{Line}
+use Rattle.macsec_script_parser.specs.declared.lines.Line.TheVariants as line
+use Rattle.macsec_script_parser.specs.Scripts.{NumberedLine}
 use Rattle.macsec_script.specs.Printed.{line_step, text_from}
 use Rattle.macsec_script.specs.Promised.{IsTextOfWorlds, event_of, events_of, text_after}
 

@@ -3,14 +3,14 @@ use Rattle.std.proofs.Common.{◌≡◌, ℕ, List, [], refl, sym, ◌∙◌, ap
 use Rattle.std.specs.Prelude.{Option, Some, None, Result, Ok, Err, IfSome, IfErr, ◌≤◌, length}
 use Rattle.std.specs.Io.KnownBytes.{Keeps}
 use Rattle.std.proofs.KnownBytes.{Appends-nil, Appends-kept, Keeps-refl}
-use Rattle.macsec_lines.specs.declared.faults.ScriptFault.{ScriptFault}
-use Rattle.macsec_lines.specs.declared.faults.ScriptFault.TheVariants.{Memory, Read, Write}
-use Rattle.macsec_lines.specs.Fields.{map_ok}
-use Rattle.macsec_lines.specs.Scripts.{NumberedLine, script_of}
+use Rattle.macsec_script_parser.specs.declared.faults.ScriptFault.{ScriptFault}
+use Rattle.macsec_script_parser.specs.declared.faults.ScriptFault.TheVariants.{Memory, Read, Write}
+use Rattle.macsec_script_parser.specs.Fields.{map_ok}
+use Rattle.macsec_script_parser.specs.Scripts.{NumberedLine, script_of}
 use Rattle.macsec_script.specs.Printed.{printed_text, text_of}
 use Rattle.macsec_script.specs.Runs.{IsBegun, LeavesText, RunGives}
-use Rattle.macsec_lines.specs.Readings.{Parses}
-use Rattle.macsec_print.specs.Printing.{Prints}
+use Rattle.macsec_script_parser.specs.Readings.{Parses}
+use Rattle.macsec_script_printer.specs.Printing.{Prints}
 
 -- nothing begins every answer
 pub begun_by_nothing : (answer : Result (List ℕ) ScriptFault) → IsBegun answer []

@@ -1,20 +1,20 @@
 -- What a script prints.
 use Rattle.std.specs.Prelude.{ℕ, List, [], ◌∷◌, ◌++◌, slice_get, Option, Some, None, Result, Ok}
 use Rattle.macsec_commands.specs.declared.config.EndConfig.{EndConfig}
-use Rattle.macsec_outcomes.specs.declared.Outcome.{Outcome}
-use Rattle.macsec_outcomes.specs.declared.Outcome.TheVariants.{Made}
-use Rattle.macsec_outcomes.specs.declared.WorldFault.{WorldFault}
+use Rattle.macsec_link_events.specs.declared.Outcome.{Outcome}
+use Rattle.macsec_link_events.specs.declared.Outcome.TheVariants.{Made}
+use Rattle.macsec_link_events.specs.declared.WorldFault.{WorldFault}
 use Rattle.macsec_link.specs.World.{WorldState, new_world, end_of}
 use Rattle.macsec_link.specs.Step.{Answer, world_step}
-use Rattle.macsec_lines.specs.declared.lines.Line.{Line}
-use Rattle.macsec_lines.specs.declared.lines.Line.TheVariants as line
-use Rattle.macsec_print.specs.declared.counters.Label.TheVariants as label
-use Rattle.macsec_lines.specs.declared.faults.ScriptFault.{ScriptFault}
-use Rattle.macsec_lines.specs.Fields.{map_ok}
-use Rattle.macsec_print.specs.Outcomes.{outcome_text}
-use Rattle.macsec_print.specs.Counters.{counters_text}
-use Rattle.macsec_print.specs.Numbers.{numbers_text}
-use Rattle.macsec_lines.specs.Scripts.{NumberedLine, a_config, b_config, script_of}
+use Rattle.macsec_script_parser.specs.declared.lines.Line.{Line}
+use Rattle.macsec_script_parser.specs.declared.lines.Line.TheVariants as line
+use Rattle.macsec_script_printer.specs.declared.counters.Label.TheVariants as label
+use Rattle.macsec_script_parser.specs.declared.faults.ScriptFault.{ScriptFault}
+use Rattle.macsec_script_parser.specs.Fields.{map_ok}
+use Rattle.macsec_script_printer.specs.Outcomes.{outcome_text}
+use Rattle.macsec_script_printer.specs.Counters.{counters_text}
+use Rattle.macsec_script_printer.specs.Numbers.{numbers_text}
+use Rattle.macsec_script_parser.specs.Scripts.{NumberedLine, a_config, b_config, script_of}
 
 -- the link frame that an event created, in the world after it
 abbrev pub frame_made : WorldState → Result Outcome WorldFault → Option (List ℕ)

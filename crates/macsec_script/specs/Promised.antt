@@ -4,9 +4,9 @@ use Rattle.macsec_commands.specs.declared.event.Event.{Event}
 use Rattle.macsec_link.specs.World.{WorldState}
 use Rattle.macsec_link.specs.Step.{world_after}
 use Rattle.macsec_link.specs.Promises.{KeepsPromises}
-use Rattle.macsec_lines.specs.declared.lines.Line.{Line}
-use Rattle.macsec_lines.specs.declared.lines.Line.TheVariants as line
-use Rattle.macsec_lines.specs.Scripts.{NumberedLine, script_of}
+use Rattle.macsec_script_parser.specs.declared.lines.Line.{Line}
+use Rattle.macsec_script_parser.specs.declared.lines.Line.TheVariants as line
+use Rattle.macsec_script_parser.specs.Scripts.{NumberedLine, script_of}
 use Rattle.macsec_script.specs.Printed.{line_step, text_from, two_ends}
 
 -- the event of a line, if it is one

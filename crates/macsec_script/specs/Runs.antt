@@ -1,9 +1,9 @@
 -- What a run of a script returns and writes.
 use Rattle.std.specs.Prelude.{◌≡◌, ℕ, List, [], Option, Result, Ok, Err}
 use Rattle.std.specs.Io.KnownBytes.{Appends, Keeps}
-use Rattle.macsec_lines.specs.declared.faults.ScriptFault.{ScriptFault}
-use Rattle.macsec_lines.specs.declared.faults.ScriptFault.TheVariants.{Memory, Read, Write}
-use Rattle.macsec_print.specs.Printing.{Begins}
+use Rattle.macsec_script_parser.specs.declared.faults.ScriptFault.{ScriptFault}
+use Rattle.macsec_script_parser.specs.declared.faults.ScriptFault.TheVariants.{Memory, Read, Write}
+use Rattle.macsec_script_printer.specs.Printing.{Begins}
 use Rattle.macsec_script.specs.Printed.{printed_text}
 
 -- the text begins what is printed; nothing does if the script is at fault

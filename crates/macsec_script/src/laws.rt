@@ -2,7 +2,7 @@
 
 ghost use Rattle.std.specs.Prelude.{ℕ, List};
 ghost use Rattle.macsec_link.specs.World.{WorldState};
-ghost use Rattle.macsec_lines.specs.Scripts.{NumberedLine};
+ghost use Rattle.macsec_script_parser.specs.Scripts.{NumberedLine};
 ghost use Rattle.macsec_script.specs.Promised.{HasNoneOrEnds, IsTextOfWorlds};
 
 /// A script without a fault has no lines, or its first two configure the ends.

@@ -17,12 +17,12 @@
 pub mod laws;
 mod running;
 
-pub use macsec_lines::{
-    Line, LineFault, ScriptFault, parse_config, parse_line, parse_script, read_text,
-};
 pub use macsec_link::{
     An, Command, DropReason, End, EndConfig, Event, Frame, Key, Mode, NewFault, NewKey, Outcome,
     Refusal, Sci, Secy, Suite, TagForm, Verdict, WorldFault,
 };
-pub use macsec_print::{Label, print_counters, print_numbers, print_outcome};
+pub use macsec_script_parser::{
+    Line, LineFault, ScriptFault, parse_config, parse_line, parse_script, read_text,
+};
+pub use macsec_script_printer::{Label, print_counters, print_numbers, print_outcome};
 pub use running::run_script;

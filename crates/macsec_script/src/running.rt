@@ -4,18 +4,18 @@ ghost use Rattle.std.specs.Prelude.{◌≡◌, IfSome, IfErr, OnOk, None, option
 ghost use Rattle.macsec_link.specs.Sound.{IsSound};
 ghost use Rattle.macsec_link.specs.Beginnings.{StaysSound};
 ghost use Rattle.macsec_link.specs.Answers.{make_fault};
-ghost use Rattle.macsec_lines.specs.declared.lines.Line.TheVariants as line;
-ghost use Rattle.macsec_lines.specs.Scripts.{a_config, b_config};
+ghost use Rattle.macsec_script_parser.specs.declared.lines.Line.TheVariants as line;
+ghost use Rattle.macsec_script_parser.specs.Scripts.{a_config, b_config};
 ghost use Rattle.macsec_script.specs.Printed.{two_ends, frame_made, line_step, text_from, text_of};
 ghost use Rattle.macsec_script.specs.Promised.{ArePromised, IsPromised, events_of};
 ghost use Rattle.macsec_script.specs.Runs.{RunGives, LeavesText};
-ghost use Rattle.macsec_print.specs.Printing.{Prints};
+ghost use Rattle.macsec_script_printer.specs.Printing.{Prints};
 
-use macsec_lines::laws::parsed_lines_fit;
-use macsec_lines::{Line, ScriptFault, parse_script, read_text};
 use macsec_link::laws::{promises, worlds_are_sound};
 use macsec_link::{End, EndConfig, Event, Outcome, World, WorldFault};
-use macsec_print::{Label, print_counters, print_numbers, print_outcome, write_fault};
+use macsec_script_parser::laws::parsed_lines_fit;
+use macsec_script_parser::{Line, ScriptFault, parse_script, read_text};
+use macsec_script_printer::{Label, print_counters, print_numbers, print_outcome, write_fault};
 use std::alloc::Global;
 use std::io::{Read, Write};
 

@@ -1,11 +1,11 @@
 //! How programs end whose devices fail.
 
 use super::{RECEIVER, SCRIPT, SENDER, client_file, link_file, push_all};
-use macsec_devices::{FailingWriter, Fails};
-use macsec_files::{
+use macsec_cli_runs::{
     CapturePaths, Direction, Failure, PcapFault, ScriptFault, capture_named, open_stand_ins,
     run_named, tell,
 };
+use macsec_failing_io::{FailingWriter, Fails};
 use std::alloc::{AllocError, Global};
 use std::process::Abort;
 use std::test::Fail;

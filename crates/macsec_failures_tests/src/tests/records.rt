@@ -1,7 +1,7 @@
 //! Readers and writers of capture files over devices that fail.
 
 use super::client_file;
-use macsec_devices::{FailingReader, FailingWriter, Fails};
+use macsec_failing_io::{FailingReader, FailingWriter, Fails};
 use macsec_pcap::{PcapFault, PcapReader, PcapWriter, Resolution};
 use std::alloc::Global;
 use std::process::Abort;

@@ -2,7 +2,7 @@
 
 use super::tasks::{Stop, Task};
 use macsec_capture::{CaptureFault, Direction, run_capture};
-use macsec_devices::{FailingReader, FailingWriter, Fails};
+use macsec_failing_io::{FailingReader, FailingWriter, Fails};
 use macsec_script::{ScriptFault, run_script};
 use std::alloc::Global;
 use std::process::Abort;

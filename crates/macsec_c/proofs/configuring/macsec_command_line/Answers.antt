@@ -1,6 +1,6 @@
 use Rattle.std.proofs.Common.{rules}
 use Rattle.std.specs.Prelude.{Err}
-use Rattle.macsec_lines.specs.declared.lines.LineFault.TheVariants.{Memory}
+use Rattle.macsec_script_parser.specs.declared.lines.LineFault.TheVariants.{Memory}
 use Rattle.macsec_c.proofs.configuring.macsec_command_line.Goals as goal
 
 -- nothing is read where there is no endpoint

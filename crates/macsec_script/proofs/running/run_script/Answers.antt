@@ -2,7 +2,7 @@
 -- one's premise. The end lines of a parsed script fit, so a world can be made of them.
 use Rattle.std.proofs.KnownBytes.{Keeps-refl}
 use Rattle.std.proofs.lemmas.Result.{err_from_is_err_and}
-use Rattle.macsec_lines.specs.declared.script.Place.TheVariants.{EndA}
+use Rattle.macsec_script_parser.specs.declared.script.Place.TheVariants.{EndA}
 use Rattle.macsec_script.proofs.GoodEnds.{script_ends_good}
 use Rattle.macsec_script.proofs.Promised.{script_promised}
 use Rattle.macsec_script.proofs.Unwritten.{at_fault_read, after_running, left_alone, only_written}

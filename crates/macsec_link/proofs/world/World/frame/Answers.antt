@@ -2,7 +2,7 @@
 use Rattle.std.proofs.Common.{◌≡◌, ◌∙◌, ◌<◌, ◌≤◌, ℕ, zero, suc, List, [], ◌∷◌, ap, arith, get_or, length, refl}
 use Rattle.std.specs.Prelude.{Some, None, option_copied, slice_get}
 use Rattle.std.specs.Global.{Vec}
-use Rattle.macsec_ends.specs.Kept.{frames_kept}
+use Rattle.macsec_link_logs.specs.Kept.{frames_kept}
 use Rattle.macsec_link.specs.World.{WorldState}
 use Rattle.macsec_link.proofs.world.World.frame.Goals as goal
 

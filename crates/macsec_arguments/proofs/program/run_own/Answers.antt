@@ -1,6 +1,0 @@
--- By this tactic alone: on a mutant the prover tries nothing else.
-use Rattle.std.proofs.Common.{rules}
-use Rattle.macsec_arguments.proofs.program.run_own.Goals as goal
-
-pub returns-in-Ok-clause-read : goal.returns-in-Ok-clause-read
-returns-in-Ok-clause-read g c = search rules

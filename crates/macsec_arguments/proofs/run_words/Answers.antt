@@ -1,6 +1,0 @@
--- The fault is that of memory, so that another fault is refused soon.
-use Rattle.std.proofs.Common.{inr, refl}
-use Rattle.macsec_arguments.proofs.run_words.Goals as goal
-
-pub returns-in_default-clause-failure : goal.returns-in_default-clause-failure
-returns-in_default-clause-failure c = inr refl

@@ -1,0 +1,13 @@
+-- What is captured is in this direction; the rest is by search. On a mutant the prover tries nothing else.
+use Rattle.std.proofs.Common.{◌≡◌, rules}
+use Rattle.std.specs.Option.{option_map}
+use Rattle.clap.specs.Words.{found_of, rows_of}
+use Rattle.macsec_capture.specs.declared.Direction.TheVariants.{Protect}
+use Rattle.macsec_cli_args.specs.Words.{asked_by, capture_in}
+use Rattle.macsec_cli_args.proofs.task_of.Goals as goal
+
+pub returns-in-protect : goal.returns-in-protect
+returns-in-protect c =
+    let rows = rows_of (found_of c.in_ok-name.words.now) in
+    let told : option_map asked_by c.capture_of.result ≡ capture_in Protect rows = c.capture_of.ensures in
+    search rules

@@ -1,0 +1,160 @@
+//! The words of the program's command line, and the run that they ask for.
+//!
+//! Proved: `task_of_words` returns the task that the words ask for, as `clap`'s definitions read the program's three
+//! forms (`specs/Words.antt`); or `Usage`, only if they ask for nothing; or `Memory`. `run_words` returns `Ok` only if
+//! the words are of one of the three forms; `Usage` only if they ask for nothing; `CannotOpen` only of a file that they
+//! name; a fault of a capture file only if they ask for a capture; a fault of a script other than `Memory` only if they
+//! are of a form. That it does what they ask for no clause says.
+//!
+//! Proved: there is an end of which `run_and_tell` returns the status and, if the writer took it, wrote the line, to a
+//! writer whose octets a contract can name. It is one that `run_words` may return for these words, or that `/` can't be
+//! opened. `run_program`, which takes the process's own words, returns and writes what belongs to the end of some
+//! words, or of words that can't be read; of which, no contract says. Worked command lines are in
+//! `proofs/Examples.antt`.
+#![tactic(auto)]
+
+mod program;
+
+ghost use Rattle.std.specs.Prelude.{◌≡◌, false, map, option_map, string_bytes, IfErr, IfOk, IsSome};
+ghost use Rattle.clap.specs.Words.{app_of, first_of, found_of, rows_of, rule_of, subcommand_rows_of};
+ghost use Rattle.macsec_cli_args.specs.Words.{Asks, FailsBy, asked, asked_by, asked_in, capture_app, capture_in, kind_failure, macsec_app, name_rule, run_in};
+
+use clap::error::ErrorKind;
+use clap::{Arg, ArgAction, ArgMatches, Command};
+use macsec_capture::Direction;
+use macsec_cli_runs::{CapturePaths, Failure, capture_named, run_named};
+use macsec_script_parser::ScriptFault;
+pub use program::{run_and_tell, run_program};
+use std::alloc::{AllocError, Global};
+use std::io::BufWriter;
+
+/// What the words ask the program for.
+#[derive(Clone, Copy)]
+pub enum Task<'a> {
+    /// To run a script.
+    Run(&'a str),
+    /// To protect or validate the frames of a capture.
+    Capture(Direction, CapturePaths<'a>),
+}
+
+/// What the words behind the program's own name ask for: `run SCRIPT`, `protect CONFIG IN OUT` or
+/// `validate CONFIG IN OUT`.
+pub fn task_of_words<'a>(alloc: Global, words: &'a [String]) -> Result<Task<'a>, Failure<'a>>
+    ensures { Asks (asked (map string_bytes words.now)) result }
+{
+    let Ok(command) = command(alloc) else {
+        return Err(Failure::Script(ScriptFault::Memory));
+    };
+    match command.try_get_matches_from(words) {
+        Ok(matches) => match task_of(&matches) {
+            Some(task) => Ok(task),
+            None => Err(Failure::Usage),
+        },
+        Err(error) => Err(failure_of_kind(error.kind())),
+    }
+}
+
+/// Does what the words behind the program's own name ask for. What it prints goes to standard output.
+pub fn run_words<'a>(rt: &HostRuntime, words: &'a [String]) -> Result<(), Failure<'a>>
+    ensures done { IfOk result (λ _. IsSome (asked (map string_bytes words.now))) }
+    ensures failure { IfErr result (FailsBy (map string_bytes words.now)) }
+{
+    let task = task_of_words(rt.alloc(), words)?;
+    let Ok(mut text) = BufWriter::new(rt.alloc(), rt.stdout()) else {
+        return Err(Failure::Script(ScriptFault::Memory));
+    };
+    match task {
+        Task::Run(script) => run_named(rt, rt.alloc(), script, &mut rt.stdin(), &mut text),
+        Task::Capture(direction, paths) => {
+            capture_named(rt, rt.alloc(), direction, paths, &mut text)
+        }
+    }
+}
+
+/// Why the arguments are not taken: the program is out of memory, or they are of none of its forms.
+fn failure_of_kind<'a>(kind: ErrorKind) -> Failure<'a>
+    ensures { result ≡ kind_failure kind }
+{
+    match kind {
+        ErrorKind::OutOfMemory => Failure::Script(ScriptFault::Memory),
+        _ => Failure::Usage,
+    }
+}
+
+/// The task in what was matched.
+fn task_of<'a>(matches: &ArgMatches<'a>) -> Option<Task<'a>>
+    ensures { option_map asked_by result ≡ asked_in (subcommand_rows_of matches.now) }
+{
+    let (name, words) = matches.subcommand()?;
+    match name {
+        "run" => run_of(words),
+        "protect" => capture_of(Direction::Protect, words),
+        "validate" => capture_of(Direction::Validate, words),
+        _ => None,
+    }
+}
+
+/// The run of a script in what was matched behind its subcommand.
+fn run_of<'a>(matches: &ArgMatches<'a>) -> Option<Task<'a>>
+    ensures { option_map asked_by result ≡ run_in (rows_of (found_of matches.now)) }
+{
+    match value_of(matches, "SCRIPT") {
+        Some(script) => Some(Task::Run(script)),
+        None => None,
+    }
+}
+
+/// The capture in what was matched behind its subcommand.
+fn capture_of<'a>(direction: Direction, matches: &ArgMatches<'a>) -> Option<Task<'a>>
+    ensures { option_map asked_by result ≡ capture_in direction (rows_of (found_of matches.now)) }
+{
+    let config = value_of(matches, "CONFIG")?;
+    let input = value_of(matches, "IN")?;
+    let output = value_of(matches, "OUT")?;
+    let paths = CapturePaths {
+        config,
+        input,
+        output,
+    };
+    Some(Task::Capture(direction, paths))
+}
+
+/// The value of an argument.
+fn value_of<'a>(matches: &ArgMatches<'a>, id: &str) -> Option<&'a str>
+    ensures { option_map (λ value. value.now) result ≡ first_of id.now (rows_of (found_of matches.now)) }
+{
+    matches.get_str(id)
+}
+
+/// The command line that the program takes.
+fn command<'a>(alloc: Global) -> Result<Command<'a>, AllocError>
+    ensures { IfOk result (λ command. app_of command ≡ macsec_app) }
+{
+    // At each `?` at most one command is there to be dropped, which keeps the proof short.
+    let run = Command::new(alloc, "run").arg(name_argument(alloc, "SCRIPT"))?;
+    let runs = Command::new(alloc, "macsec")
+        .subcommand_required(true)
+        .subcommand(run)?;
+    let protect = capture_command(alloc, "protect")?;
+    let protects = runs.subcommand(protect)?;
+    let validate = capture_command(alloc, "validate")?;
+    protects.subcommand(validate)
+}
+
+/// A subcommand for captures.
+fn capture_command<'a>(alloc: Global, form: &'a str) -> Result<Command<'a>, AllocError>
+    ensures { IfOk result (λ command. app_of command ≡ capture_app form.now) }
+{
+    Command::new(alloc, form)
+        .arg(name_argument(alloc, "CONFIG"))?
+        .arg(name_argument(alloc, "IN"))?
+        .arg(name_argument(alloc, "OUT"))
+}
+
+/// The name of a file, which must be there.
+fn name_argument<'a>(alloc: Global, id: &'a str) -> Arg<'a>
+    ensures rule { rule_of result ≡ name_rule id.now }
+    ensures local { result.global ≡ false }
+{
+    Arg::new(alloc, id).required(true).action(ArgAction::Set)
+}

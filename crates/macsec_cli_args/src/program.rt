@@ -1,0 +1,61 @@
+//! The whole program but for its `main`: what it does by its words, what it tells of that, and its status.
+
+ghost use Rattle.std.specs.Prelude.{map, string_bytes, IfErr, IfOk};
+ghost use Rattle.std.specs.IoError.{error_kind};
+ghost use Rattle.macsec_cli_args.specs.Ends.{EndsAtAll, EndsBy, IsTold, IsUnread};
+
+use crate::run_words;
+use macsec_cli_runs::{Failure, failure_of_words, open_stand_ins, tell};
+use std::env;
+use std::io::{self, Write};
+
+/// The program `macsec`: does what its own words ask for, and tells on `errors` how that ended, as `run_and_tell` does.
+pub fn run_program<W: Write>(rt: &HostRuntime, errors: &mut W) -> (u8, io::Result<()>)
+    ensures { IsTold EndsAtAll (W.contents errors.old) (W.contents errors.new) result.0 result.1 }
+{
+    let own = own_words(rt);
+    run_own(rt, &own, errors)
+}
+
+/// Does the same by words that were read, or could not be.
+fn run_own<W: Write>(
+    rt: &HostRuntime,
+    own: &io::Result<Vec<String>>,
+    errors: &mut W,
+) -> (u8, io::Result<()>)
+    ensures read { IfOk own.now (λ words. IsTold (EndsBy (map string_bytes words.items)) (W.contents errors.old) (W.contents errors.new) result.0 result.1) }
+    ensures unread { IfErr own.now (λ error. IsTold (IsUnread (error_kind error)) (W.contents errors.old) (W.contents errors.new) result.0 result.1) }
+{
+    match own {
+        Ok(words) => run_and_tell(rt, words.as_slice(), errors),
+        Err(error) => tell(errors, Err(failure_of_words(error))),
+    }
+}
+
+/// Does what the words behind the program's own name ask for, and writes one line on `errors` if it fails. Returns the
+/// program's status, and whether the line was taken.
+pub fn run_and_tell<W: Write>(
+    rt: &HostRuntime,
+    words: &[String],
+    errors: &mut W,
+) -> (u8, io::Result<()>)
+    ensures { IsTold (EndsBy (map string_bytes words.now)) (W.contents errors.old) (W.contents errors.new) result.0 result.1 }
+{
+    let ended = end_of_words(rt, words);
+    tell(errors, ended)
+}
+
+/// How the run ends that the words ask for, while no file that it opens can be taken for a standard stream.
+fn end_of_words<'a>(rt: &HostRuntime, words: &'a [String]) -> Result<(), Failure<'a>>
+    ensures { EndsBy (map string_bytes words.now) result }
+{
+    match open_stand_ins(rt) {
+        Ok(_held) => run_words(rt, words),
+        Err(failure) => Err(failure),
+    }
+}
+
+/// The program's own words, its name among them.
+fn own_words(rt: &HostRuntime) -> io::Result<Vec<String>> {
+    Ok(env::args(rt)?.collect(rt.alloc())?)
+}

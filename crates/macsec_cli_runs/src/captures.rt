@@ -1,0 +1,91 @@
+//! A run over the capture file of a path, by the configuration of one, into the file of another.
+
+ghost use Rattle.std.specs.Prelude.{◌≡◌, IfSome, IfErr};
+ghost use Rattle.macsec_capture.specs.Captured.{captured};
+ghost use Rattle.macsec_capture.specs.Runs.{CaptureGives, LeavesBoth};
+ghost use Rattle.macsec_cli_runs.specs.Captures.{CaptureFailsAs, LeavesLines, capture_end};
+
+use crate::failures::Failure;
+use macsec_capture::{CaptureFault, Direction, run_capture};
+use macsec_pcap::PcapFault;
+use macsec_script_parser::ScriptFault;
+use std::alloc::Global;
+use std::fs;
+use std::io::{self, BufReader, BufWriter, Read, Write};
+use std::rt::Files;
+
+/// The paths of the three files of a capture.
+#[derive(Clone, Copy)]
+pub struct CapturePaths<'a> {
+    /// The configuration of the endpoint.
+    pub config: &'a str,
+    /// The capture file that is read.
+    pub input: &'a str,
+    /// The capture file that is written.
+    pub output: &'a str,
+}
+
+/// How a run ends whose text was flushed: by its own fault, if it has one, else by that of the flush.
+fn capture_end(done: Result<(), CaptureFault>, text: io::Result<()>) -> Result<(), CaptureFault>
+    ensures { result ≡ capture_end done text }
+{
+    done?;
+    match text {
+        Ok(()) => Ok(()),
+        Err(_) => Err(CaptureFault::Script(ScriptFault::Write)),
+    }
+}
+
+/// Runs a capture like `run_capture`, which flushes the output, and flushes the text.
+fn run_and_flush<C: Read, R: Read, W: Write, T: Write>(
+    alloc: Global,
+    direction: Direction,
+    config: &mut C,
+    input: &mut R,
+    output: &mut W,
+    text: &mut T,
+) -> Result<(), CaptureFault>
+    ensures run { IfSome (C.remaining config.old) (λ config. IfSome (R.remaining input.old) (λ file.
+        CaptureGives (captured direction config file) (record { output = W.contents output.old; text = T.contents text.old })
+        (record { output = W.contents output.new; text = T.contents text.new }) result)) }
+    ensures unwritten { IfErr result (LeavesBoth (record { output = W.contents output.old; text = T.contents text.old })
+        (record { output = W.contents output.new; text = T.contents text.new })) }
+{
+    let done = run_capture(alloc, direction, config, input, output, text);
+    let flushed = text.flush();
+    capture_end(done, flushed)
+}
+
+/// Runs a capture like `run_capture` over the files of these paths, through buffers, and flushes what was written. The
+/// files are opened in the order of their fields, and the output emptied, before anything else.
+pub fn capture_named<'a, H: Files, T: Write>(
+    rt: &H,
+    alloc: Global,
+    direction: Direction,
+    paths: CapturePaths<'a>,
+    text: &mut T,
+) -> Result<(), Failure<'a>>
+    ensures failure { IfErr result (CaptureFailsAs paths.entry) }
+    ensures unwritten { IfErr result (LeavesLines (T.contents text.old) (T.contents text.new)) }
+{
+    let Ok(mut config) = fs::open(rt, paths.config) else {
+        return Err(Failure::CannotOpen(paths.config));
+    };
+    let Ok(input) = fs::open(rt, paths.input) else {
+        return Err(Failure::CannotOpen(paths.input));
+    };
+    let Ok(output) = fs::create(rt, paths.output) else {
+        return Err(Failure::CannotOpen(paths.output));
+    };
+    let (Ok(mut input), Ok(mut output)) = (
+        BufReader::new(alloc, input),
+        BufWriter::new(alloc, output),
+    ) else {
+        return Err(Failure::Pcap(PcapFault::Memory));
+    };
+    match run_and_flush(alloc, direction, &mut config, &mut input, &mut output, text) {
+        Ok(()) => Ok(()),
+        Err(CaptureFault::Script(fault)) => Err(Failure::Script(fault)),
+        Err(CaptureFault::Pcap(fault)) => Err(Failure::Pcap(fault)),
+    }
+}

@@ -1,0 +1,66 @@
+//! A run of the script of a name: that of standard input, or of a file.
+
+ghost use Rattle.std.specs.Prelude.{◌≡◌, ◌≢◌, codes, IfSome, IfErr, MatchResult, Ok, Err};
+ghost use Rattle.macsec_script_parser.specs.declared.faults.ScriptFault.TheVariants.{Write};
+ghost use Rattle.macsec_cli_runs.specs.Failures.{FailsAs, LeavesOutput, NamedGives};
+ghost use Rattle.macsec_script.specs.Runs.{LeavesText, RunGives};
+
+use crate::failures::Failure;
+use macsec_script::run_script;
+use macsec_script_parser::ScriptFault;
+use macsec_script_printer::write_fault;
+use std::alloc::Global;
+use std::fs;
+use std::io::{self, Read, Write};
+use std::rt::Files;
+
+/// How a run ends whose output was flushed: by its own fault, if it has one, else by that of the flush.
+fn run_end(done: Result<(), ScriptFault>, flushed: io::Result<()>) -> Result<(), ScriptFault>
+    ensures { MatchResult done (λ _. MatchResult flushed (λ _. result ≡ Ok tt) (λ _. result ≡ Err Write)) (λ fault. result ≡ Err fault) }
+{
+    done?;
+    write_fault(flushed)
+}
+
+/// Runs a script like `run_script`, and flushes what it printed.
+fn run_and_flush<R: Read, W: Write>(
+    alloc: Global,
+    reader: &mut R,
+    writer: &mut W,
+) -> Result<(), ScriptFault>
+    ensures run { IfSome (R.remaining reader.old) (λ script. RunGives script (W.contents writer.old) (W.contents writer.new) result) }
+    ensures unwritten { IfErr result (λ fault. LeavesText (W.contents writer.old) (W.contents writer.new) fault) }
+{
+    let done = run_script(alloc, reader, writer);
+    let flushed = writer.flush();
+    run_end(done, flushed)
+}
+
+/// Runs the script of this name, standard input if the name is `-` and else the file of this path, and flushes
+/// what it printed. If a file is named, standard input is not read.
+pub fn run_named<'a, H: Files, R: Read, W: Write>(
+    rt: &H,
+    alloc: Global,
+    name: &'a str,
+    input: &mut R,
+    output: &mut W,
+) -> Result<(), Failure<'a>>
+    ensures run { (name.now ≡ codes "-") → IfSome (R.remaining input.old) (λ script. NamedGives script (W.contents output.old) (W.contents output.new) result) }
+    ensures file { (name.now ≢ codes "-") → input.new ≡ input.old }
+    ensures failure { IfErr result (FailsAs name.now) }
+    ensures unwritten { IfErr result (LeavesOutput (W.contents output.old) (W.contents output.new)) }
+{
+    if name == "-" {
+        return match run_and_flush(alloc, input, output) {
+            Ok(()) => Ok(()),
+            Err(fault) => Err(Failure::Script(fault)),
+        };
+    }
+    let Ok(mut file) = fs::open(rt, name) else {
+        return Err(Failure::CannotOpen(name));
+    };
+    match run_and_flush(alloc, &mut file, output) {
+        Ok(()) => Ok(()),
+        Err(fault) => Err(Failure::Script(fault)),
+    }
+}

@@ -1,5 +1,0 @@
-use Rattle.std.proofs.Common.{rules}
-use Rattle.macsec_ends.proofs.deliveries.Deliveries.close_at.Goals as goal
-
-pub returns-else-is_live_at : goal.returns-else-is_live_at
-returns-else-is_live_at c = search rules

@@ -1,0 +1,13 @@
+-- What is read is taken from the front of the rest; these proofs are here for speed.
+use Rattle.std.proofs.Common.{arith}
+use Rattle.std.proofs.lemmas.Grind.{common_steps}
+use Rattle.macsec_failing_io.proofs.reader.FailingReaderRead.read.Goals as goal
+
+pub returns-clause-bound : goal.returns-clause-bound
+returns-clause-bound c = grind (arith, common_steps)
+
+pub returns-clause-bytes : goal.returns-clause-bytes
+returns-clause-bytes c = grind (arith, common_steps)
+
+pub returns-clause-fails : goal.returns-clause-fails
+returns-clause-fails c = grind (arith, common_steps)

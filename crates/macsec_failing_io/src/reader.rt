@@ -1,0 +1,81 @@
+//! A reader that fails.
+
+ghost use Rattle.std.specs.Prelude.{◌≡◌, Some, false, is_err, length};
+ghost use Rattle.std.specs.Io.KnownBytes.{ReadConsumes};
+ghost use Rattle.std.specs.Io.{ReadsAtMost};
+ghost use Rattle.macsec_failing_io.specs.Calls.{fails_at};
+
+use crate::Fails;
+use std::io::{self, Read};
+
+/// A reader over octets that gives at most so many a call, and one at least. A call that fails does so as one that was
+/// interrupted, and takes nothing. It counts its calls, and those after it failed or had no octets left.
+#[derive(Drop)]
+pub struct FailingReader<'a> {
+    rest: &'a [u8],
+    piece: usize,
+    fails: Fails,
+    calls: usize,
+    has_ended: bool,
+    calls_after: usize,
+}
+
+impl<'a> FailingReader<'a> {
+    /// A reader over these octets, in pieces of this length at most.
+    pub fn new(octets: &'a [u8], piece: usize, fails: Fails) -> FailingReader<'a>
+        ensures rest { result.rest.now ≡ octets.now }
+        ensures piece { result.piece ≡ piece }
+        ensures fails { result.fails ≡ fails }
+        ensures calls { result.calls ≡ 0 }
+        ensures has_ended { result.has_ended ≡ false }
+        ensures calls_after { result.calls_after ≡ 0 }
+    {
+        FailingReader {
+            rest: octets,
+            piece,
+            fails,
+            calls: 0,
+            has_ended: false,
+            calls_after: 0,
+        }
+    }
+
+    /// How often it was called.
+    pub fn calls(&self) -> usize
+        ensures { result ≡ self.now.calls }
+    {
+        self.calls
+    }
+
+    /// How often it was called after it failed or gave nothing.
+    pub fn calls_after(&self) -> usize
+        ensures { result ≡ self.now.calls_after }
+    {
+        self.calls_after
+    }
+}
+
+impl Read for FailingReader<'_> {
+    ghost remaining = { λ reader. Some reader.rest.now };
+
+    fn read(&mut self, buf: &mut [u8]) -> io::Result<usize>
+        ensures bound { ReadsAtMost result buf.new }
+        ensures bytes { ReadConsumes (Some self.old.rest.now) (Some self.new.rest.now) result buf.new }
+        ensures fails { is_err result ≡ fails_at self.old.fails self.old.calls }
+    {
+        if self.has_ended {
+            self.calls_after = self.calls_after.saturating_add(1);
+        }
+        let call = self.calls;
+        self.calls = call.saturating_add(1);
+        if self.fails.fails_at(call) {
+            self.has_ended = true;
+            return Err(io::Error::from(io::ErrorKind::Interrupted));
+        }
+        let count = self.rest.len().min(buf.len()).min(self.piece.max(1));
+        buf[..count].copy_from_slice(&self.rest[..count]);
+        self.rest = &self.rest[count..];
+        self.has_ended |= count == 0;
+        Ok(count)
+    }
+}

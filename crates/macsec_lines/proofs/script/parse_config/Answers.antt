@@ -1,5 +1,0 @@
--- By this alone: on a mutant the prover tries nothing else.
-use Rattle.macsec_lines.proofs.script.parse_config.Goals as goal
-
-pub returns : goal.returns
-returns c = c.parse_text.ensures

@@ -1,7 +1,0 @@
--- The octet is the first of the one octet that is read.
-use Rattle.std.proofs.Common.{◌∙◌, ap, sym}
-use Rattle.macsec_lines.specs.Fields.{as_octet, map_ok}
-use Rattle.macsec_lines.proofs.words.octet.Goals as goal
-
-pub returns : goal.returns
-returns c = ap (map_ok as_octet) (sym c.in_ok-octets.was ∙ c.fixed_octets.ensures)

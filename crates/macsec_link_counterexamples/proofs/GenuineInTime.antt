@@ -1,0 +1,164 @@
+-- What was sealed and comes in time is genuine where an end opens it: so the premise of the laws on origin and order, that
+-- no tag is forged, holds of each frame that the law on acceptance speaks of, at both ends, padded or not.
+use Rattle.std.proofs.Common.{◌≡◌, inl, inr, ℕ, zero, suc, ◌<◌, List, [], ◌∷◌, ◌++◌, length, take, refl, ap, sym, subst, ◌∙◌, arith, Contains}
+use Rattle.std.specs.Prelude.{slice_get, Some, None, IfSome}
+use Rattle.std.proofs.lemmas.List.Elements.{Contains-append_left}
+use Rattle.macsec_tag.specs.Frame.{MpduParts, in_a_row}
+use Rattle.macsec_tag.specs.Table.{reading}
+use Rattle.macsec_suite.specs.KeyRows.{InstalledKey, the_key}
+use Rattle.macsec_suite.specs.CipherUses.{CipherUse}
+use Rattle.macsec_tx.specs.declared.TxRow.{TxRow}
+use Rattle.macsec_tx.specs.Transmit.{parts_sent}
+use Rattle.macsec_rx.specs.declared.RxRow.{RxRow}
+use Rattle.macsec_rx.specs.declared.Verdict.TheVariants.{Passed}
+use Rattle.macsec_rx.specs.Judge.{Judgement, at_row}
+use Rattle.macsec_commands.specs.declared.config.EndConfig.{EndConfig}
+use Rattle.macsec_secy.specs.Accepts.{CanAccept}
+use Rattle.macsec_secy.specs.Sound as endpoint
+use Rattle.macsec_secy.specs.State.{State, tx_options}
+use Rattle.macsec_secy.specs.Step.{frame_fault, sending_of}
+use Rattle.macsec_commands.specs.declared.event.End.{End}
+use Rattle.macsec_commands.specs.declared.event.Event.{Event}
+use Rattle.macsec_commands.specs.declared.event.Event.TheVariants.{Deliver, Send}
+use Rattle.macsec_link.specs.Acceptance.{IsOnLink}
+use Rattle.macsec_link.specs.Faults.{fault_of}
+use Rattle.macsec_link.specs.Genuine.{IsGenuineAt, use_opened, use_opened_in}
+use Rattle.macsec_link.specs.Sound.{IsSound}
+use Rattle.macsec_link.specs.Step.{world_after, world_at, world_step}
+use Rattle.macsec_link.specs.Trace.{Trace, added_unless_fault, new_seals, new_trace, seals_by, use_sealed_by, trace_after, trace_of, trace_step}
+use Rattle.macsec_link.specs.World.{WorldState, end_of, frame_at, new_world, other_end}
+use Rattle.macsec_link.proofs.Accepted.{LawOfStep, StandsWith, stands_with}
+use Rattle.macsec_link.proofs.EndpointLaws.{EndpointLaws}
+use Rattle.macsec_link.proofs.LinkFrames.{finds}
+use Rattle.macsec_link.proofs.Members.{IsMember, contained}
+use Rattle.macsec_link.specs.Beginnings.{AreSound}
+use Rattle.macsec_link.proofs.Moments.{world_of_trace}
+use Rattle.macsec_link.proofs.Seals.{fits, sound_end}
+use Rattle.macsec_link_counterexamples.proofs.SentStands.{stands_on_link, stays_on_link}
+
+-- ---- what is opened of a frame that can be accepted
+
+module _ (law_of_step : LawOfStep) (laws : EndpointLaws) (w : WorldState) (e : End) (n : ℕ) (sender : State) (client : List ℕ) (tx : TxRow) (rx : RxRow)
+    (sound : IsSound w) (sender_sound : endpoint.IsSound sender) (good : frame_fault client ≡ None) (by : (sending_of sender client).by ≡ Some tx)
+    (can : CanAccept sender (end_of w e).state tx rx (parts_sent (tx_options sender) (the_key sender.keys tx.key) tx client))
+    (on_link : IsOnLink w n (parts_sent (tx_options sender) (the_key sender.keys tx.key) tx client)) where
+  abbrev s : State
+  s = (end_of w e).state
+
+  abbrev key : InstalledKey
+  key = the_key sender.keys tx.key
+
+  abbrev p : MpduParts
+  p = parts_sent (tx_options sender) key tx client
+
+  at : StandsWith w n p
+  at = stands_with w n p sound (laws.protects sender client tx sender_sound good by).read.is_tagged.lengths on_link
+
+  frame_is : in_a_row p ++ at.behind ≡ frame_at w n
+  frame_is = (finds w n (in_a_row p ++ at.behind) sound at.there).found
+
+  -- it is what was sealed of it
+  pub opened_in_time : use_opened s (frame_at w n) ≡ Some (use_sealed_by sender client tx)
+  opened_in_time =
+      let it = law_of_step sender s client tx rx at.behind sender_sound (sound_end w sound e) good by can at.may in
+      subst (λ (f : List ℕ). use_opened s f ≡ Some (use_sealed_by sender client tx)) frame_is
+      (ap (λ (j : Judgement). use_opened_in s j j.row (reading (in_a_row p ++ at.behind))) it.judged
+      ∙ ap (use_opened_in s (at_row rx tx.next 13 Passed (Some client)) (Some rx)) it.reads ∙ ap Some it.opens)
+
+-- ---- what was sealed stays, and what was sent stands on the link
+
+seals_stay : (t : Trace) (events : List Event) (u : CipherUse) → Contains t.seals u → Contains (trace_after t events).seals u
+seals_stay t [] u there = there
+seals_stay t (event ∷ events) u there =
+    let added = added_unless_fault (fault_of t.world event) (new_seals t.world event) in
+    seals_stay (trace_step t event) events u (Contains-append_left t.seals added u there)
+
+last_member : {X : Type 0} (xs : List X) (x : X) → IsMember (xs ++ x ∷ []) x
+last_member [] x = inl refl
+last_member (y ∷ xs) x = inr (last_member xs x)
+
+-- a client frame that an end sends, without fault, by this association
+record IsSentBy (w : WorldState) (e : End) (client : List ℕ) (tx : TxRow) : Type 0 where
+  none : fault_of w (Send e client) ≡ None
+  by : (sending_of (end_of w e).state client).by ≡ Some tx
+
+abbrev sealed_at : WorldState → End → List ℕ → TxRow → CipherUse
+sealed_at w e client tx = use_sealed_by (end_of w e).state client tx
+
+sealed_now : (t : Trace) (e : End) (client : List ℕ) (tx : TxRow) → IsSentBy t.world e client tx → Contains (trace_step t (Send e client)).seals (sealed_at t.world e client tx)
+sealed_now t e client tx sent =
+    let new : added_unless_fault (fault_of t.world (Send e client)) (new_seals t.world (Send e client)) ≡ sealed_at t.world e client tx ∷ [] =
+    ap (λ f. added_unless_fault f (new_seals t.world (Send e client))) sent.none ∙ ap (seals_by (end_of t.world e).state client) sent.by in
+    subst (λ (us : List CipherUse). Contains (t.seals ++ us) (sealed_at t.world e client tx)) (sym new)
+    (contained (t.seals ++ sealed_at t.world e client tx ∷ []) (sealed_at t.world e client tx) (last_member t.seals (sealed_at t.world e client tx)))
+
+sealed_later : (t : Trace) (events : List Event) (k m : ℕ) (e : End) (client : List ℕ) (tx : TxRow) (before : WorldState) → slice_get events k ≡ Some (Send e client) →
+    (trace_after t (take k events)).world ≡ before → IsSentBy before e client tx → k < m → Contains (trace_after t (take m events)).seals (sealed_at before e client tx)
+sealed_later t events k zero e client tx before found is sent less = absurd (omega (arith, less))
+sealed_later t [] zero (suc m) e client tx before found is sent less = cc
+sealed_later t [] (suc k) (suc m) e client tx before found is sent less = cc
+sealed_later t (event ∷ events) zero (suc m) e client tx before found is sent less =
+    let it : event ≡ Send e client = cc in
+    seals_stay (trace_step t event) (take m events) (sealed_at before e client tx)
+    (subst (λ (x : Event). Contains (trace_step t x).seals (sealed_at before e client tx)) (sym it)
+    (subst (λ (w : WorldState). Contains (trace_step t (Send e client)).seals (sealed_at w e client tx)) is
+    (sealed_now t e client tx (subst (λ (w : WorldState). IsSentBy w e client tx) (sym is) sent))))
+sealed_later t (event ∷ events) (suc k) (suc m) e client tx before found is sent less =
+    sealed_later (trace_step t event) events k m e client tx before found is sent (omega (arith, less))
+
+abbrev frame_sent : WorldState → End → List ℕ → TxRow → MpduParts
+frame_sent w e client tx = parts_sent (tx_options (end_of w e).state) (the_key (end_of w e).state.keys tx.key) tx client
+
+stands_later : (w : WorldState) (events : List Event) (k m : ℕ) (e : End) (client : List ℕ) (tx : TxRow) (before : WorldState) → slice_get events k ≡ Some (Send e client) →
+    world_after w (take k events) ≡ before → IsSentBy before e client tx → k < m →
+    slice_get (world_after w (take m events)).frames (length before.frames) ≡ Some (in_a_row (frame_sent before e client tx))
+stands_later w events k zero e client tx before found is sent less = absurd (omega (arith, less))
+stands_later w [] zero (suc m) e client tx before found is sent less = cc
+stands_later w [] (suc k) (suc m) e client tx before found is sent less = cc
+stands_later w (event ∷ events) zero (suc m) e client tx before found is sent less =
+    let it : event ≡ Send e client = cc in
+    let n = length before.frames in
+    let frame = in_a_row (frame_sent before e client tx) in
+    subst (λ (x : Event). slice_get (world_after (world_step w x).1 (take m events)).frames n ≡ Some frame) (sym it)
+    (subst (λ (v : WorldState). slice_get (world_after (world_step v (Send e client)).1 (take m events)).frames n ≡ Some frame) (sym is)
+    (stays_on_link (world_step before (Send e client)).1 (take m events) n frame
+    (stands_on_link before e client tx sent.none (fits before e client sent.none) sent.by)))
+stands_later w (event ∷ events) (suc k) (suc m) e client tx before found is sent less =
+    stands_later (world_step w event).1 events k m e client tx before found is sent (omega (arith, less))
+
+-- ---- the law
+
+-- event k sends a client frame protected, by this association of the end
+pub record Protects (a b : EndConfig) (events : List Event) (k : ℕ) (e : End) (client : List ℕ) (tx : TxRow) : Type 0 where
+  pub sends : slice_get events k ≡ Some (Send e client)
+  pub none : fault_of (world_at a b events k) (Send e client) ≡ None
+  pub by : (sending_of (end_of (world_at a b events k) e).state client).by ≡ Some tx
+
+-- what event k sends protected is genuine at each later moment at which the other end can accept it: whichever number the
+-- link frame has, and also if it is padded
+abbrev pub IsGenuineInTime : EndConfig → EndConfig → List Event → Type 0
+IsGenuineInTime a b events = (e : End) (k m n : ℕ) (client : List ℕ) (tx : TxRow) (rx : RxRow) →
+    let before = world_at a b events k in
+    let w = world_at a b events m in
+    Protects a b events k (other_end e) client tx → k < m →
+    CanAccept (end_of before (other_end e)).state (end_of w e).state tx rx (frame_sent before (other_end e) client tx) →
+    IsOnLink w n (frame_sent before (other_end e) client tx) → IsGenuineAt (trace_of a b (take m events)) (Deliver e n)
+
+pub genuine_in_time : LawOfStep → EndpointLaws → (a b : EndConfig) (events : List Event) → AreSound a b events → IsGenuineInTime a b events
+genuine_in_time law_of_step laws a b events sounds e k m n client tx rx sends less can on_link =
+    let before : WorldState = world_at a b events k in
+    let w : WorldState = world_at a b events m in
+    let seals : List CipherUse = (trace_of a b (take m events)).seals in
+    let sealed : Contains seals (sealed_at before (other_end e) client tx) =
+    sealed_later (new_trace a b) events k m (other_end e) client tx before sends.sends (world_of_trace (new_trace a b) (take k events))
+    (record { none = sends.none; by = sends.by }) less in
+    let opened = opened_in_time law_of_step laws w e n (end_of before (other_end e)).state client tx rx (sounds m) (sound_end before (sounds k) (other_end e))
+    (fits before (other_end e) client sends.none) sends.by can on_link in
+    subst (λ (v : WorldState). IfSome (use_opened (end_of v e).state (frame_at v n)) (Contains seals)) (sym (world_of_trace (new_trace a b) (take m events)))
+    (subst (λ o. IfSome o (Contains seals)) (sym opened) sealed)
+
+-- its link frame is there at each of these moments
+pub is_on_link : (a b : EndConfig) (events : List Event) (e : End) (k m : ℕ) (client : List ℕ) (tx : TxRow) → Protects a b events k e client tx → k < m →
+    IsOnLink (world_at a b events m) (length (world_at a b events k).frames) (frame_sent (world_at a b events k) e client tx)
+is_on_link a b events e k m client tx sends less =
+    inl (stands_later (new_world a b) events k m e client tx (world_at a b events k) sends.sends refl (record { none = sends.none; by = sends.by }) less)

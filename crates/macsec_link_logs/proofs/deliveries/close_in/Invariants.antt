@@ -1,0 +1,13 @@
+use Rattle.std.proofs.Common.{◌≡◌, drop, length, map}
+use Rattle.macsec_rx.specs.Channels.{same_sci}
+use Rattle.macsec_link_logs.specs.Logs.{log_closing}
+use Rattle.macsec_link_logs.specs.Places.{logs_of}
+use Rattle.macsec_link_logs.proofs.LiveTable.{with_each}
+use Rattle.macsec_link_logs.proofs.deliveries.close_in.Given as goal
+
+-- once the logs at the places that are left are closed where that holds, all are
+abbrev pub invariant-loop-place : goal.invariant-loop-place
+invariant-loop-place l =
+    let change = log_closing (λ log. same_sci log.sci l.sci) in
+    (with_each change (drop l.place-index l.live) (logs_of l.logs.items) ≡ map change (logs_of l.initial.logs.items)) ×
+    (length l.logs.items ≡ length l.initial.logs.items)

@@ -1,0 +1,10 @@
+use Rattle.std.proofs.Common.{◌≡◌, All, length, take}
+use Rattle.macsec_link_logs.specs.Places.{HasPlaceAt, logs_of}
+use Rattle.macsec_link_logs.proofs.deliveries.reserve_live.Given as goal
+
+-- no log has other frames, there are as many logs, and each at a place before the index has room for a frame
+abbrev pub invariant-loop-place : goal.invariant-loop-place
+invariant-loop-place l =
+    (logs_of l.logs.items ≡ logs_of l.initial.logs.items) ×
+    (length l.logs.items ≡ length l.initial.logs.items) ×
+    All (HasPlaceAt l.logs.items) (take l.place-index l.live)

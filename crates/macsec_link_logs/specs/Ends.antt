@@ -1,0 +1,25 @@
+-- An end: an endpoint with the logs of what its clients sent and of what was delivered.
+use Rattle.std.specs.Prelude.{List, []}
+use Rattle.macsec_commands.specs.declared.config.EndConfig.{EndConfig}
+use Rattle.macsec_secy.specs.State.{State, start}
+use Rattle.macsec_secy.specs.Step.{Input, Output}
+use Rattle.macsec_link_logs.specs.Logs.{SentLogs, DeliveryLog, sent_after, delivered_after}
+
+-- an endpoint; what its clients sent; and what was delivered, by the accepted commands that create a receive
+-- association, in their order
+pub record EndState : Type 0 where
+  pub state : State
+  pub sent : SentLogs
+  pub delivered : List DeliveryLog
+
+-- a new end: nothing was sent at it or delivered yet
+abbrev pub new_end : EndConfig → EndState
+new_end config = record { state = start config; sent = []; delivered = [] }
+
+-- an end after an input, by the endpoint's output and its state
+abbrev pub end_after : EndState → Input → Output × State → EndState
+end_after e input answer = record {
+  state = answer.1;
+  sent = sent_after input answer.0 e.sent;
+  delivered = delivered_after input answer.0 e.delivered;
+}

@@ -1,0 +1,41 @@
+-- The octets of frames that are kept, and the places for more of them in the logs of what is sent.
+use Rattle.std.specs.Prelude.{◌==◌, ◌<◌, ◌≤◌, ℕ, List, [], ◌∷◌, map, if◌then◌else◌, IfSome}
+use Rattle.std.specs.Global.{Vec}
+use Rattle.macsec_tx.specs.declared.TxRow.{TxRow}
+use Rattle.macsec_tx.specs.Transmit.{tx_row}
+use Rattle.macsec_link_logs.specs.Logs.{SentLog, SentLogs}
+
+-- the octets of each frame
+abbrev pub frames_kept : List (Vec ℕ) → List (List ℕ)
+frames_kept frames = map (λ f. f.items) frames
+
+-- a log, and for how many more frames it has places
+pub record KeptSentLog : Type 0 where
+  pub log : SentLog
+  pub spare : ℕ
+
+-- the logs, and for how many frames a new one has places
+pub record KeptSentLogs : Type 0 where
+  pub logs : List KeptSentLog
+  pub spare : ℕ
+
+-- the log alone
+abbrev pub sent_log_of : KeptSentLog → SentLog
+sent_log_of k = k.log
+
+-- the logs alone, in their order
+abbrev pub sent_logs_of : KeptSentLogs → SentLogs
+sent_logs_of kept = map sent_log_of kept.logs
+
+-- for how many more frames under the key of this number there are places: in its log, or else in a new one
+abbrev pub spare_under : List KeptSentLog → ℕ → ℕ → ℕ
+spare_under [] spare key = spare
+spare_under (k ∷ logs) spare key = if k.log.key == key then k.spare else spare_under logs spare key
+
+-- there is a place for one more frame under the key of this number
+abbrev pub HasPlace : KeptSentLogs → ℕ → Type 0
+HasPlace kept key = 1 ≤ spare_under kept.logs kept.spare key
+
+-- there is a place for one more frame under the key of each transmit association
+abbrev pub HavePlaces : List TxRow → KeptSentLogs → Type 0
+HavePlaces rows kept = (an : ℕ) → an < 4 → IfSome (tx_row rows an) (λ row. HasPlace kept row.key)

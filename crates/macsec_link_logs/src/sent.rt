@@ -1,0 +1,171 @@
+//! What an end's clients sent under each key.
+
+ghost use Rattle.std.specs.Prelude.{◌≡◌, ◌<◌, ◌≤◌, ◌==◌, ℕ, [], OnOk, option_map, position};
+ghost use Rattle.macsec_tx.specs.Transmit.{tx_row};
+ghost use Rattle.macsec_link_logs.specs.Kept.{HasPlace, HavePlaces, frames_kept, sent_logs_of};
+ghost use Rattle.macsec_link_logs.specs.Logs.{log_sending, logs_sending, sent_under};
+
+use macsec_secy::{An, Secy};
+use std::alloc::{AllocError, Global};
+use std::marker::Model;
+use std::mem;
+
+/// The association numbers of a transmit channel.
+const AN_COUNT: u8 = 4;
+
+/// What was sent under a key: the key's number, and the frames.
+#[derive(Drop)]
+struct SentFrames {
+    key: u16,
+    frames: Vec<Vec<u8>>,
+}
+
+impl Model for SentFrames {
+    ghost use Rattle.std.specs.Prelude.{◌-◌, vec_capacity, vec_len};
+    ghost use Rattle.macsec_link_logs.specs.Kept.{KeptSentLog, frames_kept};
+
+    ghost Value = { KeptSentLog };
+
+    ghost view = { λ s. record {
+      log = record { key = s.key; frames = frames_kept s.frames.items };
+      spare = vec_capacity s.frames - vec_len s.frames;
+    } };
+}
+
+impl SentFrames {
+    /// The frames, in their order.
+    fn frames(&self) -> &[Vec<u8>]
+        ensures { frames_kept result.now ≡ self.now.log.frames }
+    {
+        self.frames.as_slice()
+    }
+
+    /// Were they sent under the key of this number?
+    fn is_under(&self, key: u16) -> bool
+        ensures { result ≡ (self.now.log.key == key) }
+    {
+        self.key == key
+    }
+
+    /// Makes a place for one more frame.
+    fn reserve_place(&mut self) -> Result<(), AllocError>
+        ensures same { self.new.log ≡ self.old.log }
+        ensures kept { self.old.spare ≤ self.new.spare }
+        ensures place { OnOk result (1 ≤ self.new.spare) }
+    {
+        self.frames.reserve(1)
+    }
+
+    /// Puts a frame into a place that it has.
+    fn push(&mut self, frame: Vec<u8>)
+        requires place { 1 ≤ self.old.spare }
+        ensures { self.new.log ≡ log_sending frame.items self.old.log }
+    {
+        self.frames.push(frame).unwrap();
+    }
+}
+
+/// The place of the log of the key of this number, where there is one.
+fn place_of(logs: &[SentFrames], key: u16) -> Option<usize>
+    ensures { result ≡ position (λ k. k.log.key == key) logs.now }
+{
+    logs.iter().position(|log| log.is_under(key))
+}
+
+/// The number of the key of the transmit association of this number, where there is one.
+fn tx_key(secy: &Secy, number: u8) -> Option<u16>
+    requires there { number < 4 }
+    ensures { result ≡ option_map (λ row. row.key) (tx_row secy.now.tx number) }
+{
+    let an = An::new(number)?;
+    let row = secy.tx_row(an)?;
+    Some(row.key.number())
+}
+
+/// A log for each key under which a frame was sent, in the order of first use; and the place of the first frame of the
+/// log that comes next.
+#[derive(Drop)]
+pub(crate) struct SentLogs {
+    logs: Vec<SentFrames>,
+    next: Vec<Vec<u8>>,
+}
+
+impl Model for SentLogs {
+    ghost use Rattle.std.specs.Prelude.{◌≡◌, ◌-◌, [], min, vec_capacity, vec_len};
+    ghost use Rattle.macsec_link_logs.specs.Kept.{KeptSentLogs};
+
+    ghost Value = { KeptSentLogs };
+
+    ghost view = { λ s. record {
+      logs = s.logs.items;
+      spare = min (vec_capacity s.logs - vec_len s.logs) (vec_capacity s.next - vec_len s.next);
+    } };
+
+    // No frame is in the next log yet.
+    ghost invariant = { λ s. s.next.items ≡ [] };
+}
+
+impl SentLogs {
+    /// Nothing was sent.
+    pub(crate) fn new(alloc: Global) -> SentLogs
+        ensures { sent_logs_of result ≡ [] }
+    {
+        SentLogs {
+            logs: Vec::new(alloc),
+            next: Vec::new(alloc),
+        }
+    }
+
+    /// The frames under the key of this number, in their order.
+    pub(crate) fn frames(&self, key: u16) -> &[Vec<u8>]
+        ensures { frames_kept result.now ≡ sent_under (sent_logs_of self.now) key }
+    {
+        match place_of(self.logs.as_slice(), key) {
+            Some(place) => self.logs[place].frames(),
+            None => &[],
+        }
+    }
+
+    /// Makes a place for one more frame under this key: in its log, or, if there is none, in a new one.
+    fn reserve_under(&mut self, key: u16) -> Result<(), AllocError>
+        ensures same { sent_logs_of self.new ≡ sent_logs_of self.old }
+        ensures place { OnOk result (HasPlace self.new key) }
+        ensures others { (k : ℕ) → HasPlace self.old k → HasPlace self.new k }
+    {
+        match place_of(self.logs.as_slice(), key) {
+            Some(place) => self.logs[place].reserve_place(),
+            None => {
+                self.logs.reserve(1)?;
+                self.next.reserve(1)
+            }
+        }
+    }
+
+    /// Makes a place for one more frame under the key of each transmit association.
+    pub(crate) fn reserve_places(&mut self, secy: &Secy) -> Result<(), AllocError>
+        ensures same { sent_logs_of self.new ≡ sent_logs_of self.old }
+        ensures places { OnOk result (HavePlaces secy.now.tx self.new) }
+    {
+        for number in 0..AN_COUNT {
+            if let Some(key) = tx_key(secy, number) {
+                self.reserve_under(key)?;
+            }
+        }
+        Ok(())
+    }
+
+    /// Puts a frame under this key into a place that there is.
+    pub(crate) fn push(&mut self, alloc: Global, key: u16, frame: Vec<u8>)
+        requires place { HasPlace self.old key }
+        ensures { sent_logs_of self.new ≡ logs_sending key frame.items (sent_logs_of self.old) }
+    {
+        match place_of(self.logs.as_slice(), key) {
+            Some(place) => self.logs[place].push(frame),
+            None => {
+                let mut frames = mem::replace(&mut self.next, Vec::new(alloc));
+                frames.push(frame).unwrap();
+                self.logs.push(SentFrames { key, frames }).unwrap();
+            }
+        }
+    }
+}

@@ -1,6 +1,0 @@
--- By search alone: without this proof the prover tries other tactics on a mutant, which takes longer.
-use Rattle.std.proofs.Common.{rules}
-use Rattle.macsec_print.proofs.counters.write_association.Goals as goal
-
-pub returns-in-Some : goal.returns-in-Some
-returns-in-Some g c = search rules

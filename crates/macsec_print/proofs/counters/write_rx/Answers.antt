@@ -1,9 +1,0 @@
-use Rattle.std.proofs.Common.{arith}
-use Rattle.macsec_print.specs.Counters.{rx_counter_text}
-use Rattle.macsec_print.proofs.Pieces.{one_more_seen}
-use Rattle.macsec_print.proofs.counters.write_rx.Goals as goal
-
-pub loop-name-preserved : goal.loop-name-preserved
-loop-name-preserved g c =
-    one_more_seen (λ c. (c.0.now, c.1)) (rx_counter_text c.args.label c.args.sci)
-    c.args.counters.now c.loop-name.name-index _ _ _ _ (omega arith) c.loop-name.invariant c.in_ok-write_rx_counter.ensures

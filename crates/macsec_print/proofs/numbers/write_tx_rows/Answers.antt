@@ -1,8 +1,0 @@
-use Rattle.std.proofs.Common.{arith}
-use Rattle.macsec_print.proofs.Pieces.{one_more_piece}
-use Rattle.macsec_print.proofs.numbers.write_tx_rows.Goals as goal
-
-pub loop-an-preserved : goal.loop-an-preserved
-loop-an-preserved g c =
-    let line = rw c.tx_row.ensures at c.in_ok-write_tx_row.ensures in
-    one_more_piece _ c.association_numbers-an-items.result c.loop-an.an-index c.an-item.result _ _ _ (omega arith) c.loop-an.invariant line

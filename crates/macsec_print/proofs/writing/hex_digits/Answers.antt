@@ -1,5 +1,0 @@
--- By the octets that were written; this proof is here for speed.
-use Rattle.macsec_print.proofs.writing.hex_digits.Goals as goal
-
-pub returns : goal.returns
-returns c = rw c.unwrap.ensures at c.encode_to_slice.ensures.written

@@ -1,0 +1,33 @@
+-- Keywords that there are not.
+use Rattle.std.proofs.Common.{◌≡◌, ℕ, List, [], ◌++◌, Bool, true, ap, sym, subst, ◌∙◌}
+use Rattle.std.specs.Prelude.{bytes_eq, Result, Ok, Err}
+use Rattle.std.proofs.lemmas.Slice.Eq.{bytes_eq-Decides}
+use Rattle.std.proofs.lemmas.List.Elements.{filter-append}
+use Rattle.macsec_script_parser.specs.declared.lines.Line.{Line}
+use Rattle.macsec_script_parser.specs.declared.lines.LineFault.{LineFault}
+use Rattle.macsec_script_parser.specs.declared.lines.LineFault.TheVariants.{Word, Count, Hex, Number, Ends, LineLong, Memory}
+use Rattle.macsec_script_parser.specs.Kinds.{Kind, kinds_of, read_as, read_line}
+use Rattle.macsec_script_parser.specs.Readings.{Reads}
+
+-- a keyword that three parts of a table have not
+pub none_of_three : (xs ys zs : List Kind) (keyword : List ℕ) (words : List (List ℕ)) → kinds_of xs keyword ≡ [] → kinds_of ys keyword ≡ [] →
+    kinds_of zs keyword ≡ [] → read_line (xs ++ (ys ++ zs)) keyword words ≡ Err Word
+none_of_three xs ys zs keyword words p q r =
+    ap (λ kinds. read_as kinds words)
+    (filter-append (λ kind. bytes_eq kind.keyword keyword) xs (ys ++ zs) ∙ ap (λ l. l ++ kinds_of (ys ++ zs) keyword) p
+    ∙ filter-append (λ kind. bytes_eq kind.keyword keyword) ys zs ∙ ap (λ l. l ++ kinds_of zs keyword) q ∙ r)
+
+-- what holds of a word's letters holds of a keyword that is that word
+pub at_word : (P : List ℕ → Type 0) (keyword letters : List ℕ) (test : Bool) → test ≡ bytes_eq letters keyword → test ≡ true → P letters → P keyword
+at_word P keyword letters test is same of_letters = subst P ((bytes_eq-Decides letters keyword).0 (sym is ∙ same)) of_letters
+
+-- what reading returns without a need of memory
+pub reads_itself : (meant line : Result Line LineFault) → line ≡ meant → Reads meant line
+reads_itself meant (Ok x) same = sym same
+reads_itself meant (Err Memory) same = tt
+reads_itself meant (Err Word) same = sym same
+reads_itself meant (Err Count) same = sym same
+reads_itself meant (Err Hex) same = sym same
+reads_itself meant (Err Number) same = sym same
+reads_itself meant (Err Ends) same = sym same
+reads_itself meant (Err LineLong) same = sym same

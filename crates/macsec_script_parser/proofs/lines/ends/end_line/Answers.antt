@@ -1,0 +1,14 @@
+-- By the keyword: the line is that of its kind in the table, and with another keyword none of these.
+use Rattle.std.proofs.Common.{◌≡◌, map, sym, ◌∙◌}
+use Rattle.std.specs.Prelude.{codes}
+use Rattle.macsec_script_parser.specs.Kinds.{kinds, read_line}
+use Rattle.macsec_script_parser.proofs.Keywords.{at_word}
+use Rattle.macsec_script_parser.proofs.lines.ends.end_line.Goals as goal
+
+pub returns-then-is_word-clause-some : goal.returns-then-is_word-clause-some
+returns-then-is_word-clause-some c =
+    at_word (λ k. c.configured_end.result ≡ read_line kinds k (map (λ w. w.now) c.args.words.now))
+    c.args.keyword.now (codes "end") _ c.is_word.ensures c.if-is_word.true c.configured_end.ensures
+
+pub returns-clause-none : goal.returns-clause-none
+returns-clause-none c = rw (sym c.is_word.ensures ∙ c.if-is_word.false)

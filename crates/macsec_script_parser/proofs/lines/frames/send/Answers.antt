@@ -1,0 +1,11 @@
+-- By these tactics alone: without these proofs the prover tries others before them, which takes longer, and on a
+-- mutant it tries all.
+use Rattle.std.proofs.Common.{arith}
+use Rattle.std.proofs.lemmas.Grind.{common_steps}
+use Rattle.macsec_script_parser.proofs.lines.frames.send.Goals as goal
+
+pub returns-in_err-frame : goal.returns-in_err-frame
+returns-in_err-frame c = grind (arith, common_steps)
+
+pub returns : goal.returns
+returns c = grind (arith, common_steps)

@@ -1,0 +1,14 @@
+-- By these tactics alone: without these proofs the prover tries others before them, which takes longer, and on a
+-- mutant it tries all.
+use Rattle.std.proofs.Common.{arith}
+use Rattle.std.proofs.lemmas.Grind.{common_steps}
+use Rattle.macsec_script_parser.proofs.lines.options.replay.Goals as goal
+
+pub returns-in_err-protect : goal.returns-in_err-protect
+returns-in_err-protect c = grind (arith, common_steps)
+
+pub returns-in_err-window : goal.returns-in_err-window
+returns-in_err-window c = grind (arith, common_steps)
+
+pub returns : goal.returns
+returns c = grind (arith, common_steps)

@@ -1,0 +1,20 @@
+-- By the keyword: each line is that of its kind in the table, and with another keyword none of these.
+use Rattle.std.proofs.Common.{◌≡◌, map, sym, ◌∙◌}
+use Rattle.std.specs.Prelude.{codes}
+use Rattle.macsec_script_parser.specs.Kinds.{kinds_at, read_line}
+use Rattle.macsec_script_parser.proofs.Keywords.{at_word}
+use Rattle.macsec_script_parser.proofs.lines.showing.show_line.Goals as goal
+
+pub returns-then-is_word-clause-some : goal.returns-then-is_word-clause-some
+returns-then-is_word-clause-some c =
+    at_word (λ k. c.counters.result ≡ read_line (kinds_at c.args.at) k (map (λ w. w.now) c.args.words.now))
+    c.args.keyword.now (codes "counters") _ c.is_word.ensures c.if-is_word.true c.counters.ensures
+
+pub returns-then-is_word-2-clause-some : goal.returns-then-is_word-2-clause-some
+returns-then-is_word-2-clause-some c =
+    at_word (λ k. c.numbers.result ≡ read_line (kinds_at c.args.at) k (map (λ w. w.now) c.args.words.now))
+    c.args.keyword.now (codes "numbers") _ c.is_word-2.ensures c.if-is_word-2.true c.numbers.ensures
+
+pub returns-clause-none : goal.returns-clause-none
+returns-clause-none c =
+    rw (sym c.is_word.ensures ∙ c.if-is_word.false, sym c.is_word-2.ensures ∙ c.if-is_word-2.false)

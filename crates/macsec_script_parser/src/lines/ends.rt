@@ -1,0 +1,43 @@
+//! The lines of the ends' configurations.
+
+ghost use Rattle.std.specs.Prelude.{◌≡◌, [], map, codes, IfSome, IfNone};
+ghost use Rattle.macsec_script_parser.specs.Kinds.{read_line, kinds_of, kinds, end_kinds};
+
+use crate::lines::{Line, LineFault};
+use crate::words;
+use crate::words::{decimal, is_word};
+use macsec_commands::{EndConfig, MAX_FRAME_LEN, MIN_MAX_FRAME};
+
+/// An end's configuration, from the words after `end`.
+fn configured_end(words: &[&[u8]]) -> Result<Line, LineFault>
+    ensures { result ≡ read_line kinds (codes "end") (map (λ w. w.now) words.now) }
+{
+    let [at, suite, sci, max_frame, form] = words else {
+        return Err(LineFault::Count);
+    };
+    let at = words::end(at)?;
+    let suite = words::suite(suite)?;
+    let sci = words::sci(sci)?;
+    let max_frame = decimal(MIN_MAX_FRAME as u64, MAX_FRAME_LEN as u64, max_frame)? as u32;
+    let form = words::tag_form(form)?;
+    Ok(Line::End(
+        at,
+        EndConfig {
+            suite,
+            sci,
+            max_frame,
+            form,
+        },
+    ))
+}
+
+/// A line of an end's configuration, from its keyword and the words after it; `None` if the keyword is none of those.
+pub fn end_line(keyword: &[u8], words: &[&[u8]]) -> Option<Result<Line, LineFault>>
+    ensures some { IfSome result (λ line. line ≡ read_line kinds keyword.now (map (λ w. w.now) words.now)) }
+    ensures none { IfNone result (kinds_of end_kinds keyword.now ≡ []) }
+{
+    if is_word(keyword, b"end") {
+        return Some(configured_end(words));
+    }
+    None
+}

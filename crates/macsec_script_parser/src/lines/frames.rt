@@ -1,0 +1,63 @@
+//! The lines of an end's frames.
+
+ghost use Rattle.std.specs.Prelude.{◌≡◌, [], map, codes, IfSome, IfNone};
+ghost use Rattle.macsec_script_parser.specs.Kinds.{read_line, kinds_at, kinds_of, frame_kinds};
+ghost use Rattle.macsec_script_parser.specs.Readings.{Reads};
+
+use crate::lines::{Line, LineFault};
+use crate::words;
+use crate::words::{frame_number, is_word};
+use macsec_commands::{End, Event};
+use std::alloc::Global;
+
+/// A client frame, from the words after `send`.
+fn send(alloc: Global, at: End, words: &[&[u8]]) -> Result<Line, LineFault>
+    ensures { Reads (read_line (kinds_at at) (codes "send") (map (λ w. w.now) words.now)) result }
+{
+    let [octets] = words else {
+        return Err(LineFault::Count);
+    };
+    Ok(Line::Event(Event::Send(at, words::frame(alloc, octets)?)))
+}
+
+/// A client frame at the uncontrolled port, from the words after `sendu`.
+fn send_uncontrolled(alloc: Global, at: End, words: &[&[u8]]) -> Result<Line, LineFault>
+    ensures { Reads (read_line (kinds_at at) (codes "sendu") (map (λ w. w.now) words.now)) result }
+{
+    let [octets] = words else {
+        return Err(LineFault::Count);
+    };
+    Ok(Line::Event(Event::SendUncontrolled(at, words::frame(alloc, octets)?)))
+}
+
+/// A link frame that arrives at the end, from the words after `deliver`.
+fn deliver(at: End, words: &[&[u8]]) -> Result<Line, LineFault>
+    ensures { result ≡ read_line (kinds_at at) (codes "deliver") (map (λ w. w.now) words.now) }
+{
+    let [n] = words else {
+        return Err(LineFault::Count);
+    };
+    Ok(Line::Event(Event::Deliver(at, frame_number(n)?)))
+}
+
+/// A line of a frame, from its keyword and the words after it; `None` if the keyword is none of those.
+pub fn frame_line(
+    alloc: Global,
+    at: End,
+    keyword: &[u8],
+    words: &[&[u8]],
+) -> Option<Result<Line, LineFault>>
+    ensures some { IfSome result (λ line. Reads (read_line (kinds_at at) keyword.now (map (λ w. w.now) words.now)) line) }
+    ensures none { IfNone result (kinds_of (frame_kinds at) keyword.now ≡ []) }
+{
+    if is_word(keyword, b"send") {
+        return Some(send(alloc, at, words));
+    }
+    if is_word(keyword, b"sendu") {
+        return Some(send_uncontrolled(alloc, at, words));
+    }
+    if is_word(keyword, b"deliver") {
+        return Some(deliver(at, words));
+    }
+    None
+}

@@ -1,0 +1,145 @@
+//! The lines of an end's receive channels and their associations.
+
+ghost use Rattle.std.specs.Prelude.{◌≡◌, [], map, codes, IfSome, IfNone};
+ghost use Rattle.macsec_script_parser.specs.Kinds.{read_line, kinds_at, kinds_of, channel_kinds, receive_kinds};
+
+use crate::lines::{Line, LineFault};
+use crate::words;
+use crate::words::{association, is_word, key_number};
+use macsec_commands::{Command, End, Event};
+
+/// The creation of a receive channel, from the words after `rxsc`.
+fn rx_sc(at: End, words: &[&[u8]]) -> Result<Line, LineFault>
+    ensures { result ≡ read_line (kinds_at at) (codes "rxsc") (map (λ w. w.now) words.now) }
+{
+    let [sci] = words else {
+        return Err(LineFault::Count);
+    };
+    Ok(Line::Event(Event::Command(at, Command::RxSc(words::sci(sci)?))))
+}
+
+/// The deletion of a receive channel, from the words after `rxscdel`.
+fn rx_sc_del(at: End, words: &[&[u8]]) -> Result<Line, LineFault>
+    ensures { result ≡ read_line (kinds_at at) (codes "rxscdel") (map (λ w. w.now) words.now) }
+{
+    let [sci] = words else {
+        return Err(LineFault::Count);
+    };
+    Ok(Line::Event(Event::Command(at, Command::RxScDel(words::sci(sci)?))))
+}
+
+/// The creation of a receive association, from the words after `rxsa`. The last one, the SSCI of its sender, can be
+/// left out and is zero then.
+fn rx_sa(at: End, words: &[&[u8]]) -> Result<Line, LineFault>
+    ensures { result ≡ read_line (kinds_at at) (codes "rxsa") (map (λ w. w.now) words.now) }
+{
+    let (sci, an, key, lowest, ssci) = match words {
+        [sci, an, key, lowest] => (sci, an, key, lowest, None),
+        [sci, an, key, lowest, ssci] => (sci, an, key, lowest, Some(ssci)),
+        _ => return Err(LineFault::Count),
+    };
+    let sci = words::sci(sci)?;
+    let an = association(an)?;
+    let key = key_number(key)?;
+    let lowest = words::packet_number(lowest)?;
+    let ssci = match ssci {
+        Some(ssci) => words::ssci(ssci)?,
+        None => 0,
+    };
+    Ok(Line::Event(Event::Command(
+        at,
+        Command::RxSa {
+            sci,
+            an,
+            key,
+            ssci,
+            lowest,
+        },
+    )))
+}
+
+/// The enabling of a receive association, from the words after `rxon`.
+fn rx_on(at: End, words: &[&[u8]]) -> Result<Line, LineFault>
+    ensures { result ≡ read_line (kinds_at at) (codes "rxon") (map (λ w. w.now) words.now) }
+{
+    let [sci, an] = words else {
+        return Err(LineFault::Count);
+    };
+    let sci = words::sci(sci)?;
+    let an = association(an)?;
+    Ok(Line::Event(Event::Command(at, Command::RxOn(sci, an))))
+}
+
+/// The disabling of a receive association, from the words after `rxoff`.
+fn rx_off(at: End, words: &[&[u8]]) -> Result<Line, LineFault>
+    ensures { result ≡ read_line (kinds_at at) (codes "rxoff") (map (λ w. w.now) words.now) }
+{
+    let [sci, an] = words else {
+        return Err(LineFault::Count);
+    };
+    let sci = words::sci(sci)?;
+    let an = association(an)?;
+    Ok(Line::Event(Event::Command(at, Command::RxOff(sci, an))))
+}
+
+/// The lowest acceptable packet number of a receive association, from the words after `rxlow`.
+fn rx_low(at: End, words: &[&[u8]]) -> Result<Line, LineFault>
+    ensures { result ≡ read_line (kinds_at at) (codes "rxlow") (map (λ w. w.now) words.now) }
+{
+    let [sci, an, pn] = words else {
+        return Err(LineFault::Count);
+    };
+    let sci = words::sci(sci)?;
+    let an = association(an)?;
+    let pn = words::packet_number(pn)?;
+    Ok(Line::Event(Event::Command(at, Command::RxLow { sci, an, pn })))
+}
+
+/// The deletion of a receive association, from the words after `rxdel`.
+fn rx_del(at: End, words: &[&[u8]]) -> Result<Line, LineFault>
+    ensures { result ≡ read_line (kinds_at at) (codes "rxdel") (map (λ w. w.now) words.now) }
+{
+    let [sci, an] = words else {
+        return Err(LineFault::Count);
+    };
+    let sci = words::sci(sci)?;
+    let an = association(an)?;
+    Ok(Line::Event(Event::Command(at, Command::RxDel(sci, an))))
+}
+
+/// A line of a receive channel, from its keyword and the words after it; `None` if the keyword is none of those.
+pub fn channel_line(at: End, keyword: &[u8], words: &[&[u8]]) -> Option<Result<Line, LineFault>>
+    ensures some { IfSome result (λ line. line ≡ read_line (kinds_at at) keyword.now (map (λ w. w.now) words.now)) }
+    ensures none { IfNone result (kinds_of (channel_kinds at) keyword.now ≡ []) }
+{
+    if is_word(keyword, b"rxsc") {
+        return Some(rx_sc(at, words));
+    }
+    if is_word(keyword, b"rxscdel") {
+        return Some(rx_sc_del(at, words));
+    }
+    None
+}
+
+/// A line of a receive association, from its keyword and the words after it; `None` if the keyword is none of those.
+pub fn receive_line(at: End, keyword: &[u8], words: &[&[u8]]) -> Option<Result<Line, LineFault>>
+    ensures some { IfSome result (λ line. line ≡ read_line (kinds_at at) keyword.now (map (λ w. w.now) words.now)) }
+    ensures none { IfNone result (kinds_of (receive_kinds at) keyword.now ≡ []) }
+{
+    if is_word(keyword, b"rxsa") {
+        return Some(rx_sa(at, words));
+    }
+    if is_word(keyword, b"rxon") {
+        return Some(rx_on(at, words));
+    }
+    if is_word(keyword, b"rxoff") {
+        return Some(rx_off(at, words));
+    }
+    if is_word(keyword, b"rxlow") {
+        return Some(rx_low(at, words));
+    }
+    if is_word(keyword, b"rxdel") {
+        return Some(rx_del(at, words));
+    }
+    None
+}

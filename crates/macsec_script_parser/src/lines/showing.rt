@@ -1,0 +1,42 @@
+//! The lines that show something of an end.
+
+ghost use Rattle.std.specs.Prelude.{◌≡◌, [], map, codes, IfSome, IfNone};
+ghost use Rattle.macsec_script_parser.specs.Kinds.{read_line, kinds_at, kinds_of, show_kinds};
+
+use crate::lines::{Line, LineFault};
+use crate::words::is_word;
+use macsec_commands::End;
+
+/// The showing of counters, from the words after `counters`.
+fn counters(at: End, words: &[&[u8]]) -> Result<Line, LineFault>
+    ensures { result ≡ read_line (kinds_at at) (codes "counters") (map (λ w. w.now) words.now) }
+{
+    if !words.is_empty() {
+        return Err(LineFault::Count);
+    }
+    Ok(Line::Counters(at))
+}
+
+/// The showing of packet numbers, from the words after `numbers`.
+fn numbers(at: End, words: &[&[u8]]) -> Result<Line, LineFault>
+    ensures { result ≡ read_line (kinds_at at) (codes "numbers") (map (λ w. w.now) words.now) }
+{
+    if !words.is_empty() {
+        return Err(LineFault::Count);
+    }
+    Ok(Line::Numbers(at))
+}
+
+/// A line that shows something, from its keyword and the words after it; `None` if the keyword is none of those.
+pub fn show_line(at: End, keyword: &[u8], words: &[&[u8]]) -> Option<Result<Line, LineFault>>
+    ensures some { IfSome result (λ line. line ≡ read_line (kinds_at at) keyword.now (map (λ w. w.now) words.now)) }
+    ensures none { IfNone result (kinds_of (show_kinds at) keyword.now ≡ []) }
+{
+    if is_word(keyword, b"counters") {
+        return Some(counters(at, words));
+    }
+    if is_word(keyword, b"numbers") {
+        return Some(numbers(at, words));
+    }
+    None
+}

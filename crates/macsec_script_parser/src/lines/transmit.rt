@@ -1,0 +1,81 @@
+//! The lines of an end's transmit associations.
+
+ghost use Rattle.std.specs.Prelude.{◌≡◌, [], map, codes, IfSome, IfNone};
+ghost use Rattle.macsec_script_parser.specs.Kinds.{read_line, kinds_at, kinds_of, transmit_kinds};
+
+use crate::lines::{Line, LineFault};
+use crate::words;
+use crate::words::{association, is_word, key_number};
+use macsec_commands::{Command, End, Event};
+
+/// The creation of a transmit association, from the words after `txsa`.
+fn tx_sa(at: End, words: &[&[u8]]) -> Result<Line, LineFault>
+    ensures { result ≡ read_line (kinds_at at) (codes "txsa") (map (λ w. w.now) words.now) }
+{
+    let [an, key, next, protection] = words else {
+        return Err(LineFault::Count);
+    };
+    let an = association(an)?;
+    let key = key_number(key)?;
+    let next = words::packet_number(next)?;
+    let conf = words::protection(protection)?;
+    Ok(Line::Event(Event::Command(
+        at,
+        Command::TxSa {
+            an,
+            key,
+            next,
+            conf,
+        },
+    )))
+}
+
+/// The enabling of a transmit association, from the words after `txon`.
+fn tx_on(at: End, words: &[&[u8]]) -> Result<Line, LineFault>
+    ensures { result ≡ read_line (kinds_at at) (codes "txon") (map (λ w. w.now) words.now) }
+{
+    let [an] = words else {
+        return Err(LineFault::Count);
+    };
+    Ok(Line::Event(Event::Command(at, Command::TxOn(association(an)?))))
+}
+
+/// The disabling of a transmit association, from the words after `txoff`.
+fn tx_off(at: End, words: &[&[u8]]) -> Result<Line, LineFault>
+    ensures { result ≡ read_line (kinds_at at) (codes "txoff") (map (λ w. w.now) words.now) }
+{
+    let [an] = words else {
+        return Err(LineFault::Count);
+    };
+    Ok(Line::Event(Event::Command(at, Command::TxOff(association(an)?))))
+}
+
+/// The deletion of a transmit association, from the words after `txdel`.
+fn tx_del(at: End, words: &[&[u8]]) -> Result<Line, LineFault>
+    ensures { result ≡ read_line (kinds_at at) (codes "txdel") (map (λ w. w.now) words.now) }
+{
+    let [an] = words else {
+        return Err(LineFault::Count);
+    };
+    Ok(Line::Event(Event::Command(at, Command::TxDel(association(an)?))))
+}
+
+/// A line of a transmit association, from its keyword and the words after it; `None` if the keyword is none of those.
+pub fn transmit_line(at: End, keyword: &[u8], words: &[&[u8]]) -> Option<Result<Line, LineFault>>
+    ensures some { IfSome result (λ line. line ≡ read_line (kinds_at at) keyword.now (map (λ w. w.now) words.now)) }
+    ensures none { IfNone result (kinds_of (transmit_kinds at) keyword.now ≡ []) }
+{
+    if is_word(keyword, b"txsa") {
+        return Some(tx_sa(at, words));
+    }
+    if is_word(keyword, b"txon") {
+        return Some(tx_on(at, words));
+    }
+    if is_word(keyword, b"txoff") {
+        return Some(tx_off(at, words));
+    }
+    if is_word(keyword, b"txdel") {
+        return Some(tx_del(at, words));
+    }
+    None
+}

@@ -1,0 +1,35 @@
+//! The text of a script, from a reader.
+
+ghost use Rattle.std.specs.Prelude.{◌≡◌, ◌≤◌, length, IfSome, MatchResult};
+ghost use Rattle.macsec_script_parser.specs.Limits.{max_script_len};
+ghost use Rattle.macsec_script_parser.specs.Readings.{IsInputFault};
+
+use crate::faults::ScriptFault;
+use crate::script::MAX_SCRIPT_LEN;
+use std::alloc::Global;
+use std::io::Read;
+
+/// All that a reader has, at most `MAX_SCRIPT_LEN` octets. Returns `ScriptLong` if it has more, `Memory`, or `Read`.
+pub fn read_text<R: Read>(alloc: Global, reader: &mut R) -> Result<Vec<u8>, ScriptFault>
+    ensures { IfSome (R.remaining reader.old) (λ all. MatchResult result
+        (λ text. (text.items ≡ all) × (length all ≤ max_script_len)) (λ fault. IsInputFault all fault)) }
+{
+    let mut text = Vec::new(alloc);
+    let mut piece = [0u8; 4096];
+    for _ in 0..1_048_577u32 {
+        let count = match reader.read(&mut piece) {
+            Ok(count) => count,
+            Err(_) => return Err(ScriptFault::Read),
+        };
+        if count == 0 {
+            return Ok(text);
+        }
+        if text.len() + count > MAX_SCRIPT_LEN {
+            return Err(ScriptFault::ScriptLong);
+        }
+        if text.extend_from_slice(&piece[..count]).is_err() {
+            return Err(ScriptFault::Memory);
+        }
+    }
+    unreachable!()
+}

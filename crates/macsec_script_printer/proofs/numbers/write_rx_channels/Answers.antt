@@ -1,0 +1,20 @@
+-- One more channel is written in each turn, that of the next place; after the last there is none.
+use Rattle.std.proofs.Common.{arith, sym}
+use Rattle.std.proofs.lemmas.Grind.{common_steps}
+use Rattle.std.proofs.lemmas.Option.{slice_get_within, get_or_from_slice_get}
+use Rattle.macsec_script_printer.specs.Numbers.{channel_text}
+use Rattle.macsec_script_printer.proofs.Pieces.{one_more_piece}
+use Rattle.macsec_script_printer.proofs.numbers.write_rx_channels.Goals as goal
+
+pub loop-place-preserved : goal.loop-place-preserved
+loop-place-preserved g c =
+    let scis = c.args.endpoint.now.rx.scis in let sci = c.in-Some.sci in let there = sym c.in-Some.ensures.sci in
+    record {
+      text =
+          one_more_piece (channel_text c.args.n c.args.endpoint.now) scis c.loop-place.place sci _ _ _ (slice_get_within scis c.loop-place.place sci there)
+          c.loop-place.invariant.text (rw (get_or_from_slice_get scis c.loop-place.place sci sci there) c.in_ok-write_rx_rows.ensures);
+      count = λ some. c.in-Some.ensures.count;
+    }
+
+pub returns : goal.returns
+returns g c = grind (arith, common_steps)
