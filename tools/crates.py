@@ -1,0 +1,89 @@
+"""The crates of crates.txt, their files, and the kit of the command `rt`: what the tools that build the project share."""
+
+import functools
+import os
+import re
+import shutil
+import subprocess
+import sys
+
+ROOT = os.path.dirname(os.path.dirname(os.path.realpath(__file__)))
+BUILD = f"{ROOT}/build"
+
+# The kit that the command `rt` belongs to: the prover, its logic, compilers, linker and libraries.
+RT = shutil.which("rt") or sys.exit("rt, the command of the Rattle toolchain, is not on the PATH")
+KIT = os.path.dirname(os.path.dirname(os.path.realpath(RT)))
+
+# The parts in C of the kit's library, with which each program is linked.
+KIT_IN_C = [f"{KIT}/c/libos_c.a", f"{KIT}/c/liblibc_c.a"]
+
+TARGET = "x86_64-unknown-linux-gnu"
+
+
+def listed() -> "dict[str, list[str]]":
+    """Each crate of crates.txt, with the libraries that it is listed with."""
+    with open(f"{ROOT}/crates.txt", encoding="utf-8") as it:
+        lines = [line.split(":") for line in it if line.strip() and not line.startswith("#")]
+    return {name.split()[0]: libraries.split() for name, libraries in lines}
+
+
+CRATES = listed()
+
+
+def own(name: str) -> "list[str]":
+    """The crates of the project that one is listed with."""
+    return [each for each in CRATES[name] if each in CRATES]
+
+
+def of_kit(name: str) -> "list[str]":
+    """The libraries of the kit that a crate uses."""
+    return ["std", *(each for each in CRATES[name] if each not in CRATES)]
+
+
+@functools.cache
+def below(name: str) -> "tuple[str, ...]":
+    """The crates of the project below one, each after those that it depends on."""
+    found: "dict[str, None]" = {}
+    for each in own(name):
+        found |= {**dict.fromkeys(below(each)), each: None}
+    return tuple(found)
+
+
+def files(name: str, parts: "tuple[str, ...]" = ("src", "specs", "proofs")) -> "list[str]":
+    """The files of these folders of a crate."""
+    folders = [f"{ROOT}/crates/{name}/{part}" for part in parts]
+    return sorted(f"{folder}/{it}" for top in folders for folder, _, names in os.walk(top) for it in names)
+
+
+def root_file(name: str) -> str:
+    """The root file of a crate, in the crate's folder."""
+    return "src/main.rt" if os.path.isfile(f"{ROOT}/crates/{name}/src/main.rt") else "src/lib.rt"
+
+
+def has_tests(name: str) -> bool:
+    """Has the crate a `#[test]` function?"""
+    for path in files(name, ("src",)):
+        with open(path, encoding="utf-8") as it:
+            if re.search(r"^\s*#\[test\]", it.read(), re.M):
+                return True
+    return False
+
+
+def kit_id() -> str:
+    """What identifies the kit: its version and logic, not where it is installed."""
+    with open(f"{KIT}/KIT-ID", encoding="utf-8") as it:
+        return it.read()
+
+
+def libraries_folder() -> str:
+    """Where built libraries of this checkout are kept. `rt ci` refuses their sources anywhere in the checkout but below
+    the git directory, which it does not read; without a git directory they are in the user's cache."""
+    try:
+        asked = ["git", "-C", ROOT, "rev-parse", "--absolute-git-dir", "--show-toplevel"]
+        told = subprocess.run(asked, capture_output=True, text=True, check=True).stdout.splitlines()
+        if len(told) == 2 and os.path.samefile(told[1], ROOT):
+            return f"{told[0]}/macsec-built"
+    except (OSError, subprocess.CalledProcessError):
+        pass
+    cache = os.environ.get("XDG_CACHE_HOME") or os.path.expanduser("~/.cache")
+    return f"{cache}/macsec-built{ROOT}"
