@@ -1,40 +1,49 @@
-# make try           builds the program before any proof, in about a minute, and runs it on the tour
+# make try           builds the program without proofs, in about a minute, and runs it on the tour; with ARGS='..' on
+#                    those arguments, as in make try ARGS='protect CONFIG IN OUT'
+# make test          builds everything without proofs and runs all tests, in at most 5 minutes
 # make               proves and builds the program, build/macsec; with CPU=x86-64-v3 build/macsec-x86-64-v3, for
 #                    processors with vectors of 256 bits
 # make run           does the same, and runs it on the tour
 # make lib           proves and builds the library for C, build/libmacsec.a, of the header include/macsec.h
 # make kept          proves the program's libraries and keeps the work where rt takes it, before a crate is changed
 # make install       copies the program, its manual page, the library for C, its header and its pkg-config file to
-#                    PREFIX, /usr/local if nothing else is said, under DESTDIR
+#                    PREFIX, /usr/local by default, under DESTDIR
 # make check         the gate
+# make edits         checks that each must-fail edit still applies, and that docs/MISTAKES.md lists it
 # make bench         measures the cipher and frames
 # make fuzz          gives mutated inputs to the program as both compilers build it
+# make moves         tries all lists of three moves over the rules in Python
 # make failures      makes files and streams fail, refuses memory, and lists the calls that take it
 # make stored-runs   compares the program's answers with stored ones
+# make controls      sees that the tools that compare report something wrong
 # make peer          compares frames with Scapy's and with what tshark reads; both have to be installed
 # make kept-frames   sees that callers which keep a frame over the next call are refused
 # make c-programs    builds the library for C and the programs over it, runs them, and makes 100,000 random calls
 # make lanes-used    sees that the cipher is built of its lanes, powers and pieces
-# make clean         removes build/
-# install, fuzz, failures, stored-runs and peer prove and build the program first; install also the library for C.
+# make clean         removes what make has built
+# install, fuzz, failures, stored-runs, controls and peer prove and build the program first; install also the library for
+# C. All of them work in any order in one checkout.
 RT := $(shell command -v rt 2>/dev/null)
 SOURCES := crates.txt $(shell find crates -name out -prune -o -type f \( -name '*.rt' -o -name '*.antt' \) -print)
 INPUTS := 100000
-GATE_INPUTS := 2000
-GATE_CALLS := 6000
 SEED := 1
 PREFIX ?= /usr/local
 CPU ?= x86-64-v2
 BUILT := build/macsec$(if $(filter x86-64-v3,$(CPU)),-x86-64-v3)
 
-.PHONY: all try run lib kept install check bench fuzz failures stored-runs peer kept-frames c-programs \
-    lanes-used toolchain clean
+.PHONY: all try test run lib kept install check edits bench fuzz moves failures stored-runs controls peer kept-frames \
+    c-programs lanes-used toolchain clean
 
 all: $(BUILT)
 
 try: toolchain
-	@cd crates/macsec_cli && rt try -- run - < ../macsec_examples/data/tour.macsec
+	@tools/unproved macsec
+	@build/unproved/macsec $(or $(ARGS),run - < crates/macsec_examples/data/tour.macsec)
 	@echo "make try: nothing of this build is proved; make run proves it" >&2
+
+test: toolchain
+	@tools/needed
+	@tools/tests
 
 run: build/macsec
 	@build/macsec run - < crates/macsec_examples/data/tour.macsec
@@ -53,24 +62,11 @@ install: build/macsec build/libmacsec.a
 	install -m 644 build/libmacsec.a "$(DESTDIR)$(PREFIX)/lib/libmacsec.a"
 	sed 's|@PREFIX@|$(PREFIX)|' include/macsec.pc.in > "$(DESTDIR)$(PREFIX)/lib/pkgconfig/macsec.pc"
 
-# Every proof from nothing, the must-fail edits, the tests and the programs, and beside them what needs no proof; then
-# the programs that were proved, macsec as both compilers built it, and beside them the library for C over the libraries
-# that `rt ci` left. (It would put those of earlier checks back in their place, so these go first.)
 check: toolchain
-	rm -rf crates/*/out/rlib
-	tools/failures calls
-	tools/c-header
-	tools/kept-frames & frames=$$!; tools/lanes-used & lanes=$$!; rt ci && wait $$frames && wait $$lanes
-	@mkdir -p build
-	cp crates/macsec_cli/out/macsec_cli build/macsec
-	cp crates/macsec_cli/out/macsec_cli.by-rattle build/macsec-rattle
-	cp crates/macsec_failures/out/macsec_failures build/macsec-failures
-	tools/prove --after-ci libmacsec_c.a & library=$$!; \
-	    python3 fuzz/planted.py --inputs $(GATE_INPUTS) --seed $(SEED) & planted=$$!; \
-	    tools/failures memory && tools/stored-runs && \
-	    python3 fuzz/fuzz.py --inputs $(GATE_INPUTS) --seed $(SEED) && wait $$planted && wait $$library
-	tools/merged-library build/libmacsec_c.a build/libmacsec.a
-	tools/c-programs --calls $(GATE_CALLS) --seed $(SEED)
+	@tools/check
+
+edits:
+	@tools/edits
 
 bench: toolchain
 	cd crates/macsec_bench && rt run -- measure
@@ -78,11 +74,17 @@ bench: toolchain
 fuzz: build/macsec build/macsec-rattle
 	python3 fuzz/fuzz.py --inputs $(INPUTS) --seed $(SEED)
 
+moves:
+	python3 fuzz/moves.py
+
 failures: build/macsec build/macsec-failures
 	tools/failures
 
 stored-runs: build/macsec
 	tools/stored-runs
+
+controls: build/macsec build/libmacsec.a
+	tools/controls
 
 peer: build/macsec
 	tools/peer
@@ -119,4 +121,4 @@ ifeq ($(RT),)
 endif
 
 clean:
-	rm -rf build
+	rm -rf build "$$(tools/prove --where)"
