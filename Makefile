@@ -118,6 +118,9 @@ toolchain:
 ifeq ($(RT),)
 	@echo "rt, the command of the Rattle toolchain, is not on the PATH: install Rattle and put its bin/ on the PATH." >&2
 	@exit 1
+else
+	@grep -qF "$$(rt version)" docs/PROVED.md || \
+	    echo "warning: this Rattle is $$(rt version); docs/PROVED.md names the version that the proofs were made with" >&2
 endif
 
 clean:
