@@ -1,18 +1,36 @@
-/* Creation and end: each status of macsec_new, with each of its allocations refused in turn; and handles that hold no
- * endpoint, after none was created or after it was freed. Linked so that its own calls of malloc come here first. */
+/* Creation and end: each status of macsec_new, with each of its allocations refused one after another; and handles that
+ * hold no endpoint, after none was created or after it was freed. The program is linked so that the library's calls of
+ * malloc, realloc and free come here first: no contract says that macsec_free gives back each block, so it is counted. */
 #include "macsec.h"
 #include <stdio.h>
 #include <stdlib.h>
 #include <string.h>
 
 void *__real_malloc(size_t size);
+void *__real_realloc(void *old, size_t size);
+void __real_free(void *block);
 void *__wrap_malloc(size_t size);
+void *__wrap_realloc(void *old, size_t size);
+void __wrap_free(void *block);
 
 static unsigned asked, refused; /* how often the library asked for memory, and which time it gets none */
+static int held;                /* how many blocks it holds */
 
 void *__wrap_malloc(size_t size) {
-    asked++;
-    return asked == refused ? NULL : __real_malloc(size);
+    void *block = ++asked == refused ? NULL : __real_malloc(size);
+    held += block != NULL;
+    return block;
+}
+
+void *__wrap_realloc(void *old, size_t size) {
+    void *block = ++asked == refused ? NULL : __real_realloc(old, size);
+    held += block != NULL && old == NULL;
+    return block;
+}
+
+void __wrap_free(void *block) {
+    held -= block != NULL;
+    __real_free(block);
 }
 
 static const uint8_t own_sci[8] = { 2, 0, 0, 0, 0, 1, 0, 1 };
@@ -73,7 +91,7 @@ int main(void) {
 
     for (refused = 1; refused < 10; refused++) {
         uint32_t status = created(&e, suite, form, 1518);
-        printf("allocation %u refused: %u\n", refused, (unsigned)status);
+        printf("allocation %u refused: %u, holds blocks: %s\n", refused, (unsigned)status, held ? "yes" : "no");
         if (status == MACSEC_OK)
             break;
         if (empty_answers(&e) == 0)
@@ -83,10 +101,12 @@ int main(void) {
     asked = 0;
     printf("protect: %u\n", (unsigned)macsec_protect(&e, false));
     macsec_free(&e);
-    printf("freed: empty %u, asked for memory %u times\n", empty_answers(&e), asked);
+    printf("freed: empty %u, asked for memory %u times, holds %d blocks\n", empty_answers(&e), asked, held);
     macsec_free(&e);
     refused = 0;
-    printf("created anew: %u\n", (unsigned)created(&e, suite, MACSEC_FORM_ES, MACSEC_FRAME_MAX));
+    printf("created again: %u\n", (unsigned)created(&e, suite, MACSEC_FORM_ES, MACSEC_FRAME_MAX));
     macsec_free(&e);
+    macsec_free(&e);
+    printf("freed twice: holds %d blocks\n", held);
     return 0;
 }

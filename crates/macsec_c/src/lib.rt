@@ -7,8 +7,8 @@
 //! `macsec_command_line` is the step that a line says (`specs/Texts.antt`). Numbers and lengths that name
 //! nothing are refused by statuses of their own (`macsec_c_numbers`) before anything else happens, and a handle
 //! without an endpoint before those. A frame that is lent lies in the endpoint or is the caller's, and the endpoint's
-//! state after the loan is known. A handle owns its endpoint: `macsec_free` frees it once, and leaves a handle without
-//! one.
+//! state after the loan is known. A handle owns its endpoint: `macsec_free` leaves a handle without one, and nothing is
+//! used or freed a second time. That the memory is given back no clause says.
 //!
 //! No export has a `requires`. What a reference and the handle mean is for C to ensure: each pointer leads to a value
 //! of its type, or to as many octets as the length beside it says, to which nothing else points; and a handle is one
