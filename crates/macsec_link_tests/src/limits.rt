@@ -112,12 +112,14 @@ fn assert_no_room(rt: &impl Abort, alloc: Global, world: &mut World) -> Result<(
     Ok(())
 }
 
-/// No client of A sends.
+/// No client of A sends, and none of B, which has no association to send on.
 fn assert_unsent(rt: &impl Abort, alloc: Global, world: &mut World) -> Result<(), Fail> {
     let controlled = Event::Send(End::A, frame(alloc, &client(0))?);
     assert_fault(rt, world, &controlled, WorldFault::LinkFull);
     let uncontrolled = Event::SendUncontrolled(End::A, frame(alloc, &client(0))?);
     assert_fault(rt, world, &uncontrolled, WorldFault::LinkFull);
+    let unassociated = Event::Send(End::B, frame(alloc, &client(0))?);
+    assert_fault(rt, world, &unassociated, WorldFault::LinkFull);
     Ok(())
 }
 
@@ -142,7 +144,7 @@ fn are_shown(rt: &impl Abort, world: &World, a: &Shown, b: &Shown) -> bool {
     state_of(rt, world, End::A) == *a && state_of(rt, world, End::B) == *b
 }
 
-/// Two ends with an association, over a full link: no fault changes a counter, nor a packet number.
+/// Two ends with an association from A to B, over a full link: no fault changes a counter, nor a packet number.
 fn check_full(rt: &impl Abort, alloc: Global, world: &mut World) -> Result<(), Fail> {
     fill(rt, alloc, world)?;
     let (a, b) = (state_of(rt, world, End::A), state_of(rt, world, End::B));
