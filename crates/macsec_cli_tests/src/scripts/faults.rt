@@ -1,6 +1,6 @@
 //! Lines and scripts at fault.
 
-use super::assert_ends;
+use super::{assert_ends, end_of};
 use macsec_script::{LineFault, parse_line};
 use std::alloc::{AllocError, Global};
 use std::process::Abort;
@@ -199,5 +199,31 @@ fn long_lines_and_scripts(rt: HostRuntime) -> Result<(), AllocError> {
         let mut script = repeated(rt.alloc(), piece, count)?;
         check_long(&rt, rt.alloc(), &mut script, (rest, fault))?;
     }
+    Ok(())
+}
+
+/// A script whose third line begins so, with so many digits 0 after that.
+fn script_of_digits(alloc: Global, start: &str, count: u32) -> Result<String, AllocError> {
+    let digits = repeated(alloc, "0", count)?;
+    format!(in alloc; "{ENDS}{start}{digits}\n")
+}
+
+/// A script ends well, and prints this.
+fn assert_printed(rt: &impl Abort, alloc: Global, script: &str, printed: &str) {
+    let mut text = Vec::new(alloc);
+    let done = end_of(alloc, script, &mut text);
+    assert!(rt; done.is_ok());
+    assert_eq!(rt; text.as_slice(), printed.as_bytes());
+}
+
+/// A `send` line of 20,000 octets is carried out: its frame is too long for the link. One of 20,001 is at fault, and
+/// nothing is printed.
+#[test]
+fn long_lines_of_frames(rt: HostRuntime) -> Result<(), AllocError> {
+    let longest = script_of_digits(rt.alloc(), "A  send ", 19_992)?;
+    assert_printed(&rt, rt.alloc(), longest.as_str(), "3 fault 6 Long\n");
+    let longer = script_of_digits(rt.alloc(), "A send ", 19_994)?;
+    let told = Some("macsec: line 3: LineLong\n");
+    assert_ends(&rt, rt.alloc(), longer.as_str(), told);
     Ok(())
 }
