@@ -9,7 +9,7 @@ use crate::Fails;
 use std::alloc::Global;
 use std::io::{self, Write};
 
-/// A writer into memory, whose flush can fail too. It counts its calls, and those after it failed.
+/// A writer into memory, whose flush can fail too. It counts its calls, those after it failed, and its flushes.
 #[derive(Drop)]
 pub struct FailingWriter {
     written: Vec<u8>,
@@ -18,6 +18,7 @@ pub struct FailingWriter {
     calls: usize,
     has_failed: bool,
     calls_after: usize,
+    flushes: usize,
 }
 
 impl FailingWriter {
@@ -29,6 +30,7 @@ impl FailingWriter {
         ensures calls { result.calls ≡ 0 }
         ensures has_failed { result.has_failed ≡ false }
         ensures calls_after { result.calls_after ≡ 0 }
+        ensures flushes { result.flushes ≡ 0 }
     {
         FailingWriter {
             written: Vec::new(alloc),
@@ -37,6 +39,7 @@ impl FailingWriter {
             calls: 0,
             has_failed: false,
             calls_after: 0,
+            flushes: 0,
         }
     }
 
@@ -59,6 +62,13 @@ impl FailingWriter {
         ensures { result ≡ self.now.calls_after }
     {
         self.calls_after
+    }
+
+    /// How often it was flushed.
+    pub fn flushes(&self) -> usize
+        ensures { result ≡ self.now.flushes }
+    {
+        self.flushes
     }
 }
 
@@ -87,6 +97,7 @@ impl Write for FailingWriter {
         ensures bytes { Keeps (Some self.old.written.items) (Some self.new.written.items) }
         ensures fails { is_err result ≡ self.old.flush_fails }
     {
+        self.flushes = self.flushes.saturating_add(1);
         if self.flush_fails {
             return Err(io::Error::from(io::ErrorKind::Other));
         }
