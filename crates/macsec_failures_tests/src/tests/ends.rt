@@ -17,7 +17,7 @@ fn told_to(device: &mut FailingWriter, failure: Failure<'_>) -> (u8, bool) {
     (status, done.is_ok())
 }
 
-/// A failure is this line, written with one call, and has this status, on a full device too.
+/// A failure is this line, written with one call, and has this status, on a full device too, which is called once.
 fn check_line(rt: &impl Abort, alloc: Global, failure: Failure<'_>, wanted: (u8, &str)) {
     let (status, text) = wanted;
     let mut line = FailingWriter::new(alloc, Fails::Never, false);
@@ -29,6 +29,7 @@ fn check_line(rt: &impl Abort, alloc: Global, failure: Failure<'_>, wanted: (u8,
         "{failure}"
     );
     assert_line(rt, &line, text);
+    assert_eq!(rt; full.calls(), 1, "{text}");
 }
 
 /// This line was written with one call.

@@ -1,6 +1,6 @@
 //! Readers and writers of capture files over devices that fail.
 
-use super::client_file;
+use super::{HEADER, RECORD, client_file, octets};
 use macsec_failing_io::{FailingReader, FailingWriter, Fails};
 use macsec_pcap::{PcapFault, PcapReader, PcapWriter, Resolution};
 use std::alloc::Global;
@@ -84,6 +84,20 @@ fn reads_that_fail(rt: HostRuntime) -> Result<(), Fail> {
     for at in 0..=15 {
         check_read(&rt, rt.alloc(), file.as_slice(), at);
     }
+    Ok(())
+}
+
+/// The head of a record of 262,145 captured octets.
+const TOO_LONG: &str = "00000000000000000100040001000400";
+
+/// Of a record that is too long only the head is read: 4 calls for the header of the file, and 3 for that.
+#[test]
+fn records_that_are_too_long(rt: HostRuntime) -> Result<(), Fail> {
+    let file = octets(rt.alloc(), &[HEADER, TOO_LONG, RECORD])?;
+    let mut source = FailingReader::new(file.as_slice(), 7, Fails::Never);
+    let found = counted(rt.alloc(), &mut source);
+    assert!(&rt; found == Some((0, Err(PcapFault::RecordLength))));
+    assert_eq!(&rt; source.calls(), 7);
     Ok(())
 }
 

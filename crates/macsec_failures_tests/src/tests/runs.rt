@@ -337,7 +337,7 @@ fn flushing<'a>(alloc: Global, config: &'a str, file: &'a [u8], flush: Flush) ->
     }
 }
 
-/// A run whose flush fails is at this stop.
+/// A run whose flush fails is at this stop, and has flushed the output once, and not the text.
 fn assert_flushed(rt: &impl Abort, devices: &Devices<'_>, flush: Flush, stop: &Stop) {
     assert_eq!(rt;
         devices.output.written(),
@@ -345,6 +345,8 @@ fn assert_flushed(rt: &impl Abort, devices: &Devices<'_>, flush: Flush, stop: &S
         "{flush:?}"
     );
     assert_eq!(rt; devices.text.written(), stop.text.as_bytes(), "{flush:?}");
+    let flushes = (devices.output.flushes(), devices.text.flushes());
+    assert!(rt; flushes == (1, 0), "{flush:?}");
 }
 
 /// A run whose flush fails answers this, and is at the stop behind so many steps.
@@ -383,8 +385,8 @@ fn check_flushes(
     Ok(())
 }
 
-/// If the output can't be flushed behind the records, there are no counters. A fault of the input comes before that of
-/// the flush. The text is not flushed.
+/// If the output can't be flushed behind the records, there are no counters. It is flushed too where a record ends the
+/// run, and the fault of the input comes before that of the flush. The text is not flushed.
 #[test]
 fn flushes_of_a_capture(rt: HostRuntime) -> Result<(), Fail> {
     let alloc = rt.alloc();
@@ -392,5 +394,23 @@ fn flushes_of_a_capture(rt: HostRuntime) -> Result<(), Fail> {
         let file = Task::Capture(direction).input(alloc)?;
         check_flushes(&rt, alloc, direction, file.as_slice())?;
     }
+    Ok(())
+}
+
+/// What a run of a script of 1,100,000 line feeds answers, of which each read gives 1,024, and how often it reads.
+fn long_script_run(alloc: Global) -> Result<(Answer, usize), Fail> {
+    let script = vec![in alloc; b'\n'; 1_100_000]?;
+    let mut source = FailingReader::new(script.as_slice(), 1024, Fails::Never);
+    let mut text = FailingWriter::new(alloc, Fails::Never, false);
+    let answer = of_script(run_script(alloc, &mut source, &mut text));
+    Ok((answer, source.calls()))
+}
+
+/// A script that is too long is read no further than to the call that makes it so: 1,024 calls give 1,048,576 octets.
+#[test]
+fn scripts_that_are_too_long(rt: HostRuntime) -> Result<(), Fail> {
+    let (answer, calls) = long_script_run(rt.alloc())?;
+    assert!(&rt; answer == Answer("script", "ScriptLong"));
+    assert_eq!(&rt; calls, 1025);
     Ok(())
 }
