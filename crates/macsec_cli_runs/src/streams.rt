@@ -12,7 +12,8 @@ const STAND_IN: &str = "/";
 
 /// Three open directories. A system gives a file that is opened the least number that is free, and the standard streams
 /// have the first three. So while these are held, no other file that is opened is taken for a standard stream, and a
-/// stream that was closed fails at its first read or write.
+/// stream that was closed fails at its first read or write. If they were not held and standard output was closed, CONFIG
+/// would have its number, and `macsec protect CONFIG IN /dev/stdout` would empty CONFIG.
 #[derive(Drop)]
 pub struct StandIns<F> {
     _first: F,
