@@ -68,6 +68,8 @@ class Corpus:
             assert expected.run_script(script) == (0, text, b""), f"expected.py has another text of {path.name}"
             self.scripts.append(script)
             self.add_runs(script, text)
+        raised = re.findall(r" (\w+) [1-9]\d*$", (DATA / "each-counter.txt").read_text(), re.M)
+        assert {*expected.SECY_COUNTERS, *expected.RX_COUNTERS} <= {*raised}, "each-counter leaves a counter at 0"
         blocks = re.findall(r"```\n(end A .*?)```", (ROOT / "docs/CAPTURES.md").read_text(), re.S)
         sender, receiver = (it.encode() for it in blocks)
         two = Capture([SHORTEST, SHORTEST])

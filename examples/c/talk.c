@@ -69,8 +69,7 @@ static void count(const char *who, macsec_endpoint *e, const uint8_t *sci) {
     must("rx_counters", macsec_rx_counters(e, sci, &rx));
     printf("%s: OutPktsEncrypted %" PRIu64 ", InPktsNoTag %" PRIu64 ", InOctetsDecrypted %" PRIu64 "\n", who,
            tx.out_pkts_encrypted, all.in_pkts_no_tag, all.in_octets_decrypted);
-    printf("%s: InPktsOK %" PRIu64 ", InPktsLate %" PRIu64 ", InPktsNotValid %" PRIu64 "\n", who, rx.in_pkts_ok,
-           rx.in_pkts_late, rx.in_pkts_not_valid);
+    printf("%s: InPktsOK %" PRIu64 ", InPktsNotValid %" PRIu64 "\n", who, rx.in_pkts_ok, rx.in_pkts_not_valid);
     if (macsec_rx_sa_counters(e, sci, 0, &of_sa) == MACSEC_OK)
         printf("%s: association 0: InPktsOK %" PRIu64 "\n", who, of_sa.in_pkts_ok);
     must("rx_removed", macsec_rx_removed(e, sci, &removed));

@@ -4,6 +4,7 @@
 mod named;
 
 use macsec_capture::{CaptureFault, Direction, run_capture};
+use macsec_vectors::{COUNTERS_OF_NONE, COUNTERS_OF_TWO_RECEIVED, COUNTERS_OF_TWO_SENT};
 use std::alloc::{AllocError, Global};
 use std::process::Abort;
 use std::test::Fail;
@@ -54,56 +55,6 @@ pub const RECEIVER: &str = "end A gcm128 0000000000000002 1518 auto\n\
     A rxon 0200000000010001 0\n";
 
 const RECEIVER_DONE: &str = "2 done\n3 done\n4 done\n5 done\n";
-
-/// The counters of the endpoint, up to those of transmission, where nothing was received.
-const NONE_IN: &str = "end InPktsUntagged 0\n\
-    end InPktsNoTag 0\n\
-    end InPktsBadTag 0\n\
-    end InPktsReserved 0\n\
-    end InPktsNoSA 0\n\
-    end InPktsNoSAError 0\n\
-    end InOctetsValidated 0\n\
-    end InOctetsDecrypted 0\n\
-    end OutPktsUntagged 0\n\
-    end OutPktsTooLong 0\n";
-
-/// The rest of them where nothing was sent, and where two frames of 2 octets of data were.
-const NONE_OUT: &str = "end OutPktsNoSA 0\n\
-    end OutPktsProtected 0\n\
-    end OutPktsEncrypted 0\n\
-    end OutOctetsProtected 0\n\
-    end OutOctetsEncrypted 0\n";
-
-const TWO_OUT: &str = "end OutPktsNoSA 0\n\
-    end OutPktsProtected 2\n\
-    end OutPktsEncrypted 0\n\
-    end OutOctetsProtected 4\n\
-    end OutOctetsEncrypted 0\n";
-
-/// All of them where two such frames were received.
-const TWO_IN: &str = "end InPktsUntagged 0\n\
-    end InPktsNoTag 0\n\
-    end InPktsBadTag 0\n\
-    end InPktsReserved 0\n\
-    end InPktsNoSA 0\n\
-    end InPktsNoSAError 0\n\
-    end InOctetsValidated 4\n\
-    end InOctetsDecrypted 0\n\
-    end OutPktsUntagged 0\n\
-    end OutPktsTooLong 0\n";
-
-const CHANNEL: &str = "end 0200000000010001 InPktsOK 2\n\
-    end 0200000000010001 InPktsUnchecked 0\n\
-    end 0200000000010001 InPktsDelayed 0\n\
-    end 0200000000010001 InPktsLate 0\n\
-    end 0200000000010001 InPktsInvalid 0\n\
-    end 0200000000010001 InPktsNotValid 0\n\
-    end 0200000000010001 0 InPktsOK 2\n\
-    end 0200000000010001 0 InPktsUnchecked 0\n\
-    end 0200000000010001 0 InPktsDelayed 0\n\
-    end 0200000000010001 0 InPktsLate 0\n\
-    end 0200000000010001 0 InPktsInvalid 0\n\
-    end 0200000000010001 0 InPktsNotValid 0\n";
 
 /// What is sent for the client frame of the record with packet numbers 1 and 2, in records, with any ICV.
 const SENT_1: &str =
@@ -183,8 +134,7 @@ const ROWS: [Row; 12] = [
         &[
             SENDER_DONE,
             "record 0 link 46\nrecord 1 link 46\n",
-            NONE_IN,
-            TWO_OUT,
+            COUNTERS_OF_TWO_SENT,
         ],
         "",
     ),
@@ -197,8 +147,7 @@ const ROWS: [Row; 12] = [
         &[
             SENDER_DONE,
             "record 0 link 46\nrecord 1 link 46\n",
-            NONE_IN,
-            TWO_OUT,
+            COUNTERS_OF_TWO_SENT,
         ],
         "",
     ),
@@ -228,7 +177,7 @@ const ROWS: [Row; 12] = [
         &[SENDER],
         &[MICRO],
         &[MICRO],
-        &[SENDER_DONE, NONE_IN, NONE_OUT],
+        &[SENDER_DONE, COUNTERS_OF_NONE],
         "",
     ),
     // A partial record has a number, and does not reach the endpoint.
@@ -245,8 +194,7 @@ const ROWS: [Row; 12] = [
         &[
             SENDER_DONE,
             "record 0 partial\nrecord 1 link 46\nrecord 2 link 46\n",
-            NONE_IN,
-            TWO_OUT,
+            COUNTERS_OF_TWO_SENT,
         ],
         "",
     ),
@@ -368,7 +316,7 @@ fn assert_back(rt: &impl Abort, alloc: Global, back: &Run, input: &[u8]) -> Resu
     assert_eq!(rt; back.fault, "");
     assert_eq!(rt; back.output.as_slice(), input);
     let lines = "record 0 OK 14\nrecord 1 OK 14\n";
-    let wanted = [RECEIVER_DONE, lines, TWO_IN, NONE_OUT, CHANNEL];
+    let wanted = [RECEIVER_DONE, lines, COUNTERS_OF_TWO_RECEIVED];
     check_text(rt, alloc, back.text.as_slice(), &wanted)
 }
 

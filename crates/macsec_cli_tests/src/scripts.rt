@@ -1,7 +1,6 @@
 //! What scripts print is compared by `macsec_examples`. Here are scripts at fault, what is told of a failure, and what no
 //! script shows. Readers and writers that fail are in `macsec_failures_tests`.
 
-mod counters;
 mod failures;
 mod faults;
 mod lines;

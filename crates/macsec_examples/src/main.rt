@@ -13,7 +13,7 @@ use std::fs;
 use std::process::ExitCode;
 
 /// The names of the scripts.
-const EXAMPLES: [&str; 58] = [
+const EXAMPLES: [&str; 59] = [
     "tour",
     "blanks-and-comments",
     "first-frame-gcm256",
@@ -61,6 +61,7 @@ const EXAMPLES: [&str; 58] = [
     "receive-commands",
     "order-of-refusals",
     "associations-of-two-channels",
+    "each-counter",
     "association-counters",
     "no-association",
     "validation",

@@ -1,9 +1,10 @@
 //! Key tables and endpoints.
 
+use crate::counted::write_counters;
 use crate::room::{fill, one, write_answer};
 use macsec_link::{Command, End, EndConfig, Event, Sci, Secy, Suite, TagForm};
 use macsec_script::{Line, ScriptFault, parse_script};
-use macsec_script_printer::{Label, print_counters};
+use macsec_script_printer::Label;
 use macsec_secy::{NewFault, Sent};
 use macsec_suite::KeyTable;
 use std::alloc::Global;
@@ -56,8 +57,8 @@ pub fn fault_name(fault: Option<NewFault>) -> &'static str {
     }
 }
 
-/// The calls of two endpoints: the events of a script, again and again; and the counters of both then. A delivery is one of
-/// the frame that was sent last.
+/// The calls of two endpoints: the events of a script, again and again; and the counters of both that are not 0 then. A
+/// delivery is one of the frame that was sent last.
 pub fn turns<W: Write>(
     alloc: Global,
     before: u32,
@@ -104,8 +105,8 @@ fn write_turns<W: Write>(
     }
     let after = one(alloc);
     write_answer(writer, filled, "done", after)?;
-    write_counters(writer, a)?;
-    write_counters(writer, b)
+    write_counters(writer, Label::End, a)?;
+    write_counters(writer, Label::End, b)
 }
 
 /// Carries out the events of these lines.
@@ -119,11 +120,6 @@ fn go_through(a: &mut Secy, b: &mut Secy, last: &mut LastSent, lines: &[(u32, Li
             }
         }
     }
-}
-
-/// Writes the counters of an endpoint.
-fn write_counters<W: Write>(writer: &mut W, endpoint: &Secy) -> Result<(), ScriptFault> {
-    print_counters(writer, Label::End, endpoint)
 }
 
 /// The link frame that was sent last.

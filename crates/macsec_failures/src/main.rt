@@ -10,6 +10,7 @@
 
 mod calls;
 mod captures;
+mod counted;
 mod endpoints;
 mod room;
 mod scripts;

@@ -1,12 +1,13 @@
 //! Worlds.
 
+use crate::counted::write_counters;
 use crate::endpoints::{A, B};
 use crate::room::{fill, one, write_answer};
 use macsec_link::{
     End, EndConfig, Event, KeyNumber, Outcome, Report, Secy, Verdict, World, WorldFault,
 };
 use macsec_script::{Line, ScriptFault, parse_script};
-use macsec_script_printer::{Label, drop_text, print_counters, print_numbers, write_fault};
+use macsec_script_printer::{Label, drop_text, print_numbers, write_fault};
 use std::alloc::{AllocError, Global};
 use std::fmt;
 use std::io::Write;
@@ -284,11 +285,11 @@ fn write_world<W: Write>(writer: &mut W, world: &World) -> Result<(), ScriptFaul
     write_link(writer, world)
 }
 
-/// Writes the options, counters and packet numbers of an endpoint.
+/// Writes the options, the counters that are not 0, and the packet numbers of an endpoint.
 fn write_endpoint<W: Write>(writer: &mut W, endpoint: &Secy) -> Result<(), ScriptFault> {
     let options = endpoint.options();
     write_fault(writeln!(writer, "{options:?}"))?;
-    print_counters(writer, Label::Line(0), endpoint)?;
+    write_counters(writer, Label::Line(0), endpoint)?;
     print_numbers(writer, 0, endpoint)
 }
 

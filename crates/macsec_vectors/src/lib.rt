@@ -1,7 +1,12 @@
 //! The test vectors of IEEE 802.1AE, Annex C, that the tests of several crates hold their crates against: a
 //! client's frame of 54 octets, protected for integrity, and one of 60 octets, protected for
-//! confidentiality, each under a key of 128 and under one of 256 bits.
+//! confidentiality, each under a key of 128 and under one of 256 bits. And the counters that a
+//! capture's run prints.
 #![tactic(auto)]
+
+mod counters;
+
+pub use counters::{COUNTERS_OF_NONE, COUNTERS_OF_TWO_RECEIVED, COUNTERS_OF_TWO_SENT};
 
 /// The key of 128 bits.
 pub const KEY_128: [u8; 16] = [

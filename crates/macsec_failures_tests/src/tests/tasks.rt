@@ -4,6 +4,7 @@ use super::{
     HEADER, RECEIVER, RECORD, SCRIPT, SCRIPT_TEXT, SENDER, SENT_1, SENT_2, client_file, link_file,
 };
 use macsec_capture::Direction;
+use macsec_vectors::{COUNTERS_OF_TWO_RECEIVED, COUNTERS_OF_TWO_SENT};
 use std::alloc::Global;
 use std::test::Fail;
 
@@ -26,24 +27,7 @@ const PROTECT_STEPS: [Step; 5] = [
     (HEADER, ""),
     (SENT_1, "record 0 link 46\n"),
     (SENT_2, "record 1 link 46\n"),
-    (
-        "",
-        "end InPktsUntagged 0\n\
-            end InPktsNoTag 0\n\
-            end InPktsBadTag 0\n\
-            end InPktsReserved 0\n\
-            end InPktsNoSA 0\n\
-            end InPktsNoSAError 0\n\
-            end InOctetsValidated 0\n\
-            end InOctetsDecrypted 0\n\
-            end OutPktsUntagged 0\n\
-            end OutPktsTooLong 0\n\
-            end OutPktsNoSA 0\n\
-            end OutPktsProtected 2\n\
-            end OutPktsEncrypted 0\n\
-            end OutOctetsProtected 4\n\
-            end OutOctetsEncrypted 0\n",
-    ),
+    ("", COUNTERS_OF_TWO_SENT),
 ];
 
 const VALIDATE_STEPS: [Step; 5] = [
@@ -51,36 +35,7 @@ const VALIDATE_STEPS: [Step; 5] = [
     (HEADER, ""),
     (RECORD, "record 0 OK 14\n"),
     (RECORD, "record 1 OK 14\n"),
-    (
-        "",
-        "end InPktsUntagged 0\n\
-            end InPktsNoTag 0\n\
-            end InPktsBadTag 0\n\
-            end InPktsReserved 0\n\
-            end InPktsNoSA 0\n\
-            end InPktsNoSAError 0\n\
-            end InOctetsValidated 4\n\
-            end InOctetsDecrypted 0\n\
-            end OutPktsUntagged 0\n\
-            end OutPktsTooLong 0\n\
-            end OutPktsNoSA 0\n\
-            end OutPktsProtected 0\n\
-            end OutPktsEncrypted 0\n\
-            end OutOctetsProtected 0\n\
-            end OutOctetsEncrypted 0\n\
-            end 0200000000010001 InPktsOK 2\n\
-            end 0200000000010001 InPktsUnchecked 0\n\
-            end 0200000000010001 InPktsDelayed 0\n\
-            end 0200000000010001 InPktsLate 0\n\
-            end 0200000000010001 InPktsInvalid 0\n\
-            end 0200000000010001 InPktsNotValid 0\n\
-            end 0200000000010001 0 InPktsOK 2\n\
-            end 0200000000010001 0 InPktsUnchecked 0\n\
-            end 0200000000010001 0 InPktsDelayed 0\n\
-            end 0200000000010001 0 InPktsLate 0\n\
-            end 0200000000010001 0 InPktsInvalid 0\n\
-            end 0200000000010001 0 InPktsNotValid 0\n",
-    ),
+    ("", COUNTERS_OF_TWO_RECEIVED),
 ];
 
 impl Task {
