@@ -6,7 +6,8 @@ The rules are expected.py and captures.py.
     python3 fuzz/planted.py [--inputs N] [--seed TEXT]
 
 So it is seen that a program with that mistake would not get past `make fuzz`; and, of the mistakes that break a promise
-of docs/LINK.md, that promises.py finds it broken. No program is run here. The status is 1 if a mistake was not shown.
+of docs/LINK.md, that promises.py finds it broken. No program is run here. The status is 1 if a mistake was not shown, if
+there are fewer mistakes than COUNT says, or if a copy without a mistake seems to have one.
 """
 
 import argparse
@@ -17,6 +18,7 @@ import time
 import types
 
 sys.dont_write_bytecode = True
+import expected
 import inputs
 import promises
 
@@ -453,6 +455,16 @@ BREAKING = [
         "plain, counting",
     ),
 ]
+# How many mistakes there are, so that one that is missing is noticed.
+COUNT = 81
+
+# No mistake: a text that takes its own place. The first inputs must not show it, nor see a promise broken.
+TEXT = "is_late = pn < sa.lowest"
+SAME = [
+    (None, "no mistake", TEXT, TEXT),
+    ("ivs", "no mistake", TEXT, TEXT),
+]
+SAME_INPUTS = 100
 
 
 class Plant:
@@ -483,7 +495,12 @@ class Plant:
         return False
 
 
+# A table of AES, which no rule alters, and which takes most of the time of making a copy.
+TABLE = "S_BOX = [s_box_of(it) for it in range(256)]"
+
+
 def module_of(text):
+    text = text.replace(TABLE, f"S_BOX = {expected.S_BOX}")
     module = types.ModuleType("planted")
     exec(compile(text, "planted", "exec"), module.__dict__)
     return module
@@ -494,13 +511,13 @@ def script_of(case):
 
 
 def first_shown(job):
-    """Of some wrong rules, each with its place in the list, the first input that shows it."""
-    rules, options = job
+    """Of some wrong rules, each with its place in the list, the first of so many inputs that shows it."""
+    rules, seed, count = job
     corpus, left, shown = inputs.Corpus(), {place: Plant(*rule) for place, rule in rules}, {}
-    for number in range(options.inputs):
+    for number in range(count):
         if not left:
             break
-        case = inputs.case_of(options.seed, number, corpus)
+        case = inputs.case_of(seed, number, corpus)
         for place in [it for it, plant in left.items() if plant.is_shown(case)]:
             shown[place] = number
             del left[place]
@@ -510,19 +527,32 @@ def first_shown(job):
 def main():
     parser = argparse.ArgumentParser(description=__doc__.split("\n")[0])
     parser.add_argument("--inputs", type=int, default=5_000, help="how many inputs at most (5,000)")
-    parser.add_argument("--seed", default="1", help="which inputs (1)")
+    parser.add_argument("--seed", default="1", help="which inputs, by any text (1)")
     parser.add_argument("--jobs", type=int, default=os.cpu_count(), help="how many processes")
     options = parser.parse_args()
     began, shown = time.monotonic(), {}
     rules = list(enumerate([(None, *rule) for rule in PLANTED] + BREAKING))
+    same = list(enumerate(SAME, len(rules)))
+    jobs = [(rules[it :: options.jobs], options.seed, options.inputs) for it in range(options.jobs)]
     with concurrent.futures.ProcessPoolExecutor(options.jobs) as pool:
-        for found in pool.map(first_shown, [(rules[it :: options.jobs], options) for it in range(options.jobs)]):
+        for found in pool.map(first_shown, [*jobs, (same, options.seed, SAME_INPUTS)]):
             shown.update(found)
-    for place, (promise, mistake, *_) in rules:
+    return report(rules, same, shown, time.monotonic() - began)
+
+
+def report(rules, same, shown, seconds):
+    """Prints which input showed which rule first. The status is 1 if it is not as it should be."""
+    for place, (promise, mistake, *_) in [*rules, *same]:
         what = f"breaks `{promise}`: {mistake}" if promise else mistake
         print(f"{shown[place] + 1:9,} inputs  {what}" if place in shown else f"      not shown  {what}")
-    print(f"{len(shown)} of {len(rules)} mistakes are shown, in {time.monotonic() - began:.0f} seconds")
-    return 0 if len(shown) == len(rules) else 1
+    found = [place for place, _ in rules if place in shown]
+    print(f"{len(found)} of {len(rules)} mistakes are shown, in {seconds:.0f} seconds")
+    wrong = [f"a copy without a mistake: input {shown[place]} shows one" for place, _ in same if place in shown]
+    if len(rules) != COUNT:
+        wrong.append(f"there are {len(rules)} mistakes, and not {COUNT}")
+    for what in wrong:
+        print(f"WRONG: {what}")
+    return 1 if wrong or len(found) < len(rules) else 0
 
 
 if __name__ == "__main__":
