@@ -12,6 +12,9 @@ Of each input it asks: the program ends within some seconds, by itself and not b
 standard error and OUT are those expected, and no other file is created or changed; standard error is nothing or one of
 the lines that the documents name, with its status; OUT is an empty file, or a header and whole records; and the run of
 a script keeps the promises of docs/LINK.md (promises.py).
+
+From 2,000 inputs on, the inputs must also have met each kind of input, each verdict, each refusal, the premises of each
+promise, and the faults listed below (EXPECTED). The status is 1 if one was not met, and its name is printed.
 """
 
 import argparse
@@ -27,6 +30,7 @@ import time
 
 sys.dont_write_bytecode = True
 import captures
+import expected
 import promises
 from inputs import ROOT, Corpus, case_of
 
@@ -52,6 +56,21 @@ OUTCOME = re.compile(
     rb"(refused \d+ \w+|fault \d \w+|dropped \w+|frame|link|partial|done|(?!InP|InO|OutP|OutO)[A-Z]\w+)\b",
     re.M,
 )
+# What 2,000 inputs of any seed meet, by its place in the report. Each is met by more than 20 of them on average.
+MET_FROM = 2_000
+EXPECTED = {
+    "kind of input": "made|run|run -|protect|validate|there and back|words".split("|"),
+    "line on standard error": [
+        *("macsec: line: " + it for it in "Word Count Hex Number Ends".split()),
+        *("macsec: pcap " + it for it in "CutRecord RecordLength BlockLength".split()),
+        "macsec: usage",
+    ],
+    "verdict": [it[len("InPkts") :] for it in expected.RX_COUNTERS + expected.SECY_COUNTERS[:6]],
+    "refusal": [f"refused {number} {name}" for number, name in enumerate(expected.REFUSALS, 1)],
+    "fault": ["fault 1 Short", "fault 2 NoFrame", "fault 4 AlterRange", "fault 5 Short"],
+    "outcome": ["done", "frame", "link", "partial", "dropped NoSA", "dropped TooLong"],
+    "promise": promises.PROMISES,
+}
 
 
 def answer_of(program, case, folder):
@@ -149,6 +168,12 @@ class Tally:
         ):
             mine.update(others)
 
+    def unmet(self):
+        """What of EXPECTED no input met."""
+        met = {it for it, many in self.meeting.items() if many} | {it.decode() for it in self.outcomes}
+        met |= {it for answer in self.answers for it in answer}
+        return [f"{what} `{it}`" for what, names in EXPECTED.items() for it in names if it not in met]
+
 
 def start_worker(seed, programs):
     """A worker has files of this repository of its own."""
@@ -175,6 +200,7 @@ def run_share(share):
 
 
 def report(options, tally, seconds):
+    """Prints what was met and found. The status is 1 if something is wrong."""
     names = " and ".join(it.name for it in options.programs)
     print(f"{options.inputs:,} inputs of seed {options.seed}, each to {names}, in {seconds:.0f} seconds")
     for (kind, told), many in sorted(tally.answers.items()):
@@ -190,6 +216,10 @@ def report(options, tally, seconds):
     print(f"{len(tally.findings):9,}  answers other than expected, or promises broken")
     for number, program, what in sorted(tally.findings)[:20]:
         print(f"input {number}, {program}: {what}")
+    unmet = tally.unmet() if options.inputs >= options.met_from else []
+    for what in unmet:
+        print(f"no input met the {what}")
+    return 1 if tally.findings or unmet else 0
 
 
 def show(options):
@@ -221,8 +251,9 @@ def programs_of(named):
 def main():
     parser = argparse.ArgumentParser(description=__doc__.split("\n")[0])
     parser.add_argument("--inputs", type=int, default=100_000, help="how many inputs (100,000)")
-    parser.add_argument("--seed", default="1", help="which inputs (1)")
+    parser.add_argument("--seed", default="1", help="which inputs, by any text (1)")
     parser.add_argument("--jobs", type=int, default=os.cpu_count(), help="how many processes")
+    parser.add_argument("--met-from", type=int, default=MET_FROM, help="how many inputs must meet everything (2,000)")
     parser.add_argument("--only", type=int, help="runs the input of this number alone, and prints it")
     parser.add_argument("programs", nargs="*", type=pathlib.Path, help="the builds of the program")
     options = parser.parse_args()
@@ -238,8 +269,7 @@ def main():
             tally.merge(of_share)
             if number % 100 == 0:
                 print(f"{number * size:,} inputs, {len(tally.findings)} findings", file=sys.stderr, flush=True)
-    report(options, tally, time.monotonic() - began)
-    return 1 if tally.findings else 0
+    return report(options, tally, time.monotonic() - began)
 
 
 if __name__ == "__main__":
