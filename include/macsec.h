@@ -71,6 +71,9 @@
 extern "C" {
 #endif
 
+/* The version of the library, as the pkg-config file has it. */
+#define MACSEC_VERSION "0.9.0"
+
 /* The fewest and the most octets of a frame that is given to an endpoint. */
 #define MACSEC_FRAME_MIN 14
 #define MACSEC_FRAME_MAX 9248
