@@ -6,10 +6,13 @@
 # make run           does the same, and runs it on the tour
 # make lib           proves and builds the library for C, build/libmacsec.a, of the header include/macsec.h
 # make kept          proves the program's libraries and keeps the work where rt takes it, before a crate is changed
-# make install       copies the program, its manual page, the library for C, its header and its pkg-config file to
+# make install       copies the program, its manual pages, the library for C, its header and its pkg-config file to
 #                    PREFIX, /usr/local by default, under DESTDIR
 # make check         the gate
 # make edits         checks that each must-fail edit still applies, and that docs/MISTAKES.md lists it
+# make pictures      draws docs/pictures again, from crates.txt and docs/PERFORMANCE.md
+# make reference     writes docs/reference again, from the sources
+# make pages         runs the examples of the pages, and checks their links
 # make bench         measures the cipher and frames
 # make fuzz          gives mutated inputs to the program as both compilers build it
 # make moves         tries all lists of three moves over the rules in Python
@@ -21,8 +24,8 @@
 # make c-programs    builds the library for C and the programs over it, runs them, and makes 100,000 random calls
 # make lanes-used    sees that the cipher is built of its lanes, powers and pieces
 # make clean         removes what make has built
-# install, fuzz, failures, stored-runs, controls and peer prove and build the program first; install also the library for
-# C. All of them work in any order in one checkout.
+# install, pages, fuzz, failures, stored-runs, controls and peer prove and build the program first; install also the
+# library for C. All of them work in any order in one checkout.
 RT := $(shell command -v rt 2>/dev/null)
 SOURCES := crates.txt $(shell find crates -name out -prune -o -type f \( -name '*.rt' -o -name '*.antt' \) -print)
 INPUTS := 100000
@@ -31,8 +34,8 @@ PREFIX ?= /usr/local
 CPU ?= x86-64-v2
 BUILT := build/macsec$(if $(filter x86-64-v3,$(CPU)),-x86-64-v3)
 
-.PHONY: all try test run lib kept install check edits bench fuzz moves failures stored-runs controls peer kept-frames \
-    c-programs lanes-used toolchain clean
+.PHONY: all try test run lib kept install check edits pictures reference pages bench fuzz moves failures stored-runs \
+    controls peer kept-frames c-programs lanes-used toolchain clean
 
 all: $(BUILT)
 
@@ -54,19 +57,31 @@ kept: toolchain
 	@tools/prove kept
 
 install: build/macsec build/libmacsec.a
-	install -d "$(DESTDIR)$(PREFIX)/bin" "$(DESTDIR)$(PREFIX)/share/man/man1"
+	install -d "$(DESTDIR)$(PREFIX)/bin" "$(DESTDIR)$(PREFIX)/include" "$(DESTDIR)$(PREFIX)/lib/pkgconfig"
+	install -d "$(DESTDIR)$(PREFIX)/share/man/man1" "$(DESTDIR)$(PREFIX)/share/man/man5"
 	install -m 755 build/macsec "$(DESTDIR)$(PREFIX)/bin/macsec"
 	install -m 644 man/macsec.1 "$(DESTDIR)$(PREFIX)/share/man/man1/macsec.1"
-	install -d "$(DESTDIR)$(PREFIX)/include" "$(DESTDIR)$(PREFIX)/lib/pkgconfig"
+	install -m 644 man/macsec.5 "$(DESTDIR)$(PREFIX)/share/man/man5/macsec.5"
 	install -m 644 include/macsec.h "$(DESTDIR)$(PREFIX)/include/macsec.h"
 	install -m 644 build/libmacsec.a "$(DESTDIR)$(PREFIX)/lib/libmacsec.a"
-	sed 's|@PREFIX@|$(PREFIX)|' include/macsec.pc.in > "$(DESTDIR)$(PREFIX)/lib/pkgconfig/macsec.pc"
+	sed 's|@PREFIX@|$(PREFIX)|; s|@VERSION@|'"$$(cat VERSION)"'|' include/macsec.pc.in \
+	    > "$(DESTDIR)$(PREFIX)/lib/pkgconfig/macsec.pc"
 
 check: toolchain
 	@tools/check
 
 edits:
 	@tools/edits
+
+# What is made from the sources, and the examples and links of the pages.
+pictures:
+	tools/pictures
+
+reference:
+	tools/reference
+
+pages: build/macsec
+	tools/pages
 
 bench: toolchain
 	cd crates/macsec_bench && rt run -- measure
