@@ -5,3 +5,5 @@ pub mod Keywords
 pub mod LastLine
 pub mod LinesLeft
 pub mod FitLines
+pub mod WordsInOrder
+pub mod KeyParts

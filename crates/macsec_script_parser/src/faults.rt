@@ -76,16 +76,16 @@ impl ScriptFault {
         ensures { result ≡ fault_line self }
     {
         match self {
-            ScriptFault::Word(n)
-            | ScriptFault::Count(n)
-            | ScriptFault::Hex(n)
-            | ScriptFault::Number(n)
-            | ScriptFault::Ends(n)
-            | ScriptFault::LineLong(n) => Some(n),
-            ScriptFault::ScriptLong
-            | ScriptFault::Memory
-            | ScriptFault::Read
-            | ScriptFault::Write => None,
+            ScriptFault::Word(n) => Some(n),
+            ScriptFault::Count(n) => Some(n),
+            ScriptFault::Hex(n) => Some(n),
+            ScriptFault::Number(n) => Some(n),
+            ScriptFault::Ends(n) => Some(n),
+            ScriptFault::LineLong(n) => Some(n),
+            ScriptFault::ScriptLong => None,
+            ScriptFault::Memory => None,
+            ScriptFault::Read => None,
+            ScriptFault::Write => None,
         }
     }
 

@@ -1,42 +1,52 @@
 //! The lines of an end's keys.
 
-ghost use Rattle.std.specs.Prelude.{◌≡◌, [], map, codes, IfSome, IfNone};
-ghost use Rattle.macsec_script_parser.specs.Kinds.{read_line, kinds_at, kinds_of, key_kinds};
+ghost use Rattle.std.specs.Prelude.{◌≡◌, [], map, codes, Some, Ok, IfSome, IfNone};
+ghost use Rattle.macsec_commands.specs.declared.command.Command.TheVariants as by;
+ghost use Rattle.macsec_script_parser.specs.Numerals.{decimal_in, octets_of};
+ghost use Rattle.macsec_script_parser.specs.Fields.{as_ssci, key_of_word, map_ok, suites, value_of_keyword};
+ghost use Rattle.macsec_script_parser.specs.Kinds.{and_then, key_from, read_line, kinds_at, kinds_of, key_kinds, tells};
 
 use crate::lines::{Line, LineFault};
 use crate::words;
 use crate::words::{decimal, is_word, key_number};
-use macsec_commands::{Command, End, Event, NewKey};
+use macsec_commands::{Command, End, Event, NewKey, Suite};
 
-/// The installation of a key, from the words after `key`, whose number says what follows the offset: nothing, a suite,
-/// an SSCI and a salt, or all three. An SSCI and a salt that are left out are zeros.
-fn new_key(at: End, words: &[&[u8]]) -> Result<Line, LineFault>
-    ensures { result ≡ read_line (kinds_at at) (codes "key") (map (λ w. w.now) words.now) }
+/// The suite of a key, from its word.
+fn some_suite(word: &[u8]) -> Result<Option<Suite>, LineFault>
+    ensures { result ≡ map_ok Some (value_of_keyword suites word.now) }
 {
-    let (number, bytes, offset, suite, more) = match words {
-        [number, bytes, offset] => (number, bytes, offset, None, None),
-        [number, bytes, offset, suite] => (number, bytes, offset, Some(suite), None),
-        [number, bytes, offset, ssci, salt] => (number, bytes, offset, None, Some((ssci, salt))),
-        [number, bytes, offset, suite, ssci, salt] => (
-            number,
-            bytes,
-            offset,
-            Some(suite),
-            Some((ssci, salt)),
-        ),
-        _ => return Err(LineFault::Count),
-    };
+    let suite = words::suite(word)?;
+    Ok(Some(suite))
+}
+
+/// The SSCI and the salt of a key, from their words.
+fn ssci_and_salt(ssci: &[u8], salt: &[u8]) -> Result<(u32, [u8; 12]), LineFault>
+    ensures { result ≡ and_then (map_ok as_ssci (octets_of 4 ssci.now)) (λ ssci. map_ok (λ salt. (ssci, salt)) (octets_of 12 salt.now)) }
+{
+    let ssci = words::ssci(ssci)?;
+    let salt = words::salt(salt)?;
+    Ok((ssci, salt))
+}
+
+/// The installation of a key, from its first three words, and from what was read of the words after them: its suite, and
+/// its SSCI and salt.
+fn installation(
+    at: End,
+    number: &[u8],
+    bytes: &[u8],
+    offset: &[u8],
+    suite: Result<Option<Suite>, LineFault>,
+    more: Result<(u32, [u8; 12]), LineFault>,
+) -> Result<Line, LineFault>
+    ensures { result ≡ and_then (decimal_in 0 4095 number.now) (λ n. and_then (key_of_word bytes.now) (λ key.
+        and_then (decimal_in 0 255 offset.now) (λ offset. and_then suite (λ suite. and_then more (λ more.
+        Ok (tells at (by.Key (key_from n key offset suite more.0 more.1)))))))) }
+{
     let number = key_number(number)?;
     let bytes = words::key(bytes)?;
     let offset = decimal(0, 255, offset)? as u8;
-    let suite = match suite {
-        Some(suite) => Some(words::suite(suite)?),
-        None => None,
-    };
-    let (ssci, salt) = match more {
-        Some((ssci, salt)) => (words::ssci(ssci)?, words::salt(salt)?),
-        None => (0, [0; 12]),
-    };
+    let suite = suite?;
+    let (ssci, salt) = more?;
     Ok(Line::Event(Event::Command(
         at,
         Command::Key(NewKey {
@@ -48,6 +58,31 @@ fn new_key(at: End, words: &[&[u8]]) -> Result<Line, LineFault>
             suite,
         }),
     )))
+}
+
+/// The installation of a key, from the words after `key`, whose number says what follows the offset: nothing, a suite,
+/// an SSCI and a salt, or all three. An SSCI and a salt that are left out are zeros.
+fn new_key(at: End, words: &[&[u8]]) -> Result<Line, LineFault>
+    ensures { result ≡ read_line (kinds_at at) (codes "key") (map (λ w. w.now) words.now) }
+{
+    match words {
+        [number, bytes, offset] => {
+            installation(at, number, bytes, offset, Ok(None), Ok((0, [0; 12])))
+        }
+        [number, bytes, offset, suite] => {
+            let suite = some_suite(suite);
+            installation(at, number, bytes, offset, suite, Ok((0, [0; 12])))
+        }
+        [number, bytes, offset, ssci, salt] => {
+            let more = ssci_and_salt(ssci, salt);
+            installation(at, number, bytes, offset, Ok(None), more)
+        }
+        [number, bytes, offset, suite, ssci, salt] => {
+            let suite = some_suite(suite);
+            installation(at, number, bytes, offset, suite, ssci_and_salt(ssci, salt))
+        }
+        _ => Err(LineFault::Count),
+    }
 }
 
 /// The retirement of a key, from the words after `retire`.

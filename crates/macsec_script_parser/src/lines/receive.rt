@@ -1,7 +1,10 @@
 //! The lines of an end's receive channels and their associations.
 
-ghost use Rattle.std.specs.Prelude.{◌≡◌, [], map, codes, IfSome, IfNone};
-ghost use Rattle.macsec_script_parser.specs.Kinds.{read_line, kinds_at, kinds_of, channel_kinds, receive_kinds};
+ghost use Rattle.std.specs.Prelude.{◌≡◌, [], map, codes, Ok, IfSome, IfNone};
+ghost use Rattle.macsec_commands.specs.declared.command.Command.TheVariants as by;
+ghost use Rattle.macsec_script_parser.specs.Numerals.{decimal_in, octets_of, packet_number};
+ghost use Rattle.macsec_script_parser.specs.Fields.{as_sci, map_ok};
+ghost use Rattle.macsec_script_parser.specs.Kinds.{and_then, read_line, kinds_at, kinds_of, channel_kinds, receive_kinds, tells};
 
 use crate::lines::{Line, LineFault};
 use crate::words;
@@ -28,24 +31,24 @@ fn rx_sc_del(at: End, words: &[&[u8]]) -> Result<Line, LineFault>
     Ok(Line::Event(Event::Command(at, Command::RxScDel(words::sci(sci)?))))
 }
 
-/// The creation of a receive association, from the words after `rxsa`. The last one, the SSCI of its sender, can be
-/// left out and is zero then.
-fn rx_sa(at: End, words: &[&[u8]]) -> Result<Line, LineFault>
-    ensures { result ≡ read_line (kinds_at at) (codes "rxsa") (map (λ w. w.now) words.now) }
+/// The creation of a receive association, from its first four words, and from what was read as the SSCI of its sender.
+fn association_with(
+    at: End,
+    sci: &[u8],
+    an: &[u8],
+    key: &[u8],
+    lowest: &[u8],
+    ssci: Result<u32, LineFault>,
+) -> Result<Line, LineFault>
+    ensures { result ≡ and_then (map_ok as_sci (octets_of 8 sci.now)) (λ sci. and_then (decimal_in 0 3 an.now) (λ an.
+        and_then (decimal_in 0 4095 key.now) (λ key. and_then (packet_number lowest.now) (λ lowest. and_then ssci (λ ssci.
+        Ok (tells at (by.RxSa sci an key ssci lowest))))))) }
 {
-    let (sci, an, key, lowest, ssci) = match words {
-        [sci, an, key, lowest] => (sci, an, key, lowest, None),
-        [sci, an, key, lowest, ssci] => (sci, an, key, lowest, Some(ssci)),
-        _ => return Err(LineFault::Count),
-    };
     let sci = words::sci(sci)?;
     let an = association(an)?;
     let key = key_number(key)?;
     let lowest = words::packet_number(lowest)?;
-    let ssci = match ssci {
-        Some(ssci) => words::ssci(ssci)?,
-        None => 0,
-    };
+    let ssci = ssci?;
     Ok(Line::Event(Event::Command(
         at,
         Command::RxSa {
@@ -56,6 +59,20 @@ fn rx_sa(at: End, words: &[&[u8]]) -> Result<Line, LineFault>
             lowest,
         },
     )))
+}
+
+/// The creation of a receive association, from the words after `rxsa`. The last one, the SSCI of its sender, can be
+/// left out and is zero then.
+fn rx_sa(at: End, words: &[&[u8]]) -> Result<Line, LineFault>
+    ensures { result ≡ read_line (kinds_at at) (codes "rxsa") (map (λ w. w.now) words.now) }
+{
+    match words {
+        [sci, an, key, lowest] => association_with(at, sci, an, key, lowest, Ok(0)),
+        [sci, an, key, lowest, ssci] => {
+            association_with(at, sci, an, key, lowest, words::ssci(ssci))
+        }
+        _ => Err(LineFault::Count),
+    }
 }
 
 /// The enabling of a receive association, from the words after `rxon`.

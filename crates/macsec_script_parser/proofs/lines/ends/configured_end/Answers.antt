@@ -1,23 +1,55 @@
--- By these tactics alone: without these proofs the prover tries others before them, which takes longer, and on a
--- mutant it tries all.
-use Rattle.std.proofs.Common.{arith}
-use Rattle.std.proofs.lemmas.Grind.{common_steps}
+-- Its words, read from left to right as its kind says.
+use Rattle.std.proofs.Common.{sym, ap, ◌∙◌, refl}
+use Rattle.std.specs.Prelude.{Err}
+use Rattle.std.proofs.lemmas.Result.{err_from_is_err_and}
+use Rattle.macsec_script_parser.proofs.WordsInOrder.{of_five_words, taken, failed}
 use Rattle.macsec_script_parser.proofs.lines.ends.configured_end.Goals as goal
 
 pub returns-in_err-at : goal.returns-in_err-at
-returns-in_err-at c = grind (arith, common_steps)
+returns-in_err-at c =
+    let p = err_from_is_err_and c.from_residual.result c.from_residual.ensures.1 in
+    of_five_words _ c.args.words.now _ c.in-len5.len_at_least c.in-len5.len_below
+    (p.1 ∙ ap Err p.2 ∙ failed _ (sym c.end.ensures ∙ c.in_err-at.was))
 
 pub returns-in_err-suite : goal.returns-in_err-suite
-returns-in_err-suite c = grind (arith, common_steps)
+returns-in_err-suite c =
+    let p = err_from_is_err_and c.from_residual-in_err-suite.result c.from_residual-in_err-suite.ensures.1 in
+    of_five_words _ c.args.words.now _ c.in-len5.len_at_least c.in-len5.len_below
+    (p.1 ∙ ap Err p.2 ∙ taken _ (sym c.end.ensures ∙ c.in_ok-at.was)
+    (failed _ (sym c.suite.ensures ∙ c.in_err-suite.was)))
 
 pub returns-in_err-sci : goal.returns-in_err-sci
-returns-in_err-sci c = grind (arith, common_steps)
+returns-in_err-sci c =
+    let p = err_from_is_err_and c.from_residual-in_err-sci.result c.from_residual-in_err-sci.ensures.1 in
+    of_five_words _ c.args.words.now _ c.in-len5.len_at_least c.in-len5.len_below
+    (p.1 ∙ ap Err p.2 ∙ taken _ (sym c.end.ensures ∙ c.in_ok-at.was)
+    (taken _ (sym c.suite.ensures ∙ c.in_ok-suite.was)
+    (failed _ (sym c.sci.ensures ∙ c.in_err-sci.was))))
 
 pub returns-in_err-max_frame : goal.returns-in_err-max_frame
-returns-in_err-max_frame c = grind (arith, common_steps)
+returns-in_err-max_frame c =
+    let p = err_from_is_err_and c.from_residual-in_err-max_frame.result c.from_residual-in_err-max_frame.ensures.1 in
+    of_five_words _ c.args.words.now _ c.in-len5.len_at_least c.in-len5.len_below
+    (p.1 ∙ ap Err p.2 ∙ taken _ (sym c.end.ensures ∙ c.in_ok-at.was)
+    (taken _ (sym c.suite.ensures ∙ c.in_ok-suite.was)
+    (taken _ (sym c.sci.ensures ∙ c.in_ok-sci.was)
+    (failed _ (sym c.decimal.ensures ∙ c.in_err-max_frame.was)))))
 
 pub returns-in_err-form : goal.returns-in_err-form
-returns-in_err-form c = grind (arith, common_steps)
+returns-in_err-form c =
+    let p = err_from_is_err_and c.from_residual-in_err-form.result c.from_residual-in_err-form.ensures.1 in
+    of_five_words _ c.args.words.now _ c.in-len5.len_at_least c.in-len5.len_below
+    (p.1 ∙ ap Err p.2 ∙ taken _ (sym c.end.ensures ∙ c.in_ok-at.was)
+    (taken _ (sym c.suite.ensures ∙ c.in_ok-suite.was)
+    (taken _ (sym c.sci.ensures ∙ c.in_ok-sci.was)
+    (taken _ (sym c.decimal.ensures ∙ c.in_ok-max_frame.was)
+    (failed _ (sym c.tag_form.ensures ∙ c.in_err-form.was))))))
 
 pub returns : goal.returns
-returns c = grind (arith, common_steps)
+returns c =
+    of_five_words _ c.args.words.now _ c.in-len5.len_at_least c.in-len5.len_below
+    (taken _ (sym c.end.ensures ∙ c.in_ok-at.was)
+    (taken _ (sym c.suite.ensures ∙ c.in_ok-suite.was)
+    (taken _ (sym c.sci.ensures ∙ c.in_ok-sci.was)
+    (taken _ (sym c.decimal.ensures ∙ c.in_ok-max_frame.was)
+    (taken _ (sym c.tag_form.ensures ∙ c.in_ok-form.was) refl)))))

@@ -1,45 +1,31 @@
--- By these tactics alone: without these proofs the prover tries others before them, which takes longer, and on a
--- mutant it tries all.
-use Rattle.std.proofs.Common.{arith}
-use Rattle.std.proofs.lemmas.Grind.{common_steps}
+-- By the number of the words, each kind of key as it is read from the first three words and from those after them.
+use Rattle.std.proofs.Common.{◌≡◌, ◌∙◌}
+use Rattle.std.specs.Prelude.{codes}
+use Rattle.macsec_script_parser.specs.Kinds.{kinds_at, read_line}
+use Rattle.macsec_script_parser.proofs.WordsInOrder.{at_three_words, at_four_words, at_five_words, at_six_words}
+use Rattle.macsec_script_parser.proofs.KeyParts.{key_of-suite, key_of-ssci, key_of-both}
 use Rattle.macsec_script_parser.proofs.lines.keys.new_key.Goals as goal
-use Rattle.macsec_script_parser.proofs.lines.keys.new_key.Goals.{in-len3, in-len4, in-len5, in-len6}
 
-pub returns-in_err-number : goal.returns-in_err-number
-returns-in_err-number c = grind (arith, common_steps)
+pub returns-in-len3 : goal.returns-in-len3
+returns-in-len3 c =
+    at_three_words (λ seen. c.installation.result ≡ read_line (kinds_at c.args.at) (codes "key") seen)
+    c.args.words.now _ c.in-len3.len_at_least c.in-len3.len_below c.installation.ensures
 
-pub returns-in_err-bytes : goal.returns-in_err-bytes
-returns-in_err-bytes c = grind (arith, common_steps)
+pub returns-in-len4 : goal.returns-in-len4
+returns-in-len4 c =
+    at_four_words (λ seen. c.installation-in-len4.result ≡ read_line (kinds_at c.args.at) (codes "key") seen)
+    c.args.words.now _ c.in-len4.len_at_least c.in-len4.len_below
+    (c.installation-in-len4.ensures ∙ key_of-suite c.args.at _ _ _ _ c.some_suite-suite.result _ _ c.some_suite-suite.ensures)
 
-pub returns-in_err-offset : goal.returns-in_err-offset
-returns-in_err-offset c = grind (arith, common_steps)
+pub returns-in-len5 : goal.returns-in-len5
+returns-in-len5 c =
+    at_five_words (λ seen. c.installation-in-len5.result ≡ read_line (kinds_at c.args.at) (codes "key") seen)
+    c.args.words.now _ c.in-len5.len_at_least c.in-len5.len_below
+    (c.installation-in-len5.ensures ∙ key_of-ssci c.args.at _ _ _ _ _ c.ssci_and_salt-more.result c.ssci_and_salt-more.ensures)
 
-pub returns-in_err-suite-in-Some : goal.returns-in_err-suite-in-Some
-returns-in_err-suite-in-Some c = grind (arith, common_steps) steps 2600000
-
-pub returns-in_err-ssci-in-Some-more : goal.returns-in_err-ssci-in-Some-more
-returns-in_err-ssci-in-Some-more c =
-    elim c.if-words-lt4.branch [
-      | in-len3 w ↦ grind (arith, common_steps)
-      | in-len4 w ↦ grind (arith, common_steps) steps 1500000
-      | in-len5 w ↦ grind (arith, common_steps)
-      | in-len6 w ↦ grind (arith, common_steps)
-    ]
-
-pub returns-in_err-salt-in-Some-more : goal.returns-in_err-salt-in-Some-more
-returns-in_err-salt-in-Some-more c =
-    elim c.if-words-lt4.branch [
-      | in-len3 w ↦ grind (arith, common_steps)
-      | in-len4 w ↦ grind (arith, common_steps) steps 1500000
-      | in-len5 w ↦ grind (arith, common_steps)
-      | in-len6 w ↦ grind (arith, common_steps)
-    ]
-
-pub returns : goal.returns
-returns c =
-    elim c.if-words-lt4.branch [
-      | in-len3 w ↦ grind (arith, common_steps)
-      | in-len4 w ↦ grind (arith, common_steps)
-      | in-len5 w ↦ grind (arith, common_steps)
-      | in-len6 w ↦ grind (arith, common_steps)
-    ]
+pub returns-in-len6 : goal.returns-in-len6
+returns-in-len6 c =
+    at_six_words (λ seen. c.installation-in-len6.result ≡ read_line (kinds_at c.args.at) (codes "key") seen)
+    c.args.words.now _ c.in-len6.len_at_least c.in-len6.len_below
+    (c.installation-in-len6.ensures
+    ∙ key_of-both c.args.at _ _ _ _ _ _ c.some_suite-suite-in-len6.result c.ssci_and_salt.result c.some_suite-suite-in-len6.ensures c.ssci_and_salt.ensures)

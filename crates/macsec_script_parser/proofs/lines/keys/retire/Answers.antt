@@ -1,11 +1,17 @@
--- By these tactics alone: without these proofs the prover tries others before them, which takes longer, and on a
--- mutant it tries all.
-use Rattle.std.proofs.Common.{arith}
-use Rattle.std.proofs.lemmas.Grind.{common_steps}
+-- Its word, read as its kind says.
+use Rattle.std.proofs.Common.{sym, ap, ◌∙◌, refl}
+use Rattle.std.specs.Prelude.{Err}
+use Rattle.std.proofs.lemmas.Result.{err_from_is_err_and}
+use Rattle.macsec_script_parser.proofs.WordsInOrder.{of_one_word, taken, failed}
 use Rattle.macsec_script_parser.proofs.lines.keys.retire.Goals as goal
 
 pub returns-in_err-key_number : goal.returns-in_err-key_number
-returns-in_err-key_number c = grind (arith, common_steps)
+returns-in_err-key_number c =
+    let p = err_from_is_err_and c.from_residual.result c.from_residual.ensures.1 in
+    of_one_word _ c.args.words.now _ c.in-len1.len_at_least c.in-len1.len_below
+    (p.1 ∙ ap Err p.2 ∙ failed _ (sym c.key_number.ensures ∙ c.in_err-key_number.was))
 
 pub returns : goal.returns
-returns c = grind (arith, common_steps)
+returns c =
+    of_one_word _ c.args.words.now _ c.in-len1.len_at_least c.in-len1.len_below
+    (taken _ (sym c.key_number.ensures ∙ c.in_ok-key_number.was) refl)

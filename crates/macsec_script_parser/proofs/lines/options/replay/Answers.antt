@@ -1,14 +1,25 @@
--- By these tactics alone: without these proofs the prover tries others before them, which takes longer, and on a
--- mutant it tries all.
-use Rattle.std.proofs.Common.{arith}
-use Rattle.std.proofs.lemmas.Grind.{common_steps}
+-- Its words, read from left to right as its kind says.
+use Rattle.std.proofs.Common.{sym, ap, ◌∙◌, refl}
+use Rattle.std.specs.Prelude.{Err}
+use Rattle.std.proofs.lemmas.Result.{err_from_is_err_and}
+use Rattle.macsec_script_parser.proofs.WordsInOrder.{of_two_words, taken, failed}
 use Rattle.macsec_script_parser.proofs.lines.options.replay.Goals as goal
 
 pub returns-in_err-protect : goal.returns-in_err-protect
-returns-in_err-protect c = grind (arith, common_steps)
+returns-in_err-protect c =
+    let p = err_from_is_err_and c.from_residual.result c.from_residual.ensures.1 in
+    of_two_words _ c.args.words.now _ c.in-len2.len_at_least c.in-len2.len_below
+    (p.1 ∙ ap Err p.2 ∙ failed _ (sym c.switch.ensures ∙ c.in_err-protect.was))
 
 pub returns-in_err-window : goal.returns-in_err-window
-returns-in_err-window c = grind (arith, common_steps)
+returns-in_err-window c =
+    let p = err_from_is_err_and c.from_residual-in_err-window.result c.from_residual-in_err-window.ensures.1 in
+    of_two_words _ c.args.words.now _ c.in-len2.len_at_least c.in-len2.len_below
+    (p.1 ∙ ap Err p.2 ∙ taken _ (sym c.switch.ensures ∙ c.in_ok-protect.was)
+    (failed _ (sym c.decimal.ensures ∙ c.in_err-window.was)))
 
 pub returns : goal.returns
-returns c = grind (arith, common_steps)
+returns c =
+    of_two_words _ c.args.words.now _ c.in-len2.len_at_least c.in-len2.len_below
+    (taken _ (sym c.switch.ensures ∙ c.in_ok-protect.was)
+    (taken _ (sym c.decimal.ensures ∙ c.in_ok-window.was) refl))

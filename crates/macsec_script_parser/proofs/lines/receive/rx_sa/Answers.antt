@@ -1,23 +1,17 @@
--- By these tactics alone: without these proofs the prover tries others before them, which takes longer, and on a
--- mutant it tries all.
-use Rattle.std.proofs.Common.{arith}
-use Rattle.std.proofs.lemmas.Grind.{common_steps}
+-- By the number of the words, each kind of association as it is read from the first four words and the SSCI.
+use Rattle.std.proofs.Common.{◌≡◌}
+use Rattle.std.specs.Prelude.{codes}
+use Rattle.macsec_script_parser.specs.Kinds.{kinds_at, read_line}
+use Rattle.macsec_script_parser.proofs.WordsInOrder.{at_four_words, at_five_words}
 use Rattle.macsec_script_parser.proofs.lines.receive.rx_sa.Goals as goal
 
-pub returns-in_err-sci : goal.returns-in_err-sci
-returns-in_err-sci c = grind (arith, common_steps)
+pub returns-in-len4 : goal.returns-in-len4
+returns-in-len4 c =
+    at_four_words (λ seen. c.association_with.result ≡ read_line (kinds_at c.args.at) (codes "rxsa") seen)
+    c.args.words.now _ c.in-len4.len_at_least c.in-len4.len_below c.association_with.ensures
 
-pub returns-in_err-an : goal.returns-in_err-an
-returns-in_err-an c = grind (arith, common_steps)
-
-pub returns-in_err-key : goal.returns-in_err-key
-returns-in_err-key c = grind (arith, common_steps)
-
-pub returns-in_err-lowest : goal.returns-in_err-lowest
-returns-in_err-lowest c = grind (arith, common_steps)
-
-pub returns-in_err-ssci-in-Some : goal.returns-in_err-ssci-in-Some
-returns-in_err-ssci-in-Some c = grind (arith, common_steps)
-
-pub returns : goal.returns
-returns c = grind (arith, common_steps)
+pub returns-in-len5 : goal.returns-in-len5
+returns-in-len5 c =
+    at_five_words (λ seen. c.association_with-in-len5.result ≡ read_line (kinds_at c.args.at) (codes "rxsa") seen)
+    c.args.words.now _ c.in-len5.len_at_least c.in-len5.len_below
+    (rw c.ssci.ensures at c.association_with-in-len5.ensures)
