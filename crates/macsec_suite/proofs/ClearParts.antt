@@ -1,4 +1,4 @@
--- Parts of a frame in place, as parts of its octets concatenated.
+-- The parts of a frame in place, as parts of its concatenated octets.
 use Rattle.std.proofs.Common.{◌≡◌, ℕ, ◌+◌, ◌-◌, List, ◌++◌, length, take, drop, min, Bool, refl, ap, ◌∙◌, arith}
 use Rattle.std.proofs.Common.{length-append, length-drop}
 use Rattle.std.specs.Prelude.{if◌then◌else◌, Option, option_map}
@@ -10,7 +10,7 @@ use Rattle.macsec_suite.specs.InPlace.{clear_and_rest, protected_octets, validat
 use Rattle.macsec_suite.specs.Keys.{PreparedKey}
 use Rattle.macsec_suite.specs.Laws.{PartsInPlace}
 
--- the octets before the data and the clear octets of the data, and the rest
+-- cutting the concatenated octets gives the header with the clear octets of the data, and the rest
 pub cut_behind : (offset : ℕ) (e : Bool) (head user_data : List ℕ) →
     clear_and_rest offset e (length head) (head ++ user_data) ≡
     (head ++ take (clear_length offset e user_data) user_data, drop (clear_length offset e user_data) user_data)
@@ -30,14 +30,14 @@ parts_in_place offset e da sa tag user_data da_long sa_long =
     let long : 12 + length (encoding tag) ≡ length head = omega (arith, length-append (da ++ sa) (encoding tag), length-append da sa, da_long, sa_long) in
     ap (λ (n : ℕ). clear_and_rest offset e n (head ++ user_data)) long ∙ cut_behind offset e head user_data
 
--- the clear length of a body whose length is known
+-- the clear length of a body of known length
 clear_of : (offset : ℕ) (e : Bool) (head n : ℕ) (body : List ℕ) → length body ≡ n →
     (if e then min offset (n - head) else n - head) ≡ clear_length offset e (drop head body)
 clear_of offset e head n body long =
     let rest : length (drop head body) ≡ n - head = length-drop head body ∙ ap (λ m. m - head) long in
     rw rest refl
 
--- the clear octets, the sealed rest and its tag are those of the definition over the octets of the whole frame
+-- the clear octets, the sealed rest and its tag are what the definition gives for the whole frame
 pub protected_in_place : (key : PreparedKey) (iv : List ℕ) (conf : Bool) (head : ℕ) {clear : ℕ} (frame : List ℕ)
     {body aad text bytes ct tag icv : List ℕ} → body ≡ take (length frame - 16) frame → length body ≡ length frame - 16 →
     clear ≡ (if conf then min key.offset (length frame - 16 - head) else length frame - 16 - head) →
@@ -49,7 +49,7 @@ protected_in_place key iv conf head {clear} frame {body} body_is long clear_is a
     clear_is ∙ clear_of key.offset conf head (length frame - 16) body long in
     rw (icv_is, ← body_is, ← cut, ← aad_is, ← text_is, ← bytes_are, ← sealed) refl
 
--- what opening gives is that of the definition over the octets of the whole frame
+-- the result of opening is what the definition gives for the whole frame
 pub validated_in_place : (key : PreparedKey) (iv : List ℕ) (e : Bool) (head n length_of_data : ℕ) (frame : List ℕ)
     {clear : ℕ} {body behind aad text bytes icv : List ℕ} {opened : Option (List ℕ)} →
     body ≡ take n frame → behind ≡ drop n frame → length body ≡ n → n ≡ head + length_of_data →

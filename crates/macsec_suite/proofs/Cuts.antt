@@ -1,13 +1,13 @@
--- Texts that are taken in piece by piece.
+-- Texts that are processed piece by piece.
 use Rattle.std.proofs.Common.{◌≡◌, ℕ, ◌+◌, ◌-◌, ◌*◌, ◌≤◌, List, [], ◌++◌, length, take, drop, min, refl, subst, ap, sym, ◌∙◌, arith, append_assoc}
 use Rattle.std.proofs.Math.Seq.{take-add}
 use Rattle.std.proofs.lemmas.List.{append-nil, drop-drop, nil_from_length, take_all}
 use Rattle.std.proofs.lemmas.Slice.{take-put_mid, drop-put_mid}
 use borrow.Rule.Slice.PartMut.{put_mid}
 
--- ---- a text that is lent in pieces and stays as it is
+-- ---- texts that are read in pieces and do not change
 
--- a state has taken in what stands before the rest of a text
+-- a state has taken in what precedes the rest of a text
 pub record AreTaken (Has : List ℕ → Type 0) (text rest : List ℕ) : Type 0 where
   pub done : List ℕ
   pub text_is : done ++ rest ≡ text
@@ -17,7 +17,7 @@ pub record AreTaken (Has : List ℕ → Type 0) (text rest : List ℕ) : Type 0 
 pub none_taken : (Has : List ℕ → Type 0) {text rest : List ℕ} → rest ≡ text → Has [] → AreTaken Has text rest
 none_taken Has whole taken = record { done = []; text_is = whole; taken = taken }
 
--- the state after the next piece has taken it in too
+-- after the next piece the state has taken it in too
 pub one_more_taken : (Has After : List ℕ → Type 0) {text rest piece after : List ℕ} → rest ≡ piece ++ after
     → ((done : List ℕ) → Has done → After (done ++ piece)) → AreTaken Has text rest → AreTaken After text after
 one_more_taken Has After {text} {rest} {piece} {after} cut takes are = record {
@@ -26,13 +26,13 @@ one_more_taken Has After {text} {rest} {piece} {after} cut takes are = record {
   taken = takes are.done are.taken;
 }
 
--- where nothing is left, the whole text was taken in
+-- if nothing is left, the whole text was taken in
 pub all_taken : (Has : List ℕ → Type 0) {text rest : List ℕ} → length rest ≡ 0 → AreTaken Has text rest → Has text
 all_taken Has {text} {rest} none are =
     let nothing : [] ≡ rest = sym (nil_from_length rest none) in
     subst Has (sym (append-nil are.done) ∙ ap (◌++◌ are.done) nothing ∙ are.text_is) are.taken
 
--- ---- a text cut into pieces of 256 octets, of which the last may be shorter
+-- ---- texts in pieces of 256 octets; the last piece can be shorter
 
 -- where the first i pieces end
 abbrev pub end_of : List ℕ → ℕ → ℕ
@@ -47,7 +47,7 @@ no_piece text =
     let none : end_of text 0 ≡ 0 = omega arith in
     ap (λ (n : ℕ). take n text) none
 
--- one piece more
+-- one more piece
 one_more : (text : List ℕ) (i e : ℕ) → 256 * i ≤ length text → e ≡ min (length text) (256 * i + 256)
     → pieces text i ++ take (e - 256 * i) (drop (256 * i) text) ≡ pieces text (i + 1)
 one_more text i e before end =
@@ -59,9 +59,9 @@ one_more text i e before end =
 all_pieces : (text : List ℕ) (i : ℕ) → length text ≤ 256 * i → pieces text i ≡ text
 all_pieces text i behind = take_all (end_of text i) text (omega (arith, behind))
 
--- ---- a text whose pieces are written in their place, one after another
+-- ---- texts whose pieces are replaced in place, one after another
 
--- what was written stands after the pieces before it
+-- the written piece follows the pieces before it
 one_written : (text new : List ℕ) (written : List ℕ) (i e : ℕ) → length new ≡ length text → 256 * i ≤ length text
     → e ≡ min (length text) (256 * i + 256) → length written ≡ e - 256 * i
     → take (end_of text (i + 1)) (put_mid (256 * i) (e - 256 * i) new written) ≡ take (end_of text i) new ++ written
@@ -70,7 +70,7 @@ one_written text new written i e same before end long =
     take-put_mid (256 * i) (e - 256 * i) new written (end_of text (i + 1)) (omega (arith, before, end, long)) (omega (arith, same, before))
     ∙ ap (λ (n : ℕ). take n new ++ written) first
 
--- and the octets behind it stay
+-- the octets after it do not change
 rest_stays : (text new : List ℕ) (written : List ℕ) (i e : ℕ) → length new ≡ length text → 256 * i ≤ length text
     → e ≡ min (length text) (256 * i + 256) → length written ≡ e - 256 * i
     → drop (end_of text i) new ≡ drop (end_of text i) text
@@ -81,15 +81,14 @@ rest_stays text new written i e same before end long held =
     drop-put_mid (256 * i) (e - 256 * i) new written (end_of text (i + 1)) (omega (arith, before, end)) (omega (arith, same, before)) long
     ∙ ap (λ (n : ℕ). drop n new) (sym next) ∙ sym (drop-drop w (end_of text i) new) ∙ ap (drop w) held ∙ drop-drop w (end_of text i) text ∙ ap (λ (n : ℕ). drop n text) next
 
--- so the next piece is as it was before
+-- so the next piece is unchanged
 next_piece : (text new : List ℕ) (i e : ℕ) → 256 * i ≤ length text → drop (end_of text i) new ≡ drop (end_of text i) text
     → take (e - 256 * i) (drop (256 * i) new) ≡ take (e - 256 * i) (drop (256 * i) text)
 next_piece text new i e before held =
     let first : end_of text i ≡ 256 * i = omega (arith, before) in
     ap (take (e - 256 * i)) (ap (λ (n : ℕ). drop n new) (sym first) ∙ held ∙ ap (λ (n : ℕ). drop n text) first)
 
--- a state has taken in the first i pieces, what f gives for them stands in their place, and what follows them is as it
--- was
+-- a state has taken in the first i pieces, f's results for them have replaced them, and the rest is unchanged
 pub record AreWritten (Has : List ℕ → Type 0) (f : List ℕ → List ℕ) (text new : List ℕ) (i : ℕ) : Type 0 where
   pub taken : Has (pieces text i)
   pub done : take (end_of text i) new ≡ f (pieces text i)
@@ -102,7 +101,7 @@ none_written Has f text empty taken = record {
   rest = refl;
 }
 
--- the state after a piece has taken it in too, and what f gives for it was written
+-- after one more piece the state has taken it in too, and f's result for it was written
 pub one_more_written : (Has After : List ℕ → Type 0) (f : List ℕ → List ℕ) (text new written : List ℕ) (i e : ℕ)
     → length new ≡ length text → 256 * i ≤ length text → e ≡ min (length text) (256 * i + 256) → length written ≡ e - 256 * i
     → ((before : List ℕ) → Has before → let more = before ++ take (e - 256 * i) (drop (256 * i) new) in After more × (f more ≡ f before ++ written))

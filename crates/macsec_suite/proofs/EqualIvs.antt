@@ -1,4 +1,4 @@
--- What two frames have in common whose IVs are equal.
+-- What two frames with equal IVs have in common.
 use Rattle.std.proofs.Common.{◌≡◌, ℕ, ◌^◌, ◌<◌, true, false, List, ◌++◌, length, get_or, take, drop, bit_xor, refl, sym, ap, ◌∙◌, arith}
 use Rattle.std.specs.Int.{w32, w64, from_be_bytes, to_be_bytes}
 use Rattle.std.specs.Int.Bits.{xor_assoc, xor_self, xor_zero_l}
@@ -67,7 +67,7 @@ of_64_bits suite p q xpn long salts ssci ssci' fits fits' e =
       ssci = λ _. same_of_4 p.ssci q.ssci ssci ssci' (ap (take 4) streams);
     }
 
--- ---- of each suite
+-- ---- all suites
 
 pub equal_ivs : (suite : Suite) (p q : IvParts) → EqualIvs suite p q
 equal_ivs Gcm128 p q are are' salts e = of_32_bits Gcm128 p q refl are.sci are'.sci (omega (arith, are.pn)) (omega (arith, are'.pn)) e

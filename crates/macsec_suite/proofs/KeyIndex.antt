@@ -1,4 +1,4 @@
--- The index of a table of keys, and a change of the one row that it finds.
+-- The index of a table of keys, and changing the one row that it finds.
 use Rattle.std.proofs.Common.{◌≡◌, ℕ, ◌<◌, ◌+◌, Bool, true, false, cond, List, [], ◌∷◌, ◌++◌, map, length, zero, suc, get_or, refl, sym}
 use Rattle.std.proofs.Common.{ap, ◌∙◌, arith, inl, inr, subst, eq-eqb, get_or-set_other, get_or-set_same, length-append, length-set}
 use Rattle.std.specs.Prelude.{Option, Some, None, IsSome, option_map, slice_get, ◌==◌}
@@ -16,7 +16,7 @@ use Rattle.macsec_suite.proofs.KeyLemmas.{AreKeyRows-map, AreStoredKeys, cond_no
 
 -- ---- the index
 
--- there is no key yet
+-- an index without keys
 pub IsIndex-none : (places : List ℕ) → places ≡ replicate max_key_count max_key_count → IsIndex places []
 IsIndex-none places free = record {
   covers = ap length free ∙ length-replicate max_key_count max_key_count;
@@ -24,7 +24,7 @@ IsIndex-none places free = record {
   within = λ n small there. absurd (omega (arith, ap (λ (all : List ℕ). get_or all n 0) free, get_or-replicate max_key_count n max_key_count 0 small));
 }
 
--- the row of a number, among rows whose numbers a change keeps
+-- finding the row of a number after a change that keeps numbers
 key_row-map : (f : InstalledKey → InstalledKey) → ((row : InstalledKey) → (f row).number ≡ row.number) → (rows : List InstalledKey) (n : ℕ) →
     key_row (map f rows) n ≡ option_map f (key_row rows n)
 key_row-map f same [] n = refl
@@ -37,7 +37,7 @@ key_row-map f same (row ∷ rows) n =
     by_tests false true r s both e = cc
     by_tests false false r s both e = e
 
--- a change that keeps the numbers keeps the index
+-- a change that keeps numbers keeps the index
 pub IsIndex-map : (f : InstalledKey → InstalledKey) → ((row : InstalledKey) → (f row).number ≡ row.number) → (places : List ℕ) (rows : List InstalledKey) →
     IsIndex places rows → IsIndex places (map f rows)
 IsIndex-map f same places rows index = record {
@@ -66,7 +66,7 @@ key_row-push_other : (rows : List InstalledKey) (new : InstalledKey) (n : ℕ) �
 key_row-push_other [] new n other = rw other refl
 key_row-push_other (row ∷ rows) new n other = ap (λ rest. cond (row.number == n) (Some row) rest) (key_row-push_other rows new n other)
 
--- a key of a new number is at the end, and is found there
+-- a key with a new number is appended, and is found there
 pub IsIndex-push : (places : List ℕ) (rows : List InstalledKey) (new : InstalledKey) → IsIndex places rows → length rows < max_key_count →
     new.number < max_key_count → key_row rows new.number ≡ None → IsIndex (set places new.number (length rows)) (rows ++ new ∷ [])
 IsIndex-push places rows new index room small free = record {
@@ -107,16 +107,16 @@ IsIndex-push places rows new index room small free = record {
         let same : place n ≡ get_or places n 0 = elsewhere n other in
         omega (arith, same, longer, index.within n fits (omega (arith, same, there)))
 
--- ---- a change of the one row of a number
+-- ---- changing the one row of a number
 
--- a change of a number that no row has
+-- no row has the number: nothing changes
 with_key-free : (change : InstalledKey → InstalledKey) (rows : List InstalledKey) (n : ℕ) → key_row rows n ≡ None → with_key change n rows ≡ rows
 with_key-free change [] n free = refl
 with_key-free change (row ∷ rows) n free =
     let parts = cond_none (row.number == n) row (key_row rows n) free in
     rw parts.0 (ap (λ rest. row ∷ rest) (with_key-free change rows n parts.1))
 
--- a number that no row has is not that of a row
+-- a row's number is not a number that no row has
 number-differs : (rows : List InstalledKey) (m i : ℕ) (row : InstalledKey) → key_row rows m ≡ None → slice_get rows i ≡ Some row → (row.number == m) ≡ false
 number-differs [] m i row free there = cc
 number-differs (first ∷ rows) m zero row free there =
@@ -127,7 +127,7 @@ number-differs (first ∷ rows) m (suc i) row free there =
     let parts = cond_none (first.number == m) first (key_row rows m) free in
     number-differs rows m i row parts.1 there
 
--- the one row of a number is changed at its place
+-- the one row of a number is changed at its index
 pub with_key-set : (change : InstalledKey → InstalledKey) (rows : List InstalledKey) (n i : ℕ) (row : InstalledKey) → AreKeyRows rows →
     slice_get rows i ≡ Some row → row.number ≡ n → with_key change n rows ≡ set rows i (change row)
 with_key-set change [] n i row h there is = cc
@@ -144,7 +144,7 @@ with_key-set change (first ∷ rows) n (suc i) row h there is =
     let other : (first.number == n) ≡ false = ne_eqb first.number n (λ e. eqb-false row.number first.number differs (is ∙ sym e)) in
     rw other (ap (λ rest. first ∷ rest) (with_key-set change rows n i row h.2 there is))
 
--- a row that is found by a number has it
+-- a row found by a number has that number
 number_found : (rows : List InstalledKey) (n : ℕ) (row : InstalledKey) → key_row rows n ≡ Some row → row.number ≡ n
 number_found [] n row there = cc
 number_found (first ∷ rows) n row there = by_test (first.number == n) (key_row rows n) refl there (number_found rows n row)
@@ -155,18 +155,18 @@ number_found (first ∷ rows) n row there = by_test (first.number == n) (key_row
         sym (ap (λ x. x.number) same) ∙ eqb-true first.number n is
     by_test false r is e rest = rest e
 
--- the place that the index finds is one of the keys
+-- the index that was found is one of a key
 place_within : (keys : List StoredKey) (row : Option InstalledKey) (i : ℕ) → IsSome row → row ≡ slice_get (map stored_row keys) i → i < length keys
 place_within keys None i some finds = cc
 place_within keys (Some row) i some finds = omega (arith, slice_get_within (map stored_row keys) i row (sym finds), length-map keys stored_row)
 
--- keys of which the one of a number was changed, and their rows
+-- the keys after the one of a number was changed, and their rows
 pub record IsChanged (change : InstalledKey → InstalledKey) (number : ℕ) (places : List ℕ) (old new : List StoredKey) : Type 0 where
   pub rows : map stored_row new ≡ with_key change number (map stored_row old)
   pub are : AreStoredKeys new
   pub index : IsIndex places (map stored_row new)
 
--- the key that the index finds is changed at its place
+-- the key that the index finds is changed at its index
 pub IsChanged-set : (change : InstalledKey → InstalledKey) → ((row : InstalledKey) → (change row).number ≡ row.number) →
     ((row : InstalledKey) → IsKeyRow row → IsKeyRow (change row)) →
     (number place : ℕ) (places : List ℕ) (keys : List StoredKey) (old new : StoredKey) → AreStoredKeys keys → IsIndex places (map stored_row keys) →

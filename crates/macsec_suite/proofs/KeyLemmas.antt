@@ -1,4 +1,4 @@
--- Laws on the rows of a table of keys.
+-- Lemmas on the rows of a table of keys.
 use Rattle.std.proofs.Common.{◌≡◌, ℕ, ◌<◌, ◌≤◌, Bool, true, false, cond, List, [], ◌∷◌, ◌++◌, map, length, refl, sym, ap, subst, arith, eqb, ◌||◌, inl, inr}
 use Rattle.std.specs.Prelude.{Option, Some, None, ◌==◌, if◌then◌else◌}
 use Rattle.std.specs.List.{All, IsDistinct, AllByRecursion, list_any}
@@ -17,12 +17,12 @@ use Rattle.macsec_suite.specs.declared.key_table.StoredKey.{StoredKey}
 abbrev numbers_of : List InstalledKey → List ℕ
 numbers_of rows = map (λ row. row.number) rows
 
--- a choice that gives none
+-- a conditional that gives `None`
 pub cond_none : {A : Type 0} (b : Bool) (x : A) (r : Option A) → cond b (Some x) r ≡ None → (b ≡ false) × (r ≡ None)
 cond_none true x r h = cc
 cond_none false x r h = (refl, h)
 
--- a number that no row has is not among the rows' numbers
+-- a number that no row has differs from the number of every row
 numbers-differ : (rows : List InstalledKey) (n : ℕ) → key_row rows n ≡ None → AllByRecursion (λ m. eqb n m ≡ false) (numbers_of rows)
 numbers-differ [] n free = tt
 numbers-differ (row ∷ rows) n free =
@@ -42,7 +42,7 @@ numbers-lt : (rows : List InstalledKey) → AreKeyRows rows → (q : ℕ) → li
 numbers-lt [] h q any = cc
 numbers-lt (row ∷ rows) h q any = lt_from_among q row.number max_key_count (list_any (eqb q) (numbers_of rows)) h.0.number (λ e. numbers-lt rows h.2 q e) any
 
--- there is space for a key of a new number
+-- there is space for a key with a new number
 pub has_room : (keys : List StoredKey) (n : ℕ) → AreKeyRows (map stored_row keys) → key_row (map stored_row keys) n ≡ None → n < max_key_count →
     length keys < max_key_count
 unfolding IsDistinct
@@ -53,14 +53,14 @@ has_room keys n h free small =
     (λ q any. lt_from_among q n max_key_count (list_any (eqb q) (numbers_of rows)) small (λ e. numbers-lt rows h q e) any) in
     omega (arith, length-map rows (λ row. row.number), length-map keys stored_row)
 
--- a number stays free where a row of another joins
+-- appending a row with another number leaves a number free
 free-push : (rows : List InstalledKey) (new : InstalledKey) (n : ℕ) → key_row rows n ≡ None → (new.number == n) ≡ false → key_row (rows ++ new ∷ []) n ≡ None
 free-push [] new n free other = rw other refl
 free-push (row ∷ rows) new n free other =
     let parts = cond_none (row.number == n) row (key_row rows n) free in
     rw parts.0 (free-push rows new n parts.1 other)
 
--- a key of a new number may join
+-- a key with a new number can be appended
 pub AreKeyRows-push : (rows : List InstalledKey) (new : InstalledKey) → AreKeyRows rows → key_row rows new.number ≡ None → IsKeyRow new → AreKeyRows (rows ++ new ∷ [])
 AreKeyRows-push [] new h free new_is = (new_is, refl, tt)
 AreKeyRows-push (row ∷ rows) new h free new_is =
@@ -74,14 +74,14 @@ free-map f same (row ∷ rows) n free =
     let parts = cond_none (row.number == n) row (key_row rows n) free in
     rw (same row, parts.0) (free-map f same rows n parts.1)
 
--- a change that keeps the numbers, and what holds of each row, keeps what holds of the rows
+-- a change that keeps each row's number and bounds keeps those of all rows
 pub AreKeyRows-map : (f : InstalledKey → InstalledKey) → ((row : InstalledKey) → (f row).number ≡ row.number) → ((row : InstalledKey) → IsKeyRow row → IsKeyRow (f row)) →
     (rows : List InstalledKey) → AreKeyRows rows → AreKeyRows (map f rows)
 AreKeyRows-map f same keeps [] h = tt
 AreKeyRows-map f same keeps (row ∷ rows) h =
     (keeps row h.0, subst (λ n. key_row (map f rows) n ≡ None) (sym (same row)) (free-map f same rows row.number h.1), AreKeyRows-map f same keeps rows h.2)
 
--- a change of one row keeps the numbers, where it keeps that row's
+-- changing one row keeps the numbers of all rows, if it keeps that row's number
 pub number-at_number : (change : InstalledKey → InstalledKey) → ((row : InstalledKey) → (change row).number ≡ row.number) → (n : ℕ) (row : InstalledKey) →
     (at_number change n row).number ≡ row.number
 number-at_number change same n row = by_test (row.number == n) (change row) row (same row)
@@ -90,7 +90,7 @@ number-at_number change same n row = by_test (row.number == n) (change row) row 
     by_test true x y e = e
     by_test false x y e = refl
 
--- and what holds of each row, where it keeps that
+-- and it keeps the bounds of all rows, if it keeps that row's bounds
 pub kept-at_number : (change : InstalledKey → InstalledKey) → ((row : InstalledKey) → IsKeyRow row → IsKeyRow (change row)) → (n : ℕ) (row : InstalledKey) →
     IsKeyRow row → IsKeyRow (at_number change n row)
 kept-at_number change keeps n row is = by_test (row.number == n) (change row) row (keeps row is) is
@@ -99,11 +99,11 @@ kept-at_number change keeps n row is = by_test (row.number == n) (change row) ro
     by_test true x y is_x is_y = is_x
     by_test false x y is_x is_y = is_y
 
--- what holds of the stored keys
+-- the invariant of the stored keys
 abbrev pub AreStoredKeys : List StoredKey → Type 0
 AreStoredKeys keys = AreKeyRows (map stored_row keys) × All (λ s. HasOwnKey s.row) keys
 
--- it holds of them and a key of a new number that is prepared from its own bytes
+-- it is kept when a key with a new number, prepared from its own bytes, is appended
 pub AreStoredKeys-push : (keys : List StoredKey) (new : StoredKey) → AreStoredKeys keys → key_row (map stored_row keys) new.row.key.number ≡ None →
     IsKeyRow (stored_row new) → HasOwnKey new.row → AreStoredKeys (keys ++ new ∷ [])
 AreStoredKeys-push keys new h free new_is own = (
@@ -111,12 +111,12 @@ AreStoredKeys-push keys new h free new_is own = (
   All-push (λ s. HasOwnKey s.row) keys new h.1 own,
 )
 
--- whether a key's bytes were used, from the stored keys
+-- whether a key's bytes were used, computed from the stored keys
 pub is_repeated-map : (keys : List StoredKey) (bytes : List ℕ) → is_repeated (map stored_row keys) bytes ≡ list_any (λ key. same_octets (stored_row key).bytes bytes) keys
 is_repeated-map [] bytes = refl
 is_repeated-map (key ∷ keys) bytes = ap (λ rest. same_octets (stored_row key).bytes bytes || rest) (is_repeated-map keys bytes)
 
--- whether packet numbers are extended under one of the keys, from the stored keys
+-- whether a key has extended packet numbers, computed from the stored keys
 pub has_extended-map : (keys : List StoredKey) → list_any is_extended (map stored_row keys) ≡ list_any (λ key. is_extended (stored_row key)) keys
 has_extended-map [] = refl
 has_extended-map (key ∷ keys) = ap (λ rest. is_extended (stored_row key) || rest) (has_extended-map keys)

@@ -1,5 +1,5 @@
--- Frames that are protected and validated in place: DA, SA, SecTAG, data and ICV concatenated, of which the data begin
--- after `head` octets.
+-- Frames protected and validated in place: DA, SA, SecTAG, data and ICV concatenated. The data begin after `head`
+-- octets.
 use Rattle.std.specs.Prelude.{◌≡◌, ◌⊎◌, ℕ, ◌+◌, ◌-◌, List, ◌++◌, length, take, drop, Bool, Option, option_map}
 use Rattle.macsec_gcm.specs.Gcm.{seal_of, open_of}
 use Rattle.macsec_suite.specs.Keys.{PreparedKey}
@@ -9,18 +9,18 @@ use Rattle.macsec_suite.specs.Parts.{clear_length}
 abbrev pub IsTagLength : ℕ → Type 0
 IsTagLength n = (n ≡ 8) ⊎ (n ≡ 16)
 
--- the two parts of the frame without its ICV: what stays clear, and the rest of the data
+-- the frame without its ICV, in two parts: the octets that stay clear, and the other data
 abbrev pub clear_and_rest : ℕ → Bool → ℕ → List ℕ → List ℕ × List ℕ
 clear_and_rest offset e head body =
     let clear = head + clear_length offset e (drop head body) in (take clear body, drop clear body)
 
--- the frame with the rest of its data encrypted, and with the ICV in its last 16 octets
+-- the frame with the other data encrypted and the ICV in its last 16 octets
 abbrev pub protected_octets : PreparedKey → List ℕ → Bool → ℕ → List ℕ → List ℕ
 protected_octets key iv conf head frame =
     let ap = clear_and_rest key.offset conf head (take (length frame - 16) frame) in
     let ct = seal_of key.bytes iv ap.0 ap.1 in ap.0 ++ ct.0 ++ ct.1
 
--- the frame with the rest of its first `n` octets decrypted, if the ICV follows them
+-- the frame with the other data of its first `n` octets decrypted, if the next 16 octets are the ICV
 abbrev pub validated_octets : PreparedKey → List ℕ → Bool → ℕ → ℕ → List ℕ → Option (List ℕ)
 validated_octets key iv e head n frame =
     let ac = clear_and_rest key.offset e head (take n frame) in

@@ -1,6 +1,6 @@
--- The numbers of keys.
+-- Key numbers.
 use Rattle.std.specs.Prelude.{ℕ}
 
--- the most keys of an endpoint; their numbers are below this one
+-- the number of keys that an endpoint can have; every key number is below it
 abbrev pub max_key_count : ℕ
 max_key_count = 4096

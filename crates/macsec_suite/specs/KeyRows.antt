@@ -9,9 +9,8 @@ pub use Rattle.macsec_suite.specs.KeyNumbers.{max_key_count}
 use Rattle.macsec_suite.specs.Keys.{PreparedKey}
 use Rattle.macsec_suite.specs.Suites.{is_xpn, key_length, widest_extended_window, widest_short_window}
 
--- a key that was installed: its number, its suite, its bytes, its salt, the endpoint's own SSCI, its confidentiality
--- offset, its first unused packet number (1, and then one past the last that was used under it), and whether it is
--- retired
+-- an installed key; `ssci` is the endpoint's own, `offset` the confidentiality offset, and `first_unused` is 1 at
+-- first, then one past the last packet number that was used under the key
 pub record InstalledKey : Type 0 where
   pub number : ℕ
   pub suite : Suite
@@ -22,7 +21,7 @@ pub record InstalledKey : Type 0 where
   pub first_unused : ℕ
   pub retired : Bool
 
--- the key as it is prepared for its suite
+-- the key prepared for its suite
 abbrev pub prepared_key : InstalledKey → PreparedKey
 prepared_key row = record { suite = row.suite; bytes = row.bytes; offset = row.offset }
 
@@ -30,27 +29,27 @@ prepared_key row = record { suite = row.suite; bytes = row.bytes; offset = row.o
 abbrev pub key_row : List InstalledKey → ℕ → Option InstalledKey
 key_row rows number = find (λ row. row.number == number) rows
 
--- a row in place of a key that is not there
+-- the default of `the_key`
 abbrev pub no_key : InstalledKey
 no_key = record { number = 0; suite = Gcm128; bytes = []; salt = []; ssci = 0; offset = 0; first_unused = 1; retired = false }
 
--- the row of this number, which there is
+-- the row of this number, which must exist
 abbrev pub the_key : List InstalledKey → ℕ → InstalledKey
 the_key rows number = unwrap_or (key_row rows number) no_key
 
--- a change of the row of this number
+-- the row, changed if it has this number
 abbrev pub at_number : (InstalledKey → InstalledKey) → ℕ → InstalledKey → InstalledKey
 at_number change number row = if row.number == number then change row else row
 
--- the rows, with a change of the one of this number
+-- the rows, with the one of this number changed
 abbrev pub with_key : (InstalledKey → InstalledKey) → ℕ → List InstalledKey → List InstalledKey
 with_key change number rows = map (at_number change number) rows
 
--- the suite of a new key: its own, or, if it names none, the default
+-- the suite of a new key: its own, or the default if it names none
 abbrev pub suite_of : Suite → NewKey → Suite
 suite_of default k = unwrap_or k.suite default
 
--- the row of a new key of a suite, of which no packet number is used
+-- the row of a new key; no packet number is used yet
 abbrev pub new_row : Suite → NewKey → InstalledKey
 new_row suite k = record {
   number = k.number;
@@ -69,28 +68,27 @@ keys_with suite rows k = rows ++ new_row suite k ∷ []
 abbrev pub retired_row : InstalledKey → InstalledKey
 retired_row row = record row { retired = true }
 
--- the keys, of which the one of this number is retired
+-- the rows, with the key of this number retired
 abbrev pub keys_retiring : List InstalledKey → ℕ → List InstalledKey
 keys_retiring rows number = with_key retired_row number rows
 
 abbrev pub row_noting : ℕ → InstalledKey → InstalledKey
 row_noting pn row = record row { first_unused = pn + 1 }
 
--- the keys, of which the one of this number has used the packet number pn
+-- the rows after the key of this number has used the packet number pn
 abbrev pub keys_noting : List InstalledKey → ℕ → ℕ → List InstalledKey
 keys_noting rows number pn = with_key (row_noting pn) number rows
 
--- packet numbers are extended under the key, and it is not retired
+-- the key has extended packet numbers and is not retired
 abbrev pub is_extended : InstalledKey → Bool
 is_extended row = is_xpn row.suite && not row.retired
 
--- the widest replay window beside the keys: less wide while packet numbers are extended under one that is not retired
+-- the widest replay window that the keys allow: narrower if a key that is not retired has extended packet numbers
 abbrev pub widest_beside : List InstalledKey → ℕ
 widest_beside rows = if list_any is_extended rows then widest_extended_window else widest_short_window
 
--- what holds of every key's row: its number is below 4,096, it has as many bytes as its suite requires, its salt has
--- twelve octets, its SSCI 32 bits, and its first unused packet number is at least 1 and at most one past the last of 64
--- bits
+-- the bounds of a key's row: its number is below 4,096, it has as many bytes as its suite requires, its salt has 12
+-- octets, its SSCI 32 bits, and its first unused packet number is 1 to 2^64
 pub record IsKeyRow (row : InstalledKey) : Type 0 where
   pub number : row.number < max_key_count
   pub bytes : length row.bytes ≡ key_length row.suite
@@ -99,7 +97,7 @@ pub record IsKeyRow (row : InstalledKey) : Type 0 where
   pub first_unused_least : 1 ≤ row.first_unused
   pub first_unused : row.first_unused ≤ 2 ^ 64
 
--- each row has these bounds, and no two have the same number
+-- every row has these bounds, and no two rows have the same number
 abbrev pub AreKeyRows : List InstalledKey → Type 0
 AreKeyRows [] = Unit {0}
 AreKeyRows (row ∷ rows) = IsKeyRow row × (key_row rows row.number ≡ None) × AreKeyRows rows

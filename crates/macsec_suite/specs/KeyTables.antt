@@ -1,4 +1,4 @@
--- A stored key as a row of the table, and the index of the rows.
+-- Stored keys as rows of the table, and the index of the rows.
 use Rattle.std.specs.Prelude.{◌≡◌, ℕ, ◌<◌, List, length, slice_get, slice_index, Some}
 use Rattle.macsec_aes.specs.Keys.{key_bytes}
 use Rattle.macsec_suite.specs.declared.key_row.KeyRow.{KeyRow}
@@ -25,13 +25,12 @@ stored_row s = row_shown s.row s.first_unused
 abbrev pub first_unused_of : InstalledKey → ℕ
 first_unused_of row = row.first_unused
 
--- the prepared key of a row is that of its suite, its bytes and its offset, and the row's key names that suite
+-- the row's key is prepared from its suite, bytes and offset, and names that suite
 abbrev pub HasOwnKey : KeyRow → Type 0
 HasOwnKey row = (row.suite_key ≡ prepared_from row.suite_key.suite row.key.bytes row.key.offset)
     × (row.key.suite ≡ Some row.suite_key.suite)
 
--- the index of the rows: it has a place for each number, and there the place of the row of this number, or, if there is
--- none, a place past all that there can be
+-- the index: the entry of each key number is the index of its row, or an index past every possible row if there is none
 pub record IsIndex (places : List ℕ) (rows : List InstalledKey) : Type 0 where
   pub covers : length places ≡ max_key_count
   pub finds : (n : ℕ) → n < max_key_count → key_row rows n ≡ slice_get rows (slice_index places n)

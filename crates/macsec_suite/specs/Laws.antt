@@ -4,8 +4,7 @@ use Rattle.macsec_tag.specs.Tag.{Tag, encoding}
 use Rattle.macsec_suite.specs.Parts.{aad_and_plaintext}
 use Rattle.macsec_suite.specs.InPlace.{clear_and_rest}
 
--- what stays clear of a frame in place, and the rest, are the additional authenticated data and the
--- plaintext of its addresses, SecTAG and data
+-- the octets that stay clear in place are the additional authenticated data, and the rest is the plaintext
 abbrev pub PartsInPlace : ℕ → Bool → List ℕ → List ℕ → Tag → List ℕ → Type 0
 PartsInPlace offset e da sa tag user_data =
     length da ≡ 6 → length sa ≡ 6 →

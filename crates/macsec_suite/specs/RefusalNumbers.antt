@@ -1,4 +1,4 @@
--- The numbers of the refusals, which are one list for all commands.
+-- The numbers of the refusals. All commands share one list.
 use Rattle.std.specs.Prelude.{ℕ}
 use Rattle.macsec_suite.specs.declared.refusal.Refusal.{Refusal}
 use Rattle.macsec_suite.specs.declared.refusal.Refusal.TheVariants.{KeyLength, Offset, KeyNumberUsed, KeyRepeated, NoKey, KeyRetired, KeyInUse, OwnSci, ScTaken}

@@ -20,7 +20,7 @@ RefusalLine = Refusal × Bool
 abbrev pub first_refusal : List RefusalLine → Option Refusal
 first_refusal lines = first_that_holds lines
 
--- a row is there, and the test holds of it
+-- the row exists and passes the test
 abbrev pub holds_of : {A : Type 0} → (A → Bool) → Option A → Bool
 holds_of test None = false
 holds_of test (Some row) = test row
@@ -37,11 +37,11 @@ is_repeated rows bytes = list_any (λ row. same_octets row.bytes bytes) rows
 abbrev pub is_retired : List InstalledKey → ℕ → Bool
 is_retired rows number = holds_of (λ row. row.retired) (key_row rows number)
 
--- packet numbers are extended in the suite, and the replay window is too wide for them
+-- the suite has extended packet numbers, and the replay window is too wide for them
 abbrev pub is_too_wide : Suite → ℕ → Bool
 is_too_wide suite window = is_xpn suite && nat_lt widest_extended_window window
 
--- of installing a key of a suite beside a replay window
+-- the refusals of installing a key under a replay window
 abbrev pub install_refusals : Suite → ℕ → List InstalledKey → NewKey → List RefusalLine
 install_refusals suite window rows k =
     (KeyLength, has_wrong_length suite k.bytes) ∷
@@ -50,14 +50,14 @@ install_refusals suite window rows k =
     (KeyRepeated, is_repeated rows (key_bytes k.bytes)) ∷
     (Window, is_too_wide suite window) ∷ []
 
--- of retiring a key, which an association may use
+-- the refusals of retiring a key; `in_use` is whether an SA uses it
 abbrev pub retire_refusals : List InstalledKey → ℕ → Bool → List RefusalLine
 retire_refusals rows number in_use =
     (NoKey, not (is_number_used rows number)) ∷
     (KeyRetired, is_retired rows number) ∷
     (KeyInUse, in_use) ∷ []
 
--- a packet number that is not from 1 to the last
+-- the packet number is 0 or above the last one
 abbrev pub is_outside : ℕ → ℕ → Bool
 is_outside last pn = pn == 0 || nat_lt last pn
 

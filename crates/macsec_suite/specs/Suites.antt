@@ -13,7 +13,7 @@ key_length Gcm256 = 32
 key_length Xpn128 = 16
 key_length Xpn256 = 32
 
--- packet numbers are extended: they have 64 bits, of which the SecTAG carries the lower 32
+-- packet numbers are extended: they have 64 bits, and the SecTAG carries the lower 32
 abbrev pub is_xpn : Suite → Bool
 is_xpn Gcm128 = false
 is_xpn Gcm256 = false
@@ -24,16 +24,16 @@ is_xpn Xpn256 = true
 abbrev pub last_of : Suite → ℕ
 last_of suite = if is_xpn suite then 2 ^ 64 - 1 else 2 ^ 32 - 1
 
--- the exclusive or of the salt and of the SSCI in four octets and then the packet number in eight (14.7, 14.8)
+-- the salt, exclusive-ored with the SSCI (four octets) followed by the packet number (eight octets) (14.7, 14.8)
 abbrev pub extended_iv : ℕ → List ℕ → ℕ → List ℕ
 extended_iv ssci salt pn = sum_with_stream salt (to_be_bytes w32 ssci ++ to_be_bytes w64 pn)
 
--- the IV of a frame: the SCI and then the packet number in four octets, without SSCI and salt (14.5, 14.6); with
--- extended packet numbers it depends on SSCI, salt and packet number, and not on the SCI
+-- the IV of a frame: the SCI followed by the packet number in four octets (14.5, 14.6); with extended packet numbers it
+-- depends on SSCI, salt and packet number, and not on the SCI
 abbrev pub iv_of : Suite → Sci → ℕ → List ℕ → ℕ → List ℕ
 iv_of suite sci ssci salt pn = if is_xpn suite then extended_iv ssci salt pn else sci.0 ++ to_be_bytes w32 pn
 
--- the widest replay window with packet numbers of 32 bits, and with extended ones
+-- the widest replay windows with 32-bit and with extended packet numbers
 abbrev pub widest_short_window : ℕ
 widest_short_window = 2 ^ 32 - 1
 

@@ -1,4 +1,4 @@
-//! Frames protected and validated in place.
+//! Protects and validates frames in place.
 
 ghost use Rattle.std.specs.Prelude.{◌≡◌, ◌≤◌, ◌+◌, length, Some, None};
 ghost use Rattle.std.specs.Bool.{OnTrue, OnFalse};
@@ -9,13 +9,13 @@ use crate::SuiteKey;
 use crate::pieces::{open, seal};
 use macsec_tag::{ADDRESSES_LENGTH, ICV_LENGTH};
 
-/// Protects DA, SA, a SecTAG of `tag_len` octets, 8 or 16, and data in place, and puts the ICV into the 16 octets after
-/// them, the last of `frame`. If `conf` is true, the data after the key's confidentiality offset are encrypted; the
-/// rest is authenticated only. The data have at most 2^36 - 32 octets.
+/// Protects a frame in place. `frame` has DA, SA, a SecTAG of `tag_len` octets (8 or 16), the data, and space for the
+/// 16 octets of the ICV. The data have at most 2^36 - 32 octets. If `conf` is true, the data after the key's
+/// confidentiality offset are encrypted. Everything else is only authenticated.
 ///
-/// No contract keeps a caller from using an IV twice under a key. Two frames under one IV reveal the exclusive or of
-/// their encrypted data, and help to forge ICVs of other frames. For one sender `iv_of` gives a different IV for each
-/// packet number: so each packet number must be used only once under a key.
+/// No contract prevents a caller from using an IV twice under a key. Two frames with one IV reveal the exclusive or of
+/// their encrypted data and help an attacker to forge ICVs. For one sender, `iv_of` gives each packet number a
+/// different IV, so use each packet number only once under a key.
 pub fn protect_in_place(key: &SuiteKey, iv: &[u8; 12], conf: bool, tag_len: usize, frame: &mut [u8])
     requires tag { IsTagLength tag_len }
     requires room { 28 + tag_len ≤ length frame.old }
@@ -31,9 +31,10 @@ pub fn protect_in_place(key: &SuiteKey, iv: &[u8; 12], conf: bool, tag_len: usiz
     icv.copy_from_slice(&tag);
 }
 
-/// Validates DA, SA, a SecTAG of `tag_len` octets, 8 or 16, `data_len` octets of Secure Data, at most 2^36 - 32, and
-/// the 16 octets of ICV after them. Returns whether the ICV is valid. If it is and `e` is true, the Secure Data after
-/// the key's confidentiality offset are decrypted in place; else nothing is changed.
+/// Validates a frame in place and returns whether its ICV is valid. `frame` begins with DA, SA, a SecTAG of `tag_len`
+/// octets (8 or 16), `data_len` octets of Secure Data (at most 2^36 - 32), and the 16 octets of the ICV. If the ICV is
+/// valid and `e` is true, the Secure Data after the key's confidentiality offset are decrypted. If the ICV is invalid,
+/// nothing is changed.
 pub fn validate_in_place(
     key: &SuiteKey,
     iv: &[u8; 12],

@@ -9,9 +9,11 @@ use byteorder::{BigEndian, ByteOrder};
 use macsec_tag::Sci;
 use std::array;
 
-/// The IV of a frame with a packet number of at most the suite's last. It is the SCI and the packet number, without
-/// SSCI and salt (14.5, 14.6). With extended packet numbers it is the exclusive or of the salt and of SSCI and packet
-/// number, without the SCI (14.7, 14.8).
+/// Returns the IV of a frame. `pn` is at most the suite's last packet number.
+///
+/// With 32-bit packet numbers the IV is the SCI followed by the packet number; SSCI and salt are not used (14.5, 14.6).
+/// With extended packet numbers it is the salt, exclusive-ored with the SSCI followed by the packet number; the SCI is
+/// not used (14.7, 14.8).
 pub fn iv_of(suite: Suite, sci: Sci, ssci: u32, salt: [u8; 12], pn: u64) -> [u8; 12]
     requires { pn ≤ last_of suite }
     ensures { result ≡ iv_of suite sci ssci salt pn }
@@ -25,7 +27,7 @@ pub fn iv_of(suite: Suite, sci: Sci, ssci: u32, salt: [u8; 12], pn: u64) -> [u8;
     iv
 }
 
-/// The exclusive or of the salt and of SSCI and packet number.
+/// The salt, exclusive-ored with the SSCI followed by the packet number.
 fn extended_iv(ssci: u32, salt: [u8; 12], pn: u64) -> [u8; 12]
     ensures { result ≡ extended_iv ssci salt pn }
 {
@@ -35,7 +37,7 @@ fn extended_iv(ssci: u32, salt: [u8; 12], pn: u64) -> [u8; 12]
     exclusive_or(salt, numbers)
 }
 
-/// The exclusive or of two lists of twelve octets.
+/// The exclusive or of two arrays of 12 octets.
 fn exclusive_or(text: [u8; 12], other: [u8; 12]) -> [u8; 12]
     ensures { result ≡ sum_with_stream text other }
 {

@@ -1,14 +1,14 @@
-//! The number of a key.
+//! Key numbers.
 
 ghost use Rattle.std.specs.Prelude.{◌≡◌, ◌<◌, ◌↔◌, IsSome, IfSome};
 ghost use Rattle.macsec_suite.specs.KeyNumbers.{max_key_count};
 
 use std::marker::Model;
 
-/// The most keys of an endpoint; their numbers are below this one.
+/// The number of keys that an endpoint can have. Every key number is below it.
 pub(crate) const MAX_KEY_COUNT: u16 = 4096;
 
-/// The number by which associations name a key of their endpoint, 0 to 4,095.
+/// The number by which SAs refer to a key of their endpoint, 0 to 4,095.
 #[derive(Clone, Copy, PartialEq, Eq, Debug, Default)]
 pub struct KeyNumber(pub(crate) u16);
 
@@ -26,7 +26,7 @@ impl Model for KeyNumber {
 }
 
 impl KeyNumber {
-    /// The key number `n`, or `None` for 4,096 and more.
+    /// Returns the key number `n`, or `None` if `n` is above 4,095.
     pub fn new(n: u16) -> Option<KeyNumber>
         ensures valid { IsSome result ↔ (n < max_key_count) }
         ensures value { IfSome result (λ key. key ≡ n) }

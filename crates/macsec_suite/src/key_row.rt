@@ -1,4 +1,4 @@
-//! A key to be installed, and an installed one.
+//! New keys and installed keys.
 
 ghost use Rattle.std.specs.Prelude.{◌≡◌, ◌<◌};
 ghost use Rattle.macsec_suite.specs.KeyNumbers.{max_key_count};
@@ -6,36 +6,36 @@ ghost use Rattle.macsec_suite.specs.KeyNumbers.{max_key_count};
 use crate::{KeyNumber, Suite, SuiteKey};
 use macsec_aes::Key;
 
-/// A key to be installed: a SAK (secure association key, 10.7) of the standard, with what belongs to it.
+/// A key to install: an SAK (secure association key, 10.7) and its parameters.
 #[derive(Clone, Copy)]
 pub struct NewKey {
-    /// The number by which associations name it.
+    /// The number by which SAs refer to the key.
     pub number: KeyNumber,
-    /// Its octets: as many as its suite's keys have.
+    /// The octets of the key, as many as its suite requires.
     pub bytes: Key,
-    /// The salt of its IVs, if packet numbers are extended.
+    /// The salt of its IVs; used only with extended packet numbers.
     pub salt: [u8; 12],
-    /// The endpoint's own SSCI under it, if packet numbers are extended.
+    /// The endpoint's own SSCI under the key; used only with extended packet numbers.
     pub ssci: u32,
-    /// The confidentiality offset: how many octets of the Secure Data stay as they are.
+    /// The confidentiality offset: how many octets of the Secure Data are not encrypted.
     pub offset: u8,
-    /// Its cipher suite; without one it gets the endpoint's default.
+    /// The cipher suite, or `None` for the endpoint's default.
     pub suite: Option<Suite>,
 }
 
-/// An installed key, as one row of `KeyTable`.
+/// An installed key: one row of a `KeyTable`.
 #[derive(Drop)]
 pub struct KeyRow {
-    /// What was installed, with the suite that it got.
+    /// The key as installed, with its suite filled in.
     pub key: NewKey,
     /// The key prepared for its suite.
     pub suite_key: SuiteKey,
-    /// Is it retired: may no new association use it?
+    /// Whether the key is retired. No new SA may use a retired key.
     pub retired: bool,
 }
 
 impl KeyRow {
-    /// The number of the key, as an index.
+    /// The key number, as an index.
     pub(crate) fn number(&self) -> usize
         ensures value { result ≡ self.now.key.number }
         ensures below { result < max_key_count }

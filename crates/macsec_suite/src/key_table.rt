@@ -17,10 +17,10 @@ use macsec_aes::Key;
 use std::alloc::{AllocError, Global};
 use std::marker::Model;
 
-/// How many keys have a place.
+/// The number of entries of the index, one for each key number.
 const PLACE_COUNT: usize = MAX_KEY_COUNT as usize;
 
-/// The index of a key that is not in the table: there are no more keys than this.
+/// The index entry of a number without a key. No row has this index.
 const NO_PLACE: u16 = MAX_KEY_COUNT;
 
 /// An installed key and the first packet number that was never used under it.
@@ -30,12 +30,11 @@ pub struct StoredKey {
     first_unused: u128,
 }
 
-/// The keys of an endpoint, in the order of their installation. Contracts see the table as the list of
-/// its rows.
+/// The keys of an endpoint, in the order of their installation. Contracts see the table as the list of its rows.
 #[derive(Drop)]
 pub struct KeyTable {
     rows: Vec<StoredKey>,
-    /// The index of each number's key among the rows.
+    /// For each key number, the index of its row.
     places: Vec<u16>,
 }
 
@@ -50,14 +49,14 @@ impl Model for KeyTable {
 
     ghost view = { λ t. map stored_row t.rows.items };
 
-    // There is space for all the keys that an endpoint can have, their numbers are distinct, each is prepared from its
-    // own bytes, and each is found by its number.
+    // There is space for every key that an endpoint can have. Key numbers are distinct, each key is prepared from its
+    // own bytes, and the index finds each key by its number.
     ghost invariant = { λ t. (max_key_count ≤ vec_capacity t.rows) × AreKeyRows (map stored_row t.rows.items)
         × All (λ s. HasOwnKey s.row) t.rows.items × IsIndex t.places.items (map stored_row t.rows.items) };
 }
 
 impl KeyTable {
-    /// A table without a key, with space for 4,096.
+    /// Creates an empty table with space for 4,096 keys.
     pub fn new(alloc: Global) -> Result<KeyTable, AllocError>
         ensures { IfOk result (λ t. t ≡ []) }
     {
@@ -67,9 +66,11 @@ impl KeyTable {
         })
     }
 
-    /// Installs a key, of the default suite if it names none, beside a replay window; its first unused packet number
-    /// is 1. Refused with the first of `KeyLength`, `Offset`, `KeyNumberUsed`, `KeyRepeated` and, if packet numbers are
-    /// extended in its suite and the window is above 2^30 - 1, `Window` that applies.
+    /// Installs a key. A key that names no suite gets the default one. Its first unused packet number is 1. `window` is
+    /// the endpoint's replay window.
+    ///
+    /// Errors: the first that applies of `KeyLength`, `Offset`, `KeyNumberUsed`, `KeyRepeated` and `Window`. `Window`
+    /// applies if the key's suite has extended packet numbers and the window is above 2^30 - 1.
     pub fn install(&mut self, default: Suite, key: &NewKey, window: u64) -> Result<(), Refusal>
         ensures refusal { refusal_of result ≡ first_refusal (install_refusals (suite_of default key.now) window self.old key.now) }
         ensures done { OnOk result (self.new ≡ keys_with (suite_of default key.now) self.old key.now) }
@@ -102,8 +103,9 @@ impl KeyTable {
         Ok(())
     }
 
-    /// Retires a key: no new association may use it from then on. `in_use` says whether an association uses it. Refused
-    /// with the first of `NoKey`, `KeyRetired` and `KeyInUse` that applies.
+    /// Retires a key: from then on no new SA may use it. `in_use` is whether an SA uses the key now.
+    ///
+    /// Errors: the first that applies of `NoKey`, `KeyRetired` and `KeyInUse`.
     pub fn retire(&mut self, number: KeyNumber, in_use: bool) -> Result<(), Refusal>
         ensures refusal { refusal_of result ≡ first_refusal (retire_refusals self.old number in_use) }
         ensures done { OnOk result (self.new ≡ keys_retiring self.old number) }
@@ -125,7 +127,7 @@ impl KeyTable {
         Ok(())
     }
 
-    /// The row of the key of this number; its prepared key is that of its own suite, bytes and offset.
+    /// Returns the row of a key. Its `suite_key` is prepared from the key's own suite, bytes and offset.
     pub fn key(&self, number: KeyNumber) -> Option<&KeyRow>
         ensures row { MatchOption result (key_row self.now number ≡ None)
             (λ r. key_row self.now number ≡ Some (row_shown r.now (the_key self.now number).first_unused)) }
@@ -135,7 +137,7 @@ impl KeyTable {
         Some(&stored.row)
     }
 
-    /// The first packet number that was never used under the key of this number.
+    /// Returns the first packet number that was never used under the key.
     pub fn first_unused(&self, number: KeyNumber) -> Option<u128>
         ensures { result ≡ option_map first_unused_of (key_row self.now number) }
     {
@@ -143,8 +145,8 @@ impl KeyTable {
         Some(stored.first_unused)
     }
 
-    /// The widest replay window beside the keys: 2^30 - 1 while packet numbers are extended under one that is not
-    /// retired, and else 2^32 - 1.
+    /// The widest replay window that the installed keys allow: 2^30 - 1 if a key that is not retired has extended
+    /// packet numbers, otherwise 2^32 - 1.
     pub fn widest_window(&self) -> u64
         ensures { result ≡ widest_beside self.now }
     {
@@ -155,7 +157,7 @@ impl KeyTable {
         }
     }
 
-    /// Are packet numbers extended under a key that is not retired?
+    /// Whether a key that is not retired has extended packet numbers.
     fn has_extended(&self) -> bool
         ensures { result ≡ list_any is_extended self.now }
     {
@@ -165,8 +167,8 @@ impl KeyTable {
             .any(|stored| stored.is_extended())
     }
 
-    /// Notes that the packet number `pn` was used under the key of this number, which is in the table. The first unused
-    /// one becomes `pn` + 1, even if a greater one was noted before. So numbers are noted in rising order.
+    /// Records that the packet number `pn` was used under a key, which must be in the table. The first unused number
+    /// becomes `pn` + 1 even if it was greater before, so call this with rising numbers.
     pub fn note_used(&mut self, number: KeyNumber, pn: u64)
         requires { IsSome (key_row self.old number) }
         ensures noted { self.new ≡ keys_noting self.old number pn }
@@ -177,7 +179,7 @@ impl KeyTable {
         stored.first_unused = u128::from(pn) + 1;
     }
 
-    /// The key of this number.
+    /// The stored key of this number.
     fn stored(&self, number: KeyNumber) -> Option<&StoredKey>
         ensures row { MatchOption result (key_row self.now number ≡ None)
             (λ s. key_row self.now number ≡ Some (stored_row s.now)) }
@@ -186,14 +188,14 @@ impl KeyTable {
         self.rows.as_slice().get(self.place_of(number))
     }
 
-    /// The index of the key of this number among the rows; past their end if there is none.
+    /// The index of the key's row, or an index past the last row if there is no such key.
     fn place_of(&self, number: KeyNumber) -> usize
         ensures { key_row self.now number ≡ slice_get self.now result }
     {
         usize::from(self.places[usize::from(number.number())])
     }
 
-    /// Was a key of these bytes installed?
+    /// Whether a key of these bytes was installed, retired or not.
     fn has_bytes(&self, bytes: Key) -> bool
         ensures { result ≡ is_repeated self.now (key_bytes bytes) }
     {
@@ -203,7 +205,7 @@ impl KeyTable {
             .any(|stored| stored.has_bytes(bytes))
     }
 
-    /// Puts a row at the end, in the space that `new` reserved.
+    /// Appends a row, in the space that `new` reserved.
     fn append(&mut self, added: KeyRow)
         requires free { key_row self.old added.key.number ≡ None }
         requires length { length (key_bytes added.key.bytes) ≡ key_length added.suite_key.suite }
@@ -222,14 +224,14 @@ impl KeyTable {
 }
 
 impl StoredKey {
-    /// Are packet numbers extended under the key, and is it not retired?
+    /// Whether the key has extended packet numbers and is not retired.
     fn is_extended(&self) -> bool
         ensures { result ≡ is_extended (stored_row self.now) }
     {
         self.row.suite_key.suite().is_xpn() && !self.row.retired
     }
 
-    /// Does the key have these bytes?
+    /// Whether the key has these bytes.
     fn has_bytes(&self, bytes: Key) -> bool
         ensures { result ≡ same_octets (stored_row self.now).bytes (key_bytes bytes) }
     {

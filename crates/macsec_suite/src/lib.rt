@@ -1,21 +1,21 @@
-//! The cipher suites of MACsec over frames (IEEE 802.1AE, clause 14): keys prepared for a suite, IVs, frames protected
-//! and validated in place, and the table of an endpoint's keys.
+//! The cipher suites of MACsec, applied to frames (IEEE 802.1AE, clause 14): keys prepared for a suite, IVs, protection
+//! and validation in place, and the table of an endpoint's keys.
 //!
-//! Proved: `SuiteKey::new` refuses a key of another length than the suite's (`KeyLength`), and then an offset that the
-//! suite does not have (`Offset`), and nothing else. Contracts see a `SuiteKey` as its suite, its key's bytes and its
-//! offset. `iv_of` is the SCI and then the packet number; with extended packet numbers it is the salt xor SSCI and
-//! packet number, all 64 bits of it. The packet number is at most the suite's last one (a condition on the caller).
+//! Proved: `SuiteKey::new` refuses a key whose length is not the suite's (`KeyLength`), then an offset that the suite
+//! does not have (`Offset`), and nothing else. Contracts see a `SuiteKey` as its suite, bytes and offset. `iv_of` is
+//! the SCI followed by the packet number. With extended packet numbers it is the salt xor the SSCI followed by all 64
+//! bits of the packet number. The packet number must be at most the suite's last one.
 //!
-//! Proved: `protect_in_place` leaves DA, SA, SecTAG and the clear octets of the data, encrypts the rest, and puts the
-//! ICV after them. `validate_in_place` returns true exactly when opening gives a plaintext, which has then replaced the
-//! ciphertext, and else changes nothing. Both require a SecTAG of 8 or 16 octets, a slice that holds the parts, and
-//! data of at most 68,719,476,704 octets. No contract keeps a caller from using an IV twice under a key. Laws (`laws`):
-//! the parts of a frame in place are those of the frame; what two frames with equal IVs have in common.
+//! Proved: `protect_in_place` keeps DA, SA, SecTAG and the clear octets of the data, encrypts the rest, and writes the
+//! ICV after them. `validate_in_place` returns true exactly if opening gives a plaintext, which then replaces the
+//! ciphertext; otherwise it changes nothing. Both require a SecTAG of 8 or 16 octets, a slice that holds the parts, and
+//! data of at most 68,719,476,704 octets. No contract prevents a caller from using an IV twice under a key. Laws
+//! (`laws`): the parts of a frame in place are those of the frame; what two frames with equal IVs have in common.
 //!
 //! Proved: a `KeyTable` is the list of its keys in the order of their installation. `install` and `retire` refuse with
-//! the first refusal that applies, and then change nothing; else they change the one key and no other, as does
-//! `note_used`, whose key is in the table (a condition on the caller). So no number and no bytes of a key are taken
-//! twice, retired or not. Only `KeyTable::new` is handed an allocator.
+//! the first refusal that applies, and then change nothing. Otherwise they change the one key and no other, as does
+//! `note_used`, whose key must be in the table. So no key number and no key bytes are installed twice, even after a key
+//! is retired. Only `KeyTable::new` takes an allocator.
 #![tactic(auto)]
 
 mod in_place;

@@ -1,4 +1,4 @@
-//! Texts sealed, checked and decrypted piece by piece.
+//! Seals and opens texts piece by piece.
 
 ghost use Rattle.std.specs.Prelude.{◌≡◌, ◌≤◌, ℕ, List, [], length, if◌then◌else◌, Some, None};
 ghost use Rattle.std.specs.Bool.{OnFalse};
@@ -8,11 +8,11 @@ ghost use Rattle.macsec_gcm.specs.Pieces.{HasChecked, HasOpened, HasSealed, decr
 use macsec_gcm::laws::sealed_lengths;
 use macsec_gcm::{GcmKey, Opener, Sealer, Unlocked};
 
-/// The most octets of a piece.
+/// The length of a piece in octets; the last one can be shorter.
 const PIECE_LENGTH: usize = 256;
 
-/// Encrypts the plaintext `text` in place, piece by piece. Returns the authentication tag of the ciphertext and of the
-/// additional authenticated data. Lengths are those of `GcmKey::seal`.
+/// Encrypts the plaintext `text` in place, piece by piece. Returns the authentication tag of the ciphertext and the
+/// additional authenticated data. The limits on lengths are those of `GcmKey::seal`.
 pub fn seal(key: &GcmKey, iv: &[u8; 12], aad: &[u8], text: &mut [u8]) -> [u8; 16]
     requires text_length { length text.old ≤ max_plaintext_len }
     requires aad_length { length aad.now ≤ max_aad_len }
@@ -24,9 +24,9 @@ pub fn seal(key: &GcmKey, iv: &[u8; 12], aad: &[u8], text: &mut [u8]) -> [u8; 16
     sealer.finish()
 }
 
-/// Checks the ciphertext `text` and the additional authenticated data piece by piece. If they have this tag, decrypts
-/// the ciphertext in place, piece by piece, and returns true; else returns false and leaves it as it is. Lengths are
-/// those of `GcmKey::open`.
+/// Checks the tag of the ciphertext `text` and the additional authenticated data, piece by piece. If the tag is valid,
+/// decrypts the ciphertext in place and returns true; otherwise returns false and changes nothing. The limits on
+/// lengths are those of `GcmKey::open`.
 pub fn open(key: &GcmKey, iv: &[u8; 12], aad: &[u8], text: &mut [u8], tag: &[u8; 16]) -> bool
     requires text_length { length text.old ≤ max_plaintext_len }
     requires aad_length { length aad.now ≤ max_aad_len }
@@ -37,7 +37,7 @@ pub fn open(key: &GcmKey, iv: &[u8; 12], aad: &[u8], text: &mut [u8], tag: &[u8;
     let mut opener = Opener::start(key, iv);
     check_aad(&mut opener, aad);
     check_text(&mut opener, text);
-    // Its key stream stays in place: to move it out would copy a batch.
+    // Match on a reference: moving the key stream out would copy a batch of key stream.
     let mut finished = opener.finish(tag);
     match &mut finished {
         Some(unlocked) => {
@@ -48,7 +48,7 @@ pub fn open(key: &GcmKey, iv: &[u8; 12], aad: &[u8], text: &mut [u8], tag: &[u8;
     }
 }
 
-/// Authenticates additional data piece by piece.
+/// Authenticates additional authenticated data piece by piece.
 fn seal_aad(sealer: &mut Sealer<'_>, aad: &[u8])
     ensures { (key iv : List ℕ) → HasSealed sealer.old key iv [] [] → HasSealed sealer.new key iv aad.now [] }
 {
@@ -62,16 +62,16 @@ fn seal_text(sealer: &mut Sealer<'_>, text: &mut [u8])
     ensures { (key iv aad : List ℕ) → HasSealed sealer.old key iv aad []
         → HasSealed sealer.new key iv aad text.old × (text.new ≡ (seal_of key iv aad text.old).0) }
 {
-    // A law that the proof cites; the call does nothing.
+    // The proof cites this law; the call does nothing.
     sealed_lengths();
-    // By index: of a text that was lent by `chunks_mut` std says the length, and not what was written.
+    // By index: std's contract of `chunks_mut` gives the length of the text afterwards, but not what was written.
     for i in 0..text.len().div_ceil(PIECE_LENGTH) {
         let end = text.len().min(PIECE_LENGTH * i + PIECE_LENGTH);
         sealer.data(&mut text[PIECE_LENGTH * i..end]);
     }
 }
 
-/// Authenticates the additional data of a ciphertext piece by piece.
+/// Authenticates the additional authenticated data of a ciphertext piece by piece.
 fn check_aad(opener: &mut Opener<'_>, aad: &[u8])
     ensures { (key iv : List ℕ) → HasChecked opener.old key iv [] [] → HasChecked opener.new key iv aad.now [] }
 {
@@ -80,7 +80,7 @@ fn check_aad(opener: &mut Opener<'_>, aad: &[u8])
     }
 }
 
-/// Checks a ciphertext piece by piece, and changes nothing.
+/// Checks a ciphertext piece by piece, without changing it.
 fn check_text(opener: &mut Opener<'_>, text: &[u8])
     ensures { (key iv aad : List ℕ) → HasChecked opener.old key iv aad [] → HasChecked opener.new key iv aad text.now }
 {

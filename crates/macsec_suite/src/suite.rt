@@ -5,7 +5,7 @@ ghost use Rattle.macsec_suite.specs.Suites.{is_xpn, key_length, last_of};
 ghost use Rattle.macsec_suite.specs.Refusals.{is_too_wide};
 ghost use Rattle.macsec_suite.specs.Keys.{has_wrong_offset};
 
-/// The widest replay window with packet numbers of 32 bits.
+/// The widest replay window with 32-bit packet numbers.
 pub(crate) const WIDEST_SHORT_WINDOW: u64 = (1 << 32) - 1;
 
 /// The widest replay window with extended packet numbers.
@@ -35,7 +35,7 @@ impl Suite {
         }
     }
 
-    /// Are packet numbers extended: have they 64 bits, of which the SecTAG carries the lower 32?
+    /// Whether packet numbers are extended: they have 64 bits, and the SecTAG carries the lower 32.
     pub fn is_xpn(self) -> bool
         ensures { result ≡ is_xpn self }
     {
@@ -52,14 +52,14 @@ impl Suite {
         if self.is_xpn() { u64::MAX } else { 0xffff_ffff }
     }
 
-    /// Are packet numbers extended, and is the replay window too wide for them?
+    /// Whether packet numbers are extended and the replay window is too wide for them.
     pub(crate) fn is_too_wide(self, window: u64) -> bool
         ensures { result ≡ is_too_wide self window }
     {
         self.is_xpn() && window > WIDEST_EXTENDED_WINDOW
     }
 
-    /// Is this no confidentiality offset of the suite's keys?
+    /// Whether the suite's keys cannot have this confidentiality offset.
     pub(crate) fn has_wrong_offset(self, offset: u8) -> bool
         ensures { result ≡ has_wrong_offset self offset }
     {

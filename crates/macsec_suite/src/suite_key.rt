@@ -1,4 +1,4 @@
-//! Keys prepared for a suite.
+//! Keys prepared for a cipher suite.
 
 ghost use Rattle.std.specs.Prelude.{◌≡◌, min, if◌then◌else◌, IfOk};
 ghost use Rattle.macsec_aes.specs.Keys.{key_bytes};
@@ -11,10 +11,10 @@ use macsec_gcm::GcmKey;
 use std::marker::Model;
 use thiserror::Error;
 
-/// Why a key is not prepared for a suite, in the order of the tests.
+/// Why a key is refused, in the order of the tests.
 #[derive(Clone, Copy, PartialEq, Eq, Debug, Error)]
 pub enum SuiteFault {
-    /// The key's length is not that of the suite's keys.
+    /// The suite's keys have another length.
     #[error("the key's length is not the suite's")]
     KeyLength = 1,
     /// The confidentiality offset is not 0, 30 or 50, or, with extended packet numbers, not 0.
@@ -31,8 +31,7 @@ impl SuiteFault {
     }
 }
 
-/// A key prepared for a suite. Contracts see it as the suite, the key's bytes and its confidentiality
-/// offset.
+/// A key prepared for a suite. Contracts see it as the suite, the key's bytes and its confidentiality offset.
 #[derive(Drop)]
 pub struct SuiteKey {
     pub(crate) suite: Suite,
@@ -49,7 +48,9 @@ impl Model for SuiteKey {
 }
 
 impl SuiteKey {
-    /// Prepares a key for a suite. The prepared key does not keep the salt, which goes to `iv_of`.
+    /// Prepares a key for a suite. The salt is not kept; pass it to `iv_of`.
+    ///
+    /// Errors: `KeyLength`, then `Offset`.
     pub fn new(suite: Suite, key: Key, _salt: [u8; 12], offset: u8) -> Result<SuiteKey, SuiteFault>
         ensures fault { fault_of result ≡ suite_key_fault suite key offset }
         ensures value { IfOk result (λ k. k ≡ prepared_from suite key offset) }
@@ -74,7 +75,7 @@ impl SuiteKey {
         self.suite
     }
 
-    /// How many of `len` octets of data stay clear.
+    /// How many of `len` octets of data are not encrypted.
     pub(crate) fn clear_length(&self, e: bool, len: usize) -> usize
         ensures { result ≡ (if e then min self.now.offset len else len) }
     {

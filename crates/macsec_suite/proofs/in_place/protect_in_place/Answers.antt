@@ -1,5 +1,5 @@
--- The clear octets, the sealed rest and its tag are those of the definition over the octets of the whole frame.
--- By the contracts of the calls (`protected_in_place` of `ClearParts`).
+-- The clear octets, the sealed rest and its tag are what the definition gives for the whole frame. Proved from the
+-- contracts of the calls with `protected_in_place` of `ClearParts`.
 use Rattle.std.proofs.Common.{◌+◌, ap}
 use Rattle.macsec_suite.proofs.ClearParts.{protected_in_place}
 use Rattle.macsec_suite.proofs.in_place.protect_in_place.Goals as goal

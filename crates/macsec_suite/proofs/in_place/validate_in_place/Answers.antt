@@ -1,5 +1,5 @@
--- The result of opening, true or false, is that of the definition over the octets of the whole frame.
--- By the contracts of the calls (`validated_in_place` of `ClearParts`).
+-- The result of opening, true or false, is what the definition gives for the whole frame. Proved from the contracts of
+-- the calls with `validated_in_place` of `ClearParts`.
 use Rattle.std.proofs.Common.{◌≡◌, ◌+◌, ◌++◌, List, ℕ, Bool, true, false, refl, ap}
 use Rattle.std.specs.Prelude.{Option, option_map, if◌then◌else◌, Some, None}
 use Rattle.std.specs.Bool.{OnTrue, OnFalse}
@@ -17,7 +17,7 @@ on_false : (b : Bool) (put : List ℕ → List ℕ) (text : List ℕ) {o : Optio
 on_false true put text is = tt
 on_false false put text is = is
 
--- the frame with this text in the place of the one that is opened
+-- the frame with this text in place of the opened one
 abbrev put : goal.After-slice_known-4-1 → List ℕ → List ℕ
 put c text = c.split_at_mut-aad.result.0.now ++ text ++ c.split_at_mut-body.result.1.now
 

@@ -1,5 +1,5 @@
--- A key number is made of each number below 4,096, and of no other.
--- By search; these proofs are here so that a wrong body is refused soon.
+-- Numbers below 4,096 give a key number, and no others do. Proved by search; written out so that a wrong body is
+-- refused quickly.
 use Rattle.std.proofs.Common.{rules}
 use Rattle.macsec_suite.proofs.key_number.KeyNumber.new.Goals as goal
 

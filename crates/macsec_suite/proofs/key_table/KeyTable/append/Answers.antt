@@ -1,5 +1,5 @@
--- A new key has space in the table and its place in the index, and the rows are those before and its own.
--- By the lemmas that a key of a new number may join (`KeyLemmas`, `KeyIndex`).
+-- There is space for the new key, and it gets its entry in the index. The rows are the old ones and its own. Proved
+-- from the lemmas in `KeyLemmas` and `KeyIndex` on appending a key with a new number.
 use Rattle.std.proofs.Common.{◌≡◌, ◌<◌, ◌∷◌, [], ◌++◌, map, length, refl, subst, sym, ap, ◌∙◌, arith, rules}
 use Rattle.std.specs.Prelude.{None}
 use Rattle.std.proofs.Math.ListN.{set}

@@ -1,5 +1,5 @@
--- A key that no line refuses has a free number; the refusal and the effect are those of the definitions.
--- By search; these proofs are here for speed, and so that a wrong body is refused soon.
+-- If nothing refuses a key, its number is free. The refusal and the effect are as defined. Proved by search; written
+-- out for speed, and so that a wrong body is refused quickly.
 use Rattle.std.proofs.Common.{◌≡◌, rules}
 use Rattle.macsec_suite.specs.KeyRows.{suite_of}
 use Rattle.macsec_suite.specs.Refusals.{is_too_wide}

@@ -1,5 +1,5 @@
--- The one row of the key's number notes the packet number, and all else that holds of the table stays.
--- By the lemma on a change of the one row that the index finds (`IsChanged-set` of `KeyIndex`).
+-- The one row of the key's number records the packet number, and the table's invariant is kept. Proved from
+-- `IsChanged-set` of `KeyIndex`.
 use Rattle.std.proofs.Common.{◌+◌, refl, ap, ◌∙◌, arith}
 use Rattle.std.proofs.Math.ListN.{set}
 use Rattle.macsec_suite.specs.KeyRows.{keys_noting, row_noting}

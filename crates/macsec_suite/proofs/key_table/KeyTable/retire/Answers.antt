@@ -1,5 +1,5 @@
--- The one row of the key's number is retired, and all else that holds of the table stays.
--- By the lemma on a change of the one row that the index finds (`IsChanged-set` of `KeyIndex`).
+-- The one row of the key's number is retired, and the table's invariant is kept. Proved from `IsChanged-set` of
+-- `KeyIndex`.
 use Rattle.std.proofs.Common.{true, refl, ap, ◌∙◌}
 use Rattle.std.specs.Prelude.{IsSome}
 use Rattle.std.proofs.Math.ListN.{set}

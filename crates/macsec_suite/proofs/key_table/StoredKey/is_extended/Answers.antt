@@ -1,5 +1,5 @@
--- Packet numbers are extended under a key by its suite, unless it is retired.
--- By search; these proofs are here so that a wrong body is refused soon.
+-- Whether a key has extended packet numbers and is not retired. Proved by search; written out so that a wrong body is
+-- refused quickly.
 use Rattle.std.proofs.Common.{rules, tests}
 use Rattle.macsec_suite.proofs.key_table.StoredKey.is_extended.Goals as goal
 

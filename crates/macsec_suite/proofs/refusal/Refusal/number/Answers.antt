@@ -1,5 +1,4 @@
--- The numbers are those of the definition.
--- By search; this proof is here so that a wrong body is refused soon.
+-- The numbers are as defined. Proved by search; written out so that a wrong body is refused quickly.
 use Rattle.std.proofs.Common.{rules}
 use Rattle.macsec_suite.proofs.refusal.Refusal.number.Goals as goal
 

@@ -1,5 +1,5 @@
--- With extended packet numbers the offset is wrong if it is not 0.
--- By search; this proof is here so that a wrong body is refused soon.
+-- With extended packet numbers every offset but 0 is wrong. Proved by search; written out so that a wrong body is
+-- refused quickly.
 use Rattle.std.proofs.Common.{rules, tests}
 use Rattle.macsec_suite.proofs.suite.Suite.has_wrong_offset.Goals as goal
 

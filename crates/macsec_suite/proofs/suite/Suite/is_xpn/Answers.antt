@@ -1,5 +1,4 @@
--- The suites with extended packet numbers are those of the definition, in each arm.
--- By search; these proofs are here for speed.
+-- In each arm, the suites with extended packet numbers are as defined. Proved by search; written out for speed.
 use Rattle.std.proofs.Common.{rules}
 use Rattle.macsec_suite.proofs.suite.Suite.is_xpn.Goals as goal
 

@@ -1,5 +1,4 @@
--- The last packet number is that of the definition, extended or not.
--- By search; these proofs are here for speed.
+-- The last packet number is as defined, extended or not. Proved by search; written out for speed.
 use Rattle.std.proofs.Common.{rules}
 use Rattle.macsec_suite.proofs.suite.Suite.last.Goals as goal
 

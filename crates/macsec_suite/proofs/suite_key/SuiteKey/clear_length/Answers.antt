@@ -1,5 +1,4 @@
--- The number of clear octets is that of the definition, encrypted or not.
--- By search; these proofs are here for speed.
+-- The number of clear octets is as defined, encrypted or not. Proved by search; written out for speed.
 use Rattle.std.proofs.Common.{rules}
 use Rattle.macsec_suite.proofs.suite_key.SuiteKey.clear_length.Goals as goal
 

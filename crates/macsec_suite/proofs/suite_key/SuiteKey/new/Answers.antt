@@ -1,5 +1,5 @@
--- The fault is the first one that applies, and else the value is the prepared key.
--- By search; these proofs are here for speed.
+-- The fault is the first one that applies; without one the value is the prepared key. Proved by search; written out for
+-- speed.
 use Rattle.std.proofs.Common.{rules}
 use Rattle.macsec_suite.proofs.suite_key.SuiteKey.new.Goals as goal
 
