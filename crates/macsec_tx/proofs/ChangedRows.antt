@@ -1,4 +1,4 @@
--- What holds of the rows of a transmit channel holds of them after a change.
+-- Changes keep the invariant of a transmit SC's rows.
 use Rattle.std.proofs.Common.{◌≡◌, ℕ, ◌<◌, ◌+◌, ◌-◌, Bool, true, false, cond, List, [], ◌∷◌, ◌++◌, map, length, refl, arith, sym, ap, subst, take, drop, get_or, ◌∙◌}
 use Rattle.std.specs.Prelude.{Some, None, IfSome, ◌==◌, ◌^◌, if◌then◌else◌}
 use Rattle.std.specs.List.{refill, filter}
@@ -10,21 +10,21 @@ use Rattle.macsec_tx.specs.Rows.{AreTxRows, IsTxRow}
 use Rattle.macsec_tx.specs.Commands.{off_at, switch_to}
 use Rattle.macsec_tx.proofs.TxRows.{none_found}
 
--- a number stays free in a change that keeps the numbers
+-- a change that keeps numbers leaves a free number free
 tx_row-map_none : (f : TxRow → TxRow) → ((row : TxRow) → (f row).an ≡ row.an) → (rows : List TxRow) (an : ℕ) → tx_row rows an ≡ None → tx_row (map f rows) an ≡ None
 tx_row-map_none f same [] an free = refl
 tx_row-map_none f same (row ∷ rows) an free =
     let parts = none_found (row.an == an) row (tx_row rows an) free in
     rw (same row, parts.0) (tx_row-map_none f same rows an parts.1)
 
--- a change that keeps the numbers keeps what holds of the rows
+-- a change that keeps each row's number and bounds keeps the invariant
 pub AreTxRows-map : (f : TxRow → TxRow) → ((row : TxRow) → (f row).an ≡ row.an) → ((row : TxRow) → IsTxRow row → IsTxRow (f row)) →
     (rows : List TxRow) → AreTxRows rows → AreTxRows (map f rows)
 AreTxRows-map f same good [] h = tt
 AreTxRows-map f same good (row ∷ rows) h =
     (good row h.0, ap (λ an. tx_row (map f rows) an) (same row) ∙ tx_row-map_none f same rows row.an h.1, AreTxRows-map f same good rows h.2)
 
--- a number stays free when rows are deleted
+-- deleting rows leaves a free number free
 tx_row-filter_none : (p : TxRow → Bool) (rows : List TxRow) (an : ℕ) → tx_row rows an ≡ None → tx_row (filter p rows) an ≡ None
 tx_row-filter_none p [] an free = refl
 tx_row-filter_none p (row ∷ rows) an free =
@@ -35,7 +35,7 @@ tx_row-filter_none p (row ∷ rows) an free =
     by_test true other rest = rw other rest
     by_test false other rest = rest
 
--- deletion keeps what holds of the rows
+-- deleting rows keeps the invariant
 pub AreTxRows-filter : (p : TxRow → Bool) (rows : List TxRow) → AreTxRows rows → AreTxRows (filter p rows)
 AreTxRows-filter p [] h = tt
 AreTxRows-filter p (row ∷ rows) h = by_test (p row) (AreTxRows-filter p rows h.2)
@@ -44,15 +44,15 @@ AreTxRows-filter p (row ∷ rows) h = by_test (p row) (AreTxRows-filter p rows h
     by_test true rest = (h.0, tx_row-filter_none p rows row.an h.1, rest)
     by_test false rest = rest
 
--- what was borrowed as a slice is afterwards as the borrower left it
+-- after a borrow as a slice, the rows are as the borrower left them
 pub AreTxRows-refill : (old new : List TxRow) → length new ≡ length old → AreTxRows new → AreTxRows (refill (length old) old new)
 AreTxRows-refill old new same h = rw (take_at new (drop (length new) old) (length old) same) h
 
--- an association that is enabled or disabled is still one
+-- enabling or disabling a row keeps its bounds
 pub IsTxRow-switch_to : (an : ℕ) (row : TxRow) → IsTxRow row → IsTxRow (switch_to an row)
 IsTxRow-switch_to an row h = record { an = h.an; key = h.key; next_least = h.next_least; next = h.next }
 
--- one that is disabled where it has the number is still one
+-- disabling the row of a number keeps its bounds
 pub IsTxRow-off_at : (an : ℕ) (row : TxRow) → IsTxRow row → IsTxRow (off_at an row)
 IsTxRow-off_at an row h = by_test (row.an == an)
   where
@@ -60,7 +60,7 @@ IsTxRow-off_at an row h = by_test (row.an == an)
     by_test true = record { an = h.an; key = h.key; next_least = h.next_least; next = h.next }
     by_test false = h
 
--- an association keeps its number when it is disabled
+-- disabling keeps the association number
 pub an-off_at : (an : ℕ) (row : TxRow) → (off_at an row).an ≡ row.an
 an-off_at an row = by_test (row.an == an)
   where
@@ -68,7 +68,7 @@ an-off_at an row = by_test (row.an == an)
     by_test true = refl
     by_test false = refl
 
--- an association keeps its number when it uses a packet number
+-- using a packet number keeps the association number
 an-used_at : (an : ℕ) (row : TxRow) → (used_at an row).an ≡ row.an
 an-used_at an row = by_test (row.an == an)
   where
@@ -76,7 +76,7 @@ an-used_at an row = by_test (row.an == an)
     by_test true = refl
     by_test false = refl
 
--- the one association of this number has a packet number left that it uses
+-- the SA of this number has a packet number left; using it keeps the invariant
 pub AreTxRows-used_at : (an : ℕ) (rows : List TxRow) → AreTxRows rows → IfSome (tx_row rows an) (λ row. row.next < 2 ^ 64) → AreTxRows (map (used_at an) rows)
 AreTxRows-used_at an [] h small = tt
 AreTxRows-used_at an (row ∷ rows) h small =
@@ -92,7 +92,7 @@ AreTxRows-used_at an (row ∷ rows) h small =
         (record { an = h.0.an; key = h.0.key; next_least = omega arith; next = omega (arith, h') }, subst (λ o. IfSome o (λ row. row.next < 2 ^ 64)) (sym none) tt)
     by_test false other h' = (h.0, h')
 
--- an element that a loop has not come to yet is as it was
+-- an element that a loop has not reached is unchanged
 pub get_or-not_reached : {X : Type 0} (f : X → X) (xs ys : List X) (i : ℕ) (d : X) → i < length xs → ys ≡ map f (take i xs) ++ drop i xs → get_or ys i d ≡ get_or xs i d
 get_or-not_reached f xs ys i d within is =
     let long : length (map f (take i xs)) ≡ i = length-map (take i xs) f ∙ length-take-le i xs (omega (arith, within)) in

@@ -1,4 +1,4 @@
--- Reading a frame that is sent protected gives the parts that were sent.
+-- Reading a protected frame gives the parts that were sent.
 use Rattle.std.proofs.Common.{◌≡◌, ℕ, ◌+◌, ◌-◌, ◌<◌, ◌≤◌, Bool, true, false, List, [], ◌++◌, length, take, drop, refl, ap, sym, ◌∙◌, arith, length-take, length-drop, length-append}
 use Rattle.std.specs.Prelude.{Some, None, slice_range, if◌then◌else◌}
 use Rattle.std.specs.Option.{ForSome}
@@ -44,14 +44,14 @@ sci_octets form.Scb many sci sa eight = unless (is_own sci sa) sci eight
 
 -- ---- the lengths of the parts
 
--- where SL is not 0 it is the number of octets, and where it is 0 they are 48 or more
+-- an SL other than 0 is the number of octets; SL 0 means 48 or more
 short_is : (n : ℕ) → 0 < sl_of n → n ≡ sl_of n
 short_is n some = grind (arith, nat_tests, some)
 
 long_is : (n : ℕ) → 0 < n → sl_of n ≡ 0 → 48 ≤ n
 long_is n some none = grind (arith, nat_tests, some, none)
 
--- the clear octets and the ciphertext are as many as the octets of the data
+-- clear octets and ciphertext together are as long as the data
 data_long : SealedLengths → (key : PreparedKey) (iv : List ℕ) (tag : Tag) (frame : List ℕ) → length (parts_under key iv tag frame).secure_data ≡ length frame - 12
 data_long lengths key iv tag frame =
     let client_data : List ℕ = drop 12 frame in

@@ -1,4 +1,4 @@
--- A frame that is protected in place is its parts concatenated.
+-- A frame protected in place is its parts concatenated.
 use Rattle.std.proofs.Common.{◌≡◌, ℕ, ◌+◌, ◌-◌, ◌≤◌, Bool, List, [], ◌++◌, length, take, drop, ap, sym, ◌∙◌, arith, append_assoc, append-nil, length-take, length-drop}
 use Rattle.std.specs.Prelude.{slice_range}
 use Rattle.std.proofs.Math.Seq.{take-add}
@@ -11,7 +11,7 @@ use Rattle.macsec_suite.specs.InPlace.{clear_and_rest, protected_octets}
 use Rattle.macsec_suite.specs.Laws.{PartsInPlace}
 use Rattle.macsec_tx.specs.Transmit.{parts_under}
 
--- what is sealed, and the tag, after what is authenticated only
+-- the authenticated octets, the ciphertext and the tag, concatenated
 abbrev sealed_row : PreparedKey → List ℕ → List ℕ × List ℕ → List ℕ
 sealed_row key iv ap = let ct = seal_of key.bytes iv ap.0 ap.1 in ap.0 ++ ct.0 ++ ct.1
 
@@ -23,8 +23,7 @@ grouped head clear c t = sym (append-nil (head ++ (clear ++ c) ++ t) ∙ ap (λ 
 abbrev pub LawOfParts : Type 0
 LawOfParts = (offset : ℕ) (e : Bool) (da sa : List ℕ) (tag : Tag) (user_data : List ℕ) → PartsInPlace offset e da sa tag user_data
 
--- a frame that begins with addresses, SecTAG and client data, with space for the ICV, is protected in place to its
--- parts concatenated
+-- protecting addresses, SecTAG and client data in place, with space for the ICV, gives the parts concatenated
 pub protected_row : LawOfParts → (key : PreparedKey) (iv : List ℕ) (tag : Tag) (frame whole : List ℕ) (n : ℕ) → 14 ≤ length frame → length whole ≡ n + 16
     → take n whole ≡ take 12 frame ++ encoding tag ++ drop 12 frame
     → protected_octets key iv tag.e (12 + length (encoding tag)) whole ≡ in_a_row (parts_under key iv tag frame)

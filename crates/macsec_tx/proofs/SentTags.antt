@@ -1,4 +1,4 @@
--- The SecTAG of a frame that is sent is one.
+-- The SecTAG of a frame that is sent is valid.
 use Rattle.std.proofs.Common.{◌≡◌, ℕ, ◌<◌, ◌-◌, List, length, Bool, true, false, refl, arith}
 use Rattle.std.specs.Prelude.{Some, None, IsSome, slice_range, if◌then◌else◌}
 use Rattle.std.specs.Option.{ForSome}
@@ -16,26 +16,26 @@ use Rattle.macsec_tx.specs.Transmit.{tag_sent}
 short : (n : ℕ) → sl_of n < 48
 short n = grind (arith, nat_tests)
 
--- if the SecTAG carries an SCI that is needed only for a foreign source address, that address is foreign
+-- an SCI that is carried only for a foreign source address implies that the address is foreign
 none_there : (own : Bool) (sci : Sci) → IsSome (if own then None else Some sci) → own ≡ false
 none_there true sci there = cc
 none_there false sci there = refl
 
--- ES is not set if there is an SCI
+-- ES is clear if there is an SCI
 no_es : (f : TagForm) (many : Bool) (sci : Sci) (sa : List ℕ) → IsSome (sci_sent f many sci sa) → es_sent f sci sa ≡ false
 no_es form.Auto many sci sa there = refl
 no_es form.Sci many sci sa there = refl
 no_es form.Es many sci sa there = none_there (is_own sci sa) sci there
 no_es form.Scb many sci sa there = refl
 
--- SCB is not set if there is an SCI
+-- SCB is clear if there is an SCI
 no_scb : (f : TagForm) (many : Bool) (sci : Sci) (sa : List ℕ) → IsSome (sci_sent f many sci sa) → scb_sent f sci sa ≡ false
 no_scb form.Auto many sci sa there = refl
 no_scb form.Sci many sci sa there = refl
 no_scb form.Es many sci sa there = refl
 no_scb form.Scb many sci sa there = none_there (is_own sci sa) sci there
 
--- the SecTAG that is sent is one of the tags that there are
+-- the SecTAG that is sent is valid
 pub is_tag : (options : TxOptions) (row : TxRow) (frame : List ℕ) → row.an < 4
     → ForSome (tag_sent options row frame).sci (λ s. length s.0 ≡ 8) → IsTag (tag_sent options row frame)
 is_tag options row frame an octets =

@@ -1,4 +1,4 @@
--- Laws on the rows of a transmit channel: their numbers, their space, and the rows that are found.
+-- Lemmas on the rows of a transmit SC: their numbers, their space, and finding them.
 use Rattle.std.proofs.Common.{◌≡◌, ℕ, suc, ◌<◌, ◌≤◌, ◌+◌, Bool, true, false, cond, List, [], ◌∷◌, ◌++◌, map, length, refl, arith, eqb, sym, ap, ◌||◌, inl, inr, drop, get_or, ◌∙◌}
 use Rattle.std.specs.Prelude.{Option, Some, None, is_some, ◌==◌, ◌^◌, if◌then◌else◌}
 use Rattle.std.specs.List.{All, IsDistinct, AllByRecursion, list_any}
@@ -11,38 +11,38 @@ use Rattle.macsec_tx.specs.declared.TxRow.{TxRow}
 use Rattle.macsec_tx.specs.Transmit.{tx_row, row_on}
 use Rattle.macsec_tx.specs.Rows.{AreTxRows, IsTxRow}
 
--- a channel may have no association
+-- a channel without an SA has the invariant
 pub AreTxRows-nil : AreTxRows []
 AreTxRows-nil = tt
 
--- the numbers of the associations
+-- the association numbers of the rows
 abbrev pub numbers_of : List TxRow → List ℕ
 numbers_of rows = map (λ row. row.an) rows
 
--- where nothing is found, the first was passed over, and nothing is found after it
+-- if nothing is found, neither the first element nor a later one matches
 pub none_found : {A : Type 0} (b : Bool) (x : A) (rest : Option A) → cond b (Some x) rest ≡ None → (b ≡ false) × (rest ≡ None)
 none_found true x rest none = cc
 none_found false x rest none = (refl, none)
 
--- a number that no row has is not among the rows' numbers
+-- a number that no row has differs from the number of every row
 pub number_is_apart : (rows : List TxRow) (an : ℕ) → tx_row rows an ≡ None → AllByRecursion (λ y. eqb an y ≡ false) (numbers_of rows)
 number_is_apart [] an free = tt
 number_is_apart (row ∷ rows) an free =
     let parts = none_found (row.an == an) row (tx_row rows an) free in
     (ne_eqb an row.an (λ e. eqb-false row.an an parts.0 (sym e)), number_is_apart rows an parts.1)
 
--- no two rows have one number
+-- no two rows have the same number
 pub numbers_are_distinct : (rows : List TxRow) → AreTxRows rows → IsDistinct eqb (numbers_of rows)
 unfolding IsDistinct
 numbers_are_distinct [] h = tt
 numbers_are_distinct (row ∷ rows) h = (number_is_apart rows row.an h.1, numbers_are_distinct rows h.2)
 
--- a number that is the first one or among the rest is below 4
+-- if the first number and the later ones are below 4, a number among them is
 number_below_step : (q an : ℕ) (rest : Bool) → an < 4 → (rest ≡ true → q < 4) → (eqb q an || rest) ≡ true → q < 4
 number_below_step q an rest small later any =
     elim (eqb_tells q an) [ inl t ↦ omega arith | inr f ↦ later (rw f.0 at any) ]
 
--- each of the rows' numbers is below 4
+-- every row's number is below 4
 pub number_is_below : (rows : List TxRow) → AreTxRows rows → (q : ℕ) → list_any (eqb q) (numbers_of rows) ≡ true → q < 4
 number_is_below [] h q any = cc
 number_is_below (row ∷ rows) h q any =
@@ -53,7 +53,7 @@ pub length-numbers_of : (rows : List TxRow) → length (numbers_of rows) ≡ len
 length-numbers_of [] = refl
 length-numbers_of (row ∷ rows) = ap suc (length-numbers_of rows)
 
--- there is space for an association of a new number
+-- there is space for an SA with a new number
 pub has_room : (rows : List TxRow) (an : ℕ) → AreTxRows rows → tx_row rows an ≡ None → an < 4 → length rows < 4
 unfolding IsDistinct
 has_room rows an h free small =
@@ -61,31 +61,31 @@ has_room rows an h free small =
     (λ q any. number_below_step q an (list_any (eqb q) (numbers_of rows)) small (λ e. number_is_below rows h q e) any) in
     omega (arith, length-numbers_of rows)
 
--- a number stays free where another joins
+-- appending a row with another number leaves a number free
 tx_row-append_none : (rows : List TxRow) (new : TxRow) (an : ℕ) → tx_row rows an ≡ None → (new.an == an) ≡ false → tx_row (rows ++ new ∷ []) an ≡ None
 tx_row-append_none [] new an free other = rw other refl
 tx_row-append_none (row ∷ rows) new an free other =
     let parts = none_found (row.an == an) row (tx_row rows an) free in
     rw parts.0 (tx_row-append_none rows new an parts.1 other)
 
--- an association of a new number may join
+-- appending an SA with a new number keeps the invariant
 pub AreTxRows-append : (rows : List TxRow) (new : TxRow) → AreTxRows rows → tx_row rows new.an ≡ None → IsTxRow new → AreTxRows (rows ++ new ∷ [])
 AreTxRows-append [] new h free small = (small, refl, tt)
 AreTxRows-append (row ∷ rows) new h free small =
     let parts = none_found (row.an == new.an) row (tx_row rows new.an) free in
     (h.0, tx_row-append_none rows new row.an h.1 (ne_eqb new.an row.an (λ e. eqb-false row.an new.an parts.0 (sym e))), AreTxRows-append rows new h.2 parts.1 small)
 
--- what is not there is `None`
+-- an option that is not `Some` is `None`
 pub none_from_is_some : {A : Type 0} (o : Option A) → is_some o ≡ false → o ≡ None
 none_from_is_some None h = refl
 none_from_is_some (Some x) h = cc
 
--- no association is past the last number of 64 bits
+-- no next packet number is above 2^64
 pub all_within : (rows : List TxRow) → AreTxRows rows → All (λ row. row.next ≤ 2 ^ 64) rows
 all_within [] h = All-nil (λ row. row.next ≤ 2 ^ 64)
 all_within (row ∷ rows) h = All-cons (λ row. row.next ≤ 2 ^ 64) row rows h.0.next (all_within rows h.2)
 
--- the enabled association is the one of its number
+-- the enabled SA is the one found by its number
 pub row_on_is_there : (rows : List TxRow) → AreTxRows rows → (row : TxRow) → row_on rows ≡ Some row → tx_row rows row.an ≡ Some row
 row_on_is_there [] h row found = cc
 row_on_is_there (first ∷ rows) h row found = by_on first.on (row_on_is_there rows h.2 row) found

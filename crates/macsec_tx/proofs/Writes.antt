@@ -1,10 +1,10 @@
--- The prefix of a list after writes.
+-- The first octets of a list after a write.
 use Rattle.std.proofs.Common.{◌≡◌, ◌≤◌, ◌+◌, ◌++◌, ℕ, List, length, take, sym, ap, ◌∙◌, arith}
 use Rattle.std.proofs.lemmas.List.{append_assoc, length-append, length-take-le}
 use Rattle.std.proofs.Math.Seq.{take-append_seam, take-append-add}
 use borrow.Rule.Slice.PartMut.{put_mid, post_of}
 
--- what a part begins with follows what the whole has before the part
+-- after a write, the front of what was written follows the octets before it
 pub take-put_mid_front : (a k : ℕ) (xs front rest : List ℕ) → a ≤ length xs
     → take (a + length front) (put_mid a k xs (front ++ rest)) ≡ take a xs ++ front
 take-put_mid_front a k xs front rest le =
@@ -15,7 +15,7 @@ take-put_mid_front a k xs front rest le =
     ∙ ap (λ (ys : List ℕ). before ++ take (length front) ys) (append_assoc front rest after)
     ∙ ap (λ (ys : List ℕ). before ++ ys) (take-append_seam front (rest ++ after))
 
--- the whole has at least as many octets as are in front and the part that is put behind them
+-- the list has at least the octets before the write and the front of what was written
 pub length-put_mid_front : (a k : ℕ) (xs front rest : List ℕ) → a ≤ length xs
     → a + length front ≤ length (put_mid a k xs (front ++ rest))
 length-put_mid_front a k xs front rest le =

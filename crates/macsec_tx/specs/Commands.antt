@@ -1,5 +1,4 @@
--- Commands on transmit associations: why each is refused, in the order of the tests, and what it does
--- (IEEE 802.1AE, 10.7).
+-- Commands on transmit SAs: why each is refused, in the order of the tests, and what it does (IEEE 802.1AE, 10.7).
 use Rattle.std.specs.Prelude.{ℕ, List, [], ◌∷◌, ◌++◌, map, filter, ◌==◌, Bool, false, not, nat_lt, is_some, if◌then◌else◌, IsSome, IfSome}
 use Rattle.std.specs.List.{list_any}
 use Rattle.macsec_suite.specs.declared.refusal.Refusal.TheVariants.{NoKey, KeyRetired, KeyInUse, AnTaken, NoSa, PnRange, PnFloor, Exhausted}
@@ -9,15 +8,15 @@ use Rattle.macsec_suite.specs.Refusals.{RefusalLine, holds_of, is_number_used, i
 use Rattle.macsec_tx.specs.declared.TxRow.{TxRow}
 use Rattle.macsec_tx.specs.Transmit.{tx_row}
 
--- a transmit association uses the key
+-- a transmit SA uses the key
 abbrev pub tx_uses : List TxRow → ℕ → Bool
 tx_uses rows key = list_any (λ row. row.key == key) rows
 
--- there is an association of this number
+-- there is an SA of this association number
 abbrev pub has_tx : List TxRow → ℕ → Bool
 has_tx rows an = is_some (tx_row rows an)
 
--- why creating an association is refused: `next` is to be its first packet number
+-- the refusals of creating an SA whose first packet number is `next`
 abbrev pub tx_sa_refusals : List InstalledKey → List TxRow → ℕ → ℕ → ℕ → List RefusalLine
 tx_sa_refusals keys rows an key next =
     (NoKey, not (is_number_used keys key)) ∷
@@ -27,44 +26,44 @@ tx_sa_refusals keys rows an key next =
     (PnRange, is_outside (last_of (the_key keys key).suite) next) ∷
     (PnFloor, nat_lt next (the_key keys key).first_unused) ∷ []
 
--- the associations with a new one at the end, which is disabled; it encrypts if `conf` is true
+-- the SAs with a new one at the end, which is disabled and encrypts if `conf` is true
 abbrev pub with_tx_sa : List TxRow → ℕ → ℕ → ℕ → Bool → List TxRow
 with_tx_sa rows an key next conf =
     rows ++ record { an = an; key = key; next = next; conf = conf; on = false } ∷ []
 
--- the association has no packet number left
+-- the SA has no packet number left
 abbrev pub is_exhausted : List InstalledKey → List TxRow → ℕ → Bool
 is_exhausted keys rows an =
     holds_of (λ row. nat_lt (last_of (the_key keys row.key).suite) row.next) (tx_row rows an)
 
--- why enabling an association is refused
+-- the refusals of enabling an SA
 abbrev pub tx_on_refusals : List InstalledKey → List TxRow → ℕ → List RefusalLine
 tx_on_refusals keys rows an = (NoSa, not (has_tx rows an)) ∷ (Exhausted, is_exhausted keys rows an) ∷ []
 
--- the association, enabled if it has this number, and else disabled
+-- the SA, enabled if it has this association number, otherwise disabled
 abbrev pub switch_to : ℕ → TxRow → TxRow
 switch_to an row = record row { on = row.an == an }
 
--- this association is enabled, and every other one disabled
+-- this SA is enabled, and all others are disabled
 abbrev pub with_tx_on : List TxRow → ℕ → List TxRow
 with_tx_on rows an = map (switch_to an) rows
 
--- why disabling an association is refused, and why deleting it is
+-- the refusals of disabling an SA and of deleting one
 abbrev pub tx_off_refusals : List TxRow → ℕ → List RefusalLine
 tx_off_refusals rows an = (NoSa, not (has_tx rows an)) ∷ []
 
--- the association, disabled if it has this number, and else as it was
+-- the SA, disabled if it has this association number, otherwise unchanged
 abbrev pub off_at : ℕ → TxRow → TxRow
 off_at an row = if row.an == an then record row { on = false } else row
 
--- this association is disabled, and every other one as it was
+-- this SA is disabled, and the others are unchanged
 abbrev pub with_tx_off : List TxRow → ℕ → List TxRow
 with_tx_off rows an = map (off_at an) rows
 
--- the associations without this one
+-- the SAs without this one
 abbrev pub without_tx : List TxRow → ℕ → List TxRow
 without_tx rows an = filter (λ row. not (row.an == an)) rows
 
--- the key of each association is in the table
+-- the key of each SA is in the table
 abbrev pub HaveKeys : List InstalledKey → List TxRow → Type 0
 HaveKeys keys rows = (an : ℕ) → IfSome (tx_row rows an) (λ row. IsSome (key_row keys row.key))

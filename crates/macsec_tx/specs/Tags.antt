@@ -5,12 +5,11 @@ use Rattle.macsec_tag.specs.declared.identifiers.Sci.{Sci}
 use Rattle.macsec_commands.specs.declared.form.TagForm.{TagForm}
 use Rattle.macsec_commands.specs.declared.form.TagForm.TheVariants as form
 
--- the source address is that of the SCI, which is its first six octets (9.9)
+-- the source address is the SCI's first six octets (9.9)
 abbrev pub is_own : Sci → List ℕ → Bool
 is_own sci sa = same_octets sa (take 6 sci.0)
 
--- the SCI that the SecTAG carries, if it carries one: SC is set exactly then; `many` says that there is more than one
--- receive channel
+-- the SCI that the SecTAG carries, if any, in which case SC is set; `many` is whether there is more than one receive SC
 abbrev pub sci_sent : TagForm → Bool → Sci → List ℕ → Option Sci
 sci_sent form.Auto many sci sa = if many then Some sci else None
 sci_sent form.Sci many sci sa = Some sci
@@ -31,6 +30,6 @@ scb_sent form.Sci sci sa = false
 scb_sent form.Es sci sa = false
 scb_sent form.Scb sci sa = is_own sci sa
 
--- the SL of this number of octets of Secure Data: 0 means 48 and more (9.7)
+-- the SL for this number of octets of Secure Data: 0 means 48 or more (9.7)
 abbrev pub sl_of : ℕ → ℕ
 sl_of n = if nat_lt n 48 then n else 0

@@ -1,4 +1,4 @@
--- What becomes of a client frame (IEEE 802.1AE, 10.5).
+-- How a client frame is sent (IEEE 802.1AE, 10.5).
 use Rattle.std.specs.Prelude.{ℕ, ◌+◌, ◌-◌, ◌%◌, ◌^◌, List, [], ◌++◌, length, take, drop, map, find, slice_range, ◌==◌, nat_lt, if◌then◌else◌, Option, Some, None}
 use Rattle.macsec_gcm.specs.Gcm.{seal_of}
 use Rattle.macsec_tag.specs.Tag.{Tag, encoding}
@@ -12,16 +12,16 @@ use Rattle.macsec_tx.specs.declared.TxRow.{TxRow}
 use Rattle.macsec_tx.specs.declared.TxOptions.{TxOptions}
 use Rattle.macsec_tx.specs.Tags.{sci_sent, es_sent, scb_sent, sl_of}
 
--- the association of this number, if there is one
+-- the SA of this association number
 abbrev pub tx_row : List TxRow → ℕ → Option TxRow
 tx_row rows an = find (λ row. row.an == an) rows
 
--- the enabled association
+-- the enabled SA
 abbrev pub row_on : List TxRow → Option TxRow
 row_on rows = find (λ row. row.on) rows
 
--- the SecTAG of a frame that the association sends: E and C are both set if it encrypts, and else both clear (9.5), and
--- PN is the low 32 bits of the packet number (9.8)
+-- the SecTAG of a frame that the SA sends: E and C are both set if it encrypts and both clear otherwise (9.5); PN is
+-- the low 32 bits of the packet number (9.8)
 abbrev pub tag_sent : TxOptions → TxRow → List ℕ → Tag
 tag_sent options row frame =
     let sa = slice_range frame 6 12 in record {
@@ -35,8 +35,8 @@ tag_sent options row frame =
       sci = sci_sent options.form options.many options.sci sa;
     }
 
--- the parts of a client frame that is protected with a key, an IV and a SecTAG: the Secure Data are the octets of the
--- client's data that stay clear, and after them the ciphertext of the rest
+-- the parts of a client frame protected with a key, an IV and a SecTAG; the Secure Data are the octets of the client's
+-- data that stay clear, followed by the ciphertext of the rest
 abbrev pub parts_under : PreparedKey → List ℕ → Tag → List ℕ → MpduParts
 parts_under key iv tag frame =
     let da = take 6 frame in
@@ -53,20 +53,20 @@ parts_under key iv tag frame =
       padding = [];
     }
 
--- the IV of a frame that the association sends, with the packet number that it uses next
+-- the IV of the SA's next frame
 abbrev pub iv_sent : TxOptions → InstalledKey → TxRow → List ℕ
 iv_sent options key row = iv_of key.suite options.sci key.ssci key.salt row.next
 
--- the parts of the frame that the association makes of a client frame
+-- the parts of the frame that the SA sends for a client frame
 abbrev pub parts_sent : TxOptions → InstalledKey → TxRow → List ℕ → MpduParts
 parts_sent options key row frame =
     parts_under (prepared_key key) (iv_sent options key row) (tag_sent options row frame) frame
 
--- that frame
+-- the octets of that frame
 abbrev pub protected_frame : TxOptions → InstalledKey → TxRow → List ℕ → List ℕ
 protected_frame options key row frame = in_a_row (parts_sent options key row frame)
 
--- the use of the cipher that this frame is
+-- the use of the cipher by that frame
 abbrev pub use_sent : TxOptions → InstalledKey → TxRow → List ℕ → CipherUse
 use_sent options key row frame = cipher_use key (iv_sent options key row) (parts_sent options key row frame)
 
@@ -74,25 +74,25 @@ use_sent options key row frame = cipher_use key (iv_sent options key row) (parts
 abbrev pub octets_added : Tag → ℕ
 octets_added tag = length (encoding tag) + 16
 
--- what is sent: the client frame as it is; a frame that is protected under the key of this number; or nothing, since no
--- association can send, or since the frame would be too long
+-- what is sent: the client frame unchanged, a frame protected under this key, or nothing, because no SA can send or the
+-- frame would be too long
 pub data Leaving : Type 0 where
   plain : Leaving
   protected : (key : ℕ) → (frame : List ℕ) → Leaving
   no_sa : Leaving
   too_long : Leaving
 
--- what is sent, and the association that protects it, if one does, as it was before the frame
+-- what is sent, and the SA that protects it, if any, as it was before the frame
 pub record Sending : Type 0 where
   pub leaving : Leaving
   pub by : Option TxRow
 
--- no association protects what is sent
+-- sent, or not, without protection
 abbrev pub not_protected : Leaving → Sending
 not_protected leaving = record { leaving = leaving; by = None }
 
--- what the enabled association sends: nothing if there is none or if it has no packet number left; nothing if the
--- protected frame would be longer than `max_frame`; else the protected frame
+-- what the enabled SA sends: nothing if there is no such SA or it has no packet number left, nothing if the protected
+-- frame would be longer than `max_frame`, and otherwise the protected frame
 abbrev pub sending_by : TxOptions → List InstalledKey → List ℕ → Option TxRow → Sending
 sending_by options keys frame None = not_protected no_sa
 sending_by options keys frame (Some row) =
@@ -101,27 +101,27 @@ sending_by options keys frame (Some row) =
     else if nat_lt options.max_frame (length frame + octets_added (tag_sent options row frame)) then not_protected too_long
     else record { leaving = protected row.key (protected_frame options key row frame); by = Some row }
 
--- what is sent: what the enabled association sends if protection is on, and else the client frame, unless it is longer
+-- what is sent: if protection is on, what the enabled SA sends; if it is off, the client frame, unless it is longer
 -- than `max_frame`
 abbrev pub sending : TxOptions → List InstalledKey → List TxRow → List ℕ → Sending
 sending options keys rows frame =
     if options.protect then sending_by options keys frame (row_on rows)
     else not_protected (if nat_lt options.max_frame (length frame) then too_long else plain)
 
--- the association, which has used its next packet number
+-- the SA after it has used its next packet number
 abbrev pub next_used : TxRow → TxRow
 next_used row = record row { next = row.next + 1 }
 
--- the association of this number has used its packet number, and another is as it was
+-- the SA, with its packet number used if it has this association number
 abbrev pub used_at : ℕ → TxRow → TxRow
 used_at an row = if row.an == an then next_used row else row
 
--- the associations after a client frame: the one that protects it has used its packet number
+-- the SAs after a client frame: the one that protects it has used its packet number
 abbrev pub rows_after : List TxRow → Option TxRow → List TxRow
 rows_after rows None = rows
 rows_after rows (Some by) = map (used_at by.an) rows
 
--- the keys after a client frame: under the key of that association the packet number is used
+-- the keys after a client frame: the SA's key has used the packet number
 abbrev pub keys_after : List InstalledKey → Option TxRow → List InstalledKey
 keys_after keys None = keys
 keys_after keys (Some by) = keys_noting keys by.key by.next

@@ -1,4 +1,4 @@
-//! The associations of the transmit channel, and the commands on them.
+//! The SAs of the transmit SC, and the commands on them.
 
 ghost use Rattle.std.specs.Prelude.{◌≡◌, ◌<◌, ◌≤◌, ◌^◌, [], map, IfSome, OnOk, OnErr, Some};
 ghost use Rattle.std.specs.List.{All};
@@ -13,7 +13,7 @@ use macsec_suite::{KeyNumber, KeyTable, Refusal};
 use macsec_tag::{ASSOCIATION_COUNT, An};
 use std::marker::Model;
 
-/// The transmit channel: up to four associations with different numbers. Contracts see it as the list of them, in the
+/// The transmit SC: up to four SAs with different association numbers. Contracts see it as the list of its SAs, in the
 /// order of their creation.
 #[derive(Drop)]
 pub struct TxChannel {
@@ -33,7 +33,7 @@ impl Model for TxChannel {
 }
 
 impl TxChannel {
-    /// A channel without an association.
+    /// Creates a channel without an SA.
     pub fn new() -> TxChannel
         ensures { result ≡ [] }
     {
@@ -42,7 +42,7 @@ impl TxChannel {
         }
     }
 
-    /// The association of this number, if there is one.
+    /// Returns the SA of this association number.
     pub fn row(&self, an: An) -> Option<TxRow>
         ensures { result ≡ tx_row self.now an }
     {
@@ -54,7 +54,7 @@ impl TxChannel {
         None
     }
 
-    /// The enabled association, if there is one.
+    /// Returns the enabled SA.
     pub fn row_on(&self) -> Option<TxRow>
         ensures row { result ≡ row_on self.now }
         ensures number { IfSome result (λ row. tx_row self.now row.an ≡ Some row) }
@@ -67,15 +67,16 @@ impl TxChannel {
         None
     }
 
-    /// Does an association use the key of this number?
+    /// Whether an SA uses the key.
     pub fn uses(&self, key: KeyNumber) -> bool
         ensures { result ≡ tx_uses self.now key }
     {
         self.rows.iter().any(|row| row.key == key)
     }
 
-    /// Creates an association, disabled, whose first packet number is `next`; it encrypts if `conf` is true. Refused
-    /// with the first of `NoKey`, `KeyRetired`, `KeyInUse`, `AnTaken`, `PnRange` and `PnFloor` that applies.
+    /// Creates an SA. It is disabled, its first packet number is `next`, and it encrypts if `conf` is true.
+    ///
+    /// Errors: the first that applies of `NoKey`, `KeyRetired`, `KeyInUse`, `AnTaken`, `PnRange` and `PnFloor`.
     pub fn tx_sa(
         &mut self,
         keys: &KeyTable,
@@ -89,7 +90,7 @@ impl TxChannel {
         ensures unchanged { OnErr result (self.new ≡ self.old) }
         ensures rows { OnOk result (AreTxRows self.new) }
     {
-        // For the prover alone: from here on it knows that the number is below 4. The compiler deletes the line.
+        // Shows the prover that the association number is below 4. The compiler deletes the line.
         let _number = an.number();
         let Some(row) = keys.key(key) else {
             return Err(Refusal::NoKey);
@@ -119,8 +120,9 @@ impl TxChannel {
         Ok(())
     }
 
-    /// Enables this association, and disables every other one. Refused with the first of `NoSa` and `Exhausted` that
-    /// applies.
+    /// Enables this SA and disables all others.
+    ///
+    /// Errors: `NoSa`, then `Exhausted`.
     pub fn tx_on(&mut self, keys: &KeyTable, an: An) -> Result<(), Refusal>
         requires { HaveKeys keys.now self.old }
         ensures refusal { refusal_of result ≡ first_refusal (tx_on_refusals keys.now self.old an) }
@@ -139,7 +141,9 @@ impl TxChannel {
         Ok(())
     }
 
-    /// Disables this association. Refused with `NoSa`.
+    /// Disables this SA.
+    ///
+    /// Errors: `NoSa`.
     pub fn tx_off(&mut self, an: An) -> Result<(), Refusal>
         ensures refusal { refusal_of result ≡ first_refusal (tx_off_refusals self.old an) }
         ensures done { OnOk result (self.new ≡ with_tx_off self.old an) }
@@ -153,7 +157,9 @@ impl TxChannel {
         Ok(())
     }
 
-    /// Deletes this association. Refused with `NoSa`.
+    /// Deletes this SA.
+    ///
+    /// Errors: `NoSa`.
     pub fn tx_del(&mut self, an: An) -> Result<(), Refusal>
         ensures refusal { refusal_of result ≡ first_refusal (tx_off_refusals self.old an) }
         ensures done { OnOk result (self.new ≡ without_tx self.old an) }
@@ -167,7 +173,8 @@ impl TxChannel {
         Ok(())
     }
 
-    /// Notes that the association of this number, if there is one, has used its next packet number, which has 64 bits.
+    /// Advances the next packet number of the SA of this association number, if there is one. The number must have 64
+    /// bits.
     pub(crate) fn use_number(&mut self, an: An)
         requires { IfSome (tx_row self.old an) (λ row. row.next < 2 ^ 64) }
         ensures used { self.new ≡ map (used_at an) self.old }
@@ -177,7 +184,7 @@ impl TxChannel {
     }
 }
 
-/// The association, enabled if it has this number, and else disabled.
+/// The SA, enabled if it has this association number, otherwise disabled.
 fn switched_row(row: TxRow, an: An) -> TxRow
     ensures { result ≡ switch_to an row }
 {
@@ -187,7 +194,7 @@ fn switched_row(row: TxRow, an: An) -> TxRow
     }
 }
 
-/// The association, disabled if it has this number.
+/// The SA, disabled if it has this association number, otherwise unchanged.
 fn off_row(row: TxRow, an: An) -> TxRow
     ensures { result ≡ off_at an row }
 {
@@ -198,7 +205,7 @@ fn off_row(row: TxRow, an: An) -> TxRow
     }
 }
 
-/// Enables the association of this number, and disables every other one.
+/// Enables the SA of this association number and disables all others.
 fn switch_to(rows: &mut [TxRow], an: An)
     ensures { rows.new ≡ with_tx_on rows.old an }
 {
@@ -207,7 +214,7 @@ fn switch_to(rows: &mut [TxRow], an: An)
     }
 }
 
-/// Disables the association of this number.
+/// Disables the SA of this association number.
 fn switch_off(rows: &mut [TxRow], an: An)
     ensures { rows.new ≡ with_tx_off rows.old an }
 {
@@ -216,7 +223,7 @@ fn switch_off(rows: &mut [TxRow], an: An)
     }
 }
 
-/// The association, which has used its next packet number if it has this association number.
+/// The SA, with its next packet number advanced if it has this association number.
 fn used_row(row: TxRow, an: An) -> TxRow
     requires { row.next ≤ 2 ^ 64 }
     ensures { result ≡ used_at an row }
@@ -229,7 +236,7 @@ fn used_row(row: TxRow, an: An) -> TxRow
     }
 }
 
-/// Notes that the association of this number has used its next packet number.
+/// Advances the next packet number of the SA of this association number.
 fn use_number(rows: &mut [TxRow], an: An)
     requires { All (λ row. row.next ≤ 2 ^ 64) rows.old }
     ensures { rows.new ≡ map (used_at an) rows.old }

@@ -1,4 +1,4 @@
-//! What becomes of a client frame.
+//! How a client frame is sent.
 
 ghost use Rattle.std.specs.Prelude.{◌≡◌, ◌<◌, ◌≤◌, ◌+◌, ◌^◌, ◌++◌, length, take, drop, slice_range, nat_lt, if◌then◌else◌, IsSome, Some, SomeIff, ℕ, List};
 ghost use Rattle.std.specs.Option.{ForSome};
@@ -20,9 +20,9 @@ use macsec_suite::{KeyRow, KeyTable, SuiteKey, iv_of, protect_in_place};
 use macsec_tag::{ADDRESSES_LENGTH, ICV_LENGTH, Sci, SecTag, write_tag};
 
 impl TxChannel {
-    /// What is sent for a client frame of `MIN_FRAME_LEN` to `MAX_FRAME_LEN` octets. A protected frame is at the start
-    /// of `out`, which has `MAX_FRAME_LEN` octets or more. The key of each association is in the table, and the largest
-    /// frame has at most as many.
+    /// Decides how a client frame of `MIN_FRAME_LEN` to `MAX_FRAME_LEN` octets is sent. A protected frame is written to
+    /// the start of `out`, which has `MAX_FRAME_LEN` octets or more. The key of each SA must be in the table.
+    /// `max_frame` is at most `MAX_FRAME_LEN`.
     pub fn next_frame(
         &mut self,
         keys: &mut KeyTable,
@@ -60,7 +60,7 @@ impl TxChannel {
     }
 }
 
-/// What is sent without protection.
+/// How the frame is sent if protection is off.
 fn plain(options: &TxOptions, frame: &[u8]) -> TxResult
     ensures { result ≡ (if nat_lt options.now.max_frame (length frame.now) then TxResult.TooLong else TxResult.Plain) }
 {
@@ -71,7 +71,7 @@ fn plain(options: &TxOptions, frame: &[u8]) -> TxResult
     }
 }
 
-/// What the enabled association sends with its next packet number `pn`, which is not past the last one.
+/// How the enabled SA sends the frame. `pn` is its next packet number and not past the last one.
 fn frame_under(
     keys: &KeyTable,
     options: &TxOptions,
@@ -99,7 +99,7 @@ fn frame_under(
     TxResult::Made { len, key: row.key }
 }
 
-/// The packet number of the association's next frame; `None` if the association is exhausted.
+/// The packet number of the SA's next frame, or `None` if the SA is exhausted.
 fn number_of_frame(key: &KeyRow, row: &TxRow) -> Option<u64>
     ensures { SomeIff result (row.now.next ≤ last_of key.now.suite_key.suite) row.now.next }
 {
@@ -121,14 +121,14 @@ fn iv_of_frame(options: &TxOptions, key: &KeyRow, pn: u64) -> [u8; 12]
     )
 }
 
-/// The SL of this number of octets of Secure Data (9.7).
+/// The SL for this number of octets of Secure Data (9.7).
 fn sl_of(octets: usize) -> u8
     ensures { result ≡ sl_of octets }
 {
     if octets < 48 { octets as u8 } else { 0 }
 }
 
-/// Is the source address of a client frame that of the SCI?
+/// Whether the source address of the client frame is the SCI's.
 fn is_own(options: &TxOptions, frame: &[u8]) -> bool
     requires { min_frame_len ≤ length frame.now }
     ensures { result ≡ is_own options.now.sci (slice_range frame.now 6 12) }
@@ -136,7 +136,7 @@ fn is_own(options: &TxOptions, frame: &[u8]) -> bool
     frame[6..12] == options.sci.0[..6]
 }
 
-/// The SCI that the SecTAG carries; `own` says that the source address is that of the SCI.
+/// The SCI that the SecTAG carries, if any. `own` is whether the source address is the SCI's.
 fn sci_sent(options: TxOptions, own: bool) -> Option<Sci>
     ensures octets { ForSome result (λ s. length s.0 ≡ 8) }
     ensures value { (sa : List ℕ) → own ≡ is_own options.sci sa → result ≡ sci_sent options.form options.many options.sci sa }
@@ -153,7 +153,7 @@ fn sci_sent(options: TxOptions, own: bool) -> Option<Sci>
     }
 }
 
-/// The ES bit; `own` says that the source address is that of the SCI.
+/// The ES bit. `own` is whether the source address is the SCI's.
 fn es_sent(options: &TxOptions, own: bool) -> bool
     ensures { (sa : List ℕ) → own ≡ is_own options.now.sci sa → result ≡ es_sent options.now.form options.now.sci sa }
 {
@@ -163,7 +163,7 @@ fn es_sent(options: &TxOptions, own: bool) -> bool
     }
 }
 
-/// The SCB bit; `own` says that the source address is that of the SCI.
+/// The SCB bit. `own` is whether the source address is the SCI's.
 fn scb_sent(options: &TxOptions, own: bool) -> bool
     ensures { (sa : List ℕ) → own ≡ is_own options.now.sci sa → result ≡ scb_sent options.now.form options.now.sci sa }
 {
@@ -173,14 +173,14 @@ fn scb_sent(options: &TxOptions, own: bool) -> bool
     }
 }
 
-/// The SecTAG of a client frame that the association sends with its next packet number.
+/// The SecTAG of the client frame, sent by the SA with its next packet number.
 fn tag_of(options: &TxOptions, row: &TxRow, pn: u64, frame: &[u8]) -> SecTag
     requires next { pn ≡ row.now.next }
     requires frame_long { min_frame_len ≤ length frame.now }
     ensures { result ≡ tag_sent options.now row.now frame.now }
 {
     let own = is_own(options, frame);
-    // For the prover alone: from here on it knows that the number is below 4. The compiler deletes the line.
+    // Shows the prover that the association number is below 4. The compiler deletes the line.
     let _number = row.an.number();
     SecTag::new(
         es_sent(options, own),
@@ -195,7 +195,7 @@ fn tag_of(options: &TxOptions, row: &TxRow, pn: u64, frame: &[u8]) -> SecTag
     .unwrap()
 }
 
-/// Puts DA, SA, SecTAG, Secure Data and ICV at the start of `out`, and returns how many octets they are.
+/// Writes DA, SA, SecTAG, Secure Data and ICV to the start of `out`. Returns their length in octets.
 fn write_frame(key: &SuiteKey, iv: &[u8; 12], tag: &SecTag, frame: &[u8], out: &mut [u8]) -> usize
     requires frame_long { min_frame_len ≤ length frame.now }
     requires frame_short { length frame.now ≤ max_frame_len }
@@ -203,14 +203,14 @@ fn write_frame(key: &SuiteKey, iv: &[u8; 12], tag: &SecTag, frame: &[u8], out: &
     ensures length { result ≡ length frame.now + octets_added tag.now }
     ensures octets { take result out.new ≡ in_a_row (parts_under key.now iv.now tag.now frame.now) }
 {
-    // A law that the proof cites; the call does nothing.
+    // The proof cites this law; the call does nothing.
     parts_in_place();
     let end = write_clear(tag, frame, out) + ICV_LENGTH;
     protect_in_place(key, iv, tag.e(), tag.length(), &mut out[..end]);
     end
 }
 
-/// Puts DA, SA, SecTAG and client data at the start of `out`, and returns how many octets they are.
+/// Writes DA, SA, SecTAG and client data to the start of `out`. Returns their length in octets.
 fn write_clear(tag: &SecTag, frame: &[u8], out: &mut [u8]) -> usize
     requires frame_long { min_frame_len ≤ length frame.now }
     requires frame_short { length frame.now ≤ max_frame_len }

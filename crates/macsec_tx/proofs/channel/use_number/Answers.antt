@@ -1,5 +1,5 @@
--- The loop changes each row as the definition does, and each has a number that can be followed by one more.
--- By the lemma that a row that the loop has not reached is as it was.
+-- The loop changes each row as defined, and each row's next packet number can be increased by one. Proved from the
+-- lemma that a row that the loop has not reached is unchanged.
 use Rattle.std.proofs.Common.{◌≤◌, arith, sym, subst}
 use Rattle.std.specs.Prelude.{◌^◌}
 use Rattle.std.proofs.lemmas.List.Edits.{map_over_more}

@@ -1,5 +1,5 @@
--- The packet number is the next one of the association, if it is at most the last of the suite.
--- By search; this proof is here so that a wrong body is refused soon.
+-- The packet number is the SA's next one, if it is at most the suite's last. Proved by search; written out so that a
+-- wrong body is refused quickly.
 use Rattle.std.proofs.Common.{rules}
 use Rattle.macsec_tx.proofs.sending.number_of_frame.Goals as goal
 

@@ -1,5 +1,5 @@
--- The data have the length that the cipher requires, and the octets written are the protected frame.
--- By the lemma on a frame protected in place (`Sealing`).
+-- The data have a length that the cipher accepts, and the octets written are the protected frame. Proved from the lemma
+-- on frames protected in place in `Sealing`.
 use Rattle.std.proofs.Common.{◌≡◌, ◌+◌, ℕ, List, length, take, drop, ap, ◌∙◌, arith, rules, length-take, ◌≤◌}
 use Rattle.std.proofs.lemmas.List.{take_at, length-take-le}
 use Rattle.std.proofs.Math.Seq.{take-add}

@@ -1,5 +1,5 @@
--- What is sent is what the definition says, in each arm and for each clause: no association enabled, an exhausted one, a
--- frame made, and any other result. By search; these proofs are here for speed.
+-- In each arm the result is as defined: no SA enabled, an exhausted SA, a frame made, and any other result. Proved by
+-- search; written out for speed.
 use Rattle.std.proofs.Common.{rules}
 use Rattle.macsec_tx.proofs.channel.TxChannel.next_frame.Goals as goal
 

@@ -1,5 +1,5 @@
--- What is left are the associations of other numbers, and what holds of the rows holds of them.
--- By the contract of `retain`, which is a filter, and the lemma on deletion (`ChangedRows`).
+-- The SAs of other numbers are left, and the invariant is kept. Proved from the contract of `retain`, which is a
+-- filter, and the lemma on deletion in `ChangedRows`.
 use Rattle.std.proofs.Common.{◌≡◌, ◌∙◌, ap, rules}
 use Rattle.arrayvec.proofs.ArrayVecLemmas.{filter-from_retain}
 use Rattle.macsec_tx.specs.Commands.{without_tx}

@@ -1,5 +1,4 @@
--- What holds of the rows still holds once one association is disabled.
--- By the lemma that a change that keeps the numbers keeps it (`ChangedRows`).
+-- Disabling one SA keeps the invariant of the rows, by the lemma on changes that keep numbers (`ChangedRows`).
 use Rattle.std.proofs.Common.{length, ap, ◌∙◌}
 use Rattle.macsec_tx.specs.Commands.{off_at}
 use Rattle.macsec_tx.proofs.ChangedRows.{AreTxRows-map, AreTxRows-refill, IsTxRow-off_at, an-off_at}

@@ -1,5 +1,5 @@
--- What holds of the rows still holds once one association is enabled and the others are disabled.
--- By the lemma that a change that keeps the numbers keeps it (`ChangedRows`).
+-- Enabling one SA and disabling the others keeps the invariant of the rows, by the lemma on changes that keep numbers
+-- (`ChangedRows`).
 use Rattle.std.proofs.Common.{refl, length, ap, ◌∙◌, rules}
 use Rattle.macsec_tx.specs.Commands.{switch_to}
 use Rattle.macsec_tx.proofs.ChangedRows.{AreTxRows-map, AreTxRows-refill, IsTxRow-switch_to}

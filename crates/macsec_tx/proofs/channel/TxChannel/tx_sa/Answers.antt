@@ -1,5 +1,5 @@
--- There is space for an association of a free number, and what holds of the rows holds with it.
--- By the lemmas on a new association (`TxRows`); that its number is below 4 comes from the look at it.
+-- There is space for an SA with a free number, and adding it keeps the invariant. Proved from the lemmas on a new SA in
+-- `TxRows`; the call of `an.number()` shows that the number is below 4.
 use Rattle.std.proofs.Common.{◌≡◌, ◌<◌, sym, ◌∙◌, ap, lit<, arith, rules}
 use Rattle.std.specs.Prelude.{None}
 use Rattle.macsec_tx.specs.Transmit.{tx_row}

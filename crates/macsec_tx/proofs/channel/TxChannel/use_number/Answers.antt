@@ -1,5 +1,5 @@
--- What holds of the rows still holds once an association has used a packet number.
--- By the lemma on that change (`ChangedRows`), since a number is left.
+-- Using a packet number keeps the invariant of the rows, since one is left. Proved from the lemma on that change in
+-- `ChangedRows`.
 use Rattle.std.proofs.Common.{length, ap, sym, subst, ◌∙◌, ◌<◌}
 use Rattle.std.specs.Prelude.{IfSome, ◌^◌}
 use Rattle.macsec_tx.specs.Transmit.{tx_row}
