@@ -1,4 +1,4 @@
--- A frame that is validated in place, as its parts.
+-- A frame validated in place, as its parts.
 use Rattle.std.proofs.Common.{◌≡◌, ℕ, ◌+◌, Bool, List, [], ◌++◌, length, take, drop, refl, ap, sym, ◌∙◌, arith, append_assoc, append-nil, length-append}
 use Rattle.std.specs.Prelude.{Option, Some, None, option_map}
 use Rattle.std.proofs.Math.Seq.{take-append_seam, drop-append_seam}
@@ -19,7 +19,7 @@ pub record LowerLaws : Type 0 where
   pub undoes : OpenUndoesSeal
   pub lengths : SealedLengths
 
--- what is authenticated only, and the ciphertext
+-- the additional authenticated data, and the ciphertext
 abbrev parts_of : PreparedKey → MpduParts → List ℕ × List ℕ
 parts_of key p = aad_and_plaintext key.offset p.tag.e p.da p.sa p.tag p.secure_data
 
@@ -30,7 +30,7 @@ data_place p = 12 + length (encoding p.tag)
 head_long : (p : MpduParts) → HasFixedLengths p → length (p.da ++ p.sa ++ encoding p.tag) ≡ data_place p
 head_long p fixed = omega (arith, length-append (p.da ++ p.sa) (encoding p.tag), length-append p.da p.sa, fixed.da, fixed.sa)
 
--- what the definition over places opens is what the definition over parts opens
+-- opening by positions gives the same result as opening by parts
 validated_is : LowerLaws → (key : PreparedKey) (iv : List ℕ) (p : MpduParts) → HasFixedLengths p
     → validated_octets key iv p.tag.e (data_place p) (data_place p + length p.secure_data) (received_octets p) ≡
     option_map (λ plaintext. (parts_of key p).0 ++ plaintext ++ p.icv) (opened_under key iv p)

@@ -4,7 +4,7 @@ use Rattle.std.specs.Prelude.{slice_range}
 use Rattle.std.proofs.Math.Seq.{take-append-add, drop-append_seam}
 use Rattle.std.proofs.lemmas.List.{take-append-drop, drop-take}
 
--- a part after the first n octets of a slice, and m octets after it
+-- the octets after the first n of a slice are the part, and the next m octets after it
 pub placed : (out front part behind : List ℕ) (n k m : ℕ) → length front ≡ n → length part ≡ k → take (n + k) out ≡ front ++ part → drop (n + k) out ≡ behind
     → slice_range out n (n + (k + m)) ≡ part ++ take m behind
 placed out front part behind n k m front_long part_long before after =
@@ -18,7 +18,7 @@ placed out front part behind n k m front_long part_long before after =
     ∙ ap (λ j. take j (part ++ behind)) count
     ∙ take-append-add part behind m
 
--- what follows the first n octets of a slice
+-- the octets after the first n of a slice are the part
 pub behind : (out front part : List ℕ) (n k : ℕ) → length front ≡ n → take (n + k) out ≡ front ++ part → take k (drop n out) ≡ part
 behind out front part n k long before =
     sym (drop-take n k out) ∙ ap (drop n) before ∙ ap (λ j. drop j (front ++ part)) (sym long) ∙ drop-append_seam front part

@@ -1,4 +1,4 @@
--- The judgement under the key that is found and with the packet number of the frame.
+-- The judgement under the key that is found, with the recovered packet number.
 use Rattle.std.proofs.Common.{◌≡◌, ℕ, List, ap, sym, ◌∙◌, refl}
 use Rattle.std.specs.Prelude.{Option, None, Some, option_map, unwrap_or}
 use Rattle.macsec_tag.specs.Frame.{MpduParts}
@@ -20,7 +20,7 @@ judged options keys p row key first_unused number there is =
     ap (judge_number options (row_shown key first_unused) row p) is
     ∙ ap (λ k. judge_number options k row p (number_of_frame k.suite row.lowest p.tag.pn)) (sym found)
 
--- where nothing is delivered under the prepared key, there is no plaintext
+-- if nothing is delivered under the prepared key, there is no plaintext
 pub no_plaintext : (key : KeyRow) (first_unused : ℕ) (row : RxRow) (number : ℕ) (p : MpduParts) → HasOwnKey key →
     None ≡ option_map (frame_with key.suite_key p) (opened_under key.suite_key (iv_of key.suite_key.suite row.sci row.ssci key.key.salt number) p) →
     plaintext_of (row_shown key first_unused) row number p ≡ None

@@ -1,5 +1,5 @@
--- There is space for an association whose number is free: with its channel's place it gives a number below four times
--- the count of the channels, and no two associations give the same.
+-- There is space for an SA whose association number is free. Its SC's index and its number give a position below four
+-- times the number of SCs, and no two SAs have the same position.
 use Rattle.std.proofs.Common.{◌≡◌, ◌∙◌, ℕ, suc, ◌+◌, ◌*◌, ◌<◌, ◌≤◌, Bool, true, false, cond, ◌||◌, List, [], ◌∷◌, map, length, refl, arith, eqb, sym, ap, inl, inr}
 use Rattle.std.specs.Prelude.{Option, Some, None, if◌then◌else◌}
 use Rattle.std.specs.List.{IsDistinct, AllByRecursion, list_any}
@@ -27,7 +27,7 @@ place_below (s ∷ scis) sci there = by_test (same_sci s sci) (λ e. place_below
     by_test true later h = omega arith
     by_test false later h = let rest = later h in omega (arith, rest)
 
--- channels of one place are one
+-- SCs with the same index are the same
 pub one_place : (scis : List Sci) (s t : Sci) → has_channel scis s ≡ true → has_channel scis t ≡ true → channel_place scis s ≡ channel_place scis t → s ≡ t
 one_place [] s t hs ht e = cc
 one_place (c ∷ scis) s t hs ht e = by_tests (same_sci c s) (same_sci c t) refl refl hs ht e (λ hs ht e. one_place scis s t hs ht e)
@@ -40,7 +40,7 @@ one_place (c ∷ scis) s t hs ht e = by_tests (same_sci c s) (same_sci c t) refl
     by_tests false true hx hy hs ht e later = absurd (omega (arith, e))
     by_tests false false hx hy hs ht e later = later hs ht (omega (arith, e))
 
--- the slots of the associations
+-- the positions of the SAs in the index
 abbrev pub slots : List Sci → List RxRow → List ℕ
 slots scis rows = map (λ row. slot scis row.sci row.an) rows
 
@@ -91,7 +91,7 @@ has_room scis rows sci an h there small free =
     (λ q any. below_step q (slot scis sci an) (4 * length scis) (list_any (eqb q) (slots scis rows)) (slot_below scis sci an there small) (λ e. below scis rows h q e) any) in
     omega (arith, fits, length-slots scis rows)
 
--- there are at most four associations of each channel
+-- each SC has at most four SAs
 pub rows_fit : (scis : List Sci) (rows : List RxRow) → AreRxRows scis rows → length rows ≤ 4 * length scis
 rows_fit scis rows h =
     omega (arith, length-le_from_distinct_below (slots scis rows) (4 * length scis) (distinct scis rows h) (λ q any. below scis rows h q any), length-slots scis rows)

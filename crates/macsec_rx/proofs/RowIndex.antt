@@ -1,4 +1,4 @@
--- The index of the associations, and a change of the one row that it finds.
+-- The index of the SAs, and changing the one row that it finds.
 use Rattle.std.proofs.Common.{◌≡◌, ◌∙◌, ℕ, zero, suc, ◌+◌, ◌*◌, ◌<◌, ◌≤◌, Bool, true, false, cond, ◌&&◌, ◌||◌, List, [], ◌∷◌, ◌++◌, map, length}
 use Rattle.std.proofs.Common.{take, get_or, refl, sym, ap, subst, arith, inl, inr, get_or-set_other, get_or-set_same, length-append}
 use Rattle.std.specs.Prelude.{IsSomeAnd, Option, Some, None, option_map, slice_get, if◌then◌else◌, ◌==◌}
@@ -19,9 +19,9 @@ use Rattle.macsec_rx.proofs.Room.{cond_none, one_place, same_slot, slot_below}
 use Rattle.macsec_rx.proofs.RxRows.{AreRxRows-map, IsRxRow-at_place, KeepsPlace, is_at-swapped}
 use Rattle.macsec_rx.proofs.Scis.{one_sci, same_sci-refl}
 
--- ---- associations at their places
+-- ---- SAs and their positions
 
--- an association is of the channel and of the number that it is found by
+-- an SA has the SCI and the association number that it is found by
 pub place_found : (sci : Sci) (an : ℕ) (row : RxRow) → is_at sci an row ≡ true → (row.sci ≡ sci) × (row.an ≡ an)
 place_found sci an row at =
     let parts = and_parts (same_sci row.sci sci) (row.an == an) at in
@@ -30,7 +30,7 @@ place_found sci an row at =
 pub is_at-own : (row : RxRow) → is_at row.sci row.an row ≡ true
 is_at-own row = rw (same_sci-refl row.sci, eq-eqb row.an row.an refl) refl
 
--- an SCI without a channel has no association
+-- an SCI without an SC has no SA
 pub rx_row-no_channel : (scis : List Sci) (rows : List RxRow) (sci : Sci) (an : ℕ) → AreRxRows scis rows → has_channel scis sci ≡ false → rx_row rows sci an ≡ None
 rx_row-no_channel scis [] sci an h none = refl
 rx_row-no_channel scis (row ∷ rows) sci an h none = by_test (is_at sci an row) refl (rx_row-no_channel scis rows sci an h.2 none)
@@ -41,7 +41,7 @@ rx_row-no_channel scis (row ∷ rows) sci an h none = by_test (is_at sci an row)
         absurd (let no = sym there ∙ none in cc)
     by_test false at rest = rest
 
--- an association that is found is of the channel and of the number
+-- an SA that is found is the one of the SCI and the association number
 pub is_found : (rows : List RxRow) (sci : Sci) (an : ℕ) (row : RxRow) → rx_row rows sci an ≡ Some row → is_at sci an row ≡ true
 is_found [] sci an row there = cc
 is_found (first ∷ rows) sci an row there = by_test (is_at sci an first) refl (is_found rows sci an row) there
@@ -51,13 +51,13 @@ is_found (first ∷ rows) sci an row there = by_test (is_at sci an first) refl (
     by_test true at later e = let same : first ≡ row = cc in subst (λ r. is_at sci an r ≡ true) same at
     by_test false at later e = later e
 
--- what holds of every association holds of the one at a place
+-- the SA at an index has the bounds that all SAs have
 pub IsRxRow-at : (scis : List Sci) (rows : List RxRow) (i : ℕ) (row : RxRow) → AreRxRows scis rows → slice_get rows i ≡ Some row → IsRxRow scis row
 IsRxRow-at scis [] i row h there = cc
 IsRxRow-at scis (first ∷ rows) zero row h there = let same : first ≡ row = cc in subst (IsRxRow scis) same h.0
 IsRxRow-at scis (first ∷ rows) (suc i) row h there = IsRxRow-at scis rows i row h.2 there
 
--- an association of a number that no other has is none of those
+-- an SA whose number no row has is none of the rows
 other_row : (rows : List RxRow) (sci : Sci) (an i : ℕ) (row : RxRow) → rx_row rows sci an ≡ None → slice_get rows i ≡ Some row → is_at sci an row ≡ false
 other_row [] sci an i row free there = cc
 other_row (first ∷ rows) sci an zero row free there =
@@ -68,7 +68,7 @@ other_row (first ∷ rows) sci an (suc i) row free there =
     let parts = cond_none (is_at sci an first) first (rx_row rows sci an) free in
     other_row rows sci an i row parts.1 there
 
--- no association before one is of the same channel and number
+-- no SA before one has the same SCI and association number
 pub free_before : (scis : List Sci) (rows : List RxRow) (i : ℕ) (row : RxRow) → AreRxRows scis rows → slice_get rows i ≡ Some row → rx_row (take i rows) row.sci row.an ≡ None
 free_before scis [] i row h there = cc
 free_before scis (first ∷ rows) zero row h there = refl
@@ -76,14 +76,14 @@ free_before scis (first ∷ rows) (suc i) row h there =
     let other : is_at row.sci row.an first ≡ false = is_at-swapped row first (other_row rows first.sci first.an i row h.1 there) in
     rw other (free_before scis rows i row h.2 there)
 
--- a change where there is no association
+-- changing an SA that does not exist changes nothing
 with_rx-free : (change : RxRow → RxRow) (rows : List RxRow) (sci : Sci) (an : ℕ) → rx_row rows sci an ≡ None → with_rx change sci an rows ≡ rows
 with_rx-free change [] sci an free = refl
 with_rx-free change (row ∷ rows) sci an free =
     let parts = cond_none (is_at sci an row) row (rx_row rows sci an) free in
     rw parts.0 (ap (λ rest. row ∷ rest) (with_rx-free change rows sci an parts.1))
 
--- no two associations are of one channel and one number, so a change of that one is a change at its place
+-- no two SAs have the same SCI and number, so changing that SA is changing the row at its index
 pub with_rx-set : (scis : List Sci) (change : RxRow → RxRow) (rows : List RxRow) (sci : Sci) (an i : ℕ) (row : RxRow) → AreRxRows scis rows →
     slice_get rows i ≡ Some row → is_at sci an row ≡ true → with_rx change sci an rows ≡ set rows i (change row)
 with_rx-set scis change [] sci an i row h there at = cc
@@ -102,7 +102,7 @@ with_rx-set scis change (first ∷ rows) sci an (suc i) row h there at =
     let other : is_at sci an first ≡ false = subst (λ s. is_at s an first ≡ false) place.0 (subst (λ n. is_at row.sci n first ≡ false) place.1 apart) in
     rw other (ap (λ rest. first ∷ rest) (with_rx-set scis change rows sci an i row h.2 there at))
 
--- ---- the association for a frame
+-- ---- the SA for a frame
 
 if_on : Option RxRow → Option RxRow
 if_on None = None
@@ -114,7 +114,7 @@ in_use-none (row ∷ rows) sci an free =
     let parts = cond_none (is_at sci an row) row (rx_row rows sci an) free in
     rw parts.0 (in_use-none rows sci an parts.1)
 
--- the association for a frame is the one of the channel and of the number, if that is enabled
+-- the SA for a frame is the one of its SCI and number, if that is enabled
 in_use-rx_row : (scis : List Sci) (rows : List RxRow) (sci : Sci) (an : ℕ) → AreRxRows scis rows → in_use rows an (Some sci) ≡ if_on (rx_row rows sci an)
 unfolding if_on
 in_use-rx_row scis [] sci an h = refl
@@ -141,7 +141,7 @@ in_use-off scis rows sci an row h there off = in_use-rx_row scis rows sci an h �
 
 -- ---- the index
 
--- there is no association yet
+-- an index without SAs
 pub IsIndex-none : (scis : List Sci) (places : List ℕ) → length places ≡ max_row_count → ((n : ℕ) → n < max_row_count → get_or places n 0 ≡ max_row_count) → IsIndex scis [] places
 IsIndex-none scis places long free = record {
   count = long;
@@ -161,7 +161,7 @@ rx_row-map_some f same (row ∷ rows) sci an =
     by_tests false true r s both e = cc
     by_tests false false r s both e = e
 
--- a change that keeps channels and numbers keeps the index
+-- a change that keeps SCIs and numbers keeps the index
 pub IsIndex-map : (scis : List Sci) (f : RxRow → RxRow) → KeepsPlace f → (rows : List RxRow) (places : List ℕ) → IsIndex scis rows places → IsIndex scis (map f rows) places
 IsIndex-map scis f same rows places index = record {
   count = index.count;
@@ -196,7 +196,7 @@ rx_row-push_other : (rows : List RxRow) (new : RxRow) (sci : Sci) (an : ℕ) →
 rx_row-push_other [] new sci an other = rw other refl
 rx_row-push_other (row ∷ rows) new sci an other = ap (λ rest. cond (is_at sci an row) (Some row) rest) (rx_row-push_other rows new sci an other)
 
--- an association of a free number is at the end, and is found there
+-- an SA with a free number is appended, and is found there
 pub IsIndex-push : (scis : List Sci) (rows : List RxRow) (places : List ℕ) (new : RxRow) → IsIndex scis rows places →
     length rows < max_row_count → length scis ≤ max_channel_count → IsRxRow scis new → rx_row rows new.sci new.an ≡ None →
     IsIndex scis (rows ++ new ∷ []) (set places (slot scis new.sci new.an) (length rows))
@@ -259,7 +259,7 @@ IsIndex-push scis rows places new index room few is free = record {
         let same : place n ≡ get_or places n 0 = elsewhere n other in
         omega (arith, same, longer, index.within n fits (omega (arith, same, there)))
 
--- the channels have the same places after one joins
+-- adding an SC keeps the indexes of the others
 channel_place-more : (scis : List Sci) (sci s : Sci) → has_channel scis s ≡ true → channel_place (scis ++ sci ∷ []) s ≡ channel_place scis s
 channel_place-more [] sci s there = cc
 channel_place-more (first ∷ scis) sci s there = by_test (same_sci first s) (λ e. channel_place-more scis sci s e) there
@@ -269,7 +269,7 @@ channel_place-more (first ∷ scis) sci s there = by_test (same_sci first s) (λ
     by_test true later h = refl
     by_test false later h = ap suc (later h)
 
--- a channel that joins is behind the others
+-- an SC that is added comes after the others
 channel_place-last : (scis : List Sci) (sci s : Sci) → has_channel scis s ≡ false → has_channel (scis ++ sci ∷ []) s ≡ true → channel_place (scis ++ sci ∷ []) s ≡ length scis
 channel_place-last [] sci s none there = by_test (same_sci sci s) there
   where
@@ -283,7 +283,7 @@ channel_place-last (first ∷ scis) sci s none there = by_test (same_sci first s
     by_test true later n t = cc
     by_test false later n t = ap suc (later n t)
 
--- a channel without associations joins
+-- adding an SC without SAs keeps the index
 pub IsIndex-more_channels : (scis : List Sci) (rows : List RxRow) (places : List ℕ) (sci : Sci) → IsIndex scis rows places → AreRxRows scis rows → length scis < max_channel_count →
     length rows ≤ max_row_count → IsIndex (scis ++ sci ∷ []) rows places
 IsIndex-more_channels scis rows places sci index h few fit = record {
@@ -305,14 +305,14 @@ IsIndex-more_channels scis rows places sci index h few fit = record {
         let none : get_or places (slot more s an) 0 ≡ max_row_count = index.free (slot more s an) (omega (arith, last, few, small)) (omega (arith, last)) in
         rx_row-no_channel scis rows s an h is ∙ sym (slice_get_past rows (get_or places (slot more s an) 0) (omega (arith, none, fit)))
 
--- the association of a channel and of a number is at the place that its slot has, if there is one
+-- the SA of an SCI and a number is at the index that its entry has, if there is one
 pub rx_row-indexed : (scis : List Sci) (rows : List RxRow) (places : List ℕ) (sci : Sci) (an channel s place : ℕ) → IsIndex scis rows places → has_channel scis sci ≡ true →
     an < max_association_count → channel ≡ channel_place scis sci → s ≡ 4 * channel + an → place ≡ get_or places s 0 → rx_row rows sci an ≡ slice_get rows place
 rx_row-indexed scis rows places sci an channel s place index there small at slot_is place_is =
     let here : slot scis sci an ≡ s = omega (arith, at, slot_is) in
     index.finds sci an there small ∙ ap (λ n. slice_get rows (get_or places n 0)) here ∙ ap (slice_get rows) (sym place_is)
 
--- ---- a change of the association at a place
+-- ---- changing the SA at an index
 
 is_at-other : (row old : RxRow) → row.sci ≡ old.sci → row.an ≡ old.an → is_at row.sci row.an old ≡ true
 is_at-other row old sci an = subst (λ s. is_at s row.an old ≡ true) (sym sci) (subst (λ n. is_at old.sci n old ≡ true) (sym an) (is_at-own old))
@@ -328,7 +328,7 @@ KeepsPlace-one row = record { sci = λ old. sci_by old (is_at row.sci row.an old
     an_by old true at = sym (place_found row.sci row.an old at).1
     an_by old false at = refl
 
--- what holds of the associations and of their index after such a change
+-- the invariants of the SAs and of their index after such a change
 pub record ArePut (scis : List Sci) (rows : List RxRow) (places : List ℕ) : Type 0 where
   pub are : AreRxRows scis rows
   pub index : IsIndex scis rows places

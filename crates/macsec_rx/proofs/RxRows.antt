@@ -1,4 +1,4 @@
--- Laws on the associations of the receive channels.
+-- Lemmas on the SAs of the receive SCs.
 use Rattle.std.proofs.Common.{◌≡◌, IfSome, ◌<◌, ◌∙◌, ℕ, ◌≤◌, Bool, true, false, cond, ◌&&◌, List, [], ◌∷◌, ◌++◌, map, length, take, drop, refl, arith, sym, ap, subst}
 use Rattle.std.specs.Prelude.{Option, Some, None, IsSome, MatchOption, is_some, ◌==◌, ◌^◌, if◌then◌else◌, filter}
 use Rattle.std.specs.List.{All, refill}
@@ -18,12 +18,12 @@ pub none_from_is_some : {A : Type 0} (o : Option A) → is_some o ≡ false → 
 none_from_is_some None h = refl
 none_from_is_some (Some x) h = cc
 
--- a look-up that says where it finds nothing has found what there is
+-- a look-up that returns `None` only if nothing is there finds what is there
 pub found_if_there : {A B : Type 0} (o : Option A) (there : Option B) (P : A → Type 0) → MatchOption o (there ≡ None) P → IsSome there → IsSome o
 found_if_there {B = B} None there P none some = absurd (let no : IsSome {T = B} None = subst IsSome none some in cc)
 found_if_there (Some x) there P one some = refl
 
--- one association is not at the place of the other, nor is that at the place of the one
+-- whether two SAs have the same SCI and number is symmetric
 pub is_at-swapped : (row new : RxRow) → is_at new.sci new.an row ≡ false → is_at row.sci row.an new ≡ false
 is_at-swapped row new other = by_test (is_at row.sci row.an new) refl
   where
@@ -34,14 +34,14 @@ is_at-swapped row new other = by_test (is_at row.sci row.an new) refl
         absurd (let no = sym both ∙ other in cc)
     by_test false same = refl
 
--- a place stays free where an association joins at another
+-- appending an SA with another SCI or number leaves a place free
 rx_row-append : (rows : List RxRow) (new : RxRow) (sci : Sci) (an : ℕ) → rx_row rows sci an ≡ None → is_at sci an new ≡ false → rx_row (rows ++ new ∷ []) sci an ≡ None
 rx_row-append [] new sci an free other = rw other refl
 rx_row-append (row ∷ rows) new sci an free other =
     let parts = cond_none (is_at sci an row) row (rx_row rows sci an) free in
     rw parts.0 (rx_row-append rows new sci an parts.1 other)
 
--- an association may join at a free place
+-- appending an SA at a free place keeps the invariant
 pub AreRxRows-append : (scis : List Sci) (rows : List RxRow) (new : RxRow) → AreRxRows scis rows → rx_row rows new.sci new.an ≡ None →
     IsRxRow scis new → AreRxRows scis (rows ++ new ∷ [])
 AreRxRows-append scis [] new h free good = (good, refl, tt)
@@ -49,19 +49,19 @@ AreRxRows-append scis (row ∷ rows) new h free good =
     let parts = cond_none (is_at new.sci new.an row) row (rx_row rows new.sci new.an) free in
     (h.0, rx_row-append rows new row.sci row.an h.1 (is_at-swapped row new parts.0), AreRxRows-append scis rows new h.2 parts.1 good)
 
--- an association is one of any channels that have its own
+-- an SA's bounds hold for any list of SCs that has its own
 IsRxRow-of : (scis more : List Sci) (row : RxRow) → has_channel more row.sci ≡ true → IsRxRow scis row → IsRxRow more row
 IsRxRow-of scis more row there h =
     record { channel = there; an = h.an; key = h.key; ssci = h.ssci; next = h.next; lowest_least = h.lowest_least; lowest = h.lowest }
 
--- the associations of more channels
+-- adding SCs keeps the invariant of the SAs
 pub AreRxRows-more_channels : (scis more : List Sci) → ((s : Sci) → has_channel scis s ≡ true → has_channel more s ≡ true) →
     (rows : List RxRow) → AreRxRows scis rows → AreRxRows more rows
 AreRxRows-more_channels scis more still [] h = tt
 AreRxRows-more_channels scis more still (row ∷ rows) h =
     (IsRxRow-of scis more row (still row.sci h.0.channel) h.0, h.1, AreRxRows-more_channels scis more still rows h.2)
 
--- a change of numbers, or enabling and disabling, which leaves the association at its place
+-- a change of packet numbers, or enabling or disabling, which keeps SCI and association number
 pub record KeepsPlace (f : RxRow → RxRow) : Type 0 where
   pub sci : (row : RxRow) → (f row).sci ≡ row.sci
   pub an : (row : RxRow) → (f row).an ≡ row.an
@@ -88,7 +88,7 @@ rx_row-filter p (row ∷ rows) sci an free =
     by_test true others other rest = rw other rest
     by_test false others other rest = rest
 
--- deletion of associations, if the channels of the others stay
+-- deleting SAs keeps the invariant, if the SCs of the other SAs stay
 pub AreRxRows-filter : (scis left : List Sci) (p : RxRow → Bool) → ((row : RxRow) → p row ≡ true → has_channel scis row.sci ≡ true → has_channel left row.sci ≡ true) →
     (rows : List RxRow) → AreRxRows scis rows → AreRxRows left (filter p rows)
 AreRxRows-filter scis left p still [] h = tt
@@ -99,7 +99,7 @@ AreRxRows-filter scis left p still (row ∷ rows) h =
     by_test true is others free h' = (IsRxRow-of scis left row (still row is h.0.channel) h.0, free, h')
     by_test false is others free h' = h'
 
--- what a change at one place keeps
+-- a change of one SA that keeps its bounds keeps all bounds
 pub IsRxRow-at_place : (scis : List Sci) (f : RxRow → RxRow) → ((row : RxRow) → IsRxRow scis row → IsRxRow scis (f row)) →
     (sci : Sci) (an : ℕ) (row : RxRow) → IsRxRow scis row → IsRxRow scis (at_place f sci an row)
 IsRxRow-at_place scis f good sci an row h = by_test (is_at sci an row)
@@ -130,13 +130,13 @@ take-length : {X : Type 0} (ws : List X) → take (length ws) ws ≡ ws
 take-length [] = refl
 take-length (w ∷ ws) = ap (λ rest. w ∷ rest) (take-length ws)
 
--- what was borrowed as a slice is afterwards as the borrower left it
+-- after a borrow as a slice, the list is as the borrower left it
 pub refill-same_length : {X : Type 0} (xs ws : List X) → length ws ≡ length xs → refill (length xs) xs ws ≡ ws
 refill-same_length xs ws same =
     let fits : length xs ≤ length ws = omega arith in
     rw (← same) (take-append-le (length ws) ws (drop (length ws) xs) (omega arith) ∙ take-length ws)
 
--- what holds of every association holds of the one that is found
+-- what holds for every SA holds for the one that is found
 pub holds_of_row : (P : RxRow → Type 0) (rows : List RxRow) (sci : Sci) (an : ℕ) (row : RxRow) → All P rows → rx_row rows sci an ≡ Some row → P row
 holds_of_row P [] sci an row h e = cc
 holds_of_row P (first ∷ rows) sci an row h e = by_test (is_at sci an first) (holds_of_row P rows sci an row (All-tail P first rows h)) e
@@ -145,7 +145,7 @@ holds_of_row P (first ∷ rows) sci an row h e = by_test (is_at sci an first) (h
     by_test true later e' = let same : first ≡ row = cc in rw (← same) (All-head P first rows h)
     by_test false later e' = later e'
 
--- what holds of every association holds of the one that is enabled for a frame
+-- what holds for every SA holds for the one that is enabled for a frame
 pub IfSome-in_use : (P : RxRow → Type 0) (rows : List RxRow) (an : ℕ) (sci : Option Sci) → All P rows → IfSome (in_use rows an sci) P
 IfSome-in_use P rows an None h = tt
 IfSome-in_use P [] an (Some sci) h = tt

@@ -1,4 +1,4 @@
--- Laws on SCIs and on the list of the channels.
+-- Lemmas on SCIs and on the list of SCs.
 use Rattle.std.proofs.Common.{◌≡◌, ◌∙◌, ℕ, Bool, true, false, cond, List, [], ◌∷◌, ◌++◌, refl, sym, ap}
 use Rattle.std.specs.Prelude.{filter, not}
 use Rattle.std.specs.Cmp.Lexicographic.{same_text}
@@ -29,18 +29,18 @@ other_sci s t other = by_test (same_sci t s) refl
     by_test true same = absurd (let e : same_sci s t ≡ true = rw (one_sci t s same) (same_sci-refl s) in let no = sym e ∙ other in cc)
     by_test false same = refl
 
--- a channel of another SCI may join
+-- an SC with a new SCI can be added
 pub joined_scis : (scis : List Sci) (sci : Sci) → AreScis scis → IsSci sci → has_channel scis sci ≡ false → AreScis (scis ++ sci ∷ [])
 joined_scis [] sci h good free = (good, refl, tt)
 joined_scis (s ∷ scis) sci h good free =
     let parts = or_parts (same_sci s sci) (has_channel scis sci) free in
     (h.0, list_any-append (λ t. same_sci t s) scis (sci ∷ []) ∙ rw (h.1, other_sci s sci parts.0) refl, joined_scis scis sci h.2 good parts.1)
 
--- the channels are still there after one joins
+-- adding an SC keeps the others
 pub still_channel : (scis : List Sci) (sci s : Sci) → has_channel scis s ≡ true → has_channel (scis ++ sci ∷ []) s ≡ true
 still_channel scis sci s there = list_any-append (λ t. same_sci t s) scis (sci ∷ []) ∙ rw there refl
 
--- the other channels are still there after one is deleted
+-- deleting an SC keeps the others
 pub other_channel : (scis : List Sci) (sci s : Sci) → has_channel scis s ≡ true → not (same_sci s sci) ≡ true → has_channel (filter (λ t. not (same_sci t sci)) scis) s ≡ true
 other_channel scis sci s there other =
     any-filter_same (λ t. same_sci t s) (λ t. not (same_sci t sci)) true (λ t same. rw (one_sci t s same) other) scis ∙ there
@@ -55,7 +55,7 @@ not_among_filter p (t ∷ scis) s free =
     by_test true kept other rest = rw other rest
     by_test false kept other rest = rest
 
--- deletion keeps the SCIs distinct
+-- deleting SCs keeps the SCIs distinct
 pub kept_scis : (p : Sci → Bool) (scis : List Sci) → AreScis scis → AreScis (filter p scis)
 kept_scis p [] h = tt
 kept_scis p (s ∷ scis) h = by_test (p s) (filter p scis) (not_among_filter p scis s h.1) (kept_scis p scis h.2)

@@ -1,4 +1,4 @@
--- The index of the associations: where each is among the rows.
+-- The index of the SAs: where each is among the rows.
 use Rattle.std.specs.Prelude.{◌≡◌, ℕ, suc, ◌+◌, ◌*◌, ◌<◌, ◌≤◌, List, [], ◌∷◌, length, true, if◌then◌else◌, slice_get, slice_index}
 use Rattle.macsec_tag.specs.declared.identifiers.Sci.{Sci}
 use Rattle.macsec_rx.specs.declared.RxRow.{RxRow}
@@ -6,17 +6,17 @@ use Rattle.macsec_rx.specs.Limits.{max_association_count, max_row_count}
 use Rattle.macsec_rx.specs.Channels.{rx_row, same_sci}
 use Rattle.macsec_rx.specs.Commands.{has_channel}
 
--- the place of a channel in the order of creation
+-- the index of an SC in the order of creation
 abbrev pub channel_place : List Sci → Sci → ℕ
 channel_place [] sci = 0
 channel_place (s ∷ scis) sci = if same_sci s sci then 0 else suc (channel_place scis sci)
 
--- the slot of an association in the index, by its channel and its number
+-- the position of an SA in the index, by its SCI and association number
 abbrev pub slot : List Sci → Sci → ℕ → ℕ
 slot scis sci an = 4 * channel_place scis sci + an
 
--- the index of the rows: in each slot of a channel the place of its association of that number, or, if there is none, a
--- place past all that there can be; and that place in the slots behind those of the channels
+-- the entry for each SC and association number is the index of the SA among the rows, or an index past every possible
+-- row if there is none; entries past the last SC also have that last index
 pub record IsIndex (scis : List Sci) (rows : List RxRow) (places : List ℕ) : Type 0 where
   pub count : length places ≡ max_row_count
   pub finds : (sci : Sci) (an : ℕ) → has_channel scis sci ≡ true → an < max_association_count → rx_row rows sci an ≡ slice_get rows (slice_index places (slot scis sci an))

@@ -1,4 +1,4 @@
--- What holds of receive channels and their associations.
+-- The invariant of receive SCs and their SAs.
 use Rattle.std.specs.Prelude.{◌≡◌, ◌^◌, ◌<◌, ◌≤◌, List, [], ◌∷◌, length, None, true, false}
 use Rattle.macsec_tag.specs.declared.identifiers.Sci.{Sci}
 use Rattle.macsec_suite.specs.KeyNumbers.{max_key_count}
@@ -8,9 +8,8 @@ use Rattle.macsec_rx.specs.Limits.{max_channel_count, max_association_count}
 use Rattle.macsec_rx.specs.Channels.{Channels, rx_row}
 use Rattle.macsec_rx.specs.Commands.{has_channel}
 
--- an association is of a channel, its number is 0 to 3, its key's number is below 4,096, its SSCI has 32
--- bits, its next packet number is at most one past the last of 64 bits, and its lowest acceptable one is
--- from 1 to the next
+-- the SA belongs to an SC, its association number is 0 to 3, its key number is below 4,096, its SSCI has 32 bits, its
+-- next packet number is at most 2^64, and its lowest acceptable one is from 1 to the next one
 pub record IsRxRow (scis : List Sci) (row : RxRow) : Type 0 where
   pub channel : has_channel scis row.sci ≡ true
   pub an : row.an < max_association_count
@@ -20,12 +19,12 @@ pub record IsRxRow (scis : List Sci) (row : RxRow) : Type 0 where
   pub lowest_least : 1 ≤ row.lowest
   pub lowest : row.lowest ≤ row.next
 
--- each association has these bounds, and no two associations of a channel have the same number
+-- every SA has these bounds, and no two SAs of an SC have the same association number
 abbrev pub AreRxRows : List Sci → List RxRow → Type 0
 AreRxRows scis [] = Unit {0}
 AreRxRows scis (row ∷ rows) = IsRxRow scis row × (rx_row rows row.sci row.an ≡ None) × AreRxRows scis rows
 
--- each channel has an SCI, and no two have the same
+-- every SCI is valid, and no two are the same
 abbrev pub AreScis : List Sci → Type 0
 AreScis [] = Unit {0}
 AreScis (sci ∷ scis) = IsSci sci × (has_channel scis sci ≡ false) × AreScis scis

@@ -1,4 +1,4 @@
--- The names of the verdicts: those of their counters (IEEE 802.1AE, 10.7), which leave InPkts out.
+-- The names of the verdicts: the names of their counters (IEEE 802.1AE, 10.7) without InPkts.
 use Rattle.std.specs.Prelude.{ℕ, List, codes}
 use Rattle.macsec_rx.specs.declared.Verdict.{Verdict}
 use Rattle.macsec_rx.specs.declared.Verdict.TheVariants.{Untagged, NoTag, BadTag, Reserved, NoSaError, NoSa, Late, NotValid, Unchecked, Delayed, Invalid, Passed}

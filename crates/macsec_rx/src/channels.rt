@@ -1,4 +1,4 @@
-//! The receive channels, and the commands on them and on their associations.
+//! The receive SCs and their SAs, and the commands on them.
 
 ghost use Rattle.std.specs.Prelude.{◌≡◌, [], ◌∷◌, ◌++◌, length, true, map, slice_get, slice_set, false, IfOk, IfSome, IsSomeAnd, MatchOption, None, OnErr, OnOk, Some, option_map};
 ghost use Rattle.macsec_suite.specs.Refusals.{first_refusal, refusal_of};
@@ -17,20 +17,20 @@ use macsec_suite::{KeyNumber, KeyTable, Refusal};
 use macsec_tag::{ASSOCIATION_COUNT, An, Mpdu, Sci};
 use std::marker::Model;
 
-/// The most receive channels of an endpoint.
+/// The number of receive SCs that an endpoint can have.
 pub const MAX_CHANNEL_COUNT: usize = 64;
 
-/// The most receive associations of an endpoint: of each channel as many as there are association numbers.
+/// The number of receive SAs that an endpoint can have: one for each SC and association number.
 pub const MAX_ROW_COUNT: usize = MAX_CHANNEL_COUNT * ASSOCIATION_COUNT;
 
-/// The receive channels: up to 64, of four associations each. Contracts see them as the SCIs in the order of their
-/// creation, and the associations in the order of theirs.
+/// The receive SCs: up to 64, with up to four SAs each. Contracts see them as the list of SCIs and the list of SAs,
+/// each in the order of creation.
 #[derive(Drop)]
 pub struct RxChannels {
     scis: ArrayVec<Sci, MAX_CHANNEL_COUNT>,
     rows: ArrayVec<RxRow, MAX_ROW_COUNT>,
-    /// The place of each association among the rows, by the place of its channel and by its number: so a frame costs the
-    /// same whichever association it is for.
+    /// The index of each SA among the rows, by the index of its SC and by its association number. With it a frame takes
+    /// the same time for every SA.
     places: [u16; MAX_ROW_COUNT],
 }
 
@@ -43,13 +43,13 @@ impl Model for RxChannels {
 
     ghost view = { λ c. record { scis = c.scis.items; rows = c.rows.items } };
 
-    // They are channels and associations as the definition has them, and each association is found in the index.
+    // SCs and SAs have the invariant of the definition, and the index finds each SA.
     ghost invariant = { λ c. AreChannels (record { scis = c.scis.items; rows = c.rows.items })
         × IsIndex c.scis.items c.rows.items c.places };
 }
 
 impl RxChannels {
-    /// No channels.
+    /// Creates an object without SCs.
     pub fn new() -> RxChannels
         ensures none { result ≡ no_channels }
         ensures channels { AreChannels result }
@@ -61,14 +61,14 @@ impl RxChannels {
         }
     }
 
-    /// The SCI of the channel at this place in the order of creation, from 0, if there is one.
+    /// Returns the SCI of an SC by its position in the order of creation, from 0.
     pub fn channel(&self, place: usize) -> Option<Sci>
         ensures { result ≡ slice_get self.now.scis place }
     {
         self.scis.as_slice().get(place).copied()
     }
 
-    /// The association of this channel and of this number, if there is one.
+    /// Returns the SA of this SCI and association number.
     pub fn row(&self, sci: Sci, an: An) -> Option<RxRow>
         ensures { result ≡ rx_row self.now.rows sci an }
     {
@@ -76,7 +76,7 @@ impl RxChannels {
         Some(row)
     }
 
-    /// The association of this channel and of this number and its place, if there is one.
+    /// The SA of this SCI and association number, with its index.
     fn found(&self, sci: Sci, an: An) -> Option<(usize, RxRow)>
         ensures row { MatchOption result (rx_row self.now.rows sci an ≡ None) (λ f. rx_row self.now.rows sci an ≡ Some f.1) }
         ensures place { IfSome result (λ f. slice_get self.now.rows f.0 ≡ Some f.1) }
@@ -89,14 +89,14 @@ impl RxChannels {
         Some((place, *row))
     }
 
-    /// Does an association use the key of this number?
+    /// Whether an SA uses the key.
     pub fn uses(&self, key: KeyNumber) -> bool
         ensures { result ≡ rx_uses self.now.rows key }
     {
         self.rows.iter().any(|row| row.key == key)
     }
 
-    /// Is there a channel with this SCI?
+    /// Whether there is an SC with this SCI.
     fn has_channel(&self, sci: Sci) -> bool
         ensures there { result ≡ has_channel self.now.scis sci }
         ensures sci { IsSci sci }
@@ -105,14 +105,16 @@ impl RxChannels {
         channel_place(self.scis.as_slice(), sci).is_some()
     }
 
-    /// Creates a channel, the last. Refused with the first of `OwnSci`, `ScTaken` and `ScFull` that applies.
+    /// Creates an SC after the others. `own` is the endpoint's own SCI.
+    ///
+    /// Errors: the first that applies of `OwnSci`, `ScTaken` and `ScFull`.
     pub fn rx_sc(&mut self, own: Sci, sci: Sci) -> Result<(), Refusal>
         ensures refusal { refusal_of result ≡ first_refusal (rx_sc_refusals self.old own sci) }
         ensures done { OnOk result (self.new ≡ with_channel self.old sci) }
         ensures unchanged { OnErr result (self.new ≡ self.old) }
         ensures channels { AreChannels self.new }
     {
-        // For the prover alone: from here on it knows what holds of the channels. The compiler deletes the line.
+        // Shows the prover the invariant of the channels. The compiler deletes the line.
         let _ = &self.scis;
         if sci == own {
             return Err(Refusal::OwnSci);
@@ -127,7 +129,9 @@ impl RxChannels {
         Ok(())
     }
 
-    /// Deletes a channel and its associations; the later channels move up. Refused with `NoSc`.
+    /// Deletes an SC and its SAs. The later SCs move up by one.
+    ///
+    /// Errors: `NoSc`.
     pub fn rx_sc_del(&mut self, sci: Sci) -> Result<(), Refusal>
         ensures refusal { refusal_of result ≡ first_refusal (rx_sc_del_refusals self.old sci) }
         ensures done { OnOk result (self.new ≡ without_channel self.old sci) }
@@ -143,8 +147,10 @@ impl RxChannels {
         Ok(())
     }
 
-    /// Creates an association, disabled, whose lowest acceptable packet number is `lowest`. Refused with the first of
-    /// `NoKey`, `KeyRetired`, `NoSc`, `AnTaken`, `PnRange` and, if packet numbers are extended, `SsciOwn` that applies.
+    /// Creates an SA. It is disabled, and its lowest acceptable packet number is `lowest`.
+    ///
+    /// Errors: the first that applies of `NoKey`, `KeyRetired`, `NoSc`, `AnTaken`, `PnRange` and `SsciOwn`. `SsciOwn`
+    /// applies only with extended packet numbers.
     pub fn rx_sa(
         &mut self,
         keys: &KeyTable,
@@ -159,8 +165,8 @@ impl RxChannels {
         ensures unchanged { OnErr result (self.new ≡ self.old) }
         ensures channels { AreChannels self.new }
     {
-        // For the prover alone: from here on it knows what holds of the channels, and that the number is below 4. The
-        // compiler deletes both lines.
+        // Shows the prover the invariant of the channels, and that the association number is below 4. The compiler
+        // deletes both lines.
         let _ = &self.scis;
         let _number = an.number();
         let Some(row) = keys.key(key) else {
@@ -195,7 +201,9 @@ impl RxChannels {
         Ok(())
     }
 
-    /// Enables an association. Refused with the first of `NoSc` and `NoSa` that applies.
+    /// Enables an SA.
+    ///
+    /// Errors: `NoSc`, then `NoSa`.
     pub fn rx_on(&mut self, sci: Sci, an: An) -> Result<(), Refusal>
         ensures refusal { refusal_of result ≡ first_refusal (rx_row_refusals self.old sci an) }
         ensures done { OnOk result (self.new ≡ with_rx_on self.old sci an true) }
@@ -207,7 +215,9 @@ impl RxChannels {
         Ok(())
     }
 
-    /// Disables an association. Refused with the first of `NoSc` and `NoSa` that applies.
+    /// Disables an SA.
+    ///
+    /// Errors: `NoSc`, then `NoSa`.
     pub fn rx_off(&mut self, sci: Sci, an: An) -> Result<(), Refusal>
         ensures refusal { refusal_of result ≡ first_refusal (rx_row_refusals self.old sci an) }
         ensures done { OnOk result (self.new ≡ with_rx_on self.old sci an false) }
@@ -219,8 +229,9 @@ impl RxChannels {
         Ok(())
     }
 
-    /// Raises the lowest acceptable packet number of an association to `pn`. The key of each association is in the
-    /// table. Refused with the first of `NoSc`, `NoSa`, `PnRange` and `PnLower` that applies.
+    /// Raises the lowest acceptable packet number of an SA to `pn`. The key of each SA must be in the table.
+    ///
+    /// Errors: the first that applies of `NoSc`, `NoSa`, `PnRange` and `PnLower`.
     pub fn rx_low(&mut self, keys: &KeyTable, sci: Sci, an: An, pn: u64) -> Result<(), Refusal>
         requires { HaveRxKeys keys.now self.old.rows }
         ensures refusal { refusal_of result ≡ first_refusal (rx_low_refusals keys.now self.old sci an pn) }
@@ -242,7 +253,9 @@ impl RxChannels {
         Ok(())
     }
 
-    /// Deletes an association. Refused with the first of `NoSc` and `NoSa` that applies.
+    /// Deletes an SA.
+    ///
+    /// Errors: `NoSc`, then `NoSa`.
     pub fn rx_del(&mut self, sci: Sci, an: An) -> Result<(), Refusal>
         ensures refusal { refusal_of result ≡ first_refusal (rx_row_refusals self.old sci an) }
         ensures done { OnOk result (self.new ≡ without_rx self.old sci an) }
@@ -255,7 +268,7 @@ impl RxChannels {
         Ok(())
     }
 
-    /// Narrows every association to the replay window at once.
+    /// Narrows the lowest acceptable packet number of every SA to the replay window.
     pub fn narrow(&mut self, window: u64)
         ensures narrowed { self.new ≡ channels_narrowed self.old window }
         ensures channels { AreChannels self.new }
@@ -263,8 +276,9 @@ impl RxChannels {
         narrow(self.rows.as_mut_slice(), window);
     }
 
-    /// The SCI of a received frame, if it is known: that of its SecTAG; or, if SCB or ES is set, that of its source
-    /// address; or that of the only channel.
+    /// The SCI of a received frame. It is the SCI of the SecTAG, if that carries one. Otherwise it is the source
+    /// address with port 0 if SCB is set, or with port 1 if ES is set. Otherwise it is the SCI of the only SC, if there
+    /// is exactly one.
     fn sci_of(&self, mpdu: &Mpdu<'_>) -> Option<Sci>
         ensures { result ≡ sci_of self.now.scis mpdu.now }
     {
@@ -280,7 +294,7 @@ impl RxChannels {
         }
     }
 
-    /// The only channel, if there is exactly one.
+    /// The SCI of the only SC, if there is exactly one.
     fn only_channel(&self) -> Option<Sci>
         ensures { result ≡ only_channel self.now.scis }
     {
@@ -290,21 +304,21 @@ impl RxChannels {
         }
     }
 
-    /// The association that a received frame is for, and its place: with its SCI and its association number, and enabled.
+    /// The SA of a received frame, with its index: the one with its SCI and association number, if it is enabled.
     pub(crate) fn in_use(&self, mpdu: &Mpdu<'_>) -> Option<(usize, RxRow)>
         ensures row { option_map (λ f. f.1) result ≡ in_use self.now.rows mpdu.now.tag.an (sci_of self.now.scis mpdu.now) }
         ensures place { IfSome result (λ f. slice_get self.now.rows f.0 ≡ Some f.1) }
         ensures channels { AreChannels self.now }
     {
-        // For the prover alone: so it knows at each return what holds of the channels. The compiler deletes the line.
+        // Shows the prover the invariant of the channels at each return. The compiler deletes the line.
         let _ = &self.scis;
         let sci = self.sci_of(mpdu)?;
         let (place, row) = self.found(sci, mpdu.tag().an())?;
         if row.on { Some((place, row)) } else { None }
     }
 
-    /// Records that a frame of an association, which was found with its place, and with the packet number `number` was
-    /// accepted, with a replay window; if there are both.
+    /// Records that a frame of the SA `found` (with its index) was accepted with the packet number `number`. Does
+    /// nothing if there is no SA or no number. `window` is the replay window.
     pub(crate) fn accept_at(
         &mut self,
         found: &Option<(usize, RxRow)>,
@@ -315,7 +329,7 @@ impl RxChannels {
         ensures accepted { self.new ≡ record self.old { rows = rows_accepting window number (option_map (λ f. f.1) found.now) self.old.rows } }
         ensures channels { AreChannels self.new }
     {
-        // For the prover alone: from here on it knows what holds of the channels. The compiler deletes the line.
+        // Shows the prover the invariant of the channels. The compiler deletes the line.
         let _ = &self.scis;
         if let Some((place, row)) = found {
             if let Some(number) = number {
@@ -324,21 +338,21 @@ impl RxChannels {
         }
     }
 
-    /// Records that a frame of the association at this place and with the packet number `number` was accepted, with a
+    /// Records that a frame of the SA at this index was accepted with the packet number `number`. `window` is the
     /// replay window.
     fn accept(&mut self, place: usize, row: &RxRow, number: u64, window: u64)
         requires { slice_get self.old.rows place ≡ Some row.now }
         ensures accepted { self.new ≡ record self.old { rows = with_rx (row_accepting window number) row.now.sci row.now.an self.old.rows } }
         ensures channels { AreChannels self.new }
     {
-        // For the prover alone: from here on it knows what holds of the channels. The compiler deletes the line.
+        // Shows the prover the invariant of the channels. The compiler deletes the line.
         let _ = &self.scis;
         let mut numbers = row.numbers();
         numbers.accept(number, window);
         self.put(place, row.with_numbers(numbers));
     }
 
-    /// Changes the association at this place, and no other, to one of the same channel and number.
+    /// Replaces the SA at this index by one with the same SCI and association number.
     fn put(&mut self, place: usize, row: RxRow)
         requires there { IsSomeAnd (slice_get self.old.rows place) (λ old. (row.sci ≡ old.sci) × (row.an ≡ old.an)) }
         requires row { IsRxRow self.old.scis row }
@@ -348,7 +362,7 @@ impl RxChannels {
         self.rows.as_mut_slice()[place] = row;
     }
 
-    /// Puts an association at the end.
+    /// Appends an SA.
     fn append(&mut self, row: RxRow)
         requires free { rx_row self.old.rows row.sci row.an ≡ None }
         requires row { IsRxRow self.old.scis row }
@@ -360,8 +374,9 @@ impl RxChannels {
         self.rows.push(row);
     }
 
-    /// The association of this channel and of this number and its place. Refused with the first of `NoSc` and `NoSa` that
-    /// applies.
+    /// The SA of this SCI and association number, with its index.
+    ///
+    /// Errors: `NoSc`, then `NoSa`.
     fn find(&self, sci: Sci, an: An) -> Result<(usize, RxRow), Refusal>
         ensures refusal { refusal_of result ≡ first_refusal (rx_row_refusals self.now sci an) }
         ensures row { IfOk result (λ f. rx_row self.now.rows sci an ≡ Some f.1) }
@@ -378,14 +393,14 @@ impl RxChannels {
     }
 }
 
-/// Is the association of this channel and of this number?
+/// Whether the SA has this SCI and association number.
 fn is_at(row: &RxRow, sci: Sci, an: An) -> bool
     ensures { result ≡ is_at sci an row.now }
 {
     row.sci == sci && row.an.number() == an.number()
 }
 
-/// The association, narrowed to the replay window.
+/// The SA, narrowed to the replay window.
 fn row_narrowed(row: RxRow, window: u64) -> RxRow
     ensures { result ≡ row_narrowed window row }
 {
@@ -394,7 +409,7 @@ fn row_narrowed(row: RxRow, window: u64) -> RxRow
     row.with_numbers(numbers)
 }
 
-/// Narrows every association to the replay window.
+/// Narrows every SA to the replay window.
 fn narrow(rows: &mut [RxRow], window: u64)
     ensures { rows.new ≡ map (row_narrowed window) rows.old }
 {

@@ -1,4 +1,4 @@
-//! What is delivered of a frame: DA, SA and data, concatenated in a slice.
+//! Writes the delivered frame (DA, SA and data) to a slice.
 
 ghost use Rattle.std.specs.Prelude.{◌≡◌, ◌≤◌, ◌+◌, ◌++◌, ℕ, drop, length, option_map, take, IfNone, IfSome};
 ghost use Rattle.macsec_gcm.specs.Gcm.{max_plaintext_len};
@@ -12,7 +12,7 @@ use macsec_suite::laws::parts_in_place;
 use macsec_suite::{SuiteKey, validate_in_place};
 use macsec_tag::{ADDRESSES_LENGTH, Mpdu};
 
-/// Puts a part after the first `at` octets of `out`, and returns where it ends.
+/// Writes a part after the first `at` octets of `out`, and returns where it ends.
 fn put(part: &[u8], at: usize, out: &mut [u8]) -> usize
     requires { at + length part.now ≤ length out.old }
     ensures end { result ≡ at + length part.now }
@@ -24,7 +24,7 @@ fn put(part: &[u8], at: usize, out: &mut [u8]) -> usize
     end
 }
 
-/// Puts DA, SA, SecTAG, Secure Data and ICV of a frame at the start of `out`, and returns how many octets they are.
+/// Writes DA, SA, SecTAG, Secure Data and ICV of a frame to the start of `out`. Returns their length in octets.
 fn lay_out(mpdu: &Mpdu<'_>, out: &mut [u8]) -> usize
     requires { unpadded_length mpdu.now ≤ length out.old }
     ensures length { result ≡ unpadded_length mpdu.now }
@@ -38,8 +38,8 @@ fn lay_out(mpdu: &Mpdu<'_>, out: &mut [u8]) -> usize
     put(mpdu.icv(), data, out)
 }
 
-/// Puts DA and SA right before the data, which are in `out` after the SecTAG. Returns where the delivered frame begins,
-/// and how many octets it has.
+/// Writes DA and SA directly before the data, which are in `out` after the SecTAG. Returns the position and length of
+/// the delivered frame.
 fn deliver(mpdu: &Mpdu<'_>, out: &mut [u8]) -> (usize, usize)
     requires { 12 + length (encoding mpdu.now.tag) + length mpdu.now.secure_data ≤ length out.old }
     ensures octets { octets_at out.new result ≡ mpdu.now.da ++ mpdu.now.sa ++
@@ -52,7 +52,7 @@ fn deliver(mpdu: &Mpdu<'_>, out: &mut [u8]) -> (usize, usize)
     (tag_length, ADDRESSES_LENGTH + mpdu.secure_data().len())
 }
 
-/// Delivers the frame without SecTAG, ICV and padding, its data as they were received.
+/// Delivers the frame without SecTAG, ICV and padding. The data are as received.
 pub fn deliver_bare(mpdu: &Mpdu<'_>, out: &mut [u8]) -> (usize, usize)
     requires { 12 + length (encoding mpdu.now.tag) + length mpdu.now.secure_data ≤ length out.old }
     ensures octets { octets_at out.new result ≡ bare_frame mpdu.now }
@@ -64,8 +64,8 @@ pub fn deliver_bare(mpdu: &Mpdu<'_>, out: &mut [u8]) -> (usize, usize)
     deliver(mpdu, out)
 }
 
-/// Delivers the frame with its plaintext if the ICV is valid under the key and the IV, and else nothing: then nothing
-/// of it that was decrypted is in `out`.
+/// If the ICV is valid under this key and IV, delivers the frame with its plaintext. Otherwise delivers nothing, and no
+/// decrypted octet of the frame is in `out`.
 pub fn deliver_opened(
     key: &SuiteKey,
     iv: &[u8; 12],
@@ -80,7 +80,7 @@ pub fn deliver_opened(
     ensures place { IsInPlace result mpdu.now }
     ensures undelivered { IfNone result (LeavesReceived out.old out.new mpdu.now) }
 {
-    // Laws that the proof cites; the calls do nothing.
+    // The proof cites these laws; the calls do nothing.
     parts_in_place();
     open_undoes_seal();
     sealed_lengths();

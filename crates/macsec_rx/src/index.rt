@@ -1,4 +1,4 @@
-//! The index of the associations: where each is among the rows, by the place of its channel and by its number.
+//! The index of the SAs: for the index of an SC and an association number, the index of the SA among the rows.
 
 ghost use Rattle.std.specs.Prelude.{◌≡◌, ◌+◌, ◌*◌, ◌<◌, ◌≤◌, List, [], is_some, length, IfSome};
 ghost use Rattle.std.specs.Int.{to_be_bytes, w64};
@@ -12,17 +12,17 @@ ghost use Rattle.macsec_rx.specs.Rows.{AreRxRows};
 use crate::{MAX_ROW_COUNT, RxRow};
 use macsec_tag::{ASSOCIATION_COUNT, An, Sci};
 
-/// The place of an association that there is not: past all that there can be.
+/// The index entry of an SA that does not exist. No row has this index.
 const NO_PLACE: u16 = MAX_ROW_COUNT as u16;
 
-/// The index of no associations.
+/// The index without SAs.
 pub(crate) fn empty_index() -> [u16; MAX_ROW_COUNT]
     ensures { (scis : List Sci) → IsIndex scis [] result }
 {
     [NO_PLACE; MAX_ROW_COUNT]
 }
 
-/// The index of these associations of these channels.
+/// The index of these SAs of these SCs.
 pub(crate) fn index_of(scis: &[Sci], rows: &[RxRow]) -> [u16; MAX_ROW_COUNT]
     requires channels { length scis.now ≤ max_channel_count }
     requires count { length rows.now ≤ max_row_count }
@@ -37,7 +37,7 @@ pub(crate) fn index_of(scis: &[Sci], rows: &[RxRow]) -> [u16; MAX_ROW_COUNT]
     places
 }
 
-/// The slot of the association of this number in the index, by the place of its channel.
+/// The position in the index for an association number of the SC at this index.
 pub(crate) fn slot(channel: usize, an: An) -> usize
     requires { channel < max_channel_count }
     ensures slot { result ≡ 4 * channel + an }
@@ -47,7 +47,7 @@ pub(crate) fn slot(channel: usize, an: An) -> usize
     ASSOCIATION_COUNT * channel + usize::from(an.number())
 }
 
-/// The place of the channel with this SCI among the channels, if there is one.
+/// The index of the SC with this SCI.
 pub(crate) fn channel_place(scis: &[Sci], sci: Sci) -> Option<usize>
     ensures there { is_some result ≡ has_channel scis.now sci }
     ensures place { IfSome result (λ place. place ≡ channel_place scis.now sci) }
@@ -61,8 +61,8 @@ pub(crate) fn channel_place(scis: &[Sci], sci: Sci) -> Option<usize>
     None
 }
 
-/// Are the SCIs the same? They are compared as numbers, in one step: the SCI of a frame is compared with that of each
-/// channel.
+/// Whether two SCIs are equal. They are compared as 64-bit numbers, in one step, because the SCI of each frame is
+/// compared with that of each SC.
 pub fn same_sci(s: Sci, t: Sci) -> bool
     ensures { result ≡ same_sci s t }
 {

@@ -21,7 +21,7 @@ use crate::{Judged, Mode, RxChannels, RxOptions, RxRow, Verdict};
 use macsec_suite::{KeyRow, KeyTable, Suite, iv_of};
 use macsec_tag::Mpdu;
 
-/// A verdict, and the packet number that is accepted with it, if one is.
+/// A verdict, and the packet number that is accepted with it, if any.
 #[derive(Clone, Copy)]
 pub struct Outcome {
     judged: Judged,
@@ -29,7 +29,7 @@ pub struct Outcome {
 }
 
 impl Outcome {
-    /// A verdict without an association.
+    /// A verdict without an SA.
     fn without_row(verdict: Verdict, delivered: Option<(usize, usize)>) -> Outcome
         ensures { result ≡ record { judged = record { verdict = verdict; row = None; delivered = delivered }; accepted = None } }
     {
@@ -43,7 +43,7 @@ impl Outcome {
         }
     }
 
-    /// A verdict of an association.
+    /// A verdict of an SA.
     fn at_row(
         row: &RxRow,
         verdict: Verdict,
@@ -64,10 +64,10 @@ impl Outcome {
 }
 
 impl RxChannels {
-    /// The verdict on a tagged frame of at most `MAX_FRAME_LEN` octets without its padding. If the packet number is
-    /// accepted, the packet numbers of its association change. What is delivered is in `out`, which has as many or
-    /// more. If nothing is delivered, `out` is as it was, but for the frame as it was received, which may be at its
-    /// start. The key of each association is in the table.
+    /// Judges a tagged frame of at most `MAX_FRAME_LEN` octets without padding. If its packet number is accepted, the
+    /// packet numbers of its SA change. The delivered frame is in `out`, which has `MAX_FRAME_LEN` octets or more. If
+    /// nothing is delivered, `out` is unchanged, except that it may begin with the frame as received. The key of each
+    /// SA must be in the table.
     pub fn judge(
         &mut self,
         keys: &KeyTable,
@@ -92,7 +92,7 @@ impl RxChannels {
     }
 }
 
-/// An association that was found with its place, without the place.
+/// The SA that was found, without its index.
 fn row_of(found: &Option<(usize, RxRow)>) -> Option<RxRow>
     ensures { result ≡ option_map (λ f. f.1) found.now }
 {
@@ -102,7 +102,7 @@ fn row_of(found: &Option<(usize, RxRow)>) -> Option<RxRow>
     }
 }
 
-/// Is the mode Strict?
+/// Whether the mode is Strict.
 fn is_strict(mode: Mode) -> bool
     ensures { result ≡ is_strict mode }
 {
@@ -112,7 +112,7 @@ fn is_strict(mode: Mode) -> bool
     }
 }
 
-/// Is the mode Disabled?
+/// Whether the mode is Disabled.
 fn is_disabled(mode: Mode) -> bool
     ensures { result ≡ is_disabled mode }
 {
@@ -122,14 +122,15 @@ fn is_disabled(mode: Mode) -> bool
     }
 }
 
-/// Is the PN field 0, which no sender uses, and have packet numbers 32 bits?
+/// Whether the PN field is 0 under a suite with 32-bit packet numbers. No sender uses it.
 fn is_bad_number(suite: Suite, pn: u32) -> bool
     ensures { result ≡ is_bad_number suite pn }
 {
     pn == 0 && !suite.is_xpn()
 }
 
-/// The packet number of a frame of an association whose key has this suite, by the PN field, if it has one.
+/// The packet number of a frame, recovered from its PN field. `suite` is the suite of the SA's key. Returns `None` if
+/// the frame has no packet number.
 fn number_of_frame(suite: Suite, row: &RxRow, pn: u32) -> Option<u64>
     ensures number { result ≡ number_of_frame suite row.now.lowest pn }
     ensures most { IfSome result (λ number. number ≤ last_of suite) }
@@ -140,7 +141,7 @@ fn number_of_frame(suite: Suite, row: &RxRow, pn: u32) -> Option<u64>
     row.numbers().recover(suite.is_xpn(), pn)
 }
 
-/// The verdict, with `row` the association enabled for the frame, or none.
+/// The verdict. `row` is the SA that is enabled for the frame, if any.
 fn judge_tagged_row(
     keys: &KeyTable,
     options: &RxOptions,
@@ -163,7 +164,7 @@ fn judge_tagged_row(
     judge_row(keys, options, row, mpdu, out)
 }
 
-/// The verdict on a frame whose SecTAG is valid, of an association or of none.
+/// The verdict on a frame whose SecTAG is valid, with or without an SA.
 fn judge_row(
     keys: &KeyTable,
     options: &RxOptions,
@@ -185,7 +186,7 @@ fn judge_row(
     }
 }
 
-/// The verdict on a frame of no association.
+/// The verdict on a frame without an SA.
 fn judge_unknown(options: &RxOptions, mpdu: &Mpdu<'_>, out: &mut [u8]) -> Outcome
     requires room { unpadded_length mpdu.now ≤ length out.old }
     ensures outcome { (keys : List InstalledKey) → ShowsOutcome result out.new (judge_row options.now keys mpdu.now None) }
@@ -199,7 +200,7 @@ fn judge_unknown(options: &RxOptions, mpdu: &Mpdu<'_>, out: &mut [u8]) -> Outcom
     Outcome::without_row(Verdict::NoSa, Some(deliver_bare(mpdu, out)))
 }
 
-/// The verdict on a frame of an association.
+/// The verdict on a frame of an SA.
 fn judge_known(
     keys: &KeyTable,
     options: &RxOptions,
@@ -222,21 +223,21 @@ fn judge_known(
     judge_number(key, options, row, number, mpdu, out)
 }
 
-/// Is the packet number late at the association?
+/// Whether the packet number is late at the SA.
 fn is_late(row: &RxRow, number: u64) -> bool
     ensures { result ≡ is_late row.now.lowest number }
 {
     row.numbers().is_late(number)
 }
 
-/// Is a frame with this packet number dropped because it is late?
+/// Whether a frame with this packet number is dropped because it is late.
 fn is_dropped_late(options: &RxOptions, row: &RxRow, number: u64) -> bool
     ensures { result ≡ (options.now.replay && is_late row.now.lowest number) }
 {
     options.replay && is_late(row, number)
 }
 
-/// The verdict on a frame of an association and with a packet number.
+/// The verdict on a frame of an SA with this packet number.
 fn judge_number(
     key: &KeyRow,
     options: &RxOptions,
@@ -271,7 +272,7 @@ fn judge_number(
     judge_validated(key, options, row, number, mpdu, out)
 }
 
-/// The verdict on a frame of an association and with a packet number, by its validation.
+/// The verdict on a frame of an SA with this packet number, after validation.
 fn judge_validated(
     key: &KeyRow,
     options: &RxOptions,
@@ -302,7 +303,7 @@ fn judge_validated(
     }
 }
 
-/// Delivers a frame of an association and with a packet number: its plaintext if its ICV is valid, and else nothing.
+/// Delivers the plaintext of a frame of an SA with this packet number if its ICV is valid, and nothing otherwise.
 fn open(
     key: &KeyRow,
     row: &RxRow,
@@ -330,7 +331,7 @@ fn open(
     deliver_opened(&key.suite_key, &iv, mpdu, out)
 }
 
-/// The verdict on a frame of an association whose ICV is not valid.
+/// The verdict on a frame of an SA whose ICV is invalid.
 fn judge_invalid(options: &RxOptions, row: &RxRow, mpdu: &Mpdu<'_>, out: &mut [u8]) -> Outcome
     requires room { unpadded_length mpdu.now ≤ length out.old }
     ensures outcome { (key : InstalledKey) (number : ℕ) → ShowsOutcome result out.new (judge_opened options.now key row.now number mpdu.now None) }

@@ -1,18 +1,19 @@
-//! Receive channels and their associations, and the verdict on a tagged frame (IEEE 802.1AE, 10.6 and 10.7).
+//! The receive SCs and their SAs (secure channels and associations), and the verdict on a tagged frame (IEEE 802.1AE,
+//! 10.6 and 10.7).
 //!
-//! Proved: `RxChannels` are the channels in the order of their creation, and their associations. `rx_sc`, `rx_sc_del`,
-//! `rx_sa`, `rx_on`, `rx_off`, `rx_low` and `rx_del` refuse with the first refusal of their lists that applies and then
-//! change nothing; else they do what `specs/Commands.antt` says. `narrow` narrows every association to the replay
-//! window. No two channels have the same SCI, each association is of a channel and has a number of its own there, and
-//! its lowest acceptable packet number is from 1 to its next one, which is at most 2^64.
+//! Proved: `RxChannels` is the list of SCs in the order of their creation, and their SAs. `rx_sc`, `rx_sc_del`,
+//! `rx_sa`, `rx_on`, `rx_off`, `rx_low` and `rx_del` refuse with the first refusal of their lists that applies, and
+//! then change nothing; otherwise they do what `specs/Commands.antt` says. `narrow` narrows every SA to the replay
+//! window. No two SCs have the same SCI. Each SA belongs to an SC, where no other SA has its association number. Its
+//! lowest acceptable packet number is from 1 to its next one, which is at most 2^64.
 //!
-//! Proved: `judge` gives the verdict on a tagged frame, its association, and what is delivered, as the table of
-//! `specs/Judge.antt` says, first step first. The frame delivered is in the caller's slice, and the packet number is
-//! accepted if and only if the ICV was found valid. If nothing is delivered, the slice is as it was, or it begins with
-//! DA, SA, SecTAG, Secure Data and ICV as they were received and is else as it was (`LeavesReceived`). So nothing of
-//! the frame that was decrypted is left in it. What is left outside a frame that is delivered no clause says. The
-//! conditions: each association's key is in the table (so too of `rx_low`), the parts have at most 9,248 octets
-//! together, and the slice has 9,248 or more.
+//! Proved: `judge` gives the verdict on a tagged frame, its SA, and what is delivered, as the table of
+//! `specs/Judge.antt` says; the first step that applies decides. The delivered frame is in the caller's slice. The
+//! packet number is accepted if and only if the ICV was found valid. If nothing is delivered, the slice is unchanged,
+//! except that it may begin with DA, SA, SecTAG, Secure Data and ICV as received (`LeavesReceived`). So it has no
+//! decrypted octet of the frame. No clause says what is left outside a delivered frame. `judge` requires parts of at
+//! most 9,248 octets together and a slice of 9,248 or more. `judge` and `rx_low` require that each SA's key is in the
+//! table.
 #![tactic(auto)]
 
 ghost use Rattle.std.specs.Prelude.{◌≡◌, Some};
@@ -32,37 +33,37 @@ use macsec_suite::KeyNumber;
 use macsec_tag::{An, Sci};
 use std::fmt;
 
-/// What becomes of a received frame, named as its counter is, without InPkts.
+/// The verdict on a received frame. Each verdict is named like its counter, without InPkts.
 #[derive(Clone, Copy, PartialEq, Eq, Debug)]
 pub enum Verdict {
-    /// It has no SecTAG, and is delivered.
+    /// It has no SecTAG and is delivered.
     Untagged,
-    /// It has no SecTAG, and is dropped.
+    /// It has no SecTAG and is dropped.
     NoTag,
-    /// Its SecTAG is invalid, or it has no packet number.
+    /// Its SecTAG is invalid, or it has no packet number. It is dropped.
     BadTag,
-    /// E is set and C clear.
+    /// E is set and C is clear. It is dropped.
     Reserved,
-    /// No association is enabled for it, and it is dropped.
+    /// No SA is enabled for it, and it is dropped.
     NoSaError,
-    /// No association is enabled for it, and it is delivered.
+    /// No SA is enabled for it, and it is delivered.
     NoSa,
     /// Its packet number is late, and it is dropped.
     Late,
-    /// It is not valid, or can't be used unopened, and is dropped.
+    /// It is invalid, or cannot be delivered without validation, and is dropped.
     NotValid,
     /// It was not validated, and is delivered.
     Unchecked,
     /// Its packet number is late, and it is delivered.
     Delayed,
-    /// It is not valid, and is delivered.
+    /// It is invalid, and is delivered.
     Invalid,
-    /// It is valid and not late; its name is `OK`.
+    /// It is valid and not late, and is delivered. Its name is `OK`.
     Passed,
 }
 
 impl Verdict {
-    /// Its name, as it is printed.
+    /// The name of the verdict, as it is printed.
     pub fn name(self) -> &'static str
         ensures { result.now ≡ verdict_name self }
     {
@@ -91,21 +92,21 @@ impl fmt::Display for Verdict {
     }
 }
 
-/// What reception depends on.
+/// The options of reception.
 #[derive(Clone, Copy, PartialEq, Eq, Debug)]
 pub struct RxOptions {
     /// How frames are validated.
     pub mode: Mode,
-    /// Are late frames dropped?
+    /// Whether late frames are dropped.
     pub replay: bool,
     /// The replay window, in packet numbers.
     pub window: u64,
 }
 
-/// A receive association: a receive SA (secure association, 10.7) of the standard, as one row of `RxChannels`.
+/// A receive SA (10.7), as one row of `RxChannels`.
 #[derive(Clone, Copy, PartialEq, Eq, Debug, Default)]
 pub struct RxRow {
-    /// The SCI of its channel.
+    /// The SCI of its SC.
     pub sci: Sci,
     /// Its association number.
     pub an: An,
@@ -113,11 +114,11 @@ pub struct RxRow {
     pub key: KeyNumber,
     /// The SSCI of the sender.
     pub ssci: u32,
-    /// The next packet number: past each that was accepted.
+    /// Its next packet number, above every number that was accepted.
     pub next: u128,
-    /// The lowest acceptable packet number.
+    /// Its lowest acceptable packet number.
     pub lowest: u128,
-    /// Is it enabled?
+    /// Whether it is enabled.
     pub on: bool,
 }
 
@@ -132,7 +133,7 @@ impl RxRow {
         }
     }
 
-    /// The same association with these packet numbers.
+    /// The same SA with these packet numbers.
     pub(crate) fn with_numbers(self, numbers: RxNumbers) -> RxRow
         ensures { result ≡ with_numbers numbers self }
     {
@@ -144,14 +145,13 @@ impl RxRow {
     }
 }
 
-/// What is found of a tagged frame.
+/// The result of judging a tagged frame.
 #[derive(Clone, Copy, PartialEq, Eq, Debug)]
 pub struct Judged {
     /// The verdict.
     pub verdict: Verdict,
-    /// The association (secure association, SA) of the frame, if the verdict depends on one: by the SCI of its channel
-    /// and its number.
+    /// The SA of the frame, if the verdict depends on one: its SCI and association number.
     pub row: Option<(Sci, An)>,
-    /// The position and the length of what is delivered.
+    /// The position and length, in octets, of the delivered frame in the caller's slice.
     pub delivered: Option<(usize, usize)>,
 }

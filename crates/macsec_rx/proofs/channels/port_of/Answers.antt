@@ -1,5 +1,5 @@
--- The octets of the SCI are those of the address and of the port: its first octet is 0, and its last is the port.
--- By the contract of the copy, and by where the last octet is set (`set-append_right`).
+-- The octets of the SCI are the address and the port: 0, then the port's octet. Proved from the contract of the copy
+-- and `set-append_right`.
 use Rattle.std.proofs.Common.{◌++◌, ◌∷◌, [], List, ℕ, set, ap, ◌∙◌, arith}
 use Rattle.std.proofs.lemmas.List.{set-append_right}
 use Rattle.macsec_tag.specs.declared.identifiers.Sci.{Sci}

@@ -1,5 +1,5 @@
--- What is delivered is the plaintext of the definition if the ICV is valid, and else nothing.
--- By the lemmas that opening by position is opening by parts (`Opened`).
+-- The plaintext of the definition is delivered if the ICV is valid, and nothing otherwise. Proved from the lemmas in
+-- `Opened`: opening by positions is opening by parts.
 use Rattle.std.proofs.Common.{◌≡◌, ℕ, ◌+◌, length, drop, ap, sym, ◌∙◌, rules}
 use Rattle.std.specs.Prelude.{Some, None}
 use Rattle.macsec_suite.specs.InPlace.{validated_octets}

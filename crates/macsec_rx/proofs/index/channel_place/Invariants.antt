@@ -3,7 +3,7 @@ use Rattle.macsec_rx.specs.Commands.{has_channel}
 use Rattle.macsec_rx.specs.Index.{channel_place}
 use Rattle.macsec_rx.proofs.index.channel_place.Given as goal
 
--- no channel before the place has the SCI
+-- no SC before the index has the SCI
 abbrev pub invariant-loop-place : goal.invariant-loop-place
 invariant-loop-place l = record {
   there : has_channel l.scis l.sci ≡ has_channel (drop l.place l.scis) l.sci;

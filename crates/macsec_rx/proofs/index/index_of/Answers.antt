@@ -1,5 +1,4 @@
--- Each association has a channel, and joins the index of those before it.
--- By the lemma on an association that joins (`IsIndex-push` of `RowIndex`).
+-- Each SA has an SC and is added to the index of the SAs before it. Proved from `IsIndex-push` of `RowIndex`.
 use Rattle.std.proofs.Common.{◌≡◌, ◌∙◌, ◌∷◌, [], ◌++◌, ◌+◌, length, refl, subst, sym, ap, take, arith}
 use Rattle.std.specs.Prelude.{Some, slice_get}
 use Rattle.std.proofs.Math.ListN.{set}

@@ -2,6 +2,6 @@ use Rattle.std.proofs.Common.{◌≡◌, length, take}
 use Rattle.macsec_rx.specs.Index.{IsIndex}
 use Rattle.macsec_rx.proofs.index.index_of.Given as goal
 
--- the associations before the place are in the index
+-- the SAs before the loop's position are in the index
 abbrev pub invariant-loop-place : goal.invariant-loop-place
 invariant-loop-place l = IsIndex l.scis (take l.place l.rows) l.places

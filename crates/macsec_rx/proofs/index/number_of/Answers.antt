@@ -1,5 +1,4 @@
--- The octets are those of the number that they are read as.
--- By the lemma `be_bytes_8`.
+-- Writing the number that octets are read as gives the octets again, by the lemma `be_bytes_8`.
 use Rattle.std.proofs.Common.{rules}
 use Rattle.std.proofs.lemmas.Nat.{be_bytes_8}
 use Rattle.macsec_rx.proofs.index.number_of.Goals as goal

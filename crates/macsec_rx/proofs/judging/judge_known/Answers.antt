@@ -1,5 +1,5 @@
--- The judgement with the key that was found and the packet number that was recovered is that of the definition.
--- By the lemma `judged` (`Recovered`), once for the outcome and once for the association.
+-- With the key that was found and the recovered packet number, the judgement is as defined. Proved from the lemma
+-- `judged` of `Recovered`, once for the outcome and once for the SA.
 use Rattle.std.proofs.Common.{◌≡◌, rules, subst}
 use Rattle.std.specs.Prelude.{IfSome, Some}
 use Rattle.macsec_suite.specs.KeyRows.{the_key}

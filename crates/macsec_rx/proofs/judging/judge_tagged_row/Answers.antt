@@ -1,5 +1,5 @@
--- The judgement is that of an association or of none, unless E is set and C clear.
--- By search; these proofs are here for speed.
+-- Unless E is set and C is clear, the judgement is the one with or without an SA. Proved by search; written out for
+-- speed.
 use Rattle.std.proofs.Common.{◌≡◌, false, not, ◌&&◌, rules, tests}
 use Rattle.macsec_rx.proofs.judging.judge_tagged_row.Goals as goal
 

@@ -1,5 +1,4 @@
--- The judgement does not depend on the packet number where there is no association.
--- By search; these proofs are here for speed.
+-- Without an SA the judgement does not depend on the packet number. Proved by search; written out for speed.
 use Rattle.std.proofs.Common.{rules, tests}
 use Rattle.macsec_rx.proofs.judging.judge_unknown.Goals as goal
 

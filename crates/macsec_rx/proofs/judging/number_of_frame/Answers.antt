@@ -1,5 +1,5 @@
--- The number is the one that is recovered, and at most the last of the suite, if PN is not a bad one.
--- By search; these proofs are here for speed.
+-- If the PN is not a bad one, the number is the recovered one and at most the suite's last. Proved by search; written
+-- out for speed.
 use Rattle.std.proofs.Common.{rules, tests}
 use Rattle.macsec_rx.proofs.judging.number_of_frame.Goals as goal
 

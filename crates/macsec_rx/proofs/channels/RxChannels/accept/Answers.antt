@@ -1,5 +1,5 @@
--- The association at the place accepts the packet number, which is the change that is defined.
--- By the lemma on a change at a place (`RowIndex`).
+-- The SA at the index accepts the packet number as defined. Proved from the lemma on changing a row at an index in
+-- `RowIndex`.
 use Rattle.std.proofs.Common.{◌≡◌, ◌∙◌, ap, refl, arith}
 use Rattle.std.specs.Prelude.{IsSomeAnd}
 use Rattle.macsec_pn.specs.Numbers.{accept}

@@ -1,5 +1,4 @@
--- The association at the place is the one that was found there.
--- By search; this proof is here for speed.
+-- The SA at the index is the one that was found there. Proved by search; written out for speed.
 use Rattle.std.proofs.Common.{rules}
 use Rattle.macsec_rx.proofs.channels.RxChannels.accept_at.Goals as goal
 

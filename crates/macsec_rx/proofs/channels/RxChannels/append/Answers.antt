@@ -1,6 +1,5 @@
--- There is space for an association of a free number of a channel, and what holds of the channels and of the index holds
--- with it.
--- By the lemmas `has_room` (`Room`), `AreRxRows-append` (`RxRows`) and `IsIndex-push` (`RowIndex`).
+-- There is space for an SA with a free number, and adding it keeps the invariant and the index. Proved from `has_room`
+-- (`Room`), `AreRxRows-append` (`RxRows`) and `IsIndex-push` (`RowIndex`).
 use Rattle.std.proofs.Common.{◌≡◌, ◌∷◌, [], ◌++◌, length, sym, subst, lit<, arith}
 use Rattle.std.specs.Prelude.{None}
 use Rattle.std.proofs.Math.ListN.{set}

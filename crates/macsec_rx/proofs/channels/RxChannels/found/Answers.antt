@@ -1,5 +1,4 @@
--- The index finds the association, if there is one, and an SCI without a channel has none.
--- By the lemmas on the index and on such an SCI (`RowIndex`).
+-- The index finds the SA if there is one, and an SCI without an SC has no SA. Proved from the lemmas in `RowIndex`.
 use Rattle.std.proofs.Common.{◌≡◌, ◌∙◌, ap, sym, arith, true, false, refl}
 use Rattle.std.specs.Prelude.{None, Some, slice_get}
 use Rattle.std.proofs.lemmas.Option.{slice_get_read, slice_get_past}

@@ -1,5 +1,4 @@
--- The association for a frame is the one of its channel and its number, if that is enabled.
--- By the lemmas on that association (`RowIndex`).
+-- The SA for a frame is the one of its SCI and number, if that is enabled. Proved from the lemmas in `RowIndex`.
 use Rattle.std.proofs.Common.{◌≡◌, ◌∙◌, sym}
 use Rattle.std.specs.Prelude.{Some}
 use Rattle.macsec_rx.specs.Judge.{sci_of}

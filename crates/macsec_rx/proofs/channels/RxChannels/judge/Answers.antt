@@ -1,5 +1,4 @@
--- The key of the association enabled for the frame is in the table.
--- By the lemma that what holds of all associations holds of that one (`RxRows`).
+-- The key of the SA that is enabled for the frame is in the table, because the key of every SA is (`RxRows`).
 use Rattle.std.proofs.Common.{sym, subst, ◌∙◌}
 use Rattle.std.specs.Prelude.{IfSome, IsSome}
 use Rattle.macsec_suite.specs.KeyRows.{key_row}

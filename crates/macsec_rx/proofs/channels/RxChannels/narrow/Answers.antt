@@ -1,5 +1,4 @@
--- What holds of the channels and of the index still holds once every association is narrowed.
--- By the lemmas on that change (`RxRows`, `RowIndex`).
+-- Narrowing every SA keeps the invariant and the index. Proved from the lemmas in `RxRows` and `RowIndex`.
 use Rattle.std.proofs.Common.{◌≡◌, length, ap, ◌∙◌, refl, subst, map}
 use Rattle.macsec_rx.specs.Commands.{row_narrowed}
 use Rattle.macsec_rx.specs.Index.{IsIndex}

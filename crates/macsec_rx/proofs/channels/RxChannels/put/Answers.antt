@@ -1,5 +1,4 @@
--- What holds of the channels and of the index still holds after a change of one association at its place.
--- By the lemma on such a change (`ArePut-set` of `RowIndex`).
+-- Changing one SA at its index keeps the invariant and the index. Proved from `ArePut-set` of `RowIndex`.
 use Rattle.std.proofs.Common.{◌≡◌, subst, sym}
 use Rattle.std.specs.Prelude.{IsSomeAnd, slice_get}
 use Rattle.std.proofs.Math.ListN.{set}

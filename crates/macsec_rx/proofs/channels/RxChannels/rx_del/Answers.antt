@@ -1,5 +1,5 @@
--- What is left are the other associations, what holds of the channels holds of them, and the index is made anew.
--- By the contract of `retain`, which is a filter, and the lemma on deletion (`RxRows`).
+-- The other SAs are left, the invariant is kept, and the index is rebuilt. Proved from the contract of `retain`, which
+-- is a filter, and the lemma on deletion in `RxRows`.
 use Rattle.std.proofs.Common.{◌≡◌, ap, rules}
 use Rattle.std.specs.Prelude.{filter, not}
 use Rattle.arrayvec.proofs.ArrayVecLemmas.{filter-from_retain}

@@ -1,6 +1,5 @@
--- The key of the association is in the table, and the association at the place that was found is raised, which is the
--- change that is defined.
--- By the lemmas on an association that is found and on a change at a place (`RxRows`, `RowIndex`).
+-- The key of the SA is in the table, and raising the SA at the index that was found is the defined change. Proved from
+-- the lemmas on finding an SA and on changing a row at an index (`RxRows`, `RowIndex`).
 use Rattle.std.proofs.Common.{◌≡◌, ◌∙◌, ap, refl, arith, rules}
 use Rattle.std.specs.Prelude.{IsSome}
 use Rattle.macsec_suite.specs.KeyRows.{key_row}
@@ -39,6 +38,6 @@ returns-clause-done c =
     c.with_numbers.ensures ∙ ap (λ n. with_numbers n found.row) (c.raise.ensures ∙ ap (λ n. raise n c.args.pn) c.numbers-numbers.ensures) in
     rw (same, ← here) c.put.ensures.rows
 
--- For speed: the prover finds this by itself too, but on a mutant it would try more than this search.
+-- For speed: the prover finds this proof, but on a mutant it would try more than this search.
 pub returns-clause-refusal : goal.returns-clause-refusal
 returns-clause-refusal c = search rules

@@ -1,5 +1,5 @@
--- The association at the place that was found is disabled, which is the change that is defined.
--- By the lemma on a change at a place (`RowIndex`).
+-- Disabling the SA at the index that was found is the defined change. Proved from the lemma on changing a row at an
+-- index in `RowIndex`.
 use Rattle.std.proofs.Common.{refl, false}
 use Rattle.macsec_rx.specs.Commands.{row_switched}
 use Rattle.macsec_rx.proofs.RowIndex.{IsRxRow-at, is_found, with_rx-set}

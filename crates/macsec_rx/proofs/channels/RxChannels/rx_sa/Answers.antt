@@ -1,5 +1,4 @@
--- An association of a free number of a channel is one that may join.
--- By the contracts of the look-ups, and by search.
+-- An SA with a free number of an SC can be added. Proved from the contracts of the look-ups and by search.
 use Rattle.std.proofs.Common.{◌≡◌, sym, ◌∙◌, arith, rules, true}
 use Rattle.macsec_rx.specs.Commands.{has_channel}
 use Rattle.macsec_rx.proofs.RxRows.{none_from_is_some}
@@ -21,6 +20,6 @@ append-requires-clause-row c =
       lowest = search (rules, arith);
     }
 
--- For speed: the prover finds this by itself too, but on a mutant it would try more than this search.
+-- For speed: the prover finds this proof, but on a mutant it would try more than this search.
 pub returns-clause-refusal : goal.returns-clause-refusal
 returns-clause-refusal c = search rules

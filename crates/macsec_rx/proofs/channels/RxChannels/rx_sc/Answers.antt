@@ -1,5 +1,5 @@
--- What holds of the channels and of the index holds with a new one, whose SCI is free.
--- By the lemmas on a channel that joins (`Scis`, `RxRows`, `RowIndex`).
+-- Adding an SC with a free SCI keeps the invariant and the index. Proved from the lemmas on adding an SC (`Scis`,
+-- `RxRows`, `RowIndex`).
 use Rattle.std.proofs.Common.{◌≡◌, ◌∙◌, ◌<◌, ◌≤◌, ap, sym, false, length, arith, rules, tests}
 use Rattle.macsec_rx.specs.Commands.{has_channel}
 use Rattle.macsec_rx.proofs.Room.{rows_fit}
@@ -28,7 +28,7 @@ invariant_of-self c =
 pub returns-clause-channels : goal.returns-clause-channels
 returns-clause-channels c = (invariant_of-self c).0
 
--- For speed: the prover finds these by itself too, but on a mutant it would try more than this search.
+-- For speed: the prover finds these proofs, but on a mutant it would try more than this search.
 pub returns-then-has_channel-clause-refusal : goal.returns-then-has_channel-clause-refusal
 returns-then-has_channel-clause-refusal c = search (tests, rules)
 

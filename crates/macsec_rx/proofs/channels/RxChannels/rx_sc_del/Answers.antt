@@ -1,6 +1,5 @@
--- What is left are the other channels and their associations, what holds of the channels holds of them, and the index is
--- made anew.
--- By the contracts of `retain`, which is a filter, and the lemmas on deletion (`Scis`, `RxRows`).
+-- The other SCs and their SAs are left, the invariant is kept, and the index is rebuilt. Proved from the contracts of
+-- `retain`, which is a filter, and the lemmas on deletion (`Scis`, `RxRows`).
 use Rattle.std.proofs.Common.{◌≡◌, ◌≤◌, ap, rules, arith, length}
 use Rattle.std.specs.Prelude.{filter, not}
 use Rattle.arrayvec.proofs.ArrayVecLemmas.{filter-from_retain}

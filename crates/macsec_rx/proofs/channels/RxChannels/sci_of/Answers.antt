@@ -1,5 +1,5 @@
--- The SCI by the source address, if SCB or ES is set: the address is the second half of the two.
--- By a lemma on the second of two lists of six.
+-- If SCB or ES is set, the SCI has the source address, which is the second half of the addresses. Proved from a lemma
+-- on the second of two lists of six octets.
 use Rattle.std.proofs.Common.{◌≡◌, ◌++◌, ◌-◌, ℕ, List, length, take, drop, ap, sym, ◌∙◌, arith, rules}
 use Rattle.std.proofs.lemmas.List.{append-nil}
 use Rattle.std.proofs.Math.Seq.{take-append_seam, drop-append_seam}
