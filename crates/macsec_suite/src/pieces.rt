@@ -12,7 +12,7 @@ use macsec_gcm::{GcmKey, Opener, Sealer, Unlocked};
 const PIECE_LENGTH: usize = 256;
 
 /// Encrypts the plaintext `text` in place, piece by piece. Returns the authentication tag of the ciphertext and the
-/// additional authenticated data. The limits on lengths are those of `GcmKey::seal`.
+/// additional authenticated data. The limits on lengths are as for `GcmKey::seal`.
 pub fn seal(key: &GcmKey, iv: &[u8; 12], aad: &[u8], text: &mut [u8]) -> [u8; 16]
     requires text_length { length text.old ≤ max_plaintext_len }
     requires aad_length { length aad.now ≤ max_aad_len }

@@ -1,4 +1,5 @@
--- The parts of a tagged frame, concatenated, pass the tests of a tagged one, and are found by their positions.
+-- Concatenating the parts of a tagged frame gives a frame that passes the reader's tests, and in which the reader finds
+-- the parts by their positions.
 use Rattle.std.proofs.Common.{◌≡◌, ℕ, ◌+◌, ◌-◌, ◌<◌, ◌≤◌, Bool, true, false, List, [], ◌∷◌, ◌++◌, length, take, drop}
 use Rattle.std.proofs.Common.{refl, arith, ap, sym, subst, ◌∙◌, append_assoc, length-append, length-drop, lit≤}
 use Rattle.std.specs.Prelude.{Option, Some, None, is_some, slice_index, slice_range, ◌==◌, nat_lt, if◌then◌else◌, ◌^◌}
@@ -14,9 +15,9 @@ use Rattle.macsec_tag.specs.Table.{has_bit, sec_tag_at, tag_length_at, after_tag
 use Rattle.macsec_tag.specs.Standing.{StandsAsTagged}
 use Rattle.macsec_tag.proofs.TciBits.{HasBits, octet_of_has}
 
--- ---- the octets of the tag, at their positions
+-- ---- the octets of the tag, by their positions
 
--- the tag follows twelve octets, and these octets after it
+-- the tag follows the first 12 octets, and `rest` follows the tag
 pub record StandsBehind (frame : List ℕ) (t : Tag) (rest : List ℕ) : Type 0 where
   pub e12 : slice_index frame 12 ≡ 0x88
   pub e13 : slice_index frame 13 ≡ 0xe5
@@ -26,7 +27,7 @@ pub record StandsBehind (frame : List ℕ) (t : Tag) (rest : List ℕ) : Type 0 
   pub sci : slice_range frame 20 28 ≡ take 8 (sci_octets t.sci ++ rest)
   pub after : drop 12 frame ≡ encoding t ++ rest
 
--- a tag after twelve octets is there
+-- this holds for a frame built that way
 behind : (front : List ℕ) (t : Tag) (rest : List ℕ) → length front ≡ 12 → t.pn < 2 ^ 32 → StandsBehind (front ++ (encoding t ++ rest)) t rest
 behind (a0 ∷ a1 ∷ a2 ∷ a3 ∷ a4 ∷ a5 ∷ a6 ∷ a7 ∷ a8 ∷ a9 ∷ a10 ∷ a11 ∷ []) t rest long small =
     record { e12 = refl; e13 = refl; e14 = refl; e15 = refl; pn = from_be_bytes-to_be_bytes_4 t.pn small; sci = refl; after = refl }
@@ -36,18 +37,18 @@ behind other t rest long small = absurd (omega (arith, long))
 abbrev pub behind_tag : MpduParts → List ℕ
 behind_tag p = (p.secure_data ++ p.icv) ++ p.padding
 
--- the parts, with all that follows the tag as one
+-- the parts, with everything after the tag grouped together
 abbrev pub by_tag : MpduParts → List ℕ
 by_tag p = (p.da ++ p.sa) ++ (encoding p.tag ++ behind_tag p)
 
--- the parts concatenated are these
+-- the concatenated parts are these octets
 regrouped : (p : MpduParts) → in_a_row p ≡ by_tag p
 regrouped p = grouped (p.da ++ p.sa) (encoding p.tag) p.secure_data p.icv p.padding
   where
     grouped : (front tag text icv padding : List ℕ) → (((front ++ tag) ++ text) ++ icv) ++ padding ≡ front ++ (tag ++ ((text ++ icv) ++ padding))
     grouped front tag text icv padding = simp append_assoc
 
--- the tag of the parts concatenated follows the addresses
+-- in the concatenated parts, the tag follows the addresses
 pub stands_behind : (p : MpduParts) → IsTag p.tag → HasLengths p → StandsBehind (in_a_row p) p.tag (behind_tag p)
 stands_behind p h l =
     let long : length (p.da ++ p.sa) ≡ 12 = omega (arith, length-append p.da p.sa, l.da, l.sa) in
@@ -60,15 +61,15 @@ bits_of p h l =
     let t = p.tag in
     subst (HasBits t.es (is_some t.sci) t.scb t.e t.c t.an) (sym (stands_behind p h l).e14) (octet_of_has t.es (is_some t.sci) t.scb t.e t.c t.an h.an)
 
--- ---- the tag and what follows it, read by their positions
+-- ---- the tag and what follows it, by their positions
 
--- the SCI is found where SC is set
+-- an SCI is read exactly if SC is set, and is the tag's
 sci_by : (sci : Option Sci) (b : Bool) (octets rest : List ℕ) → b ≡ is_some sci → ForSome sci (λ s. length s.0 ≡ 8) → octets ≡ take 8 (sci_octets sci ++ rest) →
     (if b then Some (record { 0 = octets }) else None) ≡ sci
 sci_by None b octets rest same eight there = rw same refl
 sci_by (Some s) b octets rest same eight there = rw (same, there, take_at s.0 rest 8 (eight s refl)) refl
 
--- the tag is found at its position
+-- the tag read by its position is the tag
 tag_is : (p : MpduParts) → IsTag p.tag → HasLengths p → sec_tag_at (in_a_row p) ≡ p.tag
 tag_is p h l =
     let frame = in_a_row p in
@@ -85,13 +86,13 @@ tag_is p h l =
       sci_by p.tag.sci (has_bit sc_bit frame) (slice_range frame 20 28) (behind_tag p) bits.sc_is h.sci_octets there.sci,
     ) refl
 
--- what is left once the octets of the tag are dropped
+-- dropping the octets of the tag leaves what follows it
 past_tag : (sci : Option Sci) (t : Tag) (rest : List ℕ) → t.sci ≡ sci → ForSome sci (λ s. length s.0 ≡ 8) →
     drop (if is_some sci then 16 else 8) (encoding t ++ rest) ≡ rest
 past_tag None t rest same eight = rw same refl
 past_tag (Some s) t rest same eight = rw same (drop_at s.0 rest 8 (eight s refl))
 
--- what follows the tag is behind it in the frame
+-- what is read after the tag is what follows it
 after_is : (p : MpduParts) → IsTag p.tag → HasLengths p → after_tag (in_a_row p) ≡ behind_tag p
 after_is p h l =
     let frame = in_a_row p in
@@ -99,17 +100,17 @@ after_is p h l =
     ∙ ap (λ xs. drop (if is_some p.tag.sci then 16 else 8) xs) (stands_behind p h l).after
     ∙ past_tag p.tag.sci p.tag (behind_tag p) refl h.sci_octets
 
--- how many octets follow the tag
+-- the number of octets after the tag
 after_length : (p : MpduParts) → IsTag p.tag → HasLengths p → length (after_tag (in_a_row p)) ≡ length p.secure_data + 16 + length p.padding
 after_length p h l =
     ap length (after_is p h l)
     ∙ omega (arith, length-append (p.secure_data ++ p.icv) p.padding, length-append p.secure_data p.icv, l.icv)
 
--- the number of octets of Secure Data, as SL says it
+-- the length of the Secure Data, computed from SL
 by_sl : (sl n m : ℕ) → (0 < sl → n ≡ sl) → (sl ≡ 0 → m ≡ 0) → (if sl == 0 then n + 16 + m - 16 else sl) ≡ n
 by_sl sl n m short none = grind (arith, nat_tests)
 
--- the number of octets of Secure Data that the frame says is that of the parts
+-- the length of the Secure Data that is read is the length of that part
 data_length_is : (p : MpduParts) → IsTag p.tag → HasLengths p → data_length_at (in_a_row p) ≡ length p.secure_data
 data_length_is p h l =
     let frame = in_a_row p in
@@ -120,7 +121,7 @@ data_length_is p h l =
     ∙ ap (λ sl. if sl == 0 then n + 16 + m - 16 else sl) e15
     ∙ by_sl p.tag.sl n m l.short (λ long. ap length (l.no_padding long))
 
--- ---- the parts, cut by their positions
+-- ---- the parts, by their positions
 
 -- the two addresses
 cut_front : (da sa rest : List ℕ) → length da ≡ 6 → length sa ≡ 6 → (take 6 ((da ++ sa) ++ rest) ≡ da) × (take 6 (drop 6 ((da ++ sa) ++ rest)) ≡ sa)
@@ -141,7 +142,7 @@ cut_back text icv padding n long sixteen =
       ap (drop 16) rest ∙ drop_at icv padding 16 sixteen,
     )
 
--- the parts by position are those that were concatenated
+-- the parts read by position are the ones that were concatenated
 pub parts_is : (p : MpduParts) → IsTag p.tag → HasLengths p → parts_at (in_a_row p) ≡ p
 parts_is p h l =
     let frame = in_a_row p in
@@ -163,12 +164,12 @@ parts_is p h l =
 right_length : (sl n m : ℕ) → (0 < sl → n ≡ sl) → (sl ≡ 0 → 48 ≤ n) → (if sl == 0 then nat_lt (n + 16 + m) 64 else nat_lt (n + 16 + m) (sl + 16)) ≡ false
 right_length sl n m short long = grind (arith, nat_tests)
 
--- a tag has eight octets or more
+-- a tag has 8 octets or more
 eight_at_least : (b : Bool) → 8 ≤ (if b then 16 else 8)
 eight_at_least true = lit≤ tt
 eight_at_least false = lit≤ tt
 
--- the parts concatenated pass them
+-- the concatenated parts pass the tests
 pub stands_by : (p : MpduParts) → IsTag p.tag → HasLengths p → StandsAsTagged (in_a_row p)
 stands_by p h l =
     let frame = in_a_row p in

@@ -1,4 +1,4 @@
--- How a frame reads by the table, and how by the grammar: the same.
+-- The table of positions and the grammar give the same reading of a frame.
 use Rattle.std.proofs.Common.{◌≡◌, ℕ, ◌+◌, ◌<◌, ◌≤◌, Bool, true, false, not, ◌&&◌, ◌||◌, List, length, refl, arith, ap, sym, subst, ◌∙◌}
 use Rattle.std.specs.Prelude.{slice_index, nat_lt, nat_le, if◌then◌else◌, ◌↔◌, Option, Some, None}
 use Rattle.std.proofs.lemmas.Bool.{ltb-false, leb-false, le-ltb, lt-leb, lt-ltb}
@@ -54,12 +54,12 @@ passed false false false false true wrong h = cc
 passed false false false false false true h = cc
 passed false false false false false false h = (refl, refl, refl, refl, refl)
 
--- what the test of the length for the tag says
+-- the test of the length leaves enough octets for the tag
 room_by : (sc : Bool) (n : ℕ) → (nat_lt n 20 || (sc && nat_lt n 28)) ≡ false → (20 ≤ n) × (12 + (if sc then 16 else 8) ≤ n)
 room_by true n h = grind (arith, nat_tests, h)
 room_by false n h = grind (arith, nat_tests, h)
 
--- what the test of ES and SCB with SC says
+-- the test of SC with ES and SCB clears ES and SCB if SC is set
 bits_by : (sc es scb : Bool) → (sc && (es || scb)) ≡ false → (sc ≡ true → es ≡ false) × (sc ≡ true → scb ≡ false)
 bits_by true false false h = (λ _. refl, λ _. refl)
 bits_by true false true h = cc
@@ -96,7 +96,7 @@ without false false fault frame h = (refl, refl)
 without false true (Some fault) frame h = cc
 without false true None frame h = cc
 
--- the table reads as untagged what the grammar has as untagged
+-- the table reads a frame as untagged exactly if the grammar does
 pub reads_untagged : (frame : List ℕ) → (reading frame ≡ untagged) ↔ IsUntagged frame
 reads_untagged frame = (
   λ h.
@@ -105,22 +105,22 @@ reads_untagged frame = (
   λ u. rw (le-ltb (length frame) 14 u.long, u.ethertype) refl,
 )
 
--- a frame that is too short reads as cut
+-- a frame that is too short is read as cut
 pub reads_short : (frame : List ℕ) → length frame < 14 → bad Cut ≡ reading frame
 reads_short frame short = rw (lt-ltb (length frame) 14 short) refl
 
--- a frame with the EtherType reads as its first fault, or as tagged
+-- a frame with the EtherType is read as its first fault, or as tagged
 pub reads_with : (frame : List ℕ) → 14 ≤ length frame → has_macsec_ethertype frame ≡ true →
     (found : Option TagFault) → found ≡ tag_fault frame → reading_with frame found ≡ reading frame
 reads_with frame long ethertype found same = rw (le-ltb (length frame) 14 long, ethertype) (ap (reading_with frame) same)
 
 -- ---- by the grammar
 
--- the parts concatenated are read again
+-- reading the concatenated parts gives the parts
 pub read_again : (p : MpduParts) → ReadAgain p
 read_again p h l = reads_by (in_a_row p) (stands_by p h l) ∙ ap tagged (parts_is p h l)
 
--- what the grammar has reads as the table says
+-- a frame that the grammar has is read as the table says
 pub reads_tagged : (frame : List ℕ) (p : MpduParts) → IsTagged frame p → reading frame ≡ tagged p
 reads_tagged frame p h = ap reading h.row ∙ read_again p h.tag h.lengths
 
@@ -133,7 +133,7 @@ one_reading frame = record {
   not_both = λ p hp hu. let same : tagged p ≡ untagged = sym (reads_tagged frame p hp) ∙ (reads_untagged frame).1 hu in cc;
 }
 
--- the table reads a list of octets as the grammar has it
+-- the table reads a list of octets as the grammar does
 pub reads_by_grammar : (frame : List ℕ) → AreOctets frame → ReadsByGrammar frame
 reads_by_grammar frame octets = record {
   is_tagged = λ p. (
@@ -145,7 +145,7 @@ reads_by_grammar frame octets = record {
   is_untagged = reads_untagged frame;
 }
 
--- an answer that is the table's has the parts exactly when the grammar has them
+-- a result that is the table's has parts exactly if the grammar has them
 pub answered_tagged_by : (frame : List ℕ) (answer : Reading) → AreOctets frame → answer ≡ reading frame → (p : MpduParts) → (answer ≡ tagged p) ↔ IsTagged frame p
 answered_tagged_by frame answer octets same p =
     let law = (reads_by_grammar frame octets).is_tagged p in

@@ -1,4 +1,5 @@
--- The octet of TCI and AN, both ways: two tables that antt computes.
+-- The octet of TCI and AN from its bits, and the bits from the octet. Both directions are proved by tables that antt
+-- computes.
 use Rattle.std.proofs.Common.{◌≡◌, ℕ, zero, suc, ◌+◌, ◌<◌, Bool, true, false, not, ◌&&◌, refl, arith, inl, inr}
 use Rattle.std.specs.Prelude.{◌==◌, bit_and, ◌||◌}
 use Rattle.std.proofs.lemmas.Bool.{eqb-true, and_parts}
@@ -7,23 +8,23 @@ use Rattle.macsec_tag.specs.Tag.{bit_where, v_bit, es_bit, sc_bit, scb_bit, e_bi
 
 -- ---- tests by a table
 
--- the test holds of each number below n
+-- the test passes for each number below n
 abbrev pub all_below : (ℕ → Bool) → ℕ → Bool
 all_below test zero = true
 all_below test (suc n) = test n && all_below test n
 
--- what the table says of a number
+-- so it passes for one of them
 pub at_below : (test : ℕ → Bool) (n : ℕ) → all_below test n ≡ true → (k : ℕ) → k < n → test k ≡ true
 at_below test zero h k small = absurd (omega arith)
 at_below test (suc n) h k small =
     let parts = and_parts (test n) (all_below test n) h in
     elim (eqb_tells k n) [ inl same ↦ rw same.1 parts.0 | inr other ↦ at_below test n parts.1 k (omega (arith, other.1)) ]
 
--- the test holds of either truth value
+-- the test passes for true and for false
 abbrev pub of_either : (Bool → Bool) → Bool
 of_either test = test true && test false
 
--- what the table says of a truth value
+-- so it passes for one of them
 pub at_either : (test : Bool → Bool) → of_either test ≡ true → (b : Bool) → test b ≡ true
 at_either test h true = (and_parts (test true) (test false) h).0
 at_either test h false = (and_parts (test true) (test false) h).1
@@ -39,20 +40,20 @@ abbrev pub octet_of : Bool → Bool → Bool → Bool → Bool → ℕ → ℕ
 octet_of es sc scb e c an =
     bit_where es es_bit + bit_where sc sc_bit + bit_where scb scb_bit + bit_where e e_bit + bit_where c c_bit + an
 
--- the octet made again of its own bits, without V
+-- the octet rebuilt from its own bits, without V
 abbrev pub made_again : ℕ → ℕ
 made_again octet =
     octet_of (is_set es_bit octet) (is_set sc_bit octet) (is_set scb_bit octet) (is_set e_bit octet) (is_set c_bit octet) (bit_and octet 3)
 
--- V is set, or the octet is made again
+-- V is set, or the rebuilt octet is the octet
 abbrev pub is_made_again : ℕ → Bool
 is_made_again octet = is_set v_bit octet || made_again octet == octet
 
--- that holds of each octet
+-- that holds for each octet
 all_made_again : all_below is_made_again 256 ≡ true
 all_made_again = refl
 
--- an octet whose V is clear is the one of its bits
+-- an octet with V clear is the one rebuilt from its bits
 pub made_again_is : (octet : ℕ) → octet < 256 → is_set v_bit octet ≡ false → made_again octet ≡ octet
 made_again_is octet small clear =
     let here : is_made_again octet ≡ true = at_below is_made_again 256 all_made_again octet small in
@@ -65,18 +66,18 @@ abbrev pub is_same : Bool → Bool → Bool
 is_same true b = b
 is_same false b = not b
 
--- what that test says
+-- the test passes only if they are the same
 same_by : (a b : Bool) → is_same a b ≡ true → b ≡ a
 same_by true b h = h
 same_by false true h = cc
 same_by false false h = refl
 
--- what the negation says
+-- a negation that is true
 not_by : (b : Bool) → not b ≡ true → b ≡ false
 not_by true h = cc
 not_by false h = refl
 
--- the octet of these bits has V clear and these bits
+-- the octet of these bits has V clear and has these bits
 abbrev pub has_these : Bool → Bool → Bool → Bool → Bool → ℕ → Bool
 has_these es sc scb e c an =
     let octet = octet_of es sc scb e c an in
@@ -84,7 +85,7 @@ has_these es sc scb e c an =
     (is_same scb (is_set scb_bit octet) && (is_same e (is_set e_bit octet) && (is_same c (is_set c_bit octet) &&
     bit_and octet 3 == an)))))
 
--- that holds of all bits and numbers
+-- that holds for all bits and association numbers
 all_have_these : of_either (λ es. of_either (λ sc. of_either (λ scb. of_either (λ e. of_either (λ c. all_below (has_these es sc scb e c) 4))))) ≡ true
 all_have_these = refl
 

@@ -16,8 +16,8 @@ pub record MpduParts : Type 0 where
 abbrev pub in_a_row : MpduParts → List ℕ
 in_a_row p = p.da ++ p.sa ++ encoding p.tag ++ p.secure_data ++ p.icv ++ p.padding
 
--- the parts have the lengths that the SecTAG says: SL is the number of octets of Secure Data if that is under 48, and
--- else 0, and then nothing follows the ICV (9.7)
+-- the parts have the lengths that the SecTAG requires: SL is the number of octets of Secure Data if there are fewer
+-- than 48; otherwise it is 0, and nothing follows the ICV (9.7)
 pub record HasLengths (p : MpduParts) : Type 0 where
   pub da : length p.da ≡ 6
   pub sa : length p.sa ≡ 6
@@ -26,7 +26,7 @@ pub record HasLengths (p : MpduParts) : Type 0 where
   pub long : p.tag.sl ≡ 0 → 48 ≤ length p.secure_data
   pub no_padding : p.tag.sl ≡ 0 → p.padding ≡ []
 
--- the frame is tagged, with these parts
+-- the frame is tagged and has these parts
 pub record IsTagged (frame : List ℕ) (p : MpduParts) : Type 0 where
   pub row : frame ≡ in_a_row p
   pub tag : IsTag p.tag
@@ -36,7 +36,7 @@ pub record IsTagged (frame : List ℕ) (p : MpduParts) : Type 0 where
 abbrev pub has_macsec_ethertype : List ℕ → Bool
 has_macsec_ethertype frame = slice_index frame 12 == 0x88 && slice_index frame 13 == 0xe5
 
--- the frame is untagged: addresses and an EtherType, which is another
+-- the frame is untagged: it has addresses and another EtherType
 pub record IsUntagged (frame : List ℕ) : Type 0 where
   pub long : min_frame_len ≤ length frame
   pub ethertype : has_macsec_ethertype frame ≡ false

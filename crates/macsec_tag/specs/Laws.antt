@@ -13,16 +13,16 @@ AreOctets xs = All (λ x. x < 256) xs
 abbrev pub SpelledOnce : Tag → Tag → Type 0
 SpelledOnce t u = IsTag t → IsTag u → encoding t ≡ encoding u → t ≡ u
 
--- a frame has at most one reading: one list of parts, or none and another EtherType
+-- a frame has at most one reading: it is not tagged with two lists of parts, and not both tagged and untagged
 pub record OneReading (frame : List ℕ) : Type 0 where
   pub one : (p q : MpduParts) → IsTagged frame p → IsTagged frame q → p ≡ q
   pub not_both : (p : MpduParts) → IsTagged frame p → IsUntagged frame → ⊥
 
--- reading a frame that was assembled from parts gives those parts
+-- reading a frame assembled from parts gives those parts
 abbrev pub ReadAgain : MpduParts → Type 0
 ReadAgain p = IsTag p.tag → HasLengths p → reading (in_a_row p) ≡ tagged p
 
--- the table reads a list of octets as the grammar has it
+-- the table reads the frame as the grammar does
 pub record ReadsByGrammar (frame : List ℕ) : Type 0 where
   pub is_tagged : (p : MpduParts) → (reading frame ≡ tagged p) ↔ IsTagged frame p
   pub is_untagged : (reading frame ≡ untagged) ↔ IsUntagged frame

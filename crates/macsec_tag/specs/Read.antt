@@ -1,4 +1,4 @@
--- What the reader returns, as the table says it.
+-- The reader's result, as a reading of the table.
 use Rattle.macsec_tag.specs.declared.mpdu.Read.{Read}
 use Rattle.macsec_tag.specs.declared.mpdu.Read.TheVariants.{Untagged, Bad, Tagged}
 use Rattle.macsec_tag.specs.Table.{Reading, untagged, bad, tagged}

@@ -1,10 +1,10 @@
--- What the reader has tested before it cuts a frame into its parts.
+-- The tests that a frame has passed before the reader cuts it into its parts.
 use Rattle.std.specs.Prelude.{◌≡◌, ℕ, ◌+◌, ◌<◌, ◌≤◌, List, length, true, false, slice_index}
 use Rattle.macsec_tag.specs.Tag.{v_bit, es_bit, sc_bit, scb_bit}
 use Rattle.macsec_tag.specs.Frame.{has_macsec_ethertype}
 use Rattle.macsec_tag.specs.Table.{has_bit, tag_length_at, has_wrong_length}
 
--- the frame passes the tests of a tagged one
+-- the frame passes the tests of a tagged frame
 pub record StandsAsTagged (frame : List ℕ) : Type 0 where
   pub long : 20 ≤ length frame
   pub ethertype : has_macsec_ethertype frame ≡ true

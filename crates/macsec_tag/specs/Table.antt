@@ -1,4 +1,4 @@
--- How a frame reads, by the positions of its octets: its parts, or the first of its faults.
+-- The reading of a frame by the positions of its octets: its parts, or its first fault.
 use Rattle.std.specs.Prelude.{ℕ, ◌+◌, ◌-◌, List, length, take, drop, Bool, not, ◌&&◌, ◌||◌, ◌==◌, nat_lt, nat_le}
 use Rattle.std.specs.Prelude.{if◌then◌else◌, Option, Some, None, bit_and, slice_index, slice_range}
 use Rattle.std.specs.Int.{w32, from_be_bytes}
@@ -8,8 +8,7 @@ use Rattle.macsec_tag.specs.Tag.{Tag, v_bit, es_bit, sc_bit, scb_bit, e_bit, c_b
 use Rattle.macsec_tag.specs.Frame.{MpduParts, has_macsec_ethertype}
 use Rattle.macsec_tag.specs.Limits.{min_frame_len}
 
--- the positions of the octet of TCI and AN, of SL, of the first octets of PN and of the SCI, and of what follows the
--- SCI
+-- the positions of the octet of TCI and AN, of SL, of PN, of the SCI, and of the octets after the SCI
 abbrev pub tci_place : ℕ
 tci_place = 14
 
@@ -29,7 +28,7 @@ after_sci = 28
 abbrev pub has_bit : ℕ → List ℕ → Bool
 has_bit bit frame = not (bit_and (slice_index frame tci_place) bit == 0)
 
--- the SecTAG that the octets at its position say
+-- the SecTAG at its position in the frame
 abbrev pub sec_tag_at : List ℕ → Tag
 sec_tag_at frame = record {
   es = has_bit es_bit frame;
@@ -42,7 +41,7 @@ sec_tag_at frame = record {
   sci = if has_bit sc_bit frame then Some (record { 0 = slice_range frame sci_place after_sci }) else None;
 }
 
--- the octets of that SecTAG
+-- the length of that SecTAG in octets
 abbrev pub tag_length_at : List ℕ → ℕ
 tag_length_at frame = if has_bit sc_bit frame then 16 else 8
 
@@ -50,12 +49,12 @@ tag_length_at frame = if has_bit sc_bit frame then 16 else 8
 abbrev pub after_tag : List ℕ → List ℕ
 after_tag frame = drop (tag_length_at frame) (drop 12 frame)
 
--- how many of them are Secure Data
+-- the length in octets of the Secure Data
 abbrev pub data_length_at : List ℕ → ℕ
 data_length_at frame =
     if slice_index frame sl_place == 0 then length (after_tag frame) - 16 else slice_index frame sl_place
 
--- the parts by their positions
+-- the parts, by their positions
 abbrev pub parts_at : List ℕ → MpduParts
 parts_at frame =
     let rest = after_tag frame in let n = data_length_at frame in record {
@@ -67,7 +66,7 @@ parts_at frame =
       padding = drop 16 (drop n rest);
     }
 
--- there are fewer octets after the SecTAG than its SL requires
+-- fewer octets follow the SecTAG than its SL requires
 abbrev pub has_wrong_length : List ℕ → Bool
 has_wrong_length frame =
     if slice_index frame sl_place == 0 then nat_lt (length (after_tag frame)) 64
@@ -84,7 +83,7 @@ tag_fault frame =
     else if has_wrong_length frame then Some Length
     else None
 
--- how a frame reads
+-- the result of reading a frame
 pub data Reading : Type 0 where
   untagged : Reading
   bad : TagFault → Reading

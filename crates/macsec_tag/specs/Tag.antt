@@ -1,11 +1,11 @@
--- The SecTAG and its one encoding (IEEE 802.1AE, 9.3 to 9.9). Octets are a list of numbers.
+-- The SecTAG and its encoding (IEEE 802.1AE, 9.3 to 9.9). Octets are numbers in a list.
 use Rattle.std.specs.Prelude.{◌≡◌, ℕ, ◌+◌, ◌^◌, ◌<◌, List, [], ◌∷◌, ◌++◌, length, Bool, false, Option, Some, None, is_some, IsSome, if◌then◌else◌}
 use Rattle.std.specs.Option.{ForSome}
 use Rattle.std.specs.Int.{w32, to_be_bytes}
 use Rattle.macsec_tag.specs.declared.identifiers.Sci.{Sci}
 
--- what a SecTAG says: the bits ES, SCB, E and C, the association number, the short length, the 32 bits of the packet
--- number, and the SCI if it carries one
+-- the fields of a SecTAG: the bits ES, SCB, E and C, the association number, the short length, the 32 bits of the PN
+-- field, and the SCI if there is one
 pub record Tag : Type 0 where
   pub es : Bool
   pub scb : Bool
@@ -16,7 +16,7 @@ pub record Tag : Type 0 where
   pub pn : ℕ
   pub sci : Option Sci
 
--- the SecTAGs that there are: if there is an SCI, ES and SCB are clear (9.5)
+-- the valid SecTAGs: if there is an SCI, ES and SCB are clear (9.5)
 pub record IsTag (t : Tag) : Type 0 where
   pub an : t.an < 4
   pub sl : t.sl < 48
@@ -44,7 +44,7 @@ e_bit = 0x08
 abbrev pub c_bit : ℕ
 c_bit = 0x04
 
--- a bit if it is set, else 0
+-- the bit if it is set, otherwise 0
 abbrev pub bit_where : Bool → ℕ → ℕ
 bit_where b bit = if b then bit else 0
 

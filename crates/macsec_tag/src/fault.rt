@@ -1,26 +1,26 @@
-//! Why a frame has no reading.
+//! Faults of frames.
 
 ghost use Rattle.std.specs.Prelude.{◌≡◌, length};
 ghost use Rattle.macsec_tag.specs.FaultNumbers.{number_of_fault};
 
 use thiserror::Error;
 
-/// Why a frame is neither tagged nor untagged, in the order in which the reader tests.
+/// Why a frame is neither tagged nor untagged, in the order of the reader's tests.
 #[derive(Clone, Copy, PartialEq, Eq, Debug, Error)]
 pub enum TagFault {
-    /// There are too few octets for two addresses and an EtherType, or for a SecTAG.
+    /// There are too few octets for two addresses and an EtherType, or for the SecTAG.
     #[error("the frame ends before its SecTAG does")]
     Cut = 1,
     /// The version bit is set.
     #[error("the version bit is set")]
     Version = 2,
-    /// ES or SCB is set, and SC too.
+    /// SC is set, and so is ES or SCB.
     #[error("ES or SCB is set, and SC too")]
     SciBits = 3,
-    /// The first two bits of the octet of SL are not clear.
+    /// The first two bits of the SL octet are not clear.
     #[error("the octet of SL has more than six bits")]
     ShortBits = 4,
-    /// SL is 48 or more, or there are fewer octets after the SecTAG than it requires.
+    /// SL is 48 or more, or fewer octets follow the SecTAG than SL requires.
     #[error("the frame's length is not what SL says")]
     Length = 5,
 }

@@ -1,4 +1,4 @@
-//! The SCI and the association number: who sends, and under which of its associations.
+//! The SCI and the association number: who sends, and under which SA.
 
 ghost use Rattle.std.specs.Prelude.{◌≡◌, ◌<◌, ◌↔◌, ℕ, IsSome, IfSome};
 
@@ -8,7 +8,7 @@ use std::marker::Model;
 #[derive(Clone, Copy, PartialEq, Eq, Debug, Default)]
 pub struct Sci(pub [u8; 8]);
 
-/// How many association numbers there are, and so the most associations of a channel (9.6).
+/// The number of association numbers, which is also the number of SAs that an SC can have (9.6).
 pub const ASSOCIATION_COUNT: usize = 4;
 
 /// An association number, 0 to 3 (9.6).
@@ -26,7 +26,7 @@ impl Model for An {
 }
 
 impl An {
-    /// The association number `n`, or `None` for 4 and more.
+    /// Returns the association number `n`, or `None` if `n` is above 3.
     pub fn new(n: u8) -> Option<An>
         ensures valid { IsSome result ↔ (n < 4) }
         ensures value { IfSome result (λ an. an ≡ n) }

@@ -1,5 +1,5 @@
-//! Laws of the SecTAG and of the grammar of frames, of their definitions alone: each is the contract of a function with
-//! an empty body.
+//! Laws of the SecTAG and of the grammar of frames. They are about definitions only: each is the contract of a function
+//! with an empty body.
 
 ghost use Rattle.std.specs.Prelude.{ℕ, List};
 ghost use Rattle.macsec_tag.specs.Tag.{Tag};
@@ -16,12 +16,12 @@ pub fn one_reading()
     ensures { (frame : List ℕ) → OneReading frame }
 {}
 
-/// Reading a frame that was assembled from parts gives those parts.
+/// Reading a frame assembled from parts gives those parts.
 pub fn read_again()
     ensures { (p : MpduParts) → ReadAgain p }
 {}
 
-/// For every list of octets, the table of positions reads it as the grammar does.
+/// The table of positions reads every list of octets as the grammar does.
 pub fn reads_by_grammar()
     ensures { (frame : List ℕ) → AreOctets frame → ReadsByGrammar frame }
 {}

@@ -1,15 +1,15 @@
 //! The SecTAG and the grammar of MACsec frames (IEEE 802.1AE, clause 9): a reader that accepts exactly the frames of
-//! the grammar, and a writer of the one encoding of a SecTAG.
+//! the grammar, and a writer of SecTAGs, each of which has one encoding.
 //!
-//! Proved: `reading::read` returns the parts of a frame exactly when the grammar has them, untagged exactly when the
-//! grammar says so, and else the first fault of a table of positions (`docs/ENDPOINT.md`). The grammar says that a
-//! tagged frame *is* its parts concatenated. `write_tag` writes the encoding of a SecTAG, 8 or 16 octets, at the start
-//! of a slice of 16 octets or more (a condition on the caller), and leaves the rest. `An::new` and `SecTag::new` give a
-//! value exactly when there is such an association number or SecTAG. Each function that reads a `SecTag` or an `Mpdu`
+//! Proved: `reading::read` returns the parts of a frame exactly if the grammar has them, and untagged exactly if the
+//! grammar says so. Otherwise it returns the first fault of a table of positions (`docs/ENDPOINT.md`). The grammar says
+//! that a tagged frame *is* its parts concatenated. `write_tag` writes the encoding of a SecTAG, 8 or 16 octets, to the
+//! start of a slice and keeps the rest; it requires a slice of 16 octets or more. `An::new` and `SecTag::new` return a
+//! value exactly if there is such an association number or SecTAG. Each function that reads a `SecTag` or an `Mpdu`
 //! returns its field.
 //!
-//! Laws (`laws`): for every list of octets the table and the grammar agree, in both directions; a frame has at most one
-//! reading; reading a frame that was assembled from parts gives those parts; no two SecTAGs have one encoding.
+//! Laws (`laws`): the table and the grammar agree on every list of octets, in both directions; a frame has at most one
+//! reading; reading a frame assembled from parts gives those parts; no two SecTAGs have the same encoding.
 #![tactic(auto)]
 
 mod fault;

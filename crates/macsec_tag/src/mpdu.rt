@@ -1,4 +1,4 @@
-//! The parts of a frame, and how a frame reads.
+//! The parts of a frame, and the results of reading one.
 
 ghost use Rattle.std.specs.Prelude.{◌≡◌, ◌++◌, ◌<◌, length};
 ghost use Rattle.macsec_tag.specs.Tag.{encoding};
@@ -6,7 +6,7 @@ ghost use Rattle.macsec_tag.specs.Tag.{encoding};
 use crate::{SecTag, TagFault};
 use std::marker::Model;
 
-/// The parts of a tagged frame, which borrow from it.
+/// The parts of a tagged frame, borrowed from it.
 #[derive(Drop)]
 pub struct Mpdu<'a> {
     pub(crate) addresses: &'a [u8],
@@ -44,7 +44,7 @@ impl<'a> Model for Mpdu<'a> {
 }
 
 impl<'a> Mpdu<'a> {
-    /// The destination and the source address, of 6 octets each.
+    /// The destination and source addresses, 6 octets each.
     pub fn addresses(&self) -> &'a [u8]
         ensures octets { result.now ≡ self.now.da ++ self.now.sa }
         ensures da { length self.now.da ≡ 6 }
@@ -76,14 +76,14 @@ impl<'a> Mpdu<'a> {
         self.icv
     }
 
-    /// The octets after the ICV; none if SL is 0.
+    /// The octets after the ICV. There are none if SL is 0.
     pub fn padding(&self) -> &'a [u8]
         ensures { result.now ≡ self.now.padding }
     {
         self.padding
     }
 
-    /// What the SecTAG says.
+    /// The fields of the SecTAG.
     pub fn tag(&self) -> SecTag
         ensures { result ≡ self.now.tag }
     {
@@ -91,13 +91,13 @@ impl<'a> Mpdu<'a> {
     }
 }
 
-/// How a frame reads.
+/// The result of reading a frame.
 #[derive(Drop)]
 pub enum Read<'a> {
-    /// There is no SecTAG after the addresses.
+    /// No SecTAG follows the addresses.
     Untagged,
-    /// The frame has the MACsec EtherType or is too short, and this is its first fault.
+    /// The frame is too short, or it has the MACsec EtherType and a fault. This is its first fault.
     Bad(TagFault),
-    /// There is a SecTAG, and these are the frame's parts.
+    /// A SecTAG follows the addresses. These are the frame's parts.
     Tagged(Mpdu<'a>),
 }

@@ -1,4 +1,4 @@
-//! Reading a frame, by the positions of its octets.
+//! Reads frames by the positions of their octets.
 
 ghost use Rattle.std.specs.Prelude.{◌≡◌, ◌≤◌, ◌+◌, ◌↔◌, length, true};
 ghost use Rattle.macsec_tag.specs.Frame.{MpduParts, IsTagged, IsUntagged, has_macsec_ethertype};
@@ -11,19 +11,20 @@ use crate::sec_tag::{C_BIT, E_BIT, ES_BIT, MACSEC_ETHERTYPE, SC_BIT, SCB_BIT, V_
 use crate::{ADDRESSES_LENGTH, An, ICV_LENGTH, MIN_FRAME_LEN, Mpdu, Read, Sci, SecTag, TagFault};
 use byteorder::{BigEndian, ByteOrder};
 
-/// Reads a frame: its parts if it is tagged, `Untagged` if another EtherType follows its addresses, or its first fault.
+/// Reads a frame. Returns its parts if it is tagged, `Untagged` if another EtherType follows its addresses, and
+/// otherwise its first fault.
 pub fn read(frame: &[u8]) -> Read<'_>
-    // The parts are returned exactly when the grammar has them.
+    // The parts are returned exactly if the grammar has them.
     ensures is_tagged { (p : MpduParts) → (reading_of result ≡ tagged p) ↔ IsTagged frame.now p }
-    // Untagged is returned exactly when the grammar says so.
+    // `Untagged` is returned exactly if the grammar says so.
     ensures is_untagged { (reading_of result ≡ untagged) ↔ IsUntagged frame.now }
-    // In any other case the fault is the first one of the table.
+    // Otherwise the fault is the first one of the table.
     ensures table { reading_of result ≡ reading frame.now }
 {
     read_by_positions(frame)
 }
 
-/// Reads a frame as the table says.
+/// Reads a frame according to the table.
 fn read_by_positions(frame: &[u8]) -> Read<'_>
     ensures { reading_of result ≡ reading frame.now }
 {
@@ -39,7 +40,7 @@ fn read_by_positions(frame: &[u8]) -> Read<'_>
     }
 }
 
-/// Does the MACsec EtherType follow the addresses?
+/// Whether the MACsec EtherType follows the addresses.
 fn has_macsec_ethertype(frame: &[u8]) -> bool
     requires { 14 ≤ length frame.now }
     ensures { result ≡ has_macsec_ethertype frame.now }
@@ -75,7 +76,7 @@ fn fault_of(frame: &[u8]) -> Option<TagFault>
     None
 }
 
-/// The octets of the SecTAG.
+/// The length of the SecTAG in octets.
 fn tag_length(frame: &[u8]) -> usize
     requires { 20 ≤ length frame.now }
     ensures { result ≡ tag_length_at frame.now }
@@ -98,7 +99,7 @@ fn after_tag(frame: &[u8]) -> &[u8]
     rest
 }
 
-/// Are there fewer octets after the SecTAG than its SL requires?
+/// Whether fewer octets follow the SecTAG than its SL requires.
 fn is_wrong_length(frame: &[u8]) -> bool
     requires long { 20 ≤ length frame.now }
     requires tag { 12 + tag_length_at frame.now ≤ length frame.now }
@@ -132,7 +133,7 @@ fn parts_of(frame: &[u8]) -> Mpdu<'_>
     }
 }
 
-/// The number of octets of Secure Data of a tagged frame.
+/// The length in octets of the Secure Data of a tagged frame.
 fn data_length(frame: &[u8]) -> usize
     requires { StandsAsTagged frame.now }
     ensures value { result ≡ data_length_at frame.now }
@@ -163,7 +164,7 @@ fn sec_tag(frame: &[u8]) -> SecTag
     }
 }
 
-/// The SCI that the SecTAG of a tagged frame carries.
+/// The SCI of a tagged frame, if its SecTAG carries one.
 fn sci(frame: &[u8]) -> Option<Sci>
     requires { StandsAsTagged frame.now }
     ensures { result ≡ (sec_tag_at frame.now).sci }

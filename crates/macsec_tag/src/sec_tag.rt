@@ -1,4 +1,4 @@
-//! A SecTAG (IEEE 802.1AE, 9.3).
+//! SecTAGs (IEEE 802.1AE, 9.3).
 
 ghost use Rattle.std.specs.Prelude.{◌≡◌, ◌<◌, ◌↔◌, ◌⊎◌, length, IsSome, IfSome};
 ghost use Rattle.macsec_tag.specs.Tag.{IsTag, encoding, tag_from};
@@ -48,7 +48,8 @@ impl Model for SecTag {
 }
 
 impl SecTag {
-    /// The SecTAG with these fields; `None` if `sl` is over 47, or if ES or SCB is set and there is an SCI.
+    /// Returns the SecTAG with these fields. Returns `None` if `sl` is above 47, or if there is an SCI and ES or SCB is
+    /// set.
     pub fn new(
         es: bool,
         scb: bool,
@@ -78,7 +79,7 @@ impl SecTag {
         }
     }
 
-    /// ES: the source address is that of the SCI (9.5).
+    /// ES: the source address is the SCI's (9.5).
     pub fn es(&self) -> bool
         ensures { result ≡ self.now.es }
     {
@@ -120,7 +121,7 @@ impl SecTag {
         self.sl
     }
 
-    /// The 32 bits of the packet number (9.8).
+    /// The PN field: 32 bits of the packet number (9.8).
     pub fn pn(&self) -> u32
         ensures { result ≡ self.now.pn }
     {
@@ -134,7 +135,7 @@ impl SecTag {
         self.sci
     }
 
-    /// The number of octets of the SecTAG: 16 with an SCI, else 8.
+    /// The length of the SecTAG in octets: 16 with an SCI, otherwise 8.
     pub fn length(&self) -> usize
         ensures length { result ≡ length (encoding self.now) }
         ensures either { (result ≡ 8) ⊎ (result ≡ 16) }

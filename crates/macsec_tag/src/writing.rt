@@ -1,4 +1,4 @@
-//! Writing a SecTAG.
+//! Writes SecTAGs.
 
 ghost use Rattle.std.specs.Prelude.{◌≡◌, ◌≤◌, ◌++◌, length, drop};
 ghost use Rattle.macsec_tag.specs.Tag.{bit_where, encoding, tci_an};
@@ -8,8 +8,8 @@ use crate::sec_tag::{C_BIT, E_BIT, ES_BIT, MACSEC_ETHERTYPE, SC_BIT, SCB_BIT};
 use crate::{ADDRESSES_LENGTH, SecTag};
 use byteorder::{BigEndian, ByteOrder};
 
-/// Writes the 8 or 16 octets of the SecTAG at the start of `out`, leaves the rest, and returns how many they are; `out`
-/// has 16 octets or more (9.3).
+/// Writes a SecTAG of 8 or 16 octets to the start of `out` and keeps the rest (9.3). `out` has 16 octets or more.
+/// Returns the length of the SecTAG in octets.
 pub fn write_tag(tag: &SecTag, out: &mut [u8]) -> usize
     requires { 16 ≤ length out.old }
     ensures length { result ≡ length (encoding tag.now) }
@@ -28,7 +28,7 @@ pub fn write_tag(tag: &SecTag, out: &mut [u8]) -> usize
     }
 }
 
-/// The octet of TCI and AN; SC is set if the SecTAG carries the SCI (9.5, 9.6).
+/// The octet of TCI and AN. SC is set if the SecTAG carries the SCI (9.5, 9.6).
 fn tci_an(tag: &SecTag) -> u8
     ensures { result ≡ tci_an tag.now }
 {
@@ -40,7 +40,7 @@ fn tci_an(tag: &SecTag) -> u8
         + tag.an.number()
 }
 
-/// A bit if it is set, else 0.
+/// The bit if it is set, otherwise 0.
 fn bit_where(on: bool, bit: u8) -> u8
     ensures { result ≡ bit_where on bit }
 {

@@ -1,4 +1,4 @@
--- The fault is the first one of the table; these proofs are here for speed.
+-- The fault is the first one of the table. Written out for speed.
 use Rattle.std.proofs.Common.{arith, rules}
 use Rattle.std.proofs.lemmas.Grind.{common_steps}
 use Rattle.macsec_tag.proofs.reading.fault_of.Goals as goal

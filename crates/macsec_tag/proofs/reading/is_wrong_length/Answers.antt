@@ -1,5 +1,4 @@
--- The test of the length is that of the table: one goal if SL is 0, one if it is not.
--- By search; these proofs are here for speed.
+-- The length test is the table's; one goal if SL is 0, one if it is not. Proved by search; written out for speed.
 use Rattle.std.proofs.Common.{rules}
 use Rattle.macsec_tag.proofs.reading.is_wrong_length.Goals as goal
 

@@ -1,4 +1,4 @@
--- The parts are those by position, and have the lengths that the SecTAG says.
+-- The parts are the parts by position, and have the lengths that the SecTAG requires.
 use Rattle.std.proofs.Common.{sym, ◌∙◌, ap, subst}
 use Rattle.macsec_tag.specs.Tag.{encoding}
 use Rattle.macsec_tag.specs.Frame.{HasLengths}

@@ -1,4 +1,4 @@
--- Each return is what the table says; these proofs are here for speed.
+-- Each return is what the table says. Written out for speed.
 use Rattle.std.proofs.Common.{arith, ap, sym, ◌∙◌}
 use Rattle.std.specs.Prelude.{None, Some}
 use Rattle.macsec_tag.specs.Table.{tagged}

@@ -1,4 +1,4 @@
--- The SecTAG is the one at its position, and is one that there is; these proofs are here for speed.
+-- The SecTAG is the one at its position, and is valid. Written out for speed.
 use Rattle.std.proofs.Common.{arith, sym, subst}
 use Rattle.std.proofs.lemmas.Nat.{and_le_r}
 use Rattle.macsec_tag.specs.Tag.{IsTag}

@@ -1,4 +1,4 @@
--- The octets written are the encoding, one goal for each arm and clause; these proofs are here for speed.
+-- The octets written are the encoding; one goal for each arm and clause. Written out for speed.
 use Rattle.std.proofs.Common.{arith}
 use Rattle.std.proofs.lemmas.Grind.{common_steps}
 use Rattle.macsec_tag.proofs.writing.write_tag.Goals as goal
