@@ -268,7 +268,8 @@ impl RxChannels {
         Ok(())
     }
 
-    /// Narrows the lowest acceptable packet number of every SA to the replay window.
+    /// Narrows every SA to the replay window: raises its lowest acceptable packet number to its next one minus `window`,
+    /// if it is lower.
     pub fn narrow(&mut self, window: u64)
         ensures narrowed { self.new ≡ channels_narrowed self.old window }
         ensures channels { AreChannels self.new }

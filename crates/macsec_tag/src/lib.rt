@@ -1,5 +1,5 @@
 //! The SecTAG and the grammar of MACsec frames (IEEE 802.1AE, clause 9): a reader that accepts exactly the frames of
-//! the grammar, and a writer of SecTAGs, each of which has one encoding.
+//! the grammar, and a writer of SecTAGs. Each SecTAG has one encoding.
 //!
 //! Proved: `reading::read` returns the parts of a frame exactly if the grammar has them, and untagged exactly if the
 //! grammar says so. Otherwise it returns the first fault of a table of positions (`docs/ENDPOINT.md`). The grammar says
