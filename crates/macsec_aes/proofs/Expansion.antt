@@ -11,7 +11,7 @@ use Rattle.macsec_aes.specs.Aes.{after_rounds, add_round_key, mix_columns, shift
 
 -- ---- reading a schedule
 
--- a word of the schedule is at its position
+-- a word of the schedule is at its index
 pub schedule_word : (words : List (List ℕ)) (rounds i : ℕ) → IsSchedule words rounds → i < 4 * (rounds + 1) → word words i ≡ word (schedule_of (key_of words rounds)) i
 schedule_word words rounds i s lt =
     sym (get_or-take (4 * (rounds + 1)) words i [] lt) ∙ ap (λ (ws : List (List ℕ)). word ws i) s.expanded
@@ -50,7 +50,7 @@ words_of_more key words i w lt held e =
 length-words_of : (key : List ℕ) (n : ℕ) → length (words_of key n) ≡ n
 length-words_of key n = length-map-range_with_len (λ i. take 4 (drop (4 * i) key)) 0 n
 
--- the words of a key, joined again
+-- joining the words of a key gives its bytes
 pub concat-words_of : (key : List ℕ) (n : ℕ) → 4 * n ≤ length key → concat (words_of key n) ≡ take (4 * n) key
 concat-words_of key zero h = refl
 concat-words_of key (suc n) h =
@@ -63,9 +63,9 @@ concat-words_of key (suc n) h =
     ∙ sym (take-add (4 * n) 4 key)
     ∙ ap (λ (m : ℕ). take m key) (let e : 4 * n + 4 ≡ 4 * suc n = omega arith in e)
 
--- ---- the key_expansion
+-- ---- the key expansion
 
--- one word more
+-- one more word
 pub expansion_next : (key : List ℕ) (m : ℕ) → key_expansion key (m + 1) ≡ key_expansion key m
     ++ sum_of_words (word (key_expansion key m) m) (added_word (length key / 4) (length key / 4 + m) (word (key_expansion key m) (length key / 4 + m - 1))) ∷ []
 unfolding key_expansion
@@ -102,7 +102,7 @@ length-expansion key (suc m) =
     let next = sum_of_words (word words m) (added_word n (n + m) (word words (n + m - 1))) in
     omega (arith, length-append words (next ∷ []), length-expansion key m)
 
--- the words of the key stay first
+-- the words of the key come first
 pub expansion_first : (key : List ℕ) (m : ℕ) → take (length key / 4) (key_expansion key m) ≡ words_of key (length key / 4)
 unfolding key_expansion key_words
 expansion_first key zero = take_all (length key / 4) (words_of key (length key / 4)) (omega (arith, length-words_of key (length key / 4)))
@@ -110,7 +110,7 @@ expansion_first key (suc m) =
     let long : length key / 4 ≤ length (key_expansion key m) = omega (arith, length-expansion key m) in
     take-append-le (length key / 4) (key_expansion key m) _ long ∙ expansion_first key m
 
--- what a schedule that is made from a key holds
+-- the invariant of a schedule that is made from a key
 pub schedule_made : (key : List ℕ) (words : List (List ℕ)) (rounds : ℕ) → (length key ≡ 16) ⊎ (length key ≡ 32) → rounds ≡ length key / 4 + 6
     → take (4 * (rounds + 1)) words ≡ key_expansion key (4 * (rounds + 1) - length key / 4) → (key_of words rounds ≡ key) × IsSchedule words rounds
 schedule_made key words rounds sized er held =

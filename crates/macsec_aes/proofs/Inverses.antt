@@ -1,4 +1,4 @@
--- Inverses of bytes, by a table of them: that each of its entries is one is computed over the bytes with one bit.
+-- Inverses of bytes, from a table. That its entries are inverses is computed over the bytes with one bit set.
 use Rattle.std.proofs.Common.{◌≡◌, ℕ, zero, suc, ◌+◌, ◌-◌, ◌%◌, ◌^◌, ◌<◌, true, false, inl, inr, Option, None, Some}
 use Rattle.std.proofs.Common.{List, [], ◌∷◌, map, length, get_or, unwrap_or, refl, sym, subst, ap, ◌∙◌, arith}
 use Rattle.std.specs.Prelude.{◌==◌, Bool, position}
@@ -58,7 +58,7 @@ product_with_entry : (a : ℕ) → a < 255 → byte_product (a + 1) (entry (a + 
 unfolding byte_product polynomial_product remainder sum_below entry entries
 product_with_entry = same_below (λ a. byte_product (a + 1) (entry (a + 1))) (λ a. 1) 255 refl
 
--- the bytes with one bit, multiplied by a byte and then by another
+-- the bytes with one bit set, multiplied by a, then by b
 abbrev products_of_ones : ℕ → ℕ → List ℕ
 products_of_ones b a = map (λ k. byte_product b (byte_product a (2 ^ k))) (range_with_len 0 8)
 
@@ -75,7 +75,7 @@ one_restored a k la lk =
     ∙ get_or-map-range_with_len (λ a. map (λ k. 2 ^ k) (range_with_len 0 8)) 0 255 a a [] la (omega arith))
     ∙ get_or-map-range_with_len (λ k. 2 ^ k) 0 8 k k 0 lk (omega arith)
 
--- to multiply by a byte other than 0 and then by its entry changes nothing
+-- multiplying by a byte other than 0 and then by its entry changes nothing
 restored : (a b : ℕ) → a < 255 → b < 256 → byte_product (entry (a + 1)) (byte_product (a + 1) b) ≡ b
 restored a b la lb =
     let n = entry (a + 1) in
@@ -84,7 +84,7 @@ restored a b la lb =
     (record { adds = λ b c. refl })
     8 (λ k lk. one_restored a k la lk) b lb
 
--- no other byte than its entry has the product 1 with a byte
+-- only its entry gives the product 1 with a byte
 only_entry : (a b : ℕ) → a < 255 → b < 256 → byte_product (a + 1) b ≡ 1 → b ≡ entry (a + 1)
 only_entry a b la lb e =
     let n = entry (a + 1) in
@@ -121,7 +121,7 @@ entry_of_next a la =
     here : entry (a + 1) < 256 → (byte_product (a + 1) (get_or (range_with_len 0 256) (entry (a + 1)) 0) == 1) ≡ true
     here small = rw (at_index (entry (a + 1)) small, product_with_entry a la) refl
 
--- no byte has the product 1 with 0
+-- no byte gives the product 1 with 0
 inverse_of_0 : inverse 0 ≡ entry 0
 unfolding byte_product polynomial_product remainder sum_below inverse entry entries
 inverse_of_0 = refl

@@ -1,4 +1,4 @@
--- The product of bytes keeps sums in its second place.
+-- The product of bytes is additive in its second factor.
 use Rattle.std.proofs.Common.{◌≡◌, ℕ, zero, suc, ◌+◌, ◌*◌, ◌/◌, ◌%◌, ◌^◌, ◌<◌, ◌⊎◌, inl, inr, bit_xor, refl, sym, ap, ◌∙◌, arith}
 use Rattle.std.specs.Int.{bit_at}
 use Rattle.std.specs.Int.Bits.{xor_zero_r, xor_zero_l, xor_assoc, xor_self}
@@ -8,7 +8,7 @@ use Rattle.std.proofs.Math.Nat.{mul_comm}
 use Rattle.std.proofs.lemmas.Grind.{pow_more}
 use Rattle.macsec_aes.specs.Field.{sum_below, polynomial_product, remainder, byte_product, modulus}
 
--- f keeps sums
+-- f is additive
 pub record IsAdditive (f : ℕ → ℕ) : Type 0 where
   pub adds : (a b : ℕ) → f (bit_xor a b) ≡ bit_xor (f a) (f b)
 
@@ -44,7 +44,7 @@ zero_times x = omega arith
 one_times : (x : ℕ) → 1 * x ≡ x
 one_times x = omega arith
 
--- one bit more on top
+-- one more bit on top
 xor_top : (n r : ℕ) → r < 2 ^ n → bit_xor r (2 ^ n) ≡ 2 ^ n + r
 xor_top n r lt =
     let block = xor_block n 0 1 r 0 lt (pow_pos n) in
@@ -53,7 +53,7 @@ xor_top n r lt =
     let block' = rw (z1, z2, xor_zero_r r) at block in
     omega (arith, block')
 
--- functions that keep sums and agree at each byte with one bit agree
+-- additive functions that agree on each byte with one bit set agree
 pub same_from_ones : (f g : ℕ → ℕ) → IsAdditive f → IsAdditive g → (n : ℕ) → ((k : ℕ) → k < n → f (2 ^ k) ≡ g (2 ^ k)) → (y : ℕ) → y < 2 ^ n → f y ≡ g y
 same_from_ones f g hf hg zero e y lt =
     let none : y ≡ 0 = omega arith in
@@ -77,9 +77,9 @@ same_from_ones f g hf hg (suc n) e y lt =
           ∙ ap (bit_xor (g r)) (e n (omega arith)) ∙ sym (hg.adds r (2 ^ n)) ∙ ap g (sym same)
     ]
 
--- ---- the product keeps sums
+-- ---- the product is additive
 
--- a sum with one place added below
+-- a sum shifted left by n bits
 xor_scaled : (n p q : ℕ) → bit_xor p q * 2 ^ n ≡ bit_xor (p * 2 ^ n) (q * 2 ^ n)
 xor_scaled n p q =
     let z1 : p * 2 ^ n + 0 ≡ p * 2 ^ n = omega arith in

@@ -1,4 +1,4 @@
--- The table of the S-box in the code, by the table of inverses.
+-- The S-box table of the code is the S-box, by the table of inverses.
 use Rattle.std.proofs.Common.{◌≡◌, ℕ, ◌<◌, map, get_or, refl, sym, ap, ◌∙◌}
 use Rattle.std.proofs.lemmas.List.FromFn.{fill_by_all}
 use Rattle.std.specs.List.{range_with_len}

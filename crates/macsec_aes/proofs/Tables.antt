@@ -1,4 +1,4 @@
--- The tables of the code and the products by 02 and 03, by computation over all bytes.
+-- The tables of the code, and the products with 02 and 03, computed over all bytes.
 use Rattle.std.proofs.Common.{sym, ◌*◌, ◌/◌, ◌%◌, ◌^◌, bit_xor, ◌≡◌, ℕ, ◌<◌, List, map, get_or, refl, ap, ◌∙◌, rules}
 use Rattle.std.proofs.lemmas.List.FromFn.{get_or-map-range_with_len}
 use Rattle.std.specs.Fn.{iterate}

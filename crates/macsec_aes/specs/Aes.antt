@@ -1,5 +1,5 @@
--- The cipher of FIPS 197, with section numbers of that standard. A block, a word and a key are
--- lists of bytes: a block has 16, a word 4, a key 16 or 32.
+-- The cipher of FIPS 197, with section numbers of that standard. Blocks, words and keys are lists of bytes: a block has
+-- 16, a word 4, a key 16 or 32.
 use Rattle.std.specs.Prelude.{ℕ, zero, suc, ◌+◌, ◌-◌, ◌*◌, ◌/◌, ◌%◌, ◌==◌, ◌&&◌, List, [], ◌∷◌, ◌++◌, length, map, take, drop, bit_xor, slice_index, slice_index_or, if◌then◌else◌}
 use Rattle.std.specs.Fn.{iterate}
 use Rattle.std.specs.List.{range_with_len}
@@ -7,8 +7,7 @@ use Rattle.macsec_aes.specs.Field.{byte_product, s_box}
 
 -- ---- the state
 
--- the state is a table of four rows and four columns, kept column by column (3.4):
--- its entry at row r and column c
+-- the entry at row r and column c of the state, a table of four rows and four columns, kept column by column (3.4)
 abbrev pub entry : List ℕ → ℕ → ℕ → ℕ
 entry s r c = slice_index s (r + 4 * c)
 
@@ -24,8 +23,7 @@ sub_bytes s = table (λ r c. s_box (entry s r c))
 unfoldable pub shift_rows : List ℕ → List ℕ
 shift_rows s = table (λ r c. entry s r ((c + r) % 4))
 
--- a row of the circulant matrix whose first row is 02 03 01 01, times a column: the entry at
--- row r and column c (5.1.3)
+-- the entry at row r and column c of a column times the circulant matrix whose first row is 02 03 01 01 (5.1.3)
 abbrev pub mixed_entry : List ℕ → ℕ → ℕ → ℕ
 mixed_entry s r c = bit_xor (bit_xor (bit_xor
     (byte_product 2 (entry s r c)) (byte_product 3 (entry s ((r + 1) % 4) c)))
@@ -35,8 +33,7 @@ mixed_entry s r c = bit_xor (bit_xor (bit_xor
 unfoldable pub mix_columns : List ℕ → List ℕ
 mix_columns s = table (mixed_entry s)
 
--- AddRoundKey: each byte is added to that of the round key, whose words are the columns of a
--- state (5.1.4)
+-- AddRoundKey: each byte is added to the round key's byte; the words of the round key are columns of a state (5.1.4)
 unfoldable pub add_round_key : List ℕ → List ℕ → List ℕ
 add_round_key s k = table (λ r c. bit_xor (entry s r c) (entry k r c))
 
@@ -54,7 +51,7 @@ rot_word w = map (λ r. slice_index w ((r + 1) % 4)) (range_with_len 0 4)
 unfoldable pub sub_word : List ℕ → List ℕ
 sub_word w = map (λ r. s_box (slice_index w r)) (range_with_len 0 4)
 
--- Rcon: the round constant j, from 1, is x^(j - 1) and three zeros
+-- Rcon: the round constant j, from 1, is x^(j - 1) followed by three zeros
 abbrev pub round_constant : ℕ → List ℕ
 round_constant j = iterate (byte_product 2) (j - 1) 1 ∷ 0 ∷ 0 ∷ 0 ∷ []
 
@@ -62,7 +59,7 @@ round_constant j = iterate (byte_product 2) (j - 1) 1 ∷ 0 ∷ 0 ∷ 0 ∷ []
 abbrev pub word : List (List ℕ) → ℕ → List ℕ
 word ws i = slice_index_or ws i []
 
--- what is added to word i - n of a key of n words, where last is word i - 1
+-- the word added to word i - n to give word i, for a key of n words; last is word i - 1
 unfoldable pub added_word : ℕ → ℕ → List ℕ → List ℕ
 added_word n i last =
     if i % n == 0 then sum_of_words (sub_word (rot_word last)) (round_constant (i / n))
@@ -72,8 +69,8 @@ added_word n i last =
 unfoldable pub key_words : List ℕ → List (List ℕ)
 key_words key = map (λ i. take 4 (drop (4 * i) key)) (range_with_len 0 (length key / 4))
 
--- the words of a key, and m words more: each is the sum of the word n places before it, where n
--- is the number of words of the key, and of what is added to that
+-- the words of a key, and m words more; each is the sum of the word n before it and of `added_word`, where n is the
+-- number of words of the key
 unfoldable pub key_expansion : List ℕ → ℕ → List (List ℕ)
 key_expansion key zero = key_words key
 key_expansion key (suc m) =
@@ -85,11 +82,11 @@ key_expansion key (suc m) =
 abbrev pub rounds_of : List ℕ → ℕ
 rounds_of key = length key / 4 + 6
 
--- the words of the key schedule: four for each round, and four before the first
+-- the words of the key schedule: four before the first round, and four for each round
 abbrev pub schedule_of : List ℕ → List (List ℕ)
 schedule_of key = key_expansion key (4 * (rounds_of key + 1) - length key / 4)
 
--- the round key r of a list of words, as the columns of a state
+-- round key r of a list of words, as the columns of a state
 unfoldable pub round_key : List (List ℕ) → ℕ → List ℕ
 round_key ws r = table (λ row column. slice_index (word ws (4 * r + column)) row)
 
@@ -101,7 +98,7 @@ after_rounds ws block zero = add_round_key block (round_key ws 0)
 after_rounds ws block (suc r) =
     add_round_key (mix_columns (shift_rows (sub_bytes (after_rounds ws block r)))) (round_key ws (suc r))
 
--- AES of a block under a key of 16 or 32 bytes: the last round has no MixColumns
+-- AES of a block under a key of 16 or 32 bytes; the last round has no MixColumns
 unfoldable pub aes : List ℕ → List ℕ → List ℕ
 aes key block =
     let ws = schedule_of key in

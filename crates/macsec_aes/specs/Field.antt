@@ -1,5 +1,5 @@
--- The field of bytes (FIPS 197, section 4). A byte is a polynomial over GF(2): bit i is the
--- coefficient of x^i. The sum of two bytes is their bitwise exclusive or (4.1).
+-- The field of bytes (FIPS 197, section 4). A byte is a polynomial over GF(2): bit i is the coefficient of x^i. The sum
+-- of two bytes is their bitwise exclusive or (4.1).
 use Rattle.std.specs.Prelude.{ℕ, zero, suc, ◌+◌, ◌*◌, ◌%◌, ◌^◌, ◌==◌, bit_xor, position, unwrap_or}
 use Rattle.std.specs.Int.{bit_at}
 use Rattle.std.specs.List.{range_with_len}
@@ -17,20 +17,20 @@ polynomial_product a b = sum_below 8 (λ i. bit_at a i * b * 2 ^ i)
 abbrev pub modulus : ℕ
 modulus = 0x11b
 
--- what long division of p, of degree below 8 + n, by the modulus leaves
+-- the remainder of p, of degree below 8 + n, after long division by the modulus
 unfoldable pub remainder : ℕ → ℕ → ℕ
 remainder zero p = p
 remainder (suc n) p = remainder n (bit_xor p (bit_at p (8 + n) * modulus * 2 ^ n))
 
--- the product of two bytes: that of the polynomials modulo the modulus (4.2)
+-- the product of two bytes: the product of the polynomials modulo the modulus (4.2)
 unfoldable pub byte_product : ℕ → ℕ → ℕ
 byte_product a b = remainder 7 (polynomial_product a b)
 
--- the byte whose product with a is 1, and 0 where there is none
+-- the byte whose product with a is 1, or 0 if there is none
 unfoldable pub inverse : ℕ → ℕ
 inverse a = unwrap_or (position (λ b. byte_product a b == 1) (range_with_len 0 256)) 0
 
--- bit i of a byte, places taken modulo 8
+-- bit i of a byte, with i taken modulo 8
 abbrev pub bit : ℕ → ℕ → ℕ
 bit b i = bit_at b (i % 8)
 

@@ -1,9 +1,9 @@
--- What a schedule keeps: the words of the key expansion, and the number of rounds.
+-- The invariant of a schedule: the words of the key expansion, and the number of rounds.
 use Rattle.std.specs.Prelude.{◌≡◌, ℕ, ◌+◌, ◌-◌, ◌*◌, List, length, take, ◌⊎◌}
 use Rattle.std.specs.List.{concat}
 use Rattle.macsec_aes.specs.Aes.{schedule_of}
 
--- the key whose schedule the words are, with this many rounds
+-- the key of a schedule with these words and this number of rounds
 abbrev pub key_of : List (List ℕ) → ℕ → List ℕ
 key_of words rounds = concat (take (rounds - 6) words)
 

@@ -1,12 +1,12 @@
 //! AES, the block cipher of FIPS 197, for keys of 128 and 256 bits, one block of 16 bytes at a time.
 //!
-//! Proved: `encrypt` after `Schedule::expand` is AES of FIPS 197, for both lengths of keys and every block. Contracts
-//! see a `Schedule` as its key's bytes, so no schedule of another key can stand in its place. `sub` is the S-box: the
-//! affine transformation of the inverse, which is the byte whose product with the given one is 1 (0 for 0). The law
-//! `laws::one_inverse` says that each byte but 0 has exactly one such byte.
+//! Proved: `encrypt` after `Schedule::expand` is AES of FIPS 197, for both key lengths and every block. Contracts see a
+//! `Schedule` as its key's bytes, so a schedule of another key cannot take its place. `sub` is the S-box: the affine
+//! transformation of the inverse. The inverse is the byte whose product with the given one is 1, and 0 for 0. The law
+//! `laws::one_inverse` says that each byte but 0 has exactly one inverse.
 //!
-//! `Schedule::round_key` wants a round that the key has. No contract speaks of time. `encrypt` and `Schedule::expand`
-//! look the S-box up in a table.
+//! `Schedule::round_key` requires a round that the key has. No contract is about time: `encrypt` and `Schedule::expand`
+//! look up the S-box in a table.
 #![tactic(auto)]
 
 ghost use Rattle.std.specs.Prelude.{◌≡◌, ◌+◌, ◌*◌, ◌/◌, ◌%◌, ◌<◌, ◌≤◌, ◌⊎◌, length, bit_xor, slice_index};
@@ -27,11 +27,11 @@ pub enum Key {
     K256([u8; 32]),
 }
 
-/// The words of the longest schedule, that of a key of 256 bits.
+/// The words of the longest schedule, the one for 256-bit keys.
 const MAX_WORDS: usize = 60;
 
-/// The key schedule of a key (FIPS 197, 5.2): 11 round keys for a key of 128 bits, 15 for one of 256.
-/// Contracts see it as the bytes of the key.
+/// The key schedule of a key (FIPS 197, 5.2): 11 round keys for a 128-bit key, 15 for a 256-bit key. Contracts see it
+/// as the bytes of the key.
 #[derive(Drop)]
 pub struct Schedule {
     words: [[u8; 4]; MAX_WORDS],
@@ -50,7 +50,7 @@ impl Model for Schedule {
 }
 
 impl Schedule {
-    /// The schedule of a key: KeyExpansion (FIPS 197, 5.2).
+    /// Expands a key: KeyExpansion (FIPS 197, 5.2).
     pub fn expand(key: &Key) -> Schedule
         ensures { result ≡ key_bytes key.now }
     {
@@ -60,15 +60,15 @@ impl Schedule {
         }
     }
 
-    /// How many rounds the cipher has: 10 or 14.
+    /// The number of rounds: 10 or 14.
     pub fn rounds(&self) -> usize
         ensures { result ≡ rounds_of self.now }
     {
         self.rounds
     }
 
-    /// The round key of a round from 1, or at 0 the one that is added before the first round: four
-    /// words, as the columns of a state.
+    /// The round key of a round, from 1. Round 0 is the round key added before the first round. Its four words are the
+    /// columns of a state.
     pub fn round_key(&self, round: usize) -> [u8; 16]
         requires { round ≤ rounds_of self.now }
         ensures { result ≡ round_key (schedule_of self.now) round }
@@ -84,7 +84,7 @@ impl Schedule {
     }
 }
 
-/// The schedule of a key of 16 or 32 bytes.
+/// Expands a key of 16 or 32 bytes.
 fn expand_bytes(key: &[u8]) -> Schedule
     requires { (length key.now ≡ 16) ⊎ (length key.now ≡ 32) }
     ensures { result ≡ key.now }
@@ -108,14 +108,14 @@ fn sum_of_words(v: [u8; 4], w: [u8; 4]) -> [u8; 4]
     [v[0] ^ w[0], v[1] ^ w[1], v[2] ^ w[2], v[3] ^ w[3]]
 }
 
-/// SubWord: the S-box at each byte of a word.
+/// SubWord: applies the S-box to each byte of a word.
 fn sub_word(w: [u8; 4]) -> [u8; 4]
     ensures { result ≡ sub_word w }
 {
     [sub(w[0]), sub(w[1]), sub(w[2]), sub(w[3])]
 }
 
-/// What is added to the word `key_words` places before word `i`; `last` is the word before it.
+/// The word added to word `i - key_words` to give word `i`. `last` is word `i - 1`.
 #[tactic(auto, unfolding(crate::specs::Aes::added_word))]
 fn added_word(key_words: usize, i: usize, last: [u8; 4]) -> [u8; 4]
     requires words { (key_words ≡ 4) ⊎ (key_words ≡ 8) }
@@ -135,7 +135,7 @@ fn added_word(key_words: usize, i: usize, last: [u8; 4]) -> [u8; 4]
     }
 }
 
-/// The S-box at each byte (FIPS 197, 5.1.1).
+/// The S-box of each byte (FIPS 197, 5.1.1).
 const S_BOX: [u8; 256] = [
     0x63, 0x7c, 0x77, 0x7b, 0xf2, 0x6b, 0x6f, 0xc5, 0x30, 0x01, 0x67, 0x2b, 0xfe, 0xd7, 0xab, 0x76,
     0xca, 0x82, 0xc9, 0x7d, 0xfa, 0x59, 0x47, 0xf0, 0xad, 0xd4, 0xa2, 0xaf, 0x9c, 0xa4, 0x72, 0xc0,
@@ -155,46 +155,46 @@ const S_BOX: [u8; 256] = [
     0x8c, 0xa1, 0x89, 0x0d, 0xbf, 0xe6, 0x42, 0x68, 0x41, 0x99, 0x2d, 0x0f, 0xb0, 0x54, 0xbb, 0x16,
 ];
 
-/// The S-box at a byte (FIPS 197, 5.1.1): the affine transformation of its inverse in the field of bytes (4.2), 0 for
-/// 0.
+/// The S-box (FIPS 197, 5.1.1): the affine transformation of the byte's inverse in the field of bytes (4.2), or of 0
+/// for 0.
 pub fn sub(a: u8) -> u8
     ensures { result ≡ s_box a }
 {
     S_BOX[a as usize]
 }
 
-/// The powers of x from 1 on: the first bytes of the round constants (FIPS 197, 5.2).
+/// The first bytes of the round constants: the powers of x from x^0 (FIPS 197, 5.2).
 const ROUND_CONSTANTS: [u8; 10] = [0x01, 0x02, 0x04, 0x08, 0x10, 0x20, 0x40, 0x80, 0x1b, 0x36];
 
-/// SubBytes (FIPS 197, 5.1.1): the S-box at each byte of a state.
+/// SubBytes (FIPS 197, 5.1.1): applies the S-box to each byte of a state.
 fn sub_bytes(state: [u8; 16]) -> [u8; 16]
     ensures { result ≡ sub_bytes state }
 {
     array::from_fn(|k| sub(state[k]))
 }
 
-/// ShiftRows (FIPS 197, 5.1.2): row r of a state is rotated left by r places.
+/// ShiftRows (FIPS 197, 5.1.2): rotates row r of a state left by r bytes.
 fn shift_rows(state: [u8; 16]) -> [u8; 16]
     ensures { result ≡ shift_rows state }
 {
     array::from_fn(|k| state[(k + k % 4 * 4) % 16])
 }
 
-/// A byte multiplied by 02 in the field, which is x (FIPS 197, 4.2).
+/// A byte times 02 in the field of bytes, which is x (FIPS 197, 4.2).
 fn double(a: u8) -> u8
     ensures { result ≡ byte_product 2 a }
 {
     (a << 1) ^ ((a >> 7) * 0x1b)
 }
 
-/// A byte multiplied by 03 in the field, which is x + 1 (FIPS 197, 4.2).
+/// A byte times 03 in the field of bytes, which is x + 1 (FIPS 197, 4.2).
 fn triple(a: u8) -> u8
     ensures { result ≡ byte_product 3 a }
 {
     double(a) ^ a
 }
 
-/// MixColumns (FIPS 197, 5.1.3): each column of a state is multiplied by the matrix.
+/// MixColumns (FIPS 197, 5.1.3): multiplies each column of a state by the matrix.
 fn mix_columns(state: [u8; 16]) -> [u8; 16]
     ensures { result ≡ mix_columns state }
 {
@@ -231,7 +231,7 @@ fn full_round(state: [u8; 16], key: [u8; 16]) -> [u8; 16]
     add_round_key(mix_columns(shift_rows(sub_bytes(state))), key)
 }
 
-/// The last round, which has no MixColumns.
+/// The last round, without MixColumns.
 fn last_round(state: [u8; 16], key: [u8; 16]) -> [u8; 16]
     ensures { result ≡ add_round_key (shift_rows (sub_bytes state)) key }
 {

@@ -1,5 +1,5 @@
--- The state after each round is that of the definition, and the block after the last round is `aes`.
--- By the loop's invariant: one round more is one step more of `after_rounds`.
+-- The state after each round is as defined, and the block after the last round is `aes`. Proved from the loop's
+-- invariant: one more round is one more step of `after_rounds`.
 use Rattle.std.proofs.Common.{◌≡◌, ◌+◌, ◌-◌, arith, rules, sym, refl}
 use Rattle.macsec_aes.specs.Aes.{aes, after_rounds, schedule_of}
 use Rattle.macsec_aes.proofs.Expansion.{after_rounds_next}

@@ -1,5 +1,5 @@
--- An inverse is a byte, and it is the only one: both clauses of the law.
--- By the lemmas of `Inverses`, which are computed over all bytes.
+-- An inverse is a byte, and it is the only one. Proved from the lemmas of `Inverses`, which are computed over all
+-- bytes.
 use Rattle.macsec_aes.proofs.Inverses.{inverse_is_byte, one_inverse}
 use Rattle.macsec_aes.proofs.laws.one_inverse.Goals as goal
 
