@@ -1,24 +1,24 @@
 //! Packet numbers (IEEE 802.1AE, 10.5 and 10.6).
 //!
-//! Proved: `TxNumbers::take` returns the next packet number and adds one to it, or, if all up to the last are used,
-//! returns none and changes nothing. Of `RxNumbers`: when a number is late; what accepting, raising and narrowing make
-//! of the numbers (raising is to one that is not below the lowest acceptable: a condition on the caller); and which
-//! number a frame has. That is the PN of its SecTAG, or, if packet numbers are extended, the one that the rule of
-//! recovery gives (`recovered_number`), or none. So every number from 1 to 2^64 - 1 that is the lowest acceptable one
-//! or less than 2^31 above it is recovered from its lower half.
+//! Proved: `TxNumbers::take` returns the next packet number and adds one to it. If all numbers up to the last are used,
+//! it returns none and changes nothing. For `RxNumbers`: when a number is late; the effect of accepting, raising and
+//! narrowing (`raise` requires a number that is not below the lowest acceptable one); and the packet number of a frame.
+//! That is the PN of its SecTAG. With extended packet numbers it is what the recovery rule gives (`recovered_number`),
+//! or none. So every number from 1 to 2^64 - 1 that is the lowest acceptable one, or less than 2^31 above it, is
+//! recovered from its lower half.
 #![tactic(auto)]
 
 ghost use Rattle.std.specs.Prelude.{◌≡◌, ◌+◌, ◌%◌, ◌^◌, ◌<◌, ◌≤◌, ℕ, true, IfNone, OnSome, Some, SomeIff};
 ghost use Rattle.macsec_pn.specs.Numbers.{accept, is_late, narrow, raise, recovered_number};
 
-/// The packet number that a transmit association uses next (10.5.2).
+/// The next packet number of a transmit SA (10.5.2).
 #[derive(Clone, Copy, PartialEq, Eq, Debug)]
 pub struct TxNumbers {
     pub next: u128,
 }
 
 impl TxNumbers {
-    /// The number of an association whose first packet number is `pn`.
+    /// The number of an SA whose first packet number is `pn`.
     pub fn at(pn: u64) -> TxNumbers
         ensures { result.next ≡ pn }
     {
@@ -27,8 +27,8 @@ impl TxNumbers {
         }
     }
 
-    /// Returns the next packet number and counts it as used; or `None`, and nothing changes, if all numbers up to
-    /// `last` are used.
+    /// Returns the next packet number and marks it as used. If all numbers up to `last` are used, returns `None` and
+    /// changes nothing.
     pub fn take(&mut self, last: u64) -> Option<u64>
         ensures taken { SomeIff result (self.old.next ≤ last) self.old.next }
         ensures used { OnSome result (self.new.next ≡ self.old.next + 1) }
@@ -43,8 +43,8 @@ impl TxNumbers {
     }
 }
 
-/// The packet numbers of a receive association: the next one, which is one past the highest that was accepted, and the
-/// lowest acceptable one (10.6).
+/// The packet numbers of a receive SA (10.6): the next one, which is above every number that was accepted, and the
+/// lowest acceptable one.
 #[derive(Clone, Copy, PartialEq, Eq, Debug)]
 pub struct RxNumbers {
     pub next: u128,
@@ -52,7 +52,7 @@ pub struct RxNumbers {
 }
 
 impl RxNumbers {
-    /// The numbers of an association whose lowest acceptable packet number is `pn`.
+    /// The numbers of an SA whose lowest acceptable packet number is `pn`.
     pub fn at(pn: u64) -> RxNumbers
         ensures next { result.next ≡ pn }
         ensures lowest { result.lowest ≡ pn }
@@ -64,13 +64,14 @@ impl RxNumbers {
         }
     }
 
-    /// The packet number of a frame, from the 32 bits in its SecTAG. Without extended packet numbers (`xpn` false) it
-    /// is these bits, also if they are 0. With extended ones they are its lower half. Its upper half is that of the
-    /// lowest acceptable number, or one more if the top bit of the 32 bits is clear and that of the lowest acceptable
-    /// number's lower half is set. `None` if that is not from 1 to 2^64 - 1.
+    /// Returns the packet number of a frame, given the 32 bits of PN in its SecTAG.
+    ///
+    /// Without extended packet numbers (`xpn` is false) it is these bits, even if they are 0. With extended ones, `low`
+    /// is its lower half. The upper half is the lowest acceptable number's, or one more if `low` is below 2^31 and the
+    /// lower half of the lowest acceptable number is not. Returns `None` if the number is not from 1 to 2^64 - 1.
     pub fn recover(&self, xpn: bool, low: u32) -> Option<u64>
         ensures value { result ≡ recovered_number xpn self.now.lowest low }
-        // A number that is the lowest acceptable one, or less than 2^31 above it, is recovered.
+        // The lowest acceptable number and the numbers less than 2^31 above it are recovered.
         ensures near { (n : ℕ) → xpn ≡ true → 1 ≤ n → n < 2 ^ 64 → self.now.lowest ≤ n → n < self.now.lowest + 2 ^ 31 →
             low ≡ n % 2 ^ 32 → result ≡ Some n }
     {
@@ -95,14 +96,14 @@ impl RxNumbers {
         Some(number as u64)
     }
 
-    /// Is a packet number below the lowest acceptable one?
+    /// Whether a packet number is below the lowest acceptable one.
     pub fn is_late(&self, pn: u64) -> bool
         ensures { result ≡ is_late self.now.lowest pn }
     {
         u128::from(pn) < self.lowest
     }
 
-    /// Records that a frame with the packet number `pn` was accepted, with a replay window.
+    /// Records that a frame with the packet number `pn` was accepted. `window` is the replay window.
     pub fn accept(&mut self, pn: u64, window: u64)
         ensures { self.new ≡ accept self.old pn window }
     {
@@ -110,7 +111,7 @@ impl RxNumbers {
         self.narrow(window);
     }
 
-    /// Raises the lowest acceptable number to `pn`, which is not below it.
+    /// Raises the lowest acceptable number to `pn`, which must not be below it.
     pub fn raise(&mut self, pn: u64)
         requires { self.old.lowest ≤ pn }
         ensures { self.new ≡ raise self.old pn }
@@ -119,7 +120,7 @@ impl RxNumbers {
         self.next = self.next.max(u128::from(pn));
     }
 
-    /// Raises the lowest acceptable number to the next one minus the window, if it was less.
+    /// Raises the lowest acceptable number to the next one minus the window, if it is lower.
     pub fn narrow(&mut self, window: u64)
         ensures { self.new ≡ narrow self.old window }
     {

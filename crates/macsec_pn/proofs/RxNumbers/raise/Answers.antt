@@ -1,4 +1,4 @@
--- By search; this proof is here for speed.
+-- Proved by search; written out for speed.
 use Rattle.std.proofs.Common.{rules}
 use Rattle.macsec_pn.proofs.RxNumbers.raise.Goals as goal
 

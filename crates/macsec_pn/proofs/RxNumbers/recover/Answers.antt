@@ -1,4 +1,4 @@
--- By search; these proofs are here for speed.
+-- Proved by search; written out for speed.
 use Rattle.std.proofs.Common.{rules}
 use Rattle.macsec_pn.proofs.RxNumbers.recover.Goals as goal
 
