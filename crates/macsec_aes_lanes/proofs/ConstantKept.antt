@@ -1,4 +1,4 @@
--- The constant of the affine transformation along a round, up to the round key that has it too.
+-- The constant of the affine transformation is kept from SubBytes to the round key that includes it.
 use Rattle.std.proofs.Common.{◌≡◌, ℕ, zero, suc, ◌+◌, ◌*◌, ◌/◌, ◌%◌, ◌<◌, List, bit_xor, slice_index, refl, sym, ap, ap₂, ◌∙◌, arith, rules}
 use Rattle.std.specs.Int.Bits.{xor_assoc, xor_zero_r}
 use Rattle.std.proofs.lemmas.Nat.{xor_comm}
@@ -22,7 +22,7 @@ swapped a b c d =
 constants_cancel : (a b : ℕ) → bit_xor (plus_constant a) (plus_constant b) ≡ bit_xor a b
 constants_cancel a b = swapped a 0x63 b 0x63 ∙ xor_zero_r (bit_xor a b)
 
--- 02 of it and 03 of it and twice itself are once itself
+-- 02 and 03 times the constant and twice itself add up to itself
 constant_mixed : bit_xor (bit_xor (bit_xor (byte_product 2 0x63) (byte_product 3 0x63)) 0x63) 0x63 ≡ 0x63
 unfolding byte_product polynomial_product remainder sum_below
 constant_mixed = refl

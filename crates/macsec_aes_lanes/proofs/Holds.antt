@@ -1,4 +1,4 @@
--- What a vector has in each lane, along the operations that made it.
+-- The lanes of a vector, followed through the operations that computed it.
 use Rattle.std.proofs.Common.{◌≡◌, ℕ, ◌^◌, ◌<◌, List, length, slice_index, replicate, refl, sym, ap₂, ◌∙◌, arith, w8, Fits}
 use Rattle.std.proofs.lemmas.Simd.{get_or-zip2, length-zip2, get_or-replicate, length-replicate, Each1-get_or}
 use Rattle.std.specs.Simd.Lanes.{zip2, Each1}

@@ -1,4 +1,4 @@
--- Sums and products of the octets in planes, and the blocks that they are.
+-- Sums and products of the octets in planes, and the blocks that they form.
 use Rattle.std.proofs.Common.{◌≡◌, ℕ, zero, suc, ◌+◌, ◌*◌, ◌^◌, ◌<◌, List, [], ◌∷◌, length, map, slice_index, bit_xor, refl, sym, ap, ap₂, ◌∙◌, arith, rules}
 use Rattle.std.specs.Int.{bit_at}
 use Rattle.std.specs.Int.Bits.{xor_assoc}
@@ -42,7 +42,7 @@ pub computes_double : table 8 gates_of_double ≡ map (byte_product 2) (range_wi
 unfolding number byte_product polynomial_product remainder sum_below
 computes_double = refl
 
--- an entry after MixColumns, from those of its column
+-- an entry after MixColumns, from the entries of its column
 pub mixed : (a b c d : ℕ) → b < 256
     → bit_xor (bit_xor (byte_product 2 (bit_xor a b)) b) (bit_xor c d) ≡ bit_xor (bit_xor (bit_xor (byte_product 2 a) (byte_product 3 b)) c) d
 mixed a b c d lt =
@@ -63,7 +63,7 @@ same_blocks f g e = same_maps f g 0 16 e
 pub byte_of_block : (v : List (List ℕ)) (k m : ℕ) → m < 16 → slice_index (block_of v k) m ≡ byte_of v k m
 byte_of_block v k m lt = get_or-map-range_with_len (byte_of v k) 0 16 m m 0 lt (search rules)
 
--- the same, of a byte whose lane has another name
+-- a byte of a block, with its lane under another name
 pub byte_in_lane : (v : List (List ℕ)) (k m j : ℕ) → m < 16 → lane_of m ≡ j → slice_index (block_of v k) m ≡ octet v j k
 byte_in_lane v k m j lt e = byte_of_block v k m lt ∙ ap (λ (i : ℕ). octet v i k) e
 

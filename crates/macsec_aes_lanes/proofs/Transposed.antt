@@ -1,4 +1,4 @@
--- A square of bits whose three digits of place and vector were exchanged one after another.
+-- Exchanging the three digits of position and vector one after another transposes a square of bits.
 use Rattle.std.proofs.Common.{◌≡◌, ℕ, ◌+◌, ◌*◌, ◌/◌, ◌%◌, ◌^◌, ◌<◌, List, map, refl, sym, ap₂, ◌∙◌, arith}
 use Rattle.std.specs.Int.{bit_at}
 use Rattle.std.specs.List.{range_with_len}
@@ -10,11 +10,11 @@ use Rattle.macsec_aes_lanes.proofs.Below.{same_below}
 abbrev pub IsTransposed : List (List ℕ) → List (List ℕ) → ℕ → Type 0
 IsTransposed v w j = (i : ℕ) → i < 8 → (k : ℕ) → k < 8 → bit_of w i j k ≡ bit_of v k j i
 
--- the digit of weight d of a place and that of its vector are exchanged
+-- the digit of weight d of a position and that digit of the vector's index are exchanged
 abbrev pub Exchanges : ℕ → List (List ℕ) → List (List ℕ) → ℕ → Type 0
 Exchanges d v w j = (i : ℕ) → i < 8 → (k : ℕ) → k < 8 → bit_of w i j k ≡ bit_of v (with_digit d i (digit d k)) j (with_digit d k (digit d i))
 
--- all three digits of n in place of those of m
+-- n with all three digits replaced by the digits of m
 abbrev all_digits : ℕ → ℕ → ℕ
 all_digits m n =
     let m4 = with_digit 4 m (digit 4 n) in

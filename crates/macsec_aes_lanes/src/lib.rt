@@ -1,10 +1,11 @@
-//! AES, the block cipher of FIPS 197, on eight or sixteen blocks at a time, in lanes of vectors and with no table.
+//! AES, the block cipher of FIPS 197, on 8 or 16 blocks at a time, in vector lanes and without tables.
 //!
-//! Proved: `encrypt8` and `encrypt16` put AES of it in the place of each of eight and of sixteen blocks, under the key
-//! of a schedule: AES as `macsec_aes` defines it and its `encrypt` computes it. Contracts see a `LaneSchedule` as its
-//! key's bytes, so no round keys of another key can stand in their place.
+//! Proved: `encrypt8` and `encrypt16` replace each of 8 or 16 blocks by its AES encryption under the key of a schedule.
+//! AES is as `macsec_aes` defines it and as its `encrypt` computes it. Contracts see a `LaneSchedule` as its key's
+//! bytes, so round keys of another key cannot take its place.
 //!
-//! No contract speaks of time. The code looks no table up but the one of `macsec_aes`, by which a schedule is expanded.
+//! No contract is about time. The only table that the code looks up is the one in `macsec_aes`, when a schedule is
+//! expanded.
 #![tactic(auto)]
 
 ghost use Rattle.std.specs.Prelude.{◌≡◌, ℕ, ◌<◌, [], length, map, slice_index_or};
@@ -19,7 +20,7 @@ mod tower;
 pub use schedule::LaneSchedule;
 use state::{add_round_key, blocks_of, mix_columns, shift_rows, states_of, sub_bytes_but_constant};
 
-/// Encrypts each of eight blocks of 16 bytes under the key of a schedule: Cipher (FIPS 197, 5.1).
+/// Encrypts eight blocks of 16 bytes under the key of a schedule: Cipher (FIPS 197, 5.1).
 pub fn encrypt8(schedule: &LaneSchedule, blocks: &mut [[u8; 16]; 8])
     ensures { blocks.new ≡ map (aes schedule.now) blocks.old }
 {
@@ -33,7 +34,7 @@ pub fn encrypt8(schedule: &LaneSchedule, blocks: &mut [[u8; 16]; 8])
     *blocks = blocks_of(add_round_key(last, schedule.round_key(rounds)));
 }
 
-/// Encrypts each of sixteen blocks of 16 bytes under the key of a schedule: Cipher (FIPS 197, 5.1).
+/// Encrypts 16 blocks of 16 bytes under the key of a schedule: Cipher (FIPS 197, 5.1).
 #[inline(never)]
 pub fn encrypt16(schedule: &LaneSchedule, blocks: &mut [[u8; 16]; 16])
     ensures { blocks.new ≡ map (aes schedule.now) blocks.old }

@@ -1,8 +1,8 @@
-//! Eight bytes of each lane as eight bit planes, and back.
+//! Converts eight bytes in each lane to eight bit planes, and back.
 //!
-//! A computation with the bits of bytes is done on planes: plane i has bit i of each byte, so that one operation works
-//! on the bits of 128 bytes. To go from bytes to planes is to transpose a square of 8 by 8 bits in each lane. A bit at
-//! place k of vector i goes to place i of vector k: the three binary digits of i and k are exchanged one after another.
+//! The bits of bytes are processed in planes: plane i has bit i of each byte, so that one operation works on the bits
+//! of 128 bytes. Converting bytes to planes transposes a square of 8 by 8 bits in each lane: bit k of vector i goes to
+//! bit i of vector k. For this the three binary digits of i and k are exchanged one after another.
 
 ghost use Rattle.std.specs.Prelude.{◌≡◌, ℕ, ◌+◌, ◌*◌, ◌-◌, ◌/◌, ◌%◌, ◌^◌, ◌<◌, List, [], ◌∷◌, slice_index};
 ghost use Rattle.macsec_aes_lanes.specs.Lanes.{lane_at};
@@ -10,9 +10,9 @@ ghost use Rattle.macsec_aes_lanes.specs.Planes.{AreBytes, IsMask, bit_of, digit,
 
 use std::simd::u8x16;
 
-/// Exchanges, in two vectors, the digit of weight `d` of a bit's place with that of its vector: each bit of `a` at a
-/// place where the digit is 1 changes places with the bit of `b` that is `d` places lower. `mask` has the places where
-/// it is 0.
+/// Exchanges the digit of weight `d` of a bit's position with the same digit of its vector's index. Each bit of `a` at
+/// a position where the digit is 1 is swapped with the bit of `b` that is `d` positions lower. `mask` has the positions
+/// where the digit is 0.
 #[inline(always)]
 fn exchange(a: u8x16, b: u8x16, d: u8, mask: u8) -> [u8x16; 2]
     requires { IsMask d mask }
@@ -66,7 +66,7 @@ fn exchange_4(v: [u8x16; 8]) -> [u8x16; 8]
     [a0, a1, a2, a3, a4, a5, a6, a7]
 }
 
-/// The planes of eight bytes in each lane, and the eight bytes of such planes.
+/// The bit planes of eight bytes in each lane. Applied to bit planes, it gives the bytes.
 #[inline(always)]
 pub fn transpose(v: [u8x16; 8]) -> [u8x16; 8]
     ensures planes { (j : ℕ) → j < 16 → (k : ℕ) → k < 8 → octet result j k ≡ lane_at v k j }
