@@ -2,12 +2,12 @@
  * macsec.h - a MACsec security entity (SecY, IEEE Std 802.1AE-2018) for C99, C++11 and later.
  *
  * An endpoint protects the frames that its client sends, validates those that the link delivers, and counts both.
- * It has no key agreement: the caller installs keys (SAKs) and creates associations by commands. Suites:
+ * It has no key agreement: the caller installs keys (SAKs) and creates secure associations (SAs) by commands. Suites:
  * GCM-AES-128, GCM-AES-256, GCM-AES-XPN-128 and GCM-AES-XPN-256. It opens no socket and no file, starts no thread,
- * has no clock, and keeps no state outside of its endpoints.
+ * reads no clock, and keeps no state outside its endpoints.
  *
- * Packet numbers are forgotten with an endpoint: the next one takes new keys, or begins above all numbers that were used
- * under its key. Else IVs repeat, which breaks GCM.
+ * An endpoint's packet numbers are lost when it is freed. Give the next endpoint new keys, or start it above every
+ * packet number that was used under its key. Otherwise IVs repeat, which breaks GCM.
  *
  *     macsec_endpoint a = MACSEC_ENDPOINT_INIT;
  *     macsec_config config = { { 0x12, 0x15, 0x35, 0x24, 0xc0, 0x89, 0x5e, 0x81 },
@@ -20,45 +20,45 @@
  *         transmit(sent.frame, sent.length);        // before the next call with &a
  *     macsec_free(&a);
  *
- * Link with -lmacsec; examples/c has whole programs, and docs/C.md the calls beside those of `ip macsec`.
+ * Link with -lmacsec. examples/c has complete programs; docs/C.md compares the calls with `ip macsec`.
  *
  * FRAMES     A frame is the octets of an Ethernet frame from the destination address to the end of the data,
- *            without preamble and without FCS. Every length is a number of octets. Frames that are given to an
- *            endpoint have 14 to 9,248 octets (MACSEC_FRAME_MIN, MACSEC_FRAME_MAX); others are refused, and change
- *            and count nothing.
- * NUMBERS    Integers are in the machine's own order of bytes. SCIs, keys and salts are octets in the order in
- *            which the standard writes them: an SCI is the six octets of a MAC address and two of a port number.
- * STATUS     Each call but macsec_free returns a status: MACSEC_OK, or why nothing was done. Then nothing has changed,
- *            and what the call would have shown is left as it was (but a macsec_sent, a macsec_received and the line
- *            of macsec_configure are always filled in). First the handle is tested (MACSEC_EMPTY, MACSEC_TAKEN), then
- *            the arguments (MACSEC_NO_SUCH_..), then the rest; of several statuses of arguments, or of several
- *            refusals of a command, the lowest is returned.
- * MEMORY     macsec_new takes four blocks by malloc, 17.6 MB in all: two for 4,096 keys, one for a frame, one for the
- *            rest. macsec_free gives them back. macsec_configure takes these too, and it and macsec_command_line
- *            some for the words of their text, which they give back before they return. No other call takes any, and
- *            none can fail for want of it. The memory is not wiped: keys may stay in it. Give each call 64 KB of
- *            stack: macsec_new took 59 KB on x86-64 and macsec_configure 56, the others a fraction of that (measured,
- *            not proved).
- * HANDLES    A handle is the caller's memory, made by MACSEC_ENDPOINT_INIT (all zero). It must not be copied, moved
- *            or written while it holds an endpoint. A handle that was never used, or that was freed, holds none:
- *            macsec_free does nothing then, and every other call but macsec_new and macsec_configure returns
+ *            without preamble and without FCS. Every length is a number of octets. An endpoint takes frames of 14
+ *            to 9,248 octets (MACSEC_FRAME_MIN, MACSEC_FRAME_MAX). It refuses others, changes nothing and counts
+ *            nothing.
+ * NUMBERS    Integers are in host byte order. SCIs, keys and salts are octets in the order in which the standard
+ *            writes them: an SCI is the six octets of a MAC address and two of a port number.
+ * STATUS     Each call except macsec_free returns a status: MACSEC_OK, or why nothing was done. In the second case
+ *            nothing has changed, and the caller's output structs are unchanged, except that a macsec_sent, a
+ *            macsec_received and the line of macsec_configure are always filled in. The handle is tested first
+ *            (MACSEC_EMPTY, MACSEC_TAKEN), then the arguments (MACSEC_NO_SUCH_..), then the rest. If several statuses
+ *            of arguments apply, or several refusals of a command, the call returns the lowest.
+ * MEMORY     macsec_new allocates four blocks by malloc, 17.6 MB in all: two for 4,096 keys, one for a frame, one for
+ *            the rest. macsec_free frees them. macsec_configure allocates the same. macsec_configure and
+ *            macsec_command_line also allocate while they read their text, and free that before they return. No other
+ *            call allocates, so no other call runs out of memory. The memory is not wiped: keys may stay in it. Give
+ *            each call 64 KB of stack: macsec_new took 59 KB on x86-64 and macsec_configure 56, the others a fraction
+ *            of that (measured, not proved).
+ * HANDLES    A handle is the caller's memory, initialized with MACSEC_ENDPOINT_INIT (all zero). Do not copy, move or
+ *            write it while it holds an endpoint. A handle that was never used, or that was freed, holds none: then
+ *            macsec_free does nothing, and every other call except macsec_new and macsec_configure returns
  *            MACSEC_EMPTY.
- * OWNERSHIP  The library keeps no pointer that a call was given. What macsec_send and macsec_receive show borrows
- *            from the endpoint's buffer, or is (a part of) the caller's own frame: it may be read until the next
- *            call with that handle, and while the caller's frame stays as it is. It must not be written to, nor be
- *            given to a call with that handle: copy it first.
- * POINTERS   No pointer may be null, that of a frame or a text of length 0 neither. The handle, the frame and the
- *            room for the answer must not overlap.
- * THREADS    A handle is given to one call at a time. Whoever passes it from one thread to another orders that, by
- *            a lock or by the thread's start or join. Different handles are independent. No call may be made from a
- *            signal handler, nor one that takes or frees memory from the forked child of a process with threads.
+ * OWNERSHIP  The library keeps no pointer that a call was given. The frame that macsec_send or macsec_receive returns
+ *            is in the endpoint's buffer, or is (a part of) the caller's own frame. Read it before the next call with
+ *            that handle, and while the caller's frame is unchanged. Do not write to it, and copy it before you give
+ *            it to a call with that handle.
+ * POINTERS   No pointer may be null, not even that of a frame or a text of length 0. The handle, the frame and the
+ *            output structs must not overlap.
+ * THREADS    Use a handle in one call at a time. Synchronize when you pass it from one thread to another, with a lock
+ *            or the thread's start or join. Different handles are independent. Make no call from a signal handler,
+ *            and no call that allocates or frees memory in the forked child of a process with threads.
  *
- * What is proved (with Rattle): each call makes or frees an endpoint, or is one step of the written machine
- * (crates/macsec_secy/specs/Step.antt) or one reader of its state, for the arguments that C gave, or the steps that
- * the lines of a text say; it reads and writes only what it was given; and it returns. Measured or read, and not
- * proved: sizes and stack, that only the three calls named there take memory, and that a call which shows nothing
- * leaves what it would have shown as it was. Nor proved: this header, which a script compares with the library's
- * source; C's side of what it says; malloc; the compilers. No call takes the same time for all data.
+ * Proved with Rattle: each call creates an endpoint, takes it out of its handle, is one step of the written machine
+ * (crates/macsec_secy/specs/Step.antt), or reads its state, for the arguments that C gave; or it takes the steps that
+ * the lines of a text say. Each call reads and writes only what it was given, and returns. Measured or tested, not
+ * proved: sizes and stack, that macsec_free frees each block, that only the three calls named above allocate, and that
+ * a call which returns nothing leaves the output structs unchanged. Not proved: this header, which a script compares
+ * with the library's source; C's side of what it says; malloc; the compilers. No call takes constant time.
  */
 #ifndef MACSEC_H
 #define MACSEC_H
@@ -87,7 +87,7 @@ extern "C" {
 /* Statuses. 1 to 20 are the refusals of commands. */
 enum {
     MACSEC_OK = 0,
-    MACSEC_KEY_LENGTH = 1,          /* the key's length is not that of the suite's keys */
+    MACSEC_KEY_LENGTH = 1,          /* the key has another length than its suite's keys */
     MACSEC_OFFSET = 2,              /* the suite's keys have no such confidentiality offset */
     MACSEC_KEY_NUMBER_USED = 3,     /* a key of this number was installed before, retired or not */
     MACSEC_KEY_REPEATED = 4,        /* a key of these octets was installed before, retired or not */
@@ -121,7 +121,7 @@ enum {
     MACSEC_NEW_SCI_FORM = 43,       /* the configuration's tag form does not fit its SCI */
     MACSEC_FRAME_SHORT = 44,        /* the frame has fewer than 14 octets */
     MACSEC_FRAME_LONG = 45,         /* the frame has more than 9,248 octets */
-    MACSEC_LINE_WORD = 46,          /* the line's keyword is unknown, or a word of it is none that can stand there */
+    MACSEC_LINE_WORD = 46,          /* the line's keyword is unknown, or an argument is none that is allowed there */
     MACSEC_LINE_COUNT = 47,         /* the line has too few words or too many */
     MACSEC_LINE_HEX = 48,           /* a word of the line is not hex text of as many octets as it must have */
     MACSEC_LINE_NUMBER = 49,        /* a word of the line is not a decimal number in its range */
@@ -130,7 +130,7 @@ enum {
     MACSEC_CONFIG_LONG = 52         /* the configuration has more than 1,048,576 octets or 65,536 lines */
 };
 
-/* Cipher suites (clause 14). The default is for keys alone: that of the endpoint's configuration. */
+/* Cipher suites (clause 14). Only a key can have the default: the suite of the endpoint's configuration. */
 enum {
     MACSEC_SUITE_DEFAULT = 0,
     MACSEC_SUITE_GCM_AES_128 = 1,
@@ -143,8 +143,8 @@ enum {
 enum {
     MACSEC_FORM_AUTO = 0, /* with the SCI if there is more than one receive channel, else without ES, SCB and SCI */
     MACSEC_FORM_SCI = 1,  /* with the SCI */
-    MACSEC_FORM_ES = 2,   /* with ES, not the SCI, if the source address is that of the SCI; for SCIs of port 0001 */
-    MACSEC_FORM_SCB = 3   /* with SCB, not the SCI, if the source address is that of the SCI; for SCIs of port 0000 */
+    MACSEC_FORM_ES = 2,   /* ES and no SCI, if the source address is the SCI's; for SCIs of port 0001 */
+    MACSEC_FORM_SCB = 3   /* SCB and no SCI, if the source address is the SCI's; for SCIs of port 0000 */
 };
 
 /* Modes: how received frames are validated (10.6). */
@@ -190,7 +190,7 @@ typedef struct macsec_endpoint {
 /* A configuration. */
 typedef struct macsec_config {
     uint8_t sci[8];
-    uint32_t suite;     /* MACSEC_SUITE_GCM_..: that of the keys which name none */
+    uint32_t suite;     /* MACSEC_SUITE_GCM_..: the suite of keys that name none */
     uint32_t form;      /* MACSEC_FORM_..: the first tag form */
     uint32_t max_frame; /* the most octets of a frame that is sent for a client frame: 64 to 9,248 */
 } macsec_config;
@@ -254,7 +254,7 @@ typedef struct macsec_counters_shown {
     uint64_t out_pkts_no_sa;
 } macsec_counters_shown;
 
-/* Those of the transmit channel. */
+/* The transmit channel's counters. */
 typedef struct macsec_tx_counters_shown {
     uint64_t out_pkts_protected;
     uint64_t out_pkts_encrypted;
@@ -262,7 +262,7 @@ typedef struct macsec_tx_counters_shown {
     uint64_t out_octets_encrypted;
 } macsec_tx_counters_shown;
 
-/* Those of a receive channel, of one of its associations, or of its deleted associations together. */
+/* The counters of a receive channel, of one of its SAs, or of its deleted SAs together. */
 typedef struct macsec_rx_counters_shown {
     uint64_t in_pkts_ok;
     uint64_t in_pkts_unchecked;
@@ -391,7 +391,7 @@ uint32_t macsec_command_line(macsec_endpoint *e, const uint8_t *text, size_t len
 uint32_t macsec_options(macsec_endpoint *e, macsec_options_shown *out);
 uint32_t macsec_counters(macsec_endpoint *e, macsec_counters_shown *out);
 uint32_t macsec_tx_counters(macsec_endpoint *e, macsec_tx_counters_shown *out);
-/* Of a receive channel. Each counter is, modulo 2^64, the sum of those of its associations and of its removed ones. */
+/* A receive channel's counters. Each is, modulo 2^64, the sum of its SAs' and of its deleted SAs' counters. */
 uint32_t macsec_rx_counters(macsec_endpoint *e, const uint8_t sci[8], macsec_rx_counters_shown *out);
 /* Of one of its associations, since the creation of that. */
 uint32_t macsec_rx_sa_counters(macsec_endpoint *e, const uint8_t sci[8], uint8_t an, macsec_rx_counters_shown *out);
