@@ -1,4 +1,4 @@
--- Functions that keep sums of blocks.
+-- Additive functions of blocks.
 use Rattle.std.proofs.Common.{◌≡◌, ℕ, zero, suc, ◌+◌, ◌*◌, ◌/◌, ◌%◌, ◌^◌, ◌<◌, ◌⊎◌, inl, inr, bit_xor, ◌≢◌, refl, sym, ap, ap₂, ◌∙◌, arith}
 use Rattle.std.specs.Fn.{iterate}
 use Rattle.std.specs.Int.Bits.{xor_zero_r, xor_zero_l, xor_assoc, xor_self}
@@ -9,7 +9,7 @@ use Rattle.std.proofs.lemmas.Grind.{pow_more}
 use Rattle.std.proofs.Math.Nat.{mul_comm}
 use Rattle.macsec_field128.specs.Field.{sum_below, times_x, reduction}
 
--- f keeps sums
+-- f is additive
 pub record IsAdditive (f : ℕ → ℕ) : Type 0 where
   pub adds : (a b : ℕ) → f (bit_xor a b) ≡ bit_xor (f a) (f b)
 
@@ -56,7 +56,7 @@ additive_bit f h b p lt =
       | inr e ↦ rw e (simp one_times)
     ]
 
--- ---- sums of many
+-- ---- sums with many terms
 
 pub sum_of_sums : (n : ℕ) (f g : ℕ → ℕ) → sum_below n (λ i. bit_xor (f i) (g i)) ≡ bit_xor (sum_below n f) (sum_below n g)
 unfolding sum_below
@@ -77,7 +77,7 @@ unfolding sum_below
 additive_sum f h zero g = additive_zero f h
 additive_sum f h (suc n) g = h.adds (sum_below n g) (g n) ∙ ap (λ (s : ℕ). bit_xor s (f (g n))) (additive_sum f h n g)
 
--- a sum without terms that count, and one of which one term counts
+-- a sum whose terms are all 0, and a sum with one other term
 pub no_term : (n : ℕ) (f : ℕ → ℕ) → ((i : ℕ) → i < n → f i ≡ 0) → sum_below n f ≡ 0
 unfolding sum_below
 no_term zero f none = refl
@@ -100,7 +100,7 @@ one_term (suc n) k f lt none =
           rw (fewer, same) (xor_zero_l (f n))
     ]
 
--- ---- the step by x, several times
+-- ---- multiplying by x several times
 
 pub times_x_adds : IsAdditive times_x
 unfolding times_x
@@ -119,9 +119,9 @@ iterate_adds (suc n) = record {
   adds = λ a b. ap (iterate times_x n) (times_x_adds.adds a b) ∙ (iterate_adds n).adds (times_x a) (times_x b);
 }
 
--- ---- functions that keep sums and agree at each block with one bit agree
+-- ---- additive functions that agree on each block with one bit set agree
 
--- one bit more on top
+-- one more bit on top
 xor_top : (n r : ℕ) → r < 2 ^ n → bit_xor r (2 ^ n) ≡ 2 ^ n + r
 xor_top n r lt =
     let block = xor_block n 0 1 r 0 lt (pow_pos n) in

@@ -1,4 +1,4 @@
--- The product of blocks is the residue of their product without carries.
+-- The product of blocks is the residue of their carryless product.
 use Rattle.std.proofs.Common.{◌≡◌, ℕ, zero, suc, ◌+◌, ◌-◌, ◌*◌, ◌/◌, ◌%◌, ◌^◌, ◌<◌, inl, inr, map, bit_or, bit_xor, refl, sym, ap, ap₂, ◌∙◌, arith}
 use Rattle.std.specs.Fn.{iterate}
 use Rattle.std.specs.Int.{bit_at}
@@ -14,7 +14,7 @@ use Rattle.macsec_field128.proofs.Additive.{IsAdditive, additive_bit, additive_s
 use Rattle.macsec_field128.proofs.Additive.{one_times, zero_times, same_from_ones, same_sums, sum_of_bits_times, sum_of_sums}
 use Rattle.macsec_field128.proofs.ProductLaws.{adds_in_first, product_with_one, same_below, sum_adds, times_x_of_one}
 
--- ---- functions that keep sums
+-- ---- additive functions
 
 both_add : (f g : ℕ → ℕ) → IsAdditive f → IsAdditive g → IsAdditive (λ a. f (g a))
 both_add f g p q = record { adds = λ a b. ap f (q.adds a b) ∙ p.adds (g a) (g b) }
@@ -41,14 +41,14 @@ bit_adds i p = record {
       ap (λ (n : ℕ). n * p) (bit_at_xor a b i) ∙ sum_of_bits_times (bit_at a i) (bit_at b i) p (bit_at-lt a i) (bit_at-lt b i);
 }
 
--- a sum of functions that keep sums
+-- a sum of additive functions is additive
 terms_add : (n : ℕ) (f : ℕ → ℕ → ℕ) → ((i : ℕ) → IsAdditive (f i)) → IsAdditive (λ a. sum_below n (λ i. f i a))
 terms_add n f h = record {
   adds = λ a b.
       same_sums n (λ i. f i (bit_xor a b)) (λ i. bit_xor (f i a) (f i b)) (λ i lt. (h i).adds a b) ∙ sum_of_sums n (λ i. f i a) (λ i. f i b);
 }
 
--- ---- the product without carries
+-- ---- the carryless product
 
 first_adds : (b : ℕ) → IsAdditive (λ a. carryless a b)
 unfolding carryless
@@ -69,7 +69,7 @@ second_adds a =
 pub carryless_adds_in_second : CarrylessAddsInSecond
 carryless_adds_in_second a b c = (second_adds a).adds b c
 
--- of a number with one bit
+-- the carryless product with a number that has one bit set
 carryless_with_one : (k b : ℕ) → k < 128 → carryless (2 ^ k) b ≡ b * 2 ^ k
 unfolding carryless
 carryless_with_one k b lt =
@@ -118,7 +118,7 @@ residue_of_one k lt =
     rw other (zero_times (iterate times_x i (2 ^ 127))))
     ∙ rw (back, bit_at-pow_same k) (one_times (iterate times_x (254 - k) (2 ^ 127)))
 
--- a bit on the left of the coefficients does not count
+-- a bit to the left of the coefficients is ignored
 residue_of_more : residue (2 ^ 255) ≡ 0
 unfolding residue
 residue_of_more =
@@ -126,7 +126,7 @@ residue_of_more =
     let other : bit_at (2 ^ 255) (254 - i) ≡ 0 = bit_at-pow_other 255 (254 - i) (λ e. absurd (omega (arith, e))) in
     rw other (zero_times (iterate times_x i (2 ^ 127))))
 
--- ---- the residue of the product without carries
+-- ---- the residue of the carryless product
 
 -- n times and then m times
 iterate_twice : (h : ℕ → ℕ) (m n x : ℕ) → iterate h m (iterate h n x) ≡ iterate h (n + m) x
@@ -135,14 +135,14 @@ iterate_twice h m (suc n) x =
     let e : suc (n + m) ≡ suc n + m = omega arith in
     iterate_twice h m n (h x) ∙ ap (λ (k : ℕ). iterate h k x) e
 
--- a number with one bit, that was moved right
+-- a number with one bit set, shifted right
 moved_right : (n j : ℕ) → iterate times_x n (2 ^ (n + j)) ≡ 2 ^ j
 moved_right zero j = let e : 0 + j ≡ j = omega arith in ap (λ (k : ℕ). 2 ^ k) e
 moved_right (suc n) j =
     let e : suc n + j ≡ suc (n + j) = omega arith in
     ap (λ (k : ℕ). iterate times_x n (times_x (2 ^ k))) e ∙ ap (iterate times_x n) (times_x_of_one (n + j)) ∙ moved_right n j
 
--- where each block has one bit
+-- if each block has one bit set
 ones_product : (k j : ℕ) → k < 128 → j < 128 → residue (2 ^ j * 2 ^ k) ≡ iterate times_x (127 - k) (2 ^ j)
 ones_product k j lk lj =
     let whole : 127 - j + j ≡ 127 = omega arith in
@@ -169,7 +169,7 @@ product_is_residue a b la lb =
 
 -- ---- the residue by shifts
 
--- the right half of the coefficients, with what its multiples by x, x^2 and x^7 push out at the right
+-- the right half of the coefficients, plus the bits that its multiples by x, x^2 and x^7 shift out at the right
 wrapped : ℕ → ℕ
 wrapped r = bit_xor (bit_xor (bit_xor r (r * 2 ^ 127 % 2 ^ 128)) (r * 2 ^ 126 % 2 ^ 128)) (r * 2 ^ 121 % 2 ^ 128)
 
@@ -227,7 +227,7 @@ folded_of_one k lk =
 folded_is_residue : (z : ℕ) → z < 2 ^ 256 → folded z ≡ residue z
 folded_is_residue z lt = same_from_ones folded residue folded_adds the_residue_adds 256 folded_of_one z lt
 
--- by halves
+-- the residue, computed from two halves
 pub residue_of_halves : (l r w : ℕ) → l < 2 ^ 128 → r < 2 ^ 128
     → w ≡ bit_xor (bit_xor (bit_xor (r * 2 ^ 1 % 2 ^ 128) (r * 2 ^ 1 % 2 ^ 128 * 2 ^ 127 % 2 ^ 128)) (r * 2 ^ 1 % 2 ^ 128 * 2 ^ 126 % 2 ^ 128))
     (r * 2 ^ 1 % 2 ^ 128 * 2 ^ 121 % 2 ^ 128)

@@ -1,4 +1,4 @@
--- A function applied several times.
+-- Applying a function several times.
 use Rattle.std.proofs.Common.{◌≡◌, ℕ, zero, suc, ◌+◌, refl, add-one}
 use Rattle.std.specs.Fn.{iterate}
 
@@ -9,6 +9,6 @@ iterate-suc h (suc n) x = iterate-suc h n (h x)
 pub iterate_none : {A : Type 0} (h : A → A) (x : A) → iterate h 0 x ≡ x
 iterate_none h x = refl
 
--- the last of n + 1 times
+-- n + 1 times is once more after n times
 pub iterate_more : {A : Type 0} (h : A → A) (n : ℕ) (x : A) → iterate h (n + 1) x ≡ h (iterate h n x)
 iterate_more h n x = rw add-one (iterate-suc h n x)

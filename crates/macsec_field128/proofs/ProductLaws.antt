@@ -1,4 +1,4 @@
--- The product of blocks keeps sums in both places and associates.
+-- The product of blocks distributes over sums in both factors and is associative.
 use Rattle.std.proofs.Common.{◌≡◌, ℕ, zero, suc, ◌+◌, ◌-◌, ◌*◌, ◌/◌, ◌%◌, ◌^◌, ◌<◌, List, map, bit_xor, refl, sym, ap, ap₂, ◌∙◌, arith, rules, get_or, inl, inr}
 use Rattle.std.specs.Fn.{iterate}
 use Rattle.std.specs.Int.{bit_at}
@@ -38,7 +38,7 @@ adds_in_second a b c =
     rw ((iterate_adds i).adds b c) (bit_times_sum (bit_of a i) (iterate times_x i b) (iterate times_x i c) (bit_at-lt a (127 - i))))
     ∙ sum_of_sums 128 (term a b) (term a c)
 
--- the product with a block that has one bit
+-- the product with a block that has one bit set
 pub product_with_one : (k c : ℕ) → k < 128 → block_product (2 ^ k) c ≡ iterate times_x (127 - k) c
 unfolding block_product
 product_with_one k c lt =
@@ -76,7 +76,7 @@ product_with_reduction c lt =
     (product_with_one 120 c (omega arith))
     ∙ sym (x_128 c lt)
 
--- ---- one more multiplication by x
+-- ---- multiplying by x once more
 
 pub times_x_of_one : (k : ℕ) → times_x (2 ^ suc k) ≡ 2 ^ k
 unfolding times_x
@@ -94,7 +94,7 @@ times_x_lt : (v : ℕ) → v < 2 ^ 128 → times_x v < 2 ^ 128
 unfolding times_x
 times_x_lt v lt = xor_lt 128 (v / 2) (v % 2 * reduction) (omega arith) (omega arith)
 
--- a product whose first block is multiplied by x
+-- a product whose first factor is multiplied by x
 step_of_one : (c : ℕ) → c < 2 ^ 128 → (k : ℕ) → k < 128 → block_product (times_x (2 ^ k)) c ≡ times_x (block_product (2 ^ k) c)
 step_of_one c fits zero lt =
     ap (λ (r : ℕ). block_product r c) times_x_of_last ∙ product_with_reduction c fits

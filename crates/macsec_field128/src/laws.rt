@@ -1,16 +1,16 @@
-//! Laws of the product of two blocks and of its two steps, of their definitions alone: they are the contracts of
-//! functions with empty bodies.
+//! Laws of the product of two blocks and of its two steps. They are about definitions only: each is the contract of a
+//! function with an empty body.
 
 ghost use Rattle.macsec_field128.specs.Carryless.{CarrylessLaws, ProductIsResidue, ResidueAdds};
 ghost use Rattle.macsec_field128.specs.Laws.{AddsInFirst, AddsInSecond, Associates, ProductIsBlock};
 
-/// The product with a sum is the sum of the products, in either place.
+/// The product distributes over sums, in either factor.
 pub fn product_adds()
     ensures first { AddsInFirst }
     ensures second { AddsInSecond }
 {}
 
-/// The product with a block has 128 bits too.
+/// The product with a block of 128 bits has 128 bits.
 pub fn product_is_block()
     ensures { ProductIsBlock }
 {}
@@ -20,8 +20,8 @@ pub fn product_associates()
     ensures { Associates }
 {}
 
-/// The product without carries keeps sums in both places, and moves with numbers that are moved left; with 1 it is the
-/// other number.
+/// The carryless product distributes over sums in both factors, is shifted left when a factor is, and with 1 is the
+/// other factor.
 pub fn carryless_laws()
     ensures { CarrylessLaws }
 {}
@@ -31,7 +31,7 @@ pub fn residue_adds()
     ensures { ResidueAdds }
 {}
 
-/// The product of two blocks is the residue of their product without carries.
+/// The product of two blocks is the residue of their carryless product.
 pub fn product_is_residue()
     ensures { ProductIsResidue }
 {}

@@ -1,5 +1,5 @@
--- The loop adds up the product bit by bit, and after 128 bits its sum is `block_product`.
--- One term more, which is a bit times the power (`Sums`), and one more multiplication by x.
+-- The loop adds up the product bit by bit, and after 128 bits the sum is `block_product`. Each step adds one term, a
+-- bit times the power (`Sums`), and multiplies the power by x.
 use Rattle.std.proofs.Common.{◌≡◌, ℕ, ◌-◌, ◌*◌, ◌∙◌, sym, arith}
 use Rattle.std.proofs.lemmas.Nat.Bits.{shr_and_one}
 use Rattle.std.specs.Fn.{iterate}

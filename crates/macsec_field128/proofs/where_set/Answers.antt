@@ -1,4 +1,4 @@
--- The mask of 0 is 0, and that of 1 is all ones.
+-- The mask of 0 is 0, and the mask of 1 is all ones.
 use Rattle.std.proofs.Common.{◌≡◌, ◌+◌, ◌-◌, ◌*◌, ◌%◌, ◌^◌, ◌<◌, ◌∙◌, ℕ, zero, suc, bit_and, arith}
 use Rattle.std.specs.Int.Bits.{and_zero_r}
 use Rattle.std.proofs.lemmas.Nat.{and_mask}
