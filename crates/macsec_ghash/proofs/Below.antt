@@ -1,4 +1,4 @@
--- What holds of each number below eight, and of each below sixteen.
+-- What holds for each number below 8, and for each below 16.
 use Rattle.std.proofs.Common.{◌≡◌, ℕ, zero, suc, ◌+◌, ◌-◌, ◌<◌, inl, inr, subst, arith}
 use Rattle.std.proofs.lemmas.Bool.{cases_lt}
 

@@ -1,4 +1,4 @@
--- Sums of numbers of which each is moved eight places to the left of the next, and numbers by their octets.
+-- Sums of numbers, each shifted left by eight bits more than the next, and numbers as their octets.
 use Rattle.std.proofs.Common.{◌≡◌, ℕ, zero, suc, ◌+◌, ◌-◌, ◌*◌, ◌/◌, ◌%◌, ◌^◌, ◌<◌, ◌≤◌, List, bit_xor, refl, sym, ap, ap₂, ◌∙◌, arith, subst}
 use Rattle.std.proofs.Math.Nat.{pow-le-pow_right, pow-suc}
 use Rattle.std.specs.Int.Bits.{xor_assoc, xor_zero_l, xor_zero_r}
@@ -26,7 +26,7 @@ unfolding moved_sum
 moved_zeros zero = refl
 moved_zeros (suc n) = ap (λ (x : ℕ). bit_xor (x * 2 ^ 8) 0) (moved_zeros n)
 
--- a function that keeps sums and moves goes through
+-- a function that distributes over sums and shifts distributes over such a sum
 pub moved_under : (f : ℕ → ℕ) → KeepsSums f → ((a : ℕ) → f (a * 2 ^ 8) ≡ f a * 2 ^ 8) → (n : ℕ) (g : ℕ → ℕ)
     → moved_sum n (λ i. f (g i)) ≡ f (moved_sum n g)
 unfolding moved_sum
@@ -36,7 +36,7 @@ moved_under f keeps moves (suc n) g =
     ∙ ap (λ (x : ℕ). bit_xor x (f (g n))) (sym (moves (moved_sum n g)))
     ∙ sym (keeps.adds (moved_sum n g * 2 ^ 8) (g n))
 
--- sums in sums, in either order
+-- such a sum of sums, in either order
 pub moved_of_sum : (m n : ℕ) (f : ℕ → ℕ → ℕ) → moved_sum n (λ i. sum_below m (λ p. f p i)) ≡ sum_below m (λ p. moved_sum n (f p))
 unfolding sum_below
 moved_of_sum zero n f = moved_zeros n
@@ -52,7 +52,7 @@ moved_turned (suc m) n f =
     ∙ ap (λ (x : ℕ). bit_xor x (moved_sum n (f m))) (sym (moved_under (λ a. a * 2 ^ 8) (moves_keep 8) (λ a. refl) n column))
     ∙ sym (moved_of_sums n (λ i. column i * 2 ^ 8) (f m))
 
--- the first term apart
+-- the first term separately
 pub moved_first : (n : ℕ) (f : ℕ → ℕ) → moved_sum (suc n) f ≡ bit_xor (f 0 * 2 ^ (8 * n)) (moved_sum n (λ i. f (suc i)))
 unfolding moved_sum
 moved_first zero f =
@@ -69,7 +69,7 @@ moved_first (suc n) f =
     ((moves_keep 8).adds (f 0 * 2 ^ (8 * n)) more ∙ ap (λ (x : ℕ). bit_xor x (more * 2 ^ 8)) moved)
     ∙ xor_assoc (f 0 * 2 ^ (8 * suc n)) (more * 2 ^ 8) (f (suc n))
 
--- how large such a sum is
+-- a bound on such a sum
 pub moved_lt : (k n : ℕ) (f : ℕ → ℕ) → ((i : ℕ) → i < n → f i < 2 ^ k) → moved_sum n f * 2 ^ 8 < 2 ^ (8 * n + k)
 unfolding moved_sum
 moved_lt k zero f lt = let pos : 0 < 2 ^ (8 * 0 + k) = pow_pos (8 * 0 + k) in omega (arith, pos)
@@ -122,16 +122,16 @@ octets_above l z lt (suc t) le =
     ∙ shr_split (z / 2 ^ (8 * k)) 8
     ∙ sym (ap (λ (n : ℕ). z / 2 ^ n) next)
 
--- the octets of a number, from the left
+-- the octets of a number, starting at the left
 pub octets_joined : (l z : ℕ) → z < 2 ^ (8 * suc l) → moved_sum (suc l) (λ i. byte_at (l - i) z) ≡ z
 octets_joined l z lt =
     let none : 8 * (suc l - suc l) ≡ 0 = omega arith in
     let whole : z / 2 ^ 0 ≡ z = omega arith in
     octets_above l z lt (suc l) (omega arith) ∙ ap (λ (n : ℕ). z / 2 ^ n) none ∙ whole
 
--- ---- a number of 32 octets, moved by one
+-- ---- a number of 32 octets, shifted by one octet
 
--- the first of sixteen octets of a number, and the other ones
+-- the first of 16 octets of a number, and the others
 octets_apart : (f : ℕ → ℕ) → ((i : ℕ) → i < 16 → f i < 2 ^ 8)
     → (moved_sum 16 f ≡ f 0 * 2 ^ 120 + moved_sum 15 (λ i. f (suc i))) × (moved_sum 15 (λ i. f (suc i)) < 2 ^ 120)
 octets_apart f lt =
@@ -140,7 +140,7 @@ octets_apart f lt =
     let small : rest < 2 ^ 120 = omega (arith, room) in
     (moved_first 15 f ∙ sym (parts 120 (f 0) rest small), small)
 
--- the octets without the first one, and sums behind and above them
+-- the octets without the first one, with one octet appended and sums added
 next_octets : (k : ℕ) (f s g : ℕ → ℕ) (last : ℕ) → ((i : ℕ) → i < k → g i ≡ bit_xor (f (suc i)) (s i)) → g k ≡ bit_xor last (s k)
     → moved_sum (suc k) g ≡ bit_xor (bit_xor (moved_sum k (λ i. f (suc i)) * 2 ^ 8) last) (moved_sum (suc k) s)
 unfolding moved_sum
@@ -188,7 +188,7 @@ moved_next : (n : ℕ) (f : ℕ → ℕ) → moved_sum (n + 1) f ≡ bit_xor (mo
 unfolding moved_sum
 moved_next n f = let e : n + 1 ≡ suc n = omega arith in ap (λ (m : ℕ). moved_sum m f) e
 
--- a number in two vectors, which is such a sum, moved on by one turn of 17
+-- a number in two vectors that is such a sum, after one more of 17 turns
 pub moved_on : (from turn : ℕ) (left right sums new_left new_right : List ℕ) (column : ℕ → ℕ) → turn < 17 → ((t : ℕ) → column t < 2 ^ 128)
     → IsMoved from left right sums new_left new_right → number_in from left right ≡ moved_sum turn column → number_from from sums ≡ column turn
     → number_in from new_left new_right ≡ moved_sum (turn + 1) column

@@ -1,4 +1,4 @@
--- Products without carries by those of nibbles, octet by octet.
+-- Carryless products as products of nibbles, octet by octet.
 use Rattle.std.proofs.Common.{◌≡◌, ℕ, zero, suc, ◌+◌, ◌-◌, ◌*◌, ◌/◌, ◌%◌, ◌^◌, ◌<◌, ◌≤◌, List, slice_index, bit_xor, sym, ap, ap₂, ◌∙◌, arith, subst}
 use Rattle.std.proofs.Math.Nat.{pow-le-pow_right}
 use Rattle.std.specs.Int.{bit_at, byte_at}
@@ -36,13 +36,13 @@ nibble_product_lt n p nibble lt =
     rw (nibble_product n p nibble)
     (sum_lt 131 4 (λ b. bit_at n b * (p * 2 ^ b)) (λ b few. bit_times_lt (bit_at n b) (p * 2 ^ b) (2 ^ 131) (bit_at-lt n b) (moved_nibble_lt p b lt few)))
 
--- ---- the product with a number, by its octets
+-- ---- the product with a number, from its octets
 
 module _ (laws : CarrylessLaws) where
   none : (p : ℕ) → carryless 0 p ≡ 0
   none p = laws.adds_first 0 0 p ∙ xor_self (carryless 0 p)
 
-  -- the product with an octet, by its nibbles
+  -- the product with an octet, from its nibbles
   octet_product : (o p : ℕ) → o < 2 ^ 8 → bit_xor (carryless (o / 2 ^ 4) p * 2 ^ 4) (carryless (o % 2 ^ 4) p) ≡ carryless o p
   octet_product o p lt =
       let left_lt : o / 2 ^ 4 < 2 ^ 4 = omega arith in
@@ -52,7 +52,7 @@ module _ (laws : CarrylessLaws) where
       ∙ sym (laws.adds_first (o / 2 ^ 4 * 2 ^ 4) (o % 2 ^ 4) p)
       ∙ ap (λ (x : ℕ). carryless x p) (sym (parts 4 (o / 2 ^ 4) (o % 2 ^ 4) right_lt) ∙ whole)
 
-  -- the product with a number that is put together of octets
+  -- the product with a number that is given by its octets
   moved_products : (p : ℕ) (f : ℕ → ℕ) → ((i : ℕ) → f i < 2 ^ 8) → (n : ℕ) → n ≤ 16
       → (moved_sum n f < 2 ^ (8 * n)) × (moved_sum n (λ i. carryless (f i) p) ≡ carryless (moved_sum n f) p)
   unfolding moved_sum
@@ -68,7 +68,7 @@ module _ (laws : CarrylessLaws) where
             ∙ sym (laws.adds_first (moved_sum n f * 2 ^ 8) (f n) p),
       )
 
-  -- the product with a number of sixteen octets
+  -- the product with a number of 16 octets
   block_by_octets : (x p : ℕ) → x < 2 ^ 128 → moved_sum 16 (λ i. carryless (byte_at (15 - i) x) p) ≡ carryless x p
   block_by_octets x p lt =
       (moved_products p (λ i. byte_at (15 - i) x) (λ i. octet_lt (15 - i) x) 16 (omega arith)).1
@@ -76,11 +76,11 @@ module _ (laws : CarrylessLaws) where
 
 -- ---- eight products at once
 
--- the products of eight nibbles, one at each place, with eight numbers, summed
+-- the sum of the products of eight nibbles in one lane with eight numbers
 sum_at : (ℕ → ℕ → ℕ) → (ℕ → ℕ) → ℕ → ℕ
 sum_at nibbles p i = sum_below 8 (λ k. carryless (nibbles k i) (p k))
 
--- these sums, put together octet by octet
+-- these sums, added up octet by octet
 pub by_octets : (ℕ → ℕ → ℕ) → (ℕ → ℕ) → ℕ
 by_octets nibbles p = moved_sum 17 (λ t. moved_sum 16 (λ i. sum_below 8 (λ k. byte_at (16 - t) (carryless (nibbles k i) (p k)))))
 
@@ -103,7 +103,7 @@ module _ (nibbles : ℕ → ℕ → ℕ) (small : (k : ℕ) → k < 8 → (i : �
       let moved : moved_sum 16 (sum_at nibbles p) * 2 ^ 8 < 2 ^ 259 = moved_lt 131 16 (sum_at nibbles p) (λ i h. sum_at_lt i) in
       rw octets_are (omega (arith, moved))
 
--- the sum of eight products, by those of the left and of the right nibbles of the first factors
+-- the sum of eight products, from the products of the left and right nibbles of the first factors
 pub sum_by_nibbles : CarrylessLaws → (x p : ℕ → ℕ) → ((k : ℕ) → k < 8 → x k < 2 ^ 128) → ((k : ℕ) → k < 8 → p k < 2 ^ 128)
     → bit_xor (by_octets (λ k i. byte_at (15 - i) (x k) / 2 ^ 4) p * 2 ^ 4) (by_octets (λ k i. byte_at (15 - i) (x k) % 2 ^ 4) p)
     ≡ sum_below 8 (λ k. carryless (x k) (p k))
@@ -126,7 +126,7 @@ sum_by_nibbles laws x p x_lt p_lt =
     ∙ moved_of_sum 8 16 product
     ∙ same_sums 8 _ _ (λ k g. block_by_octets laws (x k) (p k) (x_lt k g))
 
--- and its residue
+-- the residue of that sum
 pub residue_by_nibbles : CarrylessLaws → ResidueAdds → ProductIsResidue → (x p : ℕ → ℕ) → ((k : ℕ) → k < 8 → x k < 2 ^ 128) → ((k : ℕ) → k < 8 → p k < 2 ^ 128)
     → residue (bit_xor (by_octets (λ k i. byte_at (15 - i) (x k) / 2 ^ 4) p * 2 ^ 4) (by_octets (λ k i. byte_at (15 - i) (x k) % 2 ^ 4) p))
     ≡ sum_below 8 (λ k. block_product (x k) (p k))
@@ -136,9 +136,9 @@ residue_by_nibbles laws adds is_residue x p x_lt p_lt =
     ∙ sym (sum_under residue keeps 8 (λ k. carryless (x k) (p k)))
     ∙ same_sums 8 _ _ (λ k g. is_residue (x k) (p k) (x_lt k g) (p_lt k g))
 
--- ---- the sum as the code forms it
+-- ---- the sum as the code computes it
 
--- from the tables
+-- computed from the tables
 pub by_tables : (tables : List ℕ) (p : ℕ → ℕ) → AreTables tables p → (found nibbles : ℕ → ℕ → ℕ)
     → ((k : ℕ) → k < 8 → (i : ℕ) → i < 16 → found k i ≡ nibbles k i) → ((k : ℕ) → k < 8 → (i : ℕ) → nibbles k i < 16)
     → sum_by_octets tables found ≡ by_octets nibbles p
@@ -149,7 +149,7 @@ by_tables tables p are found nibbles same small =
     same_sums 8 _ _ (λ k e.
     ap (λ (n : ℕ). slice_index tables (128 * (16 - t) + 16 * k + n)) (same k e i g) ∙ are.at (16 - t) (omega arith) k e (nibbles k i) (small k e i))))
 
--- as two halves of 128 bits
+-- computed as two halves of 128 bits
 pub halves_joined : (a b c d : ℕ) → b < 2 ^ 128 → d < 2 ^ 128 → (a * 2 ^ 128 + b) * 2 ^ 4 < 2 ^ 256
     → bit_xor (bit_xor (a * 2 ^ 4 % 2 ^ 128) (b / 2 ^ 124)) c * 2 ^ 128 + bit_xor (b * 2 ^ 4 % 2 ^ 128) d
     ≡ bit_xor ((a * 2 ^ 128 + b) * 2 ^ 4) (c * 2 ^ 128 + d)

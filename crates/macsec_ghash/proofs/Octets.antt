@@ -1,4 +1,4 @@
--- A number of 128 bits and its octets, as lists have them and as sums have them.
+-- A number of 128 bits and its octets, as a list and as a sum.
 use Rattle.std.proofs.Common.{◌≡◌, ℕ, zero, suc, ◌+◌, ◌*◌, ◌/◌, ◌%◌, ◌^◌, ◌<◌, List, slice_index, refl, sym, ap, ◌∙◌, arith}
 use Rattle.std.specs.Int.{w128, from_be_bytes}
 use Rattle.std.specs.Simd.Lanes.{digits_l}
@@ -14,7 +14,7 @@ digit_is (suc n) (suc i) x lt =
     let e : 8 + 8 * i ≡ 8 * suc i = omega arith in
     digit_is n i (x / 2 ^ 8) (omega arith) ∙ ap (λ (m : ℕ). m % 2 ^ 8) (shr-shr x 8 (8 * i) ∙ ap (λ (m : ℕ). x / 2 ^ m) e)
 
--- the same sum with carries, of which there are none between octets
+-- the same sum with carries; there are none between octets
 with_carries : ℕ → (ℕ → ℕ) → ℕ
 with_carries zero f = 0
 with_carries (suc n) f = with_carries n f * 2 ^ 8 + f n

@@ -1,4 +1,4 @@
--- An octet of the product without carries of a nibble and a number.
+-- An octet of the carryless product of a nibble and a number.
 use Rattle.std.proofs.Common.{◌≡◌, ℕ, zero, suc, ◌+◌, ◌-◌, ◌*◌, ◌/◌, ◌%◌, ◌^◌, ◌<◌, List, [], ◌∷◌, slice_index, bit_xor, refl, sym, ap, ◌∙◌, arith}
 use Rattle.std.specs.Int.{bit_at, byte_at}
 use Rattle.std.specs.Int.Bits.{xor_zero_r, xor_zero_l}
@@ -12,7 +12,7 @@ use Rattle.macsec_ghash.proofs.MovedSums.{octet_is, octets_keep}
 use Rattle.macsec_ghash.proofs.NibbleProducts.{nibble_product}
 use Rattle.macsec_ghash.proofs.Sums.{same_sums, sum_under}
 
--- a move to the left, as one to the right of the number with an octet of zeros behind it
+-- a left shift, as a right shift of the number followed by an octet of zeros
 from_the_right : (p b : ℕ) → b < 4 → p * 2 ^ b ≡ p * 2 ^ 8 / 2 ^ (8 - b)
 from_the_right p zero few = omega arith
 from_the_right p (suc zero) few = omega arith
@@ -20,7 +20,7 @@ from_the_right p (suc (suc zero)) few = omega arith
 from_the_right p (suc (suc (suc zero))) few = omega arith
 from_the_right p (suc (suc (suc (suc b)))) few = absurd (omega arith)
 
--- two octets have what a move by less than an octet needs
+-- two octets have all bits that a shift by less than an octet needs
 two_are_enough : (v b : ℕ) → b < 4 → v / 2 ^ (8 - b) % 2 ^ 8 ≡ v % 2 ^ 16 / 2 ^ (8 - b) % 2 ^ 8
 two_are_enough v zero few = omega arith
 two_are_enough v (suc zero) few = omega arith
@@ -48,7 +48,7 @@ product_octet j n p nibble =
     ∙ sym (sum_under (byte_at j) (octets_keep j) 4 (λ b. bit_at n b * (p * 2 ^ b)))
     ∙ same_sums 4 _ _ (λ b few. octet_of_bit (bit_at n b) j (p * 2 ^ b) (bit_at-lt n b) ∙ ap (λ (m : ℕ). bit_at n b * m) (moved_octet p j b few))
 
--- the sums of some of four numbers, for all nibbles
+-- the sums of all subsets of four numbers, one for each nibble
 abbrev pub sums_of_some : ℕ → ℕ → ℕ → ℕ → List ℕ
 sums_of_some p q r s =
     0 ∷ p ∷ q ∷ bit_xor p q ∷ r ∷ bit_xor p r ∷ bit_xor q r ∷ bit_xor (bit_xor p q) r

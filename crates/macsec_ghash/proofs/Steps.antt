@@ -11,7 +11,7 @@ unfolding power
 power_is_block block h lt zero = lt
 power_is_block block h lt (suc n) = block h (power h n) (power_is_block block h lt n)
 
--- the steps over x and xs from y
+-- hashing x and xs, starting with y
 pub by_powers : AddsInFirst → Associates → ProductIsBlock → (h : ℕ) → h < 2 ^ 128 → (y x : ℕ) (xs : List ℕ)
     → fold (hash_next h) y (x ∷ xs) ≡ weighted h (bit_xor y x ∷ xs)
 unfolding weighted power

@@ -1,4 +1,4 @@
--- Sums of blocks and of words, which are numbers without carries.
+-- Sums of blocks and of words, as numbers without carries.
 use Rattle.std.proofs.Common.{◌≡◌, ℕ, zero, suc, ◌+◌, ◌*◌, ◌^◌, ◌<◌, ◌≤◌, inl, inr, bit_xor, refl, sym, ap, ap₂, ◌∙◌, arith}
 use Rattle.std.specs.Int.Bits.{xor_zero_r, xor_zero_l, xor_assoc}
 use Rattle.std.proofs.lemmas.Nat.{pow_pos, xor_block, xor_comm, xor_lt}
@@ -18,7 +18,7 @@ unfolding sum_below
 same_sums zero f g e = refl
 same_sums (suc n) f g e = ap₂ bit_xor (same_sums n f g (λ i lt. e i (omega arith))) (e n (omega arith))
 
--- the first term apart
+-- the first term separately
 pub sum_first : (n : ℕ) (f : ℕ → ℕ) → sum_below (suc n) f ≡ bit_xor (f 0) (sum_below n (λ i. f (suc i)))
 unfolding sum_below
 sum_first zero f = xor_zero_l (f 0) ∙ sym (xor_zero_r (f 0))
@@ -29,12 +29,12 @@ pub sum_none : (f : ℕ → ℕ) → sum_below 0 f ≡ 0
 unfolding sum_below
 sum_none f = refl
 
--- a term more
+-- one more term
 pub sum_next : (n : ℕ) (f : ℕ → ℕ) → sum_below (n + 1) f ≡ bit_xor (sum_below n f) (f n)
 unfolding sum_below
 sum_next n f = let e : n + 1 ≡ suc n = omega arith in ap (λ (m : ℕ). sum_below m f) e
 
--- ---- functions that keep sums
+-- ---- functions that distribute over sums
 
 pub record KeepsSums (f : ℕ → ℕ) : Type 0 where
   pub adds : (a b : ℕ) → f (bit_xor a b) ≡ bit_xor (f a) (f b)
@@ -54,7 +54,7 @@ sum_of_sums (suc n) f g =
 and_zero : (n : ℕ) → n + 0 ≡ n
 and_zero n = omega arith
 
--- a move to the left
+-- a left shift does
 pub moves_keep : (k : ℕ) → KeepsSums (λ a. a * 2 ^ k)
 moves_keep k = record {
   adds = λ a b.
@@ -63,20 +63,20 @@ moves_keep k = record {
   none = omega arith;
 }
 
--- a number by its parts
+-- a number, from its high and low parts
 pub parts : (k a r : ℕ) → r < 2 ^ k → a * 2 ^ k + r ≡ bit_xor (a * 2 ^ k) r
 parts k a r lt =
     ap₂ (λ (x y : ℕ). x * 2 ^ k + y) (sym (xor_zero_r a)) (sym (xor_zero_l r))
     ∙ sym (xor_block k a 0 0 r (pow_pos k) lt)
     ∙ ap₂ bit_xor (and_zero (a * 2 ^ k)) (let e : 0 * 2 ^ k + r ≡ r = omega arith in e)
 
--- how large a sum is
+-- a bound on a sum
 pub sum_lt : (k n : ℕ) (f : ℕ → ℕ) → ((i : ℕ) → i < n → f i < 2 ^ k) → sum_below n f < 2 ^ k
 unfolding sum_below
 sum_lt k zero f lt = pow_pos k
 sum_lt k (suc n) f lt = xor_lt k (sum_below n f) (f n) (sum_lt k n f (λ i h. lt i (omega arith))) (lt n (omega arith))
 
--- terms of 0 from m on add nothing
+-- terms that are 0 from m on add nothing
 pub sum_of_first : (m n : ℕ) (f : ℕ → ℕ) → m ≤ n → ((i : ℕ) → m ≤ i → f i ≡ 0) → sum_below n f ≡ sum_below m f
 unfolding sum_below
 sum_of_first m zero f le none = let e : m ≡ 0 = omega arith in rw e refl

@@ -12,7 +12,7 @@ use Rattle.macsec_ghash.specs.Powers.{power, weighted}
 use Rattle.macsec_ghash.proofs.Steps.{by_powers}
 use Rattle.macsec_ghash.proofs.Sums.{same_sums, sum_first, sum_none}
 
--- the product of block j of n with its power
+-- the product of block j of n and its power
 term : ℕ → List ℕ → ℕ → ℕ → ℕ
 term h xs n j = block_product (slice_index xs j) (power h (n - 1 - j))
 
@@ -52,7 +52,7 @@ weighted_zeros adds h (suc n) xs =
     let none : block_product 0 p ≡ 0 = adds 0 0 p ∙ xor_self (block_product 0 p) in
     rw none (xor_zero_l (weighted h (replicate n 0 ++ xs)) ∙ weighted_zeros adds h n xs)
 
--- blocks behind zeros, the first of them with the sum
+-- blocks after zeros, with the sum added to the first block
 set_first : (n x y : ℕ) (xs : List ℕ) → set (replicate n 0 ++ x ∷ xs) n (bit_xor (slice_index (replicate n 0 ++ x ∷ xs) n) y) ≡ replicate n 0 ++ bit_xor y x ∷ xs
 set_first n x y xs =
     let first : slice_index (replicate n 0 ++ x ∷ xs) n ≡ x = get_or_at (replicate n 0) x xs 0 n (length-replicate n 0) in
@@ -60,7 +60,7 @@ set_first n x y xs =
     ∙ set_at (replicate n 0) x xs (bit_xor x y) n (length-replicate n 0)
     ∙ ap (λ (z : ℕ). replicate n 0 ++ z ∷ xs) (xor_comm x y)
 
--- blocks at the end of eight, behind zeros
+-- blocks at the end of eight, after zeros
 placed : (n : ℕ) (xs : List ℕ) → n ≤ 8 → put_mid n (8 - n) (replicate 8 0) xs ≡ replicate n 0 ++ xs
 placed n xs le =
     let zeros : List ℕ = replicate 8 0 in
@@ -70,7 +70,7 @@ placed n xs le =
     ∙ ap (λ (rest : List ℕ). take n (replicate 8 0) ++ rest) (append-nil xs)
     ∙ ap (λ (zeros : List ℕ). zeros ++ xs) (take-replicate n 8 0 le)
 
--- eight blocks, the last of which are xs, with the sum added to the first of xs
+-- eight blocks that end with xs, with the sum added to the first of xs
 unfoldable pub tail : ℕ → List ℕ → ℕ → List ℕ
 tail n xs y = set (put_mid n (8 - n) (replicate 8 0) xs) n (bit_xor (slice_index (put_mid n (8 - n) (replicate 8 0) xs) n) y)
 
@@ -90,11 +90,11 @@ weighted-tail adds same block h y lt n (x ∷ xs) some le =
     ∙ weighted_zeros adds h n (bit_xor y x ∷ xs)
     ∙ sym (by_powers adds same block h lt y x xs)
 
--- a block more
+-- one more block
 pub hash_after_next : (h y x : ℕ) (xs : List ℕ) → hash_after h y (xs ++ x ∷ []) ≡ hash_next h (hash_after h y xs) x
 hash_after_next h y x xs = fold-append (hash_next h) y xs (x ∷ [])
 
--- the sum is added to the first of some blocks
+-- the sum is added to the first block
 pub weighted-first : AddsInFirst → Associates → ProductIsBlock → (h y : ℕ) → h < 2 ^ 128 → (xs : List ℕ) → 0 < length xs
     → weighted h (set xs 0 (bit_xor (slice_index xs 0) y)) ≡ hash_after h y xs
 weighted-first adds same block h y lt [] some = absurd (omega arith)

@@ -1,8 +1,8 @@
--- A hash of which some blocks wait.
+-- A hash with waiting blocks.
 use Rattle.std.specs.Prelude.{◌≡◌, ℕ, List, take}
 use Rattle.macsec_ghash.specs.Ghash.{ghash, hash_after}
 use Rattle.macsec_ghash.specs.declared.lane_hash.RunningHash.{RunningHash}
 
--- the hash of all blocks but the waiting ones, and the waiting ones after them, are the hash of these blocks under h
+-- the hash of the other blocks, followed by the waiting ones, is the hash of these blocks under h
 pub record HasRun (s : RunningHash) (h : ℕ) (blocks : List ℕ) : Type 0 where
   pub hash : ghash h blocks ≡ hash_after h s.sum.0 (take s.waiting_count s.waiting)

@@ -4,34 +4,33 @@ use Rattle.std.specs.Int.{bit_at, byte_at}
 use Rattle.macsec_field128.specs.Carryless.{carryless}
 use Rattle.macsec_field128.specs.Field.{sum_below}
 
--- tables of eight numbers: what stands at 128 j + 16 p + n is octet j of the product without carries of nibble n and number p
+-- the tables of eight numbers: index 128 j + 16 p + n has octet j of the carryless product of nibble n and number p
 pub record AreTables (tables : List ℕ) (numbers : ℕ → ℕ) : Type 0 where
   pub at : (j : ℕ) → j < 17 → (p : ℕ) → p < 8 → (n : ℕ) → n < 16
       → slice_index tables (128 * j + 16 * p + n) ≡ byte_at j (carryless n (numbers p))
 
--- octet j of the sum of the products of eight nibbles, each with the number of its place, as the tables have it
+-- octet j of the sum of the products of eight nibbles with the eight numbers, looked up in the tables
 abbrev pub octet_of_sum : List ℕ → ℕ → (ℕ → ℕ) → ℕ
 octet_of_sum tables j nibbles = sum_below 8 (λ p. slice_index tables (128 * j + 16 * p + nibbles p))
 
--- the sum of f 0, .., f (n - 1), each moved eight places to the left of the one after it
+-- the sum of f 0, .., f (n - 1), each shifted left by eight bits more than the one after it
 unfoldable pub moved_sum : ℕ → (ℕ → ℕ) → ℕ
 moved_sum zero f = 0
 moved_sum (suc n) f = bit_xor (moved_sum n f * 2 ^ 8) (f n)
 
--- the sum of the products of eight nibbles with eight numbers, for the nibbles at each of sixteen places, put together octet
--- by octet
+-- the sum of the products of eight nibbles with eight numbers, over the nibbles of 16 lanes, added up octet by octet
 abbrev pub sum_by_octets : List ℕ → (ℕ → ℕ → ℕ) → ℕ
 sum_by_octets tables nibbles = moved_sum 17 (λ t. moved_sum 16 (λ i. octet_of_sum tables (16 - t) (λ p. nibbles p i)))
 
--- sixteen lanes of a vector from one on, as the octets of a number
+-- 16 lanes of a vector from the index `from` on, as the octets of a number
 abbrev pub number_from : ℕ → List ℕ → ℕ
 number_from from v = moved_sum 16 (λ i. slice_index v (from + i))
 
--- a number of 32 octets in two vectors, sixteen lanes of each
+-- a number of 32 octets in two vectors, 16 lanes of each
 abbrev pub number_in : ℕ → List ℕ → List ℕ → ℕ
 number_in from left right = number_from from left * 2 ^ 128 + number_from from right
 
--- the number is moved by an octet and the sums are added to it, if there is room
+-- if there is space, the number is shifted left by an octet and the sums are added to it
 abbrev pub IsMoved : ℕ → List ℕ → List ℕ → List ℕ → List ℕ → List ℕ → Type 0
 IsMoved from left right sums new_left new_right =
     number_in from left right * 2 ^ 8 < 2 ^ 256
@@ -41,6 +40,6 @@ IsMoved from left right sums new_left new_right =
 abbrev pub lane_at : List (List ℕ) → ℕ → ℕ → ℕ
 lane_at vs p k = slice_index (slice_index_or vs p []) k
 
--- an octet of the product without carries of a nibble and a number, from this octet of the number and the one on its right
+-- an octet of the carryless product of a nibble and a number, from this octet of the number and the one on its right
 abbrev pub octet_of_product : ℕ → ℕ → ℕ
 octet_of_product nibble octets = sum_below 4 (λ b. bit_at nibble b * (octets / 2 ^ (8 - b) % 2 ^ 8))

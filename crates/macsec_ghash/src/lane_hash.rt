@@ -1,4 +1,4 @@
-//! GHASH of eight blocks at a time, by powers of the key.
+//! GHASH of eight blocks at a time, with powers of the key.
 
 ghost use Rattle.std.specs.Prelude.{◌≡◌, ◌≤◌, ℕ, List, [], ◌++◌, ◌^◌, ◌<◌, length, take};
 ghost use Rattle.macsec_ghash.specs.Ghash.{ghash, hash_after, hash_next, pad};
@@ -17,14 +17,14 @@ fn weighted(powers: &KeyPowers, blocks: &[u128; 8]) -> Block
     sum_of_products(blocks, powers)
 }
 
-/// A hash by eight powers of a key, which are kept beside it: eight blocks cost one sum of eight products.
+/// A hash that uses eight powers of a key, which the caller keeps. Eight blocks take one sum of eight products.
 #[derive(Drop)]
 pub struct RunningHash {
-    /// The hash of all blocks but the waiting ones.
+    /// The hash of all blocks except the waiting ones.
     sum: Block,
-    /// The blocks that wait until there are eight, and after them whatever was here before.
+    /// The blocks that wait until there are eight. The entries after them are leftovers.
     waiting: [u128; 8],
-    /// How many blocks wait.
+    /// The number of waiting blocks.
     waiting_count: usize,
     ghost has_room: { waiting_count < 8 },
 }
@@ -32,7 +32,7 @@ pub struct RunningHash {
 impl RunningHash {
     ghost use Rattle.macsec_ghash.specs.Running.{HasRun};
 
-    /// The hash of nothing.
+    /// Starts a hash of no blocks.
     #[inline(always)]
     pub fn start() -> RunningHash
         ensures { (h : ℕ) → HasRun result h [] }
@@ -44,7 +44,7 @@ impl RunningHash {
         }
     }
 
-    /// Hashes the blocks of `bytes`, the last of them padded with zeros.
+    /// Hashes the blocks of `bytes`. The last block is padded with zeros.
     pub fn absorb(&mut self, powers: &KeyPowers, bytes: &[u8])
         ensures { (blocks : List ℕ) → HasRun self.old powers.now blocks
             → HasRun self.new powers.now (blocks ++ pad bytes.now) }
@@ -62,12 +62,12 @@ impl RunningHash {
         self.after(powers, &self.waiting[..self.waiting_count])
     }
 
-    /// The hash of all blocks but the waiting ones, and of at most eight more after them.
+    /// The hash of all blocks except the waiting ones, followed by up to eight more.
     fn after(&self, powers: &KeyPowers, blocks: &[u128]) -> Block
         requires { length blocks.now ≤ 8 }
         ensures { result.0 ≡ hash_after powers.now self.now.sum.0 blocks.now }
     {
-        // For the proof: by these laws the steps of the hash over these blocks are one sum of products.
+        // The proof cites these laws: with them the steps of the hash over these blocks are one sum of products.
         product_adds();
         product_associates();
         product_is_block();
@@ -82,7 +82,7 @@ impl RunningHash {
         weighted(powers, &lanes)
     }
 
-    /// The hash of all blocks but the waiting ones, and of eight more after them, which are spent.
+    /// Hashes the eight waiting blocks.
     fn after_eight(&mut self, powers: &KeyPowers)
         ensures none { self.new.waiting_count ≡ 0 }
         ensures hash { self.new.sum.0 ≡ hash_after powers.now self.old.sum.0 self.old.waiting }
@@ -111,7 +111,7 @@ impl RunningHash {
     }
 }
 
-/// The hash by eight powers of the key, with these powers: to start one costs seven products.
+/// The hash with eight powers of the key, which it keeps. Starting it takes seven products.
 #[derive(Drop)]
 pub struct LaneHash {
     powers: KeyPowers,

@@ -1,5 +1,5 @@
-//! Products of eight blocks with eight numbers: the products of nibbles are looked up in tables, in vectors, an octet of
-//! each at a time.
+//! Products of eight blocks with eight numbers. Products of nibbles are looked up in tables held in vectors, one octet
+//! of each product at a time.
 
 ghost use Rattle.std.specs.Prelude.{◌≡◌, ℕ, suc, ◌+◌, ◌-◌, ◌*◌, ◌/◌, ◌%◌, ◌^◌, ◌<◌, slice_index, bit_xor};
 ghost use Rattle.std.specs.Int.{byte_at};
@@ -12,7 +12,7 @@ use macsec_field128::laws::{carryless_laws, product_is_block, product_is_residue
 use macsec_field128::{Block, residue};
 use std::simd::{u8x16, u8x32, u64x2};
 
-/// The sums of the octets of two vectors.
+/// The sum of two vectors, octet by octet.
 #[inline(always)]
 fn add(a: u8x32, b: u8x32) -> u8x32
     ensures { (k : ℕ) → k < 32 → slice_index result k ≡ bit_xor (slice_index a k) (slice_index b k) }
@@ -20,7 +20,7 @@ fn add(a: u8x32, b: u8x32) -> u8x32
     a ^ b
 }
 
-/// The lanes of a vector, and behind them those of another one.
+/// The lanes of a vector, followed by the lanes of another one.
 #[inline(always)]
 fn side_by_side(a: u8x16, b: u8x16) -> u8x32
     ensures { (i : ℕ) → i < 16 → (slice_index result (0 + i) ≡ slice_index a i) × (slice_index result (16 + i) ≡ slice_index b i) }
@@ -50,7 +50,7 @@ fn right_nibbles(octets: u8x16) -> u8x16
     octets & u8x16::splat(15)
 }
 
-/// The octets of a block, from the right.
+/// The octets of a block, starting at the right.
 #[inline(always)]
 fn octets_of(block: u128) -> u8x16
     ensures { (i : ℕ) → i < 16 → slice_index result i ≡ byte_at i block }
@@ -60,7 +60,7 @@ fn octets_of(block: u128) -> u8x16
     u64x2::from_array([right, left]).to_le_bytes()
 }
 
-/// The lanes of a vector, the last one first.
+/// The lanes of a vector in reverse order.
 #[inline(always)]
 fn turned(a: u8x16) -> u8x16
     ensures { (i : ℕ) → i < 16 → slice_index result i ≡ slice_index a (15 - i) }
@@ -68,7 +68,7 @@ fn turned(a: u8x16) -> u8x16
     a.swizzle([15, 14, 13, 12, 11, 10, 9, 8, 7, 6, 5, 4, 3, 2, 1, 0])
 }
 
-/// The left nibbles of the octets of a block, and behind them the right ones.
+/// The left nibbles of the octets of a block, followed by the right ones.
 #[inline(always)]
 fn nibbles_of(block: u128) -> u8x32
     ensures left { (i : ℕ) → i < 16 → slice_index result (0 + i) ≡ byte_at (15 - i) block / 2 ^ 4 }
@@ -79,7 +79,7 @@ fn nibbles_of(block: u128) -> u8x32
     side_by_side(left_nibbles(octets), right_nibbles(octets))
 }
 
-/// What a table has at the nibbles in each lane.
+/// The entry of a table for the nibble in each lane.
 #[inline(always)]
 fn looked_up(table: u8x16, nibbles: u8x32) -> u8x32
     requires { (k : ℕ) → k < 32 → slice_index nibbles k < 16 }
@@ -88,7 +88,7 @@ fn looked_up(table: u8x16, nibbles: u8x32) -> u8x32
     side_by_side(table, table).swizzle_dyn_within::<16>(nibbles)
 }
 
-/// Of the sum of the products of eight nibbles with eight numbers one octet, for the nibbles in each lane.
+/// One octet of the sum of the products of eight nibbles with eight numbers, for the nibbles in each lane.
 #[inline(always)]
 fn octets_of_sums(tables: &[u8; TABLES_LEN], octet: usize, nibbles: &[u8x32; 8]) -> u8x32
     requires octet { octet < 17 }
@@ -103,7 +103,7 @@ fn octets_of_sums(tables: &[u8; TABLES_LEN], octet: usize, nibbles: &[u8x32; 8])
     sums
 }
 
-/// Each half of a vector without its first lane, and behind it the first lane of the same half of another one.
+/// Each half of a vector without its first lane, followed by the first lane of the same half of another vector.
 #[inline(always)]
 fn moved_left(a: u8x32, b: u8x32) -> u8x32
     ensures inner { (i : ℕ) → i < 15 → (slice_index result (0 + i) ≡ slice_index a (0 + suc i)) × (slice_index result (16 + i) ≡ slice_index a (16 + suc i)) }
@@ -118,8 +118,8 @@ fn moved_left(a: u8x32, b: u8x32) -> u8x32
     )
 }
 
-/// Numbers of 32 octets, of which the first vector has the left halves and the second the right ones, an octet to the left,
-/// and sums added at their right ends.
+/// Shifts numbers of 32 octets left by one octet, and adds sums at their right ends. The first vector has the left
+/// halves of the numbers, the second the right halves.
 #[inline(always)]
 fn moved(left: u8x32, right: u8x32, sums: u8x32) -> (u8x32, u8x32)
     ensures first { IsMoved 0 left right sums result.0 result.1 }
@@ -147,7 +147,7 @@ fn second_half(v: u8x32) -> u8x16
     v.extract::<16, 16>()
 }
 
-/// Sixteen octets as a number.
+/// Sixteen octets as a big-endian number.
 #[inline(always)]
 fn number_of(octets: u8x16) -> u128
     ensures { result ≡ number_from 0 octets }
@@ -155,9 +155,9 @@ fn number_of(octets: u8x16) -> u128
     u128::from_be_bytes(octets.to_array())
 }
 
-/// The sums of the products of eight nibbles with eight numbers, for the nibbles in each lane, and summed once more over
-/// the lanes of each half, of which each is moved an octet to the left of the next: numbers of 32 octets, of which the first
-/// vector has the left halves.
+/// Two sums of products of nibbles with eight numbers: one over the lanes of the first halves of `nibbles`, one over
+/// the second halves. In each sum, the products of a lane are shifted one octet to the left of the products of the next
+/// lane. The sums are numbers of 32 octets. The first vector has their left halves, the second their right halves.
 #[inline(always)]
 fn moved_sums(tables: &[u8; TABLES_LEN], nibbles: &[u8x32; 8]) -> (u8x32, u8x32)
     requires { (p : ℕ) → p < 8 → (k : ℕ) → k < 32 → lane_at nibbles.now p k < 16 }
@@ -173,12 +173,12 @@ fn moved_sums(tables: &[u8; TABLES_LEN], nibbles: &[u8x32; 8]) -> (u8x32, u8x32)
     (left, right)
 }
 
-/// The sum of the products of eight blocks with the powers of a key, from the eighth down: the products of the blocks'
-/// nibbles are looked up and summed, and one residue is taken of the whole.
+/// The sum of the products of eight blocks with the powers of a key, from the eighth power down. The products of the
+/// blocks' nibbles are looked up and added, and one residue is computed for all of them.
 pub fn sum_of_products(blocks: &[u128; 8], powers: &KeyPowers) -> Block
     ensures { result.0 ≡ sum_below 8 (λ p. block_product (slice_index blocks.now p) (power powers.now (7 - p))) }
 {
-    // For the proof: the residue of a sum is that of each product, and powers are blocks.
+    // The proof cites these laws: the residue of a sum is the sum of the residues, and powers are blocks.
     carryless_laws();
     residue_adds();
     product_is_residue();
@@ -194,7 +194,7 @@ pub fn sum_of_products(blocks: &[u128; 8], powers: &KeyPowers) -> Block
         nibbles_of(blocks[7]),
     ];
     let (left, right) = moved_sums(&powers.tables, &nibbles);
-    // The products of the left nibbles stand four places to the left of those of the right ones.
+    // The products of the left nibbles are four bits to the left of the products of the right nibbles.
     let (a, b) = (number_of(first_half(left)), number_of(first_half(right)));
     let (c, d) = (number_of(second_half(left)), number_of(second_half(right)));
     residue((a << 4) ^ (b >> 124) ^ c, (b << 4) ^ d)

@@ -1,12 +1,13 @@
 //! GHASH, the hash of GCM (SP 800-38D, 6.4).
 //!
-//! Proved: for `PlainHash` and `LaneHash`, and for whatever else meets the interface `Hash128`, and for every list of
-//! absorbed pieces, `value` is GHASH of the pieces' blocks in order, each piece padded with zeros to whole blocks. Both
-//! meet the one contract of `Hash128`, so they return the same. So is the value of a `RunningHash` by powers that are
-//! kept beside it: contracts see `KeyPowers` as the key, so those of another key can't stand in their place. Laws
-//! (`laws`) state GHASH by its steps, and that of several blocks at once as a sum of products with powers of the key.
+//! Proved: for `PlainHash`, `LaneHash` and every other implementation of `Hash128`, and for every list of absorbed
+//! pieces, `value` is GHASH of the pieces' blocks in order. Each piece is padded with zeros to whole blocks. Both
+//! implementations meet the one contract of `Hash128`, so they return the same value. So does a `RunningHash`, whose
+//! powers the caller keeps. Contracts see `KeyPowers` as the key, so powers of another key cannot take their place.
+//! Laws (`laws`) state GHASH by its steps, and the hash of several blocks at once as a sum of products with powers of
+//! the key.
 //!
-//! No contract speaks of time, nor says that lanes are used.
+//! No contract is about time, or says that lanes are used.
 #![tactic(auto)]
 
 ghost use Rattle.std.specs.Prelude.{◌≡◌, ◌≤◌, ℕ, List, [], ◌++◌, length};
@@ -27,11 +28,11 @@ pub trait Hash128 {
     /// The state has hashed these blocks under this key.
     ghost has_hashed: { Self → ℕ → List ℕ → Type 0 };
 
-    /// A state that has hashed nothing under `h`.
+    /// Starts a hash of no blocks under `h`.
     fn start(h: Block) -> Self
         ensures { has_hashed result h.0 [] };
 
-    /// Hashes the blocks of `bytes`, the last of them padded with zeros.
+    /// Hashes the blocks of `bytes`. The last block is padded with zeros.
     fn absorb(&mut self, bytes: &[u8])
         ensures { (h : ℕ) (blocks : List ℕ) → has_hashed self.old h blocks
             → has_hashed self.new h (blocks ++ pad bytes.now) };
@@ -70,7 +71,7 @@ impl Hash128 for PlainHash {
     }
 }
 
-/// The block of at most 16 octets, padded with zeros.
+/// The block of up to 16 octets, padded with zeros.
 fn block_of(octets: &[u8]) -> Block
     requires { length octets.now ≤ 16 }
     ensures { result.0 ≡ block_of octets.now }

@@ -1,4 +1,4 @@
-//! The powers of a key, kept as tables of the products of nibbles with them.
+//! The powers of a key, kept as tables of products with nibbles.
 
 ghost use Rattle.std.specs.Prelude.{◌≡◌, ℕ, ◌+◌, ◌-◌, ◌*◌, ◌/◌, ◌%◌, ◌^◌, ◌<◌, slice_index, bit_xor};
 ghost use Rattle.std.specs.Int.{bit_at, byte_at};
@@ -9,14 +9,14 @@ use macsec_field128::laws::carryless_laws;
 use macsec_field128::{Block, mul};
 use std::marker::Model;
 
-/// How many octets the product of a nibble and a block has, at most.
+/// The most octets of the product of a nibble and a block.
 pub const OCTETS: usize = 17;
 
-/// How many octets the tables of eight numbers have: 16 for each octet of the products and each number.
+/// The octets of the tables of eight numbers: 16 for each number and each octet of the products.
 pub const TABLES_LEN: usize = 2_176;
 
-/// Eight powers of a key, from the eighth down to the key itself, in tables of the products of nibbles with them. Contracts
-/// see them as the key. To make them costs seven products, so they are kept.
+/// Eight powers of a key, from the eighth down to the key itself, as tables of their products with nibbles. Contracts
+/// see them as the key. They are kept because computing them takes seven products.
 #[derive(Drop)]
 pub struct KeyPowers {
     key: Block,
@@ -36,7 +36,7 @@ impl Model for KeyPowers {
 }
 
 impl KeyPowers {
-    /// The powers of a key.
+    /// Computes the powers of a key.
     pub fn of(h: Block) -> KeyPowers
         ensures { result ≡ h.0 }
     {
@@ -66,7 +66,7 @@ fn tables_of(numbers: &[u128; 8]) -> [u8; TABLES_LEN]
     tables
 }
 
-/// Octet `octet` of a number from the right, and on its right the next one.
+/// Octet `octet` of a number, counted from the right, followed by the octet on its right.
 fn two_octets(number: u128, octet: usize) -> u16
     requires { octet < 17 }
     ensures { result ≡ number * 2 ^ 8 / 2 ^ (8 * octet) % 2 ^ 16 }
@@ -78,7 +78,8 @@ fn two_octets(number: u128, octet: usize) -> u16
     }
 }
 
-/// An octet of the products of all nibbles with a number, from this octet of the number and the one on its right.
+/// One octet of the products of all nibbles with a number. `octets` has this octet of the number and the one on its
+/// right.
 fn octets_of_products(octets: u16) -> [u8; 16]
     ensures { (n : ℕ) → n < 16 → slice_index result n ≡ octet_of_product n octets }
 {

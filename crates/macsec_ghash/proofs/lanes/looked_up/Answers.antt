@@ -1,4 +1,4 @@
--- Each half of the vector has the table, so that a nibble finds its entry in either.
+-- Both halves of the vector have the table, so a nibble finds its entry in either half.
 use Rattle.std.proofs.Common.{◌≡◌, ℕ, ◌+◌, ◌*◌, ◌/◌, ◌<◌, List, slice_index, inl, inr, refl, ap, ◌∙◌, arith, w8}
 use Rattle.std.proofs.lemmas.Bool.{cases_lt}
 use Rattle.std.proofs.lemmas.Simd.{Each1-from_get_or, SwzOk-from_below, get_or-swz_l_below}

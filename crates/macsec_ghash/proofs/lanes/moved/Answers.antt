@@ -1,4 +1,4 @@
--- In each half, the octets are those of the vectors without the first one, and the sums are added at the right end.
+-- In each half, the octets are the old ones without the first, and the sums are added at the right end.
 use Rattle.std.proofs.Common.{ℕ, ◌+◌, slice_index, bit_xor, ap, ◌∙◌, arith}
 use Rattle.macsec_ghash.proofs.Holds.{octet_below}
 use Rattle.macsec_ghash.proofs.MovedSums.{octets_moved}

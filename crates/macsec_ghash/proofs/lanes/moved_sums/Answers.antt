@@ -1,4 +1,4 @@
--- Each turn adds the sums of one octet, the leftmost one first.
+-- Each turn adds the sums of one octet, starting with the leftmost.
 use Rattle.std.proofs.Common.{ℕ, ◌+◌, ◌-◌, ◌*◌, ◌^◌, ◌<◌, refl, arith}
 use Rattle.macsec_ghash.specs.Tables.{lane_at, moved_sum, octet_of_sum}
 use Rattle.macsec_ghash.proofs.MovedSums.{moved_lt, moved_on, same_moved}

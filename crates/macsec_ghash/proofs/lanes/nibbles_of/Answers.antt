@@ -1,4 +1,4 @@
--- The octets of the block, apart in nibbles: the left ones in the first sixteen lanes, and behind them the right ones.
+-- The octets of the block, split into nibbles: the left ones in the first 16 lanes, the right ones after them.
 use Rattle.std.proofs.Common.{◌≡◌, ℕ, ◌+◌, ◌-◌, ◌/◌, ◌%◌, ◌^◌, ◌<◌, slice_index, inl, inr, ap, subst, ◌∙◌, arith}
 use Rattle.std.proofs.lemmas.Bool.{cases_lt}
 use Rattle.macsec_ghash.proofs.lanes.nibbles_of.Goals as goal

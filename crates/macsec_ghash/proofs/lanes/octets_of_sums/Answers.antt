@@ -1,4 +1,4 @@
--- Each place adds what its table has.
+-- Each step adds the entry of one table.
 use Rattle.std.proofs.Common.{◌≡◌, ℕ, ◌+◌, ◌-◌, ◌*◌, ◌<◌, slice_index, bit_xor, sym, ap, ap₂, ◌∙◌, arith}
 use borrow.Rule.Slice.PartMut.{mid_of}
 use Rattle.std.proofs.lemmas.Simd.{get_or-chunk, get_or-replicate}

@@ -1,5 +1,5 @@
--- The nibbles of the blocks are those whose products are looked up; the sums of these are the products without carries, and
--- the residue of their sum is the sum of the products (`NibbleProducts`).
+-- The products of the blocks' nibbles are looked up. Their sums are the carryless products, and the residue of the
+-- total is the sum of the products (`NibbleProducts`).
 use Rattle.std.proofs.Common.{◌≡◌, ℕ, List, [], ◌∷◌, ◌+◌, ◌-◌, ◌*◌, ◌/◌, ◌%◌, ◌^◌, ◌<◌, slice_index, bit_xor, ap, ap₂, ◌∙◌, arith}
 use Rattle.std.specs.Int.{byte_at}
 use Rattle.macsec_field128.specs.Carryless.{residue}

@@ -1,4 +1,4 @@
--- Several steps at once: by induction over the blocks, from the laws of the product.
+-- Several steps at once, by induction over the blocks from the laws of the product.
 use Rattle.std.proofs.Common.{◌∙◌, ◌∷◌}
 use Rattle.macsec_ghash.specs.Ghash.{ghash}
 use Rattle.macsec_ghash.proofs.Blocks.{ghash-append}

@@ -1,5 +1,4 @@
--- GHASH by its steps: of no blocks, and of one block more.
--- By the definition, and by the lemma on blocks that follow others (`Blocks`).
+-- GHASH of no blocks, and of one more block. Proved from the definition and the lemma on appended blocks in `Blocks`.
 use Rattle.std.proofs.Common.{refl, ◌∷◌, []}
 use Rattle.macsec_ghash.specs.Ghash.{ghash}
 use Rattle.macsec_ghash.proofs.Blocks.{ghash-append}

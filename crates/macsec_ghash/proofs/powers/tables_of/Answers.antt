@@ -1,4 +1,4 @@
--- All places are all octets and all numbers.
+-- The steps of the loop cover all octets and all numbers.
 use Rattle.std.proofs.Common.{◌≡◌, ℕ, List, ◌+◌, ◌*◌, ◌/◌, ◌%◌, ◌^◌, slice_index, sym, ap, ap₂, ◌∙◌, arith}
 use Rattle.macsec_ghash.specs.Tables.{octet_of_product}
 use Rattle.macsec_ghash.proofs.ProductOctets.{product_octet}

@@ -2,7 +2,7 @@ use Rattle.std.proofs.Common.{◌≡◌, ℕ, ◌+◌, ◌*◌, ◌/◌, ◌%◌
 use Rattle.macsec_ghash.specs.Tables.{octet_of_product}
 use Rattle.macsec_ghash.proofs.powers.tables_of.Given as goal
 
--- the tables up to here
+-- the tables so far are filled
 abbrev pub invariant-loop-place : goal.invariant-loop-place
 invariant-loop-place l =
     (q : ℕ) → q < l.place → (n : ℕ) → n < 16

@@ -1,4 +1,4 @@
--- The number with an octet of zeros behind it, moved right.
+-- The number followed by an octet of zeros, shifted right.
 use Rattle.std.proofs.Common.{◌≡◌, ℕ, ◌+◌, ◌-◌, ◌*◌, ◌/◌, ◌%◌, ◌^◌, bit_and, sym, ap, ◌∙◌, arith}
 use Rattle.std.proofs.lemmas.Nat.{and_mask, shl-shr, shr-shr}
 use Rattle.macsec_ghash.proofs.powers.two_octets.Goals as goal

@@ -1,11 +1,11 @@
--- Each chunk adds its block to the hash, and at the end the blocks of all octets are hashed.
--- By the loop's invariant and the lemmas on the blocks of a text (`Blocks`).
+-- Each chunk adds its block to the hash, and at the end all blocks are hashed. Proved from the loop's invariant and the
+-- lemmas on the blocks of a text in `Blocks`.
 use Rattle.std.proofs.Common.{rules, ◌≡◌, ℕ, length, take, ap, ◌∙◌, sym, min}
 use Rattle.macsec_ghash.specs.Ghash.{hash_after, hash_next, pad}
 use Rattle.macsec_ghash.proofs.Blocks.{pad_chunk, pad_none, ghash-append}
 use Rattle.macsec_ghash.proofs.lane_hash.RunningHash.absorb.Goals as goal
 
--- For speed: of a wrong body the prover would otherwise try more.
+-- For speed: on a wrong body the prover would otherwise try more.
 pub loop-chunk-init : goal.loop-chunk-init
 loop-chunk-init c = search rules
 

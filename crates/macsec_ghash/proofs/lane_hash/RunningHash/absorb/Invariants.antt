@@ -2,7 +2,7 @@ use Rattle.std.proofs.Common.{◌≡◌, take}
 use Rattle.macsec_ghash.specs.Ghash.{hash_after, pad}
 use Rattle.macsec_ghash.proofs.lane_hash.RunningHash.absorb.Given as goal
 
--- hashing the blocks that are left, from those so far, gives the hash of all blocks from those at the start
+-- hashing the remaining blocks from the state so far gives the hash of all blocks from the first state
 abbrev pub invariant-loop-chunk : goal.invariant-loop-chunk
 invariant-loop-chunk l = record {
   size : l.chunk-iterator.size ≡ 16;
