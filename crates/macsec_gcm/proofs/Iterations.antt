@@ -1,4 +1,4 @@
--- A function applied several times.
+-- Applying a function several times.
 use Rattle.std.proofs.Common.{◌≡◌, ℕ, zero, suc, ◌+◌, refl, add-one, arith}
 use Rattle.std.specs.Fn.{iterate}
 
@@ -6,11 +6,11 @@ iterate-suc : {A : Type 0} (h : A → A) (n : ℕ) (x : A) → iterate h (suc n)
 iterate-suc h zero x = refl
 iterate-suc h (suc n) x = iterate-suc h n (h x)
 
--- the last of n + 1 times
+-- n + 1 times is once more after n times
 pub iterate_more : {A : Type 0} (h : A → A) (n : ℕ) (x : A) → iterate h (n + 1) x ≡ h (iterate h n x)
 iterate_more h n x = rw add-one (iterate-suc h n x)
 
--- m times, and then n times
+-- m times, then n times
 pub iterate_add : {A : Type 0} (h : A → A) (m n : ℕ) (x : A) → iterate h (m + n) x ≡ iterate h n (iterate h m x)
 iterate_add h zero n x =
     let e : 0 + n ≡ n = omega arith in

@@ -1,4 +1,4 @@
--- Key streams, and the texts to which they are added.
+-- Key streams, and the texts that they are added to.
 use Rattle.std.proofs.Common.{◌≡◌, ℕ, suc, ◌+◌, ◌-◌, ◌*◌, ◌/◌, ◌%◌, ◌<◌, ◌≤◌, List, [], ◌∷◌, length, get_or, take, drop, bit_xor}
 use Rattle.std.proofs.Common.{map, replicate, refl, sym, ap, ap₂, ◌∙◌, arith, inl, inr, length-drop, length-append, ◌++◌}
 use Rattle.std.proofs.lemmas.List.{length-map, length-replicate, length-take-le, get_or_append_left, get_or-append_right, get_or-map, get_or-take, get_or-drop}
@@ -42,7 +42,7 @@ unfolding gctr
 get_or-gctr key icb text k lt =
     get_or-map-range_with_len (λ k. bit_xor (get_or text k 0) (key_stream key icb k)) 0 (length text) k k 0 lt (omega arith)
 
--- ---- the key stream added part by part
+-- ---- adding the key stream part by part
 
 -- the first m octets of a stream are added
 pub sum_of_part : (f : ℕ → ℕ) (old stream : List ℕ) (m : ℕ) → m ≤ length old → ((k : ℕ) → k < m → get_or stream k 0 ≡ f k)
@@ -61,7 +61,7 @@ sum_of_part f old stream m le each =
           get_or-append_right sum (drop m old) m k 0 long ge ∙ get_or-drop m old (k - m) 0 ∙ ap (λ (p : ℕ). get_or old p 0) place;
     }
 
--- a part more
+-- one more part
 pub sum_continues : (f g : ℕ → ℕ) (old text ys : List ℕ) (a m : ℕ) → IsSumBelow f old text a → length text ≡ length old → a ≤ length old
     → IsSumBelow g (drop a text) ys m → ((k : ℕ) → g k ≡ f (a + k)) → IsSumBelow f old (take a text ++ ys) (a + m)
 sum_continues f g old text ys a m held same le more later =
@@ -81,7 +81,7 @@ sum_continues f g old text ys a m held same le more later =
           ∙ more.left (k - a) (omega arith) ∙ get_or-drop a text (k - a) 0 ∙ ap (λ (p : ℕ). get_or text p 0) place ∙ held.left k (omega arith);
     }
 
--- ---- a text with a piece more
+-- ---- a text with one more piece
 
 pub gctr-append : (key icb p q r : List ℕ) → length r ≡ length q → IsSumBelow (λ k. key_stream key icb (length p + k)) q r (length q)
     → gctr key icb (p ++ q) ≡ gctr key icb p ++ r
@@ -103,7 +103,7 @@ gctr-append key icb p q r long sum =
           ∙ sym (get_or-append_right (gctr key icb p) r (length p) k 0 lp past)
     ])
 
--- ---- a text added to the key stream at once
+-- ---- adding the key stream to a text at once
 
 pub sum_with_key_stream : (key icb text stream : List ℕ) → ((k : ℕ) → k < length text → get_or stream k 0 ≡ key_stream key icb k)
     → sum_with_stream text stream ≡ gctr key icb text
@@ -117,7 +117,7 @@ sum_with_key_stream key icb text stream each =
     ∙ ap (bit_xor (get_or text k 0)) (each k inside)
     ∙ sym (get_or-gctr key icb text k inside))
 
--- a text of at most one block is added to the key stream of the first counter block, which is what zeros become
+-- adding a text of up to one block to the key stream of the first counter block, which is GCTR of zeros
 pub sum_with_mask : (key icb text : List ℕ) → length text ≤ 16 → sum_with_stream text (gctr key icb (replicate 16 0)) ≡ gctr key icb text
 sum_with_mask key icb text le = sum_with_key_stream key icb text (gctr key icb (replicate 16 0)) (λ k lt.
     let zeros : k < length {A = ℕ} (replicate 16 0) = omega (arith, length-replicate {A = ℕ} 16 0) in
@@ -162,7 +162,7 @@ stream_of_blocks key icb n blocks long each k lt =
     get_or-flat_map (map (aes key) blocks) k (λ i h. ap length (block i (omega arith)) ∙ length-aes key (get_or blocks i [])) (omega arith)
     ∙ ap (λ (b : List ℕ). get_or b (k % 16) 0) (block (k / 16) inside ∙ ap (aes key) (each (k / 16) (omega arith)))
 
--- ---- the key stream added twice
+-- ---- adding the key stream twice
 
 pub gctr-gctr : (key icb text : List ℕ) → gctr key icb (gctr key icb text) ≡ text
 gctr-gctr key icb text =

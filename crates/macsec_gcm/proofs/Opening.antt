@@ -6,13 +6,13 @@ use Rattle.macsec_gcm.specs.Octets.{same_octets}
 use Rattle.macsec_gcm.specs.Pieces.{decrypted}
 use Rattle.macsec_gcm.proofs.KeyStreams.{gctr-gctr, length-gctr}
 
--- the tag that sealing gives with a ciphertext
+-- the tag of a ciphertext
 abbrev pub tag_of : List ℕ → List ℕ → List ℕ → List ℕ → List ℕ
 tag_of key iv aad ciphertext = authentication_tag key (pre_counter_block iv) aad ciphertext
 
--- ---- what seals
+-- ---- plaintexts that seal to a ciphertext
 
--- a plaintext is what its ciphertext decrypts to
+-- decrypting the ciphertext of a plaintext gives the plaintext
 plaintext_from_sealed : (key iv aad plaintext : List ℕ) → decrypted key iv (seal_of key iv aad plaintext).0 ≡ plaintext
 unfolding seal_of
 plaintext_from_sealed key iv aad plaintext = gctr-gctr key (inc32 (pre_counter_block iv)) plaintext
@@ -29,18 +29,18 @@ pub length-tag : (key iv aad plaintext : List ℕ) → length (seal_of key iv aa
 unfolding seal_of authentication_tag
 length-tag key iv aad plaintext = length-gctr key (pre_counter_block iv) _
 
--- what a ciphertext decrypts to seals to the ciphertext
+-- a decrypted ciphertext seals to the ciphertext
 seal_of-decrypted : (key iv aad ciphertext : List ℕ) → seal_of key iv aad (decrypted key iv ciphertext) ≡ (ciphertext, tag_of key iv aad ciphertext)
 unfolding seal_of
 seal_of-decrypted key iv aad ciphertext = rw (gctr-gctr key (inc32 (pre_counter_block iv)) ciphertext) refl
 
--- what a plaintext seals to has its tag
+-- if a plaintext seals to a ciphertext and a tag, the tag is the ciphertext's
 tag_from_sealed : (key iv aad ciphertext tag plaintext : List ℕ) → seal_of key iv aad plaintext ≡ (ciphertext, tag) → tag_of key iv aad ciphertext ≡ tag
 unfolding seal_of
 tag_from_sealed key iv aad ciphertext tag plaintext e =
     ap (tag_of key iv aad) (sym (ap (λ (s : List ℕ × List ℕ). s.0) e)) ∙ ap (λ (s : List ℕ × List ℕ). s.1) e
 
--- ---- opening by the test of the tag
+-- ---- opening by testing the tag
 
 same_octets-refl : (xs : List ℕ) → same_octets xs xs ≡ true
 same_octets-refl [] = refl
@@ -51,7 +51,7 @@ pub open_of-by_test : (key iv aad ciphertext tag : List ℕ) →
 unfolding open_of
 open_of-by_test key iv aad ciphertext tag = rw (seal_of-decrypted key iv aad ciphertext, same_octets-refl ciphertext) refl
 
--- the test is in the conclusion too: it is the call with all the variables, by which tactics find the lemma
+-- the test is repeated in the conclusion: it has all the variables, and tactics find the lemma by it
 pub sealed_by_test : (key iv aad ciphertext tag : List ℕ) → same_octets (tag_of key iv aad ciphertext) tag ≡ true
     → (same_octets (tag_of key iv aad ciphertext) tag ≡ true) × (seal_of key iv aad (decrypted key iv ciphertext) ≡ (ciphertext, tag))
 sealed_by_test key iv aad ciphertext tag e =

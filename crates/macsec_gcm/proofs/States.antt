@@ -1,4 +1,4 @@
--- The states of texts in pieces, step by step.
+-- The states of sealing and opening in pieces, step by step.
 use Rattle.std.proofs.Common.{◌≡◌, ℕ, zero, suc, ◌+◌, ◌-◌, ◌*◌, ◌/◌, ◌%◌, ◌<◌, ◌≤◌, List, [], ◌++◌, length, get_or, take}
 use Rattle.std.proofs.Common.{drop, refl, sym, ap, ◌∙◌, arith, inl, inr, length-append, length-drop, append_assoc}
 use Rattle.std.proofs.lemmas.List.{append-nil, drop-append-le, drop_all, get_or_append_left, get_or-append_right, length-take-le, nil_from_length, take-append-drop, take-append-le}
@@ -18,7 +18,7 @@ use Rattle.macsec_gcm.proofs.KeyStreams.{key_stream-later}
 
 -- ---- key streams
 
--- m octets more of the batch are used
+-- m more octets of the batch are used
 pub stream_moves : (s t : KeyStream) (key icb : List ℕ) (n m : ℕ) → IsStreamAt s key icb n → m ≤ 256 - s.used → t.schedule.now ≡ s.schedule.now → t.octets ≡ s.octets
     → t.counter ≡ s.counter → t.used ≡ s.used + m → IsStreamAt t key icb (n + m)
 stream_moves s t key icb n m at le same_key same_octets same_counter used =
@@ -35,7 +35,7 @@ stream_moves s t key icb n m at le same_key same_octets same_counter used =
       counter = same_counter ∙ at.counter;
     }
 
--- the next batch of m blocks is made, where all octets are used
+-- after all octets are used, the next batch of m blocks is computed
 pub stream_refilled : (s t : KeyStream) (key icb : List ℕ) (n m : ℕ) → IsStreamAt s key icb n → s.used ≡ 256 → m ≤ 16 → t.schedule.now ≡ s.schedule.now
     → t.used ≡ 256 - 16 * m → ((k : ℕ) → k < 16 * m → get_or t.octets (256 - 16 * m + k) 0 ≡ key_stream s.schedule.now s.counter k)
     → t.counter ≡ iterate inc32 m s.counter → IsStreamAt t key icb n
@@ -50,7 +50,7 @@ stream_refilled s t key icb n m at all le same_key used made counter =
       counter = counter ∙ ap (iterate inc32 m) at.counter ∙ sym (iterate_add inc32 at.blocks m icb);
     }
 
--- past the first block, the key stream is that from the next counter block on
+-- after the first block, the key stream is the one from the next counter block on
 pub stream_after_block : (s : KeyStream) (key icb : List ℕ) (n : ℕ) → IsStreamAt s key icb (16 + n) → IsStreamAt s key (inc32 icb) n
 stream_after_block s key icb n at =
     let whole : 16 + n + (256 - s.used) ≡ 16 * at.blocks = at.whole in
@@ -78,7 +78,7 @@ blocks_of-append (suc m) n xs ys long =
     let le : 16 ≤ length xs = omega arith in
     rw (e, take-append-le 16 xs ys le, drop-append-le 16 xs ys le, blocks_of-append m n (drop 16 xs) ys (omega (arith, length-drop 16 xs))) refl
 
--- whole blocks are padded with nothing
+-- whole blocks need no padding
 pub pad-append : (xs ys : List ℕ) → length xs % 16 ≡ 0 → pad (xs ++ ys) ≡ pad xs ++ pad ys
 unfolding pad
 pad-append xs ys whole =
@@ -89,11 +89,11 @@ pad-append xs ys whole =
     let all : (length (xs ++ ys) + 15) / 16 ≡ m + n = omega (arith, length-append xs ys) in
     rw (count, all) (blocks_of-append m n xs ys long)
 
--- blocks, whole blocks of a text, and what is left of it
+-- blocks, whole blocks of a text, and the rest of it
 pub padded : (blocks whole rest : List ℕ) → length whole % 16 ≡ 0 → (blocks ++ pad whole) ++ pad rest ≡ blocks ++ pad (whole ++ rest)
 padded blocks whole rest is_whole = append_assoc blocks (pad whole) (pad rest) ∙ ap (λ (b : List ℕ). blocks ++ b) (sym (pad-append whole rest is_whole))
 
--- octets that make the block of the waiting ones whole, and whole blocks after that, were hashed
+-- octets that complete the waiting block, and whole blocks after it, were hashed
 pub hashing_more : (s t : PaddedHash) (h : ℕ) (blocks text ys : List ℕ) (at : IsHashing s h blocks text)
     → length (take s.waiting_count s.waiting ++ ys) % 16 ≡ 0 → t.waiting_count ≡ 0
     → t.powers.now ≡ s.powers.now → HasRun t.hash t.powers.now ((blocks ++ pad at.whole) ++ pad (take s.waiting_count s.waiting ++ ys)) → IsHashing t h blocks (text ++ ys)
@@ -125,11 +125,11 @@ hashing_ended s t h blocks text at none same hashed =
 
 -- ---- lists
 
--- a text in front of a piece that was split into two parts
+-- a text followed by a piece that was split in two
 pub two_parts : (text piece front back : List ℕ) (n : ℕ) → front ≡ take n piece → back ≡ drop n piece → (text ++ front) ++ back ≡ text ++ piece
 two_parts text piece front back n ef eb = rw (ef, eb, append_assoc text (take n piece) (drop n piece), take-append-drop n piece) refl
 
--- a write to the last m octets
+-- writing the last m octets
 pub put_mid-end : (a m : ℕ) (xs ys : List ℕ) → length xs ≡ a + m → put_mid a m xs ys ≡ take a xs ++ ys
 put_mid-end a m xs ys long =
     ap (λ (zs : List ℕ). take a xs ++ (ys ++ zs)) (drop_all m (drop a xs) (omega (arith, length-drop a xs)))
@@ -142,9 +142,9 @@ get_or-put_mid a m k xs ys le lt =
     ∙ ap (λ (p : ℕ). get_or (ys ++ drop m (drop a xs)) p 0) place
     ∙ get_or_append_left ys (drop m (drop a xs)) 0 k lt
 
--- ---- what a tag is made of
+-- ---- the input of a tag
 
--- the last text was ended: that of the ciphertext, or where it is empty that of the additional authenticated data
+-- the last text was ended: the ciphertext, or if it is empty, the additional authenticated data
 pub texts_ended : (s : Authenticator) (t : PaddedHash) (key j0 aad text : List ℕ) → HasAuthenticated s key j0 aad text
     → ((blocks last : List ℕ) → IsHashing s.hash (hash_subkey key) blocks last → IsHashing t (hash_subkey key) (blocks ++ pad last) [])
     → IsHashing t (hash_subkey key) (pad aad ++ pad text) []

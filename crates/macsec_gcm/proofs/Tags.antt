@@ -1,4 +1,4 @@
--- Two blocks of octets are the same where the sum of the numbers that they are is 0.
+-- Two blocks of octets are the same if the sum of their numbers is 0.
 use Rattle.std.proofs.Common.{◌≡◌, ℕ, zero, suc, ◌+◌, ◌*◌, ◌^◌, ◌<◌, Bool, true, false, List, inl, inr, length, slice_index, bit_xor, refl, sym, ap, ◌∙◌, arith}
 use Rattle.std.specs.Prelude.{◌==◌}
 use Rattle.std.specs.Int.{w128, from_be_bytes}
@@ -8,7 +8,7 @@ use Rattle.std.proofs.lemmas.Bool.{cases_lt, ne_eqb}
 use Rattle.std.proofs.lemmas.List.{ext_get_or}
 use Rattle.macsec_gcm.specs.Octets.{same_octets}
 
--- n octets as a number, the first one highest
+-- n octets as a number, most significant first
 number_of : ℕ → (ℕ → ℕ) → ℕ
 number_of zero f = 0
 number_of (suc n) f = number_of n f * 2 ^ 8 + f n
@@ -17,7 +17,7 @@ number_is : (octets : List ℕ) → from_be_bytes w128 octets ≡ number_of 16 (
 unfolding number_of
 number_is octets = omega arith
 
--- equal numbers are of equal octets
+-- equal numbers have equal octets
 octets_same : (n : ℕ) (f g : ℕ → ℕ) → ((i : ℕ) → i < n → f i < 2 ^ 8) → ((i : ℕ) → i < n → g i < 2 ^ 8)
     → number_of n f ≡ number_of n g → (i : ℕ) → i < n → f i ≡ g i
 unfolding number_of

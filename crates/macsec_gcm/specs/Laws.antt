@@ -2,7 +2,7 @@
 use Rattle.std.specs.Prelude.{◌≡◌, ◌↔◌, ℕ, List, length, Some}
 use Rattle.macsec_gcm.specs.Gcm.{seal_of, open_of}
 
--- opening undoes sealing: it gives a plaintext exactly when that plaintext seals to the ciphertext and the tag
+-- opening undoes sealing: it gives a plaintext exactly if that plaintext seals to the ciphertext and the tag
 abbrev pub OpenUndoesSeal : Type 0
 OpenUndoesSeal = (key iv aad ciphertext tag plaintext : List ℕ) → (open_of key iv aad ciphertext tag ≡ Some plaintext) ↔ (seal_of key iv aad plaintext ≡ (ciphertext, tag))
 

@@ -1,4 +1,4 @@
--- Texts that are sealed and opened in pieces: what the states have taken in so far.
+-- Sealing and opening in pieces: what the states have taken in so far.
 use Rattle.std.specs.Prelude.{◌≡◌, ℕ, ◌+◌, ◌-◌, ◌*◌, ◌%◌, ◌^◌, ◌<◌, List, [], ◌++◌, length, min, replicate, slice_index, take}
 use Rattle.std.specs.Fn.{iterate}
 use Rattle.macsec_ghash.specs.Ghash.{pad}
@@ -14,8 +14,8 @@ use Rattle.macsec_gcm.specs.declared.pieces.Unlocked.{Unlocked}
 
 -- ---- the key stream and the hash
 
--- n octets of the key stream are used: the next ones stand at the end of the batch, and the counter block of the next
--- batch is as many blocks after the initial one as octets are used or stand there
+-- n octets of the key stream are used; the next ones are at the end of the batch; the counter block of the next batch
+-- follows the initial one by as many blocks as the used and the ready octets make
 pub record IsStreamAt (s : KeyStream) (key icb : List ℕ) (n : ℕ) : Type 0 where
   pub key_is : s.schedule.now ≡ key
   pub ready : (k : ℕ) → k < 256 - s.used → slice_index s.octets (s.used + k) ≡ key_stream key icb (n + k)
@@ -23,7 +23,7 @@ pub record IsStreamAt (s : KeyStream) (key icb : List ℕ) (n : ℕ) : Type 0 wh
   pub whole : n + (256 - s.used) ≡ 16 * blocks
   pub counter : s.counter ≡ iterate inc32 blocks icb
 
--- the hash has hashed these blocks and then the whole blocks of a text, and the octets after them wait
+-- the hash covers these blocks and the whole blocks of a text, and the other octets of the text are waiting
 pub record IsHashing (s : PaddedHash) (h : ℕ) (blocks text : List ℕ) : Type 0 where
   pub whole : List ℕ
   pub is_whole : length whole % 16 ≡ 0
@@ -42,7 +42,7 @@ pub record HasAuthenticated (s : Authenticator) (key j0 aad ciphertext : List �
 
 -- ---- sealing and opening
 
--- the sum of a text with the key stream: the plaintext of a ciphertext, and the ciphertext of a plaintext
+-- the sum of a text and the key stream: the plaintext of a ciphertext, or the ciphertext of a plaintext
 abbrev pub decrypted : List ℕ → List ℕ → List ℕ → List ℕ
 decrypted key iv text = gctr key (inc32 (pre_counter_block iv)) text
 

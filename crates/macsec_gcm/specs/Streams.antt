@@ -8,7 +8,7 @@ use Rattle.macsec_gcm.specs.Gcm.{inc32}
 abbrev pub key_stream : List ℕ → List ℕ → ℕ → ℕ
 key_stream key icb k = slice_index (aes key (iterate inc32 (k / 16) icb)) (k % 16)
 
--- the first n octets of a text are those of the old one with f added, and the others are those of the old one
+-- the first n octets are the old ones with f added, and the others are the old ones
 pub record IsSumBelow (f : ℕ → ℕ) (old text : List ℕ) (n : ℕ) : Type 0 where
   pub done : (k : ℕ) → k < n → k < length old → slice_index text k ≡ bit_xor (slice_index old k) (f k)
   pub left : (k : ℕ) → n ≤ k → slice_index text k ≡ slice_index old k

@@ -1,4 +1,4 @@
-//! The tag of additional authenticated data and a ciphertext in pieces (SP 800-38D, 7.1, steps 4 to 6).
+//! The tag of additional authenticated data and a ciphertext, both in pieces (SP 800-38D, 7.1, steps 4 to 6).
 
 ghost use Rattle.std.specs.Prelude.{◌≡◌, ◌*◌, ◌^◌, ◌<◌, ◌≤◌, ◌++◌, [], ℕ, List, length, replicate};
 ghost use Rattle.macsec_gcm.specs.Gcm.{authentication_tag, gctr, hash_subkey, length_block, max_aad_len, max_plaintext_len};
@@ -7,13 +7,13 @@ use crate::hash::PaddedHash;
 use crate::key_stream::add_octets;
 use macsec_ghash::KeyPowers;
 
-/// The authentication of additional authenticated data and a ciphertext in pieces.
+/// Authenticates additional authenticated data and a ciphertext in pieces.
 #[derive(Drop)]
 pub struct Authenticator<'k> {
     hash: PaddedHash<'k>,
     /// The key stream of the pre-counter block, which is added to the hash.
     mask: [u8; 16],
-    /// The octets so far, or 2^64 - 1 where there are more.
+    /// The octets so far, or 2^64 - 1 if there are more.
     aad_len: u64,
     ciphertext_len: u64,
 }
@@ -22,8 +22,8 @@ impl<'k> Authenticator<'k> {
     ghost use Rattle.macsec_ghash.specs.Ghash.{pad};
     ghost use Rattle.macsec_gcm.specs.Pieces.{HasAuthenticated, IsHashing};
 
-    /// Nothing is authenticated yet, by these powers of the hash subkey. `mask` is the key stream of the pre-counter
-    /// block.
+    /// Starts an authentication. `powers` are the powers of the hash subkey, and `mask` is the key stream of the
+    /// pre-counter block.
     #[inline(always)]
     pub fn start(powers: &'k KeyPowers, mask: [u8; 16]) -> Authenticator<'k>
         ensures { (key j0 : List ℕ) → powers.now ≡ hash_subkey key
@@ -37,7 +37,7 @@ impl<'k> Authenticator<'k> {
         }
     }
 
-    /// The next piece of the additional authenticated data.
+    /// Takes the next piece of the additional authenticated data.
     pub fn aad(&mut self, piece: &[u8])
         ensures { (key j0 aad : List ℕ) → HasAuthenticated self.old key j0 aad []
             → HasAuthenticated self.new key j0 (aad ++ piece.now) [] }
@@ -46,12 +46,12 @@ impl<'k> Authenticator<'k> {
         self.aad_len = self.aad_len.saturating_add(piece.len() as u64);
     }
 
-    /// The next piece of the ciphertext.
+    /// Takes the next piece of the ciphertext.
     pub fn ciphertext(&mut self, piece: &[u8])
         ensures { (key j0 aad text : List ℕ) → HasAuthenticated self.old key j0 aad text
             → HasAuthenticated self.new key j0 aad (text ++ piece.now) }
     {
-        // The first octet of the ciphertext ends the additional authenticated data: an empty piece does not.
+        // The first octet of the ciphertext ends the additional authenticated data. An empty piece does not.
         if piece.is_empty() {
             return;
         }
@@ -60,7 +60,7 @@ impl<'k> Authenticator<'k> {
         self.ciphertext_len = self.ciphertext_len.saturating_add(piece.len() as u64);
     }
 
-    /// The authentication tag of all that was taken in.
+    /// Returns the authentication tag of all pieces.
     pub fn tag(&mut self) -> [u8; 16]
         ensures { (key j0 aad text : List ℕ) → HasAuthenticated self.old key j0 aad text
             → length aad ≤ max_aad_len → length text ≤ max_plaintext_len
@@ -74,7 +74,7 @@ impl<'k> Authenticator<'k> {
         tag
     }
 
-    /// Ends the additional authenticated data, unless they have ended.
+    /// Ends the additional authenticated data, unless they have already ended.
     fn end_aad(&mut self)
         ensures mask { self.new.mask ≡ self.old.mask }
         ensures aad_len { self.new.aad_len ≡ self.old.aad_len }
@@ -88,7 +88,7 @@ impl<'k> Authenticator<'k> {
     }
 }
 
-/// The bit lengths of `aad` and `ciphertext` octets.
+/// The block of the bit lengths, given the lengths in octets.
 fn length_block(aad: u64, ciphertext: u64) -> [u8; 16]
     ensures { (a c : List ℕ) → length a ≡ aad → length c ≡ ciphertext → 8 * aad < 2 ^ 64 → 8 * ciphertext < 2 ^ 64
         → result ≡ length_block a c }

@@ -4,7 +4,7 @@ ghost use Rattle.std.specs.Prelude.{◌≡◌, ℕ, ◌<◌, [], length, slice_i
 ghost use Rattle.std.specs.Fn.{iterate};
 ghost use Rattle.macsec_gcm.specs.Gcm.{inc32, pre_counter_block};
 
-/// The counter block before the first one of the plaintext: J0 (7.1, step 2).
+/// J0, the counter block before the first one of the plaintext (7.1, step 2).
 pub fn pre_counter_block(iv: &[u8; 12]) -> [u8; 16]
     ensures { result ≡ pre_counter_block iv.now }
 {
@@ -14,7 +14,7 @@ pub fn pre_counter_block(iv: &[u8; 12]) -> [u8; 16]
     counter
 }
 
-/// Adds one to the last four octets modulo 2^32, and leaves the first twelve (SP 800-38D, 6.2).
+/// Adds one to the last four octets modulo 2^32, and keeps the first twelve (SP 800-38D, 6.2).
 pub fn inc32(block: [u8; 16]) -> [u8; 16]
     ensures { result ≡ inc32 block }
 {
@@ -24,7 +24,7 @@ pub fn inc32(block: [u8; 16]) -> [u8; 16]
     next
 }
 
-/// Counter blocks, from `first` on.
+/// Consecutive counter blocks, starting with `first`.
 pub fn blocks_from<const N: usize>(first: [u8; 16]) -> [[u8; 16]; N]
     requires { 0 < N }
     ensures count { length result ≡ N }

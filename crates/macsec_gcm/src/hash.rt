@@ -1,20 +1,20 @@
-//! The hash of texts in pieces, each text padded with zeros to whole blocks (SP 800-38D, 7.1, step 5).
+//! Hashes texts in pieces. Each text is padded with zeros to whole blocks (SP 800-38D, 7.1, step 5).
 
 ghost use Rattle.std.specs.Prelude.{◌≡◌, ◌+◌, ◌%◌, ◌<◌, ◌++◌, [], ℕ, List, length};
 
 use macsec_field128::Block;
 use macsec_ghash::{KeyPowers, RunningHash};
 
-/// The hash of texts in pieces. The octets after the last whole block of a text wait until their block is whole or the
-/// text ends.
+/// The hash of texts in pieces. The octets after the last whole block of a text wait until their block is complete or
+/// the text ends.
 #[derive(Drop)]
 pub struct PaddedHash<'k> {
-    /// The powers of the hash subkey, which the key keeps.
+    /// The powers of the hash subkey, borrowed from the key.
     powers: &'k KeyPowers,
     hash: RunningHash,
-    /// The octets that wait, and after them whatever was here before.
+    /// The waiting octets. The octets after them are leftovers.
     waiting: [u8; 16],
-    /// How many octets wait.
+    /// The number of waiting octets.
     waiting_count: usize,
     ghost has_room: { waiting_count < 16 },
 }
@@ -23,7 +23,7 @@ impl<'k> PaddedHash<'k> {
     ghost use Rattle.macsec_ghash.specs.Ghash.{ghash, pad};
     ghost use Rattle.macsec_gcm.specs.Pieces.{IsHashing};
 
-    /// The hash of nothing, by these powers of the hash subkey.
+    /// Starts a hash of no texts, with these powers of the hash subkey.
     #[inline(always)]
     pub fn start(powers: &'k KeyPowers) -> PaddedHash<'k>
         ensures { IsHashing result powers.now [] [] }
@@ -55,7 +55,7 @@ impl<'k> PaddedHash<'k> {
         self.absorb_next(rest);
     }
 
-    /// Hashes the next piece of a text, where no octets wait.
+    /// Hashes the next piece of a text while no octets are waiting.
     #[inline(always)]
     fn absorb_next(&mut self, piece: &[u8])
         requires none { self.old.waiting_count ≡ 0 }
@@ -67,7 +67,7 @@ impl<'k> PaddedHash<'k> {
         self.wait(tail);
     }
 
-    /// Ends a text: the octets that wait are padded.
+    /// Ends a text: pads and hashes the waiting octets.
     pub fn end_text(&mut self)
         ensures { (h : ℕ) (blocks text : List ℕ) → IsHashing self.old h blocks text
             → IsHashing self.new h (blocks ++ pad text) [] }
@@ -78,7 +78,7 @@ impl<'k> PaddedHash<'k> {
         self.waiting_count = 0;
     }
 
-    /// The hash of all texts, the last of which ends here.
+    /// Returns the hash of all texts. The last text ends here.
     pub fn value(&mut self) -> Block
         ensures { (h : ℕ) (blocks text : List ℕ) → IsHashing self.old h blocks text
             → result.0 ≡ ghash h (blocks ++ pad text) }
@@ -89,7 +89,7 @@ impl<'k> PaddedHash<'k> {
         self.hash.value(self.powers)
     }
 
-    /// Lets octets wait that do not make a block whole.
+    /// Adds to the waiting octets, which do not complete a block.
     fn wait(&mut self, octets: &[u8])
         requires { self.old.waiting_count + length octets.now < 16 }
         ensures { (h : ℕ) (blocks text : List ℕ) → IsHashing self.old h blocks text
@@ -100,7 +100,7 @@ impl<'k> PaddedHash<'k> {
         self.waiting_count = end;
     }
 
-    /// Hashes the block of the octets that wait and of those that make it whole.
+    /// Hashes the block of the waiting octets and the octets that complete it.
     fn complete(&mut self, octets: &[u8])
         requires { self.old.waiting_count + length octets.now ≡ 16 }
         ensures none { self.new.waiting_count ≡ 0 }
@@ -112,7 +112,7 @@ impl<'k> PaddedHash<'k> {
         self.waiting_count = 0;
     }
 
-    /// Hashes whole blocks of octets, where none wait.
+    /// Hashes whole blocks while no octets are waiting.
     fn absorb_whole(&mut self, octets: &[u8])
         requires none { self.old.waiting_count ≡ 0 }
         requires whole { length octets.now % 16 ≡ 0 }

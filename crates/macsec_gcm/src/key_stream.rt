@@ -9,7 +9,7 @@ ghost use Rattle.macsec_gcm.specs.Streams.{key_stream};
 use crate::counter_blocks::{blocks_from, inc32};
 use macsec_aes_lanes::{LaneSchedule, encrypt8, encrypt16};
 
-/// Writes the key stream of sixteen counter blocks, from `first` on, and returns the counter block after them.
+/// Writes the key stream of 16 counter blocks, starting with `first`. Returns the counter block after them.
 fn write_sixteen(schedule: &LaneSchedule, first: [u8; 16], octets: &mut [u8]) -> [u8; 16]
     requires { length octets.old ≡ 256 }
     ensures stream { (k : ℕ) → k < 256 → slice_index octets.new k ≡ key_stream schedule.now first k }
@@ -22,7 +22,7 @@ fn write_sixteen(schedule: &LaneSchedule, first: [u8; 16], octets: &mut [u8]) ->
     next
 }
 
-/// Writes the key stream of eight counter blocks, from `first` on, and returns the counter block after them.
+/// Writes the key stream of eight counter blocks, starting with `first`. Returns the counter block after them.
 #[inline(always)]
 fn write_eight(schedule: &LaneSchedule, first: [u8; 16], octets: &mut [u8]) -> [u8; 16]
     requires { length octets.old ≡ 128 }
@@ -46,16 +46,16 @@ pub fn add_octets(text: &mut [u8], stream: &[u8])
     }
 }
 
-/// A key stream from an initial counter block on, of which some octets are used. What a piece of a text leaves of a
-/// batch is kept for the next piece.
+/// A key stream from an initial counter block on, with the number of octets used. Octets of a batch that one piece of a
+/// text does not use are kept for the next piece.
 #[derive(Drop)]
 pub struct KeyStream<'k> {
     schedule: &'k LaneSchedule,
     /// The counter block of the next batch.
     counter: [u8; 16],
-    /// The last batch, of which this is the end.
+    /// The last batch, at the end of the array.
     octets: [u8; 256],
-    /// Where the octets begin that are not used yet.
+    /// Where the unused octets begin.
     used: usize,
     ghost in_range: { used ≤ 256 },
 }
@@ -66,7 +66,8 @@ impl<'k> KeyStream<'k> {
     ghost use Rattle.macsec_gcm.specs.Pieces.{IsStreamAt};
     ghost use Rattle.macsec_gcm.specs.Streams.{IsSumBelow};
 
-    /// The key stream from the counter block after `first` on, and that of `first` itself: both are of one batch.
+    /// Returns the key stream that starts at the counter block after `first`, and the key stream of `first` itself.
+    /// Both are from one batch.
     #[inline(always)]
     pub fn after(schedule: &'k LaneSchedule, first: [u8; 16]) -> (KeyStream<'k>, [u8; 16])
         ensures stream { IsStreamAt result.0 schedule.now (inc32 first) 0 }
@@ -98,7 +99,7 @@ impl<'k> KeyStream<'k> {
         }
     }
 
-    /// Adds the next octets of one batch, as many as there are, to the first ones of a text. Returns how many.
+    /// Adds the next octets of the batch to the first octets of a text. Returns their number, which is at least 1.
     fn add_to_part(&mut self, text: &mut [u8]) -> usize
         requires { 0 < length text.old }
         ensures some { 0 < result }
@@ -115,7 +116,7 @@ impl<'k> KeyStream<'k> {
         count
     }
 
-    /// Makes the next batch where all octets are used: of sixteen blocks where more than eight are `wanted`, else of
+    /// If all octets are used, computes the next batch: 16 blocks if more than 128 octets are `wanted`, otherwise
     /// eight.
     fn refill(&mut self, wanted: usize)
         ensures some { self.new.used < 256 }

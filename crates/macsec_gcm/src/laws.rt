@@ -1,13 +1,13 @@
-//! Opening undoes sealing (SP 800-38D, 7): the contracts of functions with empty bodies.
+//! Opening undoes sealing (SP 800-38D, 7). Each law is the contract of a function with an empty body.
 
 ghost use Rattle.macsec_gcm.specs.Laws.{OpenUndoesSeal, SealedLengths, SealingIsInjective};
 
-/// Opening gives a plaintext exactly when that plaintext seals to the ciphertext and the tag.
+/// Opening gives a plaintext exactly if that plaintext seals to the ciphertext and the tag.
 pub fn open_undoes_seal()
     ensures { OpenUndoesSeal }
 {}
 
-/// No two plaintexts have the same ciphertext under a key, an IV and additional authenticated data.
+/// No two plaintexts have the same ciphertext under one key, IV and additional authenticated data.
 pub fn sealing_is_injective()
     ensures { SealingIsInjective }
 {}

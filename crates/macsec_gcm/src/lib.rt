@@ -1,20 +1,20 @@
-//! AES-GCM with IVs of 96 bits and tags of 128 bits (SP 800-38D).
+//! AES-GCM with 96-bit IVs and 128-bit tags (SP 800-38D).
 //!
-//! Proved, of texts of at most 68,719,476,704 octets with at most 2^61 - 1 octets of additional data (both are
-//! conditions on the caller): `GcmKey::seal` is authenticated encryption, ciphertext and tag. `GcmKey::open` returns
-//! true exactly when some plaintext seals to the ciphertext and the tag, and then that plaintext has replaced the
-//! ciphertext; when it returns false, the text is unchanged. Contracts see a `GcmKey` as its key's octets, so none of
-//! another key can stand in its place. By the laws (`laws`) key, IV, additional data and ciphertext determine the
-//! plaintext. `inc32` adds one to the last four octets modulo 2^32, and leaves the first twelve.
+//! Proved for texts of at most 68,719,476,704 octets with at most 2^61 - 1 octets of additional data (both required):
+//! `GcmKey::seal` is authenticated encryption, with ciphertext and tag. `GcmKey::open` returns true exactly if some
+//! plaintext seals to the ciphertext and the tag; that plaintext then replaces the ciphertext. If it returns false, the
+//! text is unchanged. Contracts see a `GcmKey` as its key's octets, so another key's schedule or powers cannot take the
+//! place of its own. By the laws (`laws`), key, IV, additional data and ciphertext determine the plaintext. `inc32`
+//! adds one to the last four octets modulo 2^32, and keeps the first twelve.
 //!
-//! Proved, of texts in pieces (`specs/Pieces.antt`): if a sealer has taken in the text T, then after a call with the
-//! piece P it has taken in T followed by P. `Sealer::data` leaves the next octets of the ciphertext, and
-//! `Sealer::finish` gives the tag of all pieces. `Opener::finish` gives an `Unlocked` exactly where the joined pieces
-//! open, and `check` changes none. `Unlocked::data` leaves the next octets of the plaintext, where the pieces joined
-//! are those that were checked. The lengths are conditions of what `finish` gives. Of additional data that come after
-//! an octet of the text no clause says what the tag is.
+//! Proved for texts in pieces (`specs/Pieces.antt`): a sealer that has taken in the text T has, after a call with the
+//! piece P, taken in T followed by P. `Sealer::data` leaves the next octets of the ciphertext, and `Sealer::finish`
+//! gives the tag of all pieces. `Opener::finish` gives an `Unlocked` exactly if the joined pieces open, and `check`
+//! changes no piece. `Unlocked::data` leaves the next octets of the plaintext if the joined pieces are the ones that
+//! were checked. The limits on lengths are conditions on what `finish` gives. No clause says what the tag is if
+//! additional data come after an octet of the text.
 //!
-//! No contract speaks of time, nor says that lanes are used.
+//! No contract is about time, or says that lanes are used.
 #![tactic(auto)]
 
 ghost use Rattle.std.specs.Prelude.{◌≡◌, ◌≤◌, ℕ, List, length, if◌then◌else◌};
@@ -38,8 +38,8 @@ mod pieces;
 pub use counter_blocks::inc32;
 pub use pieces::{Opener, Sealer, Unlocked};
 
-/// A key of GCM: the schedule of the AES key, and the powers of the hash subkey. Contracts see it as the octets of
-/// the AES key.
+/// A GCM key: the schedule of the AES key, and the powers of the hash subkey. Contracts see it as the octets of the AES
+/// key.
 #[derive(Drop)]
 pub struct GcmKey {
     schedule: LaneSchedule,
@@ -58,12 +58,12 @@ impl Model for GcmKey {
 }
 
 impl GcmKey {
-    /// The GCM key of an AES key.
+    /// Prepares a GCM key from an AES key.
     pub fn new(key: Key) -> GcmKey
         ensures { result ≡ key_bytes key }
     {
         let schedule = LaneSchedule::expand(&key);
-        // The subkey is the first of eight equal blocks, so that it is made in lanes, which look no table up.
+        // The subkey is the first of eight equal blocks: encrypting eight uses lanes, which look up no table.
         let mut blocks = [[0; 16]; 8];
         encrypt8(&schedule, &mut blocks);
         let subkey = Block(u128::from_be_bytes(blocks[0]));
@@ -73,7 +73,7 @@ impl GcmKey {
 
     /// Encrypts the plaintext `text` in place, at most 2^36 - 32 octets. Returns the authentication tag of the
     /// ciphertext and of the additional authenticated data, at most 2^61 - 1 octets (SP 800-38D, 7.1). No contract
-    /// keeps a caller from using an IV twice under a key.
+    /// prevents a caller from using an IV twice under a key.
     pub fn seal(&self, iv: &[u8; 12], aad: &[u8], text: &mut [u8]) -> [u8; 16]
         requires text_length { length text.old ≤ max_plaintext_len }
         requires aad_length { length aad.now ≤ max_aad_len }
@@ -85,19 +85,20 @@ impl GcmKey {
         sealer.finish()
     }
 
-    /// Decrypts the ciphertext `text` in place and returns true if it and the additional authenticated data have this
-    /// tag; else returns false and leaves the text as it is (SP 800-38D, 7.2). Lengths are those of `seal`.
+    /// If the ciphertext `text` and the additional authenticated data have this tag, decrypts the text in place and
+    /// returns true. Otherwise returns false and changes nothing (SP 800-38D, 7.2). The limits on lengths are as for
+    /// `seal`.
     pub fn open(&self, iv: &[u8; 12], aad: &[u8], text: &mut [u8], tag: &[u8; 16]) -> bool
         requires text_length { length text.old ≤ max_plaintext_len }
         requires aad_length { length aad.now ≤ max_aad_len }
         // The text is now a plaintext that seals to the ciphertext and the tag.
         ensures opened { OnTrue result
             (seal_of self.now iv.now aad.now text.new ≡ (text.old, tag.now)) }
-        // No text seals to them.
+        // No plaintext seals to them.
         ensures refused { OnFalse result
             ((p : List ℕ) → seal_of self.now iv.now aad.now p ≡ (text.old, tag.now) → ⊥) }
         ensures unchanged { OnFalse result (text.new ≡ text.old) }
-        // Both cases, said by the one function that opens, for the layers above.
+        // Both cases in terms of `open_of`, for the layers above.
         ensures gives { open_of self.now iv.now aad.now text.old tag.now
             ≡ (if result then Some text.new else None) }
     {

@@ -1,4 +1,4 @@
-//! Sealing and opening in pieces (SP 800-38D, 7): the texts may be cut at any place.
+//! Sealing and opening in pieces (SP 800-38D, 7). Texts can be cut anywhere.
 
 ghost use Rattle.std.specs.Prelude.{◌≡◌, ◌≤◌, ◌++◌, [], ℕ, List, length, Some, None, IfSome, IfNone};
 ghost use Rattle.macsec_gcm.specs.Gcm.{inc32, max_aad_len, max_plaintext_len, open_of, pre_counter_block, seal_of};
@@ -10,7 +10,7 @@ use crate::authenticator::Authenticator;
 use crate::counter_blocks::pre_counter_block;
 use crate::key_stream::KeyStream;
 
-/// The key stream of a text, and its authentication, before any piece.
+/// The key stream of a text and its authentication, before any piece.
 #[inline(always)]
 fn started<'k>(key: &'k GcmKey, iv: &[u8; 12]) -> (KeyStream<'k>, Authenticator<'k>)
     ensures stream { IsStreamAt result.0 key.now (inc32 (pre_counter_block iv.now)) 0 }
@@ -21,8 +21,8 @@ fn started<'k>(key: &'k GcmKey, iv: &[u8; 12]) -> (KeyStream<'k>, Authenticator<
 }
 
 /// Seals a text in pieces (SP 800-38D, 7.1): first the additional authenticated data, at most 2^61 - 1 octets, then the
-/// plaintext, at most 2^36 - 32 octets. Of lengths beyond these, and of additional authenticated data that come after
-/// an octet of the plaintext, no clause says what the tag is.
+/// plaintext, at most 2^36 - 32 octets. No clause says what the tag is beyond these lengths, or if additional
+/// authenticated data come after an octet of the plaintext.
 #[derive(Drop)]
 pub struct Sealer<'k> {
     stream: KeyStream<'k>,
@@ -30,7 +30,7 @@ pub struct Sealer<'k> {
 }
 
 impl<'k> Sealer<'k> {
-    /// Nothing is sealed yet under the key and the IV.
+    /// Starts sealing under the key and the IV.
     #[inline(always)]
     pub fn start(key: &'k GcmKey, iv: &[u8; 12]) -> Sealer<'k>
         ensures { HasSealed result key.now iv.now [] [] }
@@ -42,7 +42,7 @@ impl<'k> Sealer<'k> {
         }
     }
 
-    /// The next piece of the additional authenticated data, before any octet of the plaintext.
+    /// Takes the next piece of the additional authenticated data, before any octet of the plaintext.
     pub fn aad(&mut self, piece: &[u8])
         ensures { (key iv aad : List ℕ) → HasSealed self.old key iv aad []
             → HasSealed self.new key iv (aad ++ piece.now) [] }
@@ -60,7 +60,7 @@ impl<'k> Sealer<'k> {
         self.authenticator.ciphertext(piece);
     }
 
-    /// The authentication tag of all pieces.
+    /// Returns the authentication tag of all pieces.
     #[inline(always)]
     pub fn finish(mut self) -> [u8; 16]
         ensures { (key iv aad plaintext : List ℕ) → HasSealed self.entry key iv aad plaintext
@@ -71,8 +71,8 @@ impl<'k> Sealer<'k> {
     }
 }
 
-/// Whether two tags are the same. The sum of the two is tested, and no octet by itself: the source has no exit at the
-/// first octet that differs.
+/// Whether two tags are equal. It tests the sum of the whole tags, so the source has no exit at the first octet that
+/// differs.
 #[inline(always)]
 fn are_same(a: [u8; 16], b: [u8; 16]) -> bool
     ensures { result ≡ same_octets a b }
@@ -80,8 +80,8 @@ fn are_same(a: [u8; 16], b: [u8; 16]) -> bool
     u128::from_be_bytes(a) ^ u128::from_be_bytes(b) == 0
 }
 
-/// Checks a text in pieces, without a change to any (SP 800-38D, 7.2): first the additional authenticated data, then
-/// the ciphertext, with the lengths and the order of `Sealer`.
+/// Checks a text in pieces, without changing them (SP 800-38D, 7.2): first the additional authenticated data, then the
+/// ciphertext. Lengths and order are as for `Sealer`.
 #[derive(Drop)]
 pub struct Opener<'k> {
     stream: KeyStream<'k>,
@@ -89,7 +89,7 @@ pub struct Opener<'k> {
 }
 
 impl<'k> Opener<'k> {
-    /// Nothing is checked yet under the key and the IV.
+    /// Starts checking under the key and the IV.
     #[inline(always)]
     pub fn start(key: &'k GcmKey, iv: &[u8; 12]) -> Opener<'k>
         ensures { HasChecked result key.now iv.now [] [] }
@@ -101,7 +101,7 @@ impl<'k> Opener<'k> {
         }
     }
 
-    /// The next piece of the additional authenticated data, before any octet of the ciphertext.
+    /// Takes the next piece of the additional authenticated data, before any octet of the ciphertext.
     pub fn aad(&mut self, piece: &[u8])
         ensures { (key iv aad : List ℕ) → HasChecked self.old key iv aad []
             → HasChecked self.new key iv (aad ++ piece.now) [] }
@@ -109,7 +109,7 @@ impl<'k> Opener<'k> {
         self.authenticator.aad(piece);
     }
 
-    /// The next piece of the ciphertext.
+    /// Takes the next piece of the ciphertext.
     pub fn check(&mut self, piece: &[u8])
         ensures { (key iv aad ciphertext : List ℕ) → HasChecked self.old key iv aad ciphertext
             → HasChecked self.new key iv aad (ciphertext ++ piece.now) }
@@ -117,8 +117,8 @@ impl<'k> Opener<'k> {
         self.authenticator.ciphertext(piece);
     }
 
-    /// What decrypts the pieces of the ciphertext, if this is the tag of all pieces; else `None`: nothing seals to
-    /// them.
+    /// If this is the tag of all pieces, returns what decrypts the ciphertext. Otherwise returns `None`: no plaintext
+    /// seals to the ciphertext and this tag.
     #[inline(always)]
     pub fn finish(mut self, tag: &[u8; 16]) -> Option<Unlocked<'k>>
         ensures opened { (key iv aad ciphertext : List ℕ) → HasChecked self.entry key iv aad ciphertext
@@ -137,8 +137,8 @@ impl<'k> Opener<'k> {
     }
 }
 
-/// Decrypts a ciphertext whose tag was right, in pieces, from its first octet on. The pieces need not be those that
-/// were checked, but their octets must be the same.
+/// Decrypts a ciphertext whose tag was valid, in pieces, from its first octet on. The pieces can be cut differently
+/// from the ones that were checked, but their octets must be the same.
 #[derive(Drop)]
 pub struct Unlocked<'k> {
     /// The key stream of the rest of the ciphertext.

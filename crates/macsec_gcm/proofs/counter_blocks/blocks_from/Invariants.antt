@@ -3,7 +3,7 @@ use Rattle.std.specs.Fn.{iterate}
 use Rattle.macsec_gcm.specs.Gcm.{inc32}
 use Rattle.macsec_gcm.proofs.counter_blocks.blocks_from.Given as goal
 
--- the first i of the N blocks are made
+-- the first i of the N blocks are computed
 abbrev pub invariant-loop-i : goal.invariant-loop-i
 invariant-loop-i g l = record {
   count : length l.blocks ≡ g.row.N;

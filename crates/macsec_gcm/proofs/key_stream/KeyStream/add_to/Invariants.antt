@@ -3,7 +3,7 @@ use Rattle.macsec_gcm.specs.Pieces.{IsStreamAt}
 use Rattle.macsec_gcm.specs.Streams.{IsSumBelow, key_stream}
 use Rattle.macsec_gcm.proofs.key_stream.KeyStream.add_to.Given as goal
 
--- as many octets of the key stream are used as are done of the piece, and they were added to those
+-- as many octets of the key stream are used as octets of the piece are done, and were added to them
 abbrev pub invariant-loop-done : goal.invariant-loop-done
 invariant-loop-done l = record {
   within : l.done ≤ length l.piece;
