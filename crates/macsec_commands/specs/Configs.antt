@@ -11,14 +11,14 @@ use Rattle.macsec_commands.specs.declared.fault.NewFault.{NewFault}
 use Rattle.macsec_commands.specs.declared.fault.NewFault.TheVariants.{MaxFrame, SciForm}
 use Rattle.macsec_commands.specs.Limits.{min_max_frame}
 
--- the tag form requires a port other than the SCI's: in place of an SCI, ES means port 0001 and SCB port 0000 (9.5)
+-- the tag form requires another port than the SCI's; without an SCI, ES means port 0001 and SCB means port 0000 (9.5)
 abbrev pub is_unfit : TagForm → Sci → Bool
 is_unfit form.Auto sci = false
 is_unfit form.Sci sci = false
 is_unfit form.Es sci = not (same_octets (drop 6 sci.0) (0 ∷ 1 ∷ []))
 is_unfit form.Scb sci = not (same_octets (drop 6 sci.0) (0 ∷ 0 ∷ []))
 
--- the largest frame of an endpoint cannot have this many octets
+-- `max_frame` cannot have this value
 abbrev pub is_bad_limit : ℕ → Bool
 is_bad_limit max_frame = nat_lt max_frame min_max_frame || nat_lt max_frame_len max_frame
 

@@ -1,6 +1,6 @@
 -- The limits of an endpoint.
 use Rattle.std.specs.Prelude.{ℕ}
 
--- the fewest octets that the largest frame of a configuration may have; the most are those of a frame
+-- the smallest value of `max_frame`, in octets; the largest is the length of the longest frame
 abbrev pub min_max_frame : ℕ
 min_max_frame = 64

@@ -5,11 +5,11 @@ use crate::{An, KeyNumber, Mode, NewKey, Sci, TagForm};
 /// A management command.
 #[derive(Clone, Copy)]
 pub enum Command {
-    /// Protect client frames, or send them as they are.
+    /// Protect client frames, or send them unchanged.
     Protect(bool),
     /// Validate received frames in this mode.
     Validate(Mode),
-    /// Drop late frames or not, and set the replay window.
+    /// Set whether late frames are dropped, and set the replay window.
     Replay {
         protect: bool,
         window: u64,
@@ -18,26 +18,26 @@ pub enum Command {
     Tag(TagForm),
     /// Install a key.
     Key(NewKey),
-    /// Retire the key of this number: no new association may use it.
+    /// Retire a key: no new SA may use it.
     Retire(KeyNumber),
-    /// Create a transmit association, disabled, whose first packet number is `next`; it encrypts if `conf` is true.
+    /// Create a transmit SA. It is disabled, its first packet number is `next`, and it encrypts if `conf` is true.
     TxSa {
         an: An,
         key: KeyNumber,
         next: u64,
         conf: bool,
     },
-    /// Enable this transmit association, and disable every other one.
+    /// Enable a transmit SA, and disable all others.
     TxOn(An),
-    /// Disable this transmit association.
+    /// Disable a transmit SA.
     TxOff(An),
-    /// Delete this transmit association.
+    /// Delete a transmit SA.
     TxDel(An),
-    /// Create a receive channel, the last.
+    /// Create a receive SC after the others.
     RxSc(Sci),
-    /// Delete this receive channel, its associations and its counters.
+    /// Delete a receive SC, its SAs and its counters.
     RxScDel(Sci),
-    /// Create a receive association, disabled, whose lowest acceptable packet number is `lowest`.
+    /// Create a receive SA. It is disabled, and its lowest acceptable packet number is `lowest`.
     RxSa {
         sci: Sci,
         an: An,
@@ -45,16 +45,16 @@ pub enum Command {
         ssci: u32,
         lowest: u64,
     },
-    /// Enable this receive association.
+    /// Enable a receive SA.
     RxOn(Sci, An),
-    /// Disable this receive association.
+    /// Disable a receive SA.
     RxOff(Sci, An),
-    /// Raise the lowest acceptable packet number of this receive association.
+    /// Raise the lowest acceptable packet number of a receive SA.
     RxLow {
         sci: Sci,
         an: An,
         pn: u64,
     },
-    /// Delete this receive association.
+    /// Delete a receive SA.
     RxDel(Sci, An),
 }

@@ -6,31 +6,32 @@ ghost use Rattle.macsec_commands.specs.Scis.{IsSci};
 
 use crate::{MAX_FRAME_LEN, NewFault, Sci, Suite, TagForm, is_unfit};
 
-/// The fewest octets that an endpoint's largest frame may have.
+/// The smallest value of `max_frame`, in octets.
 pub const MIN_MAX_FRAME: usize = 64;
 
 /// The configuration of an endpoint.
 #[derive(Clone, Copy, PartialEq, Eq, Debug)]
 pub struct EndConfig {
-    /// The cipher suite of the keys that name none.
+    /// The cipher suite of keys that name none.
     pub suite: Suite,
-    /// Its SCI.
+    /// The endpoint's SCI.
     pub sci: Sci,
-    /// The most octets of a frame that is sent to the link for its controlled port's client: 64 to 9,248.
+    /// The largest frame, in octets, that the endpoint sends to the link for the client of its controlled port: 64 to
+    /// 9,248.
     pub max_frame: u32,
-    /// Its first tag form.
+    /// The tag form at the start.
     pub form: TagForm,
 }
 
 impl EndConfig {
-    /// The fault of the configuration, if it has one: `MaxFrame` if the largest frame is not 64 to 9,248 octets, else
+    /// Returns the fault of the configuration, if any: `MaxFrame` if the largest frame is not 64 to 9,248 octets, then
     /// `SciForm` if the tag form does not fit the SCI.
     pub fn fault(self) -> Option<NewFault>
         ensures fault { result ≡ config_fault self }
-        // An SCI has eight octets, from any source.
+        // An SCI has eight octets, whatever its source.
         ensures sci { IsSci self.sci }
     {
-        // Called before the first test: so the prover knows at each return that an SCI has eight octets.
+        // Called before the first test, so that the prover knows at each return that an SCI has eight octets.
         let is_unfit = is_unfit(self.form, self.sci);
         let max_frame = self.max_frame as usize;
         if max_frame < MIN_MAX_FRAME || max_frame > MAX_FRAME_LEN {

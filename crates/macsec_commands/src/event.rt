@@ -1,4 +1,4 @@
-//! What happens at two ends and on the link between them.
+//! Events at two ends and on the link between them.
 
 use crate::{Command, Frame};
 
@@ -9,7 +9,7 @@ pub enum End {
     B,
 }
 
-/// What happens at an end or on the link.
+/// An event at an end or on the link.
 #[derive(Drop)]
 pub enum Event {
     /// A management command at an end.
@@ -18,12 +18,12 @@ pub enum Event {
     Send(End, Frame),
     /// A client frame at an end's uncontrolled port.
     SendUncontrolled(End, Frame),
-    /// The link frame of this number comes to an end.
+    /// The link frame of this number arrives at an end.
     Deliver(End, u32),
-    /// A new link frame: that of this number, with the octet at this place set to this value.
+    /// A new link frame: a copy of the frame of this number, with the octet at this offset set to this value.
     Alter(u32, u32, u8),
-    /// A new link frame: that of this number, with zeros up to 60 octets.
+    /// A new link frame: a copy of the frame of this number, padded with zeros to 60 octets.
     Pad(u32),
-    /// A new link frame of these octets.
+    /// A new link frame with these octets.
     Inject(Frame),
 }

@@ -1,11 +1,11 @@
-//! Why no endpoint is created.
+//! Why an endpoint cannot be created.
 
 ghost use Rattle.std.specs.Prelude.{◌≡◌};
 ghost use Rattle.macsec_commands.specs.FaultNumbers.{number_of_new_fault};
 
 use thiserror::Error;
 
-/// Why no endpoint is created.
+/// Why an endpoint cannot be created.
 #[derive(Clone, Copy, PartialEq, Eq, Debug, Error)]
 pub enum NewFault {
     /// Out of memory.

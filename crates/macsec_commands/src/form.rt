@@ -6,21 +6,21 @@ ghost use Rattle.macsec_commands.specs.Scis.{IsSci};
 
 use crate::Sci;
 
-/// Which SecTAG a frame gets (9.5).
+/// Whether the SecTAG carries the SCI, and whether ES or SCB is set (9.5).
 #[derive(Clone, Copy, PartialEq, Eq, Debug)]
 pub enum TagForm {
-    /// With the SCI if there is more than one receive channel, else without ES, SCB and SCI.
+    /// The SCI if there is more than one receive SC; otherwise no SCI, ES or SCB.
     Auto,
-    /// With the SCI.
+    /// Always the SCI.
     Sci,
-    /// With ES in place of the SCI if the source address is that of the SCI, else with the SCI.
+    /// ES instead of the SCI if the source address is the SCI's, otherwise the SCI.
     Es,
-    /// With SCB in place of the SCI if the source address is that of the SCI, else with the SCI.
+    /// SCB instead of the SCI if the source address is the SCI's, otherwise the SCI.
     Scb,
 }
 
-/// Does the tag form require a port other than the SCI's? In place of an SCI, ES means port 0001 and SCB port 0000.
-/// An SCI has eight octets, from any source.
+/// Whether the tag form requires another port than the SCI's. Without an SCI, ES means port 0001 and SCB means port
+/// 0000. An SCI has eight octets, whatever its source.
 pub fn is_unfit(form: TagForm, sci: Sci) -> bool
     ensures unfit { result ≡ is_unfit form sci }
     ensures sci { IsSci sci }

@@ -1,7 +1,7 @@
-//! What is said to an endpoint and to the link: configurations, commands, frames and events.
+//! The inputs of an endpoint and of the link: configurations, commands, frames and events.
 //!
-//! Proved: `EndConfig::fault` is the first fault of a configuration (`specs/Configs.antt`); `is_unfit` says which tag
-//! forms do not fit an SCI; a `Frame` is the list of its octets.
+//! Proved: `EndConfig::fault` is the first fault of a configuration (`specs/Configs.antt`). `is_unfit` says which tag
+//! forms do not fit an SCI. A `Frame` is the list of its octets.
 #![tactic(auto)]
 
 mod command;

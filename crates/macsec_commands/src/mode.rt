@@ -3,10 +3,10 @@
 /// How received frames are validated.
 #[derive(Clone, Copy, PartialEq, Eq, Debug)]
 pub enum Mode {
-    /// No frame is validated.
+    /// Frames are not validated.
     Disabled,
-    /// Frames are validated; those that are not valid are delivered too, unless their C bit is set.
+    /// Frames are validated. Invalid frames are delivered too, unless their C bit is set.
     Check,
-    /// Frames are validated; the valid ones alone are delivered.
+    /// Frames are validated. Only valid frames are delivered.
     Strict,
 }

@@ -1,5 +1,5 @@
--- The fault is the first one of the definition: one goal if the tag form is at fault, one if nothing is.
--- By search; these proofs are here for speed.
+-- The fault is the first one of the definition; one goal for a wrong tag form, one for no fault. Proved by search;
+-- written out for speed.
 use Rattle.std.proofs.Common.{rules}
 use Rattle.macsec_commands.proofs.config.EndConfig.fault.Goals as goal
 

@@ -1,5 +1,5 @@
--- The octets are those of the frame, and octets, since they come out of a vector of them.
--- By search; these proofs are here for speed.
+-- The result is the frame's octets, and they are octets because they come from a vector of octets. Proved by search;
+-- written out for speed.
 use Rattle.std.proofs.Common.{rules}
 use Rattle.macsec_commands.proofs.frame.Frame.into_octets.Goals as goal
 
