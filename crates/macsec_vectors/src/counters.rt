@@ -1,8 +1,8 @@
-//! The counters that the run of a capture prints at its end, over frames whose data have 2 octets. The sender protects
-//! for integrity; the receiver has one channel with one association. Several crates compare with these texts, so that a
-//! counter has its place and its name here alone.
+//! The counters that a run over a capture prints at its end, for frames whose data have 2 octets. The sender protects
+//! for integrity only; the receiver has one SC with one SA. Several crates compare their output with these texts, so
+//! that the names and the order of the counters are in one file.
 
-/// No frame was sent or received, and there is no channel.
+/// No frame was sent or received, and there is no SC.
 pub const COUNTERS_OF_NONE: &str = "end InPktsUntagged 0\n\
     end InPktsNoTag 0\n\
     end InPktsBadTag 0\n\
