@@ -1,4 +1,4 @@
-//! A block encrypted under a key of each length, by FIPS 197, and two bytes of the S-box.
+//! FIPS 197: a block encrypted under a key of each length, and two bytes of the S-box.
 
 use macsec_aes::{Key, Schedule, encrypt, sub};
 

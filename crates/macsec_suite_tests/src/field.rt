@@ -1,4 +1,4 @@
-//! Sums and products of blocks, one of which is that of a test case of the GCM specification.
+//! Sums and products of blocks. One product is from a test case of the GCM specification.
 
 use macsec_field128::{Block, add, mul, residue, times_x};
 
@@ -26,7 +26,7 @@ fn times_x_of_the_rightmost_bit(rt: HostRuntime) {
     assert!(rt; times_x(Block(2)) == Block(1));
 }
 
-// x^0 stays, and x^128 is 1 + x + x^2 + x^7 (SP 800-38D, 6.3).
+// x^0 does not change, and x^128 is 1 + x + x^2 + x^7 (SP 800-38D, 6.3).
 #[test]
 fn residue_of_two_powers_of_x(rt: HostRuntime) {
     assert!(rt; residue(1 << 126, 0) == ONE);

@@ -1,5 +1,4 @@
-//! What no clause says: that the definitions give the test frames of IEEE 802.1AE, Annex C, and that
-//! the calls succeed.
+//! What the contracts do not say: the definitions give the test frames of IEEE 802.1AE, Annex C, and the calls succeed.
 
 ghost use Rattle.std.specs.Prelude.{◌≤◌};
 
@@ -11,17 +10,17 @@ use macsec_vectors::{
     PACKET_NUMBER, SCI,
 };
 
-/// With this salt, SSCI 1 and packet number 1b2c28465 an extended IV is that of the test frames.
+/// With this salt, SSCI 1 and packet number 1b2c28465 the extended IV is the IV of the test frames.
 const SALT: [u8; 12] = [0x12, 0x15, 0x35, 0x25, 0xc0, 0x89, 0x5e, 0x80, 0, 0, 0, 0];
 
-/// Writes octets into a frame from a place on, as many as it has room for.
+/// Writes octets into a frame from an offset on, as many as fit.
 fn put(frame: &mut [u8; 96], place: usize, octets: &[u8]) {
     for (octet, wanted) in frame.iter_mut().skip(place).zip(octets) {
         *octet = *wanted;
     }
 }
 
-/// A client's data behind the addresses and the SecTAG of the protected frame, and zeros to the end.
+/// The client's data after the addresses and the SecTAG of the protected frame, padded with zeros.
 fn tagged(front: &[u8], data: &[u8]) -> [u8; 96] {
     let mut octets = [0; 96];
     put(&mut octets, 0, front);
@@ -29,7 +28,7 @@ fn tagged(front: &[u8], data: &[u8]) -> [u8; 96] {
     octets
 }
 
-/// The frame with zeros to the end.
+/// The frame, padded with zeros.
 fn padded(frame: &[u8]) -> [u8; 96] {
     let mut octets = [0; 96];
     put(&mut octets, 0, frame);
@@ -44,12 +43,12 @@ fn bytes_of(suite: Suite) -> Key {
     }
 }
 
-/// A key prepared for a suite, with a confidentiality offset.
+/// Prepares a key for a suite, with a confidentiality offset.
 fn prepared(suite: Suite, key: Key, offset: u8) -> Result<SuiteKey, SuiteFault> {
     SuiteKey::new(suite, key, SALT, offset)
 }
 
-/// The IV of the test frames' SCI, where the suite has such a packet number.
+/// An IV with the SCI of the test frames, or `None` if the suite does not have the packet number.
 fn iv_with(suite: Suite, ssci: u32, salt: [u8; 12], pn: u64) -> Option<[u8; 12]> {
     if pn > suite.last() {
         return None;
@@ -84,7 +83,7 @@ fn suites(rt: HostRuntime) {
     }
 }
 
-/// The suite of a prepared key, or why it is not prepared.
+/// The suite of the prepared key, or the fault.
 fn preparation(suite: Suite, key: Key, offset: u8) -> Result<Suite, SuiteFault> {
     Ok(prepared(suite, key, offset)?.suite())
 }
@@ -93,7 +92,7 @@ const SHORT: Key = Key::K128(KEY_128);
 
 const LONG: Key = Key::K256(KEY_256);
 
-/// Suites, keys and offsets, and the fault of those that are refused.
+/// Suites, keys and offsets, with the fault of each refused combination.
 const PREPARED: [(Suite, Key, u8, Option<SuiteFault>); 14] = [
     (Suite::Gcm128, SHORT, 0, None),
     (Suite::Gcm128, SHORT, 30, None),
@@ -132,12 +131,12 @@ const IV: [u8; 12] = [
     0x12, 0x15, 0x35, 0x24, 0xc0, 0x89, 0x5e, 0x81, 0xb2, 0xc2, 0x84, 0x65,
 ];
 
-/// The same under SSCI 2.
+/// The IV under SSCI 2.
 const OTHER_SSCI: [u8; 12] = [
     0x12, 0x15, 0x35, 0x27, 0xc0, 0x89, 0x5e, 0x81, 0xb2, 0xc2, 0x84, 0x65,
 ];
 
-/// The same of a packet number without its higher half.
+/// The IV for the packet number without its upper half.
 const LOWER_HALF: [u8; 12] = [
     0x12, 0x15, 0x35, 0x24, 0xc0, 0x89, 0x5e, 0x80, 0xb2, 0xc2, 0x84, 0x65,
 ];
@@ -159,7 +158,7 @@ fn ivs(rt: HostRuntime) {
     }
 }
 
-/// A frame with `length` octets of data protected in place, under a confidentiality offset.
+/// Protects a frame with `length` octets of data in place, under a confidentiality offset.
 fn link_frame(
     suite: Suite,
     offset: u8,
@@ -175,7 +174,7 @@ fn link_frame(
     Ok(octets)
 }
 
-/// Whether a frame with `length` octets of data is genuine, and the frame as it is left.
+/// Validates a frame with `length` octets of data. Returns whether it is valid, and the octets afterwards.
 fn validated_frame(
     suite: Suite,
     e: bool,
@@ -190,7 +189,7 @@ fn validated_frame(
     Ok((is_genuine, octets))
 }
 
-/// A frame with zeros from a place on.
+/// The frame with zeros from an offset on.
 fn with_zeros_from(frame: [u8; 96], place: usize) -> [u8; 96] {
     let mut octets = frame;
     for octet in octets.iter_mut().skip(place) {
@@ -199,8 +198,8 @@ fn with_zeros_from(frame: [u8; 96], place: usize) -> [u8; 96] {
     octets
 }
 
-/// A frame as it is protected; whether that is genuine, and what validation leaves of it, with zeros from a
-/// place on.
+/// Protects and validates a frame. Returns the protected frame, whether it is valid, and the octets after validation
+/// with zeros from `place` on.
 fn there_and_back(
     suite: Suite,
     conf: bool,
@@ -243,12 +242,12 @@ fn confidentiality(rt: HostRuntime) {
     assert_eq!(rt; found, Ok((false, altered)));
 }
 
-/// Whether two frames have the same octets before a place.
+/// Whether two frames have the same octets before an offset.
 fn agree_before(place: usize, one: [u8; 96], other: [u8; 96]) -> bool {
     with_zeros_from(one, place) == with_zeros_from(other, place)
 }
 
-/// Whether the octets before the data and `clear` octets of the data stay as they are, and whether all data do.
+/// Whether the octets before the data and the first `clear` octets of the data are unchanged, and whether all data are.
 fn clear_octets_of(
     offset: u8,
     frame: [u8; 96],
@@ -265,7 +264,7 @@ fn clear_octets_of(
     ))
 }
 
-/// The first octets of the data stay clear: as many as the offset says, or all of fewer.
+/// As many of the first octets of the data stay clear as the offset says, or all if there are fewer.
 #[test]
 fn clear_octets(rt: HostRuntime) {
     let frame = tagged(&LINK_60[..28], &CLIENT_60[12..]);

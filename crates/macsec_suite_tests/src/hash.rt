@@ -1,4 +1,4 @@
-//! GHASH by two test cases of the GCM specification, and in lanes as block by block.
+//! GHASH: two test cases of the GCM specification, and the hash in lanes compared with the hash block by block.
 
 use macsec_field128::Block;
 use macsec_ghash::{Hash128, LaneHash, PlainHash};
@@ -14,7 +14,7 @@ fn hash_of<H: Hash128 + Drop>(subkey: Block, pieces: &[&[u8]]) -> Block {
     hash.value()
 }
 
-/// Whether both hashes of a text in pieces are this one.
+/// Whether both hashes of a text in pieces have this value.
 fn is_hash(subkey: Block, pieces: &[&[u8]], expected: Block) -> bool {
     hash_of::<PlainHash>(subkey, pieces) == expected
         && hash_of::<LaneHash>(subkey, pieces) == expected
@@ -34,7 +34,7 @@ fn known_hash(rt: HostRuntime) {
     assert!(rt; is_hash(SUBKEY, &[&ciphertext, &lengths], expected));
 }
 
-// Test case 4 of the GCM specification: 20 and 60 octets, each filled to whole blocks.
+// Test case 4 of the GCM specification: 20 and 60 octets, each padded to whole blocks.
 #[test]
 fn known_hash_of_cut_blocks(rt: HostRuntime) {
     let pieces: [&[u8]; 7] = [

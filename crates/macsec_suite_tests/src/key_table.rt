@@ -1,5 +1,4 @@
-//! What no clause says: what a table answers to commands one after another, also of keys whose numbers
-//! have more than an octet.
+//! What the contracts do not say: the results of commands on one table, one after another, and key numbers above 255.
 
 use macsec_aes::Key;
 use macsec_suite::{KeyNumber, KeyTable, NewKey, Refusal, Suite};
@@ -7,14 +6,14 @@ use macsec_vectors::KEY_128;
 use std::process::Abort;
 use std::test::Fail;
 
-/// A call that changes a table, whose default suite is GCM-AES-128.
+/// A call that changes a table whose default suite is GCM-AES-128.
 #[derive(Clone, Copy)]
 enum Call {
-    /// Installs a key of this number and these bytes, which names this suite or none, beside this window.
+    /// Installs a key with this number, these bytes, this suite or none, and this replay window.
     Install(u16, [u8; 16], Option<Suite>, u64),
-    /// Retires the key of this number, of which this says whether it is in use.
+    /// Retires the key of this number. The flag says whether it is in use.
     Retire(u16, bool),
-    /// Notes that a packet number was used under the key of this number, where it is there.
+    /// Notes that a packet number was used under the key of this number, if it is installed.
     Note(u16, u64),
 }
 
@@ -23,7 +22,7 @@ fn key_number(rt: &impl Abort, n: u16) -> KeyNumber {
     KeyNumber::new(n).expect(rt, "a key number")
 }
 
-/// A key of these 128 bits, with an offset, which names this suite or none.
+/// A key of these 128 bits, with an offset and with this suite or none.
 fn key_of(number: KeyNumber, bytes: [u8; 16], offset: u8, suite: Option<Suite>) -> NewKey {
     NewKey {
         number,
@@ -35,7 +34,7 @@ fn key_of(number: KeyNumber, bytes: [u8; 16], offset: u8, suite: Option<Suite>) 
     }
 }
 
-/// What a table with this default suite answers to the installation of a key.
+/// The result of installing a key in a table with this default suite.
 fn answer_to_key(
     table: &mut KeyTable,
     default: Suite,
@@ -45,14 +44,14 @@ fn answer_to_key(
     table.install(default, key, window)
 }
 
-/// Notes that a packet number was used under a key, where it is there.
+/// Notes that a packet number was used under a key, if it is installed.
 fn note(table: &mut KeyTable, number: KeyNumber, pn: u64) {
     if table.key(number).is_some() {
         table.note_used(number, pn);
     }
 }
 
-/// What a table answers to a call.
+/// The result of a call.
 fn answer_to(rt: &impl Abort, table: &mut KeyTable, call: Call) -> Result<(), Refusal> {
     match call {
         Call::Install(number, bytes, suite, window) => {
@@ -67,19 +66,19 @@ fn answer_to(rt: &impl Abort, table: &mut KeyTable, call: Call) -> Result<(), Re
     }
 }
 
-/// The number and the suite of the key that is found by a number, and whether it is retired.
+/// The number and the suite of the key found by a number, and whether it is retired.
 fn found(rt: &impl Abort, table: &KeyTable, number: u16) -> Option<(u16, Option<Suite>, bool)> {
     let row = table.key(key_number(rt, number))?;
     Some((row.key.number.number(), row.key.suite, row.retired))
 }
 
-/// Whether the key of a number is retired, where it is there.
+/// Whether the key of a number is retired, if it is installed.
 fn is_retired(rt: &impl Abort, table: &KeyTable, number: u16) -> Option<bool> {
     let (_, _, retired) = found(rt, table, number)?;
     Some(retired)
 }
 
-/// Whether a key is retired, and its first unused packet number, where it is there.
+/// Whether a key is retired, and its first unused packet number, if it is installed.
 type Use = (Option<bool>, Option<u128>);
 
 /// The use of the key of a number.
@@ -96,15 +95,15 @@ const USED: Use = (Some(false), Some(6));
 
 const RETIRED: Use = (Some(true), Some(6));
 
-/// The widest replay window beside extended packet numbers, and beside others.
+/// The widest replay windows with extended and with 32-bit packet numbers.
 const EXTENDED: u64 = 0x3fff_ffff;
 
 const SHORT: u64 = 0xffff_ffff;
 
-/// A call, what a table answers to it, and then the use of key 0 and the widest replay window.
+/// A call, its result, and then the use of key 0 and the widest replay window.
 type Row = (Call, Result<(), Refusal>, Use, u64);
 
-/// Calls of keys that name no suite, one after another.
+/// Calls with keys that name no suite, one after another.
 const CALLS: [Row; 14] = [
     (Call::Retire(9, false), Err(Refusal::NoKey), NONE, SHORT),
     (Call::Install(0, KEY_128, None, 0), Ok(()), UNUSED, SHORT),
@@ -152,13 +151,13 @@ const CALLS: [Row; 14] = [
     (Call::Retire(9, true), Err(Refusal::NoKey), RETIRED, SHORT),
 ];
 
-/// What a table answers to a call, and then the use of key 0 and the widest replay window.
+/// The result of a call, and then the use of key 0 and the widest replay window.
 fn after(rt: &impl Abort, table: &mut KeyTable, call: Call) -> (Result<(), Refusal>, Use, u64) {
     let answer = answer_to(rt, table, call);
     (answer, use_of(rt, table, 0), table.widest_window())
 }
 
-/// A table answers as is wanted to calls, one after another.
+/// Makes calls one after another and compares their results.
 fn assert_calls(rt: &impl Abort, table: &mut KeyTable, rows: &[Row]) {
     for (place, (call, answer, used, widest)) in rows.iter().enumerate() {
         let found = after(rt, table, *call);
@@ -175,7 +174,7 @@ fn calls_in_a_row(rt: HostRuntime) -> Result<(), Fail> {
     Ok(())
 }
 
-/// What a table answers to the installation of a key of 128 bits and offset 40, and whether it is there then.
+/// The result of installing a 128-bit key with offset 40, and whether it is installed afterwards.
 fn answer_to_offset_40(
     rt: &impl Abort,
     table: &mut KeyTable,
@@ -199,13 +198,14 @@ fn wrong_lengths_and_offsets(rt: HostRuntime) -> Result<(), Fail> {
     Ok(())
 }
 
-/// The number of the key that is found by a number.
+/// The number of the key found by a number.
 fn number_found(rt: &impl Abort, table: &KeyTable, number: u16) -> Option<u16> {
     let (number, _, _) = found(rt, table, number)?;
     Some(number)
 }
 
-/// The number of the key that is found by a number before one of these octets is installed, and the answer.
+/// The number of the key found by a number before a key with this octet is installed under it, and the result of
+/// installing it.
 fn answer_to_number(
     rt: &impl Abort,
     table: &mut KeyTable,
@@ -217,7 +217,7 @@ fn answer_to_number(
     (before, answer_to(rt, table, call))
 }
 
-/// Keys of several numbers are installed, each of which is found by its number alone.
+/// Installs keys with several numbers. Each is found by its number only.
 fn assert_numbers(rt: &impl Abort, table: &mut KeyTable) {
     for (number, octet) in [(4095, 1), (255, 2), (0, 3), (256, 4), (4094, 5)] {
         let answer = answer_to_number(rt, table, number, octet);
@@ -247,13 +247,13 @@ fn numbers_of_more_than_an_octet(rt: HostRuntime) -> Result<(), Fail> {
     Ok(())
 }
 
-/// The suite that the key that is found by a number names.
+/// The suite of the key found by a number.
 fn suite_found(rt: &impl Abort, table: &KeyTable, number: u16) -> Option<Suite> {
     let (_, suite, _) = found(rt, table, number)?;
     suite
 }
 
-/// Calls of keys that name suites, one after another.
+/// Calls with keys that name suites, one after another.
 const CALLS_WITH_SUITES: [Row; 8] = [
     (Call::Install(0, KEY_128, None, 0), Ok(()), UNUSED, SHORT),
     (

@@ -1,4 +1,4 @@
-//! The examples of FIPS 197, appendix C, in each of the sixteen places and in each of the eight.
+//! The examples of FIPS 197, appendix C, at each of 16 positions and at each of eight.
 
 use macsec_aes::Key;
 use macsec_aes_lanes::{LaneSchedule, encrypt8, encrypt16};
@@ -10,7 +10,7 @@ const BLOCK: [u8; 16] = [
 
 const ZEROS: [u8; 16] = [0; 16];
 
-/// Whether the block becomes `expected` in each of the sixteen places, among blocks of zeros that stay alike.
+/// Whether the block becomes `expected` at each of 16 positions, among blocks of zeros whose result does not change.
 fn encrypted_everywhere(key: &Key, expected: [u8; 16]) -> bool {
     let schedule = LaneSchedule::expand(key);
     let mut zeros = [ZEROS; 16];
@@ -26,7 +26,7 @@ fn encrypted_everywhere(key: &Key, expected: [u8; 16]) -> bool {
     true
 }
 
-/// The same in each of the eight places.
+/// The same at each of eight positions.
 fn encrypted_in_each_of_eight(key: &Key, expected: [u8; 16]) -> bool {
     let schedule = LaneSchedule::expand(key);
     let mut zeros = [ZEROS; 8];

@@ -1,5 +1,5 @@
-//! Tests of `macsec_aes` to `macsec_gcm`, of `macsec_tag` and of `macsec_suite` through their public faces: they stand in
-//! a crate of their own, so that the proof of each is made once.
+//! Tests of the crates `macsec_aes` to `macsec_gcm`, `macsec_tag` and `macsec_suite` through their public calls. They
+//! are in a crate of their own, so that each of those crates is proved only once.
 #![tactic(auto)]
 
 #[cfg(test)]

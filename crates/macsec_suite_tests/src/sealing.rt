@@ -1,5 +1,5 @@
-//! Vectors of AES-GCM with keys of 128 and 256 bits, changed texts and tags, and texts of lengths about those of blocks
-//! and of batches, with what sealing block by block gives; and texts that are cut.
+//! Test vectors of AES-GCM with keys of 128 and 256 bits, changed texts and tags, and texts in pieces. Texts of lengths
+//! around block and batch boundaries are compared with sealing block by block.
 
 ghost use Rattle.std.specs.Prelude.{◌≤◌, length};
 
@@ -77,8 +77,7 @@ fn changed_texts_and_tags(rt: HostRuntime) {
     assert_eq!(rt; text, changed);
 }
 
-// Test case 4 of the GCM specification: 20 octets of additional authenticated data and a
-// plaintext of 60.
+// Test case 4 of the GCM specification: 20 octets of additional authenticated data and a plaintext of 60 octets.
 #[test]
 fn cut_blocks(rt: HostRuntime) {
     let key = Key::K128(0xfeff_e992_8665_731c_6d6a_8f94_6730_8308u128.to_be_bytes());
@@ -132,7 +131,7 @@ fn seal_by_blocks(key: &Key, iv: &[u8; 12], aad: &[u8], text: &mut [u8]) -> [u8;
     (hash.value().0 ^ u128::from_be_bytes(encrypt(&schedule, j0))).to_be_bytes()
 }
 
-/// Whether a text is sealed as block by block, and opened again.
+/// Whether a text is sealed as it is block by block, and opens again.
 fn is_as_by_blocks(plaintext: &[u8], text: &mut [u8], expected: &mut [u8]) -> bool
     requires { length text.old ≤ 9248 }
 {
@@ -162,7 +161,8 @@ fn lengths_about_those_of_blocks_and_of_batches(rt: HostRuntime) {
     }
 }
 
-/// Seals a text in three pieces, as the additional authenticated data, with an empty piece of the text among those.
+/// Seals a text in three pieces, after additional authenticated data in three pieces with an empty piece of text among
+/// them.
 fn seal_cut(key: &GcmKey, aad: &[u8], text: &mut [u8], i: usize, j: usize) -> [u8; 16]
     requires order { i ≤ j }
     requires within { j ≤ length text.old }
@@ -179,7 +179,7 @@ fn seal_cut(key: &GcmKey, aad: &[u8], text: &mut [u8], i: usize, j: usize) -> [u
     sealer.finish()
 }
 
-/// Checks a text in the same three pieces, and opens it in three others.
+/// Checks a text in the same three pieces, and decrypts it in three others.
 fn open_cut(key: &GcmKey, aad: &[u8], text: &mut [u8], tag: &[u8; 16], i: usize, j: usize) -> bool
     requires order { i ≤ j }
     requires within { j ≤ length text.old }
@@ -204,7 +204,7 @@ fn open_cut(key: &GcmKey, aad: &[u8], text: &mut [u8], tag: &[u8; 16], i: usize,
     }
 }
 
-/// Whether a text that is cut at two places is sealed as in one piece, and opened again.
+/// Whether a text that is cut at two positions is sealed as in one piece, and opens again.
 fn is_as_in_one_piece(
     key: &GcmKey,
     plaintext: &[u8; 100],

@@ -1,5 +1,5 @@
-//! What no clause says: that the definitions read and write the frames of the standard, and those
-//! frames cut, altered and padded, as they should.
+//! What the contracts do not say: the definitions read and write the standard's frames, also cut, altered and padded
+//! ones, as the standard requires.
 
 use macsec_tag::reading::read;
 use macsec_tag::{An, Read, Sci, SecTag, TagFault, write_tag};
@@ -9,14 +9,14 @@ use std::test::Fail;
 /// The SCI of the test frames.
 const SENDER: Sci = Sci(SCI);
 
-/// A frame of two octets of Secure Data.
+/// A frame with two octets of Secure Data.
 const SHORT: [u8; 46] = [
     0xff, 0xff, 0xff, 0xff, 0xff, 0xff, 0x02, 0x00, 0x00, 0x00, 0x00, 0x01, 0x88, 0xe5, 0x20, 0x02,
     0x00, 0x00, 0x00, 0x01, 0x02, 0x00, 0x00, 0x00, 0x00, 0x01, 0x00, 0x01, 0x08, 0x00, 0xaa, 0xaa,
     0xaa, 0xaa, 0xaa, 0xaa, 0xaa, 0xaa, 0xaa, 0xaa, 0xaa, 0xaa, 0xaa, 0xaa, 0xaa, 0xaa,
 ];
 
-/// How a frame reads, in short: a tagged one by the lengths of SecTAG, Secure Data and padding.
+/// The reading of a frame in short. A tagged frame has the lengths of SecTAG, Secure Data and padding.
 #[derive(Clone, Copy, PartialEq, Eq, Debug)]
 enum Answer {
     Untagged,
@@ -36,7 +36,7 @@ fn answer_to(frame: &[u8]) -> Answer {
     }
 }
 
-/// A part of a frame, where it is tagged: addresses, SecTAG, Secure Data, ICV or padding, counted from 0.
+/// A part of a tagged frame: addresses (0), SecTAG, Secure Data, ICV or padding.
 fn part_of(frame: &[u8], part: usize) -> Option<&[u8]> {
     match read(frame) {
         Read::Tagged(mpdu) => Some(match part {
@@ -50,7 +50,7 @@ fn part_of(frame: &[u8], part: usize) -> Option<&[u8]> {
     }
 }
 
-/// The SecTAG of a frame, where it is tagged.
+/// The SecTAG of a tagged frame.
 fn tag_of(frame: &[u8]) -> Option<SecTag> {
     match read(frame) {
         Read::Tagged(mpdu) => Some(mpdu.tag()),
@@ -58,7 +58,7 @@ fn tag_of(frame: &[u8]) -> Option<SecTag> {
     }
 }
 
-/// What a SecTAG says: ES, SCB, E and C; AN, SL and PN; and its SCI.
+/// The fields of a SecTAG: ES, SCB, E and C; AN, SL and PN; and the SCI.
 fn said_by(tag: SecTag) -> ([bool; 4], u8, u8, u32, Option<Sci>) {
     (
         [tag.es(), tag.scb(), tag.e(), tag.c()],
@@ -108,8 +108,8 @@ fn a_tag_says_its_fields(rt: HostRuntime) -> Result<(), Fail> {
     Ok(())
 }
 
-/// Writes the SecTAG of these parts, of which ES alone of the bits may be set, into twenty octets of ff,
-/// and says how many it takes.
+/// Writes a SecTAG with these fields into 20 octets of ff. Only the ES bit can be set. Returns its length and the
+/// octets.
 fn written(es: bool, an: u8, sl: u8, pn: u32, sci: Option<Sci>) -> Option<(usize, [u8; 20])> {
     let tag = SecTag::new(es, false, false, false, An::new(an)?, sl, pn, sci)?;
     let mut out = [0xff; 20];
@@ -131,7 +131,7 @@ fn write_tag_leaves_the_rest(rt: HostRuntime) {
     }
 }
 
-/// What a front of a frame, of this many octets, answers while the frame isn't whole.
+/// The reading of the first `length` octets of a frame, if it is incomplete.
 fn cut_answer(length: usize) -> Answer {
     if length < 28 {
         Answer::Bad(TagFault::Cut)
@@ -175,7 +175,7 @@ fn each_octet_of_tci_and_an(rt: HostRuntime) {
     }
 }
 
-/// What a front of the frame with 48 octets of Secure Data answers, with another SL.
+/// The reading of the first octets of the frame with 48 octets of Secure Data, with another SL.
 fn answer_with_sl(length: usize, sl: u8) -> Answer {
     let mut frame = LINK_60;
     frame[15] = sl;
@@ -205,13 +205,13 @@ fn another_ethertype(rt: HostRuntime) {
     assert_eq!(rt; answer_to(&frame), Answer::Untagged);
 }
 
-/// Is there a SecTAG with ES or SCB, this SL, and the SCI of the test frames or none?
+/// Whether there is a SecTAG with this ES, SCB and SL, and with this SCI or none.
 fn is_made(es: bool, scb: bool, sl: u8, sci: Option<Sci>) -> Option<bool> {
     let tag = SecTag::new(es, scb, false, false, An::new(0)?, sl, 1, sci);
     Some(tag.is_some())
 }
 
-/// An association number is below 4, an SL below 48, and an SCI stands in no SecTAG with ES or SCB.
+/// An association number is below 4, an SL is below 48, and no SecTAG with ES or SCB has an SCI.
 #[test]
 fn parts_out_of_range(rt: HostRuntime) {
     for (number, is_one) in [(0, true), (3, true), (4, false), (255, false)] {
