@@ -5,7 +5,7 @@
 //! transformation of the inverse. The inverse is the byte whose product with the given one is 1, and 0 for 0. The law
 //! `laws::one_inverse` says that each byte but 0 has exactly one inverse.
 //!
-//! `Schedule::round_key` requires a round that the key has. No contract is about time: `encrypt` and `Schedule::expand`
+//! `Schedule::round_key` requires a round that the key has. No contract is about time. `encrypt` and `Schedule::expand`
 //! look up the S-box in a table.
 #![tactic(auto)]
 

@@ -18,7 +18,7 @@ pub enum Command {
     Tag(TagForm),
     /// Install a key.
     Key(NewKey),
-    /// Retire a key: no new SA may use it.
+    /// Retire a key: no new SA (secure association) may use it.
     Retire(KeyNumber),
     /// Create a transmit SA. It is disabled, its first packet number is `next`, and it encrypts if `conf` is true.
     TxSa {

@@ -3,9 +3,9 @@
 //! Proved for texts of at most 68,719,476,704 octets with at most 2^61 - 1 octets of additional data (both required):
 //! `GcmKey::seal` is authenticated encryption, with ciphertext and tag. `GcmKey::open` returns true exactly if some
 //! plaintext seals to the ciphertext and the tag; that plaintext then replaces the ciphertext. If it returns false, the
-//! text is unchanged. Contracts see a `GcmKey` as its key's octets, so another key's schedule or powers cannot take the
-//! place of its own. By the laws (`laws`), key, IV, additional data and ciphertext determine the plaintext. `inc32`
-//! adds one to the last four octets modulo 2^32, and keeps the first twelve.
+//! text is unchanged. Contracts see a `GcmKey` as its key's octets, so another key's `GcmKey` cannot take its place. By
+//! the laws (`laws`), key, IV, additional data and ciphertext determine the plaintext. `inc32` adds one to the last
+//! four octets modulo 2^32, and keeps the first twelve.
 //!
 //! Proved for texts in pieces (`specs/Pieces.antt`): a sealer that has taken in the text T has, after a call with the
 //! piece P, taken in T followed by P. `Sealer::data` leaves the next octets of the ciphertext, and `Sealer::finish`

@@ -11,7 +11,7 @@
 ghost use Rattle.std.specs.Prelude.{◌≡◌, ◌+◌, ◌%◌, ◌^◌, ◌<◌, ◌≤◌, ℕ, true, IfNone, OnSome, Some, SomeIff};
 ghost use Rattle.macsec_pn.specs.Numbers.{accept, is_late, narrow, raise, recovered_number};
 
-/// The next packet number of a transmit SA (10.5.2).
+/// The next packet number of a transmit SA (secure association, 10.5.2).
 #[derive(Clone, Copy, PartialEq, Eq, Debug)]
 pub struct TxNumbers {
     pub next: u128,

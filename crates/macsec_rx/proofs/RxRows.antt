@@ -18,7 +18,7 @@ pub none_from_is_some : {A : Type 0} (o : Option A) → is_some o ≡ false → 
 none_from_is_some None h = refl
 none_from_is_some (Some x) h = cc
 
--- a look-up that returns `None` only if nothing is there finds what is there
+-- a look-up that returns `None` only if there is nothing finds whatever there is
 pub found_if_there : {A B : Type 0} (o : Option A) (there : Option B) (P : A → Type 0) → MatchOption o (there ≡ None) P → IsSome there → IsSome o
 found_if_there {B = B} None there P none some = absurd (let no : IsSome {T = B} None = subst IsSome none some in cc)
 found_if_there (Some x) there P one some = refl
@@ -34,14 +34,14 @@ is_at-swapped row new other = by_test (is_at row.sci row.an new) refl
         absurd (let no = sym both ∙ other in cc)
     by_test false same = refl
 
--- appending an SA with another SCI or number leaves a place free
+-- appending an SA with another SCI or number leaves a free SCI and number free
 rx_row-append : (rows : List RxRow) (new : RxRow) (sci : Sci) (an : ℕ) → rx_row rows sci an ≡ None → is_at sci an new ≡ false → rx_row (rows ++ new ∷ []) sci an ≡ None
 rx_row-append [] new sci an free other = rw other refl
 rx_row-append (row ∷ rows) new sci an free other =
     let parts = cond_none (is_at sci an row) row (rx_row rows sci an) free in
     rw parts.0 (rx_row-append rows new sci an parts.1 other)
 
--- appending an SA at a free place keeps the invariant
+-- appending an SA with a free SCI and number keeps the invariant
 pub AreRxRows-append : (scis : List Sci) (rows : List RxRow) (new : RxRow) → AreRxRows scis rows → rx_row rows new.sci new.an ≡ None →
     IsRxRow scis new → AreRxRows scis (rows ++ new ∷ [])
 AreRxRows-append scis [] new h free good = (good, refl, tt)

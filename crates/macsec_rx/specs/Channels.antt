@@ -20,7 +20,7 @@ same_sci s t = same_octets s.0 t.0
 abbrev pub is_at : Sci → ℕ → RxRow → Bool
 is_at sci an row = same_sci row.sci sci && row.an == an
 
--- the SA of this SCI and association number
+-- the SA with this SCI and association number
 abbrev pub rx_row : List RxRow → Sci → ℕ → Option RxRow
 rx_row rows sci an = find (λ row. is_at sci an row) rows
 

@@ -16,7 +16,7 @@ use Rattle.macsec_rx.specs.Channels.{Channels, same_sci, is_at, rx_row, with_rx,
 abbrev pub has_channel : List Sci → Sci → Bool
 has_channel scis sci = list_any (λ s. same_sci s sci) scis
 
--- there is an SA of this SCI and association number
+-- there is an SA with this SCI and association number
 abbrev pub has_rx : List RxRow → Sci → ℕ → Bool
 has_rx rows sci an = is_some (rx_row rows sci an)
 

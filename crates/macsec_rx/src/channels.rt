@@ -29,7 +29,7 @@ pub const MAX_ROW_COUNT: usize = MAX_CHANNEL_COUNT * ASSOCIATION_COUNT;
 pub struct RxChannels {
     scis: ArrayVec<Sci, MAX_CHANNEL_COUNT>,
     rows: ArrayVec<RxRow, MAX_ROW_COUNT>,
-    /// The index of each SA among the rows, by the index of its SC and by its association number. With it a frame takes
+    /// Where each SA is among the rows, by the position of its SC and by its association number. With it a frame takes
     /// the same time for every SA.
     places: [u16; MAX_ROW_COUNT],
 }
@@ -49,7 +49,7 @@ impl Model for RxChannels {
 }
 
 impl RxChannels {
-    /// Creates an object without SCs.
+    /// Creates an empty `RxChannels`, without SCs and SAs.
     pub fn new() -> RxChannels
         ensures none { result ≡ no_channels }
         ensures channels { AreChannels result }
@@ -68,7 +68,7 @@ impl RxChannels {
         self.scis.as_slice().get(place).copied()
     }
 
-    /// Returns the SA of this SCI and association number.
+    /// Returns the SA with this SCI and association number.
     pub fn row(&self, sci: Sci, an: An) -> Option<RxRow>
         ensures { result ≡ rx_row self.now.rows sci an }
     {
@@ -76,7 +76,7 @@ impl RxChannels {
         Some(row)
     }
 
-    /// The SA of this SCI and association number, with its index.
+    /// The SA with this SCI and association number, with its index.
     fn found(&self, sci: Sci, an: An) -> Option<(usize, RxRow)>
         ensures row { MatchOption result (rx_row self.now.rows sci an ≡ None) (λ f. rx_row self.now.rows sci an ≡ Some f.1) }
         ensures place { IfSome result (λ f. slice_get self.now.rows f.0 ≡ Some f.1) }
@@ -268,8 +268,8 @@ impl RxChannels {
         Ok(())
     }
 
-    /// Narrows every SA to the replay window: raises its lowest acceptable packet number to its next one minus `window`,
-    /// if it is lower.
+    /// Narrows every SA to the replay window: raises its lowest acceptable packet number to its next one minus
+    /// `window`, if it is lower.
     pub fn narrow(&mut self, window: u64)
         ensures narrowed { self.new ≡ channels_narrowed self.old window }
         ensures channels { AreChannels self.new }
@@ -375,7 +375,7 @@ impl RxChannels {
         self.rows.push(row);
     }
 
-    /// The SA of this SCI and association number, with its index.
+    /// The SA with this SCI and association number, with its index.
     ///
     /// Errors: `NoSc`, then `NoSa`.
     fn find(&self, sci: Sci, an: An) -> Result<(usize, RxRow), Refusal>

@@ -1,4 +1,4 @@
-//! The index of the SAs: for the index of an SC and an association number, the index of the SA among the rows.
+//! The index of the SAs: it finds the row of an SA by the position of its SC and by its association number.
 
 ghost use Rattle.std.specs.Prelude.{◌≡◌, ◌+◌, ◌*◌, ◌<◌, ◌≤◌, List, [], is_some, length, IfSome};
 ghost use Rattle.std.specs.Int.{to_be_bytes, w64};
@@ -37,7 +37,7 @@ pub(crate) fn index_of(scis: &[Sci], rows: &[RxRow]) -> [u16; MAX_ROW_COUNT]
     places
 }
 
-/// The position in the index for an association number of the SC at this index.
+/// The position of an SA's entry in the index. `channel` is the position of its SC.
 pub(crate) fn slot(channel: usize, an: An) -> usize
     requires { channel < max_channel_count }
     ensures slot { result ≡ 4 * channel + an }
@@ -47,7 +47,7 @@ pub(crate) fn slot(channel: usize, an: An) -> usize
     ASSOCIATION_COUNT * channel + usize::from(an.number())
 }
 
-/// The index of the SC with this SCI.
+/// The position of the SC with this SCI.
 pub(crate) fn channel_place(scis: &[Sci], sci: Sci) -> Option<usize>
     ensures there { is_some result ≡ has_channel scis.now sci }
     ensures place { IfSome result (λ place. place ≡ channel_place scis.now sci) }

@@ -103,7 +103,7 @@ pub struct RxOptions {
     pub window: u64,
 }
 
-/// A receive SA (10.7), as one row of `RxChannels`.
+/// A receive SA (secure association, 10.7), as one row of `RxChannels`.
 #[derive(Clone, Copy, PartialEq, Eq, Debug, Default)]
 pub struct RxRow {
     /// The SCI of its SC.

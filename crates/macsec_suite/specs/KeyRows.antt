@@ -25,7 +25,7 @@ pub record InstalledKey : Type 0 where
 abbrev pub prepared_key : InstalledKey → PreparedKey
 prepared_key row = record { suite = row.suite; bytes = row.bytes; offset = row.offset }
 
--- the row of this number, if there is one
+-- the row with this number, if there is one
 abbrev pub key_row : List InstalledKey → ℕ → Option InstalledKey
 key_row rows number = find (λ row. row.number == number) rows
 
@@ -33,7 +33,7 @@ key_row rows number = find (λ row. row.number == number) rows
 abbrev pub no_key : InstalledKey
 no_key = record { number = 0; suite = Gcm128; bytes = []; salt = []; ssci = 0; offset = 0; first_unused = 1; retired = false }
 
--- the row of this number, which must exist
+-- the row with this number, which must exist
 abbrev pub the_key : List InstalledKey → ℕ → InstalledKey
 the_key rows number = unwrap_or (key_row rows number) no_key
 
@@ -41,7 +41,7 @@ the_key rows number = unwrap_or (key_row rows number) no_key
 abbrev pub at_number : (InstalledKey → InstalledKey) → ℕ → InstalledKey → InstalledKey
 at_number change number row = if row.number == number then change row else row
 
--- the rows, with the one of this number changed
+-- the rows after the one with this number is changed
 abbrev pub with_key : (InstalledKey → InstalledKey) → ℕ → List InstalledKey → List InstalledKey
 with_key change number rows = map (at_number change number) rows
 
@@ -68,14 +68,14 @@ keys_with suite rows k = rows ++ new_row suite k ∷ []
 abbrev pub retired_row : InstalledKey → InstalledKey
 retired_row row = record row { retired = true }
 
--- the rows, with the key of this number retired
+-- the rows after the key with this number is retired
 abbrev pub keys_retiring : List InstalledKey → ℕ → List InstalledKey
 keys_retiring rows number = with_key retired_row number rows
 
 abbrev pub row_noting : ℕ → InstalledKey → InstalledKey
 row_noting pn row = record row { first_unused = pn + 1 }
 
--- the rows after the key of this number has used the packet number pn
+-- the rows after the key with this number has used the packet number pn
 abbrev pub keys_noting : List InstalledKey → ℕ → ℕ → List InstalledKey
 keys_noting rows number pn = with_key (row_noting pn) number rows
 

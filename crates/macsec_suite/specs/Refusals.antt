@@ -25,15 +25,15 @@ abbrev pub holds_of : {A : Type 0} → (A → Bool) → Option A → Bool
 holds_of test None = false
 holds_of test (Some row) = test row
 
--- a key of this number was installed, retired or not
+-- a key with this number was installed, retired or not
 abbrev pub is_number_used : List InstalledKey → ℕ → Bool
 is_number_used rows number = is_some (key_row rows number)
 
--- a key of these bytes was installed, retired or not
+-- a key with these bytes was installed, retired or not
 abbrev pub is_repeated : List InstalledKey → List ℕ → Bool
 is_repeated rows bytes = list_any (λ row. same_octets row.bytes bytes) rows
 
--- the key of this number is retired
+-- the key with this number is retired
 abbrev pub is_retired : List InstalledKey → ℕ → Bool
 is_retired rows number = holds_of (λ row. row.retired) (key_row rows number)
 

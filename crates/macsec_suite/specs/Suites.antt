@@ -24,7 +24,7 @@ is_xpn Xpn256 = true
 abbrev pub last_of : Suite → ℕ
 last_of suite = if is_xpn suite then 2 ^ 64 - 1 else 2 ^ 32 - 1
 
--- the salt, exclusive-ored with the SSCI (four octets) followed by the packet number (eight octets) (14.7, 14.8)
+-- the exclusive or of two lists of 12 octets: the salt, and the SSCI (4) followed by the packet number (8) (14.7, 14.8)
 abbrev pub extended_iv : ℕ → List ℕ → ℕ → List ℕ
 extended_iv ssci salt pn = sum_with_stream salt (to_be_bytes w32 ssci ++ to_be_bytes w64 pn)
 

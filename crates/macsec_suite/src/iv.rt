@@ -12,8 +12,8 @@ use std::array;
 /// Returns the IV of a frame. `pn` is at most the suite's last packet number.
 ///
 /// With 32-bit packet numbers the IV is the SCI followed by the packet number; SSCI and salt are not used (14.5, 14.6).
-/// With extended packet numbers it is the salt, exclusive-ored with the SSCI followed by the packet number; the SCI is
-/// not used (14.7, 14.8).
+/// With extended packet numbers it is the exclusive or of two lists of 12 octets: the salt, and the SSCI followed by
+/// the packet number. The SCI is not used (14.7, 14.8).
 pub fn iv_of(suite: Suite, sci: Sci, ssci: u32, salt: [u8; 12], pn: u64) -> [u8; 12]
     requires { pn ≤ last_of suite }
     ensures { result ≡ iv_of suite sci ssci salt pn }
@@ -27,7 +27,7 @@ pub fn iv_of(suite: Suite, sci: Sci, ssci: u32, salt: [u8; 12], pn: u64) -> [u8;
     iv
 }
 
-/// The salt, exclusive-ored with the SSCI followed by the packet number.
+/// The exclusive or of two lists of 12 octets: the salt, and the SSCI followed by the packet number.
 fn extended_iv(ssci: u32, salt: [u8; 12], pn: u64) -> [u8; 12]
     ensures { result ≡ extended_iv ssci salt pn }
 {

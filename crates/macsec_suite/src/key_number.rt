@@ -8,7 +8,7 @@ use std::marker::Model;
 /// The number of keys that an endpoint can have. Every key number is below it.
 pub(crate) const MAX_KEY_COUNT: u16 = 4096;
 
-/// The number by which SAs refer to a key of their endpoint, 0 to 4,095.
+/// The number by which SAs (secure associations) refer to a key of their endpoint, 0 to 4,095.
 #[derive(Clone, Copy, PartialEq, Eq, Debug, Default)]
 pub struct KeyNumber(pub(crate) u16);
 

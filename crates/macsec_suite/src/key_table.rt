@@ -179,7 +179,7 @@ impl KeyTable {
         stored.first_unused = u128::from(pn) + 1;
     }
 
-    /// The stored key of this number.
+    /// The stored key with this number.
     fn stored(&self, number: KeyNumber) -> Option<&StoredKey>
         ensures row { MatchOption result (key_row self.now number ≡ None)
             (λ s. key_row self.now number ≡ Some (stored_row s.now)) }
@@ -195,7 +195,7 @@ impl KeyTable {
         usize::from(self.places[usize::from(number.number())])
     }
 
-    /// Whether a key of these bytes was installed, retired or not.
+    /// Whether a key with these bytes was installed, retired or not.
     fn has_bytes(&self, bytes: Key) -> bool
         ensures { result ≡ is_repeated self.now (key_bytes bytes) }
     {

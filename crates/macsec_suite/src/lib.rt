@@ -3,8 +3,9 @@
 //!
 //! Proved: `SuiteKey::new` refuses a key whose length is not the suite's (`KeyLength`), then an offset that the suite
 //! does not have (`Offset`), and nothing else. Contracts see a `SuiteKey` as its suite, bytes and offset. `iv_of` is
-//! the SCI followed by the packet number. With extended packet numbers it is the salt xor the SSCI followed by all 64
-//! bits of the packet number. The packet number must be at most the suite's last one.
+//! the SCI followed by the packet number. With extended packet numbers it is the xor of two lists of 12 octets: the
+//! salt, and the SSCI followed by all 64 bits of the packet number. The packet number must be at most the suite's
+//! last one.
 //!
 //! Proved: `protect_in_place` keeps DA, SA, SecTAG and the clear octets of the data, encrypts the rest, and writes the
 //! ICV after them. `validate_in_place` returns true exactly if opening gives a plaintext, which then replaces the

@@ -15,10 +15,10 @@ pub enum Refusal {
     /// The confidentiality offset is not 0, 30 or 50, or, with extended packet numbers, not 0.
     #[error("the suite's keys have no such offset")]
     Offset = 2,
-    /// A key of this number was installed before, retired or not.
+    /// A key with this number was installed before, retired or not.
     #[error("the number of the key was used before")]
     KeyNumberUsed = 3,
-    /// A key of these bytes was installed before, retired or not.
+    /// A key with these bytes was installed before, retired or not.
     #[error("the bytes of the key were used before")]
     KeyRepeated = 4,
     /// There is no such key.

@@ -11,9 +11,9 @@ use std::test::Fail;
 enum Call {
     /// Installs a key with this number, these bytes, this suite or none, and this replay window.
     Install(u16, [u8; 16], Option<Suite>, u64),
-    /// Retires the key of this number. The flag says whether it is in use.
+    /// Retires the key with this number. The flag says whether it is in use.
     Retire(u16, bool),
-    /// Notes that a packet number was used under the key of this number, if it is installed.
+    /// Notes that a packet number was used under the key with this number, if it is installed.
     Note(u16, u64),
 }
 

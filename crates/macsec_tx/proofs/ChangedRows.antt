@@ -76,7 +76,7 @@ an-used_at an row = by_test (row.an == an)
     by_test true = refl
     by_test false = refl
 
--- the SA of this number has a packet number left; using it keeps the invariant
+-- the SA with this number has a packet number left; using it keeps the invariant
 pub AreTxRows-used_at : (an : ℕ) (rows : List TxRow) → AreTxRows rows → IfSome (tx_row rows an) (λ row. row.next < 2 ^ 64) → AreTxRows (map (used_at an) rows)
 AreTxRows-used_at an [] h small = tt
 AreTxRows-used_at an (row ∷ rows) h small =

@@ -12,7 +12,7 @@ use Rattle.macsec_tx.specs.Transmit.{tx_row}
 abbrev pub tx_uses : List TxRow → ℕ → Bool
 tx_uses rows key = list_any (λ row. row.key == key) rows
 
--- there is an SA of this association number
+-- there is an SA with this association number
 abbrev pub has_tx : List TxRow → ℕ → Bool
 has_tx rows an = is_some (tx_row rows an)
 

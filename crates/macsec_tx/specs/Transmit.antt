@@ -12,7 +12,7 @@ use Rattle.macsec_tx.specs.declared.TxRow.{TxRow}
 use Rattle.macsec_tx.specs.declared.TxOptions.{TxOptions}
 use Rattle.macsec_tx.specs.Tags.{sci_sent, es_sent, scb_sent, sl_of}
 
--- the SA of this association number
+-- the SA with this association number
 abbrev pub tx_row : List TxRow → ℕ → Option TxRow
 tx_row rows an = find (λ row. row.an == an) rows
 
@@ -87,7 +87,7 @@ pub record Sending : Type 0 where
   pub leaving : Leaving
   pub by : Option TxRow
 
--- sent, or not, without protection
+-- sent unprotected, or not sent
 abbrev pub not_protected : Leaving → Sending
 not_protected leaving = record { leaving = leaving; by = None }
 

@@ -33,7 +33,7 @@ impl Model for TxChannel {
 }
 
 impl TxChannel {
-    /// Creates a channel without an SA.
+    /// Creates a transmit SC without SAs.
     pub fn new() -> TxChannel
         ensures { result ≡ [] }
     {
@@ -42,7 +42,7 @@ impl TxChannel {
         }
     }
 
-    /// Returns the SA of this association number.
+    /// Returns the SA with this association number.
     pub fn row(&self, an: An) -> Option<TxRow>
         ensures { result ≡ tx_row self.now an }
     {
@@ -173,7 +173,7 @@ impl TxChannel {
         Ok(())
     }
 
-    /// Advances the next packet number of the SA of this association number, if there is one. The number must have 64
+    /// Advances the next packet number of the SA with this association number, if there is one. The number must have 64
     /// bits.
     pub(crate) fn use_number(&mut self, an: An)
         requires { IfSome (tx_row self.old an) (λ row. row.next < 2 ^ 64) }
@@ -205,7 +205,7 @@ fn off_row(row: TxRow, an: An) -> TxRow
     }
 }
 
-/// Enables the SA of this association number and disables all others.
+/// Enables the SA with this association number and disables all others.
 fn switch_to(rows: &mut [TxRow], an: An)
     ensures { rows.new ≡ with_tx_on rows.old an }
 {
@@ -214,7 +214,7 @@ fn switch_to(rows: &mut [TxRow], an: An)
     }
 }
 
-/// Disables the SA of this association number.
+/// Disables the SA with this association number.
 fn switch_off(rows: &mut [TxRow], an: An)
     ensures { rows.new ≡ with_tx_off rows.old an }
 {
@@ -236,7 +236,7 @@ fn used_row(row: TxRow, an: An) -> TxRow
     }
 }
 
-/// Advances the next packet number of the SA of this association number.
+/// Advances the next packet number of the SA with this association number.
 fn use_number(rows: &mut [TxRow], an: An)
     requires { All (λ row. row.next ≤ 2 ^ 64) rows.old }
     ensures { rows.new ≡ map (used_at an) rows.old }

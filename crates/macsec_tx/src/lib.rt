@@ -36,7 +36,7 @@ pub struct TxOptions {
     pub many: bool,
 }
 
-/// A transmit SA (10.7), as one row of `TxChannel`.
+/// A transmit SA (secure association, 10.7), as one row of `TxChannel`.
 #[derive(Clone, Copy, PartialEq, Eq, Debug, Default)]
 pub struct TxRow {
     /// Its association number.
