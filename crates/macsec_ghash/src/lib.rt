@@ -1,11 +1,11 @@
 //! GHASH, the hash of GCM (SP 800-38D, 6.4).
 //!
 //! Proved: for `PlainHash`, `LaneHash` and every other implementation of `Hash128`, and for every list of absorbed
-//! pieces, `value` is GHASH of the pieces' blocks in order. Each piece is padded with zeros to whole blocks. `PlainHash`
-//! and `LaneHash` meet the one contract of `Hash128`, so they return the same value. So does a `RunningHash`, whose
-//! powers the caller keeps. Contracts see `KeyPowers` as the key, so powers of another key cannot take their place.
-//! Laws (`laws`) state GHASH by its steps, and the hash of several blocks at once as a sum of products with powers of
-//! the key.
+//! pieces, `value` is GHASH of the pieces' blocks in order. Each piece is padded with zeros to whole blocks.
+//! `PlainHash` and `LaneHash` meet the one contract of `Hash128`, so they return the same value. So does a
+//! `RunningHash`, whose powers the caller keeps. Contracts see `KeyPowers` as the key, so powers of another key cannot
+//! take their place. Laws (`laws`) state GHASH by its steps, and the hash of several blocks at once as a sum of
+//! products with powers of the key.
 //!
 //! No contract is about time, or says that lanes are used.
 #![tactic(auto)]

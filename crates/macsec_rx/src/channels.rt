@@ -107,7 +107,7 @@ impl RxChannels {
 
     /// Creates an SC after the others. `own` is the endpoint's own SCI.
     ///
-    /// Errors: the first that applies of `OwnSci`, `ScTaken` and `ScFull`.
+    /// Errors: the first of `OwnSci`, `ScTaken` and `ScFull` that applies.
     pub fn rx_sc(&mut self, own: Sci, sci: Sci) -> Result<(), Refusal>
         ensures refusal { refusal_of result ≡ first_refusal (rx_sc_refusals self.old own sci) }
         ensures done { OnOk result (self.new ≡ with_channel self.old sci) }
@@ -149,7 +149,7 @@ impl RxChannels {
 
     /// Creates an SA. It is disabled, and its lowest acceptable packet number is `lowest`.
     ///
-    /// Errors: the first that applies of `NoKey`, `KeyRetired`, `NoSc`, `AnTaken`, `PnRange` and `SsciOwn`. `SsciOwn`
+    /// Errors: the first of `NoKey`, `KeyRetired`, `NoSc`, `AnTaken`, `PnRange` and `SsciOwn` that applies. `SsciOwn`
     /// applies only with extended packet numbers.
     pub fn rx_sa(
         &mut self,
@@ -231,7 +231,7 @@ impl RxChannels {
 
     /// Raises the lowest acceptable packet number of an SA to `pn`. The key of each SA must be in the table.
     ///
-    /// Errors: the first that applies of `NoSc`, `NoSa`, `PnRange` and `PnLower`.
+    /// Errors: the first of `NoSc`, `NoSa`, `PnRange` and `PnLower` that applies.
     pub fn rx_low(&mut self, keys: &KeyTable, sci: Sci, an: An, pn: u64) -> Result<(), Refusal>
         requires { HaveRxKeys keys.now self.old.rows }
         ensures refusal { refusal_of result ≡ first_refusal (rx_low_refusals keys.now self.old sci an pn) }

@@ -74,7 +74,7 @@ free-map f same (row ∷ rows) n free =
     let parts = cond_none (row.number == n) row (key_row rows n) free in
     rw (same row, parts.0) (free-map f same rows n parts.1)
 
--- a change that keeps each row's number and bounds keeps the number and bounds of every row
+-- a change that keeps each row's number and bounds keeps `AreKeyRows`
 pub AreKeyRows-map : (f : InstalledKey → InstalledKey) → ((row : InstalledKey) → (f row).number ≡ row.number) → ((row : InstalledKey) → IsKeyRow row → IsKeyRow (f row)) →
     (rows : List InstalledKey) → AreKeyRows rows → AreKeyRows (map f rows)
 AreKeyRows-map f same keeps [] h = tt

@@ -69,7 +69,7 @@ impl KeyTable {
     /// Installs a key. A key that names no suite gets the default one. Its first unused packet number is 1. `window` is
     /// the endpoint's replay window.
     ///
-    /// Errors: the first that applies of `KeyLength`, `Offset`, `KeyNumberUsed`, `KeyRepeated` and `Window`. `Window`
+    /// Errors: the first of `KeyLength`, `Offset`, `KeyNumberUsed`, `KeyRepeated` and `Window` that applies. `Window`
     /// applies if the key's suite has extended packet numbers and the window is above 2^30 - 1.
     pub fn install(&mut self, default: Suite, key: &NewKey, window: u64) -> Result<(), Refusal>
         ensures refusal { refusal_of result ≡ first_refusal (install_refusals (suite_of default key.now) window self.old key.now) }
@@ -105,7 +105,7 @@ impl KeyTable {
 
     /// Retires a key: from then on no new SA may use it. `in_use` is whether an SA uses the key now.
     ///
-    /// Errors: the first that applies of `NoKey`, `KeyRetired` and `KeyInUse`.
+    /// Errors: the first of `NoKey`, `KeyRetired` and `KeyInUse` that applies.
     pub fn retire(&mut self, number: KeyNumber, in_use: bool) -> Result<(), Refusal>
         ensures refusal { refusal_of result ≡ first_refusal (retire_refusals self.old number in_use) }
         ensures done { OnOk result (self.new ≡ keys_retiring self.old number) }

@@ -11,7 +11,7 @@ use Rattle.macsec_tx.specs.declared.TxRow.{TxRow}
 use Rattle.macsec_tx.specs.Transmit.{tx_row, row_on}
 use Rattle.macsec_tx.specs.Rows.{AreTxRows, IsTxRow}
 
--- a channel without an SA has the invariant
+-- an SC without SAs has the invariant
 pub AreTxRows-nil : AreTxRows []
 AreTxRows-nil = tt
 

@@ -76,7 +76,7 @@ impl TxChannel {
 
     /// Creates an SA. It is disabled, its first packet number is `next`, and it encrypts if `conf` is true.
     ///
-    /// Errors: the first that applies of `NoKey`, `KeyRetired`, `KeyInUse`, `AnTaken`, `PnRange` and `PnFloor`.
+    /// Errors: the first of `NoKey`, `KeyRetired`, `KeyInUse`, `AnTaken`, `PnRange` and `PnFloor` that applies.
     pub fn tx_sa(
         &mut self,
         keys: &KeyTable,
