@@ -8,13 +8,11 @@ use Rattle.std.proofs.Math.Nat.{mul_comm}
 use Rattle.std.proofs.lemmas.Grind.{pow_more}
 use Rattle.macsec_aes.specs.Field.{sum_below, polynomial_product, remainder, byte_product, modulus}
 
--- f is additive
 pub record IsAdditive (f : ℕ → ℕ) : Type 0 where
   pub adds : (a b : ℕ) → f (bit_xor a b) ≡ bit_xor (f a) (f b)
 
 -- ---- sums
 
--- (a + b) + (c + d) is (a + c) + (b + d)
 xor_swap : (a b c d : ℕ) → bit_xor (bit_xor a b) (bit_xor c d) ≡ bit_xor (bit_xor a c) (bit_xor b d)
 xor_swap a b c d =
     xor_assoc a b (bit_xor c d)
@@ -26,7 +24,6 @@ unfolding sum_below
 sum_of_sums zero f g = refl
 sum_of_sums (suc n) f g = ap (λ (s : ℕ). bit_xor s (bit_xor (f n) (g n))) (sum_of_sums n f g) ∙ xor_swap (sum_below n f) (sum_below n g) (f n) (g n)
 
--- equal terms have equal sums
 same_sums : (n : ℕ) (f g : ℕ → ℕ) → ((i : ℕ) → f i ≡ g i) → sum_below n f ≡ sum_below n g
 unfolding sum_below
 same_sums zero f g e = refl
@@ -87,7 +84,6 @@ xor_scaled n p q =
     let block = rw (z1, z2, xor_zero_r 0) at (xor_block n p q 0 0 (pow_pos n) (pow_pos n)) in
     omega (arith, block)
 
--- a bit times a sum
 bit_times_sum : (b p q : ℕ) → b < 2 → b * bit_xor p q ≡ bit_xor (b * p) (b * q)
 bit_times_sum b p q lt =
     elim (bit_cases b lt) [
@@ -95,7 +91,6 @@ bit_times_sum b p q lt =
       | inr e ↦ rw e (simp one_times)
     ]
 
--- the sum of two bits times two numbers
 sum_times_bit : (b c p q : ℕ) → b < 2 → c < 2 → (b + c) % 2 * p * q ≡ bit_xor (b * p * q) (c * p * q)
 sum_times_bit b c p q lb lc =
     elim (bit_cases b lb) [

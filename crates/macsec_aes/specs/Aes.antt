@@ -39,7 +39,6 @@ add_round_key s k = table (λ r c. bit_xor (entry s r c) (entry k r c))
 
 -- ---- the key expansion (5.2)
 
--- the sum of two words
 unfoldable pub sum_of_words : List ℕ → List ℕ → List ℕ
 sum_of_words v w = map (λ r. bit_xor (slice_index v r) (slice_index w r)) (range_with_len 0 4)
 
@@ -55,7 +54,6 @@ sub_word w = map (λ r. s_box (slice_index w r)) (range_with_len 0 4)
 abbrev pub round_constant : ℕ → List ℕ
 round_constant j = iterate (byte_product 2) (j - 1) 1 ∷ 0 ∷ 0 ∷ 0 ∷ []
 
--- word i of a list of words
 abbrev pub word : List (List ℕ) → ℕ → List ℕ
 word ws i = slice_index_or ws i []
 
@@ -65,7 +63,6 @@ added_word n i last =
     if i % n == 0 then sum_of_words (sub_word (rot_word last)) (round_constant (i / n))
     else (if (n == 8) && (i % 8 == 4) then sub_word last else last)
 
--- the words of a key
 unfoldable pub key_words : List ℕ → List (List ℕ)
 key_words key = map (λ i. take 4 (drop (4 * i) key)) (range_with_len 0 (length key / 4))
 

@@ -2,7 +2,6 @@
 use Rattle.std.specs.Prelude.{◌≡◌, ℕ, ◌^◌, ◌<◌, ◌↔◌}
 use Rattle.macsec_aes.specs.Field.{byte_product, inverse}
 
--- an inverse is a byte
 abbrev pub InverseIsByte : Type 0
 InverseIsByte = (a : ℕ) → inverse a < 2 ^ 8
 

@@ -101,7 +101,6 @@ fn expand_bytes(key: &[u8]) -> Schedule
     Schedule { words, rounds }
 }
 
-/// The sum of two words.
 fn sum_of_words(v: [u8; 4], w: [u8; 4]) -> [u8; 4]
     ensures { result ≡ sum_of_words v w }
 {
@@ -224,14 +223,12 @@ fn add_round_key(state: [u8; 16], key: [u8; 16]) -> [u8; 16]
     )
 }
 
-/// A round with all four transformations.
 fn full_round(state: [u8; 16], key: [u8; 16]) -> [u8; 16]
     ensures { result ≡ add_round_key (mix_columns (shift_rows (sub_bytes state))) key }
 {
     add_round_key(mix_columns(shift_rows(sub_bytes(state))), key)
 }
 
-/// The last round, without MixColumns.
 fn last_round(state: [u8; 16], key: [u8; 16]) -> [u8; 16]
     ensures { result ≡ add_round_key (shift_rows (sub_bytes state)) key }
 {

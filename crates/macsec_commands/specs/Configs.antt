@@ -22,7 +22,6 @@ is_unfit form.Scb sci = not (same_octets (drop 6 sci.0) (0 ∷ 0 ∷ []))
 abbrev pub is_bad_limit : ℕ → Bool
 is_bad_limit max_frame = nat_lt max_frame min_max_frame || nat_lt max_frame_len max_frame
 
--- why no endpoint can be created from a configuration
 abbrev pub config_fault : EndConfig → Option NewFault
 config_fault config =
     first_that_holds ((MaxFrame, is_bad_limit config.max_frame) ∷ (SciForm, is_unfit config.form config.sci) ∷ [])

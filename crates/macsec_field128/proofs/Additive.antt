@@ -9,11 +9,9 @@ use Rattle.std.proofs.lemmas.Grind.{pow_more}
 use Rattle.std.proofs.Math.Nat.{mul_comm}
 use Rattle.macsec_field128.specs.Field.{sum_below, times_x, reduction}
 
--- f is additive
 pub record IsAdditive (f : ℕ → ℕ) : Type 0 where
   pub adds : (a b : ℕ) → f (bit_xor a b) ≡ bit_xor (f a) (f b)
 
--- (a + b) + (c + d) is (a + c) + (b + d)
 pub xor_swap : (a b c d : ℕ) → bit_xor (bit_xor a b) (bit_xor c d) ≡ bit_xor (bit_xor a c) (bit_xor b d)
 xor_swap a b c d =
     xor_assoc a b (bit_xor c d)
@@ -32,7 +30,6 @@ zero_times x = omega arith
 pub one_times : (x : ℕ) → 1 * x ≡ x
 one_times x = omega arith
 
--- a bit times a sum
 pub bit_times_sum : (b p q : ℕ) → b < 2 → b * bit_xor p q ≡ bit_xor (b * p) (b * q)
 bit_times_sum b p q lt =
     elim (bit_cases b lt) [
@@ -40,7 +37,6 @@ bit_times_sum b p q lt =
       | inr e ↦ rw e (simp one_times)
     ]
 
--- the sum of two bits times a number
 pub sum_of_bits_times : (b c p : ℕ) → b < 2 → c < 2 → (b + c) % 2 * p ≡ bit_xor (b * p) (c * p)
 sum_of_bits_times b c p lb lc =
     elim (bit_cases b lb) [
@@ -48,7 +44,6 @@ sum_of_bits_times b c p lb lc =
       | inr e ↦ elim (bit_cases c lc) [ inl g ↦ rw (e, g) (simp (zero_times, one_times, xor_zero_r)) | inr g ↦ rw (e, g) (simp (zero_times, one_times, xor_self)) ]
     ]
 
--- f of a bit times a number
 pub additive_bit : (f : ℕ → ℕ) → IsAdditive f → (b p : ℕ) → b < 2 → f (b * p) ≡ b * f p
 additive_bit f h b p lt =
     elim (bit_cases b lt) [
@@ -63,7 +58,6 @@ unfolding sum_below
 sum_of_sums zero f g = refl
 sum_of_sums (suc n) f g = ap (λ (s : ℕ). bit_xor s (bit_xor (f n) (g n))) (sum_of_sums n f g) ∙ xor_swap (sum_below n f) (sum_below n g) (f n) (g n)
 
--- equal terms have equal sums
 pub same_sums : (n : ℕ) (f g : ℕ → ℕ) → ((i : ℕ) → i < n → f i ≡ g i) → sum_below n f ≡ sum_below n g
 unfolding sum_below
 same_sums zero f g e = refl

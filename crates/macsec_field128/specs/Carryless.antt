@@ -33,7 +33,6 @@ CarrylessMovesWithFirst = (m k a b : ℕ) → m + k ≤ 128 → a < 2 ^ m → ca
 abbrev pub CarrylessMovesWithSecond : Type 0
 CarrylessMovesWithSecond = (k a b : ℕ) → carryless a (b * 2 ^ k) ≡ carryless a b * 2 ^ k
 
--- the five laws
 pub record CarrylessLaws : Type 0 where
   pub adds_first : CarrylessAddsInFirst
   pub adds_second : CarrylessAddsInSecond

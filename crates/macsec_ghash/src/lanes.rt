@@ -34,7 +34,6 @@ fn side_by_side(a: u8x16, b: u8x16) -> u8x32
     )
 }
 
-/// The left nibble of each octet.
 #[inline(always)]
 fn left_nibbles(octets: u8x16) -> u8x16
     ensures { (i : ℕ) → i < 16 → (slice_index result i ≡ slice_index octets i / 2 ^ 4) × (slice_index result i < 16) }
@@ -42,7 +41,6 @@ fn left_nibbles(octets: u8x16) -> u8x16
     octets >> u8x16::splat(4)
 }
 
-/// The right nibble of each octet.
 #[inline(always)]
 fn right_nibbles(octets: u8x16) -> u8x16
     ensures { (i : ℕ) → i < 16 → slice_index result i ≡ slice_index octets i % 2 ^ 4 }
@@ -131,7 +129,6 @@ fn moved(left: u8x32, right: u8x32, sums: u8x32) -> (u8x32, u8x32)
     )
 }
 
-/// The first half of a vector.
 #[inline(always)]
 fn first_half(v: u8x32) -> u8x16
     ensures { (i : ℕ) → i < 16 → slice_index result (0 + i) ≡ slice_index v (0 + i) }
@@ -139,7 +136,6 @@ fn first_half(v: u8x32) -> u8x16
     v.extract::<0, 16>()
 }
 
-/// The second half of a vector.
 #[inline(always)]
 fn second_half(v: u8x32) -> u8x16
     ensures { (i : ℕ) → i < 16 → slice_index result (0 + i) ≡ slice_index v (16 + i) }

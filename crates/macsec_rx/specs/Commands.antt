@@ -12,15 +12,12 @@ use Rattle.macsec_rx.specs.declared.RxRow.{RxRow}
 use Rattle.macsec_rx.specs.Limits.{max_channel_count}
 use Rattle.macsec_rx.specs.Channels.{Channels, same_sci, is_at, rx_row, with_rx, numbers_of, with_numbers}
 
--- there is an SC with this SCI
 abbrev pub has_channel : List Sci → Sci → Bool
 has_channel scis sci = list_any (λ s. same_sci s sci) scis
 
--- there is an SA with this SCI and association number
 abbrev pub has_rx : List RxRow → Sci → ℕ → Bool
 has_rx rows sci an = is_some (rx_row rows sci an)
 
--- a receive SA uses the key
 abbrev pub rx_uses : List RxRow → ℕ → Bool
 rx_uses rows key = list_any (λ row. row.key == key) rows
 

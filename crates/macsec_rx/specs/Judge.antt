@@ -160,7 +160,6 @@ rows_accepting window None row rows = rows
 rows_accepting window (Some number) None rows = rows
 rows_accepting window (Some number) (Some row) rows = with_rx (row_accepting window number) row.sci row.an rows
 
--- the SAs after a verdict
 abbrev pub rows_after : ℕ → Judgement → List RxRow → List RxRow
 rows_after window j rows = rows_accepting window (accepted_number j) j.row rows
 

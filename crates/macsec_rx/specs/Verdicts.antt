@@ -3,7 +3,6 @@ use Rattle.std.specs.Prelude.{ℕ, List, codes}
 use Rattle.macsec_rx.specs.declared.Verdict.{Verdict}
 use Rattle.macsec_rx.specs.declared.Verdict.TheVariants.{Untagged, NoTag, BadTag, Reserved, NoSaError, NoSa, Late, NotValid, Unchecked, Delayed, Invalid, Passed}
 
--- a verdict as it is printed
 abbrev pub verdict_name : Verdict → List ℕ
 verdict_name Untagged = codes "Untagged"
 verdict_name NoTag = codes "NoTag"

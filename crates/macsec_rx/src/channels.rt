@@ -363,7 +363,6 @@ impl RxChannels {
         self.rows.as_mut_slice()[place] = row;
     }
 
-    /// Appends an SA.
     fn append(&mut self, row: RxRow)
         requires free { rx_row self.old.rows row.sci row.an ≡ None }
         requires row { IsRxRow self.old.scis row }
@@ -394,14 +393,12 @@ impl RxChannels {
     }
 }
 
-/// Whether the SA has this SCI and association number.
 fn is_at(row: &RxRow, sci: Sci, an: An) -> bool
     ensures { result ≡ is_at sci an row.now }
 {
     row.sci == sci && row.an.number() == an.number()
 }
 
-/// The SA, narrowed to the replay window.
 fn row_narrowed(row: RxRow, window: u64) -> RxRow
     ensures { result ≡ row_narrowed window row }
 {
@@ -410,7 +407,6 @@ fn row_narrowed(row: RxRow, window: u64) -> RxRow
     row.with_numbers(numbers)
 }
 
-/// Narrows every SA to the replay window.
 fn narrow(rows: &mut [RxRow], window: u64)
     ensures { rows.new ≡ map (row_narrowed window) rows.old }
 {

@@ -102,7 +102,6 @@ fn row_of(found: &Option<(usize, RxRow)>) -> Option<RxRow>
     }
 }
 
-/// Whether the mode is Strict.
 fn is_strict(mode: Mode) -> bool
     ensures { result ≡ is_strict mode }
 {
@@ -112,7 +111,6 @@ fn is_strict(mode: Mode) -> bool
     }
 }
 
-/// Whether the mode is Disabled.
 fn is_disabled(mode: Mode) -> bool
     ensures { result ≡ is_disabled mode }
 {
@@ -223,7 +221,6 @@ fn judge_known(
     judge_number(key, options, row, number, mpdu, out)
 }
 
-/// Whether the packet number is late at the SA.
 fn is_late(row: &RxRow, number: u64) -> bool
     ensures { result ≡ is_late row.now.lowest number }
 {

@@ -21,7 +21,6 @@ pub record InstalledKey : Type 0 where
   pub first_unused : ℕ
   pub retired : Bool
 
--- the key prepared for its suite
 abbrev pub prepared_key : InstalledKey → PreparedKey
 prepared_key row = record { suite = row.suite; bytes = row.bytes; offset = row.offset }
 

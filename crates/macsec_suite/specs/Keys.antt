@@ -31,7 +31,6 @@ abbrev pub suite_key_fault : Suite → Key → ℕ → Option SuiteFault
 suite_key_fault suite key offset =
     first_that_holds ((KeyLength, has_wrong_length suite key) ∷ (Offset, has_wrong_offset suite offset) ∷ [])
 
--- the fault that was returned
 abbrev pub fault_of : {A : Type 0} → Result A SuiteFault → Option SuiteFault
 fault_of (Ok key) = None
 fault_of (Err fault) = Some fault

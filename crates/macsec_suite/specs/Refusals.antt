@@ -16,7 +16,6 @@ use Rattle.macsec_suite.specs.Suites.{is_xpn, widest_extended_window}
 abbrev pub RefusalLine : Type 0
 RefusalLine = Refusal × Bool
 
--- the first refusal whose condition holds
 abbrev pub first_refusal : List RefusalLine → Option Refusal
 first_refusal lines = first_that_holds lines
 
@@ -33,7 +32,6 @@ is_number_used rows number = is_some (key_row rows number)
 abbrev pub is_repeated : List InstalledKey → List ℕ → Bool
 is_repeated rows bytes = list_any (λ row. same_octets row.bytes bytes) rows
 
--- the key with this number is retired
 abbrev pub is_retired : List InstalledKey → ℕ → Bool
 is_retired rows number = holds_of (λ row. row.retired) (key_row rows number)
 
@@ -61,7 +59,6 @@ retire_refusals rows number in_use =
 abbrev pub is_outside : ℕ → ℕ → Bool
 is_outside last pn = pn == 0 || nat_lt last pn
 
--- the refusal that a command returned
 abbrev pub refusal_of : {A : Type 0} → Result A Refusal → Option Refusal
 refusal_of (Ok done) = None
 refusal_of (Err refusal) = Some refusal

@@ -20,7 +20,6 @@ is_xpn Gcm256 = false
 is_xpn Xpn128 = true
 is_xpn Xpn256 = true
 
--- the last packet number
 abbrev pub last_of : Suite → ℕ
 last_of suite = if is_xpn suite then 2 ^ 64 - 1 else 2 ^ 32 - 1
 

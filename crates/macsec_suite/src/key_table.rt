@@ -179,7 +179,6 @@ impl KeyTable {
         stored.first_unused = u128::from(pn) + 1;
     }
 
-    /// The stored key with this number.
     fn stored(&self, number: KeyNumber) -> Option<&StoredKey>
         ensures row { MatchOption result (key_row self.now number ≡ None)
             (λ s. key_row self.now number ≡ Some (stored_row s.now)) }
@@ -231,7 +230,6 @@ impl StoredKey {
         self.row.suite_key.suite().is_xpn() && !self.row.retired
     }
 
-    /// Whether the key has these bytes.
     fn has_bytes(&self, bytes: Key) -> bool
         ensures { result ≡ same_octets (stored_row self.now).bytes (key_bytes bytes) }
     {

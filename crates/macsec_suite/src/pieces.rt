@@ -48,7 +48,6 @@ pub fn open(key: &GcmKey, iv: &[u8; 12], aad: &[u8], text: &mut [u8], tag: &[u8;
     }
 }
 
-/// Authenticates additional authenticated data piece by piece.
 fn seal_aad(sealer: &mut Sealer<'_>, aad: &[u8])
     ensures { (key iv : List ℕ) → HasSealed sealer.old key iv [] [] → HasSealed sealer.new key iv aad.now [] }
 {
@@ -57,7 +56,6 @@ fn seal_aad(sealer: &mut Sealer<'_>, aad: &[u8])
     }
 }
 
-/// Encrypts a plaintext in place, piece by piece.
 fn seal_text(sealer: &mut Sealer<'_>, text: &mut [u8])
     ensures { (key iv aad : List ℕ) → HasSealed sealer.old key iv aad []
         → HasSealed sealer.new key iv aad text.old × (text.new ≡ (seal_of key iv aad text.old).0) }
@@ -71,7 +69,6 @@ fn seal_text(sealer: &mut Sealer<'_>, text: &mut [u8])
     }
 }
 
-/// Authenticates the additional authenticated data of a ciphertext piece by piece.
 fn check_aad(opener: &mut Opener<'_>, aad: &[u8])
     ensures { (key iv : List ℕ) → HasChecked opener.old key iv [] [] → HasChecked opener.new key iv aad.now [] }
 {
@@ -80,7 +77,6 @@ fn check_aad(opener: &mut Opener<'_>, aad: &[u8])
     }
 }
 
-/// Checks a ciphertext piece by piece, without changing it.
 fn check_text(opener: &mut Opener<'_>, text: &[u8])
     ensures { (key iv aad : List ℕ) → HasChecked opener.old key iv aad [] → HasChecked opener.new key iv aad text.now }
 {
@@ -89,7 +85,6 @@ fn check_text(opener: &mut Opener<'_>, text: &[u8])
     }
 }
 
-/// Decrypts a ciphertext in place, piece by piece.
 fn decrypt(unlocked: &mut Unlocked<'_>, text: &mut [u8])
     ensures { (key iv : List ℕ) → HasOpened unlocked.old key iv [] → text.new ≡ decrypted key iv text.old }
 {

@@ -87,7 +87,6 @@ impl SuiteKey {
     }
 }
 
-/// The bytes of a key.
 pub(crate) fn octets_of(key: &Key) -> &[u8]
     ensures { result.now ≡ key_bytes key.now }
 {

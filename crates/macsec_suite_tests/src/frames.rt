@@ -28,7 +28,6 @@ fn tagged(front: &[u8], data: &[u8]) -> [u8; 96] {
     octets
 }
 
-/// The frame, padded with zeros.
 fn padded(frame: &[u8]) -> [u8; 96] {
     let mut octets = [0; 96];
     put(&mut octets, 0, frame);
@@ -43,7 +42,6 @@ fn bytes_of(suite: Suite) -> Key {
     }
 }
 
-/// Prepares a key for a suite, with a confidentiality offset.
 fn prepared(suite: Suite, key: Key, offset: u8) -> Result<SuiteKey, SuiteFault> {
     SuiteKey::new(suite, key, SALT, offset)
 }

@@ -17,7 +17,6 @@ enum Call {
     Note(u16, u64),
 }
 
-/// The key number `n`.
 fn key_number(rt: &impl Abort, n: u16) -> KeyNumber {
     KeyNumber::new(n).expect(rt, "a key number")
 }
@@ -44,14 +43,12 @@ fn answer_to_key(
     table.install(default, key, window)
 }
 
-/// Notes that a packet number was used under a key, if it is installed.
 fn note(table: &mut KeyTable, number: KeyNumber, pn: u64) {
     if table.key(number).is_some() {
         table.note_used(number, pn);
     }
 }
 
-/// The result of a call.
 fn answer_to(rt: &impl Abort, table: &mut KeyTable, call: Call) -> Result<(), Refusal> {
     match call {
         Call::Install(number, bytes, suite, window) => {
@@ -81,7 +78,6 @@ fn is_retired(rt: &impl Abort, table: &KeyTable, number: u16) -> Option<bool> {
 /// Whether a key is retired, and its first unused packet number, if it is installed.
 type Use = (Option<bool>, Option<u128>);
 
-/// The use of the key of a number.
 fn use_of(rt: &impl Abort, table: &KeyTable, number: u16) -> Use {
     let unused = table.first_unused(key_number(rt, number));
     (is_retired(rt, table, number), unused)
@@ -198,7 +194,6 @@ fn wrong_lengths_and_offsets(rt: HostRuntime) -> Result<(), Fail> {
     Ok(())
 }
 
-/// The number of the key found by a number.
 fn number_found(rt: &impl Abort, table: &KeyTable, number: u16) -> Option<u16> {
     let (number, _, _) = found(rt, table, number)?;
     Some(number)
@@ -247,7 +242,6 @@ fn numbers_of_more_than_an_octet(rt: HostRuntime) -> Result<(), Fail> {
     Ok(())
 }
 
-/// The suite of the key found by a number.
 fn suite_found(rt: &impl Abort, table: &KeyTable, number: u16) -> Option<Suite> {
     let (_, suite, _) = found(rt, table, number)?;
     suite

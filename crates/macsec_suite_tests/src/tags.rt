@@ -50,7 +50,6 @@ fn part_of(frame: &[u8], part: usize) -> Option<&[u8]> {
     }
 }
 
-/// The SecTAG of a tagged frame.
 fn tag_of(frame: &[u8]) -> Option<SecTag> {
     match read(frame) {
         Read::Tagged(mpdu) => Some(mpdu.tag()),

@@ -8,11 +8,9 @@ use Rattle.macsec_suite.specs.Refusals.{RefusalLine, holds_of, is_number_used, i
 use Rattle.macsec_tx.specs.declared.TxRow.{TxRow}
 use Rattle.macsec_tx.specs.Transmit.{tx_row}
 
--- a transmit SA uses the key
 abbrev pub tx_uses : List TxRow → ℕ → Bool
 tx_uses rows key = list_any (λ row. row.key == key) rows
 
--- there is an SA with this association number
 abbrev pub has_tx : List TxRow → ℕ → Bool
 has_tx rows an = is_some (tx_row rows an)
 

@@ -16,14 +16,12 @@ sci_sent form.Sci many sci sa = Some sci
 sci_sent form.Es many sci sa = if is_own sci sa then None else Some sci
 sci_sent form.Scb many sci sa = if is_own sci sa then None else Some sci
 
--- the ES bit
 abbrev pub es_sent : TagForm → Sci → List ℕ → Bool
 es_sent form.Auto sci sa = false
 es_sent form.Sci sci sa = false
 es_sent form.Es sci sa = is_own sci sa
 es_sent form.Scb sci sa = false
 
--- the SCB bit
 abbrev pub scb_sent : TagForm → Sci → List ℕ → Bool
 scb_sent form.Auto sci sa = false
 scb_sent form.Sci sci sa = false

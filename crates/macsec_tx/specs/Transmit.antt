@@ -108,7 +108,6 @@ sending options keys rows frame =
     if options.protect then sending_by options keys frame (row_on rows)
     else not_protected (if nat_lt options.max_frame (length frame) then too_long else plain)
 
--- the SA after it has used its next packet number
 abbrev pub next_used : TxRow → TxRow
 next_used row = record row { next = row.next + 1 }
 

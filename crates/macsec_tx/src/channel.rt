@@ -184,7 +184,6 @@ impl TxChannel {
     }
 }
 
-/// The SA, enabled if it has this association number, otherwise disabled.
 fn switched_row(row: TxRow, an: An) -> TxRow
     ensures { result ≡ switch_to an row }
 {
@@ -194,7 +193,6 @@ fn switched_row(row: TxRow, an: An) -> TxRow
     }
 }
 
-/// The SA, disabled if it has this association number, otherwise unchanged.
 fn off_row(row: TxRow, an: An) -> TxRow
     ensures { result ≡ off_at an row }
 {
@@ -205,7 +203,6 @@ fn off_row(row: TxRow, an: An) -> TxRow
     }
 }
 
-/// Enables the SA with this association number and disables all others.
 fn switch_to(rows: &mut [TxRow], an: An)
     ensures { rows.new ≡ with_tx_on rows.old an }
 {
@@ -214,7 +211,6 @@ fn switch_to(rows: &mut [TxRow], an: An)
     }
 }
 
-/// Disables the SA with this association number.
 fn switch_off(rows: &mut [TxRow], an: An)
     ensures { rows.new ≡ with_tx_off rows.old an }
 {

@@ -107,7 +107,6 @@ fn number_of_frame(key: &KeyRow, row: &TxRow) -> Option<u64>
     numbers.take(key.suite_key.suite().last())
 }
 
-/// The IV of a frame of this packet number.
 fn iv_of_frame(options: &TxOptions, key: &KeyRow, pn: u64) -> [u8; 12]
     requires { pn ≤ last_of key.now.suite_key.suite }
     ensures { result ≡ iv_of key.now.suite_key.suite options.now.sci key.now.key.ssci key.now.key.salt pn }
