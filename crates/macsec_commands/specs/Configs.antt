@@ -11,7 +11,8 @@ use Rattle.macsec_commands.specs.declared.fault.NewFault.{NewFault}
 use Rattle.macsec_commands.specs.declared.fault.NewFault.TheVariants.{MaxFrame, SciForm}
 use Rattle.macsec_commands.specs.Limits.{min_max_frame}
 
--- the tag form requires another port than the SCI's; without an SCI, ES means port 0001 and SCB means port 0000 (9.5)
+-- the tag form requires another port than the SCI's; in a SecTAG without an SCI, ES means port 0001 and SCB means
+-- port 0000 (9.5)
 abbrev pub is_unfit : TagForm → Sci → Bool
 is_unfit form.Auto sci = false
 is_unfit form.Sci sci = false

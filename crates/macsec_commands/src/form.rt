@@ -19,8 +19,8 @@ pub enum TagForm {
     Scb,
 }
 
-/// Whether the tag form requires another port than the SCI's. Without an SCI, ES means port 0001 and SCB means port
-/// 0000. An SCI has eight octets, whatever its source.
+/// Whether the tag form requires another port than the SCI's. In a SecTAG without an SCI, ES means port 0001 and SCB
+/// means port 0000. An SCI has eight octets, whatever its source.
 pub fn is_unfit(form: TagForm, sci: Sci) -> bool
     ensures unfit { result ≡ is_unfit form sci }
     ensures sci { IsSci sci }

@@ -46,8 +46,8 @@ pub fn add_octets(text: &mut [u8], stream: &[u8])
     }
 }
 
-/// A key stream from an initial counter block on, with the number of octets used. Octets of a batch that one piece of a
-/// text does not use are kept for the next piece.
+/// A partly used key stream, from an initial counter block on. Octets of a batch that one piece of a text does not use
+/// are kept for the next piece.
 #[derive(Drop)]
 pub struct KeyStream<'k> {
     schedule: &'k LaneSchedule,

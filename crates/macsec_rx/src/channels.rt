@@ -330,7 +330,7 @@ impl RxChannels {
         ensures accepted { self.new ≡ record self.old { rows = rows_accepting window number (option_map (λ f. f.1) found.now) self.old.rows } }
         ensures channels { AreChannels self.new }
     {
-        // Shows the prover the invariant of the channels. The compiler deletes the line.
+        // For the prover, as in `rx_sc`.
         let _ = &self.scis;
         if let Some((place, row)) = found {
             if let Some(number) = number {
@@ -346,7 +346,7 @@ impl RxChannels {
         ensures accepted { self.new ≡ record self.old { rows = with_rx (row_accepting window number) row.now.sci row.now.an self.old.rows } }
         ensures channels { AreChannels self.new }
     {
-        // Shows the prover the invariant of the channels. The compiler deletes the line.
+        // For the prover, as in `rx_sc`.
         let _ = &self.scis;
         let mut numbers = row.numbers();
         numbers.accept(number, window);

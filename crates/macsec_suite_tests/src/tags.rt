@@ -1,5 +1,5 @@
-//! What the contracts do not say: the definitions read and write the standard's frames, also cut, altered and padded
-//! ones, as the standard requires.
+//! What the contracts do not say: the definitions read and write the frames of the standard correctly, and read cut,
+//! altered and padded frames as expected.
 
 use macsec_tag::reading::read;
 use macsec_tag::{An, Read, Sci, SecTag, TagFault, write_tag};

@@ -1,6 +1,6 @@
 //! The counters that a run over a capture prints at its end, for frames whose data have 2 octets. The sender protects
 //! for integrity only; the receiver has one SC with one SA. Several crates compare their output with these texts, so
-//! that the names and the order of the counters are in one file.
+//! the names and the order of the counters are only here.
 
 /// No frame was sent or received, and there is no SC.
 pub const COUNTERS_OF_NONE: &str = "end InPktsUntagged 0\n\
