@@ -526,7 +526,7 @@ def first_shown(job):
 
 def main():
     parser = argparse.ArgumentParser(description=__doc__.split("\n")[0])
-    parser.add_argument("--inputs", type=int, default=5_000, help="how many inputs at most (5,000)")
+    parser.add_argument("--inputs", type=int, default=20_000, help="how many inputs at most (20,000)")
     parser.add_argument("--seed", default="1", help="which inputs, by any text (1)")
     parser.add_argument("--jobs", type=int, default=os.cpu_count(), help="how many processes")
     options = parser.parse_args()
