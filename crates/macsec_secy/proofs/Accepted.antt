@@ -1,4 +1,4 @@
--- A protected frame that one endpoint sends is passed by another one that has its association.
+-- A protected frame that one endpoint sends passes at another endpoint that has the matching SA.
 use Rattle.std.proofs.Common.{◌≡◌, ℕ, ◌≤◌, Bool, true, false, List, ◌++◌, length, take, refl, ap, ◌∙◌, arith, length-append}
 use Rattle.std.specs.Prelude.{◌%◌, ◌^◌, ◌&&◌, not, nat_lt, if◌then◌else◌, Some, None, IsSome}
 use Rattle.std.specs.Int.{w32, to_be_bytes}
@@ -34,7 +34,7 @@ use Rattle.macsec_secy.proofs.Passed.{is_enabled, passed}
 use Rattle.macsec_secy.proofs.ProtectedBy.{is_row, protected_by}
 use Rattle.macsec_secy.proofs.SealedParts.{gives_frame, sealed_of, sealed_opens}
 
--- the laws of the lower layers, as their calls give them
+-- the laws of the lower layers, as the law functions state them
 pub record LowerLaws : Type 0 where
   pub undoes : OpenUndoesSeal
   pub lengths : SealedLengths
@@ -52,7 +52,7 @@ same_iv suite sci a b salt other number same_salt same_ssci = by_test (is_xpn su
     by_test true plain s c = rw (s refl, c refl) refl
     by_test false plain s c = refl
 
--- so what is opened is the use of the cipher that was sealed
+-- so the cipher opens exactly what was sealed
 same_use : (key other : InstalledKey) (rx : RxRow) (sci : Sci) (number : ℕ) (p : MpduParts) → HasSameKey key other rx.ssci → rx.sci ≡ sci →
     use_to_open other rx number p ≡ cipher_use key (iv_of key.suite sci key.ssci key.salt number) p
 same_use key other rx sci number p same of_sci =

@@ -1,4 +1,4 @@
--- Sums of counters, name by name: over a channel's associations, where one counts a frame, is created or is deleted.
+-- Sums of each counter over a channel's SAs, when an SA counts a frame, is created or is deleted.
 use Rattle.std.proofs.Common.{◌≡◌, ◌∙◌, ℕ, zero, suc, ◌+◌, ◌<◌, ◌%◌, ◌^◌, List, [], ◌∷◌, set, refl, ap, sym, arith}
 use Rattle.std.specs.Prelude.{Option, Some, None, option_map}
 use Rattle.std.proofs.Math.Nat.{add-mod-mod, mod-add-mod}
@@ -9,23 +9,23 @@ use Rattle.macsec_secy.specs.State.{no_rx_counters}
 use Rattle.macsec_secy.specs.Counting.{added, count_in_association, count_verdict, counters_at, plus, sum_of}
 use Rattle.macsec_secy.specs.Sound.{AreRxCounters}
 
--- ---- one name
+-- ---- one counter
 
--- a sum of three
+-- a sum of three counters
 in_three : (x y z : ℕ) → plus (plus x y) z ≡ (x + y + z) % 2 ^ 64
 in_three x y z = mod-add-mod (x + y) (2 ^ 64) z
 
 to_three : (x y z : ℕ) → plus x (plus y z) ≡ (x + y + z) % 2 ^ 64
 to_three x y z = let same : x + (y + z) ≡ x + y + z = omega arith in add-mod-mod x (y + z) (2 ^ 64) ∙ ap (λ n. n % 2 ^ 64) same
 
--- one of them raised
+-- the first of two is raised by one
 raised_left : (x y : ℕ) → plus (plus x 1) y ≡ plus (plus x y) 1
 raised_left x y = let same : x + 1 + y ≡ x + y + 1 = omega arith in in_three x 1 y ∙ ap (λ n. n % 2 ^ 64) same ∙ sym (in_three x y 1)
 
 raised_right : (x y : ℕ) → plus x (plus y 1) ≡ plus (plus x y) 1
 raised_right x y = to_three x y 1 ∙ sym (in_three x y 1)
 
--- in another order
+-- the order does not matter
 swapped : (x y z : ℕ) → plus x (plus y z) ≡ plus y (plus x z)
 swapped x y z = let same : x + y + z ≡ y + x + z = omega arith in to_three x y z ∙ ap (λ n. n % 2 ^ 64) same ∙ sym (to_three y x z)
 
@@ -35,7 +35,7 @@ turned x y z = let same : x + y + z ≡ z + x + y = omega arith in to_three x y 
 nothing : (x : ℕ) → x < 2 ^ 64 → plus 0 x ≡ x
 nothing x within = omega arith
 
--- ---- all names
+-- ---- all counters
 
 pub same_counters : (a b : RxCounters) → a.in_pkts_ok ≡ b.in_pkts_ok → a.in_pkts_unchecked ≡ b.in_pkts_unchecked → a.in_pkts_delayed ≡ b.in_pkts_delayed →
     a.in_pkts_late ≡ b.in_pkts_late → a.in_pkts_invalid ≡ b.in_pkts_invalid → a.in_pkts_not_valid ≡ b.in_pkts_not_valid → a ≡ b
@@ -60,7 +60,7 @@ added_nothing c are =
     same_counters (added no_rx_counters c) c (nothing _ are.in_pkts_ok) (nothing _ are.in_pkts_unchecked) (nothing _ are.in_pkts_delayed) (nothing _ are.in_pkts_late)
     (nothing _ are.in_pkts_invalid) (nothing _ are.in_pkts_not_valid)
 
--- a verdict that is counted in one of two
+-- the first of two counts a verdict
 pub added-counted_left : (verdict : Verdict) (a b : RxCounters) → added (count_verdict verdict a) b ≡ count_verdict verdict (added a b)
 added-counted_left Passed a b = ap {B = RxCounters} (λ n. record (added a b) { in_pkts_ok = n }) (raised_left _ _)
 added-counted_left Unchecked a b = ap {B = RxCounters} (λ n. record (added a b) { in_pkts_unchecked = n }) (raised_left _ _)
@@ -89,7 +89,7 @@ added-counted_right Reserved a b = refl
 added-counted_right NoSa a b = refl
 added-counted_right NoSaError a b = refl
 
--- ---- associations
+-- ---- SAs
 
 -- a sum has 64 bits
 wraps : (counter n : ℕ) → plus counter n < 2 ^ 64
@@ -111,7 +111,7 @@ sum_is_counters (Some c ∷ associations) =
       in_pkts_not_valid = wraps c.in_pkts_not_valid rest.in_pkts_not_valid;
     }
 
--- one counts a verdict
+-- an SA counts a verdict
 sum_of-raised : (verdict : Verdict) (associations : List (Option RxCounters)) (an : ℕ) (c : RxCounters) → counters_at associations an ≡ Some c →
     sum_of (set associations an (Some (count_verdict verdict c))) ≡ count_verdict verdict (sum_of associations)
 sum_of-raised verdict [] an c there = cc
@@ -126,7 +126,7 @@ pub sum_of-counted : (verdict : Verdict) (associations : List (Option RxCounters
 sum_of-counted verdict associations an c there =
     ap (λ o. sum_of (set associations an (option_map (count_verdict verdict) o))) there ∙ sum_of-raised verdict associations an c there
 
--- one begins
+-- an SA is created
 pub sum_of-begun : (associations : List (Option RxCounters)) (an : ℕ) → counters_at associations an ≡ None →
     sum_of (set associations an (Some no_rx_counters)) ≡ sum_of associations
 sum_of-begun [] an none = refl
@@ -134,7 +134,7 @@ sum_of-begun (o ∷ associations) zero none = added_nothing (sum_of associations
 sum_of-begun (None ∷ associations) (suc an) none = sum_of-begun associations an none
 sum_of-begun (Some x ∷ associations) (suc an) none = ap (added x) (sum_of-begun associations an none)
 
--- one ends: the others and what it has counted
+-- an SA is deleted: the sum of the others, and its own counters
 sum_of-without : (associations : List (Option RxCounters)) (an : ℕ) (c : RxCounters) → counters_at associations an ≡ Some c →
     added c (sum_of (set associations an None)) ≡ sum_of associations
 sum_of-without [] an c there = cc

@@ -1,5 +1,5 @@
--- After each command the next packet number of each association is one that was never used under its
--- key, and the first unused number of each key is the same.
+-- After each command, the next packet number of each SA was never used under its key, and the first unused packet
+-- number of each key is unchanged.
 use Rattle.std.proofs.Common.{◌≡◌, ℕ, ◌≤◌, Bool, true, false, List, [], ◌∷◌, ◌++◌, refl}
 use Rattle.std.specs.Prelude.{not, if◌then◌else◌, Some, None, IsSome}
 use Rattle.std.proofs.lemmas.Bool.{ltb-false}
@@ -58,7 +58,7 @@ pub true_from_not : (b : Bool) → not b ≡ false → b ≡ true
 true_from_not true e = refl
 true_from_not false e = cc
 
--- what is known where the creation of an association is not refused
+-- what follows if the creation of an SA is not refused
 free_to_join : (keys : List InstalledKey) (rows : List TxRow) (an key next : ℕ) → first_refusal (tx_sa_refusals keys rows an key next) ≡ None →
     IsSome (key_row keys key) × (tx_uses rows key ≡ false) × (first_unused keys key ≤ next)
 free_to_join keys rows an key next e =

@@ -1,4 +1,4 @@
--- Each channel has counters for exactly its associations, and its own are the sums, whatever comes in.
+-- Every input keeps this: each channel has counters for exactly its SAs, and the channel's own counters are the sums.
 use Rattle.std.proofs.Common.{◌≡◌, ◌∙◌, ◌⊎◌, inl, inr, ℕ, zero, suc, ◌<◌, Bool, true, false, List, [], ◌∷◌, ◌++◌, map, filter}
 use Rattle.std.proofs.Common.{length, set, refl, ap, sym, arith, length-set, get_or-set_same, get_or-set_other, Contains}
 use Rattle.std.specs.Prelude.{◌==◌, ◌&&◌, ◌||◌, not, find, if◌then◌else◌, is_some, option_map, unwrap_or, Option, Some, None, IfSome}
@@ -29,9 +29,9 @@ use Rattle.macsec_secy.proofs.Sums.{one_sci}
 abbrev pub AreOfAll : List RxRow → List ChannelCounters → Type 0
 AreOfAll rows channels = All (AreOfAssociations rows) channels
 
--- ---- where there is an association
+-- ---- whether an SA exists
 
--- the same associations have the same counters
+-- counters that fit the SAs still fit them if the same SAs exist afterwards
 same_places : (rows after : List RxRow) → ((sci : Sci) (an : ℕ) → has_rx after sci an ≡ has_rx rows sci an) → (channels : List ChannelCounters) →
     AreOfAll rows channels → AreOfAll after channels
 same_places rows after same channels are =
@@ -62,7 +62,7 @@ has_rx-append (row ∷ rows) new sci an = by_test (is_at sci an row) (has_rx-app
     by_test true later = refl
     by_test false later = later
 
--- those at a place are left, or none is
+-- a filter that keeps the SAs with this channel and number does not change whether one exists
 has_rx-left : (keep : RxRow → Bool) (rows : List RxRow) (sci : Sci) (an : ℕ) → ((row : RxRow) → is_at sci an row ≡ true → keep row ≡ true) →
     has_rx (filter keep rows) sci an ≡ has_rx rows sci an
 has_rx-left keep [] sci an kept = refl
@@ -87,7 +87,7 @@ has_rx-gone keep (row ∷ rows) sci an gone = by_tests (is_at sci an row) (keep 
     by_tests false true here left later = ap (λ b. is_some (if b then Some row else rx_row (filter keep rows) sci an)) here ∙ later
     by_tests false false here left later = later
 
--- no association is of a channel that is not there
+-- a channel that does not exist has no SA
 pub has_rx-no_channel : (scis : List Sci) (rows : List RxRow) (sci : Sci) (an : ℕ) → AreRxRows scis rows → has_channel scis sci ≡ false → has_rx rows sci an ≡ false
 has_rx-no_channel scis [] sci an are none = refl
 has_rx-no_channel scis (row ∷ rows) sci an are none = by_test (is_at sci an row) refl (has_rx-no_channel scis rows sci an are.2 none)
@@ -98,7 +98,7 @@ has_rx-no_channel scis (row ∷ rows) sci an are none = by_test (is_at sci an ro
         let no = sym are.0.channel ∙ ap (has_channel scis) same ∙ none in cc
     by_test false here later = later
 
--- an association of the list is at its place
+-- an element that passes the test is found, or one before it
 there_if : {A : Type 0} (test : A → Bool) (xs : List A) (x : A) → Contains xs x → test x ≡ true → is_some (find test xs) ≡ true
 there_if test [] x there passes = absurd (none_there x there)
 there_if test (y ∷ ys) x there passes = by_case (first_or_behind y ys x there) (λ later. there_if test ys x later passes)
@@ -155,7 +155,7 @@ without_a_channel rows (c ∷ channels) sci are =
           sum = of.sum;
         }) later
 
--- a change of the counters of one channel
+-- the counters of one channel change
 one_changed : (rows after : List RxRow) (change : ChannelCounters → ChannelCounters) (sci : Sci) →
     ((c : ChannelCounters) → c.sci ≡ sci → AreOfAssociations rows c → AreOfAssociations after (change c)) →
     ((c : ChannelCounters) → same_sci c.sci sci ≡ false → AreOfAssociations rows c → AreOfAssociations after c) → (channels : List ChannelCounters) → AreOfAll rows channels →
@@ -168,13 +168,13 @@ one_changed rows after change sci here elsewhere channels are =
     by_test c true same of = here c (one_sci c.sci sci same) of
     by_test c false other of = elsewhere c other of
 
--- ---- an association is created
+-- ---- an SA is created
 
 last_number : (scis : List Sci) (rows : List RxRow) (new : RxRow) → AreRxRows scis (rows ++ new ∷ []) → new.an < 4
 last_number scis [] new are = are.0.an
 last_number scis (row ∷ rows) new are = last_number scis rows new are.2
 
--- what is found of a place, where it is said whether something is
+-- an option that is not Some is None
 none_from : {A : Type 0} (o : Option A) → is_some o ≡ false → o ≡ None
 none_from None none = refl
 none_from (Some x) none = cc
@@ -240,7 +240,7 @@ with_another_association scis rows channels new are free of = one_changed rows (
         or_nothing true = refl
         or_nothing false = refl
 
--- ---- an association is deleted
+-- ---- an SA is deleted
 
 some_from : {A : Type 0} (o : Option A) → is_some o ≡ true → (x : A) × (o ≡ Some x)
 some_from None some = cc
@@ -294,7 +294,7 @@ without_an_association rows channels sci an there of = one_changed rows left (wi
       sum = of.sum;
     }
 
--- ---- commands that leave each association at its place
+-- ---- commands that neither create nor delete an SA
 
 pub with_all_narrowed : (rows : List RxRow) (channels : List ChannelCounters) (window : ℕ) → AreOfAll rows channels → AreOfAll (map (row_narrowed window) rows) channels
 with_all_narrowed rows channels window of = same_places rows _ (has_rx-map (row_narrowed window) (narrows window) rows) channels of

@@ -1,5 +1,5 @@
--- What an endpoint shows of the counters of associations: they are there exactly where the association is, and their
--- sums are the channel's.
+-- The counters of an SA that an endpoint returns exist exactly if the SA does, and their sums are the channel's
+-- counters.
 use Rattle.std.proofs.Common.{◌≡◌, ◌∙◌, ℕ, Bool, true, false, List, [], ◌∷◌, map, length, refl, ap, sym, arith}
 use Rattle.std.specs.Prelude.{◌||◌, if◌then◌else◌, is_some, option_and_then, option_map, Option, Some, None}
 use Rattle.macsec_tag.specs.declared.identifiers.Sci.{Sci}
@@ -16,7 +16,7 @@ use Rattle.macsec_secy.proofs.AssociationsKept.{has_rx-no_channel}
 use Rattle.macsec_secy.proofs.InUse.{found}
 use Rattle.macsec_secy.proofs.Sums.{one_sci}
 
--- four are the ones of the four numbers
+-- a list of four is given by its elements 0 to 3
 of_four : (associations : List (Option RxCounters)) → length associations ≡ 4 → map (counters_at associations) association_numbers ≡ associations
 of_four [] count = absurd (omega (arith, count))
 of_four (a ∷ []) count = absurd (omega (arith, count))

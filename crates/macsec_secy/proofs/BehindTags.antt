@@ -1,4 +1,4 @@
--- What stands behind two SecTAGs at the head of one list of octets is the same.
+-- If two octet lists that each begin with a SecTAG are equal, the octets after the SecTAGs are equal.
 use Rattle.std.proofs.Common.{◌≡◌, ℕ, ◌+◌, ◌<◌, ◌≤◌, Bool, true, false, List, ◌++◌, length, take, drop, get_or, refl, ap, sym, ◌∙◌, arith, length-append}
 use Rattle.std.specs.Prelude.{is_some, Option, Some, None}
 use Rattle.std.specs.Option.{ForSome}
@@ -7,14 +7,14 @@ use Rattle.std.proofs.lemmas.List.{drop_at, take_at}
 use Rattle.macsec_tag.specs.declared.identifiers.Sci.{Sci}
 use Rattle.macsec_tag.specs.Tag.{IsTag, Tag, bit_where, c_bit, e_bit, es_bit, sc_bit, scb_bit, sci_octets, encoding, tci_an}
 
--- equal octets behind as many octets are equal
+-- in equal lists, what follows two prefixes of the same length is equal
 pub same_back : (a b x y : List ℕ) → length a ≡ length b → a ++ x ≡ b ++ y → x ≡ y
 same_back a b x y long e = sym (drop_at a x (length b) long) ∙ ap (drop (length b)) e ∙ drop_at b y (length b) refl
 
 pub same_front : (a b x y : List ℕ) → length a ≡ length b → a ++ x ≡ b ++ y → a ≡ b
 same_front a b x y long e = sym (take_at a x (length b) long) ∙ ap (take (length b)) e ∙ take_at b y (length b) refl
 
--- a SecTAG is as long as the octet of TCI and AN tells
+-- the octet of TCI and AN determines the length of a SecTAG
 abbrev sci_length : Bool → ℕ
 sci_length true = 8
 sci_length false = 0
@@ -28,7 +28,7 @@ encoding_length t is =
     let four : length (to_be_bytes w32 t.pn) ≡ 4 = refl in
     omega (arith, four, length-append (to_be_bytes w32 t.pn) (sci_octets t.sci), sci_is_long t.sci is.sci_octets)
 
--- the octet of TCI and AN of these bits and this association number
+-- the octet of TCI and AN with these bits and this association number
 abbrev octet_of : Bool → Bool → Bool → Bool → Bool → ℕ → ℕ
 octet_of es sc scb e c an = bit_where es es_bit + bit_where sc sc_bit + bit_where scb scb_bit + bit_where e e_bit + bit_where c c_bit + an
 
@@ -36,7 +36,7 @@ bit_most : (b : Bool) (bit : ℕ) → bit_where b bit ≤ bit
 bit_most true bit = omega arith
 bit_most false bit = omega arith
 
--- with SC and without it the octets differ: what stands below SC is less than it
+-- octets with SC set and with SC clear differ, since the bits below SC add up to less than SC
 apart : (es scb e c es' scb' e' c' : Bool) (an an' : ℕ) → an < 4 → an' < 4 → octet_of es true scb e c an ≡ octet_of es' false scb' e' c' an' → ⊥
 apart true scb e c true scb' e' c' an an' small small' same =
     omega (arith, same, small, small', bit_most scb scb_bit, bit_most e e_bit, bit_most c c_bit, bit_most scb' scb_bit, bit_most e' e_bit, bit_most c' c_bit)
@@ -53,7 +53,7 @@ same_sc es true scb e c es' false scb' e' c' an an' small small' same = absurd (
 same_sc es false scb e c es' true scb' e' c' an an' small small' same = absurd (apart es' scb' e' c' es scb e c an' an small' small (sym same))
 same_sc es false scb e c es' false scb' e' c' an an' small small' same = refl
 
--- two tags with one octet of TCI and AN both carry an SCI, or neither does
+-- of two tags with the same octet of TCI and AN, both carry an SCI or neither does
 same_carried : (t u : Tag) → IsTag t → IsTag u → tci_an t ≡ tci_an u → is_some t.sci ≡ is_some u.sci
 same_carried t u is is' same = same_sc t.es (is_some t.sci) t.scb t.e t.c u.es (is_some u.sci) u.scb u.e u.c t.an u.an is.an is'.an same
 

@@ -1,4 +1,4 @@
--- Each channel keeps its counters, and they are in the order of the channels.
+-- Every input keeps the counters of each channel, in the order of the channels.
 use Rattle.std.proofs.Common.{◌≡◌, ℕ, suc, Bool, true, false, List, [], ◌∷◌, map, filter, length, refl, ap, ◌∙◌}
 use Rattle.std.specs.Prelude.{not, if◌then◌else◌, Option, Some, None}
 use Rattle.std.specs.List.{refill}
@@ -57,14 +57,14 @@ length_kept : (verdict : Verdict) (place : Option (Sci × ℕ)) (rows : List Cha
 length_kept verdict None rows = refl
 length_kept verdict (Some place) rows = length-at_first (count_in_channel verdict place.1) place.0 rows
 
--- the channels that were borrowed as a slice to change one of them
+-- the channels after one of them was changed through a borrowed slice
 pub changed_again : (old lent new : List ChannelCounters) (change : ChannelCounters → ChannelCounters) (sci : Sci) → lent ≡ old → new ≡ map (at_channel change sci) lent →
     refill (length old) old new ≡ map (at_channel change sci) old
 changed_again old lent new change sci same changed =
     let left : new ≡ map (at_channel change sci) old = changed ∙ ap (map (at_channel change sci)) same in
     left_in_place (length old) old new (ap length left ∙ length-map old (at_channel change sci)) ∙ left
 
--- the counters that were borrowed as a slice are afterwards as the borrower left them
+-- after the borrow of the counters as a slice, they are as the borrower left them
 pub counted_again : (old lent new : List ChannelCounters) (verdict : Verdict) (place : Option (Sci × ℕ)) → lent ≡ old → new ≡ counted_at_place verdict place lent →
     refill (length old) old new ≡ counted_at_place verdict place old
 counted_again old lent new verdict place same counted =

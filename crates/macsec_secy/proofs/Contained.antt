@@ -1,4 +1,4 @@
--- The elements of a list, one by one.
+-- The elements of a list.
 use Rattle.std.proofs.Common.{◌≡◌, ◌⊎◌, inl, inr, ℕ, zero, suc, ◌<◌, List, [], ◌∷◌, length, map, get_or, refl, ap, subst, arith, Contains}
 
 pub first : {A : Type 0} (x : A) (xs : List A) → Contains (x ∷ xs) x

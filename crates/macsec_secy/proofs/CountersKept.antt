@@ -1,4 +1,4 @@
--- Counters have 64 bits, whatever is counted.
+-- Counters have 64 bits, whatever they count.
 use Rattle.std.proofs.Common.{ℕ, ◌<◌, ◌^◌, Bool, true, false, List, map, arith}
 use Rattle.std.specs.Prelude.{if◌then◌else◌, nat_le, Option, Some, None}
 use Rattle.std.specs.List.{All}
@@ -21,7 +21,7 @@ use Rattle.macsec_secy.specs.Counting.{at_channel, plus, count_in_channel, count
 use Rattle.macsec_secy.specs.Reception.{counted_at_row, data_counted, is_counted_by_channel, octets_counted, packet_counted, rx_packet_counted}
 use Rattle.macsec_secy.specs.Sound.{AreCounters, AreRxCounters, AreTxCounters}
 
--- those of the channels
+-- the counters of the channels have 64 bits
 abbrev pub AreChannelCounters : List ChannelCounters → Type 0
 AreChannelCounters rows = All (λ row. AreRxCounters row.counters) rows
 
@@ -38,7 +38,7 @@ no_tx_counted = assumption zero
 pub no_rx_counted : AreRxCounters no_rx_counters
 no_rx_counted = assumption zero
 
--- a counter that is raised
+-- a raised counter has 64 bits
 wraps : (counter n : ℕ) → plus counter n < 2 ^ 64
 wraps counter n = omega arith
 
@@ -83,7 +83,7 @@ after_data untagged c are = are
 after_data (bad fault) c are = are
 after_data (tagged p) c are = after_octets_received p.tag.e _ c are
 
--- what a test does or leaves
+-- a property of both branches is one of the result
 either : {A : Type 0} (P : A → Type 0) (test : Bool) (a b : A) → P a → P b → P (if test then a else b)
 either P true a b pa pb = pa
 either P false a b pa pb = pb

@@ -1,4 +1,4 @@
--- The association that a frame is delivered from: its place, its sender, its window, and its numbers after the delivery.
+-- The SA that a frame is delivered from: its SCI and number, its sender, its window, and its packet numbers afterwards.
 use Rattle.std.proofs.Common.{◌≡◌, ◌≢◌, ◌⊎◌, inl, inr, ◌≤◌, ◌+◌, ℕ, Bool, true, false, List, [], ◌∷◌, map, length, refl, ap, sym, subst, ◌∙◌, arith, All, Contains}
 use Rattle.std.specs.Prelude.{◌==◌, ◌&&◌, ◌||◌, if◌then◌else◌, option_map, Option, Some, None}
 use Rattle.std.specs.List.{list_any}
@@ -27,7 +27,7 @@ use Rattle.macsec_secy.proofs.Sums.{one_sci}
 use Rattle.macsec_secy.proofs.KeysApart.{the_key_found}
 use Rattle.macsec_secy.proofs.RxRowsStay.{accepts, at_one_place, rx_row-map}
 
--- ---- the association at its place
+-- ---- the SA is found by its channel and number
 
 octets_same : (xs : List ℕ) → same_octets xs xs ≡ true
 octets_same [] = refl
@@ -36,7 +36,7 @@ octets_same (x ∷ xs) = rw (eq-eqb x x refl, octets_same xs) refl
 pub at_own_place : (row : RxRow) → is_at row.sci row.an row ≡ true
 at_own_place row = rw (octets_same row.sci.0, eq-eqb row.an row.an refl) refl
 
--- an association is not at the place of any other
+-- no other SA has this one's channel and number
 elsewhere : (r : RxRow) (rows : List RxRow) → list_any (same_place r) rows ≡ false → All (λ row. is_at row.sci row.an r ≡ false) rows
 elsewhere r [] none = All-nil (λ row. is_at row.sci row.an r ≡ false)
 elsewhere r (row ∷ rows) none =

@@ -1,4 +1,4 @@
--- What a delivery tells of the association that a frame is delivered from.
+-- What a delivery shows about the SA that the frame is delivered from.
 use Rattle.std.proofs.Common.{◌≡◌, ◌≤◌, ℕ, Bool, true, false, List, refl, ap, sym, subst, ◌∙◌}
 use Rattle.std.specs.Prelude.{◌==◌, ◌&&◌, ◌||◌, not, if◌then◌else◌, Option, Some, None}
 use Rattle.std.proofs.lemmas.Bool.{ltb-false}
@@ -19,7 +19,7 @@ use Rattle.macsec_secy.specs.Delivers.{IsOpened, used_in}
 use Rattle.macsec_secy.specs.Reception.{judge_reading, judgement_of}
 use Rattle.macsec_secy.specs.State.{State, rx_options}
 
--- the judgement of these parts opened the plaintext of what it delivers
+-- the judgement of these parts opened the plaintext that it delivers
 pub record OpensParts (keys : List InstalledKey) (p : MpduParts) (j : Judgement) (row : RxRow) (frame : List ℕ) : Type 0 where
   pub plaintext : List ℕ
   pub thirteen : (j.step == 13) ≡ true
@@ -27,14 +27,14 @@ pub record OpensParts (keys : List InstalledKey) (p : MpduParts) (j : Judgement)
   pub opens : plaintext_of (the_key keys row.key) row j.number p ≡ Some plaintext
   pub gives : opened_frame (the_key keys row.key) p plaintext ≡ frame
 
--- the association is the one that is used, the packet number is not late where late frames are dropped, and a strict
--- judgement opened the frame
+-- the SA is the one in use; the packet number is not late if late frames are dropped; and a strict judgement opened the
+-- frame
 pub record Tells (options : RxOptions) (keys : List InstalledKey) (p : MpduParts) (j : Judgement) (used : Option RxRow) (row : RxRow) (frame : List ℕ) : Type 0 where
   pub in_use : used ≡ Some row
   pub on_time : options.replay ≡ true → row.lowest ≤ j.number
   pub opened : is_strict options.mode ≡ true → OpensParts keys p j row frame
 
--- so it is of each association and each frame of this judgement
+-- this holds for every SA and every frame of the judgement
 abbrev TellsAll : RxOptions → List InstalledKey → MpduParts → Judgement → Option RxRow → Type 0
 TellsAll options keys p j used = (row : RxRow) (frame : List ℕ) → j.row ≡ Some row → j.delivered ≡ Some frame → Tells options keys p j used row frame
 
@@ -42,7 +42,7 @@ in_time : (replay : Bool) (lowest number : ℕ) → (replay && is_late lowest nu
 in_time true lowest number not_late on = ltb-false number lowest not_late
 in_time false lowest number not_late on = cc
 
--- a packet number of a frame is one that is recovered
+-- the packet number of a frame is recovered
 recovered_of : (suite : Suite) (lowest pn number : ℕ) → number_of_frame suite lowest pn ≡ Some number → recovered_number (is_xpn suite) lowest pn ≡ Some number
 recovered_of suite lowest pn number is = by_test (is_bad_number suite pn) is
   where
@@ -56,7 +56,7 @@ strict_validates Check strict = cc
 strict_validates Disabled strict = cc
 
 module _ (options : RxOptions) (keys : List InstalledKey) (p : MpduParts) where
-  -- delivered as it was received, where nothing was opened
+  -- the frame is delivered as received, because nothing was opened
   bare : (r : RxRow) (number : ℕ) (j : Judgement) → (options.replay && is_late r.lowest number) ≡ false → j.number ≡ number → is_strict options.mode ≡ false →
       (row : RxRow) (frame : List ℕ) → r ≡ row → Tells options keys p j (Some r) row frame
   bare r number j not_late of_number not_strict row frame one = record {
@@ -130,7 +130,7 @@ module _ (options : RxOptions) (keys : List InstalledKey) (p : MpduParts) where
       by_test true row frame of_row delivers = cc
       by_test false row frame of_row delivers = by_row o row frame of_row delivers
 
--- ---- of a frame
+-- ---- for a frame
 
 pub record TellsOf (s : State) (frame : List ℕ) (row : RxRow) (delivered : List ℕ) : Type 0 where
   pub in_use : used_in s (reading frame) ≡ Some row

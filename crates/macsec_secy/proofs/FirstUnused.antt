@@ -1,4 +1,4 @@
--- The first packet number that was never used under a key, while the table of keys changes.
+-- The first packet number that was never used under a key, when the table of keys changes.
 use Rattle.std.proofs.Common.{◌≡◌, ℕ, ◌+◌, Bool, true, false, List, [], ◌∷◌, ◌++◌, refl, sym, subst, ◌∙◌, eqb-true}
 use Rattle.std.specs.Prelude.{Option, ◌==◌, if◌then◌else◌, Some, None, IsSome, unwrap_or}
 use Rattle.macsec_suite.specs.KeyRows.{InstalledKey, at_number, key_row, keys_noting, keys_retiring, no_key, retired_row, row_noting}
@@ -24,11 +24,11 @@ first-retiring keys number n =
     field_of_the_key (λ (k : InstalledKey). k.first_unused) (at_number retired_row number) (same_number retired_row (λ k. refl) number)
     (λ key. field_kept (λ (k : InstalledKey). k.first_unused) retired_row (λ k. refl) (key.number == number) key) keys n
 
--- the first unused number of a key, if it is the one that is looked up, or else of what is found behind it
+-- the first unused packet number of this key if it is the one looked up, otherwise of the key found after it
 abbrev first_or : Bool → InstalledKey → Option InstalledKey → ℕ
 first_or here key behind = (unwrap_or (if here then Some key else behind) no_key).first_unused
 
--- where a key uses a packet number, the first unused one of every other key stays
+-- when a key uses a packet number, the first unused one of every other key is unchanged
 pub first-noting_other : (keys : List InstalledKey) (number pn n : ℕ) → (number ≡ n → ⊥) → first_unused (keys_noting keys number pn) n ≡ first_unused keys n
 first-noting_other [] number pn n other = refl
 first-noting_other (key ∷ keys) number pn n other =
@@ -42,7 +42,7 @@ first-noting_other (key ∷ keys) number pn n other =
     by_test true false at_n elsewhere later = refl
     by_test false c elsewhere at later = later
 
--- its own first unused one is the next one
+-- its own first unused packet number is the one after it
 pub first-noting : (keys : List InstalledKey) (number pn : ℕ) → IsSome (key_row keys number) → first_unused (keys_noting keys number pn) number ≡ pn + 1
 first-noting [] number pn there = cc
 first-noting (key ∷ keys) number pn there =

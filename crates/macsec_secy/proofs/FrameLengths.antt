@@ -41,7 +41,7 @@ use Rattle.macsec_secy.specs.Step.{fault, frame_fault, leaves, received_output, 
 use Rattle.macsec_secy.specs.Frames.{HasFrameLength, HasFrameLengths, HasLengthsFrom, HasProtectedLength}
 use Rattle.macsec_secy.specs.Sound.{IsSound}
 
--- the laws of the lower layers, as their calls give them
+-- the laws of the lower layers, as the law functions state them
 abbrev pub ReadAsSent : Type 0
 ReadAsSent = (options : TxOptions) (key : InstalledKey) (row : TxRow) (frame : List ℕ) → CanBeSent options row frame → IsReadAsSent options key row frame
 
@@ -50,7 +50,7 @@ pub record LowerLaws : Type 0 where
   pub lengths : SealedLengths
   pub sent : ReadAsSent
 
--- ---- a frame that comes in and has no fault
+-- ---- an incoming frame without a fault
 
 has_no_fault : (frame : List ℕ) → frame_fault frame ≡ None → HasFrameLength frame
 has_no_fault frame none = by_tests (nat_lt (length frame) 14) refl (nat_lt max_frame_len (length frame)) refl none
@@ -61,7 +61,7 @@ has_no_fault frame none = by_tests (nat_lt (length frame) 14) refl (nat_lt max_f
     by_tests false s true l none = absurd cc
     by_tests false s false l none = record { least = ltb-false (length frame) 14 s; most = ltb-false max_frame_len (length frame) l }
 
--- a fact of every fault, and of an output where the frame that came in has a good length
+-- a property of all faults, and of the output for a frame of 14 to 9,248 octets, holds of every output
 unless_faulty : (P : Output → Type 0) → ((f : FrameFault) → P (fault f)) → (s after : State) (frame : List ℕ) (output : Output) →
     (HasFrameLength frame → P output) → P (unless_fault (frame_fault frame) s (output, after)).0
 unless_faulty P faulty s after frame output good = by_fault (frame_fault frame) refl
@@ -72,14 +72,14 @@ unless_faulty P faulty s after frame output good = by_fault (frame_fault frame) 
 
 -- ---- what is sent
 
--- a frame that is sent protected has a good length, and that of a protected one of the client frame
+-- a protected frame has 14 to 9,248 octets, and is 24 to 32 octets longer than the client frame
 abbrev IsWithin : List ℕ → Leaving → Type 0
 IsWithin client plain = Unit {0}
 IsWithin client (protected key frame) = HasFrameLength frame × HasProtectedLength client frame
 IsWithin client no_sa = Unit {0}
 IsWithin client too_long = Unit {0}
 
--- a SecTAG that is sent carries the endpoint's own SCI, if any
+-- the SCI in a sent SecTAG, if any, is the endpoint's own, so it has 8 octets
 where_there : (sci : Sci) → length sci.0 ≡ 8 → (there : Bool) → length (sci_octets (if there then Some sci else None)) ≤ 8
 where_there sci eight true = omega (arith, eight)
 where_there sci eight false = omega arith
@@ -94,11 +94,11 @@ sci_up_to_8 form.Sci many sci sa eight = omega (arith, eight)
 sci_up_to_8 form.Es many sci sa eight = where_foreign sci eight (is_own sci sa)
 sci_up_to_8 form.Scb many sci sa eight = where_foreign sci eight (is_own sci sa)
 
--- what is before the SCI has 8 octets
+-- 8 octets precede the SCI
 spelled_long : (t : Tag) → length (encoding t) ≡ 8 + length (sci_octets t.sci)
 spelled_long t = length-append (0x88 ∷ 0xe5 ∷ tci_an t ∷ t.sl ∷ to_be_bytes w32 t.pn) (sci_octets t.sci)
 
--- the enabled association has an association number that there is
+-- the enabled SA has an association number from 0 to 3
 on_has_number : (rows : List TxRow) → AreTxRows rows → IfSome (row_on rows) (λ row. row.an < 4)
 on_has_number [] are = tt
 on_has_number (row ∷ rows) are = by_test row.on (on_has_number rows are.2)
@@ -161,13 +161,13 @@ output_from frame too_long within = tt
 
 -- ---- what is received
 
--- what is read of a frame has no more octets without SecTAG, ICV and padding
+-- the frame without SecTAG, ICV and padding has at most n octets
 abbrev FitsIn : ℕ → Reading → Type 0
 FitsIn n untagged = Unit {0}
 FitsIn n (bad found) = Unit {0}
 FitsIn n (tagged p) = length (bare_frame p) ≤ n
 
--- what is delivered has at most that many octets
+-- the delivered frame has at most n octets
 abbrev DeliversUpTo : ℕ → Judgement → Type 0
 DeliversUpTo n j = IfSome j.delivered (λ frame. length frame ≤ n)
 
@@ -197,7 +197,7 @@ reading_fits frame long = by_tests (nat_lt (length frame) 14) (not (has_macsec_e
     by_tests false false (Some found) = tt
     by_tests false false None = parts_fit frame long
 
--- a plaintext has as many octets as its ciphertext
+-- a plaintext is as long as its ciphertext
 opened_long : LowerLaws → (key : InstalledKey) (row : RxRow) (number : ℕ) (p : MpduParts) (plaintext : List ℕ) → plaintext_of key row number p ≡ Some plaintext →
     length (opened_frame key p plaintext) ≡ length (bare_frame p)
 opened_long laws key row number p plaintext opens =

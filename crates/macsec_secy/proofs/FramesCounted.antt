@@ -1,5 +1,5 @@
--- Each received frame raises the sum of the counters of received packets by one, and nothing else changes it but the
--- deletion of a channel.
+-- Each received frame raises the sum of the received-packet counters by one. Only the deletion of a channel changes it
+-- otherwise.
 use Rattle.std.proofs.Common.{◌≡◌, ℕ, ◌+◌, ◌%◌, ◌^◌, Bool, true, false, List, [], ◌∷◌, map, refl, ap, ◌∙◌, add-zero, arith}
 use Rattle.std.specs.Prelude.{if◌then◌else◌, nat_le, is_some, not, ◌&&◌, ◌||◌, Option, Some, None, IfSome}
 use Rattle.std.proofs.lemmas.List.Sums.{sum_by_push}
@@ -44,12 +44,12 @@ abbrev IsCountedOnce : List ChannelCounters → Judgement → Type 0
 IsCountedOnce rows j =
     (c : Counters) → IsOneMore (packets_of (packet_counted j c) + channels_packets (rx_packet_counted j rows)) (packets_of c + channels_packets rows)
 
--- of channels that have their counters each, a channel of the SCI is one
+-- no two channels have the same SCI, and one of them has `sci`
 record HasCounters (rows : List ChannelCounters) (sci : Sci) : Type 0 where
   distinct : AreScis (map sci_of_counters rows)
   there : has_channel (map sci_of_counters rows) sci ≡ true
 
--- the channel of an association counts a frame of it once
+-- the channel of an SA counts its frame once
 in_channel : (rows : List ChannelCounters) (row : RxRow) → HasCounters rows row.sci → (verdict : Verdict) → RaisesOne verdict → (packets : ℕ) →
     IsOneMore (packets + channels_packets (map (at_channel (count_in_channel verdict row.an) row.sci) rows)) (packets + channels_packets rows)
 in_channel rows row has verdict raises packets = IsOneMore-add_left packets _ _ (IsOneMore-channels_packets verdict raises row.sci row.an rows has.distinct has.there)
@@ -102,13 +102,13 @@ once_tagged rows options keys p row has = by_test (p.tag.e && not p.tag.c)
     by_test true c = IsOneMore-raised_part _ _ c.in_pkts_reserved (omega arith)
     by_test false c = once_of_row rows options keys p row has c
 
--- ---- the association enabled for a frame is of a channel, which has its counters once
+-- ---- the SA enabled for a frame belongs to a channel, which has counters
 
 all_of_channels : (scis : List Sci) (rows : List RxRow) → AreRxRows scis rows → All (λ row. has_channel scis row.sci ≡ true) rows
 all_of_channels scis [] are = All-nil (λ row. has_channel scis row.sci ≡ true)
 all_of_channels scis (row ∷ rows) are = All-cons (λ r. has_channel scis r.sci ≡ true) row rows are.0.channel (all_of_channels scis rows are.2)
 
--- what holds of all associations holds of the one that is enabled for a frame
+-- what holds of all SAs holds of the one that is enabled for a frame
 pub of_in_use : (P : RxRow → Type 0) (rows : List RxRow) (an : ℕ) (sci : Option Sci) → All P rows → IfSome (in_use rows an sci) P
 of_in_use P rows an None all = tt
 of_in_use P [] an (Some sci) all = tt
@@ -140,7 +140,7 @@ once_judged s sound frame (tagged p) =
 
 -- ---- frames
 
--- octets are no packets
+-- counting octets does not change the packet counters
 octets_apart : (j : Judgement) (r : Reading) (c : Counters) → packets_of (octets_counted j r c) ≡ packets_of c
 octets_apart j r c = by_step (nat_le 11 j.step) r
   where
@@ -162,7 +162,7 @@ after_link_frame s sound frame output None =
     once_judged s sound frame (reading frame) s.counters
 after_link_frame s sound frame output (Some fault) = mod-as_plus_0 _
 
--- a frame that is sent or dropped is no received packet
+-- sending or dropping a frame does not change the received-packet counters
 leaving_apart : (leaving : Leaving) (c : Counters) → packets_of (count_leaving leaving c) ≡ packets_of c
 leaving_apart plain c = refl
 leaving_apart (protected key frame) c = refl
@@ -177,7 +177,7 @@ after_client_frame s frame output (Some fault) = mod-as_plus_0 _
 
 -- ---- commands
 
--- a command that keeps the sum, refused or not
+-- a command whose effect keeps the sum keeps it, also if it is refused
 keeps : (s : State) (c : Command) → frames_counted (effect s c) ≡ frames_counted s → frames_counted (unless_refused (refusal s c) s c) ≡ plus (frames_counted s) 0
 keeps s c same = by_refusal (refusal s c)
   where

@@ -1,4 +1,4 @@
--- The association enabled for a frame: it is at the frame's place, and its key is in the table.
+-- The SA enabled for a frame: it has the frame's SCI and association number, and its key is in the table.
 use Rattle.std.proofs.Common.{◌≡◌, ℕ, suc, Bool, true, false, List, [], ◌∷◌, refl, sym, ap, subst, arith, All}
 use Rattle.std.specs.Prelude.{◌==◌, ◌&&◌, find, if◌then◌else◌, Option, Some, None, IsSome, unwrap_or}
 use Rattle.std.proofs.lemmas.Bool.{and_parts, eqb-true}
@@ -9,7 +9,7 @@ use Rattle.macsec_rx.specs.Channels.{is_at, same_sci}
 use Rattle.macsec_rx.specs.Judge.{in_use}
 use Rattle.macsec_secy.proofs.Sums.{one_sci}
 
--- what is found passes the test, and what holds of each element holds of it
+-- a found element passes the test, and what holds of all elements holds of it
 pub record IsFound {A : Type 0} (test : A → Bool) (P : A → Type 0) (x : A) : Type 0 where
   pub passes : test x ≡ true
   pub holds : P x
@@ -34,7 +34,7 @@ in_use_is P rows sci an row all is =
     let parts = and_parts (same_sci row.sci sci) (row.an == an) here in
     record { sci = one_sci row.sci sci parts.0; an = eqb-true row.an an parts.1; holds = it.holds }
 
--- what holds of each key holds of one that is there
+-- what holds of all keys holds of a key in the table
 pub the_key_holds : (P : InstalledKey → Type 0) (keys : List InstalledKey) (number : ℕ) → All P keys → IsSome (key_row keys number) → P (the_key keys number)
 the_key_holds P keys number all there = by_row (key_row keys number) refl there
   where

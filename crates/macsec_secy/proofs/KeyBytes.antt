@@ -1,4 +1,4 @@
--- No two keys have the same bytes, whatever is done: a key whose bytes are there is refused.
+-- No two keys have the same bytes: a key whose bytes are in the table is refused.
 use Rattle.std.proofs.Common.{◌≡◌, ℕ, List, map, refl}
 use Rattle.std.specs.Prelude.{◌==◌, Option, Some, None}
 use Rattle.macsec_suite.specs.declared.suite.Suite.{Suite}
@@ -18,7 +18,7 @@ with_another_key suite window keys key e apart =
     let none = none_hold (install_refusals suite window keys key) e in
     no_two-with same_bytes keys (new_row suite key) none.1.1.1.0 apart
 
--- a change of the key of one number that keeps its bytes
+-- the key with one number changes, and keeps its bytes
 one_changed : (change : InstalledKey → InstalledKey) → ((key : InstalledKey) → (change key).bytes ≡ key.bytes) → (number : ℕ) (keys : List InstalledKey) →
     NoTwo same_bytes keys → NoTwo same_bytes (map (at_number change number) keys)
 one_changed change same number keys apart =

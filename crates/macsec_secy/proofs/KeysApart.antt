@@ -1,4 +1,4 @@
--- Keys are told apart by their numbers and by their bytes.
+-- No two keys have the same number or the same bytes.
 use Rattle.std.proofs.Common.{◌≡◌, ◌⊎◌, inl, inr, ℕ, Bool, true, false, List, [], ◌∷◌, refl, ap, sym, subst, ◌∙◌, Contains, All}
 use Rattle.std.specs.Prelude.{◌==◌, if◌then◌else◌, Some, None, IsSome, unwrap_or}
 use Rattle.std.specs.List.{list_any}

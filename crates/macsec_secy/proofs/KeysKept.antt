@@ -1,4 +1,4 @@
--- The key of each association stays in the table, whatever is done.
+-- The key of each SA stays in the table, whatever the input.
 use Rattle.std.proofs.Common.{◌≡◌, ℕ, Bool, true, false, List, [], ◌∷◌, ◌++◌, map, refl, ap, sym, subst, ◌∙◌}
 use Rattle.std.specs.Prelude.{◌==◌, not, if◌then◌else◌, Option, Some, None, IsSome, IfSome}
 use Rattle.std.proofs.lemmas.Bool.{eqb-true}
@@ -10,15 +10,15 @@ use Rattle.macsec_tx.specs.declared.TxRow.{TxRow}
 use Rattle.macsec_tx.specs.Transmit.{keys_after, next_used, rows_after, tx_row, used_at}
 use Rattle.macsec_tx.specs.Commands.{HaveKeys, off_at, switch_to, tx_sa_refusals, with_tx_off, with_tx_on, with_tx_sa, without_tx}
 
--- the key of this number is in the table
+-- the key with this number is in the table
 abbrev pub IsThere : List InstalledKey → ℕ → Type 0
 IsThere keys number = IsSome (key_row keys number)
 
--- the key of this association, where there is one, is in the table
+-- the key of this SA, if the SA exists, is in the table
 abbrev HasKey : List InstalledKey → Option TxRow → Type 0
 HasKey keys row = IfSome row (λ r. IsThere keys r.key)
 
--- a change that is made where a test holds keeps each field that the change keeps
+-- a conditional change keeps each field that the change keeps
 pub field_kept : {A B : Type 0} (field : A → B) (change : A → A) → ((x : A) → field (change x) ≡ field x) → (test : Bool) (x : A) →
     field (if test then change x else x) ≡ field x
 field_kept field change same true x = same x
@@ -26,7 +26,7 @@ field_kept field change same false x = refl
 
 -- ---- changes of the keys
 
--- a key stays in the table where others come after it
+-- a key stays in the table when others are added after it
 pub there_with_more : (keys more : List InstalledKey) (number : ℕ) → IsThere keys number → IsThere (keys ++ more) number
 there_with_more [] more number there = cc
 there_with_more (key ∷ keys) more number there = by_test (key.number == number) (there_with_more keys more number) there
@@ -36,7 +36,7 @@ there_with_more (key ∷ keys) more number there = by_test (key.number == number
     by_test true later here = refl
     by_test false later here = later here
 
--- a key stays in the table where keys are changed and not their numbers
+-- a key stays in the table when keys change but keep their numbers
 pub there_after_change : (change : InstalledKey → InstalledKey) → ((key : InstalledKey) → (change key).number ≡ key.number) →
     (keys : List InstalledKey) (number : ℕ) → IsThere keys number → IsThere (map change keys) number
 there_after_change change same [] number there = there
@@ -49,12 +49,12 @@ there_after_change change same (key ∷ keys) number there =
     by_test true later here = refl
     by_test false later here = later here
 
--- a change of the key of one number that keeps its number keeps each key's number
+-- changing the key with one number keeps every key's number, if the change keeps that key's
 pub same_number : (change : InstalledKey → InstalledKey) → ((key : InstalledKey) → (change key).number ≡ key.number) → (number : ℕ) (key : InstalledKey) →
     (at_number change number key).number ≡ key.number
 same_number change same number key = field_kept (λ (k : InstalledKey). k.number) change same (key.number == number) key
 
--- a key stays in the table where one is retired, and where a packet number is used under one
+-- a key stays in the table when a key is retired, and when a key uses a packet number
 pub there_retiring : (keys : List InstalledKey) (number other : ℕ) → IsThere keys other → IsThere (keys_retiring keys number) other
 there_retiring keys number other there = there_after_change (at_number retired_row number) (same_number retired_row (λ key. refl) number) keys other there
 
@@ -62,7 +62,7 @@ pub there_noting : (keys : List InstalledKey) (number pn other : ℕ) → IsTher
 there_noting keys number pn other there =
     there_after_change (at_number (row_noting pn) number) (same_number (row_noting pn) (λ key. refl) number) keys other there
 
--- an association has its key where each key stays in the table
+-- an SA has its key as long as each key stays in the table
 has_key_where_keys_stay : (keys after : List InstalledKey) (row : Option TxRow) → ((number : ℕ) → IsThere keys number → IsThere after number) →
     HasKey keys row → HasKey after row
 has_key_where_keys_stay keys after None stay here = tt
@@ -73,7 +73,7 @@ pub with_another_key : (keys : List InstalledKey) (rows : List TxRow) (new : Ins
 with_another_key keys rows new have an =
     has_key_where_keys_stay keys (keys ++ new ∷ []) (tx_row rows an) (there_with_more keys (new ∷ [])) (have an)
 
--- the key of one number is changed, and not its number
+-- the key with one number changes, and keeps its number
 with_a_key_changed : (change : InstalledKey → InstalledKey) → ((key : InstalledKey) → (change key).number ≡ key.number) →
     (keys : List InstalledKey) (rows : List TxRow) (number : ℕ) → HaveKeys keys rows → HaveKeys (map (at_number change number) keys) rows
 with_a_key_changed change same keys rows number have an =
@@ -89,14 +89,14 @@ with_a_key_retired keys rows number have = with_a_key_changed retired_row (λ ke
 with_a_number_used : (keys : List InstalledKey) (rows : List TxRow) (number pn : ℕ) → HaveKeys keys rows → HaveKeys (keys_noting keys number pn) rows
 with_a_number_used keys rows number pn have = with_a_key_changed (row_noting pn) (λ key. refl) keys rows number have
 
--- ---- changes of the associations
+-- ---- changes of the SAs
 
--- a change of associations that keeps their numbers and their keys
+-- a change of SAs that keeps their numbers and their keys
 record Keeps (change : TxRow → TxRow) : Type 0 where
   an : (row : TxRow) → (change row).an ≡ row.an
   key : (row : TxRow) → (change row).key ≡ row.key
 
--- each association has its key after such a change
+-- each SA has its key after such a change
 with_changed_rows : (keys : List InstalledKey) (change : TxRow → TxRow) → Keeps change → (rows : List TxRow) (an : ℕ) →
     HasKey keys (tx_row rows an) → HasKey keys (tx_row (map change rows) an)
 with_changed_rows keys change same [] an here = tt
@@ -109,25 +109,25 @@ with_changed_rows keys change same (row ∷ rows) an here =
     by_test true later here = subst (IsThere keys) (sym (same.key row)) here
     by_test false later here = later here
 
--- a change of the association of one number
+-- the SA with one number changes
 at_an : (change : TxRow → TxRow) → Keeps change → (an : ℕ) → Keeps (λ row. if row.an == an then change row else row)
 at_an change same an = record {
   an = λ row. field_kept (λ (r : TxRow). r.an) change same.an (row.an == an) row;
   key = λ row. field_kept (λ (r : TxRow). r.key) change same.key (row.an == an) row;
 }
 
--- an association is enabled, and every other one disabled
+-- an SA is enabled, and every other one is disabled
 pub with_one_on : (keys : List InstalledKey) (rows : List TxRow) (an : ℕ) → HaveKeys keys rows → HaveKeys keys (with_tx_on rows an)
 with_one_on keys rows an have n = with_changed_rows keys (switch_to an) (record { an = λ row. refl; key = λ row. refl }) rows n (have n)
 
--- an association is disabled
+-- an SA is disabled
 pub with_one_off : (keys : List InstalledKey) (rows : List TxRow) (an : ℕ) → HaveKeys keys rows → HaveKeys keys (with_tx_off rows an)
 with_one_off keys rows an have n =
     with_changed_rows keys (off_at an) (at_an (λ row. record row { on = false }) (record { an = λ row. refl; key = λ row. refl }) an) rows n (have n)
 
--- ---- an association less
+-- ---- an SA is deleted
 
--- there is none left of the number that is deleted
+-- no SA has the deleted number afterwards
 none_left : (rows : List TxRow) (an : ℕ) → tx_row (without_tx rows an) an ≡ None
 none_left [] an = refl
 none_left (row ∷ rows) an = by_test (row.an == an) refl (none_left rows an)
@@ -137,7 +137,7 @@ none_left (row ∷ rows) an = by_test (row.an == an) refl (none_left rows an)
     by_test true same later = later
     by_test false differs later = rw differs later
 
--- those of the other numbers are left
+-- the SAs with other numbers stay
 others_left : (rows : List TxRow) (an number : ℕ) → (an == number) ≡ false → tx_row (without_tx rows an) number ≡ tx_row rows number
 others_left [] an number differs = refl
 others_left (row ∷ rows) an number differs = by_test (row.an == an) refl (others_left rows an number differs)
@@ -149,7 +149,7 @@ others_left (row ∷ rows) an number differs = by_test (row.an == an) refl (othe
         later ∙ sym (ap (λ b. if b then Some row else tx_row rows number) other)
     by_test false kept later = ap (λ found. if row.an == number then Some row else found) later
 
--- an association is deleted
+-- each SA has its key after a deletion
 pub without_one : (keys : List InstalledKey) (rows : List TxRow) (an : ℕ) → HaveKeys keys rows → HaveKeys keys (without_tx rows an)
 without_one keys rows an have number = by_test (an == number) refl
   where
@@ -159,9 +159,9 @@ without_one keys rows an have number = by_test (an == number) refl
         subst (HasKey keys) (sym none) tt
     by_test false differs = subst (HasKey keys) (sym (others_left rows an number differs)) (have number)
 
--- ---- an association more
+-- ---- an SA is created
 
--- an association whose key is in the table comes after the others
+-- an SA whose key is in the table is added after the others
 with_row : (keys : List InstalledKey) (rows : List TxRow) (new : TxRow) (number : ℕ) → IsThere keys new.key →
     HasKey keys (tx_row rows number) → HasKey keys (tx_row (rows ++ new ∷ []) number)
 with_row keys [] new number there here = by_test (new.an == number)
@@ -176,12 +176,12 @@ with_row keys (row ∷ rows) new number there here = by_test (row.an == number) 
     by_test true later here = here
     by_test false later here = later here
 
--- nothing is refused, so the first line of the refusals does not refuse
+-- nothing is refused, so the condition of the first refusal is false
 pub not_refused : (holds : Bool) (refusal : Refusal) (later : Option Refusal) → (if not holds then Some refusal else later) ≡ None → holds ≡ true
 not_refused true refusal later none = refl
 not_refused false refusal later none = cc
 
--- an association is created
+-- each SA has its key after a creation
 pub with_one_more : (keys : List InstalledKey) (rows : List TxRow) (an key next : ℕ) (conf : Bool) →
     first_refusal (tx_sa_refusals keys rows an key next) ≡ None → HaveKeys keys rows → HaveKeys keys (with_tx_sa rows an key next conf)
 with_one_more keys rows an key next conf none have number =
@@ -190,7 +190,7 @@ with_one_more keys rows an key next conf none have number =
 
 -- ---- a frame
 
--- a client frame is sent, whether an association protects it or none
+-- a client frame is sent, protected by an SA or not
 pub after_sending : (keys : List InstalledKey) (rows : List TxRow) (by : Option TxRow) → HaveKeys keys rows → HaveKeys (keys_after keys by) (rows_after rows by)
 after_sending keys rows None have = have
 after_sending keys rows (Some row) have =

@@ -1,4 +1,4 @@
--- The configuration and the keys of an endpoint stay, whatever comes in.
+-- The configuration and the keys of an endpoint stay, whatever the input.
 use Rattle.std.proofs.Common.{◌≡◌, ℕ, ◌≤◌, Bool, true, false, List, map, refl, ap, subst, arith, Contains}
 use Rattle.std.specs.Prelude.{◌==◌, if◌then◌else◌, Option, Some, None, unwrap_or}
 use Rattle.std.proofs.lemmas.Bool.{eqb-true}
@@ -33,7 +33,7 @@ same_key key = record { number = refl; suite = refl; bytes = refl; salt = refl; 
 all_stay : (keys : List InstalledKey) → StayIn keys keys
 all_stay keys key there = record { later = key; there = there; is_later = same_key key }
 
--- a change of each key
+-- every key changes
 changed : (f : InstalledKey → InstalledKey) (keys : List InstalledKey) → ((key : InstalledKey) → Contains keys key → IsLaterKey key (f key)) → StayIn keys (map f keys)
 changed f keys later key there = record { later = f key; there = Contains-map f keys key there; is_later = later key there }
 
@@ -83,7 +83,7 @@ command_stays s c (Some r) = stays_with s s refl (all_stay s.keys)
 
 -- ---- frames
 
--- the association that protects a frame has a packet number that its key has not used
+-- the SA that protects a frame has a packet number that was never used under its key
 noting_stays : (s : State) (row : TxRow) → AreKeyRows s.keys → HasUnusedNext s.keys row → StayIn s.keys (keys_noting s.keys row.key row.next)
 noting_stays s row are unused = changed (at_number (row_noting row.next) row.key) s.keys (λ key there. later_noting row.key row.next key (not_above key there))
   where

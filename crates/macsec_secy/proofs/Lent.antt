@@ -1,4 +1,4 @@
--- What was lent as a slice: it is afterwards as the borrower left it.
+-- After the borrow of a slice, its owner is as the borrower left the slice.
 use Rattle.std.proofs.Common.{◌≡◌, ℕ, ◌≤◌, List, [], ◌∷◌, length, take, drop, refl, ap, ◌∙◌, arith}
 use Rattle.std.specs.List.{refill}
 use Rattle.std.proofs.lemmas.List.{take-append-le}

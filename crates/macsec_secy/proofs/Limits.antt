@@ -1,4 +1,4 @@
--- The largest frame of a configuration from which an endpoint can be created.
+-- The largest frame of a configuration that an endpoint can be created from.
 use Rattle.std.proofs.Common.{◌≡◌, ℕ, ◌≤◌, Bool, true, false, refl}
 use Rattle.std.specs.Prelude.{if◌then◌else◌, Option, Some, None}
 use Rattle.std.proofs.lemmas.Bool.Decides.{nat_tests}

@@ -1,4 +1,4 @@
--- The packet number of a sent frame, as its receiver sees it.
+-- The packet number of a sent frame, as its receiver recovers it.
 use Rattle.std.proofs.Common.{◌≡◌, ℕ, ◌+◌, ◌-◌, ◌%◌, ◌^◌, ◌≤◌, ◌<◌, Bool, true, false, refl, ap, arith}
 use Rattle.std.specs.Prelude.{◌==◌, ◌&&◌, not, if◌then◌else◌, Some}
 use Rattle.std.proofs.lemmas.Bool.{and_left, and_right, ne_eqb}
@@ -9,7 +9,7 @@ use Rattle.macsec_pn.specs.Numbers.{recovered_number}
 abbrev pub last_number : Bool → ℕ
 last_number xpn = if xpn then 2 ^ 64 - 1 else 2 ^ 32 - 1
 
--- an extended one from the lowest acceptable one on that is less than 2^31 past it is recovered
+-- an extended packet number that is not below the lowest acceptable one and less than 2^31 above it is recovered
 near : (lowest n : ℕ) → 1 ≤ n → n < 2 ^ 64 → lowest ≤ n → n < lowest + 2 ^ 31 → recovered_number true lowest (n % 2 ^ 32) ≡ Some n
 near lowest n least most from to = grind (arith, nat_tests, least, most, from, to)
 
@@ -17,7 +17,7 @@ pub recovered : (xpn : Bool) (lowest n : ℕ) → 1 ≤ n → n ≤ last_number 
 recovered true lowest n least most from to = near lowest n least (omega (arith, most)) from (to refl)
 recovered false lowest n least most from to = let it : n % 2 ^ 32 ≡ n = omega (arith, most) in ap Some it
 
--- the PN field of a number that is sent is not one that no sender uses
+-- the PN field of a sent frame is valid: not 0 unless packet numbers are extended
 pub not_bad : (xpn : Bool) (n : ℕ) → 1 ≤ n → n ≤ last_number xpn → (n % 2 ^ 32 == 0 && not xpn) ≡ false
 not_bad true n least most = and_right (n % 2 ^ 32 == 0) false refl
 not_bad false n least most = and_left (n % 2 ^ 32 == 0) true (ne_eqb (n % 2 ^ 32) 0 (λ zero. omega (arith, zero, least, most)))

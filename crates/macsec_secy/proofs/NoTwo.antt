@@ -1,4 +1,4 @@
--- Lists of which no two elements pass a test together, and what keeps them so.
+-- Lists in which no two elements pass a test together, and the changes that keep this.
 use Rattle.std.proofs.Common.{◌≡◌, Bool, true, false, List, [], ◌∷◌, ◌++◌, map, filter, refl}
 use Rattle.std.specs.Prelude.{◌||◌, find, if◌then◌else◌, is_some, Some}
 use Rattle.std.specs.List.{list_any}
@@ -35,7 +35,7 @@ pub none_at_all : {A : Type 0} (p : A → Bool) → ((x : A) → p x ≡ false) 
 none_at_all p fails [] = refl
 none_at_all p fails (x ∷ xs) = or_from (p x) (list_any p xs) (fails x) (none_at_all p fails xs)
 
--- no element is found
+-- if no element is found, none passes
 pub none_found : {A : Type 0} (p : A → Bool) (xs : List A) → is_some (find p xs) ≡ false → list_any p xs ≡ false
 none_found p [] none = refl
 none_found p (x ∷ xs) none = by_test (p x) (none_found p xs) none
@@ -44,16 +44,16 @@ none_found p (x ∷ xs) none = by_test (p x) (none_found p xs) none
     by_test true later none' = cc
     by_test false later none' = later none'
 
--- ---- no two elements pass it together
+-- ---- no two elements pass the test together
 
--- after a change of the elements
+-- after the elements are changed
 pub no_two-map : {A B : Type 0} (f : A → B) (test : A → A → Bool) (after : B → B → Bool) → ((x y : A) → test x y ≡ false → after (f x) (f y) ≡ false) →
     (xs : List A) → NoTwo test xs → NoTwo after (map f xs)
 no_two-map f test after stays [] apart = tt
 no_two-map f test after stays (x ∷ xs) apart =
     (none-map f (test x) (after (f x)) (stays x) xs apart.0, no_two-map f test after stays xs apart.1)
 
--- some of them are left
+-- after elements are removed
 pub no_two-filter : {A : Type 0} (keep : A → Bool) (test : A → A → Bool) (xs : List A) → NoTwo test xs → NoTwo test (filter keep xs)
 no_two-filter keep test [] apart = tt
 no_two-filter keep test (x ∷ xs) apart = by_test (keep x) (none-filter (test x) keep xs apart.0) (no_two-filter keep test xs apart.1)
@@ -62,7 +62,7 @@ no_two-filter keep test (x ∷ xs) apart = by_test (keep x) (none-filter (test x
     by_test true none later = (none, later)
     by_test false none later = later
 
--- one comes after them that passes it with none
+-- after an element is added that passes the test with none of them
 pub no_two-with : {A : Type 0} (test : A → A → Bool) (xs : List A) (new : A) → list_any (λ x. test x new) xs ≡ false → NoTwo test xs → NoTwo test (xs ++ new ∷ [])
 no_two-with test [] new none apart = (refl, tt)
 no_two-with test (x ∷ xs) new none apart =

@@ -1,4 +1,4 @@
--- A frame of parts without padding is read again with octets after it, which are the padding.
+-- A frame of parts without padding, followed by octets, is read as the same parts with the octets as padding.
 use Rattle.std.proofs.Common.{◌≡◌, ℕ, List, [], ◌++◌, ap, ◌∙◌, append-nil}
 use Rattle.macsec_tag.specs.Tag.{IsTag, encoding}
 use Rattle.macsec_tag.specs.Frame.{HasLengths, MpduParts, in_a_row}

@@ -1,5 +1,5 @@
--- What opens of the use of the cipher that a protected frame is, is the client frame, whoever opens it: additional
--- authenticated data and ciphertext fix the frame, whatever the offset of the opening key.
+-- Whoever opens a protected frame gets the client frame, whatever the offset of the opening key: the additional
+-- authenticated data and the ciphertext determine the frame.
 use Rattle.std.proofs.Common.{◌≡◌, ℕ, ◌≤◌, Bool, true, false, List, ◌++◌, length, take, drop, ap, sym, ◌∙◌, arith, length-append, append_assoc, length-drop}
 use Rattle.std.specs.Prelude.{slice_range, min, if◌then◌else◌, Some}
 use Rattle.std.proofs.lemmas.List.{drop_at, length-take-le, take-append-drop, take_at}
@@ -20,9 +20,9 @@ pub record CipherLaws : Type 0 where
   pub injective : SealingIsInjective
   pub lengths : SealedLengths
 
--- ---- what is sealed of a client's frame
+-- ---- what is sealed for a client frame
 
--- the octets that stay clear depend on the length alone
+-- the number of octets sent in clear depends only on the length
 clear_of_length : (offset : ℕ) (e : Bool) (xs ys : List ℕ) → length xs ≡ length ys → clear_length offset e xs ≡ clear_length offset e ys
 clear_of_length offset e xs ys same = ap (λ n. if e then min offset n else n) same
 
@@ -78,16 +78,16 @@ module _ (laws : CipherLaws) (key : InstalledKey) (iv : List ℕ) (tag : Tag) (f
       ∙ ap (λ (xs : List ℕ). use_with xs (drop clear data_sent)) (take_at (take clear user_data) sealed.0 clear long_clear)
       ∙ ap (λ (xs : List ℕ). use_with (take clear user_data) xs) (drop_at (take clear user_data) sealed.0 clear long_clear)
 
--- ---- what opens of it
+-- ---- what is opened
 
--- the frame is its addresses and its data
+-- a frame is its addresses followed by its data
 cut_frame : (frame : List ℕ) → 12 ≤ length frame → (take 6 frame ++ slice_range frame 6 12) ++ drop 12 frame ≡ frame
 cut_frame frame long = ap (λ (xs : List ℕ). xs ++ drop 12 frame) (sym (take-add 6 6 frame)) ∙ take-append-drop 12 frame
 
 long_addresses : (frame : List ℕ) → 12 ≤ length frame → length (take 6 frame ++ slice_range frame 6 12) ≡ 12
 long_addresses frame long = ap length (sym (take-add 6 6 frame)) ∙ length-take-le 12 frame long
 
--- additional authenticated data of the same octets have the same addresses and the same clear octets
+-- equal additional authenticated data have the same addresses and the same clear octets
 record HasSameClear (front front' clear clear' : List ℕ) : Type 0 where
   fronts : front ≡ front'
   clears : clear ≡ clear'

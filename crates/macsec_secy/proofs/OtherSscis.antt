@@ -1,4 +1,4 @@
--- If packet numbers are extended, no receive association has its key's own SSCI, whatever is done.
+-- If packet numbers are extended, no receive SA has its key's own SSCI, whatever the input.
 use Rattle.std.proofs.Common.{◌≡◌, ℕ, Bool, false, List, [], ◌∷◌, ◌++◌, map, refl}
 use Rattle.std.specs.Prelude.{◌==◌, Option, Some, None}
 use Rattle.std.specs.List.{All}
@@ -33,7 +33,7 @@ with_another_key keys rows new have = All-weaker (HasOtherSsci keys) (HasOtherSs
       other = rw (same_with_more keys (new ∷ []) row.key has.there) has.other;
     }
 
--- a change of the key of one number that keeps its number, its suite and its SSCI
+-- the key with one number changes, and keeps its number, suite and SSCI
 record KeepsSsci (change : InstalledKey → InstalledKey) : Type 0 where
   number : (key : InstalledKey) → (change key).number ≡ key.number
   suite : (key : InstalledKey) → (change key).suite ≡ key.suite
@@ -69,9 +69,9 @@ after_sending keys rows None have = have
 after_sending keys rows (Some row) have =
     one_key_changed (row_noting row.next) (record { number = λ key. refl; suite = λ key. refl; ssci = λ key. refl }) row.key keys rows have
 
--- ---- changes of the associations
+-- ---- changes of the SAs
 
--- a change of an association that keeps its key and its SSCI
+-- a change of an SA that keeps its key and its SSCI
 record KeepsKey (f : RxRow → RxRow) : Type 0 where
   key : (row : RxRow) → (f row).key ≡ row.key
   ssci : (row : RxRow) → (f row).ssci ≡ row.ssci
@@ -102,7 +102,7 @@ pub with_all_narrowed : (keys : List InstalledKey) (channels : Channels) (window
     HaveOtherSscis keys (channels_narrowed channels window).rows
 with_all_narrowed keys channels window have = rows_changed keys (row_narrowed window) (record { key = λ row. refl; ssci = λ row. refl }) channels.rows have
 
--- an association is created
+-- an SA is created
 pub with_one_more : (keys : List InstalledKey) (channels : Channels) (sci : Sci) (an key ssci lowest : ℕ) →
     first_refusal (rx_sa_refusals keys channels sci an key ssci lowest) ≡ None → HaveOtherSscis keys channels.rows →
     HaveOtherSscis keys (with_rx_sa channels sci an key ssci lowest).rows

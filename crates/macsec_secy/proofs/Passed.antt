@@ -1,4 +1,4 @@
--- A frame of which no earlier step holds is judged at step 13.
+-- Step 13 decides a frame for which no earlier step holds.
 use Rattle.std.proofs.Common.{◌≡◌, ◌≢◌, ℕ, false, List, refl}
 use Rattle.std.specs.Prelude.{◌&&◌, not, Some}
 use Rattle.std.proofs.lemmas.Bool.{and_right}

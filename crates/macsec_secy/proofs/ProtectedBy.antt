@@ -1,4 +1,4 @@
--- The association that protects a client frame: it is enabled, and it has a packet number left.
+-- The SA that protects a client frame is enabled and has a packet number left.
 use Rattle.std.proofs.Common.{◌≡◌, ℕ, ◌+◌, ◌≤◌, Bool, true, false, List, [], ◌∷◌, length, refl, subst}
 use Rattle.std.specs.Prelude.{nat_lt, if◌then◌else◌, Option, Some, None}
 use Rattle.std.proofs.lemmas.Bool.{ltb-false}
@@ -45,7 +45,7 @@ protected_by options keys rows frame row by = by_test options.protect by
     by_test true by' = by_on options keys rows frame row (row_on rows) refl by'
     by_test false by' = cc
 
--- what holds of each association holds of the enabled one
+-- what holds of all SAs holds of the enabled one
 pub is_row : (rows : List TxRow) (row : TxRow) → AreTxRows rows → row_on rows ≡ Some row → IsTxRow row
 is_row [] row are on = cc
 is_row (r ∷ rows) row are on = by_test r.on (is_row rows row are.2) on

@@ -1,4 +1,4 @@
--- What is known of the association that protects a client frame.
+-- What is known of the SA that protects a client frame.
 use Rattle.std.proofs.Common.{◌≡◌, ℕ, ◌≤◌, List, length, ap, sym, subst, ◌∙◌, arith, Contains}
 use Rattle.std.specs.Prelude.{if◌then◌else◌, Some, None, IsSome}
 use Rattle.std.proofs.lemmas.Bool.{eq-eqb}
@@ -18,7 +18,7 @@ use Rattle.macsec_secy.proofs.OpenedAgain.{CipherLaws, opens_as_sent}
 use Rattle.macsec_secy.proofs.ProtectedBy.{is_row, protected_by}
 use Rattle.macsec_secy.proofs.UnusedNext.{on_unused}
 
--- the key under which the frame is sealed, once the packet number is used
+-- the key that seals the frame, after the packet number is recorded as used
 key_noting : (keys : List InstalledKey) (row : TxRow) → IsSome (key_row keys row.key) → Contains (keys_noting keys row.key row.next) (row_noting row.next (the_key keys row.key))
 key_noting keys row there =
     let key = the_key keys row.key in

@@ -1,4 +1,4 @@
--- The key of each receive association stays in the table, whatever is done.
+-- The key of each receive SA stays in the table, whatever the input.
 use Rattle.std.proofs.Common.{◌≡◌, ℕ, Bool, false, List, [], ◌∷◌, ◌++◌, map, refl, sym, subst}
 use Rattle.std.specs.Prelude.{not, Option, Some, None}
 use Rattle.std.proofs.lemmas.List.Elements.{All-append, All-cons, All-filter, All-head, All-nil, All-tail, All-weaker}
@@ -33,9 +33,9 @@ after_sending keys rows None have = have
 after_sending keys rows (Some row) have =
     All-weaker (KeyIsThere keys) (KeyIsThere (keys_noting keys row.key row.next)) (λ r there. there_noting keys row.key row.next r.key there) rows have
 
--- ---- changes of the associations
+-- ---- changes of the SAs
 
--- each association has its key after a change that keeps its key
+-- each SA has its key after a change that keeps its key
 with_changed_rows : (keys : List InstalledKey) (change : RxRow → RxRow) → ((row : RxRow) → (change row).key ≡ row.key) → (rows : List RxRow) →
     HaveRxKeys keys rows → HaveRxKeys keys (map change rows)
 with_changed_rows keys change same [] have = All-nil (KeyIsThere keys)
@@ -44,7 +44,7 @@ with_changed_rows keys change same (row ∷ rows) have =
     (subst (IsThere keys) (sym (same row)) (All-head (KeyIsThere keys) row rows have))
     (with_changed_rows keys change same rows (All-tail (KeyIsThere keys) row rows have))
 
--- each association has its key after a change of one of them that keeps its key
+-- each SA has its key after one SA changes and keeps its key
 with_one_changed : (keys : List InstalledKey) (change : RxRow → RxRow) → ((row : RxRow) → (change row).key ≡ row.key) → (sci : Sci) (an : ℕ) (rows : List RxRow) →
     HaveRxKeys keys rows → HaveRxKeys keys (with_rx change sci an rows)
 with_one_changed keys change same sci an rows have =
@@ -70,7 +70,7 @@ pub without_channel_of : (keys : List InstalledKey) (channels : Channels) (sci :
     HaveRxKeys keys (without_channel channels sci).rows
 without_channel_of keys channels sci have = All-filter (λ row. not (same_sci row.sci sci)) (KeyIsThere keys) channels.rows have
 
--- an association is created
+-- an SA is created
 pub with_one_more : (keys : List InstalledKey) (channels : Channels) (sci : Sci) (an key ssci lowest : ℕ) →
     first_refusal (rx_sa_refusals keys channels sci an key ssci lowest) ≡ None → HaveRxKeys keys channels.rows →
     HaveRxKeys keys (with_rx_sa channels sci an key ssci lowest).rows

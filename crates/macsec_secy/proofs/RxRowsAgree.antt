@@ -1,5 +1,5 @@
--- No two receive associations of a channel have one number, and the next packet number of each is within
--- the replay window of its lowest acceptable one, whatever is done.
+-- Whatever the input, no two receive SAs of a channel have the same number, and the next packet number of each exceeds
+-- its lowest acceptable one by at most the replay window.
 use Rattle.std.proofs.Common.{◌≡◌, ◌∙◌, ◌≤◌, ◌+◌, ℕ, Bool, true, false, List, [], ◌∷◌, map, filter, refl, arith, sym}
 use Rattle.std.specs.Prelude.{◌==◌, nat_lt, if◌then◌else◌, Option, Some, None}
 use Rattle.std.specs.List.{All, list_any, slice_index_or}
@@ -19,7 +19,7 @@ use Rattle.macsec_secy.proofs.AfterCommands.{none_hold}
 use Rattle.macsec_secy.proofs.KeysKept.{field_kept}
 use Rattle.macsec_secy.proofs.NoTwo.{no_two-filter, no_two-map, no_two-with, none_found}
 
--- the next packet number is above the lowest acceptable one by the window at most
+-- the next packet number exceeds the lowest acceptable one by at most the window
 abbrev pub IsWithin : ℕ → RxRow → Type 0
 IsWithin window row = row.next ≤ row.lowest + window
 
@@ -27,7 +27,7 @@ pub record RxRowsAgree (window : ℕ) (rows : List RxRow) : Type 0 where
   pub places : NoTwo same_place rows
   pub within : All (IsWithin window) rows
 
--- a change that leaves an association at its place
+-- a change that keeps an SA's channel and number
 record KeepsPlace (f : RxRow → RxRow) : Type 0 where
   sci : (row : RxRow) → (f row).sci ≡ row.sci
   an : (row : RxRow) → (f row).an ≡ row.an
@@ -43,7 +43,7 @@ one_place_kept f same sci an rows apart =
       an = λ row. field_kept (λ (r : RxRow). r.an) f same.an (is_at sci an row) row;
     }) rows apart
 
--- an association is within the window after a change at one place, if the one that is changed is
+-- if the changed SA is within the window, so is each SA afterwards
 one_within : (window : ℕ) (f : RxRow → RxRow) (sci : Sci) (an : ℕ) (row : RxRow) → (is_at sci an row ≡ true → IsWithin window (f row)) → IsWithin window row →
     IsWithin window (at_place f sci an row)
 one_within window f sci an row good within = by_test (is_at sci an row) refl
@@ -58,7 +58,7 @@ within_after window f good rows within = All-map (IsWithin window) f rows (All-w
 
 -- ---- commands
 
--- every association is narrowed to a new window
+-- every SA is narrowed to a new window
 pub with_all_narrowed : (channels : Channels) (old window : ℕ) → RxRowsAgree old channels.rows → RxRowsAgree window (channels_narrowed channels window).rows
 with_all_narrowed channels old window agree = record {
   places = places_kept (row_narrowed window) (record { sci = λ row. refl; an = λ row. refl }) channels.rows agree.places;
@@ -88,7 +88,7 @@ with_one_switched channels window sci an on agree = record {
     still : (row : RxRow) → IsWithin window row → IsWithin window (at_place (row_switched on) sci an row)
     still row within = one_within window (row_switched on) sci an row (λ here. within) within
 
--- some associations are deleted
+-- some SAs are deleted
 pub some_left : (keep : RxRow → Bool) (window : ℕ) (rows : List RxRow) → RxRowsAgree window rows → RxRowsAgree window (filter keep rows)
 some_left keep window rows agree = record {
   places = no_two-filter keep same_place rows agree.places;
@@ -97,7 +97,7 @@ some_left keep window rows agree = record {
 
 -- ---- raising
 
--- where an association is at a place, no other one is
+-- if one SA has this channel and number, no other one has them
 others_elsewhere : (sci : Sci) (an : ℕ) (row : RxRow) → is_at sci an row ≡ true → (others : List RxRow) → list_any (same_place row) others ≡ false →
     All (λ r. is_at sci an r ≡ false) others
 others_elsewhere sci an row here [] none = All-nil (λ r. is_at sci an r ≡ false)
@@ -112,7 +112,7 @@ others_elsewhere sci an row here (other ∷ others) none =
         let no = sym same ∙ apart in
         cc
 
--- the packet number is not below the lowest acceptable one of an association at a place
+-- the packet number is not below the lowest acceptable one of the SA with this channel and number
 abbrev IsNotBelow : Sci → ℕ → ℕ → RxRow → Type 0
 IsNotBelow sci an pn row = is_at sci an row ≡ true → row.lowest ≤ pn
 
@@ -145,7 +145,7 @@ with_one_raised keys channels window sci an pn e agree =
 
 -- ---- frames
 
--- an association accepts a packet number
+-- an SA accepts a packet number
 accepting : (window number : ℕ) (row : RxRow) → IsWithin window row → IsWithin window (row_accepting window number row)
 accepting window number row within = omega arith
 

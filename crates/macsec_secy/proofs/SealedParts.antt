@@ -1,4 +1,4 @@
--- What was sealed of a client frame is opened again, with the same key bytes, offset and IV, and gives the frame.
+-- What was sealed for a client frame is opened with the same key bytes, offset and IV, and gives the frame.
 use Rattle.std.proofs.Common.{◌≡◌, ℕ, ◌+◌, ◌≤◌, Bool, true, false, List, ◌++◌, length, take, drop, min, refl, ap, sym, ◌∙◌, arith, append_assoc, length-append}
 use Rattle.std.specs.Prelude.{slice_range, if◌then◌else◌, Some}
 use Rattle.std.proofs.Math.Seq.{take-add, take-append_seam, drop-append_seam}
@@ -10,7 +10,7 @@ use Rattle.macsec_suite.specs.Keys.{PreparedKey}
 use Rattle.macsec_suite.specs.Parts.{aad_and_plaintext, clear_length}
 use Rattle.macsec_tx.specs.Transmit.{parts_under}
 
--- ---- the data are cut at the same place again
+-- ---- the data is split at the same offset
 
 same_clear : (offset : ℕ) (e : Bool) (xs ys : List ℕ) → length xs ≡ length ys → clear_length offset e xs ≡ clear_length offset e ys
 same_clear offset e xs ys same = ap (λ (n : ℕ). if e then min offset n else n) same
@@ -26,7 +26,7 @@ two a c = (a, c)
 both : (a b c d : List ℕ) → a ≡ b → c ≡ d → two a c ≡ two b d
 both a b c d first second = rw (first, second) refl
 
--- the clear octets, and as many others as were not clear
+-- the clear octets, followed by these octets in place of the others
 abbrev with_clear : ℕ → Bool → List ℕ → List ℕ → List ℕ
 with_clear offset e xs ys = take (clear_length offset e xs) xs ++ ys
 

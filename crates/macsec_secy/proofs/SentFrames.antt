@@ -1,4 +1,4 @@
--- What an endpoint returns for a client frame, and what holds of the tables that it leaves.
+-- What an endpoint returns for a client frame, and what holds of its tables afterwards.
 use Rattle.std.proofs.Common.{◌≡◌, ℕ, ◌+◌, Bool, true, false, List, length, refl, sym, ap, subst, ◌∙◌}
 use Rattle.std.specs.Prelude.{nat_lt, if◌then◌else◌, Option, Some, None}
 use Rattle.macsec_suite.specs.Suites.{last_of}
@@ -24,7 +24,7 @@ left_protected s frame fits options same key out protects =
     let leaving : (sending (tx_options s) s.keys s.tx frame).leaving ≡ protected key out = ap (λ o. (sending o s.keys s.tx frame).leaving) (sym same) ∙ protects in
     rw (fits, leaving) refl
 
--- ---- no association protects a frame that is sent as it is, or dropped
+-- ---- a frame that is sent unprotected, or dropped: no SA protects it
 
 abbrev IsProtected : Leaving → Type 0
 IsProtected plain = ⊥
@@ -79,7 +79,7 @@ tables_after s frame sound hold = by_fault (frame_fault frame)
     by_fault None = record { keys = hold.keys; tx = hold.tx; rx = sound.rx }
     by_fault (Some f) = record { keys = sound.keys; tx = sound.tx; rx = sound.rx }
 
--- the machine's state after a frame of which the transmit channel makes this
+-- the machine's state after a frame, given the transmit channel's result
 pub sound_after : (before now : State) (frame : List ℕ) → before ≡ now → IsSound before → (options : TxOptions) → options ≡ tx_options before →
     (result : TxResult) (out : List ℕ) (rows : List TxRow) (keys : List InstalledKey) → ShowsLeaving result out (sending options before.keys before.tx frame).leaving →
     rows ≡ rows_after before.tx (sending options before.keys before.tx frame).by → keys ≡ keys_after before.keys (sending options before.keys before.tx frame).by →

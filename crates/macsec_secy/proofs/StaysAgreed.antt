@@ -1,4 +1,4 @@
--- The rows of an endpoint's tables agree with one another from its creation on, whatever comes in.
+-- The rows of an endpoint's tables agree with one another from its creation on, whatever the input.
 use Rattle.std.proofs.Common.{◌≡◌, ◌⊎◌, ℕ, Bool, true, false, List, [], filter, refl}
 use Rattle.std.specs.Prelude.{not, Option, Some, None}
 use Rattle.std.proofs.lemmas.List.Elements.{All-filter, All-nil}
@@ -43,14 +43,14 @@ at_start config = record {
 
 -- ---- commands
 
--- the parts that speak of the transmit associations alone, and of the receive associations alone
+-- the clauses about transmit SAs only, and those about receive SAs only
 tx_part : (s : State) → Agrees s → tx.TxRowsAgree s.tx
 tx_part s agrees = record { numbers = agrees.tx_numbers; one_on = agrees.one_on }
 
 rx_part : (s : State) → Agrees s → rx.RxRowsAgree s.options.window s.rx.rows
 rx_part s agrees = record { places = agrees.rx_places; within = agrees.within_window }
 
--- those that are left of the latter
+-- the clauses about receive SAs, when some of them are deleted
 some_left : (s : State) (keep : RxRow → Bool) → Agrees s → rx.RxRowsAgree s.options.window (filter keep s.rx.rows) × sscis.HaveOtherSscis s.keys (filter keep s.rx.rows)
 some_left s keep agrees = (
   rx.some_left keep s.options.window s.rx.rows (rx_part s agrees),
@@ -133,7 +133,7 @@ after_command : (s : State) (c : Command) (r : Option Refusal) → refusal s c �
 after_command s c None e agrees = after_effect s c e agrees
 after_command s c (Some r) e agrees = agrees
 
--- a frame that is taken or not
+-- a frame, with or without a fault
 frame_keeps : (s after : State) (output : Output) (fault : Option FrameFault) → Agrees after → Agrees s → Agrees (unless_fault fault s (output, after)).1
 frame_keeps s after output None then agrees = then
 frame_keeps s after output (Some fault) then agrees = agrees

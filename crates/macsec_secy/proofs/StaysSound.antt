@@ -1,4 +1,4 @@
--- An endpoint stays sound, whatever comes in, where its tables keep what holds of their rows.
+-- An endpoint stays sound, whatever the input, if its tables keep what holds of their rows.
 use Rattle.std.proofs.Common.{◌≡◌, ℕ, ◌≤◌, true, false, List, [], ◌∷◌, ◌++◌, filter, refl, ap, sym, subst, ◌∙◌, arith}
 use Rattle.std.specs.Prelude.{not, Option, Some, None, IsSome, Result, Ok, Err, OnOk, OnErr}
 use Rattle.std.proofs.lemmas.Bool.{ltb-false}
@@ -137,7 +137,7 @@ effect_is_sound s (RxDel sci an) e tables agrees sound =
 pub after_effect : (s : State) (c : Command) → refusal s c ≡ None → TablesHold (effect s c) → IsSound s → IsSound (effect s c)
 after_effect s c e tables sound = effect_is_sound s c e tables (rows.after_effect s c e sound.agrees) sound
 
--- a command that a table carries out, or refuses and is as it was
+-- a command that a table carries out, or refuses and stays unchanged
 by_table : {S : Type 0} (s : State) (c : Command) (put : S → State) (old new after : S) (answer : Result (Unit {0}) Refusal) → refusal_of answer ≡ refusal s c →
     OnOk answer (new ≡ after) → OnErr answer (new ≡ old) → put old ≡ s → put after ≡ effect s c → (refusal_of answer ≡ None → TablesHold (put new)) → IsSound s → IsSound (put new)
 by_table s c put old new after (Ok done) refuses ok err before behind tables sound =
@@ -167,7 +167,7 @@ pub by_rx : (s : State) (c : Command) (channels after : Channels) (answer : Resu
 by_rx s c channels after answer refuses ok err behind are sound =
     by_table s c (λ r. record s { rx = r }) s.rx channels after answer refuses ok err refl behind (λ e. record { keys = sound.keys; tx = sound.tx; rx = are }) sound
 
--- ---- the same of an endpoint, whose buffer is as it was
+-- ---- the same for an endpoint whose buffer is unchanged
 
 pub ready_by_keys : (s : State) (c : Command) (keys after : List InstalledKey) (answer : Result (Unit {0}) Refusal) (room : ℕ) → refusal_of answer ≡ refusal s c →
     OnOk answer (keys ≡ after) → OnErr answer (keys ≡ s.keys) → record s { keys = after } ≡ effect s c → OnOk answer (AreKeyRows keys) →
@@ -187,7 +187,7 @@ pub ready_by_rx : (s : State) (c : Command) (channels after : Channels) (answer 
 ready_by_rx s c channels after answer room refuses ok err behind are ready =
     record { sound = by_rx s c channels after answer refuses ok err behind are ready.sound; room = ready.room }
 
--- the channels after a command that they carry out or refuse are those of the state after it
+-- after a command that the channels carry out or refuse, they are the channels of the machine's state
 pub left_by_rx : (s : State) (c : Command) (channels after : Channels) (answer : Result (Unit {0}) Refusal) → refusal_of answer ≡ refusal s c →
     OnOk answer (channels ≡ after) → OnErr answer (channels ≡ s.rx) → record s { rx = after } ≡ effect s c → record s { rx = channels } ≡ state_after_command s c
 left_by_rx s c channels after (Ok done) refuses ok err behind = ap (λ r. record s { rx = r }) ok ∙ behind ∙ ap (λ r. unless_refused r s c) refuses
@@ -223,7 +223,7 @@ after_receiving s frame tables agrees sound =
       after_judgement j s.rx_counters sound.rx_counters,
     )
 
--- a frame that is taken or not
+-- a frame, with or without a fault
 frame_keeps : (s after : State) (output : Output) → (TablesHold after → Agrees after → IsSound after) → (fault : Option FrameFault) →
     TablesHold (unless_fault fault s (output, after)).1 → Agrees (unless_fault fault s (output, after)).1 → IsSound s → IsSound (unless_fault fault s (output, after)).1
 frame_keeps s after output keeps None tables agrees sound = keeps tables agrees

@@ -1,4 +1,4 @@
--- What the verdict on a frame says of the step that decided.
+-- What the verdict on a frame shows about the step that decided.
 use Rattle.std.proofs.Common.{◌≡◌, ℕ, Bool, true, false, List, [], ◌∷◌, map, set, refl, ap, sym, ◌∙◌}
 use Rattle.std.proofs.lemmas.List.{set-get_or}
 use Rattle.std.specs.Prelude.{if◌then◌else◌, nat_le, not, ◌&&◌, ◌||◌, option_map, Option, Some, None}
@@ -24,18 +24,18 @@ use Rattle.macsec_secy.specs.Sound.{sci_of_counters}
 use Rattle.macsec_secy.specs.Verdicts.{at_first, counted_at_place, is_opened}
 use Rattle.macsec_secy.proofs.FirstChannel.{at_first-distinct}
 
--- the verdict and the mode of validation say which counters the frame raises
+-- the verdict and the mode of validation determine which counters the frame raises
 pub record Tells (mode : Mode) (j : Judgement) : Type 0 where
   pub packet : (c : Counters) → packet_counted j c ≡ count_packet j.verdict c
   pub channel : (rows : List ChannelCounters) → AreScis (map sci_of_counters rows) → rx_packet_counted j rows ≡ counted_at_place j.verdict (option_map place_of j.row) rows
   pub opened : nat_le 11 j.step ≡ is_opened mode j.verdict
 
--- the channel of the association and the association count the frame
+-- the SA and its channel count the frame
 by_channel : (verdict : Verdict) (row : RxRow) (rows : List ChannelCounters) → AreScis (map sci_of_counters rows) →
     map (at_channel (count_in_channel verdict row.an) row.sci) rows ≡ at_first (count_in_channel verdict row.an) row.sci rows
 by_channel verdict row rows distinct = at_first-distinct (count_in_channel verdict row.an) row.sci rows distinct
 
--- a frame of the verdict BadTag is counted by no channel and no association
+-- no channel and no SA counts a frame with the verdict BadTag
 bad_tag_uncounted : (an : ℕ) (row : ChannelCounters) → row ≡ count_in_channel BadTag an row
 bad_tag_uncounted an row =
     ap {B = ChannelCounters} (λ associations. record row { associations = associations })

@@ -1,5 +1,4 @@
--- A counter that is raised raises the sum of the counters of received packets, and each other change keeps
--- it.
+-- Raising a received-packet counter raises the sum of these counters by one; every other change keeps the sum.
 use Rattle.std.proofs.Common.{◌≡◌, ℕ, ◌+◌, ◌*◌, ◌/◌, ◌%◌, ◌^◌, Bool, true, false, List, [], ◌∷◌, map, refl, sym, ap, ◌∙◌, arith}
 use Rattle.std.proofs.lemmas.Bool.{or_parts}
 use Rattle.std.specs.Prelude.{if◌then◌else◌, ◌||◌}
@@ -19,7 +18,7 @@ use Rattle.macsec_secy.specs.Counting.{at_channel, count_in_channel, count_verdi
 use Rattle.macsec_secy.specs.Sums.{channel_packets_of}
 use Rattle.macsec_secy.specs.Sound.{sci_of_counters}
 
--- SCIs that are found the same are the same
+-- SCIs that compare equal are equal
 pub one_sci : (s t : Sci) → same_sci s t ≡ true → s ≡ t
 one_sci s t same = ap {B = Sci} (λ octets. record { 0 = octets }) (same_text s.0 t.0 (sym same))
 
@@ -27,7 +26,7 @@ one_sci s t same = ap {B = Sci} (λ octets. record { 0 = octets }) (same_text s.
 abbrev pub IsOneMore : ℕ → ℕ → Type 0
 IsOneMore new old = new % 2 ^ 64 ≡ plus (old % 2 ^ 64) 1
 
--- a sum is one more where one part of it is raised by one
+-- a sum is one more if one part of it is raised by one
 pub IsOneMore-raised_part : (old new part : ℕ) → new + part ≡ old + plus part 1 → IsOneMore new old
 IsOneMore-raised_part old new part e =
     let q = (part + 1) / 2 ^ 64 in
@@ -35,7 +34,7 @@ IsOneMore-raised_part old new part e =
     let more : new + 2 ^ 64 * q ≡ old + 1 = omega (arith, e, all) in
     sym (add-mul-mod_self_left new (2 ^ 64) q) ∙ ap (λ n. n % 2 ^ 64) more ∙ sym (mod-add-mod old (2 ^ 64) 1)
 
--- a sum is one more where one part of it is one more
+-- a sum is one more if one part of it is one more
 pub IsOneMore-add_left : (other new old : ℕ) → IsOneMore new old → IsOneMore (other + new) (other + old)
 IsOneMore-add_left other new old one =
     let more : other + (old + 1) ≡ other + old + 1 = omega arith in
@@ -48,7 +47,7 @@ IsOneMore-add_right new old rest one =
     let right : old + rest ≡ rest + old = omega arith in
     rw (left, right) (IsOneMore-add_left rest new old one)
 
--- a sum to which nothing is added is the same
+-- a sum plus 0 is the same
 pub mod-as_plus_0 : (n : ℕ) → n % 2 ^ 64 ≡ plus (n % 2 ^ 64) 0
 mod-as_plus_0 n = omega arith
 
@@ -80,7 +79,7 @@ RaisesOne-Passed c = IsOneMore-raised_part _ _ c.in_pkts_ok (omega arith)
 abbrev pub channels_packets : List ChannelCounters → ℕ
 channels_packets rows = sum_by (λ row. channel_packets_of row.counters) rows
 
--- where no channel has the SCI nothing is changed
+-- if no channel has the SCI, nothing changes
 pub map-at_channel_elsewhere : (change : ChannelCounters → ChannelCounters) (sci : Sci) (rows : List ChannelCounters) → has_channel (map sci_of_counters rows) sci ≡ false →
     map (at_channel change sci) rows ≡ rows
 map-at_channel_elsewhere change sci [] none = refl
@@ -89,7 +88,7 @@ map-at_channel_elsewhere change sci (row ∷ rows) none =
     ap (λ b. (if b then change row else row) ∷ map (at_channel change sci) rows) parts.0
     ∙ ap (λ rs. row ∷ rs) (map-at_channel_elsewhere change sci rows parts.1)
 
--- where one channel has it, it alone counts the frame
+-- if a channel has the SCI, only that channel counts the frame
 pub IsOneMore-channels_packets : (verdict : Verdict) → RaisesOne verdict → (sci : Sci) (an : ℕ) (rows : List ChannelCounters) → AreScis (map sci_of_counters rows) →
     has_channel (map sci_of_counters rows) sci ≡ true → IsOneMore (channels_packets (map (at_channel (count_in_channel verdict an) sci) rows)) (channels_packets rows)
 IsOneMore-channels_packets verdict raises sci an [] distinct there = cc
@@ -113,7 +112,7 @@ IsOneMore-channels_packets verdict raises sci an (row ∷ rows) distinct there =
         rw (map-at_channel_elsewhere (count_in_channel verdict an) sci rows none) here
     by_test false other later there' = IsOneMore-add_left (channel_packets_of row.counters) _ _ (later there')
 
--- a change that keeps what each channel has counted keeps the sum
+-- a change that keeps each channel's counters keeps the sum
 pub channels_packets-at_channel : (change : ChannelCounters → ChannelCounters) → ((row : ChannelCounters) → (change row).counters ≡ row.counters) →
     (sci : Sci) (rows : List ChannelCounters) →
     channels_packets (map (at_channel change sci) rows) ≡ channels_packets rows

@@ -1,4 +1,4 @@
--- What an endpoint returns for a tagged frame, and the state that it leaves, are those of the machine.
+-- What an endpoint returns for a tagged frame, and its state afterwards, are the machine's.
 use Rattle.std.proofs.Common.{◌≡◌, ℕ, List, length, map, refl, sym}
 use Rattle.std.specs.Prelude.{option_map, Option, None}
 use Rattle.macsec_tag.specs.declared.identifiers.Sci.{Sci}

@@ -1,4 +1,4 @@
--- No two transmit associations have one number, and at most one is enabled, whatever is done.
+-- Whatever the input, no two transmit SAs have the same number, and at most one is enabled.
 use Rattle.std.proofs.Common.{◌≡◌, ◌∙◌, ℕ, Bool, true, false, List, map, refl, sym}
 use Rattle.std.specs.Prelude.{◌==◌, ◌&&◌, not, if◌then◌else◌, Option, Some, None}
 use Rattle.std.proofs.lemmas.Bool.{and_right, eq-eqb, eqb-true}
@@ -16,11 +16,11 @@ pub record TxRowsAgree (rows : List TxRow) : Type 0 where
   pub numbers : NoTwo same_an rows
   pub one_on : NoTwo both_on rows
 
--- numbers stay apart where each association keeps its own
+-- numbers stay distinct if each SA keeps its own
 numbers_kept : (f : TxRow → TxRow) → ((row : TxRow) → (f row).an ≡ row.an) → (rows : List TxRow) → NoTwo same_an rows → NoTwo same_an (map f rows)
 numbers_kept f same rows apart = no_two-map f same_an same_an (λ a b differs. rw (same a, same b) differs) rows apart
 
--- a new association, which is disabled
+-- a new SA is disabled
 pub with_one_more : (keys : List InstalledKey) (rows : List TxRow) (an key next : ℕ) (conf : Bool) → first_refusal (tx_sa_refusals keys rows an key next) ≡ None →
     TxRowsAgree rows → TxRowsAgree (with_tx_sa rows an key next conf)
 with_one_more keys rows an key next conf e agree =
@@ -31,7 +31,7 @@ with_one_more keys rows an key next conf e agree =
       one_on = no_two-with both_on rows new (none_at_all (λ row. row.on && false) (λ row. and_right row.on false refl) rows) agree.one_on;
     }
 
--- the enabled association has the number, and no other one has it
+-- only the enabled SA has the number
 pub with_one_on : (rows : List TxRow) (an : ℕ) → TxRowsAgree rows → TxRowsAgree (with_tx_on rows an)
 with_one_on rows an agree = record {
   numbers = numbers_kept (switch_to an) (λ row. refl) rows agree.numbers;

@@ -1,5 +1,5 @@
--- The next packet number of each association was never used under its key, and no two associations
--- have one key: what commands and sending keep.
+-- Commands and sending keep this: the next packet number of each SA was never used under its key, and no two SAs have
+-- the same key.
 use Rattle.std.proofs.Common.{◌≡◌, ◌⊎◌, inl, inr, ℕ, ◌≤◌, Bool, true, false, List, [], ◌∷◌, ◌++◌, map, filter, refl, ap, sym, subst, ◌∙◌, arith}
 use Rattle.std.specs.Prelude.{◌==◌, ◌||◌, not, if◌then◌else◌, Option, Some, None, IsSome}
 use Rattle.std.proofs.lemmas.Bool.{eqb-false, eq-eqb, ne_eqb, or_parts}
@@ -14,7 +14,7 @@ use Rattle.macsec_secy.proofs.FirstUnused.{first-noting, first-noting_other}
 
 -- ---- other keys
 
--- the keys stay there, each with its first unused number
+-- the keys stay in the table, with the same first unused packet numbers
 pub record KeysStay (keys more : List InstalledKey) : Type 0 where
   pub there : (n : ℕ) → IsSome (key_row keys n) → IsSome (key_row more n)
   pub first : (n : ℕ) → first_unused more n ≡ first_unused keys n
@@ -27,9 +27,9 @@ with_keys keys more stay (row ∷ rows) have = (
   with_keys keys more stay rows have.2,
 )
 
--- ---- other associations
+-- ---- other SAs
 
--- a change of an association that keeps its key and its next packet number
+-- a change of an SA that keeps its key and its next packet number
 pub record KeepsNext (f : TxRow → TxRow) : Type 0 where
   pub key : (row : TxRow) → (f row).key ≡ row.key
   pub next : (row : TxRow) → (f row).next ≡ row.next
@@ -82,7 +82,7 @@ some_left keys p (row ∷ rows) have = by_test (p row) (none-filter (λ r. r.key
 pub without_one : (keys : List InstalledKey) (rows : List TxRow) (an : ℕ) → HaveUnusedNext keys rows → HaveUnusedNext keys (without_tx rows an)
 without_one keys rows an have = some_left keys (λ row. not (row.an == an)) rows have
 
--- an association of another key joins
+-- an SA with another key is added
 pub with_one_more : (keys : List InstalledKey) (rows : List TxRow) (new : TxRow) → HasUnusedNext keys new → tx_uses rows new.key ≡ false →
     HaveUnusedNext keys rows → HaveUnusedNext keys (rows ++ new ∷ [])
 with_one_more keys [] new unused none have = (unused, refl, tt)
@@ -93,7 +93,7 @@ with_one_more keys (row ∷ rows) new unused none have =
       with_one_more keys rows new unused parts.1 have.2,
     )
 
--- ---- an association sends
+-- ---- an SA sends
 
 used_keeps_key : (an : ℕ) (row : TxRow) → (used_at an row).key ≡ row.key
 used_keeps_key an row = by_test (row.an == an)
@@ -109,7 +109,7 @@ next_grows an row = by_test (row.an == an)
     by_test true = omega arith
     by_test false = omega arith
 
--- an association of another key
+-- an SA with another key
 other_used : (keys : List InstalledKey) (by row : TxRow) → (by.key ≡ row.key → ⊥) → HasUnusedNext keys row → HasUnusedNext (keys_noting keys by.key by.next) (used_at by.an row)
 other_used keys by row other unused =
     let same = sym (used_keeps_key by.an row) in
@@ -119,7 +119,7 @@ other_used keys by row other unused =
           (omega (arith, first-noting_other keys by.key by.next row.key other, unused.next, next_grows by.an row));
     }
 
--- that association itself
+-- the sending SA
 own_used : (keys : List InstalledKey) (by : TxRow) → HasUnusedNext keys by → HasUnusedNext (keys_noting keys by.key by.next) (used_at by.an by)
 own_used keys by unused =
     subst (λ b. HasUnusedNext (keys_noting keys by.key by.next) (if b then next_used by else by)) (sym (eq-eqb by.an by.an refl))
@@ -135,7 +135,7 @@ others_used keys by (row ∷ rows) none have =
       others_used keys by rows parts.1 have.2,
     )
 
--- a key that no association uses is not that of the enabled association
+-- a key that no SA uses is not the enabled SA's
 on_has_other_key : (rows : List TxRow) (by : TxRow) (key : ℕ) → row_on rows ≡ Some by → tx_uses rows key ≡ false → (by.key ≡ key → ⊥)
 on_has_other_key [] by key on none = cc
 on_has_other_key (row ∷ rows) by key on none =
@@ -146,7 +146,7 @@ on_has_other_key (row ∷ rows) by key on none =
     by_on true other later on' same = let it : row ≡ by = cc in eqb-false row.key key other (ap (λ r. r.key) it ∙ same)
     by_on false other later on' same = later on' same
 
--- the next number of the enabled association is unused
+-- the next packet number of the enabled SA is unused
 pub on_unused : (keys : List InstalledKey) (rows : List TxRow) (by : TxRow) → row_on rows ≡ Some by → HaveUnusedNext keys rows → HasUnusedNext keys by
 on_unused keys [] by on have = cc
 on_unused keys (row ∷ rows) by on have = by_on row.on (λ on'. on_unused keys rows by on' have.2) on
@@ -155,7 +155,7 @@ on_unused keys (row ∷ rows) by on have = by_on row.on (λ on'. on_unused keys 
     by_on true later on' = let it : row ≡ by = cc in subst (λ r. HasUnusedNext keys r) it have.0
     by_on false later on' = later on'
 
--- each next number is unused after the enabled association has sent
+-- after the enabled SA has sent, each next packet number is unused
 pub after_sending : (keys : List InstalledKey) (rows : List TxRow) (by : TxRow) → row_on rows ≡ Some by → HaveUnusedNext keys rows →
     HaveUnusedNext (keys_noting keys by.key by.next) (map (used_at by.an) rows)
 after_sending keys [] by on have = tt
@@ -173,7 +173,7 @@ after_sending keys (row ∷ rows) by on have = by_on row.on (λ on'. after_sendi
       later on',
     )
 
--- a client frame is sent, by the enabled association, if by any
+-- a client frame is sent, protected by the enabled SA if by any
 pub after_frame : (keys : List InstalledKey) (rows : List TxRow) (by : Option TxRow) → (by ≡ None) ⊎ (by ≡ row_on rows) → HaveUnusedNext keys rows →
     HaveUnusedNext (keys_after keys by) (rows_after rows by)
 after_frame keys rows None which have = have

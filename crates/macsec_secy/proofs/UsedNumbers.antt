@@ -1,5 +1,5 @@
--- Under a key packet numbers rise in the order of their use: each is at least the first that was never used
--- under it, and from then on that is a later one. So none is used twice.
+-- Under each key, packet numbers rise in the order of their use: each is at least the key's first unused one, which
+-- then becomes greater than it. So none is used twice.
 use Rattle.std.proofs.Common.{◌≡◌, ◌≢◌, ◌⊎◌, inl, inr, ℕ, ◌+◌, ◌<◌, ◌≤◌, Bool, true, false, List, [], ◌∷◌, ◌++◌, length, refl, ap, sym, subst, arith, All, AllPairs}
 use Rattle.std.specs.Prelude.{nat_lt, if◌then◌else◌, Option, Some, None}
 use Rattle.std.proofs.lemmas.Bool.{cases_eq}
@@ -25,12 +25,13 @@ use Rattle.macsec_secy.proofs.FirstUnused.{first-noting, first-noting_other}
 use Rattle.macsec_secy.proofs.UnusedNext.{after_frame, on_unused}
 use Rattle.macsec_secy.proofs.AfterCommands.{effect_keeps, effect_stays}
 
--- each number is at least the first that the keys have not used, and they rise under each key
+-- each packet number is at least its key's first unused one, and they rise under each key
 record AreNew (keys : List InstalledKey) (used : List UsedNumber) : Type 0 where
   late : All (λ u. first_unused keys u.0 ≤ u.1) used
   rising : AllPairs RisesUnderOneKey used
 
--- from keys to keys and associations: what is used on the way is new, with what is used later
+-- when the keys become `keys_then` and the SAs `rows_then`: the packet numbers used on the way are new, also together with
+-- those used later
 record Goes (keys : List InstalledKey) (keys_then : List InstalledKey) (rows_then : List TxRow) (used : List UsedNumber) : Type 0 where
   keeps : HaveUnusedNext keys_then rows_then
   adds : (later : List UsedNumber) → AreNew keys_then later → AreNew keys (used ++ later)
@@ -53,7 +54,7 @@ command_goes s c have (Some r) e = record { keeps = have; adds = λ later new. n
 
 -- ---- frames
 
--- where a number is used the first unused one of its key grows, and every other one stays
+-- when a packet number is used, its key's first unused one grows, and every other key's stays
 noting_grows : (keys : List InstalledKey) (row : TxRow) → HasUnusedNext keys row → (n : ℕ) → first_unused keys n ≤ first_unused (keys_noting keys row.key row.next) n
 noting_grows keys row unused n = by_key (cases_eq row.key n)
   where
@@ -86,7 +87,7 @@ sending_goes keys rows (Some row) (inr on) have = record {
   adds = row_adds keys row (on_unused keys rows row (sym on) have);
 }
 
--- a frame is protected by the enabled association, if by any: it may be exhausted, or the protected frame too long
+-- only the enabled SA protects a frame, unless it is exhausted or the protected frame is too long
 abbrev unless_dropped : Bool → Bool → Sending → Sending
 unless_dropped exhausted long sent = if exhausted then not_protected no_sa else if long then not_protected too_long else sent
 

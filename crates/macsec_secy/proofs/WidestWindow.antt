@@ -1,4 +1,4 @@
--- The widest replay window beside the keys, as keys come and change.
+-- The widest replay window that the keys allow, when keys are installed and changed.
 use Rattle.std.proofs.Common.{◌≡◌, ℕ, ◌≤◌, Bool, true, false, List, [], ◌∷◌, ◌++◌, map, refl, sym, subst, arith}
 use Rattle.std.specs.Prelude.{◌==◌, ◌&&◌, ◌||◌, nat_lt, if◌then◌else◌}
 use Rattle.std.specs.List.{list_any}
@@ -9,7 +9,7 @@ use Rattle.macsec_suite.specs.Suites.{is_xpn, widest_extended_window, widest_sho
 use Rattle.macsec_suite.specs.KeyRows.{InstalledKey, at_number, is_extended, keys_noting, keys_retiring, keys_with, new_row, retired_row, row_noting, widest_beside}
 use Rattle.macsec_suite.specs.Refusals.{is_too_wide}
 
--- by whether packet numbers are extended under one of the keys
+-- the widest window, by whether packet numbers are extended under one of the keys
 abbrev widest_if : Bool → ℕ
 widest_if extended = if extended then widest_extended_window else widest_short_window
 
@@ -38,9 +38,9 @@ with_one_more suite keys key window fits within =
     by_tests false true within' fits' = ltb-false widest_extended_window window fits'
     by_tests false false within' fits' = within'
 
--- ---- a key that changes
+-- ---- a key changes
 
--- if packet numbers are extended under it after the change, they were before
+-- if packet numbers are extended under the changed key, they were before
 abbrev ExtendsNone : (InstalledKey → InstalledKey) → Type 0
 ExtendsNone change = (key : InstalledKey) → is_extended (change key) ≡ true → is_extended key ≡ true
 

@@ -1,5 +1,5 @@
--- The law on acceptance: the frame that one endpoint sends for a client frame is passed by another endpoint that has
--- its association, and gives the client frame.
+-- The law of acceptance: a frame that one endpoint sends for a client frame is accepted by an endpoint that has the
+-- matching SA, and gives the client frame.
 use Rattle.std.specs.Prelude.{◌≡◌, ◌≢◌, ◌≤◌, ◌<◌, ◌+◌, ◌^◌, ℕ, List, [], ◌++◌, length, true, Some, None}
 use Rattle.macsec_tag.specs.declared.identifiers.Sci.{Sci}
 use Rattle.macsec_tag.specs.Frame.{MpduParts, in_a_row}
@@ -18,9 +18,8 @@ use Rattle.macsec_secy.specs.State.{State, tx_options}
 use Rattle.macsec_secy.specs.Step.{frame_fault, link_frame, received, sending_of, step}
 use Rattle.macsec_secy.specs.Sound.{IsSound}
 
--- the key of a receive association matches that of a transmit association: it has its bytes, suite and offset, and with
--- extended packet numbers its salt; then the SSCI of the receive association is the own SSCI of the transmit
--- association's key
+-- the key of a receive SA matches a transmit SA's key: the bytes, suite and offset are the same; with extended packet
+-- numbers the salt is too, and the receive SA's SSCI is the own SSCI of the transmit SA's key
 pub record HasSameKey (sender receiver : InstalledKey) (of_row : ℕ) : Type 0 where
   pub bytes : receiver.bytes ≡ sender.bytes
   pub suite : receiver.suite ≡ sender.suite
@@ -28,9 +27,9 @@ pub record HasSameKey (sender receiver : InstalledKey) (of_row : ℕ) : Type 0 w
   pub salt : is_xpn sender.suite ≡ true → receiver.salt ≡ sender.salt
   pub ssci : is_xpn sender.suite ≡ true → of_row ≡ sender.ssci
 
--- the receiver validates; the SCI of the parts that the sender's association gives is the sender's; the receiver's
--- association with it and with their association number is enabled, and has the key; and the packet number is not late,
--- nor, if it is extended, too high to be recovered
+-- the receiver validates frames; the SCI that it finds for the sender's frame is the sender's; its SA with that SCI and
+-- association number is enabled, and its key matches; the packet number is not late nor, if it is extended, too high to
+-- be recovered
 pub record CanAccept (sender receiver : State) (tx : TxRow) (rx : RxRow) (p : MpduParts) : Type 0 where
   pub not_disabled : receiver.options.mode ≢ Disabled
   pub sci : sci_of receiver.rx.scis p ≡ Some sender.config.sci
@@ -39,26 +38,26 @@ pub record CanAccept (sender receiver : State) (tx : TxRow) (rx : RxRow) (p : Mp
   pub not_late : rx.lowest ≤ tx.next
   pub near : is_xpn (the_key sender.keys tx.key).suite ≡ true → tx.next < rx.lowest + 2 ^ 31
 
--- octets may come after a frame of these parts, as padding does: if SL is 0 there are none, and the frame with them is
--- not too long
+-- these octets, for example padding, may follow a frame of these parts: if its SL is 0 there are none, and the frame
+-- with them has at most 9,248 octets
 pub record CanComeBehind (p : MpduParts) (behind : List ℕ) : Type 0 where
   pub none : p.tag.sl ≡ 0 → behind ≡ []
   pub most : length (in_a_row p ++ behind) ≤ max_frame_len
 
--- the output for the frame is that it is passed, from the association at this place, and gives the client frame
+-- the frame passes, on the SA with this SCI and number, and the client frame is delivered
 abbrev pub IsPassed : State → Sci → ℕ → List ℕ → List ℕ → Type 0
 IsPassed receiver sci an frame client = (step receiver (link_frame frame)).0 ≡ received Passed (Some (sci, an)) frame (Some client)
 
--- the parts of the frame that the sender's association makes of a client frame
+-- the parts of the frame that the sender's SA makes of a client frame
 abbrev pub parts_of : State → List ℕ → TxRow → MpduParts
 parts_of sender client tx = parts_sent (tx_options sender) (the_key sender.keys tx.key) tx client
 
--- octets behind a frame are its padding
+-- the octets after a frame are its padding
 abbrev pub padded_by : MpduParts → List ℕ → MpduParts
 padded_by p behind = record p { padding = behind }
 
--- the frame, with the octets behind it, is passed; it is read as its parts; step 13 decides, for this association and with
--- the sender's packet number; and the use of the cipher that is opened is the one that was sealed
+-- the frame, with the octets after it, passes; it is read as its parts; step 13 decides, for this SA and with the
+-- sender's packet number; and the cipher opens exactly what the sender sealed
 pub record IsAccepted (sender receiver : State) (client : List ℕ) (tx : TxRow) (rx : RxRow) (behind : List ℕ) : Type 0 where
   pub passed : IsPassed receiver sender.config.sci tx.an (in_a_row (parts_of sender client tx) ++ behind) client
   pub reads : reading (in_a_row (parts_of sender client tx) ++ behind) ≡ tagged (padded_by (parts_of sender client tx) behind)

@@ -1,4 +1,4 @@
--- What the calls of an endpoint return, as outputs of the machine.
+-- The results of an endpoint's calls, as outputs of the machine.
 use Rattle.std.specs.Prelude.{◌≡◌, ℕ, List, Option, Some, None, Result, Ok, Err, option_and_then, option_map, find}
 use Rattle.std.specs.Borrow.{Bor}
 use Rattle.macsec_suite.specs.declared.refusal.Refusal.{Refusal}
@@ -20,52 +20,52 @@ use Rattle.macsec_secy.specs.State.{State, start}
 use Rattle.macsec_commands.specs.Configs.{config_fault}
 use Rattle.macsec_secy.specs.Step.{Output, done, refused, leaves, dropped_no_sa, dropped_too_long, received, fault}
 
--- of `command`
+-- the result of `command`
 abbrev pub output_of_command : {A : Type 0} → Result A Refusal → Output
 output_of_command (Ok nothing) = done
 output_of_command (Err r) = refused r
 
--- nothing leaves, for this reason
+-- nothing is sent, for this reason
 abbrev pub drop_output : DropReason → Output
 drop_output NoSa = dropped_no_sa
 drop_output TooLong = dropped_too_long
 
--- of `send`
+-- the result of `send`
 abbrev pub output_of_sent : Result Sent FrameFault → Output
 output_of_sent (Ok (Link frame under)) = leaves frame.now under
 output_of_sent (Ok (Dropped reason)) = drop_output reason
 output_of_sent (Err f) = fault f
 
--- of `receive`
+-- the result of `receive`
 abbrev pub output_of_received : Result Received FrameFault → Output
 output_of_received (Ok r) = received r.verdict r.row r.uncontrolled.now (option_map (λ (f : Bor (List ℕ)). f.now) r.controlled)
 output_of_received (Err f) = fault f
 
--- of `send_uncontrolled`
+-- the result of `send_uncontrolled`
 abbrev pub output_of_frame : Result (Bor (List ℕ)) FrameFault → Output
 output_of_frame (Ok frame) = leaves frame.now None
 output_of_frame (Err f) = fault f
 
--- of `new`: the state at creation, or the fault of the configuration, or, if it has none, out of memory
+-- the result of `new`: the state at creation; or the configuration's fault; or, if it has none, out of memory
 abbrev pub MakesEndpoint : EndConfig → Result State NewFault → Type 0
 MakesEndpoint config (Ok s) = (config_fault config ≡ None) × (s ≡ start config)
 MakesEndpoint config (Err Memory) = config_fault config ≡ None
 MakesEndpoint config (Err MaxFrame) = config_fault config ≡ Some MaxFrame
 MakesEndpoint config (Err SciForm) = config_fault config ≡ Some SciForm
 
--- what the channel with this SCI and its associations have counted, where there is one
+-- the counters of the channel with this SCI and of its SAs, if it exists
 abbrev pub channel_counters_of : List ChannelCounters → Sci → Option ChannelCounters
 channel_counters_of rows sci = find (λ row. same_sci row.sci sci) rows
 
--- the counters of a channel, where there is one
+-- the channel's counters, if it exists
 abbrev pub rx_counters_of : List ChannelCounters → Sci → Option RxCounters
 rx_counters_of rows sci = option_map (λ (row : ChannelCounters). row.counters) (channel_counters_of rows sci)
 
--- the counters of its association of this number, where there is one
+-- the counters of its SA with this number, if it exists
 abbrev pub rx_sa_counters_of : List ChannelCounters → Sci → ℕ → Option RxCounters
 rx_sa_counters_of rows sci an =
     option_and_then (λ (row : ChannelCounters). counters_at row.associations an) (channel_counters_of rows sci)
 
--- what its deleted associations had counted, where there is a channel
+-- the sums of the counters of its deleted SAs, if the channel exists
 abbrev pub rx_removed_of : List ChannelCounters → Sci → Option RxCounters
 rx_removed_of rows sci = option_map (λ (row : ChannelCounters). row.removed) (channel_counters_of rows sci)

@@ -1,5 +1,4 @@
--- Management commands: why each is refused, in the order of the tests, and what it does
--- (IEEE 802.1AE, 10.7).
+-- Management commands: what each does, and why it is refused, in the order of the tests (IEEE 802.1AE, 10.7).
 use Rattle.std.specs.Prelude.{ℕ, List, [], ◌∷◌, ◌++◌, filter, map, nat_lt, Bool, true, false, not, ◌||◌, Option, Some, None}
 use Rattle.macsec_suite.specs.KeyRows.{keys_with, keys_retiring, suite_of, widest_beside}
 use Rattle.macsec_suite.specs.declared.refusal.Refusal.{Refusal}
@@ -16,7 +15,7 @@ use Rattle.macsec_commands.specs.Configs.{is_unfit}
 use Rattle.macsec_secy.specs.State.{State}
 use Rattle.macsec_secy.specs.Counting.{at_channel, new_channel_counters, with_association, without_association}
 
--- an association uses the key
+-- an SA uses the key
 abbrev pub uses : State → ℕ → Bool
 uses s key = tx_uses s.tx key || rx_uses s.rx.rows key
 
@@ -40,7 +39,7 @@ refusals s (RxOff sci an) = rx_row_refusals s.rx sci an
 refusals s (RxLow sci an pn) = rx_low_refusals s.keys s.rx sci an pn
 refusals s (RxDel sci an) = rx_row_refusals s.rx sci an
 
--- what a command does that is not refused
+-- what a command does if it is not refused
 abbrev pub effect : State → Command → State
 effect s (Protect on) = record s { options = record s.options { protect = on } }
 effect s (Validate mode) = record s { options = record s.options { mode = mode } }
@@ -75,11 +74,11 @@ effect s (RxDel sci an) = record s {
   rx_counters = map (at_channel (without_association an) sci) s.rx_counters;
 }
 
--- why a command is refused, where it is
+-- why a command is refused, if it is
 abbrev pub refusal : State → Command → Option Refusal
 refusal s c = first_refusal (refusals s c)
 
--- the state after a command: that of its effect, and after a refusal the same
+-- the state after a command: unchanged if it is refused
 abbrev pub unless_refused : Option Refusal → State → Command → State
 unless_refused None s c = effect s c
 unless_refused (Some r) s c = s

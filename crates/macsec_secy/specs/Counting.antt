@@ -1,4 +1,4 @@
--- Counters, of 64 bits: which of them a client frame raises, and which a link frame (IEEE 802.1AE, 10.7).
+-- Counters, of 64 bits: which of them a client frame raises, and which a link frame raises (IEEE 802.1AE, 10.7).
 use Rattle.std.specs.Prelude.{ℕ, ◌+◌, ◌-◌, ◌%◌, ◌^◌, List, [], ◌∷◌, length, slice_index_or, slice_set, Bool, if◌then◌else◌, Option, Some, None, option_map, unwrap_or}
 use Rattle.macsec_tx.specs.declared.TxRow.{TxRow}
 use Rattle.macsec_tx.specs.Transmit.{Leaving, plain, protected, no_sa, too_long}
@@ -16,31 +16,31 @@ use Rattle.macsec_secy.specs.State.{no_rx_counters}
 abbrev pub plus : ℕ → ℕ → ℕ
 plus counter n = (counter + n) % 2 ^ 64
 
--- the endpoint's counters after a client frame: one counts a frame that is sent as it is or dropped, and none a frame
--- that is sent protected
+-- the endpoint's counters after a client frame: one counts a frame that is sent unprotected or dropped; none counts a
+-- frame that is sent protected
 abbrev pub count_leaving : Leaving → Counters → Counters
 count_leaving plain c = record c { out_pkts_untagged = plus c.out_pkts_untagged 1 }
 count_leaving (protected key frame) c = c
 count_leaving no_sa c = record c { out_pkts_no_sa = plus c.out_pkts_no_sa 1 }
 count_leaving too_long c = record c { out_pkts_too_long = plus c.out_pkts_too_long 1 }
 
--- the transmit channel's counters after a protected frame of this many octets of data, of which those
--- before the confidentiality offset count too; `conf` says whether the association encrypts
+-- the transmit channel's counters after a protected frame with this many octets of data, including those before the
+-- confidentiality offset; `conf`: the SA encrypts
 abbrev pub count_octets : Bool → ℕ → TxCounters → TxCounters
 count_octets conf octets c =
     if conf
     then record c { out_pkts_encrypted = plus c.out_pkts_encrypted 1; out_octets_encrypted = plus c.out_octets_encrypted octets }
     else record c { out_pkts_protected = plus c.out_pkts_protected 1; out_octets_protected = plus c.out_octets_protected octets }
 
--- the transmit channel's counters after a client frame, with the association that protects it, if one does; its data
--- are all but DA and SA
+-- the transmit channel's counters after a client frame, with the SA that protects it, if one does; the data is the
+-- frame without DA and SA (the addresses)
 abbrev pub count_protected : Option TxRow → List ℕ → TxCounters → TxCounters
 count_protected None frame c = c
 count_protected (Some row) frame c = count_octets row.conf (length frame - 12) c
 
 -- ---- received frames
 
--- the endpoint's counter of a verdict that no channel counts
+-- the endpoint's counters after a frame with this verdict; from `Late` on, channels count instead
 abbrev pub count_packet : Verdict → Counters → Counters
 count_packet Untagged c = record c { in_pkts_untagged = plus c.in_pkts_untagged 1 }
 count_packet NoTag c = record c { in_pkts_no_tag = plus c.in_pkts_no_tag 1 }
@@ -55,7 +55,7 @@ count_packet Delayed c = c
 count_packet Invalid c = c
 count_packet Passed c = c
 
--- the counter of a verdict, of a channel or of an association
+-- the counters of a channel or of an SA after a frame with this verdict
 abbrev pub count_verdict : Verdict → RxCounters → RxCounters
 count_verdict Passed c = record c { in_pkts_ok = plus c.in_pkts_ok 1 }
 count_verdict Unchecked c = record c { in_pkts_unchecked = plus c.in_pkts_unchecked 1 }
@@ -70,35 +70,35 @@ count_verdict Reserved c = c
 count_verdict NoSa c = c
 count_verdict NoSaError c = c
 
--- the counters of the association of this number, if there is one
+-- the counters of the SA with this number, if it exists
 abbrev pub counters_at : List (Option RxCounters) → ℕ → Option RxCounters
 counters_at associations an = slice_index_or associations an None
 
--- the verdict is counted by the association of this number
+-- the SA with this number counts the verdict
 abbrev pub count_in_association : Verdict → ℕ → List (Option RxCounters) → List (Option RxCounters)
 count_in_association verdict an associations =
     slice_set associations an (option_map (count_verdict verdict) (counters_at associations an))
 
--- the frame is counted by its channel
+-- the channel and its SA with this number count the frame
 abbrev pub count_in_channel : Verdict → ℕ → ChannelCounters → ChannelCounters
 count_in_channel verdict an row = record row {
   counters = count_verdict verdict row.counters;
   associations = count_in_association verdict an row.associations;
 }
 
--- a change of the counters of the channel with this SCI
+-- changes the counters of the channel with this SCI
 abbrev pub at_channel : (ChannelCounters → ChannelCounters) → Sci → ChannelCounters → ChannelCounters
 at_channel change sci row = if same_sci row.sci sci then change row else row
 
--- the endpoint's counters of the octets that the cipher was applied to
+-- the endpoint's counters of octets after the cipher was applied to this many
 abbrev pub count_octets_received : Bool → ℕ → Counters → Counters
 count_octets_received e octets c =
     if e then record c { in_octets_decrypted = plus c.in_octets_decrypted octets }
     else record c { in_octets_validated = plus c.in_octets_validated octets }
 
--- ---- receive associations that are created and deleted
+-- ---- receive SAs that are created and deleted
 
--- the sums of the counters, name by name
+-- the sum of each counter
 abbrev pub added : RxCounters → RxCounters → RxCounters
 added a b = record {
   in_pkts_ok = plus a.in_pkts_ok b.in_pkts_ok;
@@ -109,13 +109,13 @@ added a b = record {
   in_pkts_not_valid = plus a.in_pkts_not_valid b.in_pkts_not_valid;
 }
 
--- the sums over the associations that there are
+-- the sums over the SAs that exist
 abbrev pub sum_of : List (Option RxCounters) → RxCounters
 sum_of [] = no_rx_counters
 sum_of (None ∷ associations) = sum_of associations
 sum_of (Some counters ∷ associations) = added counters (sum_of associations)
 
--- a channel is created without associations, and has counted nothing
+-- a new channel has no SAs and has counted nothing
 abbrev pub new_channel_counters : Sci → ChannelCounters
 new_channel_counters sci = record {
   sci = sci;
@@ -124,11 +124,11 @@ new_channel_counters sci = record {
   removed = no_rx_counters;
 }
 
--- an association is created, and has counted nothing
+-- a new SA has counted nothing
 abbrev pub with_association : ℕ → ChannelCounters → ChannelCounters
 with_association an row = record row { associations = slice_set row.associations an (Some no_rx_counters) }
 
--- an association is deleted, and what it has counted is added to what the deleted ones had counted
+-- an SA is deleted, and its counters are added to those of the deleted ones
 abbrev pub without_association : ℕ → ChannelCounters → ChannelCounters
 without_association an row = record row {
   associations = slice_set row.associations an None;

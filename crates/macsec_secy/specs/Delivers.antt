@@ -1,4 +1,4 @@
--- A law of delivery: what is known of the association from which a frame is delivered.
+-- A law of delivery: what is known of the SA from which a frame is delivered.
 use Rattle.std.specs.Prelude.{◌≡◌, ◌≢◌, ◌≤◌, ◌<◌, ◌+◌, ◌^◌, ℕ, List, length, ◌==◌, true, Option, Some, None}
 use Rattle.macsec_tag.specs.Frame.{MpduParts}
 use Rattle.macsec_tag.specs.Table.{Reading, tagged, reading}
@@ -14,13 +14,13 @@ use Rattle.macsec_secy.specs.Reception.{judgement_of}
 use Rattle.macsec_secy.specs.Sound.{IsSound}
 use Rattle.macsec_secy.specs.State.{State}
 
--- the association enabled for a frame that reads so
+-- the SA enabled for a frame with this reading
 abbrev pub used_in : State → Reading → Option RxRow
 used_in s (tagged p) = in_use s.rx.rows p.tag.an (sci_of s.rx.scis p)
 used_in s r = None
 
--- the association's key is in the table; its SCI has 8 octets and its SSCI 32 bits; the SCI is not the endpoint's own, nor
--- is the SSCI the key's own if packet numbers are extended
+-- the SA's key is in the table; its SCI has 8 octets and its SSCI 32 bits; the SCI is not the endpoint's own; with
+-- extended packet numbers, the SSCI is not the key's own
 pub record IsOfOtherSender (s : State) (row : RxRow) : Type 0 where
   pub key : IsKeyOf s.keys row.key (the_key s.keys row.key)
   pub sci_count : length row.sci.0 ≡ 8
@@ -28,7 +28,7 @@ pub record IsOfOtherSender (s : State) (row : RxRow) : Type 0 where
   pub other_sci : s.config.sci ≢ row.sci
   pub other_ssci : is_xpn (the_key s.keys row.key).suite ≡ true → (the_key s.keys row.key).ssci ≢ row.ssci
 
--- step 13 opened the plaintext of what is delivered, by the use of the cipher with the recovered packet number
+-- step 13 decided, and opened the frame with the recovered packet number; the plaintext gives the delivered frame
 pub record IsOpened (s : State) (frame : List ℕ) (row : RxRow) (delivered : List ℕ) : Type 0 where
   pub p : MpduParts
   pub reads : reading frame ≡ tagged p
@@ -38,9 +38,9 @@ pub record IsOpened (s : State) (frame : List ℕ) (row : RxRow) (delivered : Li
   pub opens : plaintext_of (the_key s.keys row.key) row (judgement_of s frame).number p ≡ Some plaintext
   pub gives : opened_frame (the_key s.keys row.key) p plaintext ≡ delivered
 
--- the association is the one that is enabled for the frame, and the one at its place; it is another sender's; if replay
--- protection is enabled the packet number is not late; its next packet number is above its lowest acceptable one by the
--- replay window at most; after step 13 it is above the frame's; in the mode Strict step 13 opened the frame
+-- the SA is the one enabled for the frame, and the one with its SCI and number; it belongs to another sender; if replay
+-- protection is enabled, the packet number is not late; the SA's next packet number exceeds its lowest acceptable one
+-- by at most the replay window; after step 13 it is above the frame's; in the mode Strict step 13 opened the frame
 pub record IsDeliveredFrom (s : State) (frame : List ℕ) (row : RxRow) (delivered : List ℕ) : Type 0 where
   pub in_use : used_in s (reading frame) ≡ Some row
   pub at_place : rx_row s.rx.rows row.sci row.an ≡ Some row

@@ -1,4 +1,4 @@
--- Laws of a step: how keys are told apart, and what a step keeps of keys and of receive associations.
+-- Laws of a step: keys are distinct, and what a step keeps of keys and of receive SAs.
 use Rattle.std.specs.Prelude.{◌≡◌, ◌≤◌, ℕ, List, ◌==◌, ◌&&◌, Bool, false, Some, IsSome, Contains}
 use Rattle.std.specs.List.{All}
 use Rattle.macsec_tag.specs.declared.identifiers.Sci.{Sci}
@@ -12,20 +12,20 @@ use Rattle.macsec_secy.specs.Step.{Input, operator_command, step}
 
 -- ---- keys
 
--- the key of this number is in the table
+-- this key is in the table, with this number
 pub record IsKeyOf (keys : List InstalledKey) (n : ℕ) (key : InstalledKey) : Type 0 where
   pub there : Contains keys key
   pub number : key.number ≡ n
 
--- each key has the bounds of a row; it is found by its number, and what is found by a number is the key of that number;
--- keys of the same bytes are the same key
+-- each key meets the bounds of a row; it is found by its number, and a key found by a number has that number; keys with
+-- the same bytes are the same key
 pub record KeysAreApart (keys : List InstalledKey) : Type 0 where
   pub rows : All IsKeyRow keys
   pub by_number : (key : InstalledKey) → Contains keys key → key_row keys key.number ≡ Some key
   pub found : (number : ℕ) → IsSome (key_row keys number) → IsKeyOf keys number (the_key keys number)
   pub by_bytes : (x y : InstalledKey) → Contains keys x → Contains keys y → x.bytes ≡ y.bytes → x ≡ y
 
--- a key as it was installed, whose first unused packet number has not fallen
+-- the key later: all of these fields are as it was installed, and its first unused packet number has not fallen
 pub record IsLaterKey (key later : InstalledKey) : Type 0 where
   pub number : later.number ≡ key.number
   pub suite : later.suite ≡ key.suite
@@ -45,13 +45,13 @@ pub record KeysStay (s after : State) : Type 0 where
   pub config : after.config ≡ s.config
   pub keys : (key : InstalledKey) → Contains s.keys key → KeyStaysIn after.keys key
 
--- ---- receive associations
+-- ---- receive SAs
 
--- each is the one of its channel and its number
+-- each SA is found by its channel and number
 abbrev pub RxRowsAreApart : List RxRow → Type 0
 RxRowsAreApart rows = (row : RxRow) → Contains rows row → rx_row rows row.sci row.an ≡ Some row
 
--- the command deletes the association of this channel and of this number, if it is there
+-- the command deletes the SA with this channel and number, if it exists
 abbrev pub deletes : Sci → ℕ → Command → Bool
 deletes sci an (RxScDel of_sci) = same_sci sci of_sci
 deletes sci an (RxDel of_sci of_an) = same_sci sci of_sci && an == of_an
@@ -61,12 +61,12 @@ abbrev pub is_deleting : Sci → ℕ → Input → Bool
 is_deleting sci an (operator_command c) = deletes sci an c
 is_deleting sci an input = false
 
--- the association of this channel and of this number is there, and its next packet number is at least n
+-- the SA with this channel and number exists, and its next packet number is at least n
 pub record IsAbove (rows : List RxRow) (sci : Sci) (an n : ℕ) : Type 0 where
   pub row : RxRow
   pub there : rx_row rows sci an ≡ Some row
   pub above : n ≤ row.next
 
--- until it is deleted there is an association of its channel and number, whose next packet number is no lower
+-- until it is deleted, an SA with its channel and number exists, and its next packet number is no lower
 abbrev pub RxRowStays : State → Input → Sci → ℕ → ℕ → Type 0
 RxRowStays s input sci an n = is_deleting sci an input ≡ false → IsAbove s.rx.rows sci an n → IsAbove (step s input).1.rx.rows sci an n

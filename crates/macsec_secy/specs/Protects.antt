@@ -1,4 +1,4 @@
--- A law of protection: what is known of the association that protects a client frame.
+-- A law of protection: what is known of the SA that protects a client frame.
 use Rattle.std.specs.Prelude.{◌≡◌, ◌≤◌, ℕ, List, length, Some, None, IsSome, Contains}
 use Rattle.macsec_tag.specs.Tag.{IsTag}
 use Rattle.macsec_tag.specs.Frame.{MpduParts}
@@ -14,14 +14,14 @@ use Rattle.macsec_secy.specs.Sound.{IsSound}
 use Rattle.macsec_secy.specs.State.{State, tx_options}
 use Rattle.macsec_secy.specs.Step.{client_frame, frame_fault, sending_of, step}
 
--- whatever parts are opened by this use of the cipher, under whatever key and IV, what they give is this frame
+-- whoever opens this use of the cipher, with whatever key, IV and parts, gets this frame
 abbrev pub OpensAs : CipherUse → List ℕ → Type 0
 OpensAs use_of_cipher frame =
     (key : InstalledKey) (iv : List ℕ) (p : MpduParts) (plaintext : List ℕ) → IsTag p.tag → length p.da ≡ 6 → length p.sa ≡ 6 →
     cipher_use key iv p ≡ use_of_cipher → plaintext_of_use use_of_cipher ≡ Some plaintext → opened_frame key p plaintext ≡ frame
 
--- the association's key is in the table; its packet number was never used under the key, is at most the last of the suite, and is used
--- afterwards; the protected frame is read as the parts that were sent; and what opens of it, at whichever end, is the
+-- the SA's key is in the table; its packet number was never used under the key, is at most the suite's last one, and is
+-- recorded as used afterwards; the protected frame is read as the parts that were sent; and whoever opens it gets the
 -- client frame
 pub record IsProtection (s : State) (frame : List ℕ) (row : TxRow) : Type 0 where
   pub there : IsSome (key_row s.keys row.key)

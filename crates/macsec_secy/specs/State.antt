@@ -14,9 +14,9 @@ use Rattle.macsec_secy.specs.declared.counters.TxCounters.{TxCounters}
 use Rattle.macsec_secy.specs.declared.counters.RxCounters.{RxCounters}
 use Rattle.macsec_secy.specs.declared.counters.ChannelCounters.{ChannelCounters}
 
--- the configuration; the options; the keys, in the order of their installation; the transmit associations, in the order
--- of their creation; the receive channels with their associations; the counters of the endpoint, of its transmit
--- channel, and of each receive channel with its associations
+-- the configuration; the options; the keys, in order of installation; the transmit SAs, in order of creation; the
+-- receive channels with their SAs; the counters of the endpoint, of its transmit channel, and of each receive channel
+-- with its SAs
 pub record State : Type 0 where
   pub config : EndConfig
   pub options : Options
@@ -27,7 +27,7 @@ pub record State : Type 0 where
   pub tx_counters : TxCounters
   pub rx_counters : List ChannelCounters
 
--- counters that have counted nothing
+-- counters of 0
 abbrev pub no_counters : Counters
 no_counters = record {
   in_pkts_untagged = 0;
@@ -77,7 +77,7 @@ start config = record {
 abbrev pub has_many : List Sci → Bool
 has_many scis = nat_lt 1 (length scis)
 
--- what transmission depends on
+-- the options that transmission depends on
 abbrev pub tx_options : State → TxOptions
 tx_options s = record {
   protect = s.options.protect;
@@ -87,7 +87,7 @@ tx_options s = record {
   many = has_many s.rx.scis;
 }
 
--- what reception depends on
+-- the options that reception depends on
 abbrev pub rx_options : State → RxOptions
 rx_options s = record {
   mode = s.options.mode;

@@ -14,7 +14,7 @@ use Rattle.macsec_secy.specs.Counting.{count_leaving, count_protected}
 use Rattle.macsec_secy.specs.Commands.{refusal, state_after_command}
 use Rattle.macsec_secy.specs.Reception.{judgement_of, state_after_receiving}
 
--- what is sent for a client frame, and the association that protects it
+-- what is sent for a client frame, and the SA that protects it
 abbrev pub sending_of : State → List ℕ → Sending
 sending_of s frame = sending (tx_options s) s.keys s.tx frame
 
@@ -27,15 +27,15 @@ state_after_sending s frame sent = record s {
   tx_counters = count_protected sent.by frame s.tx_counters;
 }
 
--- the inputs: a management command, a client frame of the controlled port, a client frame of the uncontrolled port, or
--- a frame from the link
+-- the inputs: a management command, a client frame from the controlled port, a client frame from the uncontrolled port,
+-- or a frame from the link
 pub data Input : Type 0 where
   operator_command : Command → Input
   client_frame : List ℕ → Input
   uncontrolled_frame : List ℕ → Input
   link_frame : List ℕ → Input
 
--- the outputs; a frame that is sent comes with the number of the key that protects it, if one does
+-- the outputs; a protected frame has the number of the key that protects it
 pub data Output : Type 0 where
   done : Output
   refused : Refusal → Output
@@ -46,7 +46,7 @@ pub data Output : Type 0 where
   received : (verdict : Verdict) → (row : Option (Sci × ℕ)) → (shown : List ℕ) → (controlled : Option (List ℕ)) → Output
   fault : FrameFault → Output
 
--- the fault of a frame that is shorter than the shortest one, or longer than the longest; it changes nothing
+-- a frame shorter than 14 or longer than 9,248 octets has a fault, and changes nothing
 abbrev pub frame_fault : List ℕ → Option FrameFault
 frame_fault frame =
     if nat_lt (length frame) min_frame_len then Some Short
@@ -69,7 +69,7 @@ sent_output frame too_long = dropped_too_long
 abbrev pub received_output : List ℕ → Judgement → Output
 received_output frame j = received j.verdict (option_map place_of j.row) frame j.delivered
 
--- the output and the state after, or the fault of a frame and the same state
+-- the output and the state after; for a frame with a fault, the fault and the same state
 abbrev pub unless_fault : Option FrameFault → State → Output × State → Output × State
 unless_fault None s answer = answer
 unless_fault (Some f) s answer = (fault f, s)

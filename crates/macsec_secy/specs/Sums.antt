@@ -1,6 +1,6 @@
--- The sum law of a received frame's counters (IEEE 802.1AE, 10.7): each received frame raises the sum of the counters
--- of received packets, of the endpoint and of all channels, modulo 2^64, by one. Nothing else changes it but the
--- deletion of a channel.
+-- The sum law for received frames (IEEE 802.1AE, 10.7): each received frame raises the sum of the received-packet
+-- counters of the endpoint and all its channels by one, modulo 2^64. Only the deletion of a channel changes it
+-- otherwise.
 use Rattle.std.specs.Prelude.{◌≡◌, ◌+◌, ◌%◌, ◌^◌, ℕ, Bool, false, if◌then◌else◌, is_some, not}
 use Rattle.std.specs.List.{sum_by}
 use Rattle.macsec_secy.specs.declared.counters.Counters.{Counters}
@@ -11,12 +11,12 @@ use Rattle.macsec_secy.specs.Counting.{plus}
 use Rattle.macsec_secy.specs.Commands.{refusal}
 use Rattle.macsec_secy.specs.Step.{Input, operator_command, client_frame, uncontrolled_frame, link_frame, frame_fault, step}
 
--- the received packets that the endpoint counts
+-- the number of received packets that the endpoint counted
 abbrev pub packets_of : Counters → ℕ
 packets_of c =
     c.in_pkts_untagged + c.in_pkts_no_tag + c.in_pkts_bad_tag + c.in_pkts_reserved + c.in_pkts_no_sa + c.in_pkts_no_sa_error
 
--- the received packets that a channel counts
+-- the number of received packets that a channel counted
 abbrev pub channel_packets_of : RxCounters → ℕ
 channel_packets_of c =
     c.in_pkts_ok + c.in_pkts_unchecked + c.in_pkts_delayed + c.in_pkts_late + c.in_pkts_invalid + c.in_pkts_not_valid
@@ -25,7 +25,7 @@ channel_packets_of c =
 abbrev pub frames_counted : State → ℕ
 frames_counted s = (packets_of s.counters + sum_by (λ row. channel_packets_of row.counters) s.rx_counters) % 2 ^ 64
 
--- by how much an input raises it: a received frame that is not at fault by one
+-- by how much an input raises the sum: a received frame without a fault by one
 abbrev pub frames_added : Input → ℕ
 frames_added (operator_command c) = 0
 frames_added (client_frame frame) = 0

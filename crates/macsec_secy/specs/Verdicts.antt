@@ -1,4 +1,4 @@
--- What the verdict and the mode of validation say of the step that decided.
+-- What the verdict and the mode of validation show about the step that decided.
 use Rattle.std.specs.Prelude.{ℕ, List, [], ◌∷◌, Bool, true, false, not, if◌then◌else◌, Option, Some, None}
 use Rattle.macsec_tag.specs.declared.identifiers.Sci.{Sci}
 use Rattle.macsec_commands.specs.declared.mode.Mode.{Mode}
@@ -25,22 +25,22 @@ is_opened mode Delayed = not (is_disabled mode)
 is_opened mode Invalid = true
 is_opened mode Passed = true
 
--- the endpoint's counters after a tagged frame with this many octets of data
+-- the endpoint's counters after a tagged frame with this many octets of secure data
 abbrev pub counted_by : Mode → Verdict → Bool → ℕ → Counters → Counters
 counted_by mode verdict e octets c =
     if is_opened mode verdict then count_octets_received e octets (count_packet verdict c) else count_packet verdict c
 
--- a change of the first channel with this SCI; no two have the same
+-- changes the first channel with this SCI; no two channels have the same SCI
 abbrev pub at_first : (ChannelCounters → ChannelCounters) → Sci → List ChannelCounters → List ChannelCounters
 at_first change sci [] = []
 at_first change sci (row ∷ rows) = if same_sci row.sci sci then change row ∷ rows else row ∷ at_first change sci rows
 
--- the channels' counters after a tagged frame of this association, where it has one
+-- the channels' counters after a tagged frame for this SA, if it has one
 abbrev pub counted_at_place : Verdict → Option (Sci × ℕ) → List ChannelCounters → List ChannelCounters
 counted_at_place verdict None rows = rows
 counted_at_place verdict (Some place) rows = at_first (count_in_channel verdict place.1) place.0 rows
 
--- the verdict on a frame that is not tagged
+-- the verdict on an untagged frame
 abbrev pub verdict_on_untagged : Mode → Verdict
 verdict_on_untagged mode = if is_strict mode then NoTag else Untagged
 

@@ -1,4 +1,4 @@
-//! The counters of receive channels and of their associations (IEEE 802.1AE, 10.7).
+//! The counters of receive channels and of their SAs (IEEE 802.1AE, 10.7).
 
 ghost use Rattle.std.specs.Prelude.{◌≡◌, map};
 ghost use Rattle.macsec_secy.specs.State.{no_rx_counters};
@@ -24,7 +24,7 @@ impl RxCounters {
         }
     }
 
-    /// Counts a frame of a verdict, if channels and associations count it.
+    /// Counts a frame with this verdict, if channels and SAs have a counter for it.
     fn count(&mut self, verdict: Verdict)
         ensures { self.new ≡ count_verdict verdict self.old }
     {
@@ -39,7 +39,7 @@ impl RxCounters {
         }
     }
 
-    /// The sums of these counters and others.
+    /// The sums of these counters and of others.
     fn plus(self, other: RxCounters) -> RxCounters
         ensures { result ≡ added self other }
     {
@@ -55,7 +55,7 @@ impl RxCounters {
 }
 
 impl ChannelCounters {
-    /// The counters of a channel without associations: 0.
+    /// The counters of a new channel, which has no SAs: all 0.
     pub(crate) fn new(sci: Sci) -> ChannelCounters
         ensures { result ≡ new_channel_counters sci }
     {
@@ -67,7 +67,7 @@ impl ChannelCounters {
         }
     }
 
-    /// Counts a frame of the association of this number: there and in the channel.
+    /// Counts a frame in the channel and in its SA with this number.
     fn count(&mut self, verdict: Verdict, an: An)
         ensures { self.new ≡ count_in_channel verdict an self.old }
     {
@@ -77,7 +77,7 @@ impl ChannelCounters {
         }
     }
 
-    /// Begins to count for a new association of this number, if the channel has this SCI.
+    /// If the channel has this SCI, starts the counters of a new SA with this number at 0.
     fn add(&mut self, sci: Sci, an: An)
         ensures { self.new ≡ at_channel (with_association an) sci self.old }
     {
@@ -86,8 +86,8 @@ impl ChannelCounters {
         }
     }
 
-    /// Adds what the association of this number has counted to what the deleted ones had counted, if the channel has this
-    /// SCI.
+    /// If the channel has this SCI, adds the counters of the SA with this number to those of the deleted SAs, and
+    /// removes them.
     fn remove(&mut self, sci: Sci, an: An)
         ensures { self.new ≡ at_channel (without_association an) sci self.old }
     {
@@ -100,7 +100,7 @@ impl ChannelCounters {
     }
 }
 
-/// Begins to count for a new association of this channel and of this number.
+/// Starts the counters of a new SA of this channel, with this number, at 0.
 pub(crate) fn add_association(rows: &mut [ChannelCounters], sci: Sci, an: An)
     ensures { rows.new ≡ map (at_channel (with_association an) sci) rows.old }
 {
@@ -109,8 +109,7 @@ pub(crate) fn add_association(rows: &mut [ChannelCounters], sci: Sci, an: An)
     }
 }
 
-/// Adds what the association of this channel and of this number has counted to what the channel's deleted ones had
-/// counted.
+/// Adds the counters of this channel's SA with this number to those of the channel's deleted SAs, and removes them.
 pub(crate) fn remove_association(rows: &mut [ChannelCounters], sci: Sci, an: An)
     ensures { rows.new ≡ map (at_channel (without_association an) sci) rows.old }
 {
@@ -119,7 +118,7 @@ pub(crate) fn remove_association(rows: &mut [ChannelCounters], sci: Sci, an: An)
     }
 }
 
-/// Counts a frame at the channel with this SCI and at its association of this number, and touches no other.
+/// Counts a frame at the channel with this SCI and at its SA with this number. No other counters change.
 fn count_at(rows: &mut [ChannelCounters], verdict: Verdict, sci: Sci, an: An)
     ensures { rows.new ≡ at_first (count_in_channel verdict an) sci rows.old }
 {
@@ -131,7 +130,7 @@ fn count_at(rows: &mut [ChannelCounters], verdict: Verdict, sci: Sci, an: An)
     }
 }
 
-/// Counts a frame at its association and at the channel of that, if it has one.
+/// Counts a frame at its SA and at that SA's channel, if it has an SA.
 pub(crate) fn count_at_row(rows: &mut [ChannelCounters], verdict: Verdict, row: Option<(Sci, An)>)
     ensures { rows.new ≡ counted_at_place verdict row rows.old }
 {

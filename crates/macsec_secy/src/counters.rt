@@ -28,7 +28,7 @@ pub struct TxCounters {
     pub out_octets_encrypted: u64,
 }
 
-/// The counters of a receive channel, or of a receive association, modulo 2^64 (10.7).
+/// The counters of a receive channel, or of a receive SA, modulo 2^64 (10.7).
 #[derive(Clone, Copy, PartialEq, Eq, Debug, Default)]
 pub struct RxCounters {
     pub in_pkts_ok: u64,
@@ -39,14 +39,14 @@ pub struct RxCounters {
     pub in_pkts_not_valid: u64,
 }
 
-/// The counters of the receive channel of this SCI and of its associations.
+/// The counters of the receive channel with this SCI, and of its SAs.
 #[derive(Clone, Copy, PartialEq, Eq, Debug, Default)]
 pub struct ChannelCounters {
     pub sci: Sci,
-    /// What the channel has counted.
+    /// The counters of the channel.
     pub counters: RxCounters,
-    /// What each association has counted since its creation, by association number.
+    /// The counters of each SA since its creation, by association number.
     pub associations: [Option<RxCounters>; ASSOCIATION_COUNT],
-    /// What the channel's deleted associations had counted: the sums.
+    /// The sums of the counters of the channel's deleted SAs.
     pub removed: RxCounters,
 }

@@ -1,5 +1,5 @@
-//! What transmission and reception count at the endpoint and at the transmit channel (IEEE 802.1AE, 10.7). What
-//! receive channels count is in `associations`.
+//! What transmission and reception count at the endpoint and at the transmit channel (IEEE 802.1AE, 10.7). The
+//! counters of receive channels are in `associations`.
 
 ghost use Rattle.std.specs.Prelude.{◌≡◌};
 ghost use Rattle.macsec_tx.specs.Transmit.{no_sa, plain, too_long};
@@ -29,14 +29,14 @@ impl Counters {
         }
     }
 
-    /// Counts a client frame that is sent as it is.
+    /// Counts a client frame that is sent unprotected.
     pub(crate) fn count_plain(&mut self)
         ensures { self.new ≡ count_leaving plain self.old }
     {
         self.out_pkts_untagged = self.out_pkts_untagged.wrapping_add(1);
     }
 
-    /// Counts a client frame for which no association is enabled, or only an exhausted one.
+    /// Counts a client frame that is dropped because no SA is enabled or the enabled one is exhausted.
     pub(crate) fn count_no_sa(&mut self)
         ensures { self.new ≡ count_leaving no_sa self.old }
     {
@@ -50,7 +50,7 @@ impl Counters {
         self.out_pkts_too_long = self.out_pkts_too_long.wrapping_add(1);
     }
 
-    /// Counts a frame with a verdict that no channel counts.
+    /// Counts a frame if its verdict is one that the endpoint counts, and not a channel.
     pub(crate) fn count_packet(&mut self, verdict: Verdict)
         ensures { self.new ≡ count_packet verdict self.old }
     {
@@ -67,8 +67,8 @@ impl Counters {
         }
     }
 
-    /// Counts a tagged frame with this many octets of data, by its verdict and the mode of validation: the frame if no
-    /// channel counts it, and the octets if the cipher was applied.
+    /// Counts a tagged frame with this many octets of secure data. The frame counts here only if no channel counts its
+    /// verdict; the octets count if the cipher was applied, which follows from the verdict and the mode of validation.
     pub(crate) fn count_tagged(&mut self, mode: Mode, verdict: Verdict, e: bool, octets: u64)
         ensures { self.new ≡ counted_by mode verdict e octets self.old }
     {
@@ -97,7 +97,7 @@ impl TxCounters {
         }
     }
 
-    /// Counts a protected frame with this many octets of data, which is encrypted if `conf` is true.
+    /// Counts a protected frame with this many octets of user data. The frame is encrypted if `conf` is true.
     pub(crate) fn count(&mut self, conf: bool, octets: u64)
         ensures { self.new ≡ count_octets conf octets self.old }
     {
@@ -111,7 +111,7 @@ impl TxCounters {
     }
 }
 
-/// Was the cipher applied to a frame with this verdict?
+/// Whether the cipher was applied to a frame with this verdict.
 fn is_opened(mode: Mode, verdict: Verdict) -> bool
     ensures { result ≡ is_opened mode verdict }
 {

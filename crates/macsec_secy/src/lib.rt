@@ -1,21 +1,21 @@
-//! The endpoint: the MAC security entity (IEEE 802.1AE, clause 10).
+//! The endpoint: the MAC security entity (SecY; IEEE 802.1AE, clause 10).
 //!
-//! Proved: `Secy::new` gives the start, or `MaxFrame` or `SciForm` exactly when the configuration has them, in this
-//! order, or `Memory`. `command`, `send`, `send_uncontrolled` and `receive` are, for every argument and in every state,
-//! one step of the machine of `specs/Step.antt`: the result, the frames returned, and the state after with all
-//! counters. The calls that read return parts of that state. Each counter that `rx_counters` returns is, modulo 2^64,
-//! the sum of those of the channel's associations (`rx_sa_counters`) and of `rx_removed`. Each link frame of 14 to
-//! 9,248 octets raises the sum of the counters InPkts of the endpoint and its channels by one, modulo 2^64, and no
-//! other call changes that sum but a `command` that deletes a channel (`AddsFrames`). The calls that make or change an
-//! endpoint also state what holds of it at all times (`IsSound`, and in it `Agrees`). By their types only `new` is
-//! handed an allocator.
+//! Proved: `Secy::new` returns the start state; or `MaxFrame` or `SciForm`, in this order, exactly when the
+//! configuration has that fault; or `Memory`. For every argument and in every state, `command`, `send`,
+//! `send_uncontrolled` and `receive` are one step of the machine of `specs/Step.antt`: the result, the frames returned,
+//! and the state after with all counters. The calls that read return parts of that state. Each counter that
+//! `rx_counters` returns is, modulo 2^64, the sum of the counters of the channel's SAs (`rx_sa_counters`) and of
+//! `rx_removed`. Each link frame of 14 to 9,248 octets raises the sum of the InPkts counters of the endpoint and its
+//! channels by one, modulo 2^64. Of all other calls only a `command` that deletes a channel can change that sum
+//! (`AddsFrames`). The calls that make or change an endpoint also state what holds of it at all times (`IsSound`, which
+//! includes `Agrees`). By its type only `new` takes an allocator.
 //!
-//! Laws of the machine (`laws`). `uses_no_number_twice`: for every list of inputs the packet numbers of the frames that
-//! are sent protected under one key number rise in the order of sending. `accepts_sent`: what another endpoint
-//! protected, also with octets after it if its SL is not 0, gets the verdict `OK` and gives the client frame, if the
-//! conditions of `specs/Accepts.antt` hold. `rows_agree`, `keys_stay` and `rx_rows_stay`: what a step keeps.
-//! `lengths_of_frames` and `lengths_of_protected_frames`; `protects_frames` and `delivers_in_time`: what is known of
-//! the association by which a frame is protected or delivered.
+//! Laws of the machine (`laws`). `uses_no_number_twice`: for every list of inputs, the packet numbers of the frames
+//! sent protected under one key number rise in the order of sending. `accepts_sent`: a frame that another endpoint
+//! protected gets the verdict `OK` and gives the client frame if the conditions of `specs/Accepts.antt` hold; if its SL
+//! is not 0, also with octets after it. `rows_agree`, `keys_stay`, `rx_rows_stay`: what a step keeps.
+//! `lengths_of_frames` and `lengths_of_protected_frames`; `protects_frames` and `delivers_in_time`: facts about the SA
+//! that protects or delivers a frame.
 #![tactic(auto)]
 
 ghost use Rattle.std.specs.Prelude.{◌≡◌, IfOk};
@@ -59,7 +59,7 @@ use receiving::{delivered_octets, delivered_untagged, sci_and_number, verdict_on
 use std::alloc::Global;
 use std::marker::Model;
 
-/// An endpoint. Contracts see it as the state of the machine.
+/// An endpoint (SecY). Contracts see it as a state of the machine.
 #[derive(Drop)]
 pub struct Secy {
     config: EndConfig,
@@ -70,7 +70,7 @@ pub struct Secy {
     counters: Counters,
     tx_counters: TxCounters,
     rx_counters: ArrayVec<ChannelCounters, MAX_CHANNEL_COUNT>,
-    /// Room for the longest frame: what is sent protected and what is delivered of a tagged frame is made here.
+    /// A buffer for the longest frame. Protected frames, and frames delivered from tagged ones, are written here.
     room: Vec<u8>,
 }
 
@@ -92,7 +92,7 @@ impl Model for Secy {
       rx_counters = s.rx_counters.items;
     } };
 
-    // It is sound, and its buffer holds the longest frame.
+    // The state is sound, and the buffer holds the longest frame.
     ghost invariant = { λ s. IsReady (record {
       config = s.config;
       options = s.options;
@@ -106,10 +106,10 @@ impl Model for Secy {
 }
 
 impl Secy {
-    /// Creates an endpoint of this configuration, without keys and associations, whose counters are 0. It protects,
-    /// validates strictly, and drops late frames with a replay window of 0. Fails with the first of `MaxFrame`,
-    /// `SciForm` and `Memory` that applies; `Memory` is returned if there is none for its keys or its frame buffer. No
-    /// later call is handed an allocator, and none can return that it is out of memory.
+    /// Creates an endpoint with this configuration. It has no keys and no SAs, and its counters are 0. It protects
+    /// frames, validates strictly, and drops late frames with a replay window of 0. Fails with the first of `MaxFrame`,
+    /// `SciForm` and `Memory` that applies; `Memory` means that its key table or its frame buffer could not be
+    /// allocated. No later call takes an allocator, so no later call can run out of memory.
     pub fn new(alloc: Global, config: EndConfig) -> Result<Secy, NewFault>
         ensures result { MakesEndpoint config result }
         ensures sound { IfOk result IsSound }
@@ -149,12 +149,12 @@ impl Secy {
         ensures sum { AddsFrames self.old (operator_command command.now) }
         ensures sound { IsSound self.new }
     {
-        // For the prover alone: from here on it knows that the endpoint is sound. The compiler deletes the line.
+        // For the prover only: after this line it knows that the endpoint is sound. The compiler deletes the line.
         let _ = &self.counters;
         self.carry_out(command)
     }
 
-    /// Carries out a management command, or refuses it and changes nothing.
+    /// Does the work of `command`, which adds the clause on the sum of the counters.
     fn carry_out(&mut self, command: &Command) -> Result<(), Refusal>
         ensures output { output_of_command result ≡ (step self.old (operator_command command.now)).0 }
         ensures after { self.new ≡ (step self.old (operator_command command.now)).1 }
@@ -201,8 +201,9 @@ impl Secy {
         }
     }
 
-    /// Transmits a client frame of 14 to 9,248 octets of the controlled port (10.5): protected under the enabled
-    /// association, as it is if frames are not protected, or not at all. One counter of packets counts it.
+    /// Transmits a client frame of 14 to 9,248 octets from the controlled port (10.5). The frame is protected by the
+    /// enabled SA, sent unchanged if the endpoint does not protect frames, or dropped. Exactly one packet counter
+    /// counts it.
     pub fn send<'a>(&'a mut self, frame: &'a [u8]) -> Result<Sent<'a>, FrameFault>
         ensures* after { sem 𝓛 (RestsAs self.entry (step self.old (client_frame frame.now)).1) }
         ensures output { output_of_sent result ≡ (step self.old (client_frame frame.now)).0 }
@@ -240,8 +241,8 @@ impl Secy {
         }
     }
 
-    /// Transmits a client frame of 14 to 9,248 octets of the uncontrolled port, as it is. No counter counts it, and the
-    /// largest frame does not limit it.
+    /// Transmits a client frame of 14 to 9,248 octets from the uncontrolled port, unchanged. No counter counts it, and
+    /// the configured largest frame does not limit it.
     pub fn send_uncontrolled<'a>(&self, frame: &'a [u8]) -> Result<&'a [u8], FrameFault>
         ensures output { output_of_frame result ≡ (step self.now (uncontrolled_frame frame.now)).0 }
         ensures after { (step self.now (uncontrolled_frame frame.now)).1 ≡ self.now }
@@ -254,8 +255,8 @@ impl Secy {
         Ok(frame)
     }
 
-    /// Receives a link frame of 14 to 9,248 octets, from any source, forged ones too. Returns the verdict on it, shows
-    /// it at the uncontrolled port as it is, and delivers at the controlled port what the verdict allows.
+    /// Receives a link frame of 14 to 9,248 octets from any source, which may have forged it. Returns the verdict on
+    /// it, shows it unchanged at the uncontrolled port, and delivers at the controlled port what the verdict allows.
     pub fn receive<'a>(&'a mut self, frame: &'a [u8]) -> Result<Received<'a>, FrameFault>
         ensures* after { sem 𝓛 (RestsAs self.entry (step self.old (link_frame frame.now)).1) }
         ensures output { output_of_received result ≡ (step self.old (link_frame frame.now)).0 }
@@ -304,13 +305,13 @@ impl Secy {
         }
     }
 
-    /// The fault of a frame, if it has one: by its length alone, the same at every endpoint. It is a method so that its
-    /// callers know of the endpoint what `sound` says.
+    /// The fault of a frame, if it has one. It depends only on the frame's length, not on the endpoint. This is a
+    /// method so that its callers learn from `sound` that the endpoint is sound.
     fn frame_fault(&self, frame: &[u8]) -> Option<FrameFault>
         ensures fault { result ≡ frame_fault frame.now }
         ensures sound { IsSound self.now }
     {
-        // For the prover alone: so it knows at each return that the endpoint is sound. The compiler deletes the line.
+        // For the prover only: it then knows at each return that the endpoint is sound. The compiler deletes the line.
         let _ = &self.counters;
         if frame.len() < MIN_FRAME_LEN {
             return Some(FrameFault::Short);

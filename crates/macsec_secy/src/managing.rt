@@ -1,4 +1,4 @@
-//! Commands that the endpoint carries out itself, and what it hands to transmission.
+//! Commands that the endpoint carries out itself, and the options that it passes to transmission.
 
 ghost use Rattle.std.specs.Prelude.{◌≡◌};
 ghost use Rattle.macsec_suite.specs.Refusals.{holds_of, refusal_of};
@@ -51,14 +51,14 @@ impl Secy {
         Ok(())
     }
 
-    /// Does an association use the key of this number?
+    /// Whether an SA uses the key with this number.
     pub(crate) fn uses(&self, key: KeyNumber) -> bool
         ensures { result ≡ uses self.now key }
     {
         self.tx.uses(key) || self.rx.uses(key)
     }
 
-    /// Does the enabled association encrypt?
+    /// Whether the enabled transmit SA encrypts; false if none is enabled.
     pub(crate) fn encrypts(&self) -> bool
         ensures { result ≡ holds_of (λ row. row.conf) (row_on self.now.tx) }
     {
@@ -68,7 +68,7 @@ impl Secy {
         }
     }
 
-    /// What transmission depends on.
+    /// The options that transmission depends on.
     pub(crate) fn tx_options(&self) -> TxOptions
         ensures { result ≡ tx_options self.now }
     {

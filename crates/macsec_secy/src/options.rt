@@ -1,18 +1,18 @@
-//! What management commands set (IEEE 802.1AE, 10.7).
+//! The options that management commands set (IEEE 802.1AE, 10.7).
 
 use crate::{Mode, TagForm};
 
-/// What commands set.
+/// The options that commands set.
 #[derive(Clone, Copy, PartialEq, Eq, Debug)]
 pub struct Options {
-    /// Are client frames protected?
+    /// Whether client frames are protected.
     pub protect: bool,
     /// How received frames are validated.
     pub mode: Mode,
-    /// Are late frames dropped?
+    /// Whether late frames are dropped.
     pub replay: bool,
     /// The replay window, in packet numbers.
     pub window: u64,
-    /// The tag form.
+    /// The form of the SecTAG on sent frames.
     pub form: TagForm,
 }

@@ -1,4 +1,4 @@
-//! The endpoint's own part of reception: its channels' counters, and what it hands to its channels.
+//! The endpoint's own part of reception: the counters of its channels, and the options that it passes to them.
 
 ghost use Rattle.std.specs.Prelude.{◌≡◌, ◌+◌, ◌≤◌, length, option_map, IfSome};
 ghost use Rattle.macsec_suite.specs.Refusals.{refusal_of};
@@ -25,7 +25,7 @@ impl Secy {
         Ok(())
     }
 
-    /// Deletes a receive channel and its counters, those of its associations too.
+    /// Deletes a receive channel with its SAs, and the counters of both.
     pub(crate) fn rx_sc_del(&mut self, sci: Sci) -> Result<(), Refusal>
         ensures refusal { refusal_of result ≡ refusal self.old (by.RxScDel sci) }
         ensures after { self.new ≡ state_after_command self.old (by.RxScDel sci) }
@@ -36,7 +36,7 @@ impl Secy {
         Ok(())
     }
 
-    /// Creates a receive association, disabled, with counters of 0.
+    /// Creates a receive SA, disabled, with counters of 0.
     pub(crate) fn rx_sa(
         &mut self,
         sci: Sci,
@@ -54,8 +54,7 @@ impl Secy {
         Ok(())
     }
 
-    /// Deletes a receive association. What it has counted is added to what the deleted associations of its channel had
-    /// counted.
+    /// Deletes a receive SA. Its counters are added to those of its channel's deleted SAs.
     pub(crate) fn rx_del(&mut self, sci: Sci, an: An) -> Result<(), Refusal>
         ensures refusal { refusal_of result ≡ refusal self.old (by.RxDel sci an) }
         ensures after { self.new ≡ state_after_command self.old (by.RxDel sci an) }
@@ -66,7 +65,7 @@ impl Secy {
         Ok(())
     }
 
-    /// What reception depends on.
+    /// The options that reception depends on.
     pub(crate) fn rx_options(&self) -> RxOptions
         ensures { result ≡ rx_options self.now }
     {
@@ -78,7 +77,7 @@ impl Secy {
     }
 }
 
-/// The verdict on a frame that is not tagged.
+/// The verdict on an untagged frame.
 pub(crate) fn verdict_on_untagged(mode: Mode) -> Verdict
     ensures { result ≡ verdict_on_untagged mode }
 {
@@ -88,7 +87,7 @@ pub(crate) fn verdict_on_untagged(mode: Mode) -> Verdict
     }
 }
 
-/// What is delivered of a frame that is not tagged: the frame itself, or nothing.
+/// What is delivered for an untagged frame: the frame itself, or nothing.
 pub(crate) fn delivered_untagged(mode: Mode, frame: &[u8]) -> Option<&[u8]>
     ensures { option_map (λ f. f.now) result ≡ delivered_untagged mode frame.now }
 {
@@ -98,7 +97,7 @@ pub(crate) fn delivered_untagged(mode: Mode, frame: &[u8]) -> Option<&[u8]>
     }
 }
 
-/// An association by the SCI of its channel and its number.
+/// An SA as the SCI of its channel and its number.
 pub(crate) fn sci_and_number(row: Option<(Sci, An)>) -> Option<(Sci, u8)>
     ensures { result ≡ row }
 {

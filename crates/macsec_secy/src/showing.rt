@@ -1,4 +1,4 @@
-//! What an endpoint shows of its state.
+//! The calls that read the state of an endpoint.
 
 ghost use Rattle.std.specs.Prelude.{◌≡◌, ◌≤◌, is_some, length, slice_get};
 ghost use Rattle.macsec_tx.specs.Transmit.{tx_row};
@@ -35,15 +35,15 @@ impl Secy {
         self.tx_counters
     }
 
-    /// The transmit association (secure association) of this number, if there is one.
+    /// The transmit SA (secure association) with this number, if it exists.
     pub fn tx_row(&self, an: An) -> Option<TxRow>
         ensures { result ≡ tx_row self.now.tx an }
     {
         self.tx.row(an)
     }
 
-    /// The counters of the receive channel with this SCI, if there is one. Each is, modulo 2^64, the sum over the
-    /// channel's associations of theirs, as `rx_sa_counters` returns them, and of `rx_removed` (10.7).
+    /// The counters of the receive channel with this SCI, if it exists. Each is, modulo 2^64, the sum of that counter
+    /// over the channel's SAs (`rx_sa_counters`) and of `rx_removed` (10.7).
     pub fn rx_counters(&self, sci: Sci) -> Option<RxCounters>
         ensures counters { result ≡ rx_counters_of self.now.rx_counters sci }
         ensures sum { result ≡ rx_sums_of self.now.rx_counters sci }
@@ -52,7 +52,7 @@ impl Secy {
         Some(channel.counters)
     }
 
-    /// The counters of the receive association of this channel and of this number since its creation, if there is one.
+    /// The counters of this channel's receive SA with this number since its creation, if it exists.
     pub fn rx_sa_counters(&self, sci: Sci, an: An) -> Option<RxCounters>
         ensures counters { result ≡ rx_sa_counters_of self.now.rx_counters sci an }
         ensures there { is_some result ≡ has_rx self.now.rx.rows sci an }
@@ -61,8 +61,8 @@ impl Secy {
         channel.associations[usize::from(an.number())]
     }
 
-    /// What the deleted associations of the receive channel with this SCI had counted, if there is one: the sums, modulo
-    /// 2^64, since the channel was created.
+    /// The sums, modulo 2^64, of the counters of all SAs deleted from the receive channel with this SCI since the
+    /// channel was created, if the channel exists.
     pub fn rx_removed(&self, sci: Sci) -> Option<RxCounters>
         ensures { result ≡ rx_removed_of self.now.rx_counters sci }
     {
@@ -70,7 +70,7 @@ impl Secy {
         Some(channel.removed)
     }
 
-    /// What the receive channel with this SCI and its associations have counted, if there is one.
+    /// The counters of the receive channel with this SCI and of its SAs, if it exists.
     fn channel_counters(&self, sci: Sci) -> Option<ChannelCounters>
         ensures row { result ≡ channel_counters_of self.now.rx_counters sci }
         ensures sound { IsSound self.now }
@@ -83,8 +83,8 @@ impl Secy {
         None
     }
 
-    /// The SCI of the receive channel at this place in the order of creation, from 0, if there is one. There are at
-    /// most 64.
+    /// The SCI of the receive channel at this index in the order of creation, from 0, if it exists. There are at most
+    /// 64 channels.
     pub fn rx_channel(&self, place: usize) -> Option<Sci>
         ensures sci { result ≡ slice_get self.now.rx.scis place }
         ensures count { length self.now.rx.scis ≤ max_channel_count }
@@ -92,7 +92,7 @@ impl Secy {
         self.rx.channel(place)
     }
 
-    /// The receive association (secure association) of this channel and of this number, if there is one.
+    /// This channel's receive SA (secure association) with this number, if it exists.
     pub fn rx_row(&self, sci: Sci, an: An) -> Option<RxRow>
         ensures { result ≡ rx_row self.now.rx.rows sci an }
     {

@@ -1,6 +1,6 @@
--- What holds of an endpoint still holds after each command that one of its tables carries out or refuses: by one lemma for
--- the keys, one for the transmit and one for the receive associations (`StaysSound`). The other commands have functions of
--- their own, whose contracts say it.
+-- The endpoint is sound after each command that one of its tables carries out or refuses. `StaysSound` has one lemma
+-- each for the keys, the transmit SAs and the receive SAs. The other commands have functions of their own, whose
+-- contracts state it.
 use Rattle.std.proofs.Common.{◌≡◌, ◌∙◌, refl, sym, ap₂, rules}
 use Rattle.macsec_suite.specs.Refusals.{refusal_of}
 use Rattle.macsec_commands.specs.declared.command.Command.TheVariants as by
@@ -34,7 +34,7 @@ invariant_of-self-in-Retire c =
 pub returns-in-Retire-clause-sound : goal.returns-in-Retire-clause-sound
 returns-in-Retire-clause-sound c = (invariant_of-self-in-Retire c).sound
 
--- ---- the transmit associations
+-- ---- the transmit SAs
 
 pub invariant_of-self-in-TxSa : goal.invariant_of-self-in-TxSa
 invariant_of-self-in-TxSa c =
@@ -80,7 +80,7 @@ invariant_of-self-in-TxDel c =
 pub returns-in-TxDel-clause-sound : goal.returns-in-TxDel-clause-sound
 returns-in-TxDel-clause-sound c = (invariant_of-self-in-TxDel c).sound
 
--- ---- the receive associations
+-- ---- the receive SAs
 
 pub invariant_of-self-in-RxOn : goal.invariant_of-self-in-RxOn
 invariant_of-self-in-RxOn c =

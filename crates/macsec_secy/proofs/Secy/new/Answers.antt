@@ -1,5 +1,5 @@
--- A new endpoint is in the machine's start, which is sound for a configuration without a fault (`at_start`): its tables and
--- counters are those of their own `new` and `zero`.
+-- A new endpoint is in the start state of the machine, by the contracts of `new` and `zero` of its parts. That state is
+-- sound if the configuration has no fault (`at_start`).
 use Rattle.std.proofs.Common.{◌≡◌, refl, rules, subst}
 use Rattle.std.specs.Prelude.{None}
 use Rattle.macsec_rx.specs.Rows.{AreChannels}

@@ -1,5 +1,5 @@
--- A link frame, by how it reads: in each arm what the endpoint holds is the state after the step, which is sound, and what
--- it returns is the step's output. The sum of its counters is a law of the machine (`FramesCounted`).
+-- A link frame, one arm for each reading: the state is the one after the step and is sound, and the result is the
+-- step's output. The clause on the sum of the counters is a law of the machine (`FramesCounted`).
 use Rattle.std.proofs.Common.{◌≡◌, ◌∙◌, ℕ, List, ap, length, map, refl, rules, subst, sym}
 use Rattle.std.specs.Prelude.{None, option_map}
 use Rattle.macsec_tag.specs.Table.{reading, tagged}
@@ -18,11 +18,11 @@ use Rattle.macsec_secy.proofs.StaysSound.{TablesHold, after_link_frame}
 use Rattle.macsec_secy.proofs.TaggedFrames.{answered, left_by_parts}
 use Rattle.macsec_secy.proofs.Secy.receive.Goals as goal
 
--- what holds of the machine's state after the frame
+-- the machine's state after the frame is sound
 sound_after : (before now : State) (frame : List ℕ) → before ≡ now → IsSound before → TablesHold (step before (link_frame frame)).1 → IsSound (step now (link_frame frame)).1
 sound_after before now frame same sound tables = subst (λ s. IsSound (step s (link_frame frame)).1) same (after_link_frame before frame tables sound)
 
--- what holds of the sum of its counters
+-- the sum of its counters
 sum_after : (before now : State) (frame : List ℕ) → before ≡ now → IsSound before → AddsFrames now (link_frame frame)
 sum_after before now frame same sound = subst (λ s. AddsFrames s (link_frame frame)) same (link_frame_adds before frame sound)
 

@@ -1,4 +1,4 @@
--- By search; these proofs are here for speed.
+-- By search; written down to save time.
 use Rattle.std.proofs.Common.{rules}
 use Rattle.macsec_secy.proofs.Secy.rx_channel.Goals as goal
 

@@ -1,5 +1,5 @@
--- The state after the command is that of the definition, and sound: the channels by the contract of `RxChannels::rx_sa`,
--- their counters by that of `add_association`, whose slice is put back (`changed_again`), the rest by `after_effect`.
+-- The state after the command is the defined one, and sound. The contract of `RxChannels::rx_sa` gives the channels,
+-- the contract of `add_association` and `changed_again` give their counters, and `after_effect` the rest.
 use Rattle.std.proofs.Common.{◌≡◌, ◌∙◌, ap, map, length, subst, sym}
 use Rattle.std.specs.List.{refill}
 use Rattle.macsec_rx.specs.Rows.{AreChannels}

@@ -1,5 +1,5 @@
--- There are counters exactly where there is an association: a channel has counters for its own associations alone, which
--- is what `IsSound` says (`shown_there`), and no association is of an SCI without a channel.
+-- Counters exist exactly if the SA does: by `IsSound` a channel has counters for exactly its own SAs (`shown_there`),
+-- and no SA has an SCI without a channel.
 use Rattle.std.proofs.Common.{◌∙◌, ap, rules}
 use Rattle.std.specs.Prelude.{is_some, option_and_then}
 use Rattle.macsec_secy.specs.declared.counters.ChannelCounters.{ChannelCounters}
@@ -18,6 +18,6 @@ returns-clause-there c =
     ap (λ o. is_some (option_and_then (λ (row : ChannelCounters). counters_at row.associations c.args.an) o)) c.in_ok-channel.ensures.row ∙
     shown_there c.args.self.now c.channel_counters.ensures.sound c.args.sci c.args.an
 
--- By search; this proof is here so that a wrong body is refused soon.
+-- By search; written down so that a wrong body is refused quickly.
 pub returns-clause-counters : goal.returns-clause-counters
 returns-clause-counters c = search rules steps 100000

@@ -1,5 +1,5 @@
--- A new channel has counters of 0, and the endpoint stays sound with it: the channels by the contract of
--- `RxChannels::rx_sc`, the rest by `after_effect`.
+-- A new channel has counters of 0, and the endpoint stays sound. The contract of `RxChannels::rx_sc` gives the
+-- channels, and `after_effect` the rest.
 use Rattle.std.proofs.Common.{rules, subst, sym}
 use Rattle.macsec_rx.specs.Rows.{AreChannels}
 use Rattle.macsec_commands.specs.declared.command.Command.TheVariants as by
@@ -21,7 +21,7 @@ invariant_of-self-2 c =
 pub returns-clause-sound : goal.returns-clause-sound
 returns-clause-sound c = (invariant_of-self-2 c).sound
 
--- The others by search; these proofs are here for speed.
+-- The others by search; written down to save time.
 pub returns-in_err-rx_sc-clause-refusal : goal.returns-in_err-rx_sc-clause-refusal
 returns-in_err-rx_sc-clause-refusal c = search rules
 

@@ -1,5 +1,5 @@
--- A client frame, by what the transmit channel makes of it: in each arm what the endpoint holds is the state after the
--- step, and what it returns is the step's output.
+-- A client frame, one arm for each result of the transmit channel: the state is the one after the step, and the result
+-- is the step's output.
 use Rattle.std.proofs.Common.{◌≡◌, ◌∙◌, ap, refl, rules, take, subst}
 use Rattle.std.specs.Prelude.{None, Some}
 use Rattle.macsec_secy.specs.Step.{client_frame, frame_fault, leaves, step}
@@ -11,7 +11,7 @@ use Rattle.macsec_secy.proofs.SentFrames.{left_protected, sound_after}
 use Rattle.macsec_secy.proofs.Secy.send.Goals.{After-next_frame-result}
 use Rattle.macsec_secy.proofs.Secy.send.Goals as goal
 
--- whatever leaves, the state after the step is sound
+-- the state after the step is sound, whatever is sent
 sound : (c : After-next_frame-result) → IsSound (step c.args.self.now (client_frame c.args.frame.now)).1
 sound c =
     let s = c.self in

@@ -1,4 +1,4 @@
--- The form is refused exactly if it does not fit the SCI, and else set. By search; these proofs are here for speed.
+-- The form is refused exactly if it does not fit the SCI, and otherwise set. By search; written down to save time.
 use Rattle.std.proofs.Common.{rules}
 use Rattle.macsec_secy.proofs.Secy.set_form.Goals as goal
 

@@ -1,5 +1,5 @@
--- The new window is one that the keys allow, since it was not refused, and every association is narrowed to it: so the
--- endpoint stays sound by `after_effect`.
+-- The new window was not refused, so the keys allow it, and every SA is narrowed to it. So the endpoint stays sound by
+-- `after_effect`.
 use Rattle.std.proofs.Common.{◌≡◌, rules, subst}
 use Rattle.std.specs.Prelude.{None}
 use Rattle.macsec_rx.specs.Rows.{AreChannels}

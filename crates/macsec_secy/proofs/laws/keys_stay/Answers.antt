@@ -1,5 +1,4 @@
--- Keys are told apart by number and bytes (`KeysApart`), and a step keeps each of them (`KeysStay`): one clause of the law
--- each.
+-- One clause each: no two keys have the same number or bytes (`KeysApart`), and a step keeps each key (`KeysStay`).
 use Rattle.macsec_secy.proofs.KeysApart.{keys_are_apart}
 use Rattle.macsec_secy.proofs.KeysStay.{keys_stay}
 use Rattle.macsec_secy.proofs.laws.keys_stay.Goals as goal

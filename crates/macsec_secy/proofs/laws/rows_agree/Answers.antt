@@ -1,5 +1,4 @@
--- The rows agree at the start, and after each step: both clauses of the law.
--- By the lemmas of `StaysAgreed`.
+-- Both clauses by the lemmas of `StaysAgreed`: the rows agree at the start, and after each step.
 use Rattle.macsec_secy.proofs.StaysAgreed.{after_step, at_start}
 use Rattle.macsec_secy.proofs.laws.rows_agree.Goals as goal
 

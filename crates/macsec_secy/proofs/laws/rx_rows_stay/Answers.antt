@@ -1,5 +1,5 @@
--- An association is the one of its channel and number (`DeliveredFrom`), and its next packet number does not fall
--- (`RxRowsStay`): one clause of the law each.
+-- One clause each: an SA is found by its channel and number (`DeliveredFrom`), and its next packet number does not fall
+-- (`RxRowsStay`).
 use Rattle.macsec_secy.proofs.DeliveredFrom.{rx_rows_are_apart}
 use Rattle.macsec_secy.proofs.RxRowsStay.{rx_rows_stay}
 use Rattle.macsec_secy.proofs.laws.rx_rows_stay.Goals as goal

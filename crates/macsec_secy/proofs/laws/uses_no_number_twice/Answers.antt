@@ -1,5 +1,4 @@
--- Packet numbers rise under each key, and none is used twice: both clauses of the law.
--- By the lemmas of `UsedNumbers`.
+-- Both clauses by the lemmas of `UsedNumbers`: packet numbers rise under each key, and none is used twice.
 use Rattle.macsec_secy.proofs.UsedNumbers.{uses_no_number_twice, uses_rising_numbers}
 use Rattle.macsec_secy.proofs.laws.uses_no_number_twice.Goals as goal
 

@@ -1,4 +1,4 @@
--- By search; these proofs are here so that a wrong body is refused soon.
+-- By search; written down so that a wrong body is refused quickly.
 use Rattle.std.proofs.Common.{rules}
 use Rattle.macsec_secy.proofs.counters.ChannelCounters.count.Goals as goal
 

@@ -1,5 +1,4 @@
--- The counters are those of the definition: one goal with E set, one with E clear.
--- By search; these proofs are here for speed.
+-- The counters are the defined ones: one goal with E set, one with E clear. By search; written down to save time.
 use Rattle.std.proofs.Common.{rules}
 use Rattle.macsec_secy.proofs.counters.Counters.count_tagged.Goals as goal
 
