@@ -1,4 +1,4 @@
--- The laws of an endpoint, as their calls give them, and what follows of two keys whose IVs are equal.
+-- The laws of an endpoint, as the law functions state them, and what follows for two keys with equal IVs.
 use Rattle.std.proofs.Common.{◌≡◌, ◌≢◌, ℕ, Bool, true, false, List, refl, Contains}
 use Rattle.std.proofs.lemmas.List.Elements.{All-contains}
 use Rattle.macsec_tag.specs.declared.identifiers.Sci.{Sci}
@@ -27,7 +27,7 @@ pub record EndpointLaws : Type 0 where
 pub key_row_facts : EndpointLaws → (s : State) (key : InstalledKey) → IsSound s → Contains s.keys key → IsKeyRow key
 key_row_facts laws s key sound there = All-contains IsKeyRow s.keys key (laws.keys_apart s sound).rows there
 
--- two senders that differ do not have one IV
+-- two different senders do not have the same IV
 pub differ : (suite : Suite) (p q : IvParts) → HaveSameSender suite p q → (is_xpn suite ≡ true → p.ssci ≢ q.ssci) → p.sci ≢ q.sci → ⊥
 differ suite p q same sscis scis = by_test (is_xpn suite) refl
   where

@@ -1,4 +1,5 @@
--- The first fault of an event, with which it leaves the world as it is, and that of two configurations. Neither is out of memory.
+-- The first fault of an event, which leaves the world unchanged, and the first fault of two configurations. Neither is
+-- out of memory.
 use Rattle.std.proofs.Common.{◌≡◌, Bool, true, false, List, [], ◌∷◌, ap, refl, subst, sym}
 use Rattle.std.specs.Prelude.{Option, Some, None, Result, Err, MatchBool, if◌then◌else◌}
 use Rattle.macsec_suite.specs.FirstThatHolds.{first_that_holds}
@@ -45,12 +46,12 @@ faulted w event fault is =
       world = ap (λ (o : Option WorldFault). (happening_unless_fault o w event).1) (sym is);
     })
 
--- an event whose test returned a fault, which is passed on
+-- the test of an event returned a fault, and the event returns it
 pub passed_on : (w : WorldState) (event : Event) (result : Result Outcome WorldFault) (fault : WorldFault) → result ≡ Err fault →
     fault_of w event ≡ Some fault → Steps w event result w
 passed_on w event result fault passed is = subst (λ (r : Result Outcome WorldFault). Steps w event r w) (sym passed) (faulted w event fault is)
 
--- ---- making a world
+-- ---- creating a world
 
 never_memory : (x y : Option NewFault) → make_fault_of x y ≡ Some Memory → ⊥
 never_memory (Some f) y is = cc

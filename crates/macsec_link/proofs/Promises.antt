@@ -1,4 +1,4 @@
--- The laws of a list of events at whose moments the world is sound: what the trace keeps, and from it the promises.
+-- The laws for a list of events over sound worlds: what the trace keeps, and the promises that follow from it.
 use Rattle.std.proofs.Common.{◌≡◌, List, [], ◌∷◌, take, refl, ap, sym, subst, ◌∙◌}
 use Rattle.macsec_commands.specs.declared.config.EndConfig.{EndConfig}
 use Rattle.macsec_commands.specs.declared.event.End.TheVariants.{A, B}
@@ -22,7 +22,7 @@ use Rattle.macsec_link.proofs.Moments.{sound_up_to, world_of_trace}
 
 -- ---- what holds of a trace
 
--- the configurations are those that were given, no IV is used twice, and the window is kept
+-- the configurations are the given ones, no IV is used twice, and the window holds
 record TraceHolds (a b : EndConfig) (t : Trace) : Type 0 where
   pub config_a : t.world.a.state.config ≡ a
   pub config_b : t.world.b.state.config ≡ b

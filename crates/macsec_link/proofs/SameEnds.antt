@@ -1,4 +1,4 @@
--- One end is the other, or not.
+-- Whether two ends are the same.
 use Rattle.std.proofs.Common.{◌≡◌, ◌⊎◌, inl, inr, Bool, true, false, refl}
 use Rattle.macsec_commands.specs.declared.event.End.{End}
 use Rattle.macsec_commands.specs.declared.event.End.TheVariants.{A, B}
@@ -15,7 +15,7 @@ one_end A B same = cc
 one_end B A same = cc
 one_end B B same = refl
 
--- the answer of that test, told of the ends
+-- what the result of that test says of the ends
 abbrev pub IsAnswer : End → End → Bool → Type 0
 IsAnswer f e true = f ≡ e
 IsAnswer f e false = same_end f e ≡ false

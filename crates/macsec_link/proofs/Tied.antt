@@ -1,4 +1,4 @@
--- The log of an association that is there has the association's key.
+-- The SA of a live log exists and has the log's key.
 use Rattle.std.proofs.Common.{◌≡◌, ◌∙◌, ℕ, true, List, ap, subst, sym}
 use Rattle.std.specs.Prelude.{slice_get, Some}
 use Rattle.macsec_tag.specs.declared.identifiers.Sci.{Sci}

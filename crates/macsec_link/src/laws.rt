@@ -1,5 +1,5 @@
-//! Laws of the written world, for every list of events: each is the contract of a function that does nothing. Whoever
-//! takes steps by `World::step` has them of the events whose results are not `Memory`.
+//! Laws of the written world, for every list of events; each is the contract of a function that does nothing. A caller
+//! that takes steps with `World::step` has them for the events whose results are not `Memory`.
 
 ghost use Rattle.std.specs.Prelude.{◌++◌, ◌∷◌, List, []};
 ghost use Rattle.macsec_commands.specs.declared.config.EndConfig.{EndConfig};
@@ -14,11 +14,12 @@ use macsec_secy::laws::{accepts_sent, delivers_in_time, keys_stay, protects_fram
 use macsec_suite::laws::equal_ivs;
 use macsec_tag::laws::reads_by_grammar;
 
-/// The four promises, of every list of events at whose moments the world is sound; `World::run` says what each promises.
+/// The four promises, for every list of events for which the world is sound at each moment. `World::run` states each
+/// one.
 pub fn promises()
     ensures { (a b : EndConfig) (events : List Event) → AreSound a b events → KeepsPromises a b events }
 {
-    // Laws that the proof cites.
+    // The proof cites these laws.
     reads_by_grammar();
     equal_ivs();
     keys_stay();
@@ -28,7 +29,7 @@ pub fn promises()
     accepts_sent();
 }
 
-/// The worlds of a list of events are sound if each step from a sound one, as `World::step` takes it, leaves a sound one.
+/// The world stays sound over a list of events if each step leaves it sound, as `World::step` does.
 pub fn worlds_are_sound()
     ensures start { (w : WorldState) → IsSound w → StaysSound w [] }
     ensures step { (w : WorldState) (events : List Event) (event : Event) → StaysSound w events →

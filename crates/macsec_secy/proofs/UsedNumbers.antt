@@ -30,8 +30,8 @@ record AreNew (keys : List InstalledKey) (used : List UsedNumber) : Type 0 where
   late : All (λ u. first_unused keys u.0 ≤ u.1) used
   rising : AllPairs RisesUnderOneKey used
 
--- when the keys become `keys_then` and the SAs `rows_then`: the packet numbers used on the way are new, also together with
--- those used later
+-- when the keys become `keys_then` and the SAs `rows_then`: the packet numbers used on the way are new, also together
+-- with those used later
 record Goes (keys : List InstalledKey) (keys_then : List InstalledKey) (rows_then : List TxRow) (used : List UsedNumber) : Type 0 where
   keeps : HaveUnusedNext keys_then rows_then
   adds : (later : List UsedNumber) → AreNew keys_then later → AreNew keys (used ++ later)

@@ -1,4 +1,4 @@
--- A list of events goes sound on from its beginning, and by one more step from a sound world.
+-- The world stays sound over no events, and over one more event if its step leaves it sound.
 use Rattle.macsec_link.proofs.Moments.{at_start, one_more_step}
 use Rattle.macsec_link.proofs.laws.worlds_are_sound.Goals as goal
 

@@ -1,4 +1,5 @@
--- A frame of fewer than 60 octets, and zeros up to 60, so that another number of zeros is refused soon.
+-- A frame of fewer than 60 octets is followed by zeros up to 60. Written down so that another number of zeros is
+-- refused quickly.
 use Rattle.std.proofs.Common.{◌≡◌, ◌∙◌, ◌-◌, ◌<◌, ℕ, List, ◌++◌, ap, arith, length, take}
 use Rattle.std.specs.Prelude.{replicate}
 use Rattle.std.proofs.lemmas.List.{take_all}

@@ -1,5 +1,5 @@
--- A delivery is one step of the written world, or its fault: the frame that the end receives is the link frame of the
--- number, which is found and is not too short or too long.
+-- A delivery is one step of the written world, or its fault. The end receives the link frame with the number, which is
+-- found and is not too short or too long.
 use Rattle.std.proofs.Common.{◌≡◌, ℕ, List, ap, rules, subst, sym}
 use Rattle.std.specs.Prelude.{None, Err}
 use Rattle.macsec_secy.specs.Step.{frame_fault}
@@ -16,7 +16,7 @@ returns-in_err-check_delivery-clause-steps c =
     let fault = c.in_err-check_delivery in
     passed_on c.args.self.now (event.Deliver c.args.end c.args.n) c.from_residual.result fault.field-0.0 passed (fault.ensures.admits c.args.end)
 
--- the frame that the end receives is the link frame of the number
+-- the end receives the link frame with the number
 pub receive-hearing-requires : goal.receive-hearing-requires
 receive-hearing-requires c =
     let frames = ap (λ (w : WorldState). w.frames) c.self.view_is in

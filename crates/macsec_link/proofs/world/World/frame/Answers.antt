@@ -1,4 +1,4 @@
--- The frame at the number's place, or none past the last one, so that a frame of another number is refused soon.
+-- The frame at the number's index, or none after the last one. Written down so that another frame is refused quickly.
 use Rattle.std.proofs.Common.{◌≡◌, ◌∙◌, ◌<◌, ◌≤◌, ℕ, zero, suc, List, [], ◌∷◌, ap, arith, get_or, length, refl}
 use Rattle.std.specs.Prelude.{Some, None, option_copied, slice_get}
 use Rattle.std.specs.Global.{Vec}

@@ -1,5 +1,5 @@
--- By these tactics alone: without these proofs the prover tries others before them, which takes longer, and on a
--- mutant it tries all.
+-- Only these tactics: without these proofs the prover tries others first, which takes longer, and tries all on a
+-- mutant.
 use Rattle.std.proofs.Common.{◌≡◌, rules}
 use Rattle.std.specs.Prelude.{Err}
 use Rattle.macsec_commands.specs.declared.event.Event.TheVariants as event

@@ -13,7 +13,7 @@ returns-in-Some-clause-made c = refuses c.args.a c.args.b c.in-Some.fault (sym c
 abbrev world : EndState → EndState → List (Vec ℕ) → WorldState
 world a b frames = record { a = a; b = b; frames = frames_kept frames }
 
--- each end by its own configuration, so that an end of another one is refused soon
+-- each end has its own configuration; written down so that another one is refused quickly
 is_new : (a b : EndState) (frames : List (Vec ℕ)) (x y : EndConfig) → a ≡ new_end x → b ≡ new_end y → frames ≡ [] →
     world a b frames ≡ new_world x y
 is_new a b frames x y first second none =

@@ -1,4 +1,4 @@
--- By these tactics alone: each kind of event has the contract of the function that takes its step.
+-- Only these tactics: each kind of event has the contract of the function that takes its step.
 use Rattle.std.proofs.Common.{rules}
 use Rattle.macsec_link.proofs.world.World.step.Goals as goal
 

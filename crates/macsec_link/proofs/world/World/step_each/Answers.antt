@@ -1,4 +1,5 @@
--- Event after event: the run so far goes on by one step, and there is room for its result; at the end, all events.
+-- After each event the run is extended by one step, and the vector has capacity for its result; at the end, by all
+-- events.
 use Rattle.std.proofs.Common.{arith, take, List, subst}
 use Rattle.std.proofs.lemmas.List.{take_all, take_more}
 use Rattle.macsec_commands.specs.declared.event.Event.{Event}
