@@ -1,4 +1,4 @@
--- Commands one after another.
+-- The loop over the commands: what was printed so far, and what is still to come.
 use Rattle.std.proofs.Common.{◌≡◌, ℕ, ◌+◌, ◌<◌, List, ◌∷◌, ◌++◌, drop, get_or, length, sym, ap, ◌∙◌, append_assoc}
 use Rattle.std.proofs.lemmas.List.{drop_more}
 use Rattle.std.specs.Prelude.{Option}
@@ -8,7 +8,7 @@ use Rattle.macsec_secy.specs.State.{State}
 use Rattle.macsec_script_parser.specs.Scripts.{NumberedLine}
 use Rattle.macsec_capture.specs.Captured.{Part, commands_part, line_part}
 
--- what was printed, with what is still to come, is the whole
+-- what was printed, followed by what is still to come, is the whole
 pub record IsOnTheWay (whole : Part) (old now : Option (List ℕ)) (s : State) (rest : List NumberedLine) : Type 0 where
   pub lines : List ℕ
   pub prints : Appends old now lines

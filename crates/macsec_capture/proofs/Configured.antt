@@ -1,4 +1,4 @@
--- A run from its configuration on.
+-- A run from its configuration on: what it returns if the configuration was not read, and if it was.
 use Rattle.std.proofs.Common.{◌≡◌, ℕ, List, [], ◌∷◌, refl, sym, ap, subst, ◌∙◌}
 use Rattle.std.specs.Prelude.{true, not, is_some, Option, Some, None, Result, Ok, Err, IfSome, option_map}
 use Rattle.macsec_commands.specs.declared.config.EndConfig.{EndConfig}
@@ -28,7 +28,7 @@ no_fault (Some fault) h = cc
 some_same : (x y : EndConfig × List NumberedLine) → Some x ≡ Some y → x ≡ y
 some_same x y h = cc
 
--- the first line is that of the end
+-- if the first line is an `end` line for A, an endpoint can be created
 first_fit : (first : Line) (more : List NumberedLine) (config : EndConfig) (commands : List NumberedLine) → is_fit first ≡ true →
     option_map {U = EndConfig × List NumberedLine} (λ c. (c, more)) (a_config first) ≡ Some (config, commands) → config_fault config ≡ None
 first_fit (line.End A c) more config commands fit same =
@@ -63,7 +63,7 @@ unread_gives direction config file w (script.Number n) h = at_fault direction co
 unread_gives direction config file w (script.Ends n) h = at_fault direction config file w (script.Ends n) h
 unread_gives direction config file w (script.LineLong n) h = at_fault direction config file w (script.LineLong n) h
 
--- of readers whose octets are known, and of others
+-- the same, whether or not the readers' octets are known
 pub unread : (direction : Direction) (config input : Option (List ℕ)) (w : Written) (fault : ScriptFault) → IfSome config (λ c. ReadsConfig c (Err fault)) →
     IfSome config (λ c. IfSome input (λ file. CaptureGives (captured direction c file) w w (Err (Script fault))))
 unread direction None input w fault h = tt

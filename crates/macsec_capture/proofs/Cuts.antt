@@ -1,4 +1,4 @@
--- Outputs that are cut between two stops.
+-- An output that is cut between two stops: `AtNext` and `CutsOutput` of runs whose output fails.
 use Rattle.std.proofs.Common.{◌≡◌, ℕ, zero, suc, ◌+◌, ◌≤◌, ◌<◌, List, [], ◌∷◌, ◌++◌, length, map, take, drop, refl, sym, ap, subst, ◌∙◌, append_assoc, arith, take-append-drop}
 use Rattle.std.specs.Prelude.{Option, Some, Ok, option_map, slice_get}
 use Rattle.std.specs.List.{range_with_len}
@@ -19,14 +19,14 @@ use Rattle.macsec_capture.specs.Captured.{Part, Stop, first_stop, nothing, recor
 use Rattle.macsec_capture.specs.Runs.{AppendsUpTo, AtNext, CutsOutput, Written, first_part}
 use Rattle.macsec_capture.proofs.Stops.{put_before}
 
--- ---- octets up to some of a whole
+-- ---- octets that are cut
 
 begins_behind : (first xs front : List ℕ) → StartsWith xs front → StartsWith (first ++ xs) (first ++ front)
 begins_behind first xs front begins =
     starts_with_of_append (first ++ xs) (first ++ front) (drop (length front) xs)
     (ap (λ l. first ++ l) (starts_with_rest xs front begins) ∙ sym (append_assoc first front (drop (length front) xs)))
 
--- a front of what comes behind the first
+-- all of `first`, and then a prefix of `more`
 pub up_to_front : (old mid new : Option (List ℕ)) (first more : List ℕ) → Appends old mid first → AppendsFront mid new more → AppendsUpTo old new first (first ++ more)
 up_to_front old mid new first more adds (front, begins, grows) = (
   first ++ front,
@@ -47,14 +47,14 @@ up_to_behind old mid new header first whole adds (octets, has, within, grows) = 
 up_to_kept : (old mid new : Option (List ℕ)) (first whole : List ℕ) → Keeps mid new → AppendsUpTo old mid first whole → AppendsUpTo old new first whole
 up_to_kept old mid new first whole kept (octets, has, within, adds) = (octets, has, within, Appends-kept old mid new octets adds kept)
 
--- ---- two stops, one behind the other
+-- ---- a stop and the next
 
 number_at : (f : ℕ → Stop) (n count : ℕ) → n < count → slice_get (map f (range_with_len 0 count)) n ≡ Some (f n)
 number_at f n count within =
     slice_get-get_or (map f (range_with_len 0 count)) n (f n) (omega (arith, within, length-map-range_with_len f 0 count))
     ∙ ap Some (get_or-map-range_with_len f 0 count n n (f n) within (omega arith))
 
--- a stop behind the first one
+-- the stop after n records is at index n + 1
 stop_at : (direction : Direction) (ready : Part) (file : CaptureFile) (n : ℕ) → n ≤ length file.capture.records →
     slice_get (stops_of direction ready (Ok file)) (n + 1) ≡ Some (stop_behind direction ready file n)
 stop_at direction ready file n within =
@@ -62,7 +62,7 @@ stop_at direction ready file n within =
     ap (slice_get (stops_of direction ready (Ok file))) next
     ∙ number_at (stop_behind direction ready file) n (length file.capture.records + 1) (omega (arith, within))
 
--- the header is written between the first two
+-- the header is written between the first two stops
 pub at_header : (direction : Direction) (ready : Part) (file : CaptureFile) (P : Stop → Stop → Type 0) → P (first_stop ready) (stop_behind direction ready file 0) →
     AtNext (stops_of direction ready (Ok file)) P
 at_header direction ready file P holds = (0, first_stop ready, stop_behind direction ready file 0, refl, stop_at direction ready file 0 (omega arith), holds)
@@ -78,7 +78,7 @@ at_record direction ready file n P within holds = (
   holds,
 )
 
--- the same of other stops, each in the place of one of these
+-- the same of the stops that `put` makes of these
 pub next_put : (put : Stop → Stop) (stops : List Stop) (P Q : Stop → Stop → Type 0) → ((before after : Stop) → P before after → Q (put before) (put after)) →
     AtNext stops P → AtNext (map put stops) Q
 next_put put stops P Q puts (k, before, after, here, there, holds) = (
@@ -107,9 +107,9 @@ cut_put lines old mid new before after same prints (text, octets) = (
   subst (λ o. AppendsUpTo o new.output before.output after.output) same octets,
 )
 
--- ---- an output that is whole
+-- ---- a complete output
 
--- some first records write the front of what all write
+-- the first records write a prefix of what all write
 front_of_all : (direction : Direction) (s : State) (k : ℕ) (xs ys : List CaptureRecord) →
     StartsWith (records_part direction s k (xs ++ ys)).output (records_part direction s k xs).output
 front_of_all direction s k [] ys = refl
@@ -123,7 +123,7 @@ front_of_more direction s records n =
     subst (λ rs. StartsWith (records_part direction s 0 rs).output (first_part direction s records n).output) (take-append-drop n records)
     (front_of_all direction s 0 (take n records) (drop n records))
 
--- all was written, and yet the output fails: it can't be flushed
+-- everything was written, and the output can't be flushed
 pub at_flush : (direction : Direction) (s : State) (file : CaptureFile) (old new : Written) (n : ℕ) → n ≡ length file.capture.records →
     Appends old.text new.text (records_part direction s 0 file.capture.records).text →
     Appends old.output new.output (header_octets file.resolution ++ (records_part direction s 0 file.capture.records).output) →

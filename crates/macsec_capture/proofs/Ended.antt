@@ -1,4 +1,4 @@
--- A run that ends well has written the output of its last stop.
+-- A run without a fault has written the output of its last stop.
 use Rattle.std.proofs.Common.{◌≡◌, ℕ, List, [], refl, arith}
 use Rattle.std.specs.Prelude.{Option, Some, None, Result, Ok, Err}
 use Rattle.std.specs.Io.KnownBytes.{Appends}
@@ -16,7 +16,7 @@ use Rattle.macsec_capture.specs.Captured.{Captured, Part, captured, captured_aft
 use Rattle.macsec_capture.specs.Runs.{AtSome, CaptureGives, Grows, Written}
 use Rattle.macsec_capture.proofs.Stops.{at_last}
 
--- the output of one of the stops is this one
+-- the complete output is what some stop has
 abbrev IsAtOutput : Option (List ℕ) → Option (List ℕ) → Captured → Type 0
 IsAtOutput old new whole = whole.fault ≡ None → Appends old new whole.output → AtSome whole.stops (λ stop. Appends old new stop.output)
 
@@ -34,7 +34,7 @@ by_end : (old new : Option (List ℕ)) (direction : Direction) (lines : Result (
 by_end old new direction (Err fault) file none adds = cc
 by_end old new direction (Ok lines) file none adds = at_end old new direction (one_end lines) file none adds
 
--- so the text may fail after that
+-- so the contract of a failing text holds once everything was written
 pub written_whole : (direction : Direction) (config file : List ℕ) (old new : Written) → (captured direction config file).fault ≡ None →
     Grows old new (captured direction config file).output (captured direction config file).text → CaptureGives (captured direction config file) old new (Err (Script script.Write))
 written_whole direction config file old new none grows = by_end old.output new.output direction (config_of config) file none grows.output

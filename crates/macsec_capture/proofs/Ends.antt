@@ -1,4 +1,4 @@
--- A configuration without a fault has an end.
+-- A configuration without a fault begins with the line of its end.
 use Rattle.std.proofs.Common.{◌≡◌, ℕ, ◌+◌, List, [], ◌∷◌, refl, subst}
 use Rattle.std.specs.Prelude.{Bool, true, false, cond, IsSome, Option, Some, None, Result, Ok, Err}
 use Rattle.macsec_commands.specs.declared.config.EndConfig.{EndConfig}
@@ -25,7 +25,7 @@ end_first n config (Ok more) lines h =
     let same : ((n, line.End A config) ∷ more) ≡ lines = cc in subst (λ ls. IsSome (one_end ls)) same refl
 end_first n config (Err fault) lines h = cc
 
--- no other line is in its place
+-- any other first line is a fault
 placed_end : (n : ℕ) (said : Line) (more : Place → Result (List NumberedLine) ScriptFault) →
     GiveEnd (and_then (next_place n (place_after OnlyEnd said)) (λ next. map_ok (λ lines. (n, said) ∷ lines) (more next)))
 placed_end n (line.End A config) more lines h = end_first n config _ lines h

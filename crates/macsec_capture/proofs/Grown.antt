@@ -1,4 +1,4 @@
--- What is appended to the output and to the text, piece after piece.
+-- What successive writes append to the output and to the text.
 use Rattle.std.proofs.Common.{ℕ, List, [], ◌∷◌, ◌++◌}
 use Rattle.std.specs.Io.KnownBytes.{Keeps}
 use Rattle.std.specs.Prelude.{Err}
@@ -23,7 +23,7 @@ Grows-more a b c xs ys us vs first second = record {
   text = Appends-trans a.text b.text c.text us vs first.text second.text;
 }
 
--- ---- writers that keep what they have, as a flush does
+-- ---- writers whose octets do not change, as in a flush
 
 pub record Kept (mid new : Written) : Type 0 where
   pub output : Keeps mid.output new.output
@@ -48,7 +48,7 @@ first_kept (stop ∷ more) P Q keeps at = keeps stop at
 some_kept : (stops : List Stop) (P Q : Stop → Type 0) → ((stop : Stop) → P stop → Q stop) → AtSome stops P → AtSome stops Q
 some_kept stops P Q keeps at = (at.0, at.1, keeps at.0 at.2)
 
--- a fault ends a run as before
+-- a run that ends with a fault still does if the writers keep what they have
 pub fault_kept : (whole : Captured) (old mid new : Written) → Kept mid new → (fault : CaptureFault) →
     CaptureGives whole old mid (Err fault) → CaptureGives whole old new (Err fault)
 fault_kept whole old mid new kept (Script script.Memory) gives = Stays-kept old mid new kept gives

@@ -1,4 +1,4 @@
--- No frame is too long for a record.
+-- No frame that is sent or delivered is too long for a record.
 use Rattle.std.proofs.Common.{◌≡◌, ◌≤◌, ℕ, List, length, arith, subst, sym}
 use Rattle.std.specs.Prelude.{Option, Some, None, IfSome}
 use Rattle.macsec_secy.specs.Frames.{HasFrameLengths}

@@ -1,4 +1,4 @@
--- The stops of a run.
+-- The list of a run's stops: each stop is in it, and after the commands each has their text.
 use Rattle.std.proofs.Common.{◌≡◌, ℕ, ◌+◌, ◌≤◌, ◌<◌, List, [], ◌∷◌, ◌++◌, length, map, take, refl, sym, ap, subst, ◌∙◌, append-nil, arith}
 use Rattle.std.specs.Prelude.{Contains, Result, Ok, Err}
 use Rattle.std.specs.List.{range_with_len}
@@ -12,7 +12,7 @@ use Rattle.macsec_capture.specs.declared.Direction.{Direction}
 use Rattle.macsec_capture.specs.Captured.{Part, Stop, first_stop, nothing, records_part, stop_after, stop_behind, stops_of}
 use Rattle.macsec_capture.specs.Runs.{AtFirst, AtSome}
 
--- ---- a stop of a run is one of its stops
+-- ---- each stop is in the list
 
 pub at_first : (direction : Direction) (ready : Part) (file : Result CaptureFile PcapFault) (P : Stop → Type 0) → P (first_stop ready) →
     AtFirst (stops_of direction ready file) P
@@ -45,7 +45,7 @@ some_behind direction ready file n P within holds =
       holds,
     )
 
--- the last one is behind all records
+-- the last stop is after all records
 pub at_last : (direction : Direction) (ready : Part) (file : CaptureFile) (P : Stop → Type 0) →
     P (stop_after ready file (records_part direction ready.state 0 file.capture.records)) → AtSome (stops_of direction ready (Ok file)) P
 at_last direction ready file P holds =
@@ -54,7 +54,7 @@ at_last direction ready file P holds =
     some_behind direction ready file (length all) P (omega arith)
     (subst (λ rs. P (stop_after ready file (records_part direction ready.state 0 rs))) (sym is) holds)
 
--- ---- stops behind what the commands printed
+-- ---- stops after what the commands printed
 
 abbrev pub put_before : List ℕ → Stop → Stop
 put_before lines stop = record { output = stop.output; text = lines ++ stop.text }

@@ -1,4 +1,4 @@
--- Records one after another.
+-- The loop over the records: what the first k write, by induction on k, and how the loop ends.
 use Rattle.std.proofs.Common.{◌≡◌, ℕ, ◌+◌, ◌<◌, List, [], ◌∷◌, ◌++◌, length, take, refl, sym, ap, subst, ◌∙◌, append_assoc, append-nil, arith, length-append}
 use Rattle.std.specs.Prelude.{Option, Some, None, Ok, Err}
 use Rattle.std.proofs.lemmas.List.{take_at}
@@ -22,7 +22,7 @@ use Rattle.macsec_capture.specs.Runs.{Adds, CutsOutput, FailsIn, Grows, IsLateFa
 use Rattle.macsec_capture.proofs.Cuts.{up_to_front}
 use Rattle.macsec_capture.proofs.Grown.{Grows-more, Grows-nothing}
 
--- ---- what records write, with one more behind them
+-- ---- what records write, and one more after them
 
 same_part : (a b : Part) → a.output ≡ b.output → a.text ≡ b.text → a.state ≡ b.state → a ≡ b
 same_part a b o t s =
@@ -50,7 +50,7 @@ part_more direction s k j (x ∷ xs) r same =
 
 -- ---- the records that were taken
 
--- what was written is what the first k records write, and the reader holds the others
+-- what the first k records write was written, and the reader holds the rest
 pub record IsHeld (direction : Direction) (first : State) (capture : Capture) (left : Ahead) (old now : Written) (s : State) (k : ℕ) : Type 0 where
   pub front : List CaptureRecord
   pub rest : List CaptureRecord
@@ -59,14 +59,14 @@ pub record IsHeld (direction : Direction) (first : State) (capture : Capture) (l
   pub ahead : left ≡ holds (record { records = rest; fault = capture.fault })
   pub adds : Adds (records_part direction first 0 front) old now s
 
--- the same, if it is known what lies ahead of the reader
+-- the same, if it is known what the reader has ahead of it
 abbrev pub AreTaken : Direction → State → Ahead → Ahead → Written → Written → State → ℕ → Type 0
 AreTaken direction first (holds capture) ahead old now s k = IsHeld direction first capture ahead old now s k
 AreTaken direction first untold ahead old now s k = Unit {0}
 AreTaken direction first over ahead old now s k = Unit {0}
 AreTaken direction first (failed fault) ahead old now s k = Unit {0}
 
--- no record was taken yet
+-- before the first record
 pub none_taken : (direction : Direction) (s : State) (ahead : Ahead) (w : Written) → AreTaken direction s ahead ahead w w s 0
 none_taken direction s (holds capture) w = record {
   front = [];
@@ -82,14 +82,14 @@ none_taken direction s (failed fault) w = tt
 
 -- ---- one more record
 
--- what the reader returned was the first of the records that are left
+-- the reader returned the first of the records that were left
 first_held : (rest : List CaptureRecord) (end : Option PcapFault) (r : CaptureRecord) → Ok (Some r) ≡ first_of (record { records = rest; fault = end }) →
     (more : List CaptureRecord) × (rest ≡ r ∷ more)
 first_held [] None r same = cc
 first_held [] (Some fault) r same = cc
 first_held (first ∷ more) end r same = let is : first ≡ r = cc in (more, ap (λ x. x ∷ more) is)
 
--- the records before the one that was returned, it, and those after it
+-- the records before the one that was returned, that one, and the records after it
 record Next (direction : Direction) (first : State) (capture : Capture) (left : Ahead) (old now : Written) (s : State) (k : ℕ) (r : CaptureRecord) : Type 0 where
   front : List CaptureRecord
   more : List CaptureRecord
@@ -111,14 +111,14 @@ next_held direction first capture ahead old now s k r held answer =
       adds = held.adds;
     }
 
--- so there is one more than those before it
+-- so k is below the number of records
 within_next : (direction : Direction) (first : State) (capture : Capture) (ahead : Ahead) (old now : Written) (s : State) (k : ℕ) (r : CaptureRecord) →
     Next direction first capture ahead old now s k r → k < length capture.records
 within_next direction first capture ahead old now s k r at =
     let long : length capture.records ≡ length (at.front ++ r ∷ []) + length at.more = ap length at.all ∙ length-append (at.front ++ r ∷ []) at.more in
     omega (arith, long, length-append at.front (r ∷ []), at.count)
 
--- the number of the record is that of those before it
+-- the record's number is the number of records before it
 with_next : (direction : Direction) (first : State) (front : List CaptureRecord) (k : ℕ) (r : CaptureRecord) → length front ≡ k →
     records_part direction first 0 (front ++ r ∷ []) ≡ and_after (records_part direction first 0 front) (λ after. record_part direction after k r)
 with_next direction first front k r count = part_more direction first 0 k front r (omega (arith, count))
@@ -153,7 +153,7 @@ taken_more direction first (failed fault) ahead next old now new s after k r tak
 
 -- ---- the end
 
--- nothing is left
+-- the reader has no records left
 abbrev IsOver : List CaptureRecord → Option PcapFault → Option PcapFault → Type 0
 IsOver rest end wanted = (rest ≡ []) × (end ≡ wanted)
 
@@ -194,7 +194,7 @@ taken_end direction first (failed fault) ahead old now s k count taken answer = 
 front_taken : (records front rest : List CaptureRecord) (n : ℕ) → records ≡ front ++ rest → length front ≡ n → take n records ≡ front
 front_taken records front rest n all count = ap (take n) all ∙ take_at front rest n count
 
--- what holds of the part of the first n records
+-- P holds of the part that the first n records write
 at_front : (direction : Direction) (s : State) (records front rest : List CaptureRecord) (n : ℕ) (P : Part → Type 0) → records ≡ front ++ rest →
     length front ≡ n → P (records_part direction s 0 front) → P (first_part direction s records n)
 at_front direction s records front rest n P all count met =

@@ -1,4 +1,4 @@
--- A run over a whole file, from its parts.
+-- A run over a whole file, composed of its parts: header, records, flush and counters.
 use Rattle.std.proofs.Common.{◌≡◌, ℕ, List, [], ◌++◌, length, map, refl, sym, ap, subst, ◌∙◌, append-nil, arith}
 use Rattle.std.specs.Prelude.{Option, Some, None, Result, Ok, Err, IfErr, IfSome, option_map}
 use Rattle.std.specs.Io.{StartsWith}
@@ -31,11 +31,11 @@ use Rattle.macsec_capture.proofs.Cuts.{at_flush, at_header, at_record, cut_put, 
 use Rattle.macsec_capture.proofs.Grown.{Grows-kept, Grows-more, Grows-nothing, Kept, fault_kept}
 use Rattle.macsec_capture.proofs.Stops.{at_first, at_last, first_put, put_before, some_at_first, some_behind, some_put, stops_put}
 
--- what is written of a file, its commands aside
+-- a run over a file, without commands before it
 abbrev pub of_file : Direction → State → CaptureFile → Captured
 of_file direction s file = captured_after direction (nothing s) (Ok file)
 
--- ---- the records of a file, behind its header
+-- ---- the records of a file, after its header
 
 abbrev records_of_file : Direction → State → CaptureFile → Part
 records_of_file direction s file = records_part direction s 0 file.capture.records
@@ -51,7 +51,7 @@ all_but_fault direction s file old mid new after fault first ended =
     sym (ap (λ e. part.text ++ last_lines e part.state) ended.0 ∙ append-nil part.text) in
     (ap (option_map Pcap) ended.0, subst (Grows old new (header ++ part.output)) lines grown)
 
--- the input, the output or the text ends the run
+-- the input or the output ends the run
 held_fault : (direction : Direction) (s : State) (file : CaptureFile) (taken : ℕ) (old mid new : Written) (after : State) →
     Grows old mid (header_octets file.resolution) [] → IsOfFormat file.capture.fault → (fault : PcapFault) →
     RunsHeld direction s file.capture taken mid new after (Err (Pcap fault)) → CaptureGives (of_file direction s file) old new (Err (Pcap fault))
@@ -95,7 +95,7 @@ held_takes direction s file taken old mid new after (Err (Script fault)) first f
 held_takes direction s file taken old mid new after (Err (Pcap fault)) first format runs =
     held_fault direction s file taken old mid new after first format fault runs
 
--- the header is the file's, and the reader holds its records
+-- the reader was opened on this file: it has the header's unit of time, and holds the records
 pub taken_of_file : ((file : List ℕ) → FileIsOfFormat (captures_of file)) → (direction : Direction) (s : State) (reader : Reading) (unit : Resolution)
     (taken : ℕ) (o m n x t u : Option (List ℕ)) (after : State) (answer : Result (Unit {0}) CaptureFault) →
     x ≡ n → unit ≡ reader.resolution → Appends o m (header_octets unit) → RunsRecords direction s reader.ahead taken (known m t) (known n u) after answer →
@@ -154,7 +154,7 @@ uncounted direction s file o n t u v after fault is takes =
     subst (λ f. CaptureGives (of_file direction s file) (known o t) (known n v) (Err (Script f))) (sym is)
     (at_last direction (nothing s) file (λ stop. Appends o n stop.output) takes.1.grows.output)
 
--- they are printed
+-- the counters are printed
 pub counted : (direction : Direction) (s : State) (file : CaptureFile) (o n t u v : Option (List ℕ)) (after : State) →
     TakesFile direction s file (known o t) (known n u) after (Ok tt) → Appends u v (counters_text End after) →
     CaptureGives (of_file direction s file) (known o t) (known n v) (Ok tt)
@@ -219,7 +219,7 @@ opened_gives direction s None reader old new answer opens gives = tt
 opened_gives direction s (Some octets) reader old new answer opens gives =
     subst (λ f. CaptureGives (captured_after direction (nothing s) f) old new answer) (sym opens.1) (gives octets opens.0 opens.1 opens.2)
 
--- ---- behind what the commands printed
+-- ---- after what the commands printed
 
 -- the same with lines in front of the text
 abbrev behind : List ℕ → Captured → Captured
@@ -275,7 +275,7 @@ captured_after-behind direction ready (Ok file) =
     let whole = captured_after direction ready (Ok file) in
     ap (λ (stops : List Stop). record { output = whole.output; text = whole.text; fault = whole.fault; stops = stops }) (stops_put direction ready (Ok file))
 
--- the commands were carried out, and then the file was taken
+-- the commands were carried out, and then the file was run
 pub ready_gives : (direction : Direction) (ready : Part) (s : State) (file : Result CaptureFile PcapFault) (old mid new : Written) → s ≡ ready.state →
     mid.output ≡ old.output → Appends old.text mid.text ready.text → (answer : Result (Unit {0}) CaptureFault) → IfErr answer IsLateFault →
     CaptureGives (captured_after direction (nothing s) file) mid new answer → CaptureGives (captured_after direction ready file) old new answer

@@ -1,4 +1,4 @@
--- What a run over a capture file writes: the output file, and the text.
+-- What a run over a capture file writes to the output and to the text.
 use Rattle.std.specs.Prelude.{ℕ, ◌+◌, List, [], ◌∷◌, ◌++◌, length, map, take, Option, Some, None, Result, Ok, Err, option_map}
 use Rattle.std.specs.List.{range_with_len}
 use Rattle.macsec_commands.specs.declared.config.EndConfig.{EndConfig}
@@ -24,7 +24,7 @@ use Rattle.macsec_capture.specs.declared.fault.CaptureFault.{CaptureFault}
 use Rattle.macsec_capture.specs.declared.fault.CaptureFault.TheVariants.{Script, Pcap}
 use Rattle.macsec_capture.specs.Lines.{frame_line, partial_line}
 
--- what a part of a run writes to the output file and to the text, and the endpoint after it
+-- what a part of a run writes to the output and to the text, and the endpoint after it
 pub record Part : Type 0 where
   pub output : List ℕ
   pub text : List ℕ
@@ -33,7 +33,7 @@ pub record Part : Type 0 where
 abbrev pub nothing : State → Part
 nothing s = record { output = []; text = []; state = s }
 
--- a part, and then another one from the endpoint after it
+-- a part, and then another from the endpoint after the first
 abbrev pub and_after : Part → (State → Part) → Part
 and_after first next = record {
   output = first.output ++ (next first.state).output;
@@ -51,7 +51,7 @@ command_outcome other = Done
 abbrev pub command_part : ℕ → Output × State → Part
 command_part n answer = record { output = []; text = outcome_text n None (Ok (command_outcome answer.0)); state = answer.1 }
 
--- what line n of a configuration prints; all of its lines but the first are commands at its end
+-- what line n of a configuration prints; all lines but the first are commands
 abbrev pub line_part : State → NumberedLine → Part
 line_part s (n, line.Event (event.Command e command)) = command_part n (step s (operator_command command))
 line_part s other = nothing s
@@ -60,25 +60,25 @@ abbrev pub commands_part : State → List NumberedLine → Part
 commands_part s [] = nothing s
 commands_part s (said ∷ more) = and_after (line_part s said) (λ after. commands_part after more)
 
--- the configuration of the first line, and the lines after it
+-- the configuration of the first line, if that is an `end` line for A, and the lines after it
 abbrev pub one_end : List NumberedLine → Option (EndConfig × List NumberedLine)
 one_end [] = None
 one_end (first ∷ more) = option_map (λ config. (config, more)) (a_config first.1)
 
 -- ---- the records
 
--- a frame is one of the client to be protected, or one of the link to be validated
+-- a frame is a client frame to protect, or a link frame to validate
 abbrev pub input_of : Direction → List ℕ → Input
 input_of Protect frame = client_frame frame
 input_of Validate frame = link_frame frame
 
--- the frame for the output file: what is sent to the link, or what is delivered at the controlled port
+-- the frame for the output: what is sent to the link, or what is delivered at the controlled port
 abbrev pub frame_of_output : Output → Option (List ℕ)
 frame_of_output (leaves frame under) = Some frame
 frame_of_output (received verdict row shown controlled) = controlled
 frame_of_output other = None
 
--- a frame for the output file, with the time of the record that it came from
+-- the output's record of a frame, with the time of the record that it came from
 abbrev pub record_of_frame : CaptureRecord → Option (List ℕ) → List ℕ
 record_of_frame r None = []
 record_of_frame r (Some frame) = record_octets r.seconds r.fraction frame
@@ -90,7 +90,7 @@ frame_part k r answer = record {
   state = answer.1;
 }
 
--- record number k with this frame, or a partial one, which does not reach the endpoint
+-- record number k with this frame; a partial record does not reach the endpoint
 abbrev pub body_part : Direction → State → ℕ → CaptureRecord → Option (List ℕ) → Part
 body_part direction s k r None = record { output = []; text = partial_line k; state = s }
 body_part direction s k r (Some frame) = frame_part k r (step s (input_of direction frame))
@@ -105,24 +105,24 @@ records_part direction s k (r ∷ more) = and_after (record_part direction s k r
 
 -- ---- the stops
 
--- where a device that fails can end a run: what is written by then
+-- a point where a failing device can end a run, as what is written by then
 pub record Stop : Type 0 where
   pub output : List ℕ
   pub text : List ℕ
 
--- behind the commands
+-- after the commands
 abbrev pub first_stop : Part → Stop
 first_stop ready = record { output = []; text = ready.text }
 
--- behind the output's header and these first records
+-- after the output's header and these first records
 abbrev pub stop_after : Part → CaptureFile → Part → Stop
 stop_after ready file records = record { output = header_octets file.resolution ++ records.output; text = ready.text ++ records.text }
 
--- behind the first n records
+-- after the first n records
 abbrev pub stop_behind : Direction → Part → CaptureFile → ℕ → Stop
 stop_behind direction ready file n = stop_after ready file (records_part direction ready.state 0 (take n file.capture.records))
 
--- all of them, in order: behind the commands; and of a file without a fault in its header, behind 0 records, 1, .. and all
+-- all stops, in order: after the commands, and if the file's header has no fault, after 0 records, 1, .. and all
 abbrev pub stops_of : Direction → Part → Result CaptureFile PcapFault → List Stop
 stops_of direction ready (Err fault) = first_stop ready ∷ []
 stops_of direction ready (Ok file) =
@@ -130,19 +130,19 @@ stops_of direction ready (Ok file) =
 
 -- ---- the run
 
--- what is written, the fault that ends the run, if one does, and the stops; a configuration with a fault has none
+-- what is written, the fault that ends the run, if any, and the stops; a configuration with a fault has no stops
 pub record Captured : Type 0 where
   pub output : List ℕ
   pub text : List ℕ
   pub fault : Option CaptureFault
   pub stops : List Stop
 
--- the counters after the last record, unless the file has a fault; they are behind every stop
+-- the counters after the last record, unless the file has a fault; no stop has them
 abbrev pub last_lines : Option PcapFault → State → List ℕ
 last_lines None s = counters_text End s
 last_lines (Some fault) s = []
 
--- of a file without a fault in its header: its header in the same unit of time, and a record for each frame
+-- for a file without a fault in its header: a header with the same unit of time, and a record for each frame
 abbrev pub captured_file : Direction → Part → CaptureFile → Part → Captured
 captured_file direction ready file records = record {
   output = header_octets file.resolution ++ records.output;
@@ -151,7 +151,7 @@ captured_file direction ready file records = record {
   stops = stops_of direction ready (Ok file);
 }
 
--- behind what the commands of the configuration printed
+-- a run over a file, after what the commands of the configuration printed
 abbrev pub captured_after : Direction → Part → Result CaptureFile PcapFault → Captured
 captured_after direction ready (Err fault) = record {
   output = [];
@@ -172,6 +172,6 @@ abbrev pub captured_by : Direction → Result (List NumberedLine) ScriptFault �
 captured_by direction (Err fault) file = record { output = []; text = []; fault = Some (Script fault); stops = [] }
 captured_by direction (Ok lines) file = captured_at direction (one_end lines) file
 
--- a run in this direction by a configuration over a capture file
+-- a run in this direction, by this configuration, over this capture file
 abbrev pub captured : Direction → List ℕ → List ℕ → Captured
 captured direction config file = captured_by direction (config_of config) file

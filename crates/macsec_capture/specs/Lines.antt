@@ -1,4 +1,4 @@
--- What is printed of a record of a capture: its number, from 0, and what becomes of its frame.
+-- The line that is printed for a record of a capture: its number, from 0, and what was done with its frame.
 use Rattle.std.specs.Prelude.{ℕ, List, [], ◌++◌, length, decimal, codes, Option, Some, None}
 use Rattle.macsec_rx.specs.declared.Verdict.{Verdict}
 use Rattle.macsec_rx.specs.Verdicts.{verdict_name}
@@ -8,22 +8,22 @@ use Rattle.macsec_secy.specs.declared.fault.FrameFault.TheVariants.{Short, Long}
 use Rattle.macsec_secy.specs.Step.{Output, done, refused, leaves, dropped_no_sa, dropped_too_long, received, fault}
 use Rattle.macsec_script_printer.specs.Outcomes.{drop_text}
 
--- a fault of a frame by its number and its name
+-- the number and the name of a frame's fault
 abbrev pub frame_fault_text : FrameFault → List ℕ
 frame_fault_text Short = codes "1 Short"
 frame_fault_text Long = codes "2 Long"
 
--- not all of the frame was captured
+-- the frame was captured only in part
 abbrev pub partial_line : ℕ → List ℕ
 partial_line k = codes "record " ++ decimal k ++ codes " partial\n"
 
--- the verdict on a link frame, and how many octets are delivered, if any are
+-- the verdict on a link frame, and the number of octets delivered, if a frame is
 abbrev pub verdict_line : ℕ → Verdict → Option (List ℕ) → List ℕ
 verdict_line k verdict None = codes "record " ++ decimal k ++ codes " " ++ verdict_name verdict ++ codes "\n"
 verdict_line k verdict (Some frame) =
     codes "record " ++ decimal k ++ codes " " ++ verdict_name verdict ++ codes " " ++ decimal (length frame) ++ codes "\n"
 
--- a frame of record k; a frame is no command, so it is neither done nor refused
+-- the frame of record k; only commands are done or refused
 abbrev pub frame_line : ℕ → Output → List ℕ
 frame_line k (leaves frame under) = codes "record " ++ decimal k ++ codes " link " ++ decimal (length frame) ++ codes "\n"
 frame_line k dropped_no_sa = codes "record " ++ decimal k ++ codes " dropped " ++ drop_text NoSa ++ codes "\n"

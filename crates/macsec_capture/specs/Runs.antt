@@ -18,7 +18,7 @@ use Rattle.macsec_capture.specs.declared.fault.CaptureFault.{CaptureFault}
 use Rattle.macsec_capture.specs.declared.fault.CaptureFault.TheVariants.{Script, Pcap}
 use Rattle.macsec_capture.specs.Captured.{Captured, Part, Stop, captured_after, nothing, records_part}
 
--- the known octets of the two writers, of the output file and of the text
+-- the octets of the output and of the text, where a contract can name them
 pub record Written : Type 0 where
   pub output : Option (List ℕ)
   pub text : Option (List ℕ)
@@ -26,7 +26,7 @@ pub record Written : Type 0 where
 abbrev pub known : Option (List ℕ) → Option (List ℕ) → Written
 known octets lines = record { output = octets; text = lines }
 
--- octets were appended to what the output had, and lines to what the text had
+-- octets were appended to the output, and lines to the text
 pub record Grows (old new : Written) (octets lines : List ℕ) : Type 0 where
   pub output : Appends old.output new.output octets
   pub text : Appends old.text new.text lines
@@ -36,33 +36,33 @@ pub record Stays (old new : Written) : Type 0 where
   pub output : Keeps old.output new.output
   pub text : Keeps old.text new.text
 
--- the output's header comes before what the records of a file write
+-- what the records of a file write, after the output's header
 abbrev pub behind_header : CaptureFile → Part → Part
 behind_header file part = record { output = header_octets file.resolution ++ part.output; text = part.text; state = part.state }
 
--- what a part writes is appended, and the endpoint is as it leaves it
+-- what the part writes was appended, and the endpoint is the one after the part
 pub record Adds (part : Part) (old new : Written) (after : State) : Type 0 where
   pub grows : Grows old new part.output part.text
   pub state : after ≡ part.state
 
--- a write of a part fails: its lines come first, so if the text can't be written, nothing is written to the output, and
--- if the output can't be, the lines are all written, and of the part's output the first octets at most
+-- a write of a part fails. The lines are written first: if the text fails, the output is unchanged; if the output
+-- fails, all lines are written, and at most a prefix of the part's output
 abbrev pub FailsIn : Part → Written → Written → CaptureFault → Type 0
 FailsIn part old new (Script fault) = (fault ≡ script.Write) × (new.output ≡ old.output)
 FailsIn part old new (Pcap fault) =
     (fault ≡ pcap.Write) × Appends old.text new.text part.text × AppendsFront old.output new.output part.output
 
--- the text's writer failed, or the input or the output is at fault
+-- a write to the text failed, or the fault is in `Pcap`
 abbrev pub IsLateFault : CaptureFault → Type 0
 IsLateFault (Script fault) = fault ≡ script.Write
 IsLateFault (Pcap fault) = Unit {0}
 
--- known octets grow by those that come first, and by some more of the whole: by none, by some or by all
+-- all of `first` was appended, and maybe more of `whole`: none, some or all of the rest
 abbrev pub AppendsUpTo : Option (List ℕ) → Option (List ℕ) → List ℕ → List ℕ → Type 0
 AppendsUpTo old new first whole = (octets : List ℕ) × StartsWith octets first × StartsWith whole octets × Appends old new octets
 
--- a write to the output fails on the way from a stop to the next: that one's lines are all written, and of its output all
--- that the stop before has, and nothing behind it
+-- a write to the output fails between a stop and the next: the text has all lines of the next stop, and the output has
+-- all of the first stop and at most what the next one has
 abbrev pub CutsOutput : Written → Written → Stop → Stop → Type 0
 CutsOutput old new before after = Appends old.text new.text after.text × AppendsUpTo old.output new.output before.output after.output
 
@@ -73,13 +73,14 @@ first_part direction s records n = records_part direction s 0 (take n records)
 abbrev pub part_stop : Part → Stop
 part_stop part = record { output = part.output; text = part.text }
 
--- a write fails in the last of the records that were taken, of which n come before it
+-- a write fails in the last record that was taken, which has n records before it
 abbrev pub InLast : List CaptureRecord → ℕ → (ℕ → Type 0) → Type 0
 InLast records taken Holds = (n : ℕ) × (n + 1 ≡ taken) × (n < length records) × Holds n
 
--- of a run over the records that are held, when this many of them were taken: it ends with them, or with the fault after
--- them, unless a read or a write fails first. If a read fails, both writers have what the records that were taken write.
--- If a write does, it is in the last of these, and the other writer has what comes before it
+-- a run over the records that the reader holds, after `taken` of them: it ends with the last one, or with the fault
+-- after it, unless a read or a write fails first. If a read fails, both writers have what the taken records write. A
+-- write fails in the last record taken. If the text fails, the output has what comes before that record; if the output
+-- fails, the text has that record's line, and the output all that comes before the record
 abbrev pub RunsHeld : Direction → State → Capture → ℕ → Written → Written → State → Result (Unit {0}) CaptureFault → Type 0
 RunsHeld direction s held taken old new after (Ok done) =
     (held.fault ≡ None) × Adds (records_part direction s 0 held.records) old new after
@@ -94,14 +95,14 @@ RunsHeld direction s held taken old new after (Err (Pcap pcap.Write)) = IsOfForm
 RunsHeld direction s held taken old new after (Err (Pcap fault)) =
     (held.fault ≡ Some fault) × Adds (records_part direction s 0 held.records) old new after
 
--- the same of what lies ahead of a reader, if it is known
+-- the same for what the reader has ahead of it, if that is known
 abbrev pub RunsRecords : Direction → State → Ahead → ℕ → Written → Written → State → Result (Unit {0}) CaptureFault → Type 0
 RunsRecords direction s (holds held) taken old new after answer = RunsHeld direction s held taken old new after answer
 RunsRecords direction s untold taken old new after answer = Unit {0}
 RunsRecords direction s over taken old new after answer = Unit {0}
 RunsRecords direction s (failed fault) taken old new after answer = Unit {0}
 
--- what a read of a configuration returns: its lines or its first fault, unless memory runs out or a read fails first
+-- reading a configuration returns its lines or its first fault, unless memory runs out or a read fails first
 abbrev pub ReadsConfig : List ℕ → Result (List NumberedLine) ScriptFault → Type 0
 ReadsConfig config (Ok lines) = config_of config ≡ Ok lines
 ReadsConfig config (Err script.Memory) = Unit {0}
@@ -109,7 +110,7 @@ ReadsConfig config (Err script.Read) = Unit {0}
 ReadsConfig config (Err script.Write) = ⊥
 ReadsConfig config (Err fault) = config_of config ≡ Err fault
 
--- what is said holds of the first stop of a list; of some stop of it (`AtSome`)
+-- `Holds` of the first stop of a list; of some stop (`AtSome`)
 abbrev pub AtFirst : List Stop → (Stop → Type 0) → Type 0
 AtFirst [] Holds = ⊥
 AtFirst (stop ∷ more) Holds = Holds stop
@@ -117,16 +118,16 @@ AtFirst (stop ∷ more) Holds = Holds stop
 abbrev pub AtSome : List Stop → (Stop → Type 0) → Type 0
 AtSome stops Holds = (stop : Stop) × Contains stops stop × Holds stop
 
--- of some stop and the next
+-- `Holds` of some stop and the next
 abbrev pub AtNext : List Stop → (Stop → Stop → Type 0) → Type 0
 AtNext stops Holds =
     (k : ℕ) × (before : Stop) × (after : Stop) × (slice_get stops k ≡ Some before) × (slice_get stops (k + 1) ≡ Some after) × Holds before after
 
--- what a run returns and writes: all of it and the fault that ends it, unless memory runs out, or a read or a write fails
--- first. Nothing is written before the configuration is read. The memory of the input's reader is taken at the first
--- stop. If the input can't be read, output and text are those of one stop. If the output can't be written, the text is
--- that of a stop, and the output has what it has at the stop before, and nothing behind this one. If the text can't be
--- written, the output has what it has at a stop, and nothing is said of the text
+-- what a run returns and writes: all that `whole` has and its fault, unless memory runs out, or a read or a write fails
+-- first. Nothing is written before the configuration is read. The input's reader allocates at the first stop. If the
+-- input can't be read, output and text are at the same stop. If the output can't be written, the text is at a stop, and
+-- the output has all of the stop before it and at most what this one has. If the text can't be written, the output is
+-- at a stop, and the text is not specified
 abbrev pub CaptureGives : Captured → Written → Written → Result (Unit {0}) CaptureFault → Type 0
 CaptureGives whole old new (Ok done) = (whole.fault ≡ None) × Grows old new whole.output whole.text
 CaptureGives whole old new (Err (Script script.Memory)) = Stays old new
@@ -138,20 +139,19 @@ CaptureGives whole old new (Err (Pcap pcap.Read)) = AtSome whole.stops (λ stop.
 CaptureGives whole old new (Err (Pcap pcap.Write)) = AtNext whole.stops (CutsOutput old new)
 CaptureGives whole old new (Err (Pcap fault)) = (whole.fault ≡ Some (Pcap fault)) × Grows old new whole.output whole.text
 
--- of the part of a run over an opened file that comes before the counters
+-- the same for a run over an opened file, up to the counters
 abbrev pub TakesFile : Direction → State → CaptureFile → Written → Written → State → Result (Unit {0}) CaptureFault → Type 0
 TakesFile direction s file old new after (Ok done) =
     (file.capture.fault ≡ None) × Adds (behind_header file (records_part direction s 0 file.capture.records)) old new after
 TakesFile direction s file old new after (Err fault) = CaptureGives (captured_after direction (nothing s) (Ok file)) old new (Err fault)
 
--- records end by their own fault, else by that of the output's flush
+-- the fault of the records, if they have one, else that of the output's flush
 abbrev pub flushed_end : {E : Type 0} → Result (Unit {0}) CaptureFault → Result (Unit {0}) E → Result (Unit {0}) CaptureFault
 flushed_end (Err fault) flushed = Err fault
 flushed_end (Ok done) (Err error) = Err (Pcap pcap.Write)
 flushed_end (Ok done) (Ok flushed) = Ok tt
 
--- whether the readers' octets are known or not: of every fault of a configuration, of its memory and of its reader, nothing
--- is written
+-- over any reader: nothing is written if the configuration has a fault or can't be read, or if memory runs out for it
 abbrev pub LeavesBoth : Written → Written → CaptureFault → Type 0
 LeavesBoth old new (Script script.Write) = Unit {0}
 LeavesBoth old new (Script fault) = Stays old new

@@ -1,4 +1,4 @@
-//! The configuration of a capture's endpoint: its end, and its commands.
+//! The configuration of an endpoint that runs over a capture: the line of its end, and its commands.
 
 ghost use Rattle.std.specs.Prelude.{◌≡◌, IfErr, IfOk, None, OnOk, option_map};
 ghost use Rattle.std.specs.Io.KnownBytes.{Appends};
@@ -17,7 +17,7 @@ use macsec_secy::{NewFault, Refusal, Secy};
 use std::alloc::Global;
 use std::io::Write;
 
-/// The configuration of the first line, if that is the line of end A, and the lines after it.
+/// The configuration of the first line, if that is an `end` line for A, and the lines after it.
 pub(crate) fn one_end(lines: &[(u32, Line)]) -> Option<(EndConfig, &[(u32, Line)])>
     ensures { one_end lines.now ≡ option_map (λ run. (run.0, run.1.now)) result }
 {
@@ -28,7 +28,7 @@ pub(crate) fn one_end(lines: &[(u32, Line)]) -> Option<(EndConfig, &[(u32, Line)
     }
 }
 
-/// The endpoint of a configuration of which one can be created, or `Memory`.
+/// Creates an endpoint of a valid configuration. The only fault is `Memory`.
 pub(crate) fn endpoint_of(alloc: Global, config: EndConfig) -> Result<Secy, ScriptFault>
     requires { config_fault config ≡ None }
     ensures state { IfOk result (λ s. s ≡ start config) }

@@ -1,16 +1,16 @@
-//! Why a capture is not run to its end.
+//! Why a run over a capture file fails.
 
 use macsec_pcap::PcapFault;
 use macsec_script_parser::ScriptFault;
 use thiserror::Error;
 
-/// Why a capture is not run to its end.
+/// Why a run over a capture file fails.
 #[derive(Clone, Copy, Debug, Error)]
 pub enum CaptureFault {
-    /// The configuration has a fault or can't be read, the text can't be written, or there is no memory for them.
+    /// The configuration has a fault or can't be read, the text can't be written, or memory ran out for one of them.
     #[error(transparent)]
     Script(ScriptFault),
-    /// The capture file has a fault or can't be read, the other one can't be written, or there is no memory for them.
+    /// The input has a fault or can't be read, the output can't be written, or memory ran out for one of them.
     #[error(transparent)]
     Pcap(PcapFault),
 }

@@ -1,4 +1,4 @@
-//! The lines of the records of a capture.
+//! The line that is printed for each record of a capture.
 
 ghost use Rattle.std.specs.Prelude.{◌≡◌, OnOk, option_copied};
 ghost use Rattle.std.specs.Io.KnownBytes.{Appends};
@@ -10,7 +10,7 @@ use macsec_script_printer::drop_text;
 use macsec_secy::{FrameFault, Received, Sent, Verdict};
 use std::io::{self, Write};
 
-/// A fault of a frame as it is printed: its number and its name.
+/// The number and the name of a frame's fault, as they are printed.
 fn frame_fault_text(fault: FrameFault) -> &'static str
     ensures { result.now ≡ frame_fault_text fault }
 {
@@ -20,7 +20,7 @@ fn frame_fault_text(fault: FrameFault) -> &'static str
     }
 }
 
-/// Writes the line of a record of which not all was captured.
+/// Writes the line of a record whose frame was captured only in part.
 pub(crate) fn write_partial<T: Write>(text: &mut T, k: u32) -> io::Result<()>
     ensures { OnOk result (Appends (T.contents text.old) (T.contents text.new) (partial_line k)) }
 {
@@ -35,7 +35,7 @@ fn write_fault<T: Write>(text: &mut T, k: u32, why: FrameFault) -> io::Result<()
     writeln!(text, "record {k} fault {name}")
 }
 
-/// Writes the line of a client frame: how long the frame is that is sent for it, or why none is.
+/// Writes the line of a client frame: the length in octets of the frame that is sent for it, or why none is sent.
 pub(crate) fn write_sent<T: Write>(
     text: &mut T,
     k: u32,
@@ -56,7 +56,7 @@ pub(crate) fn write_sent<T: Write>(
     }
 }
 
-/// Writes the line of a verdict, and how many octets are delivered, if any are.
+/// Writes the line of a verdict, with the number of octets delivered if a frame is.
 fn write_verdict<T: Write>(
     text: &mut T,
     k: u32,
@@ -75,7 +75,8 @@ fn write_verdict<T: Write>(
     }
 }
 
-/// Writes the line of a link frame: its verdict, and how many octets are delivered at the controlled port.
+/// Writes the line of a link frame: its verdict, and the number of octets delivered at the controlled port, if a frame
+/// is.
 pub(crate) fn write_received<T: Write>(
     text: &mut T,
     k: u32,

@@ -1,4 +1,4 @@
-//! The records of a capture: their frames go through the endpoint, in order, and what comes of them to another file.
+//! The records of a capture: their frames go through the endpoint, and its frames to the output.
 
 ghost use Rattle.std.specs.Prelude.{◌≡◌, ◌≤◌, ◌-◌, IfErr, IfSome, None, OnErr, OnOk, length, option_copied};
 ghost use Rattle.macsec_secy.specs.Answers.{output_of_received, output_of_sent};
@@ -34,7 +34,8 @@ pub(crate) fn run_records<R: Read, W: Write, T: Write>(
     requires places { reader.old.places ≡ max_records }
     requires no_fault { fault_of writer.old ≡ None }
     ensures lent { (lent writer.new).ghost_name ≡ (lent writer.old).ghost_name }
-    // The reader has so many fewer places as records were taken from it: a run that goes on after a fault takes more.
+    // The number of records taken is the decrease of the reader's places. So a run that goes on after a fault takes too
+    // many.
     ensures records { RunsRecords direction endpoint.old reader.old.ahead (reader.old.places - reader.new.places)
         (known (contents W.contents writer.old) (T.contents text.old)) (known (contents W.contents writer.new) (T.contents text.new)) endpoint.new result }
     ensures fault { IfErr result IsLateFault }
@@ -48,7 +49,7 @@ pub(crate) fn run_records<R: Read, W: Write, T: Write>(
     unreachable!()
 }
 
-/// Takes record number `k`: prints its line, and writes the frame that comes of it.
+/// Takes record number `k`: prints its line, and writes the frame that is sent or delivered.
 fn run_record<W: Write, T: Write>(
     direction: Direction,
     endpoint: &mut Secy,
@@ -140,7 +141,7 @@ fn validate_frame<W: Write, T: Write>(
     Ok(())
 }
 
-/// The frame that is sent for a client frame, if one is.
+/// The frame that is sent for a client frame, if any.
 fn sent_frame<'a>(sent: &Result<Sent<'a>, FrameFault>) -> Option<&'a [u8]>
     ensures { option_copied result ≡ frame_of_output (output_of_sent sent.now) }
 {
@@ -150,7 +151,7 @@ fn sent_frame<'a>(sent: &Result<Sent<'a>, FrameFault>) -> Option<&'a [u8]>
     }
 }
 
-/// The frame that is delivered at the controlled port, if one is.
+/// The frame that is delivered at the controlled port, if any.
 fn delivered_frame<'a>(received: &Result<Received<'a>, FrameFault>) -> Option<&'a [u8]>
     ensures { option_copied result ≡ frame_of_output (output_of_received received.now) }
 {
@@ -160,7 +161,7 @@ fn delivered_frame<'a>(received: &Result<Received<'a>, FrameFault>) -> Option<&'
     }
 }
 
-/// Writes a frame at the time of the record that it came from, if there is one.
+/// Writes the frame, if there is one, with the time of the record that it came from.
 fn write_frame<W: Write>(
     writer: &mut PcapWriter<'_, W>,
     record: &Record<'_>,

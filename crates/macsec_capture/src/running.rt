@@ -1,4 +1,4 @@
-//! A run over a capture file: by a configuration, from a reader to a writer, with a text.
+//! A run over a capture file: from the input to the output, by a configuration, with a line of text for each record.
 
 ghost use Rattle.std.specs.Prelude.{◌≡◌, ℕ, List, IfErr, IfOk, IfSome, None, Ok, Some};
 ghost use Rattle.macsec_commands.specs.Configs.{config_fault};
@@ -26,18 +26,22 @@ use macsec_secy::Secy;
 use std::alloc::Global;
 use std::io::{self, Read, Write};
 
-/// Runs an endpoint over a capture file: reads and parses its configuration whole, carries out the configuration's
-/// commands and prints their outcomes, reads the header of the input, writes that of the output, and takes the records
-/// of the input in order. A frame goes through the endpoint in this direction, and what is sent or delivered is written
-/// with the record's time; the text has a line for each record, before its frame is written. Once the records are taken,
-/// or one of them can't be, the output is flushed; the text is not. Then the text has the endpoint's counters.
+/// Runs an endpoint over a capture file. Reads and parses the whole configuration, carries out its commands and prints
+/// their outcomes. Then reads the header of the input, writes the output's header, and takes the records in order:
+/// prints a line for each, passes its frame through the endpoint in this direction, and writes what is sent or
+/// delivered, with the record's time. The line is printed before the frame is written. After the records the output is
+/// flushed, even if one of them failed; the text is not flushed. Last, prints the endpoint's counters.
 ///
-/// Returns the first fault: a fault of the configuration, having written nothing; a fault of the input's format, having
-/// written all that comes before it; or `Memory`, `Read` or `Write`, in `Script` for the configuration and the text, in
-/// `Pcap` for the input and the output. There are no counters with any fault in `Pcap`. With `Pcap(Memory)` and
-/// `Pcap(Read)` both writers have what they have at a stop of the run: behind the commands, behind the output's header or
-/// behind a record. With `Pcap(Write)` the text has that, and the output has what it has at the stop before, and maybe
-/// more of what it has at this one; with `Script(Write)` the output has what it has at a stop.
+/// Returns the first fault:
+/// - a fault of the configuration: nothing was written;
+/// - a fault of the input's format: all that comes before it was written;
+/// - `Memory`, `Read` or `Write`: in `Script` for the configuration and the text, in `Pcap` for the input and the
+///   output.
+///
+/// With a fault in `Pcap` there are no counters. A run has a stop after the commands, one after the output's header,
+/// and one after each record. With `Pcap(Memory)` and `Pcap(Read)` both writers are at the same stop. With
+/// `Pcap(Write)` the text is at a stop, and the output has all of the stop before it and maybe more of what this one
+/// has. With `Script(Write)` the output is at a stop.
 pub fn run_capture<C: Read, R: Read, W: Write, T: Write>(
     alloc: Global,
     direction: Direction,
@@ -70,7 +74,7 @@ fn read_config<C: Read>(alloc: Global, config: &mut C) -> Result<Vec<(u32, Line)
     parse_config(alloc, text.as_slice())
 }
 
-/// Runs an endpoint of this configuration over a capture file, once its commands are carried out.
+/// Creates an endpoint of this configuration, carries out its commands, and runs it over a capture file.
 fn run_configured<R: Read, W: Write, T: Write>(
     alloc: Global,
     direction: Direction,
@@ -113,7 +117,7 @@ fn run_file<R: Read, W: Write, T: Write>(
     run_opened(direction, endpoint, &mut reader, output, text)
 }
 
-/// Runs an endpoint over a capture file whose header was read.
+/// Runs an endpoint over a capture file whose header was read, and prints its counters.
 fn run_opened<R: Read, W: Write, T: Write>(
     direction: Direction,
     endpoint: &mut Secy,
@@ -133,7 +137,7 @@ fn run_opened<R: Read, W: Write, T: Write>(
     Ok(())
 }
 
-/// Writes the output and flushes it, also where it is not written to its end.
+/// Writes the output and flushes it, even if a write failed.
 fn write_and_flush<R: Read, W: Write, T: Write>(
     direction: Direction,
     endpoint: &mut Secy,
@@ -153,7 +157,7 @@ fn write_and_flush<R: Read, W: Write, T: Write>(
     records_end(written, flushed)
 }
 
-/// How records end whose output was flushed: by their own fault, if they have one, else by that of the flush.
+/// The fault of the records, if they have one, else the fault of the flush.
 fn records_end(
     written: Result<(), CaptureFault>,
     flushed: io::Result<()>,
@@ -167,7 +171,7 @@ fn records_end(
     }
 }
 
-/// Writes the header of the output, takes the records, and writes what comes of them.
+/// Writes the header of the output, and takes the records.
 fn write_output<R: Read, W: Write, T: Write>(
     direction: Direction,
     endpoint: &mut Secy,

@@ -4,7 +4,7 @@ use Rattle.macsec_capture.specs.Captured.{commands_part}
 use Rattle.macsec_capture.proofs.Carried.{IsOnTheWay}
 use Rattle.macsec_capture.proofs.commands.run_commands.Given as goal
 
--- what was printed is the front of the whole, and the rest of it is still to come
+-- what was printed, followed by the text of the remaining lines, is the whole
 abbrev pub invariant-loop-n : goal.invariant-loop-n
 invariant-loop-n g l =
     IsOnTheWay (commands_part l.initial.endpoint l.lines) (g.T.Write.contents l.initial.text) (g.T.Write.contents l.text) l.endpoint (drop l.n-index l.lines)

@@ -5,7 +5,7 @@ use Rattle.macsec_pcap.specs.Writing.{contents, fault_of, lent}
 use Rattle.macsec_capture.proofs.Taken.{AreTaken}
 use Rattle.macsec_capture.proofs.records.run_records.Given as goal
 
--- the records before number k were taken, and there are places for so many fewer
+-- the records before number k were taken, and the reader has k places fewer
 abbrev pub invariant-loop-k : goal.invariant-loop-k
 invariant-loop-k g l =
     AreTaken l.direction l.initial.endpoint l.initial.reader.ahead l.reader.ahead

@@ -1,4 +1,4 @@
--- What a write that returns no fault has written, so that a write whose fault is left out is refused soon.
+-- What a write without a fault has written. It is proved by case: a mutant that ignores the fault is refused quickly.
 use Rattle.std.proofs.Common.{◌≡◌, ℕ, List, rules}
 use Rattle.std.specs.Prelude.{Option, Some, None, Result, Ok, Err}
 use Rattle.std.specs.Io.KnownBytes.{Appends}
