@@ -15,12 +15,12 @@ no_end_b : printed_text (codes "end A gcm128 12153524c0895e81 1518 sci\n") ≡ E
 unfolding hex_on_literals
 no_end_b = refl
 
--- a line in a wrong place that has a fault of its own has that one
+-- a line in a wrong place that also has another fault: the other fault is returned
 few_words_for_a_key : printed_text (codes "end A gcm128 12153524c0895e81 1518 sci\nA key 4096\n") ≡ Err (script.Count 2)
 unfolding hex_on_literals
 few_words_for_a_key = refl
 
--- of six words the last is a suite
+-- the last of six words is a suite
 ssci_without_salt : printed_text (both_ends ++ codes "A key 0 ad7a2bd03eac835a6f620fdcb506b345 0 00000001\n") ≡ Err (script.Word 3)
 unfolding hex_on_literals
 ssci_without_salt = refl
@@ -45,7 +45,7 @@ third_end : printed_text (both_ends ++ codes "end A gcm128 12153524c0895e81 1518
 unfolding hex_on_literals
 third_end = refl
 
--- a key of 32 octets under gcm128, and an offset that is none of the three
+-- a key of 32 octets under gcm128, and an offset that is not 0, 30 or 50
 long_key : printed_text (both_ends ++ codes "A key 0 000102030405060708090a0b0c0d0e0f101112131415161718191a1b1c1d1e1f 0\n") ≡ Ok (codes "3 refused 1 KeyLength\n")
 unfolding hex_on_literals digits
 long_key = refl
@@ -54,13 +54,13 @@ offset_31 : printed_text (both_ends ++ codes "A key 0 ad7a2bd03eac835a6f620fdcb5
 unfolding hex_on_literals digits
 offset_31 = refl
 
--- packet numbers begin with 1
+-- the lowest packet number is 1
 first_number : printed_text (both_ends ++ codes "A key 0 ad7a2bd03eac835a6f620fdcb506b345 0\nA txsa 0 0 0 int\nA txsa 0 0 1 int\n") ≡
     Ok (codes "3 done\n4 refused 14 PnRange\n5 done\n")
 unfolding hex_on_literals digits
 first_number = refl
 
--- and end with ffffffff
+-- the highest is ffffffff
 past_32_bits : printed_text (both_ends ++ codes "A key 0 ad7a2bd03eac835a6f620fdcb506b345 0\nA txsa 0 0 100000000 int\n") ≡ Ok (codes "3 done\n4 refused 14 PnRange\n")
 unfolding hex_on_literals digits
 past_32_bits = refl
@@ -80,7 +80,7 @@ extended_offset : printed_text (extended_ends ++ codes "A key 0 ad7a2bd03eac835a
 unfolding hex_on_literals digits
 extended_offset = refl
 
--- beside a key of extended packet numbers the window is narrower, of the ends' suite or of its own
+-- while a key with extended packet numbers exists, the window is narrower, whether the suite is the end's or the key's
 extended_windows : printed_text (extended_ends ++ codes "A replay on 1073741823\nA key 0 ad7a2bd03eac835a6f620fdcb506b345 0\nA replay on 1073741824\n") ≡
     Ok (codes "3 done\n4 done\n5 refused 18 Window\n")
 unfolding hex_on_literals digits
@@ -98,7 +98,7 @@ extended_numbers : printed_text (extended_ends ++ codes "A key 0 ad7a2bd03eac835
 unfolding hex_on_literals digits
 extended_numbers = refl
 
--- a frame of each port; without protection they leave as they are
+-- a frame of each port; without protection they leave unchanged
 both_ports : printed_text (both_ends ++ codes "A send 00112233445566778899aabb0800\nA protect off\nA send 00112233445566778899AABB0800\n"
     ++ codes "A sendu 00112233445566778899aabb0801\n") ≡
     Ok (codes "3 dropped NoSA\n4 done\n5 frame 0 00112233445566778899aabb0800\n6 frame 1 00112233445566778899aabb0801\n")
@@ -109,19 +109,19 @@ five_lines : printed_text (both_ends ++ codes "A key 0 ad7a2bd03eac835a6f620fdcb
 unfolding hex_on_literals digits
 five_lines = refl
 
--- associations by their numbers, whatever the order of their making
+-- SAs are shown in the order of their ANs, not of their creation
 shown : printed_text (both_ends ++ codes "A numbers\nA key 0 ad7a2bd03eac835a6f620fdcb506b345 0\nA key 1 000102030405060708090a0b0c0d0e0f 0\n"
     ++ codes "A txsa 3 0 abcdef conf\nA txsa 1 1 1 int\nA txon 1\nA numbers\n") ≡
     Ok (codes "4 done\n5 done\n6 done\n7 done\n8 done\n9 tx 1 1 0000000000000001 on int\n9 tx 3 0 0000000000abcdef off conf\n")
 unfolding hex_on_literals digits
 shown = refl
 
--- a last line without a line feed counts, and a skipped line has its number
+-- a last line without a line feed is read, and skipped lines are numbered
 three_lines : printed_text (codes "#\nend A gcm128 12153524c0895e81 1518 sci\nend B gcm128 0000000000000001 1518 es\nA send 00") ≡ Ok (codes "4 fault 5 Short\n")
 unfolding hex_on_literals digits
 three_lines = refl
 
--- both ends, and what a hostile link does: frames that are altered, padded, injected, and come again
+-- both ends, and a hostile link: frames that are altered, padded, injected and replayed
 two_ends : printed_text (both_ends ++ codes "A protect off\nB validate check\nA send 00112233445566778899aabb0800\nB deliver 0\nB deliver 0\n"
     ++ codes "alter 0 13 01\npad 1\nA deliver 2\ninject 00\nB deliver 3\nB deliver 4\nalter 3 1 ff\n") ≡
     Ok (codes "3 done\n4 done\n5 frame 0 00112233445566778899aabb0800\n6 Untagged 00112233445566778899aabb0800\n"
@@ -131,7 +131,7 @@ two_ends : printed_text (both_ends ++ codes "A protect off\nB validate check\nA 
 unfolding hex_on_literals digits
 two_ends = refl
 
--- the counters of an endpoint, and then of its receive channels in the order of their making
+-- the counters of an endpoint, and then of its receive channels in the order of their creation
 counters_shown : printed_text (both_ends ++ codes "A protect off\nA send 00112233445566778899aabb0800\nA rxsc 0000000000000003\nA rxsc 0000000000000002\nA counters\n") ≡
     Ok (codes "3 done\n4 frame 0 00112233445566778899aabb0800\n5 done\n6 done\n"
     ++ codes "7 InPktsUntagged 0\n7 InPktsNoTag 0\n7 InPktsBadTag 0\n7 InPktsReserved 0\n7 InPktsNoSA 0\n"

@@ -1,4 +1,4 @@
--- The ends of a script without fault can be made.
+-- Both ends of a script without a fault can be created.
 use Rattle.std.proofs.Common.{◌≡◌, ℕ, List, [], ◌∷◌, refl, sym, subst}
 use Rattle.std.specs.Prelude.{true, not, is_some, Option, Some, None, Ok, IfSome}
 use Rattle.macsec_commands.specs.declared.fault.NewFault.{NewFault}
@@ -35,7 +35,7 @@ ends_good [] fit = tt
 ends_good (first ∷ []) fit = tt
 ends_good (first ∷ second ∷ said) fit = two_ends_good first.1 second.1 said fit.0 fit.1.0
 
--- no script without fault has a configuration of which no world can be made
+-- a world can be created from the two ends of every script without a fault
 pub script_ends_good : ((text : List ℕ) (lines : List NumberedLine) → ParsedFit EndA text lines) → (text : List ℕ) (lines given : List NumberedLine) →
     script_of text ≡ Ok lines → given ≡ lines → IfSome (two_ends given) (λ run. make_fault run.0 run.1 ≡ None)
 script_ends_good fit text lines given parsed same =

@@ -1,4 +1,4 @@
--- What was carried out of a script keeps the promises.
+-- The promises hold of a script's run if its lines were all carried out.
 use Rattle.std.proofs.Common.{◌≡◌, ℕ, List, length, sym, ◌∙◌, ap, subst}
 use Rattle.std.specs.Prelude.{◌≤◌, IfOk, IfSome, OnOk, Option, Some, None, Result, Ok, Err}
 use Rattle.macsec_commands.specs.declared.config.EndConfig.{EndConfig}
@@ -14,11 +14,11 @@ use Rattle.macsec_script.specs.Promised.{ArePromised, IsPromised, events_of}
 
 -- ---- the ends of a script
 
--- the promises, of every list of events at whose moments the world is sound
+-- the promises hold of every list of events in whose course the world stays sound
 abbrev pub SoundKeepPromises : Type 0
 SoundKeepPromises = (a b : EndConfig) (events : List Event) → AreSound a b events → KeepsPromises a b events
 
--- the lines after those of the ends were carried out
+-- the lines after the two ends were carried out
 pub lines_promised : SoundKeepPromises → (lines : List NumberedLine) (a b : EndConfig) (said : List NumberedLine) (w : WorldState) → two_ends lines ≡ Some (a, b, said) →
     w ≡ new_world a b → IsSound w → (answer : Result (Unit {0}) ScriptFault) → OnOk answer (IsSound w → StaysSound w (events_of said)) → OnOk answer (ArePromised lines)
 lines_promised law lines a b said w ends made sound (Ok done) stays =

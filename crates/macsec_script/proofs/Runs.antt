@@ -1,4 +1,4 @@
--- Lines that are carried out one after another: what was written, and the worlds.
+-- The loop over the lines of a script: what was written, and the world after them.
 use Rattle.std.proofs.Common.{◌≡◌, ℕ, ◌+◌, ◌<◌, List, [], ◌∷◌, ◌++◌, take, drop, get_or, length, refl, sym, ◌∙◌, ap, subst, append_assoc, append-nil}
 use Rattle.std.proofs.lemmas.List.{drop_more, take_more, take-append-drop}
 use Rattle.std.specs.Prelude.{Option, Err}
@@ -27,8 +27,8 @@ StepIsSound =
     (w : WorldState) (events : List Event) (event : Event) → StaysSound w events →
     IsSound (world_step (world_after w events) event).1 → StaysSound w (events ++ event ∷ [])
 
--- the lines were carried out: their text was written; this is the world after their events; and from a sound world on it
--- is sound, and was at each moment
+-- the lines were carried out: their text was written, and w is the world after their events. From a sound world on, w
+-- is sound, and so was each world before it
 pub record CarriedOut (start : WorldState) (before : List NumberedLine) (old mid : Option (List ℕ)) (w : WorldState) : Type 0 where
   pub written : Appends old mid (text_from start before)
   pub world : w ≡ world_after start (events_of before)
@@ -62,7 +62,7 @@ with_line law start before entry old mid new w after adds same keeps so_far =
           (stays_with law start (events_of before) entry.0 entry.1 (subst IsSound after_is (keeps (so_far.sound sound))) (so_far.stays sound));
     }
 
--- one more line of those that are taken
+-- the first i + 1 lines were carried out
 pub one_more : StepIsSound → (start : WorldState) (lines : List NumberedLine) (i : ℕ) (entry : NumberedLine) (old mid new : Option (List ℕ)) (w after : WorldState) →
     entry ≡ get_or lines i entry → i < length lines → Appends mid new (line_step w entry.0 entry.1).0 → after ≡ (line_step w entry.0 entry.1).1 →
     (IsSound w → IsSound after) → CarriedOut start (take i lines) old mid w → CarriedOut start (take (i + 1) lines) old new after
@@ -70,9 +70,9 @@ one_more law start lines i entry old mid new w after item within adds same keeps
     subst (λ before. CarriedOut start before old new after) (sym (take_more lines i entry within ∙ ap (λ x. take i lines ++ x ∷ []) (sym item)))
     (with_line law start (take i lines) entry old mid new w after adds same keeps so_far)
 
--- ---- the last line was not printed to its end
+-- ---- printing a line fails
 
--- a line among the lines
+-- the lines before one of them, that one, and the lines after it
 lines_at : (lines : List NumberedLine) (i : ℕ) (entry : NumberedLine) → entry ≡ get_or lines i entry → i < length lines → lines ≡ take i lines ++ entry ∷ drop (i + 1) lines
 lines_at lines i entry item within =
     sym (take-append-drop i lines) ∙ ap (λ rest. take i lines ++ rest) (drop_more lines i entry within ∙ ap (λ e. e ∷ drop (i + 1) lines) (sym item))

@@ -1,4 +1,4 @@
--- The text of lines is that of the worlds after their events.
+-- What a line prints depends only on the world after the events of the lines before it.
 use Rattle.std.proofs.Common.{◌≡◌, ℕ, List, [], ◌∷◌, ◌++◌, refl, sym, ◌∙◌, ap, append_assoc, append-nil}
 use Rattle.macsec_commands.specs.declared.event.Event.{Event}
 use Rattle.macsec_link.specs.World.{WorldState}
@@ -17,7 +17,7 @@ events_of-append : (xs ys : List NumberedLine) → events_of (xs ++ ys) ≡ even
 events_of-append [] ys = refl
 events_of-append ((n, said) ∷ xs) ys = ap (λ es. event_of said ++ es) (events_of-append xs ys) ∙ sym (append_assoc (event_of said) (events_of xs) (events_of ys))
 
--- the world after a line is that after its event
+-- the world after a line is the world after its event
 world_of_line : (w : WorldState) (n : ℕ) (said : Line) → (line_step w n said).1 ≡ world_after w (event_of said)
 world_of_line w n (line.End e config) = refl
 world_of_line w n (line.Event event) = refl

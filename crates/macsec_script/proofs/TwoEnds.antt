@@ -20,7 +20,7 @@ use Rattle.macsec_script.specs.Promised.{HasNoneOrEnds}
 abbrev Lines : Type 0
 Lines = Result (List NumberedLine) ScriptFault
 
--- the first line configures B
+-- the lines begin with an `end` line for B
 abbrev BeginWithB : List NumberedLine → Type 0
 BeginWithB lines = (n : ℕ) × (config : EndConfig) × (more : List NumberedLine) × (lines ≡ (n, line.End B config) ∷ more)
 

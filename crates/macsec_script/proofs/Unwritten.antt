@@ -1,4 +1,4 @@
--- Answers of a run that printed nothing.
+-- What a run returns if it printed nothing, and if it printed the lines.
 use Rattle.std.proofs.Common.{◌≡◌, ℕ, List, [], refl, sym, ◌∙◌, ap, subst}
 use Rattle.std.specs.Prelude.{Option, Some, None, Result, Ok, Err, IfSome, IfErr, ◌≤◌, length}
 use Rattle.std.specs.Io.KnownBytes.{Keeps}
@@ -12,7 +12,7 @@ use Rattle.macsec_script.specs.Runs.{IsBegun, LeavesText, RunGives}
 use Rattle.macsec_script_parser.specs.Readings.{Parses}
 use Rattle.macsec_script_printer.specs.Printing.{Prints}
 
--- nothing begins every answer
+-- the empty text is a prefix of every text
 pub begun_by_nothing : (answer : Result (List ℕ) ScriptFault) → IsBegun answer []
 begun_by_nothing (Ok whole) = (whole, refl)
 begun_by_nothing (Err fault) = refl
@@ -23,7 +23,7 @@ out_of_memory script old new kept = ([], begun_by_nothing (printed_text script),
 printed_fault : (script : List ℕ) (f : ScriptFault) → script_of script ≡ Err f → printed_text script ≡ Err f
 printed_fault script f h = ap (map_ok text_of) h
 
--- a script at fault
+-- a script with a fault
 pub at_fault : (script : List ℕ) (old new : Option (List ℕ)) → Keeps old new → (f : ScriptFault) → Parses (script_of script) (Err f) → RunGives script old new (Err f)
 at_fault script old new kept Memory h = out_of_memory script old new kept
 at_fault script old new kept Read h = kept
@@ -39,7 +39,7 @@ after_parsing script lines old new parsed (Err Memory) h =
 after_parsing script lines old new parsed (Err Write) h = (text_of lines, ap (map_ok text_of) parsed)
 after_parsing script lines old new parsed (Err other) h = absurd h
 
--- the same for a reader that tells its octets, and for one that doesn't
+-- the same, whether or not the reader's octets are known
 pub at_fault_read : (known : Option (List ℕ)) (text lent : List ℕ) (old new : Option (List ℕ)) →
     IfSome known (λ all. (text ≡ all) × (length all ≤ 1048576)) → lent ≡ text → Keeps old new → (f : ScriptFault) →
     Parses (script_of lent) (Err f) → IfSome known (λ script. RunGives script old new (Err f))
@@ -62,13 +62,13 @@ after_running known text lent lines given old new read same parsed value_of_keyw
     after_reading known text lines old new read (ap script_of (sym same) ∙ parsed) answer
     (let P : List NumberedLine → Type 0 = λ l. Prints (text_of l) old new answer in subst P value_of_keyword h)
 
--- a text that is as it was
+-- a text that did not change
 pub left_alone : (text : Option (List ℕ)) (f : ScriptFault) → LeavesText text text f
 left_alone text Memory = tt
 left_alone text Write = tt
 left_alone text other = Keeps-refl text
 
--- printing fails if it is out of memory or a write fails
+-- printing fails only if memory runs out or a write fails
 pub only_written : (whole : List ℕ) (old new : Option (List ℕ)) (answer : Result (Unit {0}) ScriptFault) →
     Prints whole old new answer → IfErr answer (λ f. LeavesText old new f)
 only_written whole old new (Ok done) h = tt

@@ -21,7 +21,7 @@ abbrev pub frame_made : WorldState → Result Outcome WorldFault → Option (Lis
 frame_made w (Ok (Made k)) = slice_get w.frames k
 frame_made w other = None
 
--- what line n prints of an event, and the world after it
+-- what line n prints for an event, and the world after it
 abbrev pub text_and_world : ℕ → Answer → List ℕ × WorldState
 text_and_world n answer = (outcome_text n (frame_made answer.1 answer.0) answer.0, answer.1)
 
@@ -36,7 +36,7 @@ abbrev pub text_from : WorldState → List NumberedLine → List ℕ
 text_from w [] = []
 text_from w ((n, said) ∷ more) = (line_step w n said).0 ++ text_from (line_step w n said).1 more
 
--- the two ends, and the lines after theirs
+-- the configurations of the two ends, and the lines after them
 abbrev pub TwoEnds : Type 0
 TwoEnds = EndConfig × EndConfig × List NumberedLine
 
@@ -45,13 +45,13 @@ two_ends_of (Some a) (Some b) said = Some (a, b, said)
 two_ends_of (Some a) None said = None
 two_ends_of None other said = None
 
--- the ends are those of the first two lines
+-- the first two lines configure the ends
 abbrev pub two_ends : List NumberedLine → Option TwoEnds
 two_ends [] = None
 two_ends (first ∷ []) = None
 two_ends (first ∷ second ∷ said) = two_ends_of (a_config first.1) (b_config second.1) said
 
--- the text of a run; without two ends there are no lines, if the script has no fault (`laws::script_has_ends`)
+-- the text of a run; a script without a fault and without two ends has no lines (`laws::script_has_ends`)
 abbrev pub text_of_run : Option TwoEnds → List ℕ
 text_of_run None = []
 text_of_run (Some run) = text_from (new_world run.0 run.1) run.2

@@ -1,4 +1,4 @@
--- The four promises on the run of a script: of its two ends, over the events of its lines.
+-- The four promises, on the run of a script's two ends over the events of its lines.
 use Rattle.std.specs.Prelude.{◌≡◌, ◌⊎◌, ℕ, List, [], ◌∷◌, ◌++◌, IfOk, IfSome, IsSome, Ok}
 use Rattle.macsec_commands.specs.declared.event.Event.{Event}
 use Rattle.macsec_link.specs.World.{WorldState}
@@ -14,27 +14,27 @@ abbrev pub event_of : Line → List Event
 event_of (line.Event event) = event ∷ []
 event_of other = []
 
--- the events of the lines, in their order
+-- the events of the lines, in order
 abbrev pub events_of : List NumberedLine → List Event
 events_of [] = []
 events_of ((n, said) ∷ more) = event_of said ++ events_of more
 
--- the promises hold of the run of the lines' two ends over the events of all lines after theirs
+-- the promises hold of the run of the two ends over the events of all lines after the first two
 abbrev pub ArePromised : List NumberedLine → Type 0
 ArePromised lines = IfSome (two_ends lines) (λ run. KeepsPromises run.0 run.1 (events_of run.2))
 
--- the promises hold so of the lines of a script without a fault
+-- the same for a script, if it has no fault
 abbrev pub IsPromised : List ℕ → Type 0
 IsPromised script = IfOk (script_of script) ArePromised
 
--- ---- what the text has to do with those events
+-- ---- how the text depends on those events
 
--- what a line prints after the lines before it: it is printed of the world after their events
+-- what a line prints: from the world after the events of the lines before it
 abbrev pub text_after : WorldState → List NumberedLine → NumberedLine → List ℕ
 text_after w before said = (line_step (world_after w (events_of before)) said.0 said.1).0
 
--- the text of lines is that of the lines before one of them, then what this one prints, then the text of the lines
--- after it, from the world after all those events
+-- the text of a list of lines, split at one of them: the text of the lines before it, what it prints, and the text of
+-- the lines after it, from the world after all events so far
 abbrev pub IsTextOfWorlds : WorldState → List NumberedLine → NumberedLine → List NumberedLine → Type 0
 IsTextOfWorlds w before said more =
     text_from w (before ++ said ∷ more) ≡

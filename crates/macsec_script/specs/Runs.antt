@@ -6,13 +6,13 @@ use Rattle.macsec_script_parser.specs.declared.faults.ScriptFault.TheVariants.{M
 use Rattle.macsec_script_printer.specs.Printing.{Begins}
 use Rattle.macsec_script.specs.Printed.{printed_text}
 
--- the text begins what is printed; nothing does if the script is at fault
+-- the text is a prefix of what is printed; it is empty if the script has a fault
 abbrev pub IsBegun : Result (List ℕ) ScriptFault → List ℕ → Type 0
 IsBegun (Ok whole) text = Begins text whole
 IsBegun (Err fault) text = text ≡ []
 
--- what a run of a script returns, with the known octets of the writer before it and after it: a fault of
--- the script, unless Memory or Read comes first, and Write says nothing of what was written
+-- what a run of a script returns, with the known octets of the writer before and after it: a fault of the script,
+-- unless Memory or Read comes first. After Write it is not specified what was written
 abbrev pub RunGives : List ℕ → Option (List ℕ) → Option (List ℕ) → Result (Unit {0}) ScriptFault → Type 0
 RunGives script old new (Ok done) = (text : List ℕ) × (printed_text script ≡ Ok text) × Appends old new text
 RunGives script old new (Err Memory) = (text : List ℕ) × IsBegun (printed_text script) text × Appends old new text

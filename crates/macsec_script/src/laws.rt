@@ -1,4 +1,4 @@
-//! Laws of scripts, of their definitions alone: each is the contract of a function with an empty body.
+//! Laws of the definitions of scripts. Each is the contract of a function with an empty body.
 
 ghost use Rattle.std.specs.Prelude.{ℕ, List};
 ghost use Rattle.macsec_link.specs.World.{WorldState};
@@ -10,8 +10,8 @@ pub fn script_has_ends()
     ensures { (text : List ℕ) (lines : List NumberedLine) → HasNoneOrEnds text lines }
 {}
 
-/// Each line of a script is printed of the world after the events of the lines before it: so the text is that of the
-/// worlds of one list of events, of which `run_script` says that the promises hold.
+/// What a line prints depends on the world after the events of the lines before it. So the text shows the worlds of one
+/// list of events, over which `run_script` proves the promises.
 pub fn prints_of_worlds()
     ensures { (w : WorldState) (before : List NumberedLine) (line : NumberedLine) (more : List NumberedLine) → IsTextOfWorlds w before line more }
 {}

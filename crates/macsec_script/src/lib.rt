@@ -1,17 +1,17 @@
-//! The script language of two endpoints and of the link between them: reads a script, and prints what its lines say.
+//! Runs scripts: each has two endpoints and the link between them. Reads a script, and prints the results of its lines.
 //!
 //! Proved, of `run_script` over any reader and writer whose octets a contract can name (as a slice and a `Vec`):
 //! - `Ok`: what was written is what `printed_text` gives for all that the reader had (`specs/Printed.antt`), and the
 //!   four promises hold of the run of the script's two ends over the events of all its lines (`promised`).
-//! - A fault of the script: only if it has that fault, at that line if it has one, and nothing was written. If the
-//!   script has a fault, that one is returned, or `Memory` or `Read`.
+//! - A fault of the script: the script has that fault, at that line if the fault names one, and nothing was written.
+//!   For a script with a fault, `run_script` returns that fault, or `Memory` or `Read`.
 //! - `Read`: nothing was written. `Memory`: what was written is a prefix of what `printed_text` gives, possibly empty
-//!   or all of it, and empty if the script has a fault. `Write`: how much was written no clause says.
+//!   or all of it. It is empty if the script has a fault. `Write`: no clause says how much was written.
 //!
 //! Over any reader, and a writer whose octets a contract can name: with a fault other than `Memory` and `Write` nothing
 //! was written. The world refuses no configuration of a script without a fault, so `Memory` hides no such refusal.
-//! Laws: each line is printed of the world after the events of the lines before it; a script without a fault has no
-//! lines or begins with both ends. Worked scripts are in `proofs/Examples.antt`.
+//! Laws: each line is printed from the world after the events of the lines before it. A script without a fault has no
+//! lines, or begins with both ends. Worked scripts are in `proofs/Examples.antt`.
 #![tactic(auto)]
 
 pub mod laws;

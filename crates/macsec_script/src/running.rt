@@ -1,4 +1,4 @@
-//! A script from a reader, and what it prints to a writer.
+//! Runs a script from a reader, and prints to a writer.
 
 ghost use Rattle.std.specs.Prelude.{◌≡◌, IfSome, IfErr, OnOk, None, option_copied, option_map};
 ghost use Rattle.macsec_link.specs.Sound.{IsSound};
@@ -19,8 +19,8 @@ use macsec_script_printer::{Label, print_counters, print_numbers, print_outcome,
 use std::alloc::Global;
 use std::io::{Read, Write};
 
-/// Runs a script: reads and parses it whole, and then prints what its lines say. Returns the script's
-/// first fault, having written nothing, or `Memory`, `Read` or `Write`.
+/// Runs a script: reads and parses all of it, and then carries out its lines and prints their results. Returns the
+/// script's first fault, having written nothing, or `Memory`, `Read` or `Write`.
 pub fn run_script<R: Read, W: Write>(
     alloc: Global,
     reader: &mut R,
@@ -28,8 +28,8 @@ pub fn run_script<R: Read, W: Write>(
 ) -> Result<(), ScriptFault>
     ensures run { IfSome (R.remaining reader.old) (λ script. RunGives script (W.contents writer.old) (W.contents writer.new) result) }
     ensures unwritten { IfErr result (λ fault. LeavesText (W.contents writer.old) (W.contents writer.new) fault) }
-    // The four promises hold of the run of the script's two ends over the events of its lines, whose worlds the text
-    // shows (`laws::prints_of_worlds`).
+    // The four promises hold of the run of the script's two ends over the events of its lines. The text shows the
+    // worlds of that run (`laws::prints_of_worlds`).
     ensures promised { OnOk result (IfSome (R.remaining reader.old) IsPromised) }
 {
     // A law that the proof cites.
@@ -39,7 +39,7 @@ pub fn run_script<R: Read, W: Write>(
     print_script(alloc, writer, lines.as_slice())
 }
 
-/// Prints what the lines of a script say: the first two configure the ends.
+/// Carries out the lines of a script, and prints their results. The first two lines configure the ends.
 fn print_script<W: Write>(
     alloc: Global,
     writer: &mut W,
@@ -94,7 +94,7 @@ fn config_of_b(line: &Line) -> Option<EndConfig>
     }
 }
 
-/// Prints what the lines say, one after another, and takes their steps.
+/// Carries out the lines one after another, and prints their results.
 fn print_lines<W: Write>(
     alloc: Global,
     world: &mut World,
@@ -113,7 +113,7 @@ fn print_lines<W: Write>(
     Ok(())
 }
 
-/// Prints what one line says, and takes its step: its text is put together in `room`, and then written at once.
+/// Carries out one line, and prints its result. Its text is composed in `room`, and then written by one call.
 fn print_line<W: Write>(
     room: &mut Vec<u8>,
     world: &mut World,
@@ -132,7 +132,7 @@ fn print_line<W: Write>(
     write_fault(writer.write_all(room.as_slice()))
 }
 
-/// Shows what one line says, and takes its step.
+/// Carries out one line, and writes its result.
 fn show<W: Write>(world: &mut World, writer: &mut W, n: u32, line: &Line) -> Result<(), ScriptFault>
     ensures text { Prints (line_step world.old n line.now).0 (W.contents writer.old) (W.contents writer.new) result }
     ensures world { OnOk result (world.new ≡ (line_step world.old n line.now).1) }
@@ -146,7 +146,7 @@ fn show<W: Write>(world: &mut World, writer: &mut W, n: u32, line: &Line) -> Res
     }
 }
 
-/// Takes an event's step, and prints its outcome.
+/// Carries out an event, and prints its outcome.
 fn print_event<W: Write>(
     world: &mut World,
     writer: &mut W,

@@ -1,5 +1,5 @@
--- Line after line: what was written for the lines before the index, and the world then. A failure leaves what was written
--- before it, and the law `worlds_are_sound` goes on with each step.
+-- By induction on the lines: what was written for the lines before the index, and the world after them. A failure
+-- leaves what was written before it. The law `worlds_are_sound` carries soundness through each step.
 use Rattle.std.proofs.Common.{List, arith, subst}
 use Rattle.std.proofs.lemmas.List.{take_all}
 use Rattle.std.proofs.lemmas.Result.{err_from_is_err_and}

@@ -1,5 +1,5 @@
--- The text that was read, its lines or its fault, and then what the lines print: the contract of each call gives the next
--- one's premise. The end lines of a parsed script fit, so a world can be made of them.
+-- Reading, parsing and printing: the contract of each call gives the premise of the next. The `end` lines of a parsed
+-- script are valid, so a world can be created from them.
 use Rattle.std.proofs.KnownBytes.{Keeps-refl}
 use Rattle.std.proofs.lemmas.Result.{err_from_is_err_and}
 use Rattle.macsec_script_parser.specs.declared.script.Place.TheVariants.{EndA}
