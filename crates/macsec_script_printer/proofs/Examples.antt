@@ -1,4 +1,4 @@
--- Packet numbers as a script shows them.
+-- Packet numbers as a script prints them.
 use Rattle.std.specs.Prelude.{◌≡◌, [], ◌∷◌, codes, Some, true, refl}
 use Rattle.std.specs.Fmt.{digits}
 use Rattle.hex.proofs.OnLiterals.{hex_on_literals}
@@ -8,12 +8,12 @@ first_shown : packet_number_text 1 ≡ codes "0000000000000001"
 unfolding digits
 first_shown = refl
 
--- as many digits as there are, in lower case
+-- all digits, in lower case
 all_digits_shown : packet_number_text 81985529216486895 ≡ codes "0123456789abcdef"
 unfolding digits
 all_digits_shown = refl
 
--- one past the last of 64 bits
+-- 2^64
 past_64_bits_shown : packet_number_text 18446744073709551616 ≡ codes "10000000000000000"
 unfolding digits
 past_64_bits_shown = refl

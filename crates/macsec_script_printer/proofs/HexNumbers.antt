@@ -1,4 +1,5 @@
--- Numbers in hex, with leading zeros.
+-- Numbers in hex with leading zeros: `{:016x}` prints a packet number below 2^64, and `{:x}` and `{:016x}` a larger
+-- one.
 use Rattle.std.proofs.Common.{◌≡◌, ℕ, suc, zero, ◌+◌, ◌-◌, ◌*◌, ◌/◌, ◌%◌, ◌^◌, ◌≤◌, ◌<◌, List, [], ◌∷◌, ◌++◌, length, replicate, cond, false, arith}
 use Rattle.std.proofs.Common.{refl, sym, ap, ◌∙◌, append_assoc, append-nil, length-append, add-one, ⊎_elim, eq-eqb, ne_eqb}
 use Rattle.std.proofs.Math.Nat.{div-div-eq-div-mul, div-one, pow-suc, one-le-pow}
@@ -10,7 +11,7 @@ use Rattle.macsec_script_printer.specs.Numbers.{hex, packet_number_text}
 
 -- ---- digit by digit
 
--- the digits of n with at most k of them, before some others
+-- at most k digits of n, followed by `more`
 abbrev spell : ℕ → ℕ → List ℕ → List ℕ
 spell k n more = digits_onto k 16 false n more
 
@@ -31,7 +32,7 @@ spell-append (suc k) n more = ⊎_elim
     ∙ ap (λ x. x ++ more) (sym (spell_next k n [] l ∙ spell-append k (n / 16) (last_digit n ∷ []))))
     (cases_lt n 16)
 
--- the bound on the digits does not matter once it is large enough
+-- the bound on the number of digits does not matter once it is large enough
 spell_enough : (j k n : ℕ) (more : List ℕ) → n < 16 ^ suc j → n < 16 ^ suc k → spell (suc j) n more ≡ spell (suc k) n more
 spell_enough zero k n more p q = spell_last zero n more (omega arith) ∙ sym (spell_last k n more (omega arith))
 spell_enough (suc j) zero n more p q = spell_last (suc j) n more (omega arith) ∙ sym (spell_last zero n more (omega arith))
@@ -63,7 +64,7 @@ length-last_digits : (k n : ℕ) → length (last_digits k n) ≡ k
 length-last_digits zero n = refl
 length-last_digits (suc k) n = length-append (last_digits k (n / 16)) (last_digit n ∷ []) ∙ omega (arith, length-last_digits k (n / 16))
 
--- those of what the number leaves over
+-- they depend on the number modulo 16^k only
 last_digits-mod : (k n : ℕ) → last_digits k (n % 16 ^ k) ≡ last_digits k n
 last_digits-mod zero n = refl
 last_digits-mod (suc k) n =
@@ -74,7 +75,7 @@ last_digits-mod (suc k) n =
     ∙ ap (λ m. last_digits k (n / 16 % 16 ^ k) ++ (digit_glyph false m ∷ [])) last
     ∙ ap (λ front. front ++ (last_digit n ∷ [])) (last_digits-mod k (n / 16))
 
--- the digits of a number, filled with zeros up to k
+-- the digits of a number, with leading zeros up to k digits
 abbrev filled : ℕ → ℕ → List ℕ
 filled k n = replicate (k - length (hex n)) 48 ++ hex n
 
@@ -94,7 +95,7 @@ filled_next k n large small =
 none_fit : (k : ℕ) → 0 < 16 ^ suc k
 none_fit k = omega (arith, one-le-pow (suc k) 16 (omega arith))
 
--- a number of k digits at most
+-- a number of at most k + 1 digits
 filled_is : (k n : ℕ) → n < 16 ^ suc k → n < 16 ^ 64 → filled (suc k) n ≡ last_digits (suc k) n
 filled_is zero n fits small = filled_digit zero n (omega arith)
 filled_is (suc k) n fits small = ⊎_elim
@@ -119,7 +120,7 @@ hex_split (suc k) n large small =
     ∙ append_assoc (hex (n / 16 / 16 ^ k)) (last_digits k (n / 16)) (last_digit n ∷ [])
     ∙ ap (λ m. hex m ++ last_digits (suc k) n) front
 
--- ---- what holes print
+-- ---- what `write!` prints
 
 -- what `{:016x}` prints
 pub sixteen : (n : ℕ) → padded_integral (format_spec 32 0 4 16 (2 ^ 64 - 1)) false [] (digits 16 false n) ≡ packet_number_text n

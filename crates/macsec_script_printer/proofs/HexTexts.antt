@@ -1,4 +1,4 @@
--- Octets written in hex, one after another.
+-- Octets written in hex, one after another: what they append together.
 use Rattle.std.proofs.Common.{◌≡◌, ℕ, ◌+◌, ◌/◌, ◌%◌, ◌<◌, List, [], ◌∷◌, ◌++◌, length, get_or, take, refl, sym, ap, ◌∙◌, subst}
 use Rattle.std.proofs.lemmas.List.{take_more}
 use Rattle.std.specs.Prelude.{Option, slice_index}
@@ -11,7 +11,7 @@ unfolding encode_with
 encode_with-append t [] ys = refl
 encode_with-append t (x ∷ xs) ys = ap (λ more. slice_index t (x / 16) ∷ slice_index t (x % 16) ∷ more) (encode_with-append t xs ys)
 
--- the hex text of the first octets, and that of one more
+-- the hex text of the first i octets, and of one more
 pub one_more_octet : (xs : List ℕ) (i x : ℕ) (old mid new : Option (List ℕ)) →
     i < length xs → Appends old mid (encode_lower (take i xs)) → Appends mid new (encode_lower (get_or xs i x ∷ [])) →
     Appends old new (encode_lower (take (i + 1) xs))

@@ -1,4 +1,4 @@
--- What a line of counters prints.
+-- The lines of the counters of an endpoint.
 use Rattle.std.specs.Prelude.{ℕ, List, [], ◌∷◌, ◌++◌, flat_map, decimal, codes, Option, Some, None}
 use Rattle.hex.specs.Hex.{encode_lower}
 use Rattle.macsec_tag.specs.declared.identifiers.Sci.{Sci}
@@ -11,7 +11,7 @@ use Rattle.macsec_script_printer.specs.Numbers.{association_numbers}
 use Rattle.macsec_script_printer.specs.declared.counters.Label.{Label}
 use Rattle.macsec_script_printer.specs.declared.counters.Label.TheVariants.{Line, End}
 
--- the number of a script's line, or the word in its place at the end of a run
+-- the number of a line of the script, or `end` at the end of a run
 abbrev pub label_text : Label → List ℕ
 label_text (Line n) = decimal n
 label_text End = codes "end"
@@ -20,7 +20,7 @@ label_text End = codes "end"
 abbrev pub NamedCounter : Type 0
 NamedCounter = List ℕ × ℕ
 
--- the counters of an endpoint with their names, and then those of its transmit channel
+-- the counters of an endpoint and then of its transmit SC, with their names
 abbrev pub own_counters : Counters → TxCounters → List NamedCounter
 own_counters c tx =
     (codes "InPktsUntagged", c.in_pkts_untagged) ∷ (codes "InPktsNoTag", c.in_pkts_no_tag) ∷
@@ -32,14 +32,14 @@ own_counters c tx =
     (codes "OutPktsEncrypted", tx.out_pkts_encrypted) ∷ (codes "OutOctetsProtected", tx.out_octets_protected) ∷
     (codes "OutOctetsEncrypted", tx.out_octets_encrypted) ∷ []
 
--- the counters of a receive channel, or of a receive association, with their names
+-- the counters of a receive SC or of a receive SA, with their names
 abbrev pub channel_counters : RxCounters → List NamedCounter
 channel_counters c =
     (codes "InPktsOK", c.in_pkts_ok) ∷ (codes "InPktsUnchecked", c.in_pkts_unchecked) ∷
     (codes "InPktsDelayed", c.in_pkts_delayed) ∷ (codes "InPktsLate", c.in_pkts_late) ∷
     (codes "InPktsInvalid", c.in_pkts_invalid) ∷ (codes "InPktsNotValid", c.in_pkts_not_valid) ∷ []
 
--- the line of a counter, that of a receive channel's, and that of a receive association's
+-- the line of a counter: of an endpoint, of a receive SC, and of a receive SA
 abbrev pub counter_text : Label → NamedCounter → List ℕ
 counter_text label counter = label_text label ++ codes " " ++ counter.0 ++ codes " " ++ decimal counter.1 ++ codes "\n"
 
@@ -52,27 +52,27 @@ sa_counter_text label sci an counter =
     label_text label ++ codes " " ++ encode_lower sci.0 ++ codes " " ++ decimal an ++ codes " " ++ counter.0 ++ codes " " ++ decimal counter.1
     ++ codes "\n"
 
--- the lines of a receive channel, if it has counters
+-- the lines of a receive SC, if it has counters
 abbrev pub rx_counters_text : Label → Sci → Option RxCounters → List ℕ
 rx_counters_text label sci None = []
 rx_counters_text label sci (Some counters) = flat_map (rx_counter_text label sci) (channel_counters counters)
 
--- the lines of a receive association, if there is one
+-- the lines of a receive SA, if there is one
 abbrev pub sa_counters_text : Label → Sci → ℕ → Option RxCounters → List ℕ
 sa_counters_text label sci an None = []
 sa_counters_text label sci an (Some counters) = flat_map (sa_counter_text label sci an) (channel_counters counters)
 
--- the lines of a channel's associations by their numbers
+-- the lines of an SC's SAs, in the order of their ANs
 abbrev pub associations_text : Label → State → Sci → List ℕ
 associations_text label s sci =
     flat_map (λ an. sa_counters_text label sci an (rx_sa_counters_of s.rx_counters sci an)) association_numbers
 
--- the lines of a receive channel, and then of its associations
+-- the lines of a receive SC, and then of its SAs
 abbrev pub channel_text : Label → State → Sci → List ℕ
 channel_text label s sci = rx_counters_text label sci (rx_counters_of s.rx_counters sci) ++ associations_text label s sci
 
--- a line for each counter of the endpoint and of its transmit channel, and then for each one of the receive
--- channels in the order of their creation, each with its associations
+-- a line for each counter: of the endpoint, of its transmit SC, and of the receive SCs in the order of their creation,
+-- each with its SAs
 abbrev pub counters_text : Label → State → List ℕ
 counters_text label s =
     flat_map (counter_text label) (own_counters s.counters s.tx_counters) ++

@@ -1,4 +1,4 @@
--- What is printed of an event's outcome.
+-- The line of an event's outcome.
 use Rattle.std.specs.Prelude.{ℕ, List, ◌++◌, decimal, codes, Bool, true, false, Option, Some, None, Result, Ok, Err}
 use Rattle.hex.specs.Hex.{encode_lower}
 use Rattle.macsec_rx.specs.Verdicts.{verdict_name}
@@ -16,7 +16,7 @@ abbrev pub drop_text : DropReason → List ℕ
 drop_text reason.NoSa = codes "NoSA"
 drop_text reason.TooLong = codes "TooLong"
 
--- the name of a fault of an event; no line prints the first and the last
+-- the name of a fault of an event; no line prints `Memory` or `Make`
 abbrev pub world_fault_name : WorldFault → List ℕ
 world_fault_name world.Memory = codes "Memory"
 world_fault_name world.NoFrame = codes "NoFrame"
@@ -26,7 +26,7 @@ world_fault_name world.Short = codes "Short"
 world_fault_name world.Long = codes "Long"
 world_fault_name (world.Make e fault) = codes "Make"
 
--- a fault of an event as it is printed: by its number and its name
+-- the number and the name of a fault of an event
 abbrev pub world_fault_text : WorldFault → List ℕ
 world_fault_text fault = decimal (number_of_world_fault fault) ++ codes " " ++ world_fault_name fault
 
@@ -35,7 +35,7 @@ abbrev pub end_text : Option (List ℕ) → List ℕ
 end_text None = codes "\n"
 end_text (Some octets) = codes " " ++ encode_lower octets ++ codes "\n"
 
--- what line n prints of an outcome; the frame is the link frame that was created, if one was
+-- what line n prints of an outcome; `frame` is the link frame that was created, if any
 abbrev pub outcome_text : ℕ → Option (List ℕ) → Result Outcome WorldFault → List ℕ
 outcome_text n frame (Ok Done) = decimal n ++ codes " done\n"
 outcome_text n frame (Ok (Refused refusal)) = decimal n ++ codes " refused " ++ refusal_text refusal ++ codes "\n"
@@ -44,8 +44,7 @@ outcome_text n frame (Ok (Dropped reason)) = decimal n ++ codes " dropped " ++ d
 outcome_text n frame (Ok (Heard verdict controlled)) = decimal n ++ codes " " ++ verdict_name verdict ++ end_text controlled
 outcome_text n frame (Err fault) = decimal n ++ codes " fault " ++ world_fault_text fault ++ codes "\n"
 
--- a line prints, that is tells, this outcome: out of memory ends the run, and no event returns that a world can't be
--- created
+-- a line can print this outcome: `Memory` ends the run, and no event returns `Make`
 abbrev pub is_told : Result Outcome WorldFault → Bool
 is_told (Err world.Memory) = false
 is_told (Err (world.Make e fault)) = false

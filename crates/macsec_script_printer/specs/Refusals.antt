@@ -1,4 +1,4 @@
--- The names of refusals, and how they are printed.
+-- The names of refusals, and the text of a refusal.
 use Rattle.std.specs.Prelude.{ℕ, List, ◌++◌, decimal, codes}
 use Rattle.macsec_suite.specs.declared.refusal.Refusal.{Refusal}
 use Rattle.macsec_suite.specs.declared.refusal.Refusal.TheVariants.{KeyLength, Offset, KeyNumberUsed, KeyRepeated, NoKey, KeyRetired, KeyInUse, OwnSci, ScTaken}
@@ -27,6 +27,6 @@ refusal_name Window = codes "Window"
 refusal_name SciForm = codes "SciForm"
 refusal_name Exhausted = codes "Exhausted"
 
--- a refusal as it is printed: by its number and its name
+-- the number and the name of a refusal
 abbrev pub refusal_text : Refusal → List ℕ
 refusal_text refusal = decimal (number_of_refusal refusal) ++ codes " " ++ refusal_name refusal

@@ -1,4 +1,4 @@
-//! The counters of an endpoint, as a script shows them.
+//! The counters of an endpoint, as a script prints them.
 
 ghost use Rattle.std.specs.Prelude.{◌≡◌, flat_map, map, IfErr, OnOk, Some};
 ghost use Rattle.std.specs.Io.KnownBytes.{Appends};
@@ -15,7 +15,7 @@ use macsec_secy::{An, Counters, RxCounters, Sci, Secy, TxCounters};
 use std::fmt;
 use std::io::{self, Write};
 
-/// The beginning of a line of counters: the number of a script's line, or the word `end`.
+/// The beginning of a line of counters: the number of a line of the script, or the word `end`.
 #[derive(Clone, Copy)]
 pub enum Label {
     Line(u32),
@@ -38,7 +38,7 @@ impl fmt::Display for Label {
 /// A counter's name and its value.
 type NamedCounter = (&'static str, u64);
 
-/// The counters of an endpoint and of its transmit channel, by their names.
+/// The counters of an endpoint and of its transmit SC, with their names.
 fn own_counters(own: Counters, tx: TxCounters) -> [NamedCounter; 15]
     ensures { map (λ c. (c.0.now, c.1)) result ≡ own_counters own tx }
 {
@@ -61,7 +61,7 @@ fn own_counters(own: Counters, tx: TxCounters) -> [NamedCounter; 15]
     ]
 }
 
-/// The counters of a receive channel, or of a receive association, by their names.
+/// The counters of a receive SC or of a receive SA, with their names.
 fn channel_counters(counters: RxCounters) -> [NamedCounter; 6]
     ensures { map (λ c. (c.0.now, c.1)) result ≡ channel_counters counters }
 {
@@ -75,14 +75,14 @@ fn channel_counters(counters: RxCounters) -> [NamedCounter; 6]
     ]
 }
 
-/// Writes the line of a counter of an endpoint.
+/// Writes the line of an endpoint's counter.
 fn write_counter<W: Write>(writer: &mut W, label: Label, name: &str, value: u64) -> io::Result<()>
     ensures { OnOk result (Appends (W.contents writer.old) (W.contents writer.new) (counter_text label (name.now, value))) }
 {
     writeln!(writer, "{label} {name} {value}")
 }
 
-/// Writes the lines of counters of an endpoint.
+/// Writes the lines of an endpoint's counters.
 fn write_own<W: Write>(writer: &mut W, label: Label, counters: &[NamedCounter]) -> io::Result<()>
     ensures { OnOk result (Appends (W.contents writer.old) (W.contents writer.new) (flat_map (counter_text label) (map (λ c. (c.0.now, c.1)) counters.now))) }
 {
@@ -92,7 +92,7 @@ fn write_own<W: Write>(writer: &mut W, label: Label, counters: &[NamedCounter]) 
     Ok(())
 }
 
-/// Writes the line of a counter of a receive channel.
+/// Writes the line of a receive SC's counter.
 fn write_rx_counter<W: Write>(
     writer: &mut W,
     label: Label,
@@ -107,7 +107,7 @@ fn write_rx_counter<W: Write>(
     writeln!(writer, " {name} {value}")
 }
 
-/// Writes the lines of counters of a receive channel.
+/// Writes the lines of a receive SC's counters.
 fn write_rx<W: Write>(
     writer: &mut W,
     label: Label,
@@ -122,7 +122,7 @@ fn write_rx<W: Write>(
     Ok(())
 }
 
-/// Writes the lines of a receive channel, if it has counters.
+/// Writes the lines of a receive SC, if it has counters.
 fn write_channel<W: Write>(
     writer: &mut W,
     label: Label,
@@ -137,7 +137,7 @@ fn write_channel<W: Write>(
     }
 }
 
-/// Writes the line of a counter of a receive association.
+/// Writes the line of a receive SA's counter.
 fn write_sa_counter<W: Write>(
     writer: &mut W,
     label: Label,
@@ -153,7 +153,7 @@ fn write_sa_counter<W: Write>(
     writeln!(writer, " {an} {name} {value}")
 }
 
-/// Writes the lines of counters of a receive association.
+/// Writes the lines of a receive SA's counters.
 fn write_sa<W: Write>(
     writer: &mut W,
     label: Label,
@@ -169,7 +169,7 @@ fn write_sa<W: Write>(
     Ok(())
 }
 
-/// Writes the lines of a receive association, if there is one.
+/// Writes the lines of a receive SA, if there is one.
 fn write_association<W: Write>(
     writer: &mut W,
     label: Label,
@@ -185,7 +185,7 @@ fn write_association<W: Write>(
     }
 }
 
-/// Writes the lines of the associations of a receive channel, by their numbers.
+/// Writes the lines of the SAs of a receive SC, in the order of their ANs.
 fn write_associations<W: Write>(
     writer: &mut W,
     label: Label,
@@ -200,7 +200,7 @@ fn write_associations<W: Write>(
     Ok(())
 }
 
-/// Writes the lines of a receive channel, and then of its associations.
+/// Writes the lines of a receive SC, and then of its SAs.
 fn write_channel_and_associations<W: Write>(
     writer: &mut W,
     label: Label,
@@ -213,7 +213,7 @@ fn write_channel_and_associations<W: Write>(
     write_associations(writer, label, endpoint, sci)
 }
 
-/// Writes the lines of the receive channels, in the order of their creation.
+/// Writes the lines of the receive SCs, in the order of their creation.
 fn write_channels<W: Write>(writer: &mut W, label: Label, endpoint: &Secy) -> io::Result<()>
     ensures { OnOk result (Appends (W.contents writer.old) (W.contents writer.new) (flat_map (channel_text label endpoint.now) endpoint.now.rx.scis)) }
 {
@@ -235,9 +235,9 @@ fn write_counters<W: Write>(writer: &mut W, label: Label, endpoint: &Secy) -> io
     write_channels(writer, label, endpoint)
 }
 
-/// Prints the counters of an endpoint behind a label: a line for each of its own, then for each of its transmit
-/// channel, and then for each of the receive channels in the order of their creation, each with its associations by
-/// their numbers. It takes no memory, and fails only if the writer does.
+/// Prints the counters of an endpoint, a line for each, after the label: its own, those of its transmit SC, and those
+/// of its receive SCs. The receive SCs are in the order of their creation, each with its SAs in the order of their ANs.
+/// Does not allocate, and fails only if the writer does.
 pub fn print_counters<W: Write>(
     writer: &mut W,
     label: Label,

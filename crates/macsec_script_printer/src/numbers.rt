@@ -1,4 +1,4 @@
-//! The packet numbers of an endpoint, as a script shows them.
+//! The packet numbers of an endpoint, as a script prints them.
 
 ghost use Rattle.std.specs.Prelude.{◌≡◌, flat_map, IfErr, OnOk, Some};
 ghost use Rattle.std.specs.Io.KnownBytes.{Appends};
@@ -14,7 +14,7 @@ use macsec_secy::{An, RxRow, Sci, Secy, TxRow};
 use std::fmt;
 use std::io::{self, Write};
 
-/// A packet number, which prints itself in hex, with leading zeros up to 16 digits.
+/// A packet number. It is displayed in hex, with leading zeros up to 16 digits.
 #[derive(Clone, Copy)]
 struct PacketNumber(u128);
 
@@ -32,14 +32,14 @@ impl fmt::Display for PacketNumber {
     }
 }
 
-/// The word of whether an association is on.
+/// The word for whether an SA is enabled.
 fn state_text(on: bool) -> &'static str
     ensures { result.now ≡ state_text on }
 {
     if on { "on" } else { "off" }
 }
 
-/// The word of whether it encrypts.
+/// The word for whether an SA encrypts.
 fn mode_text(conf: bool) -> &'static str
     ensures { result.now ≡ mode_text conf }
 {
@@ -58,7 +58,7 @@ pub(crate) fn association_numbers() -> [An; 4]
     ]
 }
 
-/// Writes the line of a transmit association, if there is one.
+/// Writes the line of a transmit SA, if there is one.
 fn write_tx_row<W: Write>(writer: &mut W, n: u32, row: Option<TxRow>) -> io::Result<()>
     ensures { OnOk result (Appends (W.contents writer.old) (W.contents writer.new) (tx_text n row)) }
 {
@@ -73,7 +73,7 @@ fn write_tx_row<W: Write>(writer: &mut W, n: u32, row: Option<TxRow>) -> io::Res
     writeln!(writer, "{n} tx {an} {key} {next} {state} {mode}")
 }
 
-/// Writes the lines of the transmit associations, by their numbers.
+/// Writes the lines of the transmit SAs, in the order of their ANs.
 fn write_tx_rows<W: Write>(writer: &mut W, n: u32, endpoint: &Secy) -> io::Result<()>
     ensures { OnOk result (Appends (W.contents writer.old) (W.contents writer.new) (flat_map (λ an. tx_text n (tx_row endpoint.now.tx an)) association_numbers)) }
 {
@@ -83,7 +83,7 @@ fn write_tx_rows<W: Write>(writer: &mut W, n: u32, endpoint: &Secy) -> io::Resul
     Ok(())
 }
 
-/// Writes the line of a receive association, if there is one.
+/// Writes the line of a receive SA, if there is one.
 fn write_rx_row<W: Write>(writer: &mut W, n: u32, row: Option<RxRow>) -> io::Result<()>
     ensures { OnOk result (Appends (W.contents writer.old) (W.contents writer.new) (rx_text n row)) }
 {
@@ -100,7 +100,7 @@ fn write_rx_row<W: Write>(writer: &mut W, n: u32, row: Option<RxRow>) -> io::Res
     writeln!(writer, " {an} {key} {next} {lowest} {state}")
 }
 
-/// Writes the lines of the associations of a receive channel, by their numbers.
+/// Writes the lines of the SAs of a receive SC, in the order of their ANs.
 fn write_rx_rows<W: Write>(writer: &mut W, n: u32, endpoint: &Secy, sci: Sci) -> io::Result<()>
     ensures { OnOk result (Appends (W.contents writer.old) (W.contents writer.new) (channel_text n endpoint.now sci)) }
 {
@@ -110,7 +110,7 @@ fn write_rx_rows<W: Write>(writer: &mut W, n: u32, endpoint: &Secy, sci: Sci) ->
     Ok(())
 }
 
-/// Writes the lines of the receive channels, in the order of their creation.
+/// Writes the lines of the receive SCs, in the order of their creation.
 fn write_rx_channels<W: Write>(writer: &mut W, n: u32, endpoint: &Secy) -> io::Result<()>
     ensures { OnOk result (Appends (W.contents writer.old) (W.contents writer.new) (flat_map (channel_text n endpoint.now) endpoint.now.rx.scis)) }
 {
@@ -123,7 +123,7 @@ fn write_rx_channels<W: Write>(writer: &mut W, n: u32, endpoint: &Secy) -> io::R
     Ok(())
 }
 
-/// Writes the lines of all associations.
+/// Writes the lines of all SAs.
 fn write_numbers<W: Write>(writer: &mut W, n: u32, endpoint: &Secy) -> io::Result<()>
     ensures { OnOk result (Appends (W.contents writer.old) (W.contents writer.new) (numbers_text n endpoint.now)) }
 {
@@ -131,9 +131,9 @@ fn write_numbers<W: Write>(writer: &mut W, n: u32, endpoint: &Secy) -> io::Resul
     write_rx_channels(writer, n, endpoint)
 }
 
-/// Prints the packet numbers of an endpoint, as line `n` of a script shows them: a line for each transmit
-/// association by its number, and then for each receive association, by channels in the order of their
-/// creation and in a channel by its number. It fails only if the writer does.
+/// Prints the packet numbers of an endpoint, as line `n` of a script shows them: a line for each transmit SA in the
+/// order of the ANs, and then one for each receive SA. The receive SCs are in the order of their creation, the SAs of
+/// each in the order of their ANs. Fails only if the writer does.
 pub fn print_numbers<W: Write>(writer: &mut W, n: u32, endpoint: &Secy) -> Result<(), ScriptFault>
     ensures text { Prints (numbers_text n endpoint.now) (W.contents writer.old) (W.contents writer.new) result }
     ensures fault { IfErr result (λ fault. fault ≡ Write) }

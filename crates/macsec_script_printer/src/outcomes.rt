@@ -1,4 +1,4 @@
-//! The outcome of an event, as a script shows it.
+//! The outcome of an event, as a script prints it.
 
 ghost use Rattle.std.specs.Prelude.{◌≡◌, option_copied, is_some, true, IfErr, OnOk};
 ghost use Rattle.std.specs.Io.KnownBytes.{Appends};
@@ -43,7 +43,7 @@ fn refusal_name(refusal: Refusal) -> &'static str
     }
 }
 
-/// Why nothing is sent for a client frame, as it is printed.
+/// The printed reason why nothing is sent for a client frame.
 pub fn drop_text(reason: DropReason) -> &'static str
     ensures { result.now ≡ drop_text reason }
 {
@@ -68,7 +68,7 @@ fn world_fault_name(fault: WorldFault) -> &'static str
     }
 }
 
-/// Writes the line of a command that was refused: the refusal's number and its name.
+/// Writes the line of a refused command: the refusal's number and its name.
 fn write_refused<W: Write>(writer: &mut W, line: u32, refusal: Refusal) -> io::Result<()>
     ensures { OnOk result (Appends (W.contents writer.old) (W.contents writer.new) (outcome_text line None (Ok (outcome.Refused refusal)))) }
 {
@@ -77,7 +77,7 @@ fn write_refused<W: Write>(writer: &mut W, line: u32, refusal: Refusal) -> io::R
     writeln!(writer, "{line} refused {number} {name}")
 }
 
-/// Writes the line of an event that is a fault: the fault's number and its name.
+/// Writes the line of an event with a fault: the fault's number and its name.
 fn write_world_fault<W: Write>(writer: &mut W, line: u32, fault: WorldFault) -> io::Result<()>
     ensures { OnOk result (Appends (W.contents writer.old) (W.contents writer.new) (outcome_text line None (Err fault))) }
 {
@@ -150,9 +150,9 @@ fn write_outcome<W: Write>(
     }
 }
 
-/// Prints the outcome of an event, as line `line` of a script shows it; `frame` is the link frame that was
-/// created, if one was. An outcome that is told is any but the fault `Memory` or `Make`, which no line of a script shows.
-/// It takes no memory, and fails only if the writer does.
+/// Prints the outcome of an event, as line `line` of a script shows it. `frame` is the link frame that the event
+/// created, if any. The faults `Memory` and `Make` can't be printed: no line of a script shows them. Does not allocate,
+/// and fails only if the writer does.
 pub fn print_outcome<W: Write>(
     writer: &mut W,
     line: u32,

@@ -1,4 +1,4 @@
-//! Texts that are written.
+//! Writing octets in hex, and the fault of a write.
 
 ghost use Rattle.std.specs.Prelude.{◌≡◌, [], ◌∷◌, OnOk, MatchResult, Ok, Err};
 ghost use Rattle.std.specs.Io.KnownBytes.{Appends};
@@ -8,7 +8,7 @@ ghost use Rattle.macsec_script_parser.specs.declared.faults.ScriptFault.TheVaria
 use macsec_script_parser::ScriptFault;
 use std::io::{self, Write};
 
-/// A write that failed, as the fault of a script.
+/// Turns the fault of a write into that of a script, `Write`.
 pub fn write_fault(written: io::Result<()>) -> Result<(), ScriptFault>
     ensures { MatchResult written (λ _. result ≡ Ok tt) (λ _. result ≡ Err Write) }
 {
@@ -27,7 +27,7 @@ fn hex_digits(octet: u8) -> [u8; 2]
     digits
 }
 
-/// Writes octets in hex, in lower case. It takes no memory.
+/// Writes octets in hex, in lower case. Does not allocate.
 pub fn write_hex<W: Write>(writer: &mut W, octets: &[u8]) -> io::Result<()>
     ensures { OnOk result (Appends (W.contents writer.old) (W.contents writer.new) (encode_lower octets.now)) }
 {

@@ -1,4 +1,4 @@
--- The pieces of the line; this proof is here for speed.
+-- By joining the pieces of the line. This proof is here for speed.
 use Rattle.std.proofs.Common.{◌≡◌, List, ◌++◌, append_assoc, refl, subst, ℕ}
 use Rattle.std.specs.Prelude.{OnOk, codes}
 use Rattle.std.specs.Io.KnownBytes.{Appends}

@@ -1,4 +1,4 @@
--- One more channel is written in each turn, that of the next place; after the last there is none.
+-- Each turn writes the channel at the next place. The loop ends after the last channel.
 use Rattle.std.proofs.Common.{arith, sym}
 use Rattle.std.proofs.lemmas.Grind.{common_steps}
 use Rattle.std.proofs.lemmas.Option.{slice_get_within, get_or_from_slice_get}

@@ -1,4 +1,4 @@
--- By the case itself; these proofs are here for speed.
+-- By case. These proofs are here for speed.
 use Rattle.std.proofs.Common.{refl}
 use Rattle.macsec_script_printer.proofs.outcomes.refusal_name.Goals as goal
 

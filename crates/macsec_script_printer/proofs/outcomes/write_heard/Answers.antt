@@ -1,5 +1,4 @@
--- By these tactics alone: without these proofs the prover tries others before them, which takes longer, and on a
--- mutant it tries all.
+-- By these tactics alone, for speed: without these proofs the prover tries others first, and all of them on a mutant.
 use Rattle.std.proofs.Common.{arith}
 use Rattle.std.proofs.lemmas.Grind.{common_steps}
 use Rattle.macsec_script_printer.proofs.outcomes.write_heard.Goals as goal

@@ -1,4 +1,4 @@
--- The pieces of the line, by the number and the name: a wrong number is refused soon.
+-- By joining the pieces of the line, with the number and the name as premises. So a wrong number is refused quickly.
 use Rattle.std.proofs.Common.{◌≡◌, ◌∙◌, ℕ, List, ◌++◌, ap, append_assoc, arith, refl, subst}
 use Rattle.std.specs.Prelude.{None, Ok, OnOk, codes, decimal}
 use Rattle.std.specs.Io.KnownBytes.{Appends}

@@ -1,4 +1,4 @@
--- By the octets that were written; this proof is here for speed.
+-- By the octets that were written. This proof is here for speed.
 use Rattle.macsec_script_printer.proofs.writing.hex_digits.Goals as goal
 
 pub returns : goal.returns

@@ -1,4 +1,4 @@
--- Octet after octet, two digits each.
+-- By induction on the octets, two digits for each.
 use Rattle.std.proofs.Common.{arith}
 use Rattle.std.proofs.KnownBytes.{Appends-nil}
 use Rattle.hex.specs.Hex.{encode_with}

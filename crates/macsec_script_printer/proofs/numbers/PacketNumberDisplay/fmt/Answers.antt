@@ -1,4 +1,4 @@
--- By whether the number is below 2^64: 16 digits, or those of its upper half and then 16 of its lower one.
+-- By whether the number is below 2^64: 16 digits, or the digits of the upper half and then 16 of the lower half.
 use Rattle.std.proofs.Common.{◌≡◌, ◌≤◌, ◌^◌, ◌%◌, arith}
 use Rattle.macsec_script_printer.proofs.HexNumbers.{sixteen, halves}
 use Rattle.macsec_script_printer.proofs.numbers.PacketNumberDisplay.fmt.Goals as goal
