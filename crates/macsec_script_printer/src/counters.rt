@@ -235,9 +235,9 @@ fn write_counters<W: Write>(writer: &mut W, label: Label, endpoint: &Secy) -> io
     write_channels(writer, label, endpoint)
 }
 
-/// Prints the counters of an endpoint, a line for each, after the label: its own, those of its transmit SC, and those
-/// of its receive SCs. The receive SCs are in the order of their creation, each with its SAs in the order of their ANs.
-/// Does not allocate, and fails only if the writer does.
+/// Prints the counters of an endpoint, each on a line that begins with the label: of the endpoint, of its transmit SC,
+/// and of its receive SCs. The receive SCs are in the order of their creation, each with its SAs in the order of their
+/// ANs. Does not allocate, and fails only if the writer does.
 pub fn print_counters<W: Write>(
     writer: &mut W,
     label: Label,

@@ -8,7 +8,7 @@ ghost use Rattle.macsec_script_parser.specs.declared.faults.ScriptFault.TheVaria
 use macsec_script_parser::ScriptFault;
 use std::io::{self, Write};
 
-/// Turns the fault of a write into that of a script, `Write`.
+/// Turns a failed write into the script's fault `Write`.
 pub fn write_fault(written: io::Result<()>) -> Result<(), ScriptFault>
     ensures { MatchResult written (λ _. result ≡ Ok tt) (λ _. result ≡ Err Write) }
 {
