@@ -1,4 +1,4 @@
--- What becomes of a client frame, as C sees it.
+-- The result of sending a client frame, as C sees it.
 use Rattle.std.specs.Prelude.{ℕ, List, [], Option, Some, None}
 use Rattle.macsec_secy.specs.State.{State}
 use Rattle.macsec_secy.specs.Step.{Output, done, refused, leaves, dropped_no_sa, dropped_too_long, received, fault, client_frame, step}
@@ -22,12 +22,12 @@ unsent status fate = record { status = status; fate = fate; key = 0; frame = [] 
 abbrev pub sent_as : List ℕ → ℕ → ℕ → SentParts
 sent_as frame fate key = record { status = done_status; fate = fate; key = key; frame = frame }
 
--- protected under a key, or as it is
+-- protected under a key, or unchanged
 abbrev pub leaving_parts : List ℕ → Option ℕ → SentParts
 leaving_parts frame (Some key) = sent_as frame 1 key
 leaving_parts frame None = sent_as frame 2 0
 
--- of an output of the machine; a client frame has no other than the last four
+-- for an output of the machine; a client frame has only the last four
 abbrev pub parts_of_output : Output → SentParts
 parts_of_output done = unsent done_status 0
 parts_of_output (refused r) = unsent done_status 0
@@ -37,7 +37,7 @@ parts_of_output dropped_no_sa = unsent done_status 3
 parts_of_output dropped_too_long = unsent done_status 4
 parts_of_output (fault f) = unsent (status_of_frame_fault f) 0
 
--- of a client frame given to a handle
+-- for a client frame given to a handle
 abbrev pub sent_parts : Option State → List ℕ → SentParts
 sent_parts None frame = unsent empty_status 0
 sent_parts (Some s) frame = parts_of_output (step s (client_frame frame)).0

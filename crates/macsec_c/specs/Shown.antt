@@ -20,7 +20,7 @@ use Rattle.macsec_c.specs.declared.showing.RxRowShown.{RxRowShown}
 use Rattle.macsec_c_numbers.specs.Arguments.{Named}
 use Rattle.macsec_c_numbers.specs.Statuses.{done_status, empty_status, none_status, status_of_argument_fault}
 
--- what a handle's endpoint has, if it holds one
+-- what `read` finds in the endpoint of a handle, if the handle holds one
 abbrev pub found : {A : Type 0} → Option State → (State → Option A) → Option A
 found None read = None
 found (Some s) read = read s
@@ -33,7 +33,7 @@ abbrev pub status_of_found : {A : Type 0} → Option State → (State → Option
 status_of_found None read = empty_status
 status_of_found (Some s) read = status_if (read s)
 
--- the same of an association number, where the argument is one
+-- the same for an AN, if the argument is one
 abbrev pub found_at : {A : Type 0} → Option State → Named ℕ → (State → ℕ → Option A) → Option A
 found_at None an read = None
 found_at (Some s) (Err f) read = None

@@ -1,4 +1,4 @@
--- Texts that C gives: the configuration of an endpoint, and a line of one command.
+-- Texts that C gives: the configuration of an endpoint, and the line of one command.
 use Rattle.std.specs.Prelude.{◌≡◌, ℕ, List, [], ◌∷◌, Option, Some, None, Result, Ok, Err, unwrap_or}
 use Rattle.macsec_suite.specs.RefusalNumbers.{number_of_refusal}
 use Rattle.macsec_commands.specs.declared.command.Command.{Command}
@@ -25,7 +25,7 @@ use Rattle.macsec_c.specs.declared.configuring.ConfigFault.TheVariants.{Text, Ne
 use Rattle.macsec_c.specs.Answers.{commanded}
 use Rattle.macsec_c_numbers.specs.Statuses.{done_status, empty_status, taken_status, status_of_line_fault, status_of_new_fault, status_of_script_fault}
 
--- the command at end A that a line says, if it says one
+-- the command of a line, if it is a command at end A
 abbrev pub command_of : Line → Option Command
 command_of (Event (event.Command A command)) = Some command
 command_of other = None
@@ -41,12 +41,12 @@ abbrev pub after_command : ℕ → State → Option Command → Result State Con
 after_command n s None = Err (Text (script.Ends n))
 after_command n s (Some c) = after_output n (step s (operator_command c)).0 (step s (operator_command c)).1
 
--- the endpoint after the commands of these lines, which are carried out in their order until one is refused
+-- the endpoint after the commands of these lines, which are carried out in order until one is refused
 abbrev pub carried_out : State → List NumberedLine → Result State ConfigFault
 carried_out s [] = Ok s
 carried_out s (first ∷ more) = and_then (after_command first.0 s (command_of first.1)) (λ after. carried_out after more)
 
--- the endpoint of a configuration of which one can be created, after these commands
+-- the endpoint, unless the configuration has a fault
 abbrev pub unless_new_fault : Option NewFault → Result State ConfigFault → Result State ConfigFault
 unless_new_fault None endpoint = endpoint
 unless_new_fault (Some f) endpoint = Err (New f)
@@ -60,7 +60,7 @@ abbrev pub endpoint_of : List NumberedLine → Result State ConfigFault
 endpoint_of [] = Err (Text (script.Ends 0))
 endpoint_of (first ∷ commands) = created_at first.0 (a_config first.1) commands
 
--- of the lines of a text, or the text's first fault
+-- the same for the lines of a text, or the text's first fault
 abbrev pub endpoint_of_parsed : Result (List NumberedLine) ScriptFault → Result State ConfigFault
 endpoint_of_parsed (Ok lines) = endpoint_of lines
 endpoint_of_parsed (Err f) = Err (Text f)
@@ -68,7 +68,7 @@ endpoint_of_parsed (Err f) = Err (Text f)
 abbrev pub configured : List ℕ → Result State ConfigFault
 configured text = endpoint_of_parsed (config_of text)
 
--- what is made of a configuration is its endpoint or its fault, or that there is no memory
+-- a configuration gives its endpoint or its fault, unless memory runs out
 abbrev pub MakesConfigured : Result State ConfigFault → Result State ConfigFault → Type 0
 MakesConfigured meant (Ok s) = meant ≡ Ok s
 MakesConfigured meant (Err (Text script.Memory)) = Unit {0}
@@ -80,21 +80,21 @@ status_of_config_fault (Text f) = status_of_script_fault f
 status_of_config_fault (New f) = status_of_new_fault f
 status_of_config_fault (Refused n r) = number_of_refusal r
 
--- the number of the line at fault, from 1, or 0 if it is no line's
+-- the number of the line with the fault, from 1, or 0 if the fault is in no line
 abbrev pub line_of_config_fault : ConfigFault → ℕ
 line_of_config_fault (Text f) = unwrap_or (fault_line f) 0
 line_of_config_fault (New f) = 0
 line_of_config_fault (Refused n r) = n
 
--- the report on a configuration: its status, and the number of the line at fault
+-- the report on a configuration: its status, and the number of the line with the fault
 abbrev pub Report : Type 0
 Report = ℕ × ℕ
 
 abbrev pub report_of : ConfigFault → Report
 report_of f = (status_of_config_fault f, line_of_config_fault f)
 
--- the report on a text that is given to a handle, and what the handle holds then: in one that holds none the endpoint of
--- the text with all its commands carried out, or none and why there is none
+-- the report on a text that is given to a handle, and what the handle holds afterwards. If the handle held no endpoint:
+-- the endpoint of the text with all commands carried out, or none, and why
 abbrev pub Configures : Option State → List ℕ → Report → Option State → Type 0
 Configures (Some s) text report after = (report ≡ (taken_status, 0)) × (after ≡ Some s)
 Configures None text report (Some s) = (report ≡ (done_status, 0)) × (configured text ≡ Ok s)
@@ -102,7 +102,7 @@ Configures None text report None = (f : ConfigFault) × (report ≡ report_of f)
 
 -- ---- a line
 
--- the command that a line says, or none if it is skipped; `Ends` if it says anything else
+-- the command of a line, or none if the line is skipped; `Ends` if the line is not a command at end A
 abbrev pub only_command : Option Command → Result (Option Command) LineFault
 only_command None = Err Ends
 only_command (Some c) = Ok (Some c)
@@ -114,14 +114,14 @@ command_of_parsed (Some line) = only_command (command_of line)
 abbrev pub line_command : List ℕ → Result (Option Command) LineFault
 line_command text = and_then (line_of text) command_of_parsed
 
--- the status of what was read of a line, and what the handle holds then
+-- the status of a line that was read, and what the handle holds afterwards
 abbrev pub line_commanded : Option State → Result (Option Command) LineFault → ℕ × Option State
 line_commanded None read = (empty_status, None)
 line_commanded (Some s) (Ok (Some c)) = commanded (Some s) (Ok c)
 line_commanded (Some s) (Ok None) = (done_status, Some s)
 line_commanded (Some s) (Err f) = (status_of_line_fault f, Some s)
 
--- the line is read, or there is no memory for its words; then it is carried out
+-- the line is read, unless memory runs out, and then carried out
 abbrev pub CommandsLine : Option State → List ℕ → ℕ → Option State → Type 0
 CommandsLine held text status after =
     (read : Result (Option Command) LineFault) × Reads (line_command text) read × ((status, after) ≡ line_commanded held read)

@@ -12,7 +12,7 @@ use macsec_c_numbers::{
 };
 use macsec_secy::{Command, NewKey, Sci};
 
-/// Carries out a command, or refuses it and changes nothing.
+/// Carries out a command, or refuses it and changes nothing. Returns the status.
 pub(crate) fn carry_out(e: &mut Endpoint, command: Result<Command, ArgumentFault>) -> u32
     ensures { (result, e.new.state) ≡ commanded e.old.state command }
 {
@@ -29,7 +29,7 @@ pub(crate) fn carry_out(e: &mut Endpoint, command: Result<Command, ArgumentFault
     }
 }
 
-/// Protect client frames, or send them as they are.
+/// Protect client frames, or send them unchanged.
 #[unsafe(no_mangle)]
 pub extern "C" fn macsec_protect(e: &mut Endpoint, on: bool) -> u32
     ensures { (result, e.new.state) ≡ commanded e.old.state (Ok (by.Protect on)) }
@@ -45,7 +45,7 @@ pub extern "C" fn macsec_validate(e: &mut Endpoint, mode: u32) -> u32
     carry_out(e, mode_of(mode).map(|mode| Command::Validate(mode)))
 }
 
-/// Drop late frames or not, and set the replay window.
+/// Turn replay protection on or off, and set the replay window. If it is on, late frames are dropped.
 #[unsafe(no_mangle)]
 pub extern "C" fn macsec_replay(e: &mut Endpoint, protect: bool, window: u64) -> u32
     ensures { (result, e.new.state) ≡ commanded e.old.state (Ok (by.Replay protect window)) }
@@ -61,7 +61,7 @@ pub extern "C" fn macsec_tag(e: &mut Endpoint, form: u32) -> u32
     carry_out(e, form_of(form).map(|form| Command::Tag(form)))
 }
 
-/// A key to be installed, as C gives it: the first `length` octets of `bytes`.
+/// A key to install, as C gives it. The key is the first `length` octets of `bytes`.
 #[repr(C)]
 #[derive(Drop)]
 pub struct Sak {
@@ -74,7 +74,7 @@ pub struct Sak {
     pub offset: u8,
 }
 
-/// What it names.
+/// The key that it names, or the first argument that names nothing.
 fn new_key_of(key: &Sak) -> Result<NewKey, ArgumentFault>
     ensures { result ≡ new_key_of key.now }
 {
@@ -99,7 +99,7 @@ pub extern "C" fn macsec_key(e: &mut Endpoint, key: &Sak) -> u32
     carry_out(e, new_key_of(key).map(|key| Command::Key(key)))
 }
 
-/// Retire the key of this number: no new association may use it.
+/// Retire the key of this number: no new SA may use it.
 #[unsafe(no_mangle)]
 pub extern "C" fn macsec_retire(e: &mut Endpoint, key: u16) -> u32
     ensures { (result, e.new.state) ≡ commanded e.old.state (naming by.Retire (key_number_of key)) }
@@ -107,7 +107,7 @@ pub extern "C" fn macsec_retire(e: &mut Endpoint, key: u16) -> u32
     carry_out(e, key_number_of(key).map(|key| Command::Retire(key)))
 }
 
-/// The command that creates this transmit association.
+/// The command that creates this transmit SA.
 fn tx_sa_of(an: u8, key: u16, next: u64, conf: bool) -> Result<Command, ArgumentFault>
     ensures { result ≡ naming_both (λ n k. by.TxSa n k next conf) (an_of an) (key_number_of key) }
 {
@@ -121,7 +121,7 @@ fn tx_sa_of(an: u8, key: u16, next: u64, conf: bool) -> Result<Command, Argument
     })
 }
 
-/// Create a transmit association, disabled, whose first packet number is `next`; it encrypts if `conf` is true.
+/// Create a transmit SA, disabled, whose first packet number is `next`. It encrypts if `conf` is true.
 #[unsafe(no_mangle)]
 pub extern "C" fn macsec_tx_sa(e: &mut Endpoint, an: u8, key: u16, next: u64, conf: bool) -> u32
     ensures { (result, e.new.state) ≡ commanded e.old.state (naming_both (λ n k. by.TxSa n k next conf) (an_of an) (key_number_of key)) }
@@ -129,7 +129,7 @@ pub extern "C" fn macsec_tx_sa(e: &mut Endpoint, an: u8, key: u16, next: u64, co
     carry_out(e, tx_sa_of(an, key, next, conf))
 }
 
-/// Enable this transmit association, and disable every other one.
+/// Enable this transmit SA, and disable every other one.
 #[unsafe(no_mangle)]
 pub extern "C" fn macsec_tx_on(e: &mut Endpoint, an: u8) -> u32
     ensures { (result, e.new.state) ≡ commanded e.old.state (naming by.TxOn (an_of an)) }
@@ -137,7 +137,7 @@ pub extern "C" fn macsec_tx_on(e: &mut Endpoint, an: u8) -> u32
     carry_out(e, an_of(an).map(|an| Command::TxOn(an)))
 }
 
-/// Disable this transmit association.
+/// Disable this transmit SA.
 #[unsafe(no_mangle)]
 pub extern "C" fn macsec_tx_off(e: &mut Endpoint, an: u8) -> u32
     ensures { (result, e.new.state) ≡ commanded e.old.state (naming by.TxOff (an_of an)) }
@@ -145,7 +145,7 @@ pub extern "C" fn macsec_tx_off(e: &mut Endpoint, an: u8) -> u32
     carry_out(e, an_of(an).map(|an| Command::TxOff(an)))
 }
 
-/// Delete this transmit association.
+/// Delete this transmit SA.
 #[unsafe(no_mangle)]
 pub extern "C" fn macsec_tx_del(e: &mut Endpoint, an: u8) -> u32
     ensures { (result, e.new.state) ≡ commanded e.old.state (naming by.TxDel (an_of an)) }
@@ -153,7 +153,7 @@ pub extern "C" fn macsec_tx_del(e: &mut Endpoint, an: u8) -> u32
     carry_out(e, an_of(an).map(|an| Command::TxDel(an)))
 }
 
-/// Create a receive channel, the last.
+/// Create a receive SC, the last in the order of the channels.
 #[unsafe(no_mangle)]
 pub extern "C" fn macsec_rx_sc(e: &mut Endpoint, sci: &[u8; 8]) -> u32
     ensures { (result, e.new.state) ≡ commanded e.old.state (Ok (by.RxSc (sci_of sci.now))) }
@@ -161,7 +161,7 @@ pub extern "C" fn macsec_rx_sc(e: &mut Endpoint, sci: &[u8; 8]) -> u32
     carry_out(e, Ok(Command::RxSc(Sci(*sci))))
 }
 
-/// Delete this receive channel, its associations and its counters.
+/// Delete this receive SC, its SAs and its counters.
 #[unsafe(no_mangle)]
 pub extern "C" fn macsec_rx_sc_del(e: &mut Endpoint, sci: &[u8; 8]) -> u32
     ensures { (result, e.new.state) ≡ commanded e.old.state (Ok (by.RxScDel (sci_of sci.now))) }
@@ -169,7 +169,7 @@ pub extern "C" fn macsec_rx_sc_del(e: &mut Endpoint, sci: &[u8; 8]) -> u32
     carry_out(e, Ok(Command::RxScDel(Sci(*sci))))
 }
 
-/// The command that creates this receive association.
+/// The command that creates this receive SA.
 fn rx_sa_of(sci: Sci, an: u8, key: u16, ssci: u32, lowest: u64) -> Result<Command, ArgumentFault>
     ensures { result ≡ naming_both (λ n k. by.RxSa sci n k ssci lowest) (an_of an) (key_number_of key) }
 {
@@ -184,7 +184,7 @@ fn rx_sa_of(sci: Sci, an: u8, key: u16, ssci: u32, lowest: u64) -> Result<Comman
     })
 }
 
-/// Create a receive association, disabled, whose lowest acceptable packet number is `lowest`.
+/// Create a receive SA, disabled, whose lowest acceptable packet number is `lowest`.
 #[unsafe(no_mangle)]
 pub extern "C" fn macsec_rx_sa(
     e: &mut Endpoint,
@@ -199,7 +199,7 @@ pub extern "C" fn macsec_rx_sa(
     carry_out(e, rx_sa_of(Sci(*sci), an, key, ssci, lowest))
 }
 
-/// Enable this receive association.
+/// Enable this receive SA.
 #[unsafe(no_mangle)]
 pub extern "C" fn macsec_rx_on(e: &mut Endpoint, sci: &[u8; 8], an: u8) -> u32
     ensures { (result, e.new.state) ≡ commanded e.old.state (naming (by.RxOn (sci_of sci.now)) (an_of an)) }
@@ -208,7 +208,7 @@ pub extern "C" fn macsec_rx_on(e: &mut Endpoint, sci: &[u8; 8], an: u8) -> u32
     carry_out(e, an_of(an).map(|an| Command::RxOn(sci, an)))
 }
 
-/// Disable this receive association.
+/// Disable this receive SA.
 #[unsafe(no_mangle)]
 pub extern "C" fn macsec_rx_off(e: &mut Endpoint, sci: &[u8; 8], an: u8) -> u32
     ensures { (result, e.new.state) ≡ commanded e.old.state (naming (by.RxOff (sci_of sci.now)) (an_of an)) }
@@ -217,7 +217,7 @@ pub extern "C" fn macsec_rx_off(e: &mut Endpoint, sci: &[u8; 8], an: u8) -> u32
     carry_out(e, an_of(an).map(|an| Command::RxOff(sci, an)))
 }
 
-/// Raise the lowest acceptable packet number of this receive association.
+/// Raise the lowest acceptable packet number of this receive SA.
 #[unsafe(no_mangle)]
 pub extern "C" fn macsec_rx_low(e: &mut Endpoint, sci: &[u8; 8], an: u8, pn: u64) -> u32
     ensures { (result, e.new.state) ≡ commanded e.old.state (naming (λ n. by.RxLow (sci_of sci.now) n pn) (an_of an)) }
@@ -226,7 +226,7 @@ pub extern "C" fn macsec_rx_low(e: &mut Endpoint, sci: &[u8; 8], an: u8, pn: u64
     carry_out(e, an_of(an).map(|an| Command::RxLow { sci, an, pn }))
 }
 
-/// Delete this receive association.
+/// Delete this receive SA.
 #[unsafe(no_mangle)]
 pub extern "C" fn macsec_rx_del(e: &mut Endpoint, sci: &[u8; 8], an: u8) -> u32
     ensures { (result, e.new.state) ≡ commanded e.old.state (naming (by.RxDel (sci_of sci.now)) (an_of an)) }

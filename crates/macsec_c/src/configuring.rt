@@ -1,4 +1,4 @@
-//! Text: the configuration of an endpoint, and a line of one command.
+//! Texts that C gives: the configuration of an endpoint, and the line of one command.
 
 ghost use Rattle.std.specs.Prelude.{◌≡◌, option_map};
 ghost use Rattle.macsec_script_parser.specs.Fields.{map_ok};
@@ -19,10 +19,10 @@ use macsec_script_parser::{Line, LineFault, ScriptFault, parse_config, parse_lin
 use macsec_secy::{Command, EndConfig, NewFault, Refusal, Secy};
 use std::alloc::Global;
 
-/// Why a text makes no endpoint.
+/// Why a configuration creates no endpoint.
 #[derive(Clone, Copy)]
 pub enum ConfigFault {
-    /// The text has a fault, or there is no memory to read it.
+    /// The text has a fault, or memory ran out while it was parsed.
     Text(ScriptFault),
     /// No endpoint can be created.
     New(NewFault),
@@ -42,7 +42,7 @@ impl ConfigFault {
         }
     }
 
-    /// The number of the line at fault, from 1, or 0 if it is no line's.
+    /// The number of the line with the fault, from 1, or 0 if the fault is in no line.
     fn line(self) -> u32
         ensures { result ≡ line_of_config_fault self }
     {
@@ -76,7 +76,7 @@ impl From<NewFault> for ConfigFault {
     }
 }
 
-/// The configuration of end A, if the line is its line.
+/// The configuration of an `end` line for A.
 fn config_at_a(line: &Line) -> Option<EndConfig>
     ensures { result ≡ a_config line.now }
 {
@@ -86,7 +86,7 @@ fn config_at_a(line: &Line) -> Option<EndConfig>
     }
 }
 
-/// The command at end A that a line says, if it says one.
+/// The command of a line, if it is a command at end A.
 fn command_of(line: &Line) -> Option<Command>
     ensures { result ≡ command_of line.now }
 {
@@ -119,7 +119,7 @@ fn carry_out_lines(secy: &mut Secy, lines: &[(u32, Line)]) -> Result<(), ConfigF
     Ok(())
 }
 
-/// The endpoint that the first line creates, after the commands of the others.
+/// Creates the endpoint of the first line, and carries out the commands of the others.
 fn endpoint_of_lines(alloc: Global, lines: &[(u32, Line)]) -> Result<Box<Secy, Global>, ConfigFault>
     ensures { MakesConfigured (endpoint_of lines.now) (map_ok (λ secy. secy.value) result) }
 {
@@ -134,7 +134,7 @@ fn endpoint_of_lines(alloc: Global, lines: &[(u32, Line)]) -> Result<Box<Secy, G
     Ok(secy)
 }
 
-/// The endpoint of a configuration, after its commands.
+/// Creates the endpoint of a configuration, and carries out its commands.
 fn configured(alloc: Global, text: &[u8]) -> Result<Box<Secy, Global>, ConfigFault>
     ensures { MakesConfigured (configured text.now) (map_ok (λ secy. secy.value) result) }
 {
@@ -142,8 +142,8 @@ fn configured(alloc: Global, text: &[u8]) -> Result<Box<Secy, Global>, ConfigFau
     endpoint_of_lines(alloc, lines.as_slice())
 }
 
-/// Creates the endpoint of a configuration, and carries out its commands, in a handle that holds none. It holds none
-/// still if the text has a fault or a command is refused.
+/// Creates the endpoint of a configuration in a handle without one, and carries out the configuration's commands. If
+/// the text has a fault or a command is refused, the handle still holds no endpoint.
 #[unsafe(no_mangle)]
 pub extern "C" fn macsec_configure(
     alloc: Global,
@@ -169,7 +169,7 @@ pub extern "C" fn macsec_configure(
     }
 }
 
-/// The command at end A that a line says, or `None` if it is skipped.
+/// The command of a line at end A, or `None` if the line is skipped.
 fn line_command(alloc: Global, text: &[u8]) -> Result<Option<Command>, LineFault>
     ensures { Reads (line_command text.now) result }
 {
@@ -182,7 +182,7 @@ fn line_command(alloc: Global, text: &[u8]) -> Result<Option<Command>, LineFault
     }
 }
 
-/// Carries out the command at end A that a line says, or refuses it and changes nothing.
+/// Carries out the command of a line at end A, or refuses it and changes nothing.
 #[unsafe(no_mangle)]
 pub extern "C" fn macsec_command_line(alloc: Global, e: &mut Endpoint, text: &[u8]) -> u32
     ensures { CommandsLine e.old.state text.now result e.new.state }

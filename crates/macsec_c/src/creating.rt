@@ -1,4 +1,4 @@
-//! An endpoint for a handle, and its end.
+//! Creating the endpoint of a handle, and freeing it.
 
 ghost use Rattle.std.specs.Prelude.{◌≡◌, None};
 ghost use Rattle.macsec_secy.specs.Answers.{MakesEndpoint};
@@ -22,7 +22,7 @@ pub struct Config {
     pub max_frame: u32,
 }
 
-/// What it names.
+/// The configuration that it names, or the first argument that names nothing.
 fn config_of(config: &Config) -> Result<EndConfig, ArgumentFault>
     ensures { result ≡ config_of config.now }
 {
@@ -34,11 +34,11 @@ fn config_of(config: &Config) -> Result<EndConfig, ArgumentFault>
     })
 }
 
-/// An endpoint of this configuration, on the heap.
+/// Creates an endpoint of this configuration on the heap.
 pub(crate) fn endpoint_of(alloc: Global, config: EndConfig) -> Result<Box<Secy, Global>, NewFault>
     ensures { MakesEndpoint config (map_ok (λ secy. secy.value) result) }
 {
-    // By `?` and a second `match` an endpoint would take twice the stack.
+    // `?` and a second `match` would need twice the stack for the endpoint.
     let secy = match Secy::new(alloc, config) {
         Ok(secy) => secy,
         Err(fault) => return Err(fault),
@@ -49,7 +49,7 @@ pub(crate) fn endpoint_of(alloc: Global, config: EndConfig) -> Result<Box<Secy, 
     Ok(secy)
 }
 
-/// Creates an endpoint of this configuration on the heap, in a handle that holds none.
+/// Creates an endpoint of this configuration on the heap, in a handle without one.
 #[unsafe(no_mangle)]
 pub extern "C" fn macsec_new(alloc: Global, e: &mut Endpoint, config: &Config) -> u32
     ensures { Makes e.old.state (config_of config.now) result e.new.state }
@@ -70,7 +70,7 @@ pub extern "C" fn macsec_new(alloc: Global, e: &mut Endpoint, config: &Config) -
     }
 }
 
-/// Frees the endpoint of a handle, if it holds one; it holds none then.
+/// Frees the endpoint of a handle, if it holds one. Afterwards the handle holds none.
 #[unsafe(no_mangle)]
 pub extern "C" fn macsec_free(alloc: Global, e: &mut Endpoint)
     ensures { e.new.state ≡ None }

@@ -10,25 +10,25 @@ ghost use Rattle.macsec_c.specs.ReceivedParts.{delivered_parts, parts_of_receive
 use crate::endpoint::Endpoint;
 use macsec_c_numbers::{DONE, EMPTY, number_of_verdict, status_of_frame_fault};
 
-/// What becomes of a link frame.
+/// The result of receiving a link frame.
 #[repr(C)]
 #[derive(Drop)]
 pub struct Received<'a> {
-    /// The frame that is delivered at the controlled port; it is empty if none is.
+    /// The frame that is delivered at the controlled port, or empty if none is.
     pub frame: &'a [u8],
     /// The status.
     pub status: u32,
-    /// The number of the verdict, 1 to 12; 0 if the status is not 0.
+    /// The number of the verdict, 1 to 12, or 0 if the status is not 0.
     pub verdict: u32,
-    /// The association that the frame is for, if `has_sa` is true: the SCI of its channel, and its number.
+    /// The SA that the frame is for, if `has_sa` is true: the SCI of its SC, and its AN.
     pub sci: [u8; 8],
     pub an: u8,
     pub has_sa: bool,
-    /// Is a frame delivered?
+    /// Whether a frame is delivered.
     pub delivered: bool,
 }
 
-/// The association of a frame as C sees it: is there one, the SCI of its channel, and its number.
+/// The SA of a frame as C sees it: whether there is one, the SCI of its SC, and its AN.
 fn place_of(row: Option<(macsec_secy::Sci, u8)>) -> (bool, [u8; 8], u8)
     ensures { result ≡ place_parts row }
 {
@@ -41,8 +41,8 @@ fn place_of(row: Option<(macsec_secy::Sci, u8)>) -> (bool, [u8; 8], u8)
     }
 }
 
-/// The frame that is delivered as C sees it: its octets, of which there are none if none is, and whether one is. Else no
-/// octet of the link frame is shown.
+/// The delivered frame as C sees it: its octets, or none, and whether a frame is delivered. If none is, C sees no octet
+/// of the link frame.
 fn delivered_of<'a>(controlled: Option<&'a [u8]>, frame: &'a [u8]) -> (&'a [u8], bool)
     ensures { (result.1, result.0.now) ≡ delivered_parts (option_map (λ (f : Bor (List ℕ)). f.now) controlled.entry) }
 {
@@ -52,7 +52,7 @@ fn delivered_of<'a>(controlled: Option<&'a [u8]>, frame: &'a [u8]) -> (&'a [u8],
     }
 }
 
-/// The frame was not received, with this status.
+/// The result for a frame that was not received, with this status.
 fn unreceived<'a>(frame: &'a [u8], status: u32) -> Received<'a>
     ensures { parts_of_received result ≡ unreceived status }
 {
@@ -67,7 +67,7 @@ fn unreceived<'a>(frame: &'a [u8], status: u32) -> Received<'a>
     }
 }
 
-/// What becomes of a link frame; the frame that is delivered borrows from the endpoint, or is the caller's.
+/// Receives a link frame. The delivered frame borrows from the endpoint or is the caller's.
 fn reception<'a>(e: &'a mut Endpoint, frame: &'a [u8]) -> Received<'a>
     ensures* after { sem 𝓛 (RestsAs e.entry (after_input e.old.state (link_frame frame.now))) }
     ensures received { parts_of_received result ≡ received_parts e.old.state frame.now }
@@ -93,7 +93,7 @@ fn reception<'a>(e: &'a mut Endpoint, frame: &'a [u8]) -> Received<'a>
     }
 }
 
-/// Receives a link frame. The header's `macsec_receive` calls this over an answer that names no frame.
+/// Receives a link frame. `macsec_receive` of the header calls this with a result that names no frame.
 #[unsafe(no_mangle)]
 pub extern "C" fn macsec_receive_raw<'a>(
     e: &'a mut Endpoint,

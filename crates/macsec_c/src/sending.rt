@@ -14,22 +14,22 @@ use macsec_c_numbers::{
 };
 use macsec_secy::{DropReason, Sent as Fate};
 
-/// What becomes of a client frame.
+/// The result of sending a client frame.
 #[repr(C)]
 #[derive(Drop)]
 pub struct Sent<'a> {
-    /// The frame that is sent; it is empty if none is.
+    /// The frame that is sent, or empty if none is.
     pub frame: &'a [u8],
     /// The status.
     pub status: u32,
-    /// 0 if the status is not 0; 1 if the frame is sent protected, 2 if it is sent as it is, 3 if it is dropped because no
-    /// association can send, 4 because it would be too long.
+    /// 0 if the status is not 0. 1 if the frame is sent protected, 2 if it is sent unchanged, 3 if it is dropped
+    /// because no SA can send, 4 if it is dropped because it would be too long.
     pub fate: u32,
-    /// The number of the key that protects it; else 0.
+    /// The number of the key that protects it, or 0.
     pub key: u16,
 }
 
-/// This frame is sent.
+/// The result for a frame that is sent.
 fn sent_as<'a>(frame: &'a [u8], fate: u32, key: u16) -> Sent<'a>
     ensures { parts_of_sent result ≡ sent_as frame.now fate key }
 {
@@ -41,7 +41,7 @@ fn sent_as<'a>(frame: &'a [u8], fate: u32, key: u16) -> Sent<'a>
     }
 }
 
-/// Nothing is sent, with this status and for this reason. Of the caller's frame no octet is shown.
+/// The result if nothing is sent, with this status and for this reason. C sees no octet of the frame.
 fn unsent<'a>(frame: &'a [u8], status: u32, fate: u32) -> Sent<'a>
     ensures { parts_of_sent result ≡ unsent status fate }
 {
@@ -53,7 +53,7 @@ fn unsent<'a>(frame: &'a [u8], status: u32, fate: u32) -> Sent<'a>
     }
 }
 
-/// The fate of a client frame; the frame that is sent borrows from the endpoint, or is the caller's.
+/// Sends a client frame. The frame that leaves borrows from the endpoint or is the caller's.
 fn fate_of<'a>(e: &'a mut Endpoint, frame: &'a [u8]) -> Sent<'a>
     ensures* after { sem 𝓛 (RestsAs e.entry (after_input e.old.state (client_frame frame.now))) }
     ensures sent { parts_of_sent result ≡ sent_parts e.old.state frame.now }
@@ -75,7 +75,8 @@ fn fate_of<'a>(e: &'a mut Endpoint, frame: &'a [u8]) -> Sent<'a>
     }
 }
 
-/// Transmits a client frame of the controlled port. The header's `macsec_send` calls this over an answer that names no frame.
+/// Transmits a client frame of the controlled port. `macsec_send` of the header calls this with a result that names no
+/// frame.
 #[unsafe(no_mangle)]
 pub extern "C" fn macsec_send_raw<'a>(
     e: &'a mut Endpoint,
@@ -90,7 +91,7 @@ pub extern "C" fn macsec_send_raw<'a>(
     out.status
 }
 
-/// Transmits a client frame of the uncontrolled port, as it is.
+/// Transmits a client frame of the uncontrolled port unchanged.
 #[unsafe(no_mangle)]
 pub extern "C" fn macsec_send_uncontrolled(e: &mut Endpoint, frame: &[u8]) -> u32
     ensures status { result ≡ status_held e.old.state (uncontrolled_frame frame.now) }

@@ -1,4 +1,4 @@
-//! What an endpoint shows of its state.
+//! The readers of an endpoint's state.
 
 ghost use Rattle.std.specs.Prelude.{◌≡◌, Some, IfSome, slice_get};
 ghost use Rattle.macsec_tx.specs.Transmit.{tx_row};
@@ -41,7 +41,7 @@ pub struct CountersShown {
     pub out_pkts_no_sa: u64,
 }
 
-/// The counters of the transmit channel, modulo 2^64.
+/// The counters of the transmit SC, modulo 2^64.
 #[repr(C)]
 #[derive(Drop)]
 pub struct TxCountersShown {
@@ -51,7 +51,7 @@ pub struct TxCountersShown {
     pub out_octets_encrypted: u64,
 }
 
-/// The counters of a receive channel or association, modulo 2^64.
+/// The counters of a receive SC or SA, modulo 2^64.
 #[repr(C)]
 #[derive(Drop)]
 pub struct RxCountersShown {
@@ -63,7 +63,7 @@ pub struct RxCountersShown {
     pub in_pkts_not_valid: u64,
 }
 
-/// A transmit association. Its next packet number is `next`, and 2^64 more if `next_high` is 1.
+/// A transmit SA. Its next packet number is `next`, plus 2^64 if `next_high` is 1.
 #[repr(C)]
 #[derive(Drop)]
 pub struct TxRowShown {
@@ -74,7 +74,7 @@ pub struct TxRowShown {
     pub on: bool,
 }
 
-/// A receive association. Its packet numbers are these, and 2^64 more for each 1 in their high halves.
+/// A receive SA. Its next packet number is `next`, plus 2^64 if `next_high` is 1. The same holds of `lowest`.
 #[repr(C)]
 #[derive(Drop)]
 pub struct RxRowShown {
@@ -108,14 +108,14 @@ fn number_of_form(form: TagForm) -> u32
     }
 }
 
-/// A number of 128 bits below 2^64, modulo 2^64.
+/// The low 64 bits of a number.
 fn low_half(number: u128) -> u64
     ensures { result ≡ low_half number }
 {
     (number % 0x1_0000_0000_0000_0000) as u64
 }
 
-/// And the rest of it.
+/// The high 64 bits of a number.
 fn high_half(number: u128) -> u64
     ensures { result ≡ high_half number }
 {
@@ -230,7 +230,7 @@ pub extern "C" fn macsec_counters(e: &mut Endpoint, out: &mut CountersShown) -> 
     DONE
 }
 
-/// Shows the counters of the transmit channel.
+/// Shows the counters of the transmit SC.
 #[unsafe(no_mangle)]
 pub extern "C" fn macsec_tx_counters(e: &mut Endpoint, out: &mut TxCountersShown) -> u32
     ensures status { result ≡ status_of_found e.old.state (λ s. Some s.tx_counters) }
@@ -244,7 +244,7 @@ pub extern "C" fn macsec_tx_counters(e: &mut Endpoint, out: &mut TxCountersShown
     DONE
 }
 
-/// Shows the counters of the receive channel with this SCI.
+/// Shows the counters of the receive SC with this SCI.
 #[unsafe(no_mangle)]
 pub extern "C" fn macsec_rx_counters(
     e: &mut Endpoint,
@@ -267,7 +267,7 @@ pub extern "C" fn macsec_rx_counters(
     }
 }
 
-/// Shows the counters of the receive association of this channel and of this number.
+/// Shows the counters of the receive SA with this SCI and AN.
 #[unsafe(no_mangle)]
 pub extern "C" fn macsec_rx_sa_counters(
     e: &mut Endpoint,
@@ -295,7 +295,7 @@ pub extern "C" fn macsec_rx_sa_counters(
     }
 }
 
-/// Shows what the deleted associations of the receive channel with this SCI had counted.
+/// Shows the counts of the deleted SAs of the receive SC with this SCI.
 #[unsafe(no_mangle)]
 pub extern "C" fn macsec_rx_removed(
     e: &mut Endpoint,
@@ -318,7 +318,7 @@ pub extern "C" fn macsec_rx_removed(
     }
 }
 
-/// Shows the SCI of the receive channel at this place in the order of creation, from 0.
+/// Shows the SCI of the receive SC at this index in the order of creation, from 0.
 #[unsafe(no_mangle)]
 pub extern "C" fn macsec_rx_channel(e: &mut Endpoint, place: usize, out: &mut [u8; 8]) -> u32
     ensures status { result ≡ status_of_found e.old.state (λ s. slice_get s.rx.scis place) }
@@ -338,7 +338,7 @@ pub extern "C" fn macsec_rx_channel(e: &mut Endpoint, place: usize, out: &mut [u
     }
 }
 
-/// Shows the transmit association of this number.
+/// Shows the transmit SA with this AN.
 #[unsafe(no_mangle)]
 pub extern "C" fn macsec_tx_row(e: &mut Endpoint, an: u8, out: &mut TxRowShown) -> u32
     ensures status { result ≡ status_of_an e.old.state (an_of an) (λ s n. tx_row s.tx n) }
@@ -361,7 +361,7 @@ pub extern "C" fn macsec_tx_row(e: &mut Endpoint, an: u8, out: &mut TxRowShown) 
     }
 }
 
-/// Shows the receive association of this channel and of this number.
+/// Shows the receive SA with this SCI and AN.
 #[unsafe(no_mangle)]
 pub extern "C" fn macsec_rx_row(
     e: &mut Endpoint,

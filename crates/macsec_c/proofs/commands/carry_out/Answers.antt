@@ -1,4 +1,4 @@
--- By this tactic alone: without this proof the prover, on a mutant, tries all of them.
+-- By this tactic alone, for speed: without this proof the prover tries all tactics on a mutant.
 use Rattle.std.proofs.Common.{rules}
 use Rattle.macsec_c.proofs.commands.carry_out.Goals as goal
 

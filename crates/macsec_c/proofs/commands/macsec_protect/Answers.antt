@@ -1,4 +1,4 @@
--- By what `carry_out` ensures alone: without this proof the prover, on a mutant, tries all its tactics.
+-- By the contract of `carry_out`, for speed: without this proof the prover tries all tactics on a mutant.
 use Rattle.macsec_c.proofs.commands.macsec_protect.Goals as goal
 
 pub returns : goal.returns

@@ -2,6 +2,6 @@ use Rattle.std.proofs.Common.{◌≡◌, drop}
 use Rattle.macsec_c.specs.Texts.{carried_out}
 use Rattle.macsec_c.proofs.configuring.carry_out_lines.Given as goal
 
--- the rest of the lines gives what the whole does
+-- the remaining lines, from here, give what all lines give
 abbrev pub invariant-loop-n : goal.invariant-loop-n
 invariant-loop-n l = carried_out l.initial.secy l.lines ≡ carried_out l.secy (drop l.n-index l.lines)

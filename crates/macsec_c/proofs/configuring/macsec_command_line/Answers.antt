@@ -3,6 +3,6 @@ use Rattle.std.specs.Prelude.{Err}
 use Rattle.macsec_script_parser.specs.declared.lines.LineFault.TheVariants.{Memory}
 use Rattle.macsec_c.proofs.configuring.macsec_command_line.Goals as goal
 
--- nothing is read where there is no endpoint
+-- without an endpoint nothing is read
 pub returns-then-not-is_made : goal.returns-then-not-is_made
 returns-then-not-is_made c = (Err Memory, tt, search rules)

@@ -1,4 +1,4 @@
--- By this tactic alone: without these proofs the prover, on a mutant, tries all of them.
+-- By this tactic alone, for speed: without these proofs the prover tries all tactics on a mutant.
 use Rattle.std.proofs.Common.{rules}
 use Rattle.macsec_c.proofs.receiving.delivered_of.Goals as goal
 
