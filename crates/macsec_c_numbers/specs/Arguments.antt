@@ -1,4 +1,4 @@
--- What the arguments of a caller in C name. Those that name nothing are refused.
+-- What the arguments of a caller in C name. An argument that names nothing is refused.
 use Rattle.std.specs.Prelude.{ℕ, List, take, nat_lt, nat_eq, if◌then◌else◌, Option, Some, None, Result, Ok, Err}
 use Rattle.macsec_aes.specs.declared.Key.{Key}
 use Rattle.macsec_aes.specs.declared.Key.TheVariants.{K128, K256}
@@ -13,16 +13,16 @@ use Rattle.macsec_commands.specs.declared.mode.Mode.TheVariants.{Disabled, Check
 use Rattle.macsec_c_numbers.specs.declared.arguments.ArgumentFault.{ArgumentFault}
 use Rattle.macsec_c_numbers.specs.declared.arguments.ArgumentFault.TheVariants as argument
 
--- what an argument names, or that it names nothing
+-- what an argument names, or the fault that it names nothing
 abbrev pub Named : Type 0 → Type 0
 Named A = Result A ArgumentFault
 
--- made of what one argument names
+-- `make` of what one argument names
 abbrev pub naming : {A B : Type 0} → (A → B) → Named A → Named B
 naming make (Ok x) = Ok (make x)
 naming make (Err f) = Err f
 
--- made of what two name, of which the first is tested first
+-- `make` of what two arguments name; the first is checked first
 abbrev pub naming_both : {A B C : Type 0} → (A → B → C) → Named A → Named B → Named C
 naming_both make (Ok x) (Ok y) = Ok (make x y)
 naming_both make (Ok x) (Err f) = Err f
@@ -36,7 +36,7 @@ suite_of n =
     else if nat_eq n 4 then Ok Xpn256
     else Err argument.Suite
 
--- the suite of a key: of the number 0 the endpoint's default
+-- the suite of a key; the number 0 is the endpoint's default
 abbrev pub key_suite_of : ℕ → Named (Option Suite)
 key_suite_of n = if nat_eq n 0 then Ok None else naming Some (suite_of n)
 
@@ -63,7 +63,7 @@ an_of n = if nat_lt n 4 then Ok n else Err argument.An
 abbrev pub key_number_of : ℕ → Named ℕ
 key_number_of n = if nat_lt n max_key_count then Ok n else Err argument.KeyNumber
 
--- the first octets of 32 are a key of 16 or 32
+-- the first 16 octets, or all 32, are a key
 abbrev pub key_of : List ℕ → ℕ → Named Key
 key_of bytes length =
     if nat_eq length 16 then Ok (K128 (take 16 bytes))

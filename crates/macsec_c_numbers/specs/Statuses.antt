@@ -1,4 +1,4 @@
--- The numbers that the calls return, and those of what they answer. 1 to 20 are the refusals of commands.
+-- The statuses that the calls return, and the numbers of verdicts. Statuses 1 to 20 are the refusals of commands.
 use Rattle.std.specs.Prelude.{ℕ}
 use Rattle.macsec_rx.specs.declared.Verdict.{Verdict}
 use Rattle.macsec_rx.specs.declared.Verdict.TheVariants.{Untagged, NoTag, BadTag, Reserved, NoSaError, NoSa, Late, NotValid, Unchecked, Delayed, Invalid, Passed}
@@ -20,11 +20,11 @@ done_status = 0
 abbrev pub empty_status : ℕ
 empty_status = 32
 
--- it holds one already
+-- the handle already holds an endpoint
 abbrev pub taken_status : ℕ
 taken_status = 33
 
--- there is no such channel or association
+-- there is no such SC or SA
 abbrev pub none_status : ℕ
 none_status = 40
 
@@ -54,7 +54,7 @@ status_of_line_fault line.Ends = 50
 status_of_line_fault line.LineLong = 51
 status_of_line_fault line.Memory = status_of_new_fault Memory
 
--- of a text that lies in memory: it has neither of the last two
+-- for a text in memory, which has neither of the last two faults
 abbrev pub status_of_script_fault : ScriptFault → ℕ
 status_of_script_fault (script.Word n) = status_of_line_fault line.Word
 status_of_script_fault (script.Count n) = status_of_line_fault line.Count

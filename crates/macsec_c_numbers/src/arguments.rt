@@ -1,4 +1,4 @@
-//! What the arguments of a caller in C name. Those that name nothing are refused.
+//! Checks the arguments of a caller in C. An argument that names nothing is refused.
 
 ghost use Rattle.std.specs.Prelude.{◌≡◌};
 ghost use Rattle.macsec_c_numbers.specs.Arguments.{an_of, form_of, key_number_of, key_of, key_suite_of, mode_of, suite_of};
@@ -6,20 +6,20 @@ ghost use Rattle.macsec_c_numbers.specs.Statuses.{status_of_argument_fault};
 
 use macsec_secy::{An, Key, KeyNumber, Mode, Suite, TagForm};
 
-/// Which argument names nothing, by the status that says so.
+/// Which argument names nothing. The value is the status.
 #[derive(Clone, Copy, PartialEq, Eq, Debug)]
 pub enum ArgumentFault {
-    /// No cipher suite.
+    /// No cipher suite has this number.
     Suite = 34,
-    /// No tag form.
+    /// No tag form has this number.
     Form = 35,
-    /// No mode of validation.
+    /// No validation mode has this number.
     Mode = 36,
-    /// No association number.
+    /// The number is not an association number (AN).
     An = 37,
-    /// No key number.
+    /// The number is not a key number.
     KeyNumber = 38,
-    /// No number of octets that a key can have.
+    /// No key has this number of octets.
     KeyOctets = 39,
 }
 
@@ -32,7 +32,7 @@ impl ArgumentFault {
     }
 }
 
-/// The suite of a number.
+/// The suite with this number.
 pub fn suite_of(number: u32) -> Result<Suite, ArgumentFault>
     ensures { result ≡ suite_of number }
 {
@@ -45,7 +45,7 @@ pub fn suite_of(number: u32) -> Result<Suite, ArgumentFault>
     }
 }
 
-/// The suite that a key names: 0 is the endpoint's default.
+/// The suite of a key. The number 0 is the endpoint's default.
 pub fn key_suite_of(number: u32) -> Result<Option<Suite>, ArgumentFault>
     ensures { result ≡ key_suite_of number }
 {
@@ -55,7 +55,7 @@ pub fn key_suite_of(number: u32) -> Result<Option<Suite>, ArgumentFault>
     Ok(Some(suite_of(number)?))
 }
 
-/// The tag form of a number.
+/// The tag form with this number.
 pub fn form_of(number: u32) -> Result<TagForm, ArgumentFault>
     ensures { result ≡ form_of number }
 {
@@ -68,7 +68,7 @@ pub fn form_of(number: u32) -> Result<TagForm, ArgumentFault>
     }
 }
 
-/// The mode of a number.
+/// The validation mode with this number.
 pub fn mode_of(number: u32) -> Result<Mode, ArgumentFault>
     ensures { result ≡ mode_of number }
 {
@@ -100,7 +100,7 @@ pub fn key_number_of(n: u16) -> Result<KeyNumber, ArgumentFault>
     }
 }
 
-/// The first octets of 32 as a key of this length.
+/// The key of this length, 16 or 32 octets, at the beginning of `bytes`.
 pub fn key_of(bytes: &[u8; 32], length: u8) -> Result<Key, ArgumentFault>
     ensures { result ≡ key_of bytes.now length }
 {

@@ -1,7 +1,7 @@
-//! Numbers of callers in C: what the ones that they give name, and those that the calls of `macsec_c` return.
+//! The numbers of the interface to C: those that a caller passes, and those that the calls of `macsec_c` return.
 //!
-//! Proved: each number that is given names what `specs/Arguments.antt` says, or is refused by the fault of its kind; and
-//! the status of each fault and the number of each verdict are those of `specs/Statuses.antt`.
+//! Proved: each number that is passed names what `specs/Arguments.antt` says, or is refused by the fault of its kind.
+//! The status of each fault and the number of each verdict are the ones in `specs/Statuses.antt`.
 #![tactic(auto)]
 
 mod arguments;

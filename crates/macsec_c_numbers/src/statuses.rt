@@ -6,31 +6,31 @@ ghost use Rattle.macsec_c_numbers.specs.Statuses.{number_of_verdict, status_of_f
 use macsec_script_parser::{LineFault, ScriptFault};
 use macsec_secy::{FrameFault, NewFault, Verdict};
 
-/// It is done.
+/// The call succeeded.
 pub const DONE: u32 = 0;
 
 /// The handle holds no endpoint.
 pub const EMPTY: u32 = 32;
 
-/// It holds one already.
+/// The handle already holds an endpoint.
 pub const TAKEN: u32 = 33;
 
-/// There is no such channel or association.
+/// There is no such SC or SA.
 pub const NONE: u32 = 40;
 
-/// No client frame was taken.
+/// No client frame was taken: the status is not 0.
 pub const FATE_NONE: u32 = 0;
 
 /// The frame is sent protected.
 pub const FATE_PROTECTED: u32 = 1;
 
-/// It is sent as it is.
+/// The frame is sent unchanged.
 pub const FATE_PLAIN: u32 = 2;
 
-/// It is dropped: no association is enabled, or the enabled one is exhausted.
+/// The frame is dropped: no SA is enabled, or the enabled one is exhausted.
 pub const FATE_NO_SA: u32 = 3;
 
-/// It is dropped: it would be too long.
+/// The frame is dropped: it would be too long.
 pub const FATE_TOO_LONG: u32 = 4;
 
 /// The status of a fault of a configuration.
@@ -69,7 +69,7 @@ pub fn status_of_line_fault(fault: LineFault) -> u32
     }
 }
 
-/// The status of a fault of a text, of which no reader and no writer has a part.
+/// The status of a fault of a text in memory. A text in memory has neither `Read` nor `Write`.
 pub fn status_of_script_fault(fault: ScriptFault) -> u32
     ensures { result ≡ status_of_script_fault fault }
 {

@@ -1,4 +1,4 @@
--- By search; these proofs are here so that a wrong body is refused soon.
+-- By search. These proofs are here so that a wrong body is refused quickly.
 use Rattle.std.proofs.Common.{rules}
 use Rattle.macsec_c_numbers.proofs.arguments.key_number_of.Goals as goal
 

@@ -1,4 +1,4 @@
--- By search; this proof is here so that a wrong body is refused soon.
+-- By search. This proof is here so that a wrong body is refused quickly.
 use Rattle.std.proofs.Common.{rules}
 use Rattle.macsec_c_numbers.proofs.arguments.suite_of.Goals as goal
 

@@ -1,4 +1,4 @@
--- Each by the definition, at the value that the arm is for.
+-- By case: each arm by the definition at its value.
 use Rattle.std.proofs.Common.{ap, sym}
 use Rattle.macsec_c_numbers.specs.Statuses.{number_of_verdict}
 use Rattle.macsec_c_numbers.proofs.statuses.number_of_verdict.Goals as goal
