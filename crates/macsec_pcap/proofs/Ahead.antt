@@ -1,4 +1,4 @@
--- What lies ahead of a reader.
+-- What is ahead of a reader before and after its calls.
 use Rattle.std.proofs.Common.{◌≡◌, ℕ, zero, suc, ◌-◌, ◌≤◌, List, [], drop, refl, sym, ap, subst, ◌∙◌, arith}
 use Rattle.std.specs.Prelude.{Option, Some, None, IfSome, Result, Ok, Err}
 use Rattle.macsec_pcap.specs.declared.fault.PcapFault.{PcapFault}
@@ -15,14 +15,14 @@ use Rattle.macsec_pcap.specs.Captures.{Capture, begun_by, file_in, file_of, foll
 use Rattle.macsec_pcap.specs.Answers.{ReadsHeader, TakesRecord, UnlessRead, record_in}
 use Rattle.macsec_pcap.specs.Reading.{holds, Answers, IsAfter, IsAhead, Opens, Reading, ahead_after, ahead_of, first_of, past_first, told}
 
--- what octets hold, by what begins at their first record's place
+-- the contents of octets, given what is at their beginning
 records_of-begun : (order : Order) (places : ℕ) (octets : List ℕ) →
     (more : List ℕ → Capture) × (records_of order places octets ≡ begun_by (record_within order places octets) more) × ((n : ℕ) → places ≡ suc n → more ≡ records_of order n)
 unfolding records_of
 records_of-begun order zero octets = (λ rest. record { records = []; fault = None }, refl, λ n same. absurd (omega (arith, same)))
 records_of-begun order (suc places) octets = (λ rest. records_of order places rest, refl, λ n same. ap (records_of order) (omega (arith, same)))
 
--- what comes first of them
+-- the first item of the contents
 abbrev shows : Result (Option (CaptureRecord × List ℕ)) PcapFault → Result (Option CaptureRecord) PcapFault
 shows (Err fault) = Err fault
 shows (Ok None) = Ok None
@@ -99,15 +99,15 @@ opens (Some file) new form read = (
   ap (λ octets. record { resolution = form.resolution; places = max_records; ahead = told form.order max_records octets }) read.1,
 )
 
--- a reader of this form that has come so far
+-- a reader of this form in this state
 abbrev pub standing : Form → Course → ℕ → Option (List ℕ) → Reading
 standing form course places octets = record { resolution = form.resolution; places = places; ahead = ahead_of course form.order places octets }
 
--- the call of `next` on a reader that was going
+-- a call of `next`: its answer, and the reader after it
 abbrev pub Steps : Reading → Result (Option CaptureRecord) PcapFault → Reading → Type 0
 Steps now answer new = IsAfter now answer new × Answers now.ahead answer
 
--- it was going
+-- a call on a reader that has returned neither the end nor a fault
 going : (now : Reading) (form : Form) (course : Course) (places : ℕ) (octets : Option (List ℕ)) → course ≡ Going → standing form course places octets ≡ now →
     standing form Going places octets ≡ now
 going now form course places octets is same = ap (λ c. standing form c places octets) (sym is) ∙ same
@@ -137,7 +137,7 @@ steps_fault now form course places old new room fault is same taken =
     subst (λ r. Steps r (Err fault) (standing form (Failed fault) places new)) (going now form course places old is same)
     (record { resolution = refl; places = refl; ahead = refl }, answers_fault form.order places old new room fault taken)
 
--- the call on a reader that has returned the end, or a fault
+-- a call on a reader that has returned the end or a fault
 pub steps_ended : (now : Reading) (form : Form) (course : Course) (places : ℕ) (octets : Option (List ℕ)) →
     course ≡ Ended → standing form course places octets ≡ now → Steps now (Ok None) (standing form course places octets)
 steps_ended now form course places octets is same =

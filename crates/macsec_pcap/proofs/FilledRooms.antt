@@ -1,4 +1,4 @@
--- Rooms that are filled from a reader.
+-- Buffers that are filled from a reader by several reads.
 use Rattle.std.proofs.Common.{◌≡◌, ℕ, ◌+◌, ◌≤◌, List, [], ◌++◌, length, take, drop, refl, sym, ap, subst, ◌∙◌, arith, length-append, append-nil}
 use Rattle.std.specs.Prelude.{Option, Some, None}
 use Rattle.std.proofs.lemmas.List.{length-take-le, take-append-le, take_at, drop_at}
@@ -7,25 +7,25 @@ use Rattle.std.specs.Io.KnownBytes.{Consumes}
 use Rattle.std.proofs.KnownBytes.{Consumes-trans}
 use Rattle.macsec_pcap.specs.Filled.{IsFilled}
 
--- the front of a room after a read behind its first n octets
+-- the front of a buffer after a read to the octets after its first n
 take-read : (room read rest : List ℕ) (n count : ℕ) → n ≤ length room → count ≤ length read → take (n + count) (take n room ++ (read ++ rest)) ≡ take n room ++ take count read
 take-read room read rest n count fits within =
     let long : length (take n room) ≡ n = length-take-le n room fits in
     subst (λ k. take (k + count) (take n room ++ (read ++ rest)) ≡ take n room ++ take count read) long
     (take-append-add (take n room) (read ++ rest) count ∙ ap (λ front. take n room ++ front) (take-append-le count read rest within))
 
--- and how long it is at least
+-- the buffer's least length after that read
 pub length-read : (room read rest : List ℕ) (n count : ℕ) → n ≤ length room → count ≤ length read → n + count ≤ length (take n room ++ (read ++ rest))
 length-read room read rest n count fits within =
     omega (arith, length-append (take n room) (read ++ rest), length-append read rest, length-take-le n room fits)
 
--- what two reads gave, one behind the other
+-- what two reads returned, one after the other
 pub Consumes-more : (a b c : Option (List ℕ)) (room read rest : List ℕ) (n count : ℕ) → n ≤ length room → count ≤ length read →
     Consumes a b (take n room) → Consumes b c (take count read) → Consumes a c (take (n + count) (take n room ++ (read ++ rest)))
 Consumes-more a b c room read rest n count fits within first second =
     subst (Consumes a c) (sym (take-read room read rest n count fits within)) (Consumes-trans a b c (take n room) (take count read) first second)
 
--- a room that is full holds the front of the reader's octets
+-- a full buffer holds the first of the reader's octets
 pub record IsFullOf (octets : List ℕ) (new : Option (List ℕ)) (room : List ℕ) : Type 0 where
   pub left : new ≡ Some (drop (length room) octets)
   pub front : take (length room) octets ≡ room

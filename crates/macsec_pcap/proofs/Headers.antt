@@ -1,4 +1,4 @@
--- A header is read from the first 24 octets.
+-- The header depends on the first 24 octets only.
 use Rattle.std.proofs.Common.{◌≡◌, ℕ, ◌≤◌, List, ◌++◌, length, take, drop, refl, sym, ap, ◌∙◌, arith, length-append, take-append-drop}
 use Rattle.std.specs.Prelude.{Option, Some, None, IfSome, Result, Ok, Err, false, nat_lt}
 use Rattle.std.proofs.lemmas.Bool.{le-ltb}
@@ -13,7 +13,7 @@ use Rattle.macsec_pcap.specs.Answers.{ReadsHeader, UnlessRead}
 use Rattle.macsec_pcap.proofs.FilledRooms.{filled_whole}
 use Rattle.macsec_pcap.proofs.NumbersAt.{number-append, number-drop-append}
 
--- what is meant is returned
+-- `meant` is returned
 pub UnlessRead-same : {X : Type 0} (meant answer : Result X PcapFault) → answer ≡ meant → UnlessRead meant answer
 UnlessRead-same meant (Ok x) same = same
 UnlessRead-same meant (Err Read) same = tt
@@ -49,7 +49,7 @@ header_of-append header rest long =
     let there : nat_lt (length (header ++ rest)) 24 ≡ false = le-ltb (length (header ++ rest)) 24 (omega (arith, length-append header rest)) in
     rw (here, there, form_of-append header rest (omega (arith, long))) (header_in-append (form_of header) header rest long)
 
--- the header of a file is that of its first 24 octets
+-- the header of a file is the header of its first 24 octets
 header_of-take : (file header : List ℕ) → length header ≡ 24 → take (length header) file ≡ header → header_of file ≡ header_of header
 header_of-take file header long front =
     let joined : file ≡ header ++ drop (length header) file = sym (take-append-drop (length header) file) ∙ ap (λ xs. xs ++ drop (length header) file) front in
@@ -59,7 +59,7 @@ reads : (file : List ℕ) (new : Option (List ℕ)) (answer : Result Form PcapFa
 reads file new (Ok form) same left = (same, left)
 reads file new (Err fault) same left = UnlessRead-same (header_of file) (Err fault) (sym same)
 
--- a header was read whole
+-- a header was read completely
 pub reads_header : (old new : Option (List ℕ)) (header : List ℕ) (n : ℕ) (answer : Result Form PcapFault) → length header ≡ 24 → 24 ≤ n →
     IsFilled old new header n → answer ≡ header_of header → IfSome old (λ file. ReadsHeader file new answer)
 reads_header None new header n answer long whole filled is = tt

@@ -1,4 +1,4 @@
--- Numbers read past nothing but their own octets.
+-- A number depends only on its own octets, whatever follows them.
 use Rattle.std.proofs.Common.{◌≡◌, ℕ, ◌+◌, ◌≤◌, List, ◌++◌, length, drop, ◌∙◌, ap, arith, length-drop}
 use Rattle.std.proofs.lemmas.List.{drop-append-le}
 use Rattle.byteorder.specs.Numbers.{big_from-append, little_from-append}

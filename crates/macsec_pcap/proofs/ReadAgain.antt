@@ -1,4 +1,4 @@
--- What was written is read again.
+-- The law `read_again`: a written file is read as the records that were written.
 use Rattle.std.proofs.Common.{◌≡◌, ℕ, zero, suc, ◌^◌, ◌<◌, ◌≤◌, List, [], ◌∷◌, ◌++◌, length, map, take, drop, refl, ap, ◌∙◌, arith, append_assoc, length-append}
 use Rattle.std.specs.Prelude.{Some, None, Ok, nat_lt, false, if◌then◌else◌}
 use Rattle.std.proofs.lemmas.Bool.{le-ltb}
@@ -20,7 +20,7 @@ use Rattle.macsec_pcap.specs.Laws.{AllCanBeWritten, CanBeWritten, ReadAgain, Who
 use Rattle.macsec_pcap.proofs.Headers.{header_of-append}
 use Rattle.macsec_pcap.proofs.RecordsAt.{at_head, at_head-whole, record_at-append}
 
--- the numbers before a written frame
+-- the head of a written record
 abbrev numbers : ℕ → ℕ → ℕ → ℕ → Head
 numbers seconds fraction captured original = record { seconds = seconds; fraction = fraction; captured = captured; original = original }
 

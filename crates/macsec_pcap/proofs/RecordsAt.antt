@@ -1,4 +1,4 @@
--- A record is read from its own octets.
+-- A record depends on its own octets only, and is read by two reads: head and captured octets.
 use Rattle.std.proofs.Common.{◌≡◌, ℕ, zero, suc, ◌+◌, ◌<◌, ◌≤◌, List, ◌++◌, length, take, drop, refl, sym, ap, subst, ◌∙◌, arith, length-append, take-append-drop}
 use Rattle.std.specs.Prelude.{Option, Some, None, IfSome, Result, Ok, Err, false, true, nat_lt, ◌==◌, if◌then◌else◌}
 use Rattle.std.proofs.lemmas.Bool.{le-ltb, lt-ltb}
@@ -18,7 +18,7 @@ use Rattle.macsec_pcap.specs.Answers.{TakesCaptured, TakesRecord, UnlessRead, he
 use Rattle.macsec_pcap.proofs.FilledRooms.{IsFullOf, filled_whole}
 use Rattle.macsec_pcap.proofs.NumbersAt.{number-append, number-drop-append}
 
--- the numbers before the captured octets are those of the first 16 octets
+-- the head of a record depends on its first 16 octets only
 head_of-append : (order : Order) (head rest : List ℕ) → length head ≡ 16 → head_of order (head ++ rest) ≡ head_of order head
 head_of-append order head rest long =
     rw (
@@ -28,8 +28,8 @@ head_of-append order head rest long =
       number-drop-append order 4 12 head rest (omega (arith, long)),
     ) refl
 
--- what is at a record's place, by how many octets are left there, the numbers that they begin with, the octets behind
--- these, and those after the record
+-- what is at the beginning of octets, given how many they are, the head, the octets after it, and the octets after the
+-- record
 abbrev by_tests : ℕ → Head → List ℕ → List ℕ → Result (Option (CaptureRecord × List ℕ)) PcapFault
 by_tests n head behind after =
     if n == 0 then Ok None
@@ -38,7 +38,7 @@ by_tests n head behind after =
     else if nat_lt n (16 + head.captured) then Err CutRecord
     else Ok (Some (record_in head behind, after))
 
--- the same, if the numbers are there
+-- the same, if there are octets for the head
 abbrev pub at_head : Head → List ℕ → List ℕ → Result (Option (CaptureRecord × List ℕ)) PcapFault
 at_head head behind after =
     if nat_lt max_record_length head.captured then Err RecordLength
@@ -57,7 +57,7 @@ by_tests-more head behind after =
 drop-more : (head rest : List ℕ) (n : ℕ) → length head ≡ 16 → drop (16 + n) (head ++ rest) ≡ drop n rest
 drop-more head rest n long = subst (λ k. drop (k + n) (head ++ rest) ≡ drop n rest) long (drop-append-add head rest n)
 
--- what is at a record's place that begins with 16 octets
+-- what is at the beginning of at least 16 octets
 pub record_at-append : (order : Order) (head rest : List ℕ) → length head ≡ 16 →
     record_at order (head ++ rest) ≡ at_head (head_of order head) rest (drop (captured_length order head) rest)
 record_at-append order head rest long =
@@ -72,7 +72,7 @@ record_at-append order head rest long =
     ∙ ap (λ octets. by_tests (16 + length rest) (head_of order head) rest octets) after
     ∙ by_tests-more (head_of order head) rest (drop (captured_length order head) rest)
 
--- there is a place for the record
+-- one more record may follow
 record_within-place : (order : Order) (places : ℕ) (octets : List ℕ) → 1 ≤ places → record_within order places octets ≡ record_at order octets
 record_within-place order zero octets h = absurd (omega (arith, h))
 record_within-place order (suc places) octets h = refl
@@ -123,7 +123,7 @@ fails head behind after new room NoInterface h = cc
 fails head behind after new room InterfaceCount h = cc
 fails head behind after new room Time h = cc
 
--- a read of a record's captured octets failed
+-- reading a record's captured octets failed
 pub takes_fault : (order : Order) (places : ℕ) (old mid new : Option (List ℕ)) (head room : List ℕ) (n : ℕ) (numbers : Head) (fault : PcapFault) →
     numbers ≡ head_of order head → 1 ≤ places → length head ≡ 16 → 16 ≤ n → IsFilled old mid head n →
     IfSome mid (λ rest. TakesCaptured numbers.captured rest new room (Err fault)) →
@@ -140,7 +140,7 @@ takes_fault order places (Some octets) mid new head room n numbers fault same pl
 same_record : (head : Head) (room behind : List ℕ) → take head.captured room ≡ take head.captured behind → record_in head behind ≡ record_in head room
 same_record head room behind same = rw (← same) refl
 
--- a record was read whole
+-- a record was read completely
 pub takes_record : (order : Order) (places : ℕ) (old mid new : Option (List ℕ)) (head room : List ℕ) (n : ℕ) (numbers : Head) →
     numbers ≡ head_of order head → 1 ≤ places → length head ≡ 16 → 16 ≤ n → IsFilled old mid head n →
     IfSome mid (λ rest. TakesCaptured numbers.captured rest new room (Ok tt)) →

@@ -1,4 +1,4 @@
--- Octets that are written piece after piece, and records that are written in two pieces.
+-- Octets that are written in several pieces, and records that are written in two: head and frame.
 use Rattle.std.proofs.Common.{◌≡◌, ℕ, ◌-◌, ◌≤◌, List, [], ◌++◌, length, take, drop, refl, sym, ap, subst, ◌∙◌, append_assoc, append-nil, take-append-drop}
 use Rattle.std.specs.Prelude.{Option, Result, Ok, Err, IfErr, OnErr, OnOk}
 use Rattle.std.specs.Io.KnownBytes.{Appends, Keeps}
@@ -11,7 +11,7 @@ use Rattle.macsec_pcap.specs.Limits.{max_record_length}
 use Rattle.macsec_pcap.specs.Written.{record_head}
 use Rattle.macsec_pcap.specs.Writing.{AppendsFront, WritesRecord}
 
--- ---- octets, of which the rest is still to come
+-- ---- octets whose rest is still to come
 
 pub record IsOnTheWay (old now : Option (List ℕ)) (octets rest : List ℕ) : Type 0 where
   pub front : List ℕ
@@ -21,7 +21,7 @@ pub record IsOnTheWay (old now : Option (List ℕ)) (octets rest : List ℕ) : T
 pub none_written : (old : Option (List ℕ)) (octets : List ℕ) → Appends old old [] → IsOnTheWay old old octets octets
 none_written old octets adds = record { front = []; whole = refl; adds = adds }
 
--- a write took n of them
+-- a write of n octets
 pub more_written : (old now new : Option (List ℕ)) (octets rest : List ℕ) (n : ℕ) → IsOnTheWay old now octets rest → Appends now new (take n rest) →
     IsOnTheWay old new octets (take (length rest - n) (drop n rest))
 more_written old now new octets rest n way adds = record {
@@ -32,7 +32,7 @@ more_written old now new octets rest n way adds = record {
   adds = Appends-trans old now new way.front (take n rest) way.adds adds;
 }
 
--- a write took none
+-- a write of no octet
 pub still_written : (old now new : Option (List ℕ)) (octets rest : List ℕ) → IsOnTheWay old now octets rest → Keeps now new → IsOnTheWay old new octets rest
 still_written old now new octets rest way keeps = record {
   front = way.front;
@@ -49,7 +49,7 @@ front_written old now octets rest way = (way.front, starts_with_of_append octets
 
 -- ---- records
 
--- a front of the second piece, behind the first
+-- all of the first piece, and a prefix of the second
 front_behind : (old mid new : Option (List ℕ)) (first second : List ℕ) → Appends old mid first → AppendsFront mid new second → AppendsFront old new (first ++ second)
 front_behind old mid new first second adds (front, begins, more) = (
   first ++ front,
@@ -58,7 +58,7 @@ front_behind old mid new first second adds (front, begins, more) = (
   Appends-trans old mid new first front adds more,
 )
 
--- a front of the first piece
+-- a prefix of the first piece
 front_before : (old new : Option (List ℕ)) (first second : List ℕ) → AppendsFront old new first → AppendsFront old new (first ++ second)
 front_before old new first second (front, begins, adds) = (
   front,
@@ -67,7 +67,7 @@ front_before old new first second (front, begins, adds) = (
   adds,
 )
 
--- the head was not written whole
+-- the head was not written completely
 pub cuts_head : (old new : Option (List ℕ)) (seconds fraction : ℕ) (frame head : List ℕ) (fault : PcapFault) →
     length frame ≤ max_record_length → head ≡ record_head seconds fraction (length frame) → fault ≡ Write → AppendsFront old new head →
     WritesRecord old new seconds fraction frame (Err fault)

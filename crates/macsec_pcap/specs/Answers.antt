@@ -1,4 +1,4 @@
--- What the calls of a reader return, and what it is after them.
+-- What the calls of a reader return.
 use Rattle.std.specs.Prelude.{ℕ, ◌≡◌, ◌≤◌, ◌<◌, List, length, take, drop, nat_lt, if◌then◌else◌, Option, Some, None, Result, Ok, Err}
 use Rattle.macsec_pcap.specs.declared.fault.PcapFault.{PcapFault}
 use Rattle.macsec_pcap.specs.declared.fault.PcapFault.TheVariants.{CutRecord, RecordLength, Read}
@@ -14,12 +14,12 @@ use Rattle.macsec_pcap.specs.Header.{header_of}
 use Rattle.macsec_pcap.specs.Records.{CaptureRecord, captured_length, original_length}
 use Rattle.macsec_pcap.specs.Captures.{record_within}
 
--- what is meant is returned, unless a read failed first
+-- `meant` is returned, unless a read failed first
 abbrev pub UnlessRead : {X : Type 0} → Result X PcapFault → Result X PcapFault → Type 0
 UnlessRead meant (Err Read) = Unit {0}
 UnlessRead meant answer = answer ≡ meant
 
--- of a read of the header
+-- what a read of the header returns, and where the source is afterwards
 abbrev pub ReadsHeader : List ℕ → Option (List ℕ) → Result Form PcapFault → Type 0
 ReadsHeader file new (Ok form) = (header_of file ≡ Ok form) × (new ≡ Some (drop header_length file))
 ReadsHeader file new (Err fault) = UnlessRead (header_of file) (Err fault)
@@ -29,11 +29,11 @@ abbrev pub frame_of : Body → Option (List ℕ)
 frame_of (Whole frame) = Some frame.now
 frame_of Partial = None
 
--- what a record says
+-- a record that was returned, as a record of the definitions
 abbrev pub shown : Record → CaptureRecord
 shown r = record { seconds = r.seconds; fraction = r.fraction; frame = frame_of r.body }
 
--- of `next`
+-- a result of `next`, in the terms of the definitions
 abbrev pub answer_of : Result (Option Record) PcapFault → Result (Option CaptureRecord) PcapFault
 answer_of (Ok (Some r)) = Ok (Some (shown r))
 answer_of (Ok None) = Ok None
@@ -48,7 +48,7 @@ head_of order octets = record {
   original = original_length order octets;
 }
 
--- the record with these numbers, whose captured octets the room begins with
+-- the record with these numbers, whose captured octets are at the front of the buffer
 abbrev pub record_in : Head → List ℕ → CaptureRecord
 record_in head room = record {
   seconds = head.seconds;
@@ -56,15 +56,15 @@ record_in head room = record {
   frame = if nat_lt head.captured head.original then None else Some (take head.captured room);
 }
 
--- of a read of a record, with the octets that the source then has left: its captured octets are at the front of the
--- room
+-- what a read of a record returns, and the octets that the source has left; the record's captured octets are at the
+-- front of the buffer
 abbrev pub TakesRecord : Order → ℕ → List ℕ → Option (List ℕ) → List ℕ → Result (Option Head) PcapFault → Type 0
 TakesRecord order places octets new room (Ok (Some head)) =
     (rest : List ℕ) × (record_within order places octets ≡ Ok (Some (record_in head room, rest))) × (new ≡ Some rest)
 TakesRecord order places octets new room (Ok None) = record_within order places octets ≡ Ok None
 TakesRecord order places octets new room (Err fault) = UnlessRead (record_within order places octets) (Err fault)
 
--- of a read of captured octets: the room begins with them
+-- what a read of captured octets returns; they are at the front of the buffer
 abbrev pub TakesCaptured : ℕ → List ℕ → Option (List ℕ) → List ℕ → Result (Unit {0}) PcapFault → Type 0
 TakesCaptured captured octets new room (Ok done) =
     (captured ≤ max_record_length) × (captured ≤ length octets) × (take captured room ≡ take captured octets) × (new ≡ Some (drop captured octets))

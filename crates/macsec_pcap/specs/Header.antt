@@ -20,16 +20,16 @@ magic Nano = 0xa1b23c4d
 abbrev pub resolution_of : ℕ → Option Resolution
 resolution_of n = if n == magic Micro then Some Micro else if n == magic Nano then Some Nano else None
 
--- the form in this order, if the first four octets are a magic number in this order
+-- the form with this byte order, if the first four octets are a magic number in this order
 abbrev pub form_in : Order → List ℕ → Option Form
 form_in order octets = option_map (λ unit. record { order = order; resolution = unit }) (resolution_of (number order 4 octets))
 
--- the first that there is
+-- the first form, or else the other
 abbrev pub first_form : Option Form → Option Form → Option Form
 first_form (Some form) other = Some form
 first_form None other = other
 
--- the form of a file: its magic number is read in either order, and fixes the order of all other numbers
+-- the form of a file: its magic number is read in either byte order, and fixes the order of all other numbers
 abbrev pub form_of : List ℕ → Option Form
 form_of octets = first_form (form_in Big octets) (form_in Little octets)
 
@@ -37,7 +37,7 @@ form_of octets = first_form (form_in Big octets) (form_in Little octets)
 abbrev pub is_version : Order → List ℕ → Bool
 is_version order octets = (number order 2 (drop 4 octets) == 2) && (number order 2 (drop 6 octets) == 4)
 
--- the link type is that of Ethernet
+-- the link type is Ethernet
 abbrev pub is_ethernet : Order → List ℕ → Bool
 is_ethernet order octets = number order 4 (drop 20 octets) == 1
 
@@ -49,6 +49,6 @@ header_in (Some form) octets =
     else if not (is_ethernet form.order octets) then Err LinkType
     else Ok form
 
--- the form of a file, or the first fault of its header; time zone, accuracy and snapshot length are not tested
+-- the form of a file, or the first fault of its header; time zone, accuracy and snapshot length are not checked
 abbrev pub header_of : List ℕ → Result Form PcapFault
 header_of file = if nat_lt (length file) header_length then Err CutHeader else header_in (form_of file) file

@@ -1,4 +1,4 @@
--- What the laws of capture files say.
+-- The laws of capture files.
 use Rattle.std.specs.Prelude.{ℕ, ◌≡◌, ◌≤◌, ◌<◌, ◌^◌, List, [], ◌∷◌, ◌++◌, length, map, Some, None, Ok}
 use Rattle.macsec_pcap.specs.declared.form.Resolution.{Resolution}
 use Rattle.macsec_pcap.specs.Limits.{max_record_length, max_records}
@@ -6,13 +6,13 @@ use Rattle.macsec_pcap.specs.Records.{CaptureRecord}
 use Rattle.macsec_pcap.specs.Captures.{file_of}
 use Rattle.macsec_pcap.specs.Written.{header_octets, record_octets}
 
--- a record of a whole frame
+-- a record with a whole frame
 pub record WholeRecord : Type 0 where
   pub seconds : ℕ
   pub fraction : ℕ
   pub frame : List ℕ
 
--- its times have 32 bits, and its frame is no longer than a record can be
+-- seconds and fraction have 32 bits, and the frame is not too long for a record
 pub record CanBeWritten (r : WholeRecord) : Type 0 where
   pub seconds : r.seconds < 2 ^ 32
   pub fraction : r.fraction < 2 ^ 32
@@ -31,7 +31,7 @@ written_records (r ∷ more) = record_octets r.seconds r.fraction r.frame ++ wri
 abbrev pub as_read : WholeRecord → CaptureRecord
 as_read r = record { seconds = r.seconds; fraction = r.fraction; frame = Some r.frame }
 
--- a file that was written is read as what was written
+-- a written file is read as the records that were written
 abbrev pub ReadAgain : Resolution → List WholeRecord → Type 0
 ReadAgain unit records =
     length records ≤ max_records → AllCanBeWritten records →

@@ -1,4 +1,4 @@
--- Numbers in either order of their octets.
+-- Numbers in either byte order.
 use Rattle.std.specs.Prelude.{ℕ, List}
 use Rattle.byteorder.specs.Endian.{big_number, little_number}
 use Rattle.macsec_pcap.specs.declared.form.Order.{Order}

@@ -1,4 +1,4 @@
--- A reader of a capture file: the unit of the file's times, and what lies ahead of it.
+-- A reader of a capture file: the unit of the file's times, and what is ahead of it.
 use Rattle.std.specs.Prelude.{ℕ, ◌+◌, ◌≡◌, List, [], ◌∷◌, drop, Option, Some, None, Result, Ok, Err}
 use Rattle.macsec_pcap.specs.declared.fault.PcapFault.{PcapFault}
 use Rattle.macsec_pcap.specs.declared.fault.PcapFault.TheVariants.{Memory}
@@ -11,21 +11,21 @@ use Rattle.macsec_pcap.specs.Answers.{UnlessRead}
 use Rattle.macsec_pcap.specs.Records.{CaptureRecord}
 use Rattle.macsec_pcap.specs.Captures.{Capture, CaptureFile, records_of}
 
--- what lies ahead: nothing, since the end of the file or a fault was returned; records and what is after them; or what
--- is not known, if the source doesn't tell its octets
+-- what is ahead: nothing, after the end of the file (`over`) or a fault (`failed`) was returned; records and what is
+-- after them; or something unknown, if a contract can't name the source's octets
 pub data Ahead : Type 0 where
   over : Ahead
   failed : PcapFault → Ahead
   holds : Capture → Ahead
   untold : Ahead
 
--- the places are those that are left for records
+-- `places` is the number of records that may still follow
 pub record Reading : Type 0 where
   pub resolution : Resolution
   pub places : ℕ
   pub ahead : Ahead
 
--- what octets hold, if they are known
+-- the contents of octets, if they are known
 abbrev pub told : Order → ℕ → Option (List ℕ) → Ahead
 told order places None = untold
 told order places (Some octets) = holds (records_of order places octets)
@@ -39,21 +39,20 @@ ahead_of (Failed fault) order places octets = failed fault
 abbrev pub opened : CaptureFile → Reading
 opened file = record { resolution = file.resolution; places = max_records; ahead = holds file.capture }
 
--- of `new`, by what the file is: a reader of it, or the fault of its header, unless it is out of memory or a read
--- failed first
+-- what `new` returns: a reader of the file or the fault of its header, unless memory runs out or a read fails first
 abbrev pub Opens : Result CaptureFile PcapFault → Result Reading PcapFault → Type 0
 Opens meant (Ok reading) = (whole : CaptureFile) × (meant ≡ Ok whole) × (reading ≡ opened whole)
 Opens meant (Err Memory) = Unit {0}
 Opens meant (Err fault) = UnlessRead meant (Err fault)
 
--- what comes first of what a file holds
+-- the first item of the contents: a record, the end or the fault
 abbrev pub first_of : Capture → Result (Option CaptureRecord) PcapFault
 first_of capture = elim capture.records [
   | [] ↦ elim capture.fault [ None ↦ Ok None | Some fault ↦ Err fault ]
   | (first ∷ more) ↦ Ok (Some first)
 ]
 
--- of `next`
+-- what `next` returns
 abbrev pub Answers : Ahead → Result (Option CaptureRecord) PcapFault → Type 0
 Answers over answer = answer ≡ Ok None
 Answers (failed fault) answer = answer ≡ Err fault
@@ -65,23 +64,23 @@ abbrev pub past_first : Ahead → Ahead
 past_first (holds capture) = holds (record { records = drop 1 capture.records; fault = capture.fault })
 past_first other = other
 
--- what is ahead after an answer: the end of the file and a fault are for good
+-- what is ahead after an answer; the end of the file and a fault are final
 abbrev pub ahead_after : Ahead → Result (Option CaptureRecord) PcapFault → Ahead
 ahead_after ahead (Ok (Some first)) = past_first ahead
 ahead_after ahead (Ok None) = over
 ahead_after ahead (Err fault) = failed fault
 
--- what is ahead is what is meant, unless that is not known
+-- what is ahead is `meant`, unless that is unknown
 abbrev pub IsAhead : Ahead → Ahead → Type 0
 IsAhead untold ahead = Unit {0}
 IsAhead meant ahead = ahead ≡ meant
 
--- a record takes a place
+-- a record uses one place
 abbrev pub Spends : Result (Option CaptureRecord) PcapFault → ℕ → ℕ → Type 0
 Spends (Ok (Some first)) old new = new + 1 ≡ old
 Spends answer old new = new ≡ old
 
--- a reader before and after an answer of `next`
+-- a reader before and after a call of `next`
 pub record IsAfter (old : Reading) (answer : Result (Option CaptureRecord) PcapFault) (new : Reading) : Type 0 where
   pub resolution : new.resolution ≡ old.resolution
   pub places : Spends answer old.places new.places

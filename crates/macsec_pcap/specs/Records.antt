@@ -7,25 +7,25 @@ use Rattle.macsec_pcap.specs.declared.form.Order.{Order}
 use Rattle.macsec_pcap.specs.Limits.{record_header_length, max_record_length}
 use Rattle.macsec_pcap.specs.Numbers.{number}
 
--- what a record says: its time, and its frame, or none if the record is partial
+-- a record: its time, and its frame, or none if the record is partial
 pub record CaptureRecord : Type 0 where
   pub seconds : ℕ
   pub fraction : ℕ
   pub frame : Option (List ℕ)
 
--- how many octets of the frame were captured
+-- the number of octets of the frame that were captured
 abbrev pub captured_length : Order → List ℕ → ℕ
 captured_length order octets = number order 4 (drop 8 octets)
 
--- how many octets the frame had
+-- the number of octets of the frame on the link
 abbrev pub original_length : Order → List ℕ → ℕ
 original_length order octets = number order 4 (drop 12 octets)
 
--- how many octets the record has
+-- the length of the record in octets
 abbrev pub record_length : Order → List ℕ → ℕ
 record_length order octets = record_header_length + captured_length order octets
 
--- the record that begins with the first of the octets; it is partial if fewer octets were captured than the frame had
+-- the record at the beginning of the octets; it is partial if fewer octets were captured than the frame had
 abbrev pub record_of : Order → List ℕ → CaptureRecord
 record_of order octets = record {
   seconds = number order 4 octets;
@@ -34,7 +34,7 @@ record_of order octets = record {
       else Some (take (captured_length order octets) (drop record_header_length octets));
 }
 
--- what begins at a record's place: nothing, or a record, with the octets after it, or the first fault
+-- what is at the beginning of octets: nothing, a record with the octets after it, or the first fault
 abbrev pub record_at : Order → List ℕ → Result (Option (CaptureRecord × List ℕ)) PcapFault
 record_at order octets =
     if length octets == 0 then Ok None

@@ -1,4 +1,4 @@
--- A writer of a capture file, and what its calls return and write.
+-- What the calls of a writer return and write.
 use Rattle.std.specs.Prelude.{ℕ, ◌≡◌, ◌≤◌, ◌<◌, List, length, Option, Some, None, Result, Ok, Err}
 use Rattle.std.specs.Borrow.{MutBor}
 use Rattle.std.specs.Io.{StartsWith}
@@ -13,26 +13,26 @@ use Rattle.macsec_pcap.specs.Written.{record_octets}
 abbrev pub fault_of : {W : Type 0} → PcapWriter W → Option PcapFault
 fault_of writer = writer.fault
 
--- the destination that was lent
+-- the destination that the writer borrows
 abbrev pub lent : {W : Type 0} → PcapWriter W → MutBor W
 lent writer = writer.destination
 
--- the octets that the destination holds, if they are known
+-- the octets in the destination, if they are known
 abbrev pub contents : {W : Type 0} → (W → Option (List ℕ)) → PcapWriter W → Option (List ℕ)
 contents held writer = held (lent writer).now
 
--- known octets grow by the first of these: by none, by some or by all
+-- a prefix of these octets was appended: none, some or all
 abbrev pub AppendsFront : Option (List ℕ) → Option (List ℕ) → List ℕ → Type 0
 AppendsFront old new octets = (front : List ℕ) × StartsWith octets front × Appends old new front
 
--- of a write of a record: nothing is written of one that is too long, and no other octets of one of which a write fails
+-- what a write of a record returns and writes: of a record that is too long nothing, and if a write fails a prefix
 abbrev pub WritesRecord : Option (List ℕ) → Option (List ℕ) → ℕ → ℕ → List ℕ → Result (Unit {0}) PcapFault → Type 0
 WritesRecord old new seconds fraction frame (Ok done) = (length frame ≤ max_record_length) × Appends old new (record_octets seconds fraction frame)
 WritesRecord old new seconds fraction frame (Err RecordLength) = (max_record_length < length frame) × Keeps old new
 WritesRecord old new seconds fraction frame (Err fault) =
     (fault ≡ Write) × (length frame ≤ max_record_length) × AppendsFront old new (record_octets seconds fraction frame)
 
--- of `write`: a fault that was returned before is returned again, and then nothing is written
+-- what `write` returns and writes: after a fault the same fault, and nothing
 abbrev pub Writes : Option PcapFault → Option (List ℕ) → Option (List ℕ) → ℕ → ℕ → List ℕ → Result (Unit {0}) PcapFault → Type 0
 Writes (Some fault) old new seconds fraction frame result = (result ≡ Err fault) × Keeps old new
 Writes None old new seconds fraction frame result = WritesRecord old new seconds fraction frame result

@@ -1,20 +1,21 @@
-//! Why a capture file is not read or written.
+//! Why a capture file can't be read or written.
 
 ghost use Rattle.std.specs.Prelude.{◌≡◌};
 ghost use Rattle.macsec_pcap.specs.FaultNumbers.{name_of_fault, number_of_fault};
 
 use thiserror::Error;
 
-/// Why a capture file is not read or written. A reader or writer that has returned one returns it at each later call.
+/// Why a capture file can't be read or written. A reader or writer that has returned a fault returns it from every
+/// later call.
 #[derive(Clone, Copy, PartialEq, Eq, Debug, Error)]
 pub enum PcapFault {
-    /// The file begins with none of the format's magic numbers, in either order of octets; or a section does.
+    /// The file, or a section of it, begins with none of the format's magic numbers in either byte order.
     #[error("the file begins with no magic number of the format")]
     Magic = 1,
     /// The version is not one of the format: 2.4 (pcap), 1.0 or 1.2 (pcapng).
     #[error("the version is not one of the format")]
     Version = 2,
-    /// The link type is not that of Ethernet.
+    /// The link type is not Ethernet.
     #[error("the link type is not that of Ethernet")]
     LinkType = 3,
     /// The file has fewer octets than its header.
@@ -35,14 +36,14 @@ pub enum PcapFault {
     /// Out of memory.
     #[error("out of memory")]
     Memory = 9,
-    /// The file goes on after 16,777,216 records, or has too many blocks to be read.
+    /// The file goes on after 16,777,216 records, or has too many blocks.
     #[error("the file has too many records")]
     RecordCount = 10,
-    /// The two lengths of a block disagree, or its length is no multiple of four or too small for what it holds; or a
-    /// description of an interface is too long, or has an option of a wrong length.
+    /// The two lengths of a block differ, or the length is not a multiple of four or too small for the block's
+    /// contents. Or a description of an interface is too long, or has an option of a wrong length.
     #[error("a block has a wrong length")]
     BlockLength = 11,
-    /// A packet is of an interface that its section does not describe.
+    /// A packet names an interface that its section does not describe.
     #[error("a packet's interface is not described")]
     NoInterface = 12,
     /// A section describes more than 256 interfaces.

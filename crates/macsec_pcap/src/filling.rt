@@ -1,12 +1,12 @@
-//! Octets from a reader, as far as it has them.
+//! Fills a buffer from a reader.
 
 ghost use Rattle.macsec_pcap.specs.Filled.{Fills};
 
 use crate::PcapFault;
 use std::io::Read;
 
-/// Fills the room from the front, or as much of it as the reader has octets for, and returns how many it got. A read
-/// of no octet is the reader's end; a read that fails is `Read`, and is not tried again.
+/// Fills the buffer from the front, until it is full or the reader is at its end. Returns the number of octets read. A
+/// read that returns 0 octets is the reader's end. Returns `Read` if a read fails, and does not try it again.
 pub fn fill<R: Read>(source: &mut R, room: &mut [u8]) -> Result<usize, PcapFault>
     ensures { Fills (R.remaining source.old) (R.remaining source.new) room.new result }
 {

@@ -1,4 +1,4 @@
-//! What the magic number of a capture file fixes: the order of the octets of its numbers, and the unit of its times.
+//! The form of a capture file, which its magic number fixes: the byte order of its numbers, and the unit of its times.
 
 ghost use Rattle.std.specs.Prelude.{◌≡◌, ◌≤◌, length};
 ghost use Rattle.macsec_pcap.specs.Numbers.{number};
@@ -21,16 +21,16 @@ pub enum Resolution {
     Nano,
 }
 
-/// The order of the octets of a number.
+/// The byte order of a number.
 #[derive(Clone, Copy)]
 pub enum Order {
-    /// The highest octet first.
+    /// Big endian.
     Big,
-    /// The lowest octet first.
+    /// Little endian.
     Little,
 }
 
-/// What the magic number of a file fixes.
+/// The form of a file, which its magic number fixes.
 #[derive(Clone, Copy)]
 pub(crate) struct Form {
     pub(crate) order: Order,
@@ -96,7 +96,7 @@ impl Order {
 }
 
 impl Form {
-    /// The form whose magic number the first four octets are, if they are one.
+    /// The form that the first four octets name, if they are a magic number.
     pub(crate) fn of(octets: &[u8]) -> Option<Form>
         requires { 4 ≤ length octets.now }
         ensures { result ≡ form_of octets.now }

@@ -9,7 +9,7 @@ use crate::filling::fill;
 use crate::form::{Form, Order};
 use std::io::Read;
 
-/// How many octets the header has.
+/// The length of the header in octets.
 pub(crate) const HEADER_LEN: usize = 24;
 
 /// The version of the format, 2.4.
@@ -18,7 +18,7 @@ pub(crate) const VERSION: (u16, u16) = (2, 4);
 /// The link type of Ethernet.
 pub(crate) const ETHERNET: u32 = 1;
 
-/// Reads the header.
+/// Reads the header, and returns the form of the file or the header's first fault.
 pub(crate) fn read_header<R: Read>(source: &mut R) -> Result<Form, PcapFault>
     ensures { IfSome (R.remaining source.old) (λ file. ReadsHeader file (R.remaining source.new) result) }
 {
@@ -29,7 +29,7 @@ pub(crate) fn read_header<R: Read>(source: &mut R) -> Result<Form, PcapFault>
     form_of_header(&header)
 }
 
-/// The form of a file with this header.
+/// The form of a file with this header, or the header's first fault.
 fn form_of_header(header: &[u8]) -> Result<Form, PcapFault>
     requires { 24 ≤ length header.now }
     ensures { result ≡ header_of header.now }
@@ -46,7 +46,7 @@ fn form_of_header(header: &[u8]) -> Result<Form, PcapFault>
     Ok(form)
 }
 
-/// Is the version of the format 2.4?
+/// Whether the version of the format is 2.4.
 fn is_version(order: Order, header: &[u8]) -> bool
     requires { 24 ≤ length header.now }
     ensures { result ≡ is_version order header.now }
@@ -54,7 +54,7 @@ fn is_version(order: Order, header: &[u8]) -> bool
     order.u16(&header[4..]) == VERSION.0 && order.u16(&header[6..]) == VERSION.1
 }
 
-/// Is the link type that of Ethernet?
+/// Whether the link type is Ethernet.
 fn is_ethernet(order: Order, header: &[u8]) -> bool
     requires { 24 ≤ length header.now }
     ensures { result ≡ is_ethernet order header.now }

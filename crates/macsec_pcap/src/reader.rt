@@ -17,26 +17,27 @@ use std::alloc::Global;
 use std::io::Read;
 use std::marker::Model;
 
-/// How far a reader has come.
+/// The state of a reader.
 #[derive(Clone, Copy)]
 pub(crate) enum Course {
-    /// The reader is at a record's place.
+    /// The reader is where a record can begin.
     Going,
-    /// The reader has returned that the file has ended.
+    /// The reader has returned `None`: the file has ended.
     Ended,
     /// The reader has returned this fault.
     Failed(PcapFault),
 }
 
-/// Reads a capture file, record by record. It takes memory when it is created, for one record, and none afterwards.
+/// Reads a capture file, record by record. Allocates a buffer for one record when it is created, and nothing
+/// afterwards.
 #[derive(Drop)]
 pub struct PcapReader<R: Read> {
     source: R,
     form: Form,
     course: Course,
-    // For how many records there are places after those that were read.
+    // How many more records can be read.
     places: u32,
-    // The captured octets of the last record are at its front.
+    // The buffer. It begins with the captured octets of the last record.
     room: Vec<u8>,
 }
 
@@ -52,8 +53,8 @@ impl<R: Read> Model for PcapReader<R> {
 }
 
 impl<R: Read + Drop> PcapReader<R> {
-    /// Reads the header of a file from its source, in either order of octets. Returns the first fault of the header,
-    /// `Read` if a read fails first, or `Memory`.
+    /// Reads the header of a file, in either byte order. Returns the first fault of the header, `Read` if a read fails
+    /// first, or `Memory`.
     pub fn new(alloc: Global, mut source: R) -> Result<PcapReader<R>, PcapFault>
         ensures opened { IfSome (R.remaining source) (λ file. Opens (file_of file) result) }
         ensures places { IfOk result (λ reader. reader.places ≡ max_records) }
@@ -80,8 +81,8 @@ impl<R: Read> PcapReader<R> {
         self.form.resolution
     }
 
-    /// The next record, or `None` if the file has ended, and from then on. Returns the fault of the format at the
-    /// record's place, or `Read` if a read fails first; either is returned by each later call too.
+    /// Returns the next record, or `None` if the file has ended. Returns the fault of the format there, or `Read` if a
+    /// read fails first. After `None` or a fault every later call returns the same.
     pub fn next(&mut self) -> Result<Option<Record<'_>>, PcapFault>
         ensures* after { sem 𝓛 (Rests (the_row R.row R.Read) self.entry (IsAfter self.old (answer_of result))) }
         ensures answer { Answers self.old.ahead (answer_of result) }

@@ -9,13 +9,13 @@ use crate::filling::fill;
 use crate::form::Order;
 use std::io::Read;
 
-/// How many octets a record has before its captured octets.
+/// The number of octets in a record before its captured octets.
 pub(crate) const RECORD_HEADER_LEN: usize = 16;
 
-/// The most captured octets that a record can have.
+/// The maximum number of captured octets in a record.
 pub const MAX_RECORD_LEN: usize = 262_144;
 
-/// The most records that a file can have.
+/// The maximum number of records in a file.
 pub const MAX_RECORDS: u32 = 16_777_216;
 
 /// A record of a capture file.
@@ -23,7 +23,7 @@ pub const MAX_RECORDS: u32 = 16_777_216;
 pub struct Record<'a> {
     /// The time of the frame in whole seconds.
     pub seconds: u32,
-    /// The rest of that time, in microseconds or nanoseconds as the file says; it can be a second or more.
+    /// The fraction of a second, in the unit of the file (microseconds or nanoseconds). It can be a second or more.
     pub fraction: u32,
     /// The frame.
     pub body: Body<'a>,
@@ -34,11 +34,11 @@ pub struct Record<'a> {
 pub enum Body<'a> {
     /// The frame, of at most `MAX_RECORD_LEN` octets.
     Whole(&'a [u8]),
-    /// Not all of the frame was captured.
+    /// The frame was captured only in part.
     Partial,
 }
 
-/// What stands in a record before its captured octets.
+/// The numbers in a record before its captured octets.
 #[derive(Clone, Copy)]
 pub(crate) struct Head {
     seconds: u32,
@@ -48,7 +48,7 @@ pub(crate) struct Head {
 }
 
 impl Head {
-    /// The head that the first 16 octets are.
+    /// The head in the first 16 octets.
     fn of(order: Order, octets: &[u8]) -> Head
         requires { 16 ≤ length octets.now }
         ensures { result ≡ head_of order octets.now }
@@ -61,7 +61,7 @@ impl Head {
         }
     }
 
-    /// The record with this head, whose captured octets the room begins with.
+    /// The record with this head, whose captured octets are at the front of the buffer.
     pub(crate) fn record(self, room: &[u8]) -> Record<'_>
         requires { self.captured ≤ length room.now }
         ensures { shown result ≡ record_in self room.now }
@@ -79,7 +79,7 @@ impl Head {
     }
 }
 
-/// Reads the record at a record's place, if the file goes on there, with its captured octets to the front of the room.
+/// Reads the next record, if the file goes on. Its captured octets are put at the front of the buffer.
 pub(crate) fn take_record<R: Read>(
     source: &mut R,
     order: Order,
@@ -107,7 +107,7 @@ pub(crate) fn take_record<R: Read>(
     Ok(Some(head))
 }
 
-/// Reads the captured octets of a record to the front of the room.
+/// Reads the captured octets of a record to the front of the buffer.
 fn take_captured<R: Read>(source: &mut R, captured: u32, room: &mut [u8]) -> Result<(), PcapFault>
     requires { length room.old ≡ 262144 }
     ensures taken { IfSome (R.remaining source.old) (λ octets. TakesCaptured captured octets (R.remaining source.new) room.new result) }
@@ -123,7 +123,7 @@ fn take_captured<R: Read>(source: &mut R, captured: u32, room: &mut [u8]) -> Res
     Ok(())
 }
 
-/// Are these more captured octets than a record can have?
+/// Whether these are more captured octets than a record can have.
 fn is_too_long(captured: usize) -> bool
     ensures { result ≡ nat_lt max_record_length captured }
 {

@@ -16,8 +16,8 @@ use std::io::{ErrorKind, Write};
 /// The snapshot length of a written file.
 const SNAPSHOT_LEN: u32 = 65_535;
 
-/// Writes a capture file of whole frames, record by record: numbers with their lowest octet first, version 2.4, the
-/// link type of Ethernet. It takes no memory.
+/// Writes a capture file of whole frames, record by record: little endian, version 2.4, link type Ethernet. Does not
+/// allocate.
 #[derive(Drop)]
 pub struct PcapWriter<'a, W: Write> {
     destination: &'a mut W,
@@ -39,7 +39,7 @@ impl<'a, W: Write> PcapWriter<'a, W> {
         Ok(PcapWriter::behind_header(destination))
     }
 
-    /// A writer of the records of a file whose header was written.
+    /// A writer of the records of a file whose header is already written.
     pub fn behind_header(destination: &'a mut W) -> PcapWriter<'a, W>
         ensures lent { (lent result).ghost_name ≡ destination.entry.ghost_name }
         ensures header { contents W.contents result ≡ W.contents destination.old }
@@ -51,9 +51,9 @@ impl<'a, W: Write> PcapWriter<'a, W> {
         }
     }
 
-    /// Writes a record of this time and frame, of at most `MAX_RECORD_LEN` octets. Returns `RecordLength` for a longer
-    /// one, having written nothing, or `Write`, having written a front of the record at most; either is returned by
-    /// each later call too, which writes nothing.
+    /// Writes a record of this time and of this frame, of at most `MAX_RECORD_LEN` octets. For a longer frame returns
+    /// `RecordLength`, and writes nothing. Returns `Write` if a write fails, and then at most a prefix of the record
+    /// was written. After a fault every later call returns the same fault, and writes nothing.
     pub fn write(&mut self, seconds: u32, fraction: u32, frame: &[u8]) -> Result<(), PcapFault>
         ensures lent { (lent self.new).ghost_name ≡ (lent self.old).ghost_name }
         ensures written { Writes (fault_of self.old) (contents W.contents self.old) (contents W.contents self.new) seconds fraction frame.now result }
@@ -68,7 +68,8 @@ impl<'a, W: Write> PcapWriter<'a, W> {
     }
 }
 
-/// Writes the header of a file with times in this unit, or a front of it and returns `Write`.
+/// Writes the header of a file with times in this unit. Returns `Write` if a write fails, and then at most a prefix of
+/// the header was written.
 pub fn write_header<W: Write>(destination: &mut W, resolution: Resolution) -> Result<(), PcapFault>
     ensures whole { OnOk result (Appends (W.contents destination.old) (W.contents destination.new) (header_octets resolution)) }
     ensures fault { IfErr result (λ fault. fault ≡ PcapFault.Write) }
@@ -77,7 +78,7 @@ pub fn write_header<W: Write>(destination: &mut W, resolution: Resolution) -> Re
     write_octets(destination, &header(resolution))
 }
 
-/// Writes a record, if it isn't too long.
+/// Writes a record, if its frame isn't too long.
 fn write_record<W: Write>(
     destination: &mut W,
     seconds: u32,
@@ -94,7 +95,8 @@ fn write_record<W: Write>(
     write_octets(destination, frame)
 }
 
-/// Writes these octets, or a front of them and returns `Write`. A write that is interrupted is tried again.
+/// Writes these octets. Returns `Write` if a write fails, and then at most a prefix of them was written. A write that
+/// is interrupted is tried again.
 fn write_octets<W: Write>(destination: &mut W, octets: &[u8]) -> Result<(), PcapFault>
     ensures whole { OnOk result (Appends (W.contents destination.old) (W.contents destination.new) octets.now) }
     ensures fault { IfErr result (λ fault. fault ≡ PcapFault.Write) }
@@ -128,7 +130,7 @@ fn header(resolution: Resolution) -> [u8; HEADER_LEN]
     octets
 }
 
-/// What stands in a record before its frame.
+/// The numbers in a record before its frame.
 fn record_head(seconds: u32, fraction: u32, len: u32) -> [u8; RECORD_HEADER_LEN]
     ensures { result ≡ record_head seconds fraction len }
 {

@@ -2,7 +2,7 @@ use Rattle.std.proofs.Common.{◌≤◌, ◌-◌, length, take}
 use Rattle.std.specs.Io.KnownBytes.{Consumes}
 use Rattle.macsec_pcap.proofs.filling.fill.Given as goal
 
--- the room holds so far what the source gave
+-- the buffer begins with what the source has returned so far
 abbrev pub invariant-loop-filled : goal.invariant-loop-filled
 invariant-loop-filled g l =
     (l.filled ≤ length l.room)

@@ -1,4 +1,4 @@
--- The number behind the first 20 octets, by its equation alone, so that a number of fewer octets is refused soon.
+-- By the equation of the number after the first 20 octets, so that a number of fewer octets is refused quickly.
 use Rattle.std.proofs.Common.{◌≡◌, ◌∙◌, ◌-◌, ℕ, List, ap, drop, length, take}
 use Rattle.std.specs.Prelude.{◌==◌}
 use Rattle.std.proofs.lemmas.List.{take_rest}

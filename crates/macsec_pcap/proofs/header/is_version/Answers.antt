@@ -1,4 +1,4 @@
--- By the numbers at the two places; these proofs are here for speed.
+-- By the numbers at the two offsets. These proofs are here for speed.
 use Rattle.std.proofs.Common.{arith}
 use Rattle.std.proofs.lemmas.Grind.{common_steps}
 use Rattle.macsec_pcap.proofs.header.is_version.Goals as goal

@@ -1,4 +1,4 @@
--- The numbers that are written one behind the other; this proof is here for speed.
+-- By the numbers that are written one after the other. This proof is here for speed.
 use Rattle.std.proofs.Common.{arith}
 use Rattle.std.proofs.lemmas.Grind.{common_steps}
 use Rattle.macsec_pcap.proofs.writer.header.Goals as goal

@@ -1,4 +1,4 @@
--- By the octets of the header: without these proofs the prover tries other tactics on a mutant, which takes longer.
+-- By the octets of the header, for speed: without these proofs the prover tries other tactics on a mutant.
 use Rattle.macsec_pcap.proofs.writer.write_header.Goals as goal
 
 pub returns-clause-whole : goal.returns-clause-whole

@@ -1,6 +1,6 @@
 use Rattle.macsec_pcap.proofs.WrittenRecords.{IsOnTheWay}
 use Rattle.macsec_pcap.proofs.writer.write_octets.Given as goal
 
--- what is gone from the rest was written
+-- the octets before the rest were written
 abbrev pub invariant-loop : goal.invariant-loop
 invariant-loop g l = IsOnTheWay (g.W.Write.contents l.initial.destination) (g.W.Write.contents l.destination) l.octets l.rest

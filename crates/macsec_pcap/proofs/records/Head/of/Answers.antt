@@ -1,4 +1,4 @@
--- Each number by an equation of its own; this proof is here for speed.
+-- One equation for each number. This proof is here for speed.
 use Rattle.std.proofs.Common.{◌≡◌, ◌∙◌, ◌-◌, ℕ, List, ap, drop, length, take}
 use Rattle.std.proofs.lemmas.List.{take_rest}
 use Rattle.macsec_pcap.specs.declared.form.Order.{Order}
@@ -7,7 +7,7 @@ use Rattle.macsec_pcap.specs.Answers.{head_of}
 use Rattle.macsec_pcap.specs.Numbers.{number}
 use Rattle.macsec_pcap.proofs.records.Head.of.Goals as goal
 
--- the number behind the first n octets, which are all but the last
+-- the number after the first n octets
 behind : (n : ℕ) (order : Order) (octets : List ℕ) →
     number order 4 (take (length octets - n) (drop n octets)) ≡ number order 4 (drop n octets)
 behind n order octets = ap (number order 4) (take_rest octets n)

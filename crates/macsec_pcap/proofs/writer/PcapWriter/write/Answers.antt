@@ -1,4 +1,4 @@
--- By search alone: without this proof the prover tries other tactics on a mutant, which takes longer.
+-- By search alone, for speed: without this proof the prover tries other tactics on a mutant.
 use Rattle.std.proofs.Common.{rules}
 use Rattle.macsec_pcap.proofs.writer.PcapWriter.write.Goals as goal
 
