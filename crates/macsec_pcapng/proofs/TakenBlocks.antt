@@ -131,6 +131,18 @@ block_of_len-whole order kind total len behind long same =
     alike : (a b : ℕ) → a ≡ b → (a == b) ≡ true
     alike a b eq = grind (arith, nat_tests)
 
+-- the body was not read
+pub body_fault : (order : Order) (kind total len : ℕ) (front : List ℕ) (old new last : Option (List ℕ)) (room other : List ℕ) (fault : PcapFault) →
+    is_length kind total ≡ true → len ≡ total - 12 →
+    IfSome old (λ rest. TakesBody len (front ++ rest) new room (Err fault)) →
+    IfSome old (λ rest. TakesBlock (block_of order kind total (front ++ rest)) last other (Err fault))
+body_fault order kind total len front None new last room other fault can same failed = tt
+body_fault order kind total len front (Some rest) new last room other CutRecord can same short =
+    sym (block_of-length order kind total (front ++ rest) can
+    ∙ block_of_len-cut order kind total (total - 12) (front ++ rest) (omega (arith, short, same)))
+body_fault order kind total len front (Some rest) new last room other Read can same failed = tt
+body_fault order kind total len front (Some rest) new last room other fault can same failed = cc
+
 -- the body was read, and the length behind it was not, or is another
 pub trailer_fault : (order : Order) (kind total len : ℕ) (front : List ℕ) (old mid new last : Option (List ℕ)) (room : List ℕ) (fault : PcapFault) →
     is_length kind total ≡ true → len ≡ total - 12 →
@@ -169,6 +181,16 @@ block_taken order kind total len front (Some rest) mid new room can same body tr
           ∙ ap (λ xs. Ok (Some (record { order = order; kind = kind; len = len; front = xs }, drop 4 (drop len behind)))) (sym body.1),
       here.2,
     )
+
+-- the first piece of a body was not read
+pub piece_fault : (old mid last : Option (List ℕ)) (room piece other : List ℕ) (known end len : ℕ) (fault : PcapFault) →
+    length room ≡ 262164 → known ≤ end → end ≤ 262164 → end ≤ len → length piece + known ≡ end →
+    IfSome old (λ rest. Fetches piece rest mid (Err fault)) → IfSome old (λ rest. TakesBody len (take known room ++ rest) last other (Err fault))
+piece_fault None mid last room piece other known end len fault whole k e l p failed = tt
+piece_fault (Some rest) mid last room piece other known end len CutRecord whole k e l p short =
+    let long : length (take known room) ≡ known = length-take-le known room (omega (arith, whole, k, e)) in
+    omega (arith, long, short, l, p, length-append (take known room) rest)
+piece_fault (Some rest) mid last room piece other known end len fault whole k e l p failed = failed
 
 -- a body is read in two pieces, behind what is known of it
 pub body_taken : (old mid new : Option (List ℕ)) (room piece others : List ℕ) (known end len : ℕ) (answer : Result (Unit {0}) PcapFault) →

@@ -166,9 +166,14 @@ fn take_known<R: Read>(
         return Err(PcapFault::BlockLength);
     }
     let len = total - FRAME_LEN;
-    take_body(source, len, known, room)?;
-    take_trailer(source, order, total)?;
-    Ok(Some(Head { order, kind, len }))
+    match take_body(source, len, known, room) {
+        Ok(()) => {}
+        Err(fault) => return Err(fault),
+    }
+    match take_trailer(source, order, total) {
+        Ok(()) => Ok(Some(Head { order, kind, len })),
+        Err(fault) => Err(fault),
+    }
 }
 
 /// Reads the rest of a body of this length, of which this many octets were read to the front of the room.
@@ -184,8 +189,10 @@ fn take_body<R: Read>(
     ensures { IfSome (R.remaining source.old) (λ rest. TakesBody len (take known room.old ++ rest) (R.remaining source.new) room.new result) }
 {
     let end = kept(len);
-    fetch(source, &mut room[known..end])?;
-    skip(source, len as usize - end)
+    match fetch(source, &mut room[known..end]) {
+        Ok(()) => skip(source, len as usize - end),
+        Err(fault) => Err(fault),
+    }
 }
 
 /// Reads the total length at the end of a block, which is the one at its beginning.

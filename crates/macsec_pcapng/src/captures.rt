@@ -57,16 +57,29 @@ impl<R: Read + Drop> CaptureReader<R> {
         ensures places { IfOk result (λ reader. reader.places ≡ max_records) }
     {
         let mut front = [0; FRONT_LEN];
-        if fill(&mut source, &mut front)? < FRONT_LEN {
+        let count = match fill(&mut source, &mut front) {
+            Ok(count) => count,
+            Err(fault) => return Err(fault),
+        };
+        if count < FRONT_LEN {
             return Err(PcapFault::CutHeader);
         }
         let whole = Cursor::new(front).chain(source);
-        let format = if is_pcapng(&front) {
-            Format::Pcapng(PcapngReader::new(alloc, whole)?)
+        if is_pcapng(&front) {
+            match PcapngReader::new(alloc, whole) {
+                Ok(reader) => Ok(CaptureReader {
+                    format: Format::Pcapng(reader),
+                }),
+                Err(fault) => Err(fault),
+            }
         } else {
-            Format::Pcap(PcapReader::new(alloc, whole)?)
-        };
-        Ok(CaptureReader { format })
+            match PcapReader::new(alloc, whole) {
+                Ok(reader) => Ok(CaptureReader {
+                    format: Format::Pcap(reader),
+                }),
+                Err(fault) => Err(fault),
+            }
+        }
     }
 }
 

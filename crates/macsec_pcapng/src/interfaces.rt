@@ -1,7 +1,7 @@
 //! The interfaces of a section, and the options that describe them.
 
 ghost use Rattle.std.specs.Prelude.{◌≡◌, ◌<◌, ◌≤◌, IfOk, IfSome, length};
-ghost use Rattle.macsec_pcapng.specs.Interfaces.{interface_of, is_ethernet, option_at, options_in, padded, plain_interface, with_option};
+ghost use Rattle.macsec_pcapng.specs.Interfaces.{interface_of, is_ethernet, option_at, options_in, padded, plain_interface, value_length, with_option};
 ghost use Rattle.macsec_pcapng.specs.Limits.{max_options};
 
 use crate::blocks::ROOM_LEN;
@@ -99,21 +99,31 @@ fn option_at(
     ensures option { result ≡ option_at order octets.now interface }
     ensures fits { IfOk result (λ some. IfSome some (λ found. found.1 ≤ length octets.now)) }
 {
-    if octets.len() < 4 || order.u16(octets) == END_OF_OPTIONS {
+    if octets.len() < 4 {
         return Ok(None);
     }
-    let value_len = usize::from(order.u16(&octets[2..]));
+    let code = order.u16(octets);
+    if code == END_OF_OPTIONS {
+        return Ok(None);
+    }
+    let value_len = value_length(order, octets);
     let len = 4 + padded(value_len);
     if octets.len() < len {
         return Err(PcapFault::BlockLength);
     }
-    let described = with_option(
-        order,
-        interface,
-        order.u16(octets),
-        &octets[4..4 + value_len],
-    );
-    Ok(Some((described?, len)))
+    match with_option(order, interface, code, &octets[4..4 + value_len]) {
+        Ok(described) => Ok(Some((described, len))),
+        Err(fault) => Err(fault),
+    }
+}
+
+/// How many octets the value of the option that begins here has.
+fn value_length(order: Order, octets: &[u8]) -> usize
+    requires { 4 ≤ length octets.now }
+    ensures value { result ≡ value_length order octets.now }
+    ensures bound { result < 65536 }
+{
+    usize::from(order.u16(&octets[2..]))
 }
 
 /// How many octets a value has with its padding.

@@ -27,8 +27,10 @@ pub(crate) fn skip<R: Read>(source: &mut R, count: usize) -> Result<(), PcapFaul
     let mut left = count;
     while left > 0 {
         let len = left.min(PIECE_LEN);
-        fetch(source, &mut piece[..len])?;
-        left -= len;
+        match fetch(source, &mut piece[..len]) {
+            Ok(()) => left -= len,
+            Err(fault) => return Err(fault),
+        }
     }
     Ok(())
 }

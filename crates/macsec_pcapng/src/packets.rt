@@ -1,7 +1,8 @@
 //! The packets of a section.
 
-ghost use Rattle.std.specs.Prelude.{◌≡◌, ◌≤◌, ◌+◌, IfOk, length};
+ghost use Rattle.std.specs.Prelude.{◌≡◌, ◌≤◌, ◌+◌, IfOk, drop, length};
 ghost use Rattle.macsec_pcap.specs.Answers.{shown};
+ghost use Rattle.macsec_pcap.specs.Numbers.{number};
 ghost use Rattle.macsec_pcapng.specs.Blocks.{kept};
 ghost use Rattle.macsec_pcapng.specs.Packets.{enhanced, packet_of, record_in, simple, ticks, within_snap};
 
@@ -62,8 +63,16 @@ pub(crate) fn enhanced(
         return Err(PcapFault::LinkType);
     }
     let time = interface.time(ticks(order, front));
-    let captured = order.u32(&front[12..]);
+    let captured = captured_length(order, front);
     packet_of(time, len, ENHANCED_LEN, captured, order.u32(&front[16..]))
+}
+
+/// How many octets of an enhanced packet were captured.
+fn captured_length(order: Order, front: &[u8]) -> u32
+    requires { 20 ≤ length front.now }
+    ensures { result ≡ number order 4 (drop 12 front.now) }
+{
+    order.u32(&front[12..])
 }
 
 /// The time of an enhanced packet, in the units of its interface.

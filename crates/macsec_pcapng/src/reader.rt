@@ -70,15 +70,17 @@ impl<R: Read + Drop> PcapngReader<R> {
         let Ok(mut room) = vec![in alloc; 0; ROOM_LEN] else {
             return Err(PcapFault::Memory);
         };
-        let section = read_header(&mut source, room.as_mut_slice())?;
-        Ok(PcapngReader {
-            source,
-            section,
-            course: Course::Going,
-            places: MAX_RECORDS,
-            blocks: MAX_BLOCKS,
-            room,
-        })
+        match read_header(&mut source, room.as_mut_slice()) {
+            Ok(section) => Ok(PcapngReader {
+                source,
+                section,
+                course: Course::Going,
+                places: MAX_RECORDS,
+                blocks: MAX_BLOCKS,
+                room,
+            }),
+            Err(fault) => Err(fault),
+        }
     }
 }
 

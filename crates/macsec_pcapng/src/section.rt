@@ -3,7 +3,8 @@
 ghost use Rattle.std.specs.Prelude.{◌≡◌, ◌≤◌, ◌+◌, IfOk, IfSome, length};
 ghost use Rattle.macsec_pcapng.specs.Answers.{IsLeft, IsMade, block_by};
 ghost use Rattle.macsec_pcapng.specs.Blocks.{kept, least_length};
-ghost use Rattle.macsec_pcapng.specs.Sections.{is_version, left_by, new_section, with_one_more};
+ghost use Rattle.macsec_pcapng.specs.Interfaces.{interface_of};
+ghost use Rattle.macsec_pcapng.specs.Sections.{is_version, left_by, new_section, with_interface, with_one_more};
 
 use crate::blocks::{ENHANCED_PACKET, Head, INTERFACE_DESCRIPTION, SECTION_HEADER, SIMPLE_PACKET};
 use crate::interfaces::{Interface, interface_of};
@@ -58,28 +59,53 @@ impl Section {
     {
         let (order, len) = (head.order, head.len);
         match head.kind {
-            SECTION_HEADER => {
-                *self = Section::new(order, front)?;
-                Ok(None)
-            }
-            INTERFACE_DESCRIPTION => {
-                self.describe(interface_of(order, len, front)?)?;
-                Ok(None)
-            }
-            ENHANCED_PACKET => {
-                let packet = enhanced(self.interfaces.as_slice(), order, len, front)?;
-                Ok(Some(packet))
-            }
-            SIMPLE_PACKET => {
-                let packet = simple(self.interfaces.as_slice(), order, len, front)?;
-                Ok(Some(packet))
-            }
+            SECTION_HEADER => match self.begin(order, front) {
+                Ok(()) => Ok(None),
+                Err(fault) => Err(fault),
+            },
+            INTERFACE_DESCRIPTION => match self.describe(order, len, front) {
+                Ok(()) => Ok(None),
+                Err(fault) => Err(fault),
+            },
+            ENHANCED_PACKET => match enhanced(self.interfaces.as_slice(), order, len, front) {
+                Ok(packet) => Ok(Some(packet)),
+                Err(fault) => Err(fault),
+            },
+            SIMPLE_PACKET => match simple(self.interfaces.as_slice(), order, len, front) {
+                Ok(packet) => Ok(Some(packet)),
+                Err(fault) => Err(fault),
+            },
             _ => Ok(None),
         }
     }
 
+    /// Becomes the section whose header has this order and a body that begins with these octets.
+    fn begin(&mut self, order: Order, front: &[u8]) -> Result<(), PcapFault>
+        requires { 16 ≤ length front.now }
+        ensures { IsMade (new_section order front.now) self.new result }
+    {
+        match Section::new(order, front) {
+            Ok(section) => {
+                *self = section;
+                Ok(())
+            }
+            Err(fault) => Err(fault),
+        }
+    }
+
+    /// Adds the interface that a body of so many octets describes, which begins with these.
+    fn describe(&mut self, order: Order, len: u32, front: &[u8]) -> Result<(), PcapFault>
+        requires { 8 ≤ length front.now }
+        ensures { IsMade (with_interface self.old (interface_of order len front.now)) self.new result }
+    {
+        match interface_of(order, len, front) {
+            Ok(interface) => self.add(interface),
+            Err(fault) => Err(fault),
+        }
+    }
+
     /// Adds an interface, the last, or returns `InterfaceCount`.
-    fn describe(&mut self, interface: Interface) -> Result<(), PcapFault>
+    fn add(&mut self, interface: Interface) -> Result<(), PcapFault>
         ensures { IsMade (with_one_more self.old interface) self.new result }
     {
         if self.interfaces.is_full() {

@@ -53,8 +53,10 @@ fn take_one<R: Read>(
     ensures taken { IfSome (R.remaining source.old) (λ octets. TakesOne section.old octets section.new (R.remaining source.new) room.new result) }
     ensures fits { IfOk result IsWithin }
 {
-    let Some(head) = take_block(source, section.order(), room)? else {
-        return Ok(Taken::End);
+    let head = match take_block(source, section.order(), room) {
+        Ok(Some(head)) => head,
+        Ok(None) => return Ok(Taken::End),
+        Err(fault) => return Err(fault),
     };
     match section.take(head, &room[..kept(head.len)]) {
         Ok(Some(packet)) => Ok(Taken::Found(packet)),

@@ -16,3 +16,21 @@ returns-clause-block g c =
     let is : is_section c.fill.new.room ≡ false = sym c.is_section.ensures ∙ c.if-is_section.false in
     takes_other c.args.order _ _ _ c.fill.new.room _ c.in_ok-count.count c.u32.result c.total_length-total.result c.take_known.result
     c.fill.auto.room whole c.in_ok-count.ensures is c.u32.ensures c.total_length-total.ensures c.take_known.ensures.block
+
+pub take_section-requires-clause-head : goal.take_section-requires-clause-head
+take_section-requires-clause-head g c = omega arith
+
+pub take_section-requires-clause-room : goal.take_section-requires-clause-room
+take_section-requires-clause-room g c = c.requires
+
+pub returns-then-is_section-clause-least : goal.returns-then-is_section-clause-least
+returns-then-is_section-clause-least g c = c.take_section.ensures.least
+
+pub take_known-requires-clause-few : goal.take_known-requires-clause-few
+take_known-requires-clause-few g c = omega arith
+
+pub take_known-requires-clause-room : goal.take_known-requires-clause-room
+take_known-requires-clause-room g c = c.requires
+
+pub returns-clause-least : goal.returns-clause-least
+returns-clause-least g c = c.take_known.ensures.least

@@ -1,4 +1,4 @@
-use Rattle.std.proofs.Common.{◌≡◌, ◌≤◌, ◌∙◌, ap, arith, length, refl}
+use Rattle.std.proofs.Common.{◌≡◌, ◌≤◌, ◌+◌, ◌∙◌, ap, arith, length, refl}
 use Rattle.std.proofs.lemmas.List.{take_at}
 use Rattle.macsec_pcap.specs.Answers.{shown}
 use Rattle.macsec_pcapng.specs.Packets.{record_in}
@@ -61,3 +61,15 @@ returns-else-self-eq0 g c =
     let steps = steps_record c.args.self.now s.course s.blocks new.blocks s.places s.section new.section (octets s.source) (octets new.source)
     new.room some.packet (shown c.record.result) c.in-Going.is c.self.view_is place same (rw some.field-0-is at some.ensures.taken) in
     ((refl, λ x. tt, steps.0), record { after = tt; answer = steps.1 })
+
+pub invariant_of-self : goal.invariant_of-self
+invariant_of-self g c = omega arith
+
+pub overflow_sub-self : goal.overflow_sub-self
+overflow_sub-self g c = omega arith
+
+pub record-requires : goal.record-requires
+record-requires g c =
+    let some = c.in-Ok-Some in
+    let fits : some.packet.start + some.packet.captured ≤ 262164 = rw some.field-0-is at some.ensures.fits in
+    omega (arith, fits)
