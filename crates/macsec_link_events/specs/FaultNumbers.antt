@@ -3,7 +3,7 @@ use Rattle.std.specs.Prelude.{ℕ}
 use Rattle.macsec_link_events.specs.declared.WorldFault.{WorldFault}
 use Rattle.macsec_link_events.specs.declared.WorldFault.TheVariants.{Memory, NoFrame, LinkFull, AlterRange, Short, Long, Make}
 
--- each fault has a number of its own
+-- each fault has a different number
 abbrev pub number_of_world_fault : WorldFault → ℕ
 number_of_world_fault Memory = 1
 number_of_world_fault NoFrame = 2

@@ -1,4 +1,4 @@
-//! What comes of an event of two endpoints and their link: its outcome, or the fault for which it did not happen.
+//! The result of an event of two endpoints and their link: its outcome, or the fault for which it did not happen.
 //!
 //! Proved: the number of a fault (`specs/FaultNumbers.antt`).
 #![tactic(auto)]
@@ -10,37 +10,37 @@ use macsec_commands::{End, Frame, NewFault};
 use macsec_secy::{DropReason, Refusal, Verdict};
 use thiserror::Error;
 
-/// What came of an event.
+/// The outcome of an event.
 #[derive(Drop)]
 pub enum Outcome {
     /// The command was carried out.
     Done,
     /// The command was refused, and nothing changed.
     Refused(Refusal),
-    /// The link frame of this number was created.
+    /// The link frame with this number was created.
     Made(u32),
-    /// Nothing is sent for a client frame.
+    /// Nothing is sent for a client frame, for this reason.
     Dropped(DropReason),
-    /// An end heard, that is received, a link frame: the verdict on it, and what was delivered at the controlled port.
+    /// An end received a link frame: the verdict on it, and the frame delivered at the controlled port, if any.
     Heard {
         verdict: Verdict,
         controlled: Option<Frame>,
     },
 }
 
-/// Why an event did not happen, or no world was created. The world is as it was.
+/// Why an event did not happen, or no world was created. The world is unchanged.
 #[derive(Clone, Copy, PartialEq, Eq, Debug, Error)]
 pub enum WorldFault {
     /// Out of memory.
     #[error("out of memory")]
     Memory,
-    /// There is no link frame of this number.
+    /// No link frame has this number.
     #[error("there is no such link frame")]
     NoFrame,
-    /// The link has 65,536 frames.
+    /// The link has 65,536 frames, which is the maximum.
     #[error("the link has 65,536 frames")]
     LinkFull,
-    /// The link frame has no octet at this place.
+    /// The link frame has no octet at this index.
     #[error("the link frame has no such octet")]
     AlterRange,
     /// The frame is too short.

@@ -1,4 +1,4 @@
--- An end that carried out a management command, or refused it.
+-- An end after a management command that it carried out or refused.
 use Rattle.std.proofs.Common.{◌≡◌, ◌∙◌, List, ap, subst}
 use Rattle.macsec_suite.specs.declared.refusal.Refusal.{Refusal}
 use Rattle.macsec_commands.specs.declared.command.Command.{Command}
@@ -9,7 +9,7 @@ use Rattle.macsec_link_logs.specs.Logs.{DeliveryLog, delivered_after, logs_after
 use Rattle.macsec_link_logs.specs.Ends.{EndState}
 
 module _ (old : EndState) (c : Command) (after : State) (after_is : after ≡ (step old.state (operator_command c)).1) where
-  -- the end after it, with these logs of deliveries
+  -- the end afterwards, with these logs of deliveries
   abbrev end_with : List DeliveryLog → EndState
   end_with logs = record { state = after; sent = old.sent; delivered = logs }
 

@@ -1,4 +1,4 @@
--- An end that received.
+-- An end after it received a frame.
 use Rattle.std.proofs.Common.{◌≡◌, ◌∙◌, ℕ, ◌≤◌, List, ap, length, subst, sym}
 use Rattle.std.specs.Prelude.{option_map, Option, Some, None}
 use Rattle.macsec_tag.specs.declared.identifiers.Sci.{Sci}
@@ -13,7 +13,7 @@ use Rattle.macsec_link_logs.specs.Answers.{EndHappens}
 use Rattle.macsec_link_logs.specs.Logs.{DeliveryLog, delivered_after}
 use Rattle.macsec_link_logs.specs.Ends.{EndState}
 
--- the frame itself is shown, and what is delivered is no longer than it
+-- the frame itself is shown, and the delivered frame is no longer
 pub record IsHeard (frame shown lent : List ℕ) : Type 0 where
   pub same : shown ≡ frame
   pub most : length lent ≤ length frame
@@ -38,7 +38,7 @@ shown_itself s frame shown verdict row o fits is =
     cc
 
 module _ (old : EndState) (frame : List ℕ) (after : State) (after_is : after ≡ (step old.state (link_frame frame)).1) where
-  -- the end after it, with these logs of deliveries
+  -- the end afterwards, with these logs of deliveries
   abbrev end_with : List DeliveryLog → EndState
   end_with logs = record { state = after; sent = old.sent; delivered = logs }
 

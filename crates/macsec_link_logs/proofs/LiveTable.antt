@@ -1,4 +1,4 @@
--- The table of the places of live logs: changes of the logs at its places, and the table after them.
+-- The table of the indices of live logs: changes of the logs at its indices, and the table after them.
 use Rattle.std.proofs.Common.{◌≡◌, ◌∙◌, ℕ, zero, suc, ◌<◌, ◌≤◌, All, Bool, true, false, cond, List, [], ◌∷◌, ◌+◌, ◌++◌}
 use Rattle.std.proofs.Common.{ap, arith, drop, filter, get_or, length, map, refl, set, subst, sym, take}
 use Rattle.std.specs.Prelude.{find, if◌then◌else◌, option_map, Option, Some, None}
@@ -12,7 +12,7 @@ use Rattle.macsec_link_logs.specs.Places.{HasPlaceAt, KeptLog, live_places, log_
 abbrev Change : Type 0
 Change = DeliveryLog → DeliveryLog
 
--- a change of the log at a place; of those at places, one after another; and of that at a place, where there is one
+-- changes the log at an index; the logs at several indices, one after another; and the log at an index if there is one
 abbrev with_at : Change → ℕ → List DeliveryLog → List DeliveryLog
 with_at change place [] = []
 with_at change zero (log ∷ logs) = change log ∷ logs
@@ -26,13 +26,13 @@ abbrev with_found_at : Change → Option ℕ → List DeliveryLog → List Deliv
 with_found_at change None logs = logs
 with_found_at change (Some place) logs = with_at change place logs
 
--- the table, of a log before others
+-- the table when a log is added in front
 abbrev live_before : Bool → List ℕ → List ℕ
 live_before live places = cond live (zero ∷ map suc places) (map suc places)
 
--- ---- kept logs
+-- ---- logs with their capacity
 
--- a log is replaced by one that is changed so
+-- a log is replaced by a changed one
 logs_of-set : (change : Change) (logs : List KeptLog) (place : ℕ) (old new : KeptLog) → old ≡ get_or logs place old → new.log ≡ change old.log →
     logs_of (set logs place new) ≡ with_at change place (logs_of logs)
 logs_of-set change [] place old new is changed = refl
@@ -51,11 +51,11 @@ place_stays (k ∷ logs) zero (suc other) new spare has = has
 place_stays (k ∷ logs) (suc place) zero new spare has = has
 place_stays (k ∷ logs) (suc place) (suc other) new spare has = place_stays logs place other new spare has
 
--- a log is replaced by one that is the same but for its places
+-- a log is replaced by one that differs only in its capacity
 pub same_logs : (logs : List KeptLog) (place : ℕ) (old new : KeptLog) → old ≡ get_or logs place old → new.log ≡ old.log → logs_of (set logs place new) ≡ logs_of logs
 same_logs logs place old new is same = map-set_same log_of logs place new old (same ∙ ap log_of is)
 
--- and one more has a place
+-- one more log has capacity
 pub more_places : (logs : List KeptLog) (table : List ℕ) (i : ℕ) (new : KeptLog) → i < length table → 1 ≤ new.spare → All (HasPlaceAt logs) (take i table) →
     All (HasPlaceAt (set logs (get_or table i 0) new)) (take (i + 1) table)
 more_places logs table i new inside spare have =
@@ -70,7 +70,7 @@ place_found (k ∷ logs) (suc place) old is within has = place_found logs place 
 
 -- ---- the table
 
--- a place of one of so many logs
+-- an index below this count
 abbrev IsPlace : ℕ → ℕ → Type 0
 IsPlace count place = place < count
 
@@ -84,13 +84,13 @@ within (log ∷ logs) =
     by_test true later = All-cons (IsPlace (suc (length logs))) zero (map suc (live_places logs)) (omega arith) later
     by_test false later = later
 
--- each place of the table is that of a log
+-- each index in the table belongs to a log
 pub all_within : (logs : List KeptLog) (table : List ℕ) → table ≡ live_places (logs_of logs) → All (λ place. place < length logs) table
 all_within logs table is =
     let each : All (IsPlace (length logs)) (live_places (logs_of logs)) = λ i d inside. omega (arith, length-map logs log_of, within (logs_of logs) i d inside) in
     subst (λ (places : List ℕ). All (IsPlace (length logs)) places) (sym is) each
 
--- what holds of each place of a table holds of the one that a search finds
+-- what holds of each index in a table holds of the one that a search finds
 holds_of_found : (P : ℕ → Type 0) (test : ℕ → Bool) (places : List ℕ) (place : ℕ) → All P places → find test places ≡ Some place → P place
 holds_of_found P test [] place all found = cc
 holds_of_found P test (p ∷ places) place all found = by_test (test p) (holds_of_found P test places place (λ i d inside. all (suc i) d (omega (arith, inside)))) found
@@ -108,7 +108,7 @@ live_places-push (log ∷ logs) new live = ap (live_before log.live) (live_place
     by_test true = ap (λ places. zero ∷ places) (map-append suc (live_places logs) (length logs ∷ []))
     by_test false = map-append suc (live_places logs) (length logs ∷ [])
 
--- a delivery leaves the table as it is
+-- a delivery does not change the table
 live_places-delivering : (test : DeliveryLog → Bool) (frame : List ℕ) (logs : List DeliveryLog) → live_places (with_first test (log_delivering frame) logs) ≡ live_places logs
 live_places-delivering test frame [] = refl
 live_places-delivering test frame (log ∷ logs) = by_test (test log) (live_places-delivering test frame logs)
@@ -139,7 +139,7 @@ with_each-live change keeps (log ∷ logs) = by_test (with_each-live change keep
     by_test rest true is = with_each-map_suc change (live_places logs) (change log) logs ∙ ap (λ xs. change log ∷ xs) rest
     by_test rest false is = with_each-map_suc change (live_places logs) log logs ∙ ap (λ xs. log ∷ xs) rest ∙ ap (λ x. x ∷ map change logs) (sym (keeps log is))
 
--- the log at the next place of the table is changed
+-- the log at the next index of the table is changed
 pub next_changed : (change : Change) (logs : List KeptLog) (table : List ℕ) (i : ℕ) (old new : KeptLog) (all : List DeliveryLog) → i < length table →
     old ≡ get_or logs (get_or table i 0) old → new.log ≡ change old.log →
     with_each change (drop i table) (logs_of logs) ≡ all → with_each change (drop (i + 1) table) (logs_of (set logs (get_or table i 0) new)) ≡ all
@@ -147,7 +147,7 @@ next_changed change logs table i old new all inside is changed so_far =
     ap (with_each change (drop (i + 1) table)) (logs_of-set change logs (get_or table i 0) old new is changed)
     ∙ sym (ap (λ (places : List ℕ). with_each change places (logs_of logs)) (drop_more table i 0 inside)) ∙ so_far
 
--- a log whose association is not there is closed already
+-- a log whose SA does not exist is closed already
 closed_stays : (test : DeliveryLog → Bool) (log : DeliveryLog) → log.live ≡ false → log_closing test log ≡ log
 closed_stays test log closed = by_test (test log)
   where
@@ -158,7 +158,7 @@ closed_stays test log closed = by_test (test log)
 pub each_closed : (test : DeliveryLog → Bool) (logs : List DeliveryLog) → with_each (log_closing test) (live_places logs) logs ≡ map (log_closing test) logs
 each_closed test logs = with_each-live (log_closing test) (closed_stays test) logs
 
--- the table without the places of logs that were closed
+-- the table without the indices of closed logs
 filter-map_suc : (test : ℕ → Bool) (places : List ℕ) → filter test (map suc places) ≡ map suc (filter (λ place. test (suc place)) places)
 filter-map_suc test [] = refl
 filter-map_suc test (place ∷ places) = by_test (test (suc place)) (filter-map_suc test places)
@@ -241,9 +241,9 @@ with_found_at-find_live : (sci : Sci) (an : ℕ) (change : Change) (logs : List 
     with_found_at change (find (passes_at (is_live_at sci an) logs) (live_places logs)) logs ≡ with_first (is_live_at sci an) change logs
 with_found_at-find_live sci an change logs = with_found_at-find (is_live_at sci an) (λ log closed. rw closed refl) change logs
 
--- the search in the table, of logs that are seen as these
+-- a search in the table, over equal logs
 module _ (sci : Sci) (an : ℕ) (logs seen : List KeptLog) (table : List ℕ) (same : seen ≡ logs) (is : table ≡ live_places (logs_of logs)) where
-  -- the log at a place is that of the association
+  -- the log at an index is the SA's
   abbrev is_its : ℕ → Bool
   is_its place = passes_at (is_live_at sci an) (logs_of logs) place
 

@@ -1,4 +1,4 @@
--- The live logs of an end are those of its receive associations, whatever comes in.
+-- The live logs of an end belong to its receive SAs, whatever the input.
 use Rattle.std.proofs.Common.{◌≡◌, ℕ, Bool, true, false, cond, List, [], ◌∷◌, ◌++◌, map, filter, refl, ap, sym, subst, ◌∙◌}
 use Rattle.std.specs.Prelude.{◌==◌, ◌&&◌, not, if◌then◌else◌, option_map, Option, Some, None}
 use Rattle.std.proofs.lemmas.List.{map-append}
@@ -29,7 +29,7 @@ use Rattle.macsec_link_logs.specs.Ends.{EndState, end_after}
 abbrev Association : Type 0
 Association = Sci × ℕ × ℕ
 
--- ---- changes of associations
+-- ---- changes of SAs
 
 abbrev KeepsAssociation : (RxRow → RxRow) → Type 0
 KeepsAssociation f = (row : RxRow) → association_of_row (f row) ≡ association_of_row row
@@ -48,7 +48,7 @@ at_one_place f keeps sci an row = by_test (is_at sci an row)
 rows_changed : (f : RxRow → RxRow) → KeepsAssociation f → (rows : List RxRow) (logs : List DeliveryLog) → AreLogged rows logs → AreLogged (map f rows) logs
 rows_changed f keeps rows logs logged = logged ∙ sym (rows_same f keeps rows)
 
--- ---- associations that are removed, and logs that are closed
+-- ---- SAs are deleted, and logs are closed
 
 rows_left : (gone : Association → Bool) (rows : List RxRow) →
     map association_of_row (filter (λ row. not (gone (association_of_row row))) rows) ≡ filter (λ x. not (gone x)) (map association_of_row rows)
@@ -205,7 +205,7 @@ input_logged e (client_frame frame) logged = sent_logged e.state frame (frame_fa
 input_logged e (uncontrolled_frame frame) logged = uncontrolled_logged e.state frame (frame_fault frame) e.delivered logged
 input_logged e (link_frame frame) logged = frame_logged e.state frame (frame_fault frame) e.delivered logged
 
--- ---- what holds of an end goes on
+-- ---- an end stays sound
 
 pub sound_after : (old : EndState) (input : Input) (output : Output) (new : EndState) → EndHappens old input output new → IsSoundEnd old →
     endpoint.IsSound new.state → IsSoundEnd new

@@ -1,4 +1,4 @@
--- The logs of what is sent, as an end keeps them, and an end that sent.
+-- The logs of what is sent, with their capacity, and an end after it sent.
 use Rattle.std.proofs.Common.{◌≡◌, ◌∙◌, ℕ, zero, suc, ◌+◌, Bool, true, false, cond, List, [], ◌∷◌, ◌++◌, ap, arith, get_or, length, map, refl, set, subst, sym}
 use Rattle.std.specs.Prelude.{◌==◌, nat_lt, not, option_map, position, Option, Some, None, Result, Ok, Err, OnErr, OnOk}
 use Rattle.std.specs.List.{position_or_len}
@@ -16,13 +16,13 @@ use Rattle.macsec_link_logs.specs.Logs.{SentLogs, log_sending, logs_sending, sen
 
 -- ---- the log of a key
 
--- the log at this place is the first of the key of this number
+-- the log at this index is the first one of the key with this number
 abbrev pub IsPlace : ℕ → List KeptSentLog → ℕ → Type 0
 IsPlace key [] place = ⊥
 IsPlace key (k ∷ logs) zero = (k.log.key == key) ≡ true
 IsPlace key (k ∷ logs) (suc place) = ((k.log.key == key) ≡ false) × IsPlace key logs place
 
--- no log is of the key of this number
+-- the key with this number has no log
 abbrev pub HasNone : ℕ → List KeptSentLog → Type 0
 HasNone key [] = Unit {0}
 HasNone key (k ∷ logs) = ((k.log.key == key) ≡ false) × HasNone key logs
@@ -31,7 +31,7 @@ abbrev pub IsFound : ℕ → List KeptSentLog → Option ℕ → Type 0
 IsFound key logs None = HasNone key logs
 IsFound key logs (Some place) = IsPlace key logs place
 
--- the place that is found, behind a log
+-- the index that a search finds, with a log added in front
 abbrev behind : Bool → Option ℕ → Option ℕ
 behind true later = Some zero
 behind false later = option_map suc later
@@ -59,7 +59,7 @@ searched key (k ∷ logs) =
     by_test false is None it = (is, it)
     by_test false is (Some place) it = (is, it)
 
--- the search, in logs that are seen as these
+-- the search, over equal logs
 pub found : (key : ℕ) (logs seen : List KeptSentLog) → seen ≡ logs → (answer o : Option ℕ) →
     answer ≡ position (λ (k : KeptSentLog). k.log.key == key) seen → answer ≡ o → IsFound key logs o
 found key logs seen same answer o is it =
@@ -74,7 +74,7 @@ pub sent_nowhere : (key : ℕ) (logs : List KeptSentLog) → HasNone key logs �
 sent_nowhere key [] none = refl
 sent_nowhere key (k ∷ logs) none = rw none.0 (sent_nowhere key logs none.1)
 
--- a log is replaced by one that is the same but for its places
+-- a log is replaced by one that differs only in its capacity
 pub same_logs : (logs : List KeptSentLog) (place : ℕ) (old new : KeptSentLog) → old ≡ get_or logs place old → new.log ≡ old.log →
     map sent_log_of (set logs place new) ≡ map sent_log_of logs
 same_logs logs place old new is same = map-set_same sent_log_of logs place new old (same ∙ ap sent_log_of is)
@@ -93,10 +93,10 @@ pub pushed_nowhere : (key : ℕ) (frame : List ℕ) (logs : List KeptSentLog) (n
 pushed_nowhere key frame [] new none is = ap (λ log. log ∷ []) is
 pushed_nowhere key frame (k ∷ logs) new none is = rw none.0 (ap (λ rest. k.log ∷ rest) (pushed_nowhere key frame logs new none.1 is))
 
--- ---- an end that sent
+-- ---- an end after it sent
 
 module _ (old : EndState) (frame : List ℕ) (after : State) (after_is : after ≡ (step old.state (client_frame frame)).1) where
-  -- the end after it, with these logs of what was sent
+  -- the end afterwards, with these logs of what was sent
   abbrev end_with : SentLogs → EndState
   end_with logs = record { state = after; sent = logs; delivered = old.delivered }
 

@@ -1,5 +1,5 @@
--- Places in the logs of what is sent: a frame that leaves protected is under a transmit association's key, of which
--- there is one.
+-- Capacity in the logs of what is sent: a protected frame is sent under the key of an existing transmit SA, and
+-- capacity is reserved for each of these keys.
 use Rattle.std.proofs.Common.{◌≡◌, ◌∙◌, ℕ, zero, suc, ◌+◌, ◌<◌, ◌≤◌, Bool, true, false, List, [], ◌∷◌, ap, arith, get_or, length, refl, set, subst, sym}
 use Rattle.std.specs.Prelude.{◌==◌, if◌then◌else◌, nat_lt, Option, Some, None, IfSome}
 use Rattle.std.proofs.lemmas.Bool.{eq-eqb, eqb-true}
@@ -16,15 +16,15 @@ use Rattle.macsec_link_logs.specs.Kept.{HasPlace, HavePlaces, KeptSentLog, KeptS
 use Rattle.macsec_link_logs.specs.Logs.{SentLog}
 use Rattle.macsec_link_logs.proofs.SentLogs.{HasNone, IsPlace}
 
--- ---- one more place
+-- ---- capacity for one more frame
 
--- the places under a key are those of its log
+-- the capacity under a key is its log's
 pub spare_at : (key spare : ℕ) (logs : List KeptSentLog) (place : ℕ) (d : KeptSentLog) → IsPlace key logs place → spare_under logs spare key ≡ (get_or logs place d).spare
 spare_at key spare [] place d it = absurd it
 spare_at key spare (k ∷ logs) zero d it = rw it refl
 spare_at key spare (k ∷ logs) (suc place) d it = rw it.0 (spare_at key spare logs place d it.1)
 
--- or, if there is none, those of a new one
+-- or a new log's, if it has none
 pub spare_nowhere : (key spare : ℕ) (logs : List KeptSentLog) → HasNone key logs → spare_under logs spare key ≡ spare
 spare_nowhere key spare [] none = refl
 spare_nowhere key spare (k ∷ logs) none = rw none.0 (spare_nowhere key spare logs none.1)
@@ -35,7 +35,7 @@ spare_made key spare [] place old new it is same = absurd it
 spare_made key spare (k ∷ logs) zero old new it is same = rw (same, is, it) refl
 spare_made key spare (k ∷ logs) (suc place) old new it is same = rw it.0 (spare_made key spare logs place old new it.1 is same)
 
--- more places of one log, or of a new one, are no fewer of another
+-- more capacity in one log, or in a new one, leaves no less in another
 pub spare_stays : (key spare : ℕ) (logs : List KeptSentLog) (place : ℕ) (old new : KeptSentLog) → old ≡ get_or logs place old → new.log ≡ old.log → old.spare ≤ new.spare →
     spare_under logs spare key ≤ spare_under (set logs place new) spare key
 spare_stays key spare [] place old new is same more = omega arith
@@ -60,7 +60,7 @@ spare_more key spare more (k ∷ logs) is = by_test (k.log.key == key) (spare_mo
     by_test true later = omega arith
     by_test false later = later
 
--- the place that there is under a key is in its log, or in a new one
+-- the capacity under a key is in its log, or in a new one
 pub place_at : (key : ℕ) (kept now : KeptSentLogs) → kept ≡ now → HasPlace now key → (place : ℕ) (old : KeptSentLog) → IsPlace key kept.logs place →
     old ≡ get_or kept.logs place old → 1 ≤ old.spare
 place_at key kept now same has place old it is =
@@ -72,14 +72,14 @@ place_anew key kept now same has none =
     let here = subst (λ (k : KeptSentLogs). HasPlace k key) (sym same) has in
     omega (arith, here, spare_nowhere key kept.spare kept.logs none)
 
--- ---- the association that sends
+-- ---- the SA that sends
 
--- an association that is there, at its number
+-- an existing SA, found by its number
 pub record IsThere (rows : List TxRow) (row : TxRow) : Type 0 where
   pub an : row.an < 4
   pub there : tx_row rows row.an ≡ Some row
 
--- the association that is on is the one of its number
+-- the enabled SA is found by its number
 on_is_there : (rows : List TxRow) → AreTxRows rows → IfSome (row_on rows) (IsThere rows)
 on_is_there [] are = tt
 on_is_there (first ∷ rows) are = by_on first.on (row_on rows) (on_is_there rows are.2)
@@ -93,14 +93,14 @@ on_is_there (first ∷ rows) are = by_on first.on (row_on rows) (on_is_there row
     by_on false None later = tt
     by_on false (Some row) later = record { an = later.an; there = by_number row later.there (first.an == row.an) refl }
 
--- the key under which a frame leaves has a place
+-- there is capacity under the key that protects the frame
 abbrev HasPlaceFor : KeptSentLogs → Leaving → Type 0
 HasPlaceFor kept plain = Unit {0}
 HasPlaceFor kept (protected key made) = HasPlace kept key
 HasPlaceFor kept no_sa = Unit {0}
 HasPlaceFor kept too_long = Unit {0}
 
--- what goes out for a frame without fault
+-- the output for a frame without a fault
 output_is : (s : State) (frame : List ℕ) → frame_fault frame ≡ None →
     step s (client_frame frame) ≡ (sent_output frame (sending_of s frame).leaving, state_after_sending s frame (sending_of s frame))
 output_is s frame fits = ap (λ f. unless_fault f s (sent_output frame (sending_of s frame).leaving, state_after_sending s frame (sending_of s frame))) fits

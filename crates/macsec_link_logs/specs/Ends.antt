@@ -5,18 +5,18 @@ use Rattle.macsec_secy.specs.State.{State, start}
 use Rattle.macsec_secy.specs.Step.{Input, Output}
 use Rattle.macsec_link_logs.specs.Logs.{SentLogs, DeliveryLog, sent_after, delivered_after}
 
--- an endpoint; what its clients sent; and what was delivered, by the accepted commands that create a receive
--- association, in their order
+-- an endpoint; what its clients sent; and what was delivered, one log for each accepted command that creates a receive
+-- SA, in order
 pub record EndState : Type 0 where
   pub state : State
   pub sent : SentLogs
   pub delivered : List DeliveryLog
 
--- a new end: nothing was sent at it or delivered yet
+-- a new end: nothing was sent or delivered yet
 abbrev pub new_end : EndConfig → EndState
 new_end config = record { state = start config; sent = []; delivered = [] }
 
--- an end after an input, by the endpoint's output and its state
+-- an end after an input, given the endpoint's output and state
 abbrev pub end_after : EndState → Input → Output × State → EndState
 end_after e input answer = record {
   state = answer.1;

@@ -1,4 +1,4 @@
--- The octets of frames that are kept, and the places for more of them in the logs of what is sent.
+-- The octets of the frames in logs, and the reserved capacity of the logs of what is sent.
 use Rattle.std.specs.Prelude.{◌==◌, ◌<◌, ◌≤◌, ℕ, List, [], ◌∷◌, map, if◌then◌else◌, IfSome}
 use Rattle.std.specs.Global.{Vec}
 use Rattle.macsec_tx.specs.declared.TxRow.{TxRow}
@@ -9,33 +9,33 @@ use Rattle.macsec_link_logs.specs.Logs.{SentLog, SentLogs}
 abbrev pub frames_kept : List (Vec ℕ) → List (List ℕ)
 frames_kept frames = map (λ f. f.items) frames
 
--- a log, and for how many more frames it has places
+-- a log, and the number of frames for which it has spare capacity
 pub record KeptSentLog : Type 0 where
   pub log : SentLog
   pub spare : ℕ
 
--- the logs, and for how many frames a new one has places
+-- the logs, and the number of frames for which a new one has spare capacity
 pub record KeptSentLogs : Type 0 where
   pub logs : List KeptSentLog
   pub spare : ℕ
 
--- the log alone
+-- the log without its capacity
 abbrev pub sent_log_of : KeptSentLog → SentLog
 sent_log_of k = k.log
 
--- the logs alone, in their order
+-- the logs without their capacity, in order
 abbrev pub sent_logs_of : KeptSentLogs → SentLogs
 sent_logs_of kept = map sent_log_of kept.logs
 
--- for how many more frames under the key of this number there are places: in its log, or else in a new one
+-- the spare capacity in frames under the key with this number: in its log, or in a new one if it has none
 abbrev pub spare_under : List KeptSentLog → ℕ → ℕ → ℕ
 spare_under [] spare key = spare
 spare_under (k ∷ logs) spare key = if k.log.key == key then k.spare else spare_under logs spare key
 
--- there is a place for one more frame under the key of this number
+-- there is capacity for one more frame under the key with this number
 abbrev pub HasPlace : KeptSentLogs → ℕ → Type 0
 HasPlace kept key = 1 ≤ spare_under kept.logs kept.spare key
 
--- there is a place for one more frame under the key of each transmit association
+-- there is capacity for one more frame under the key of each transmit SA
 abbrev pub HavePlaces : List TxRow → KeptSentLogs → Type 0
 HavePlaces rows kept = (an : ℕ) → an < 4 → IfSome (tx_row rows an) (λ row. HasPlace kept row.key)

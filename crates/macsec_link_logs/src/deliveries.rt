@@ -1,4 +1,4 @@
-//! What was delivered from each receive association of an end, and the table of the live logs.
+//! The frames delivered from each receive SA of an end, and the table of the live logs.
 
 ghost use Rattle.std.specs.Prelude.{◌≡◌, ◌<◌, ◌≤◌, All, [], filter, find, true, OnErr, OnOk, map, vec_capacity, vec_len};
 ghost use Rattle.macsec_rx.specs.Channels.{same_sci};
@@ -10,8 +10,8 @@ use macsec_secy::{An, Command, KeyNumber, Sci};
 use std::alloc::{AllocError, Global};
 use std::marker::Model;
 
-/// What was delivered from a receive association: its channel, its number, its key, whether it is still
-/// there, and the frames.
+/// The log of a receive SA: its channel, its number, its key, whether the SA still exists, and the frames delivered
+/// from it.
 #[derive(Drop)]
 pub(crate) struct Deliveries {
     sci: Sci,
@@ -35,7 +35,7 @@ impl Model for Deliveries {
 }
 
 impl Deliveries {
-    /// The log of a new association.
+    /// The log of a new SA.
     fn new(alloc: Global, sci: Sci, an: An, key: KeyNumber) -> Deliveries
         ensures { result.log ≡ record { sci = sci; an = an; key = key; live = true; frames = [] } }
     {
@@ -48,21 +48,21 @@ impl Deliveries {
         }
     }
 
-    /// The frames, in their order.
+    /// The frames, in order.
     pub(crate) fn frames(&self) -> &[Vec<u8>]
         ensures { frames_kept result.now ≡ self.now.log.frames }
     {
         self.frames.as_slice()
     }
 
-    /// Is it the log of the association that is now of this channel and of this number?
+    /// Whether this is the log of the existing SA with this channel and number.
     fn is_live_at(&self, sci: Sci, an: u8) -> bool
         ensures { result ≡ is_live_at sci an self.now.log }
     {
         self.live && self.sci == sci && self.an.number() == an
     }
 
-    /// Makes a place for one more frame.
+    /// Reserves capacity for one more frame.
     fn reserve_place(&mut self) -> Result<(), AllocError>
         ensures same { self.new.log ≡ self.old.log }
         ensures place { OnOk result (1 ≤ self.new.spare) }
@@ -70,7 +70,7 @@ impl Deliveries {
         self.frames.reserve(1)
     }
 
-    /// Puts a frame into a place that it has.
+    /// Adds a frame, for which capacity is reserved.
     fn push(&mut self, frame: Vec<u8>)
         requires place { 1 ≤ self.old.spare }
         ensures { self.new.log ≡ log_delivering frame.items self.old.log }
@@ -78,7 +78,7 @@ impl Deliveries {
         self.frames.push(frame).unwrap();
     }
 
-    /// Closes it where it is the log of that association.
+    /// Closes this log if it belongs to the existing SA with this channel and number.
     fn close_at(&mut self, sci: Sci, an: u8)
         ensures { self.new.log ≡ log_closing (is_live_at sci an) self.old.log }
     {
@@ -87,7 +87,7 @@ impl Deliveries {
         }
     }
 
-    /// Closes it where its association is of this channel.
+    /// Closes this log if its SA belongs to this channel.
     fn close_in(&mut self, sci: Sci)
         ensures { self.new.log ≡ log_closing (λ log. same_sci log.sci sci) self.old.log }
     {
@@ -97,7 +97,7 @@ impl Deliveries {
     }
 }
 
-/// Makes a place for one more frame in each live log.
+/// Reserves capacity for one more frame in each live log.
 pub(crate) fn reserve_live(logs: &mut Vec<Deliveries>, live: &[usize]) -> Result<(), AllocError>
     requires live { live.now ≡ live_places (logs_of logs.old.items) }
     ensures same { logs_of logs.new.items ≡ logs_of logs.old.items }
@@ -109,7 +109,7 @@ pub(crate) fn reserve_live(logs: &mut Vec<Deliveries>, live: &[usize]) -> Result
     Ok(())
 }
 
-/// Is the log at this place that of the association that is now of this channel and of this number?
+/// Whether the log at this index belongs to the existing SA with this channel and number.
 fn is_live_at(logs: &[Deliveries], place: usize, sci: Sci, an: u8) -> bool
     ensures { result ≡ passes_at (is_live_at sci an) (logs_of logs.now) place }
 {
@@ -119,7 +119,7 @@ fn is_live_at(logs: &[Deliveries], place: usize, sci: Sci, an: u8) -> bool
     }
 }
 
-/// The place of the log of that association, where the table of live logs has one.
+/// The index of that SA's log, if the table of live logs has it.
 fn place_of(logs: &[Deliveries], live: &[usize], sci: Sci, an: u8) -> Option<usize>
     ensures { result ≡ find (passes_at (is_live_at sci an) (logs_of logs.now)) live.now }
 {
@@ -128,7 +128,7 @@ fn place_of(logs: &[Deliveries], live: &[usize], sci: Sci, an: u8) -> Option<usi
         .copied()
 }
 
-/// Puts a frame into the log of the association that is now of this channel and of this number.
+/// Adds a frame to the log of the existing SA with this channel and number.
 fn push_first(logs: &mut Vec<Deliveries>, live: &[usize], sci: Sci, an: u8, frame: Vec<u8>)
     requires live { live.now ≡ live_places (logs_of logs.old.items) }
     requires places { All (HasPlaceAt logs.old.items) live.now }
@@ -140,7 +140,7 @@ fn push_first(logs: &mut Vec<Deliveries>, live: &[usize], sci: Sci, an: u8, fram
     }
 }
 
-/// Puts a delivered frame into the log of its association, where it is of one.
+/// Adds a delivered frame to the log of its SA, if it has one.
 pub(crate) fn push_delivered(
     logs: &mut Vec<Deliveries>,
     live: &[usize],
@@ -157,7 +157,7 @@ pub(crate) fn push_delivered(
     }
 }
 
-/// Closes the log of the association of this channel and of this number.
+/// Closes the log of the SA with this channel and number.
 fn close_at(logs: &mut Vec<Deliveries>, live: &[usize], sci: Sci, an: u8)
     requires live { live.now ≡ live_places (logs_of logs.old.items) }
     ensures { logs_of logs.new.items ≡ map (log_closing (is_live_at sci an)) (logs_of logs.old.items) }
@@ -167,7 +167,7 @@ fn close_at(logs: &mut Vec<Deliveries>, live: &[usize], sci: Sci, an: u8)
     }
 }
 
-/// Closes the logs of the associations of this channel.
+/// Closes the logs of the SAs of this channel.
 fn close_in(logs: &mut Vec<Deliveries>, live: &[usize], sci: Sci)
     requires live { live.now ≡ live_places (logs_of logs.old.items) }
     ensures { logs_of logs.new.items ≡ map (log_closing (λ log. same_sci log.sci sci)) (logs_of logs.old.items) }
@@ -177,7 +177,7 @@ fn close_in(logs: &mut Vec<Deliveries>, live: &[usize], sci: Sci)
     }
 }
 
-/// Is the log at this place live?
+/// Whether the log at this index is live.
 fn is_live(logs: &[Deliveries], place: usize) -> bool
     ensures { result ≡ passes_at (λ log. log.live) (logs_of logs.now) place }
 {
@@ -187,14 +187,14 @@ fn is_live(logs: &[Deliveries], place: usize) -> bool
     }
 }
 
-/// Leaves out the places of logs that are no longer live.
+/// Removes the indices of logs that are no longer live from the table.
 fn leave_live(live: &mut Vec<usize>, logs: &[Deliveries])
     ensures { live.new.items ≡ filter (passes_at (λ log. log.live) (logs_of logs.now)) live.old.items }
 {
     live.retain(|place| is_live(logs, *place));
 }
 
-/// Makes a place for the log of the receive association that a command creates, if it creates one.
+/// Reserves capacity for the log of the receive SA that a command creates, if it creates one.
 pub(crate) fn reserve_log(
     logs: &mut Vec<Deliveries>,
     live: &mut Vec<usize>,
@@ -215,8 +215,7 @@ pub(crate) fn reserve_log(
     }
 }
 
-/// The logs after a command that was done: that of a new association, which has a place, and without those of
-/// deleted ones.
+/// Updates the logs after a command that was carried out: a new SA gets a log, and the logs of deleted SAs are closed.
 pub(crate) fn follow_command(
     logs: &mut Vec<Deliveries>,
     live: &mut Vec<usize>,

@@ -1,5 +1,4 @@
-//! An end: its endpoint, what its clients sent under each key, and what was delivered from each receive
-//! association.
+//! An end: its endpoint, the frames that its clients sent under each key, and those delivered from each receive SA.
 
 ghost use Rattle.std.specs.Prelude.{◌≡◌, ℕ, List, true, IfOk, None, OnErr, option_map, slice_get};
 ghost use Rattle.std.specs.Borrow.{Bor};
@@ -25,8 +24,8 @@ use std::marker::Model;
 const MOST_ADDED: usize = 32;
 
 /// An end of the link: an endpoint (SecY), and the logs of what its clients sent under each key and of what was
-/// delivered from each receive association (SA). The logs of deliveries are in the order in which the associations were
-/// created. A log is live while its association is there, and `live` has the places of the live ones.
+/// delivered from each receive SA (secure association). The logs of deliveries are in the order in which the SAs were
+/// created. A log is live while its SA exists, and `live` has the indices of the live ones.
 #[derive(Drop)]
 pub struct EndLogs {
     secy: Secy,
@@ -35,17 +34,17 @@ pub struct EndLogs {
     live: Vec<usize>,
 }
 
-/// What becomes of a client frame at an end: it departs onto the link, or it is dropped.
+/// The result for a client frame at an end: it is sent on the link, or dropped.
 #[derive(Drop)]
 pub enum Departure {
-    /// This frame leaves, under the key of this number, 0 to 4,095, or as it is.
+    /// This frame is sent, protected under the key with this number, 0 to 4,095, or unchanged.
     Link { frame: Frame, under: Option<u16> },
-    /// Nothing leaves, for this reason.
+    /// Nothing is sent, for this reason.
     Dropped(DropReason),
 }
 
-/// What becomes of a link frame that an end hears, that is receives: the verdict on it, and what is delivered at the
-/// controlled port.
+/// The result for a link frame that an end receives: the verdict on it, and the frame delivered at the controlled port,
+/// if any.
 #[derive(Drop)]
 pub struct Hearing {
     pub verdict: Verdict,
@@ -61,12 +60,12 @@ impl Model for EndLogs {
 
     ghost view = { λ e. record { state = e.secy; sent = sent_logs_of e.sent; delivered = logs_of e.delivered.items } };
 
-    // Its endpoint is sound, each receive association has its live log, and the table has the places of these logs.
+    // The endpoint is sound, each receive SA has its live log, and the table has the indices of these logs.
     ghost invariant = { λ e. IsKeptEnd (record { state = e.secy; sent = sent_logs_of e.sent; delivered = logs_of e.delivered.items }) e.live.items };
 }
 
 impl EndLogs {
-    /// A new end, or the fault of its configuration, or `Memory`.
+    /// Creates an end, or returns the fault of its configuration, or `Memory`.
     pub fn new(alloc: Global, config: EndConfig) -> Result<EndLogs, NewFault>
         ensures made { MakesEnd config result }
         ensures sound { IfOk result IsSoundEnd }
@@ -80,8 +79,8 @@ impl EndLogs {
         })
     }
 
-    /// Carries out a management command, or refuses it. If it creates a receive association, a place for its log is
-    /// reserved first: an end that is out of memory stays as it is.
+    /// Carries out a management command, or refuses it. If the command creates a receive SA, capacity for its log is
+    /// reserved first: an end that is out of memory stays unchanged.
     pub fn command(
         &mut self,
         alloc: Global,
@@ -102,8 +101,8 @@ impl EndLogs {
         }
     }
 
-    /// Sends a client frame of the controlled port. A place for all that it adds is reserved first: an end that
-    /// is out of memory stays as it is.
+    /// Sends a client frame from the controlled port. The memory for all that it adds is reserved first: an end that is
+    /// out of memory stays unchanged.
     pub fn send(&mut self, alloc: Global, frame: &[u8]) -> Result<Departure, AllocError>
         requires fits { frame_fault frame.now ≡ None }
         ensures happens { IfOk result (λ d. EndHappens self.old (client_frame frame.now) (output_of_departure d) self.new) }
@@ -111,7 +110,7 @@ impl EndLogs {
         ensures unchanged { OnErr result (self.new ≡ self.old) }
         ensures sound { IsSoundEnd self.new }
     {
-        // Laws that the proof cites.
+        // The proof cites these laws.
         lengths_of_frames();
         lengths_of_protected_frames();
         let _count = self.delivered.len();
@@ -147,16 +146,15 @@ impl EndLogs {
         }
     }
 
-    /// Receives a link frame: the verdict, and what is delivered of it at the controlled port, which goes into
-    /// the log of its association too. A place for both is reserved first: an end that is out of memory stays as
-    /// it is.
+    /// Receives a link frame. Returns the verdict and the frame delivered at the controlled port, which is also added
+    /// to the log of its SA. The memory for both is reserved first: an end that is out of memory stays unchanged.
     pub fn receive(&mut self, alloc: Global, frame: &[u8]) -> Result<Hearing, AllocError>
         requires fits { frame_fault frame.now ≡ None }
         ensures happens { IfOk result (λ h. HasHeard self.old frame.now h self.new) }
         ensures unchanged { OnErr result (self.new ≡ self.old) }
         ensures sound { IsSoundEnd self.new }
     {
-        // A law that the proof cites.
+        // The proof cites this law.
         lengths_of_frames();
         let _count = self.delivered.len();
         let mut copy = Vec::with_capacity(alloc, frame.len())?;
@@ -198,22 +196,21 @@ impl EndLogs {
         }
     }
 
-    /// The endpoint (SecY) whose logs these are.
+    /// The endpoint (SecY) of these logs.
     pub fn secy(&self) -> &Secy
         ensures { result.now ≡ self.now.state }
     {
         &self.secy
     }
 
-    /// The client frames that were protected under the key of this number, in their order.
+    /// The client frames that were protected under the key with this number, in order.
     pub fn sent(&self, key: KeyNumber) -> &[Vec<u8>]
         ensures { frames_kept result.now ≡ sent_under self.now.sent key }
     {
         self.sent.frames(key.number())
     }
 
-    /// The frames delivered from the receive association of this number, from 0 in the order of creation, in
-    /// their order.
+    /// The frames delivered from the receive SA with this index, from 0 in the order of creation of the SAs, in order.
     pub fn delivered(&self, number: usize) -> Option<&[Vec<u8>]>
         ensures { option_map (λ (fs : Bor (List (Vec ℕ))). frames_kept fs.now) result ≡ option_map (λ (log : DeliveryLog). log.frames) (slice_get self.now.delivered number) }
     {

@@ -1,4 +1,4 @@
-//! What an end's clients sent under each key.
+//! The frames that an end's clients sent under each key.
 
 ghost use Rattle.std.specs.Prelude.{◌≡◌, ◌<◌, ◌≤◌, ◌==◌, ℕ, [], OnOk, option_map, position};
 ghost use Rattle.macsec_tx.specs.Transmit.{tx_row};
@@ -10,10 +10,10 @@ use std::alloc::{AllocError, Global};
 use std::marker::Model;
 use std::mem;
 
-/// The association numbers of a transmit channel.
+/// The number of association numbers of a transmit channel.
 const AN_COUNT: u8 = 4;
 
-/// What was sent under a key: the key's number, and the frames.
+/// The log of a key: the key's number, and the frames sent under it.
 #[derive(Drop)]
 struct SentFrames {
     key: u16,
@@ -33,21 +33,21 @@ impl Model for SentFrames {
 }
 
 impl SentFrames {
-    /// The frames, in their order.
+    /// The frames, in order.
     fn frames(&self) -> &[Vec<u8>]
         ensures { frames_kept result.now ≡ self.now.log.frames }
     {
         self.frames.as_slice()
     }
 
-    /// Were they sent under the key of this number?
+    /// Whether this is the log of the key with this number.
     fn is_under(&self, key: u16) -> bool
         ensures { result ≡ (self.now.log.key == key) }
     {
         self.key == key
     }
 
-    /// Makes a place for one more frame.
+    /// Reserves capacity for one more frame.
     fn reserve_place(&mut self) -> Result<(), AllocError>
         ensures same { self.new.log ≡ self.old.log }
         ensures kept { self.old.spare ≤ self.new.spare }
@@ -56,7 +56,7 @@ impl SentFrames {
         self.frames.reserve(1)
     }
 
-    /// Puts a frame into a place that it has.
+    /// Adds a frame, for which capacity is reserved.
     fn push(&mut self, frame: Vec<u8>)
         requires place { 1 ≤ self.old.spare }
         ensures { self.new.log ≡ log_sending frame.items self.old.log }
@@ -65,14 +65,14 @@ impl SentFrames {
     }
 }
 
-/// The place of the log of the key of this number, where there is one.
+/// The index of the log of the key with this number, if it exists.
 fn place_of(logs: &[SentFrames], key: u16) -> Option<usize>
     ensures { result ≡ position (λ k. k.log.key == key) logs.now }
 {
     logs.iter().position(|log| log.is_under(key))
 }
 
-/// The number of the key of the transmit association of this number, where there is one.
+/// The number of the key of the transmit SA with this number, if the SA exists.
 fn tx_key(secy: &Secy, number: u8) -> Option<u16>
     requires there { number < 4 }
     ensures { result ≡ option_map (λ row. row.key) (tx_row secy.now.tx number) }
@@ -82,8 +82,8 @@ fn tx_key(secy: &Secy, number: u8) -> Option<u16>
     Some(row.key.number())
 }
 
-/// A log for each key under which a frame was sent, in the order of first use; and the place of the first frame of the
-/// log that comes next.
+/// A log for each key under which a frame was sent, in the order of first use; and reserved capacity for the first
+/// frame of the next log.
 #[derive(Drop)]
 pub(crate) struct SentLogs {
     logs: Vec<SentFrames>,
@@ -101,12 +101,12 @@ impl Model for SentLogs {
       spare = min (vec_capacity s.logs - vec_len s.logs) (vec_capacity s.next - vec_len s.next);
     } };
 
-    // No frame is in the next log yet.
+    // The next log has no frame yet.
     ghost invariant = { λ s. s.next.items ≡ [] };
 }
 
 impl SentLogs {
-    /// Nothing was sent.
+    /// Creates empty logs.
     pub(crate) fn new(alloc: Global) -> SentLogs
         ensures { sent_logs_of result ≡ [] }
     {
@@ -116,7 +116,7 @@ impl SentLogs {
         }
     }
 
-    /// The frames under the key of this number, in their order.
+    /// The frames under the key with this number, in order.
     pub(crate) fn frames(&self, key: u16) -> &[Vec<u8>]
         ensures { frames_kept result.now ≡ sent_under (sent_logs_of self.now) key }
     {
@@ -126,7 +126,7 @@ impl SentLogs {
         }
     }
 
-    /// Makes a place for one more frame under this key: in its log, or, if there is none, in a new one.
+    /// Reserves capacity for one more frame under this key: in its log, or in a new one if it has none.
     fn reserve_under(&mut self, key: u16) -> Result<(), AllocError>
         ensures same { sent_logs_of self.new ≡ sent_logs_of self.old }
         ensures place { OnOk result (HasPlace self.new key) }
@@ -141,7 +141,7 @@ impl SentLogs {
         }
     }
 
-    /// Makes a place for one more frame under the key of each transmit association.
+    /// Reserves capacity for one more frame under the key of each transmit SA.
     pub(crate) fn reserve_places(&mut self, secy: &Secy) -> Result<(), AllocError>
         ensures same { sent_logs_of self.new ≡ sent_logs_of self.old }
         ensures places { OnOk result (HavePlaces secy.now.tx self.new) }
@@ -154,7 +154,7 @@ impl SentLogs {
         Ok(())
     }
 
-    /// Puts a frame under this key into a place that there is.
+    /// Adds a frame under this key, for which capacity is reserved.
     pub(crate) fn push(&mut self, alloc: Global, key: u16, frame: Vec<u8>)
         requires place { HasPlace self.old key }
         ensures { sent_logs_of self.new ≡ logs_sending key frame.items (sent_logs_of self.old) }

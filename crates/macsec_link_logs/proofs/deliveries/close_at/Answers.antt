@@ -1,5 +1,5 @@
--- Once the logs at the places that are left are closed where they are the association's, all are (the invariant); at
--- first these are all places of the table.
+-- The invariant: closing the SA's logs at the remaining indices closes all of them. At first all indices of the table
+-- remain.
 use Rattle.std.proofs.Common.{◌∙◌, ℕ, List, ap, arith, get_or, length-set, map, refl}
 use Rattle.macsec_link_logs.specs.Logs.{is_live_at, log_closing}
 use Rattle.macsec_link_logs.specs.Places.{logs_of}

@@ -4,7 +4,7 @@ use Rattle.macsec_link_logs.specs.Places.{logs_of}
 use Rattle.macsec_link_logs.proofs.LiveTable.{with_each}
 use Rattle.macsec_link_logs.proofs.deliveries.close_at.Given as goal
 
--- once the logs at the places that are left are closed where that holds, all are
+-- closing the SA's logs at the remaining indices closes all of them
 abbrev pub invariant-loop-place : goal.invariant-loop-place
 invariant-loop-place l =
     let change = log_closing (is_live_at l.sci l.an) in

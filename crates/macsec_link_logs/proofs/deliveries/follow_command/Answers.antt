@@ -1,5 +1,5 @@
--- The logs after a command, and the table of the live ones after it: one more log, or those at the table's places closed
--- and the closed ones left out of the table.
+-- The logs after a command, and the table of the live ones: one more log; or logs at the table's indices are closed and
+-- removed from the table.
 use Rattle.std.proofs.Common.{◌∙◌, List, ap, arith, filter, map, rules}
 use Rattle.macsec_rx.specs.Channels.{same_sci}
 use Rattle.macsec_link_logs.specs.Logs.{DeliveryLog, is_live_at, log_closing}

@@ -1,4 +1,4 @@
--- By whether the frame is of an association.
+-- Two cases: the frame has an SA, or none.
 use Rattle.std.proofs.Common.{rules}
 use Rattle.macsec_link_logs.proofs.deliveries.push_delivered.Goals as goal
 

@@ -1,4 +1,4 @@
--- The log that the table's search finds is the first live one of the association, and it has a place for the frame.
+-- The search in the table finds the first live log of the SA, which has capacity for the frame.
 use Rattle.std.proofs.Common.{arith}
 use Rattle.macsec_link_logs.specs.Logs.{log_delivering}
 use Rattle.macsec_link_logs.proofs.LiveTable.{changed_at, changed_nowhere, has_place, inside}

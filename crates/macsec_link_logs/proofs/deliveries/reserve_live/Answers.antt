@@ -1,4 +1,4 @@
--- No frame of a log changes, and each log at a place before the index has room for a frame.
+-- No frame of a log changes, and each log that the loop has visited has capacity for a frame.
 use Rattle.std.proofs.Common.{◌∙◌, All, arith, get_or, length-set, subst}
 use Rattle.std.proofs.lemmas.List.{take_all}
 use Rattle.macsec_link_logs.specs.Places.{HasPlaceAt}

@@ -2,7 +2,7 @@ use Rattle.std.proofs.Common.{◌≡◌, All, length, take}
 use Rattle.macsec_link_logs.specs.Places.{HasPlaceAt, logs_of}
 use Rattle.macsec_link_logs.proofs.deliveries.reserve_live.Given as goal
 
--- no log has other frames, there are as many logs, and each at a place before the index has room for a frame
+-- the logs have the same frames and count, and each log that the loop has visited has capacity for a frame
 abbrev pub invariant-loop-place : goal.invariant-loop-place
 invariant-loop-place l =
     (logs_of l.logs.items ≡ logs_of l.initial.logs.items) ×

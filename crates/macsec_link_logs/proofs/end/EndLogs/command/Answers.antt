@@ -1,5 +1,5 @@
--- A command at an end is one step of the machine, done or refused. `follow_command` leaves the logs and their table as
--- the machine has them; what holds of an end goes on by `sound_after`.
+-- A command at an end is one step of the machine, carried out or refused. `follow_command` updates the logs and their
+-- table as the machine does; the end stays sound by `sound_after`.
 use Rattle.std.proofs.Common.{◌≡◌, ◌∙◌, ap, rules, subst, sym}
 use Rattle.macsec_secy.specs.Step.{done, operator_command, refused, step}
 use Rattle.macsec_link_logs.specs.contracts.end.EndLogs.{the_view}

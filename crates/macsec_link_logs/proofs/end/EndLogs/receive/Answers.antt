@@ -1,5 +1,5 @@
--- An end that receives is one step of the machine, and a delivered frame is in its log: what the endpoint answered is the
--- machine's output, the room reserved is large enough for it, and the table of live logs is as it was.
+-- Receiving is one step of the machine, and a delivered frame is in its log. The endpoint's result is the machine's
+-- output, the reserved capacity is large enough for it, and the table of live logs is unchanged.
 use Rattle.std.proofs.Common.{◌≡◌, ◌∙◌, ℕ, List, ap, arith, rules, subst, sym}
 use Rattle.std.specs.Prelude.{Some, None}
 use Rattle.macsec_secy.specs.Sound.{IsSound}

@@ -1,5 +1,5 @@
--- An end that sends is one step of the machine, for each of its answers: a protected frame, one that leaves as it is, a
--- dropped one. The places and the room reserved before are large enough, by the laws on the lengths of frames.
+-- Sending is one step of the machine, for each result: a protected frame, an unprotected one, a dropped one. The
+-- reserved capacity and buffer are large enough, by the laws of frame lengths.
 use Rattle.std.proofs.Common.{◌≡◌, ◌∙◌, ℕ, List, ap, arith, length, rules, subst, sym}
 use Rattle.std.specs.Prelude.{Some, None}
 use Rattle.macsec_secy.specs.Answers.{drop_output}

@@ -1,4 +1,4 @@
--- The frames sent under a key: those of its log where it has one, else none.
+-- The frames sent under a key are those in its log, or none if it has no log.
 use Rattle.std.proofs.Common.{◌∙◌, ap, sym}
 use Rattle.std.specs.Prelude.{Some, None}
 use Rattle.macsec_link_logs.specs.Kept.{KeptSentLog, KeptSentLogs, sent_logs_of}

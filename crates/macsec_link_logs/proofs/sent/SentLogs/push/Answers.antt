@@ -1,4 +1,5 @@
--- A frame goes into the log of its key, or begins it. The place that the `requires` tells of makes each `push` succeed.
+-- A frame is added to the log of its key, or starts it. By the `requires`, capacity is reserved, so each `push`
+-- succeeds.
 use Rattle.std.proofs.Common.{◌∙◌, ap, arith, refl}
 use Rattle.std.specs.Prelude.{Some, None}
 use Rattle.macsec_link_logs.specs.contracts.sent.SentLogs.{the_view}

@@ -1,5 +1,5 @@
--- A place for one more frame under a key: in its log, or in the one that comes next. The logs stay the same, and no other
--- key loses its place.
+-- Capacity for one more frame under a key: in its log, or in the next one. The logs stay the same, and no other key
+-- loses capacity.
 use Rattle.std.proofs.Common.{◌∙◌, ◌≤◌, List, ap, arith, subst, sym}
 use Rattle.std.specs.Prelude.{Some, None}
 use Rattle.macsec_link_logs.specs.contracts.sent.SentLogs.{the_view}
