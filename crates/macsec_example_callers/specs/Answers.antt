@@ -1,4 +1,4 @@
--- What the callers return, of the machine's outputs.
+-- The results of the callers, from the outputs of the machine.
 use Rattle.std.specs.Prelude.{ℕ, length, Bool, true, false, Option, Some, None, Result, Ok, Err}
 use Rattle.macsec_tag.specs.declared.identifiers.Sci.{Sci}
 use Rattle.macsec_tag.specs.Table.{Reading, untagged, bad, tagged}
@@ -32,7 +32,7 @@ is_passed Delayed = false
 is_passed Invalid = false
 is_passed Passed = true
 
--- a received frame was found valid and not late, or has a fault
+-- whether a received frame was found valid and not late, or its fault
 abbrev pub passes : Output → Result Bool FrameFault
 passes done = Ok false
 passes (refused r) = Ok false

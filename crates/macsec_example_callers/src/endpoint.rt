@@ -1,4 +1,4 @@
-//! Creates an endpoint, gives it a key and associations, sends, receives, and shows its counters.
+//! Creates an endpoint, gives it a key and SAs, sends, receives, and reads its counters.
 
 ghost use Rattle.std.specs.Prelude.{◌≡◌, IfOk, option_map};
 ghost use Rattle.macsec_secy.specs.Answers.{rx_counters_of};
@@ -32,7 +32,7 @@ pub fn key_number() -> KeyNumber
     KeyNumber::new(0).unwrap()
 }
 
-/// A key of GCM-AES-128, of number 0, with the confidentiality offset 0.
+/// A key for GCM-AES-128, with number 0 and confidentiality offset 0.
 pub fn key_of(bytes: [u8; 16]) -> NewKey
     ensures { result ≡ key_of bytes }
 {
@@ -53,7 +53,7 @@ pub fn association_number() -> An
     An::new(0).unwrap()
 }
 
-/// An endpoint of an SCI that protects client frames under a key, encrypted, from packet number 1 on.
+/// An endpoint with this SCI that protects client frames under a key, encrypted, from packet number 1 on.
 pub fn sender(alloc: Global, sci: Sci, bytes: [u8; 16]) -> Result<Secy, SetupFault>
     ensures ready { IfOk result (λ s. s ≡ ready_sender sci bytes) }
     ensures sound { IfOk result IsSound }
@@ -79,8 +79,8 @@ pub fn sender(alloc: Global, sci: Sci, bytes: [u8; 16]) -> Result<Secy, SetupFau
     Ok(secy)
 }
 
-/// An endpoint of an SCI that receives what that sender sends, in the mode Strict and at a replay window of 0,
-/// which are the first values of these options.
+/// An endpoint with this SCI that receives what that sender sends, in the mode Strict with a replay window of 0. These
+/// are the initial values of the options.
 pub fn receiver(alloc: Global, sci: Sci, sender: Sci, bytes: [u8; 16]) -> Result<Secy, SetupFault>
     ensures ready { IfOk result (λ s. s ≡ ready_receiver sci sender bytes) }
     ensures sound { IfOk result IsSound }
@@ -108,20 +108,20 @@ pub fn receiver(alloc: Global, sci: Sci, sender: Sci, bytes: [u8; 16]) -> Result
     Ok(secy)
 }
 
-/// The number of octets sent to the link for a client frame: none if it is dropped.
+/// The number of octets sent to the link for a client frame: 0 if it is dropped.
 pub fn octets_sent(secy: &mut Secy, frame: &[u8]) -> Result<usize, FrameFault>
     ensures octets { result ≡ octets_leaving (step secy.old (client_frame frame.now)).0 }
     ensures after { secy.new ≡ (step secy.old (client_frame frame.now)).1 }
 {
     match secy.send(frame)? {
-        // `under` is the key number, or `None` if the frame is sent as it is.
+        // `under` is the key number, or `None` if the frame is sent unprotected.
         Sent::Link { frame, under: _ } => Ok(frame.len()),
-        // A counter has counted the drop: no association can send, or the frame would be too long.
+        // A counter has counted the drop: no SA can send, or the frame would be too long.
         Sent::Dropped(_) => Ok(0),
     }
 }
 
-/// Was a link frame found valid and not late, and so delivered?
+/// Whether a link frame was found valid and not late, and so delivered.
 pub fn is_passed(secy: &mut Secy, frame: &[u8]) -> Result<bool, FrameFault>
     ensures passed { result ≡ passes (step secy.old (link_frame frame.now)).0 }
     ensures after { secy.new ≡ (step secy.old (link_frame frame.now)).1 }
@@ -131,7 +131,7 @@ pub fn is_passed(secy: &mut Secy, frame: &[u8]) -> Result<bool, FrameFault>
     Ok(received.verdict == Verdict::Passed)
 }
 
-/// The number of frames of a sender that were found valid and not late; `None` if it has no channel.
+/// The number of frames from a sender that were found valid and not late; `None` if it has no receive channel.
 pub fn passed_count(secy: &Secy, sender: Sci) -> Option<u64>
     ensures { result ≡ option_map (λ counters. counters.in_pkts_ok) (rx_counters_of secy.now.rx_counters sender) }
 {

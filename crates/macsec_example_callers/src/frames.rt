@@ -1,4 +1,4 @@
-//! The reader of frames alone (IEEE 802.1AE, clause 9).
+//! The reader of frames without an endpoint (IEEE 802.1AE, clause 9).
 
 ghost use Rattle.std.specs.Prelude.{◌≡◌};
 ghost use Rattle.macsec_tag.specs.Table.{reading};

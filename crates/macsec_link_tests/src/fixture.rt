@@ -9,7 +9,7 @@ use std::alloc::Global;
 use std::process::Abort;
 use std::test::Fail;
 
-/// End A, whose SCI is that of the test frames.
+/// End A, which has the SCI of the test frames.
 pub const A: EndConfig = EndConfig {
     suite: Suite::Gcm128,
     sci: Sci(SCI),
@@ -39,7 +39,7 @@ pub fn key_number(number: u8) -> KeyNumber {
     KeyNumber::new(u16::from(number)).unwrap()
 }
 
-/// A key of 128 bits is installed: that of the test frames, but for its last octet.
+/// Installs a key of 128 bits: the test frames' key with another last octet.
 pub fn key(number: u8, ssci: u32) -> Command {
     let mut bytes = KEY_128;
     bytes[15] ^= number;
@@ -53,7 +53,7 @@ pub fn key(number: u8, ssci: u32) -> Command {
     })
 }
 
-/// A transmit association is created, whose first packet number is 1.
+/// Creates a transmit SA whose first packet number is 1.
 pub fn tx_sa(an: An, key: u8, conf: bool) -> Command {
     Command::TxSa {
         an,
@@ -63,7 +63,7 @@ pub fn tx_sa(an: An, key: u8, conf: bool) -> Command {
     }
 }
 
-/// A receive association of frames from A is created, whose lowest acceptable packet number is 1.
+/// Creates a receive SA for frames from A, whose lowest acceptable packet number is 1.
 pub fn rx_sa(an: An, key: u8, ssci: u32) -> Command {
     Command::RxSa {
         sci: A.sci,
@@ -74,7 +74,7 @@ pub fn rx_sa(an: An, key: u8, ssci: u32) -> Command {
     }
 }
 
-/// A client frame of 14 octets, of which this is the last.
+/// A client frame of 14 octets with this last octet.
 pub fn client(last: u8) -> [u8; 14] {
     [
         0xff, 0xff, 0xff, 0xff, 0xff, 0xff, 2, 0, 0, 0, 0, 1, 8, last,
@@ -86,12 +86,12 @@ pub fn frame(alloc: Global, octets: &[u8]) -> Result<Frame, Fail> {
     Ok(Frame::new(octets.to_vec(alloc)?))
 }
 
-/// Two ends of these configurations.
+/// Two ends with these configurations.
 pub fn world_of(alloc: Global, a: EndConfig, b: EndConfig) -> Result<World, WorldFault> {
     World::new(alloc, a, b)
 }
 
-/// What comes of a run.
+/// The result of a run.
 pub fn run_of(
     alloc: Global,
     a: EndConfig,
@@ -101,23 +101,23 @@ pub fn run_of(
     World::run(alloc, a, b, events)
 }
 
-/// What comes of an event.
+/// The result of an event.
 pub fn result_of(world: &mut World, event: &Event) -> Result<Outcome, WorldFault> {
     world.step(event)
 }
 
-/// Is the link frame of this number created?
+/// Whether the link frame with this number was created.
 pub fn is_made(got: &Result<Outcome, WorldFault>, n: u32) -> bool {
     matches!(got, Ok(Outcome::Made(made)) if *made == n)
 }
 
-/// An event happens, by which the link frame of this number is created.
+/// Carries out an event, which must create the link frame with this number.
 pub fn make(rt: &impl Abort, world: &mut World, event: &Event, n: u32) {
     let got = result_of(world, event);
     assert!(rt; is_made(&got, n));
 }
 
-/// A client of A sends a frame with this last octet, which is the link frame of this number.
+/// A client of A sends a frame with this last octet, which becomes the link frame with this number.
 pub fn send(
     rt: &impl Abort,
     alloc: Global,
@@ -130,13 +130,13 @@ pub fn send(
     Ok(())
 }
 
-/// A command is carried out.
+/// Carries out a command, which the end must accept.
 fn carry_out(rt: &impl Abort, world: &mut World, end: End, command: Command) {
     let got = result_of(world, &Event::Command(end, command));
     assert!(rt; matches!(&got, Ok(Outcome::Done)));
 }
 
-/// An association between two ends, from A to B.
+/// Creates an SA between two ends, from A to B.
 fn associate(rt: &impl Abort, world: &mut World, conf: bool) {
     let an = an(rt, 0);
     for (end, command) in [
@@ -152,8 +152,8 @@ fn associate(rt: &impl Abort, world: &mut World, conf: bool) {
     }
 }
 
-/// Two ends with an association between them, from A to B. The receiver is in Strict with a replay window of 0, as
-/// every endpoint is at first.
+/// Two ends with an SA between them, from A to B. The receiver is in the mode Strict with a replay window of 0, like
+/// every new endpoint.
 pub fn associated(rt: &impl Abort, alloc: Global, protection: Protection) -> Result<World, Fail> {
     let Protection { suite, conf } = protection;
     let mut world = world_of(alloc, EndConfig { suite, ..A }, EndConfig { suite, ..B })?;
@@ -161,7 +161,7 @@ pub fn associated(rt: &impl Abort, alloc: Global, protection: Protection) -> Res
     Ok(world)
 }
 
-/// The verdict of the receiver on a link frame, and whether it delivered one.
+/// The receiver's verdict on a link frame, and whether it delivered a frame.
 pub fn verdict_on(rt: &impl Abort, world: &mut World, n: u32) -> Result<(Verdict, bool), Fail> {
     match result_of(world, &Event::Deliver(End::B, n))? {
         Outcome::Heard {

@@ -1,4 +1,4 @@
-//! Ten frames over a link that repeats them, turns their order round and alters them.
+//! Ten frames over a link that repeats, reverses and alters them.
 
 use crate::fixture::{Protection, associated, client, key_number, result_of, send, verdict_on};
 use macsec_link::{End, Event, Outcome, Suite, Verdict, World};
@@ -6,24 +6,24 @@ use std::alloc::Global;
 use std::process::Abort;
 use std::test::Fail;
 
-/// How many frames are sent, and how many octets each has on the link: 12 of addresses, 16 of SecTAG, 2 of data, 16 of
-/// ICV.
+/// How many frames are sent, and the length of each on the link in octets: 12 of addresses, 16 of SecTAG, 2 of data, 16
+/// of ICV.
 const FRAMES: u32 = 10;
 
 const LINK_LEN: u32 = 46;
 
-/// What the link does with the frames, from the first to the last or the other way round.
+/// What the link does with the frames.
 #[derive(Clone, Copy)]
 enum Way {
-    /// Each one is delivered twice.
+    /// Each frame is delivered twice.
     Twice,
-    /// Each one is delivered, the last one first.
+    /// Each frame is delivered, the last one first.
     Reversed,
-    /// Each one is delivered with one of its bits turned, for each bit of each octet.
+    /// Each frame is delivered with one bit flipped, for each bit of each octet.
     Altered,
 }
 
-/// The frames are sent, and are the first ones on the link.
+/// Sends the frames, which are the first ones on the link.
 fn send_all(rt: &impl Abort, alloc: Global, world: &mut World) -> Result<(), Fail> {
     for last in 0..10 {
         send(rt, alloc, world, last, u32::from(last))?;
@@ -31,7 +31,7 @@ fn send_all(rt: &impl Abort, alloc: Global, world: &mut World) -> Result<(), Fai
     Ok(())
 }
 
-/// The number of a new link frame: that of this number, with this octet at this place.
+/// The number of a new link frame: a copy of the one with this number, with this octet at this index.
 fn altered(rt: &impl Abort, world: &mut World, n: u32, place: u32, octet: u8) -> Result<u32, Fail> {
     let Outcome::Made(altered) = result_of(world, &Event::Alter(n, place, octet))? else {
         panic!(rt; "no frame is altered");
@@ -47,7 +47,7 @@ fn packet_number(world: &World, n: u32) -> Option<u32> {
     }
 }
 
-/// The verdict on a frame of the association whose ICV is wrong, by its packet number and the lowest acceptable one.
+/// The verdict on a frame of the SA whose ICV is wrong, by its packet number and the lowest acceptable one.
 fn of_number(number: u32, lowest: u32) -> Verdict {
     if number == 0 {
         Verdict::BadTag
@@ -58,10 +58,10 @@ fn of_number(number: u32, lowest: u32) -> Verdict {
     }
 }
 
-/// The verdict on a frame with one bit turned at a place, by the packet number that it then has. In the octet of TCI
-/// and AN, V, and ES or SCB beside SC, are BadTag; E without C is Reserved; another AN is that of no association;
-/// without SC the SCI is that of the only channel. Each other SL than 2 is of more data than the frame has, another
-/// SCI is of no channel.
+/// The verdict on a frame with one bit flipped in the octet at this index, by the packet number that it then has. In
+/// the octet of TCI and AN: V, and ES or SCB together with SC, give BadTag; E without C gives Reserved; another AN has
+/// no SA; without SC the SCI is the only channel's. Any SL other than 2 means more data than the frame has. Another SCI
+/// belongs to no channel.
 fn wanted(place: u32, bit: u8, conf: bool, number: u32, lowest: u32) -> Verdict {
     match (place, bit, conf) {
         (12..14, _, _) => Verdict::NoTag,
@@ -74,8 +74,8 @@ fn wanted(place: u32, bit: u8, conf: bool, number: u32, lowest: u32) -> Verdict 
     }
 }
 
-/// A link frame comes to the receiver eight times, each time with another bit of this octet turned. It is not
-/// delivered, for the reason that is wanted.
+/// Delivers a link frame to the receiver eight times, each time with another bit of this octet flipped. No client frame
+/// is delivered, and the verdict is the expected one.
 fn deliver_altered(
     rt: &impl Abort,
     world: &mut World,
@@ -103,7 +103,7 @@ fn octet_at(world: &World, n: u32, place: u32) -> Option<u8> {
     world.frame(n)?.get(place as usize).copied()
 }
 
-/// The link brings the frames in one way to a receiver with this lowest acceptable packet number.
+/// The link delivers the frames in one way to a receiver with this lowest acceptable packet number.
 fn bring(
     rt: &impl Abort,
     world: &mut World,
@@ -130,7 +130,7 @@ fn bring(
     Ok(())
 }
 
-/// The link brings the frames in these ways, one after another. The packet number of the last frame is 10: once it has
+/// The link delivers the frames in these ways, one after another. The last frame has packet number 10: after it has
 /// passed, the lowest acceptable one is 11.
 fn bring_all(rt: &impl Abort, world: &mut World, conf: bool, ways: &[Way]) -> Result<(), Fail> {
     let mut lowest = 1;
@@ -143,7 +143,7 @@ fn bring_all(rt: &impl Abort, world: &mut World, conf: bool, ways: &[Way]) -> Re
     Ok(())
 }
 
-/// Are these frames among those, in the same order?
+/// Whether the frames of `part` are among those of `whole`, in the same order.
 fn is_subsequence(part: &[Vec<u8>], whole: &[Vec<u8>]) -> bool {
     let mut found = 0;
     for frame in whole {
@@ -154,14 +154,14 @@ fn is_subsequence(part: &[Vec<u8>], whole: &[Vec<u8>]) -> bool {
     found == part.len()
 }
 
-/// Are these the client frames with these last octets?
+/// Whether these are the client frames with these last octets.
 fn are_clients(frames: &[Vec<u8>], lasts: &[u8]) -> bool {
     frames.len() == lasts.len()
         && frames.iter().zip(lasts).all(|(frame, last)| frame.as_slice()
             == client(*last).as_slice())
 }
 
-/// All frames were sent, and those with these last octets delivered, in the order of sending.
+/// All frames were sent, and the ones with these last octets delivered, in the order of sending.
 fn assert_delivered(rt: &impl Abort, world: &World, lasts: &[u8]) {
     let sent = world.sent(End::A, key_number(0));
     let delivered = world.delivered(End::B, 0).expect(rt, "an association");
@@ -170,7 +170,8 @@ fn assert_delivered(rt: &impl Abort, world: &World, lasts: &[u8]) {
     assert!(rt; is_subsequence(delivered, sent));
 }
 
-/// Of frames that were sent and brought in these ways, those with these last octets are delivered.
+/// After the frames were sent and delivered in these ways, the client frames with these last octets have been
+/// delivered.
 fn check_ways(
     rt: &impl Abort,
     alloc: Global,
@@ -182,7 +183,7 @@ fn check_ways(
     check_over(rt, alloc, &mut world, protection.conf, ways, lasts)
 }
 
-/// So it is over this association.
+/// The same, over the SA of this world.
 fn check_over(
     rt: &impl Abort,
     alloc: Global,
@@ -197,13 +198,13 @@ fn check_over(
     Ok(())
 }
 
-/// Frames that are authenticated only.
+/// Frames that are only authenticated.
 const AUTHENTICATED: Protection = Protection {
     suite: Suite::Gcm128,
     conf: false,
 };
 
-/// Encrypted frames under extended packet numbers.
+/// Encrypted frames with extended packet numbers.
 const ENCRYPTED: Protection = Protection {
     suite: Suite::Xpn128,
     conf: true,
@@ -212,7 +213,7 @@ const ENCRYPTED: Protection = Protection {
 /// The last octets of all frames.
 const ALL: [u8; 10] = [0, 1, 2, 3, 4, 5, 6, 7, 8, 9];
 
-/// If they come in order, all frames are delivered, each once.
+/// If the frames arrive in order, all are delivered, each once.
 #[test]
 fn ten_frames_in_order(rt: HostRuntime) -> Result<(), Fail> {
     let alloc = rt.alloc();
@@ -222,7 +223,7 @@ fn ten_frames_in_order(rt: HostRuntime) -> Result<(), Fail> {
     check_ways(&rt, alloc, AUTHENTICATED, &ways, &ALL)
 }
 
-/// If the last one comes first, it alone is delivered; and if all that comes is altered, none is.
+/// If the last frame arrives first, only that one is delivered; if every frame is altered, none is.
 #[test]
 fn ten_frames_in_reverse(rt: HostRuntime) -> Result<(), Fail> {
     let alloc = rt.alloc();
@@ -233,7 +234,7 @@ fn ten_frames_in_reverse(rt: HostRuntime) -> Result<(), Fail> {
     check_ways(&rt, alloc, AUTHENTICATED, &[Way::Altered], &[])
 }
 
-/// So it is with encrypted frames.
+/// The same with encrypted frames.
 #[test]
 fn ten_encrypted_frames(rt: HostRuntime) -> Result<(), Fail> {
     let alloc = rt.alloc();

@@ -1,5 +1,6 @@
-//! Tests of two ends over a link: what no clause of `macsec_link` says and no script shows, that worlds, steps and runs
-//! don't return `Memory` if there is memory, a full link, the logs, and a hostile link that alters each bit of a frame.
+//! Tests of two ends over a link. They test what no clause of `macsec_link` states and no script shows: that worlds,
+//! steps and runs do not return `Memory` if there is memory; a full link; the logs; and a hostile link that alters each
+//! bit of a frame.
 #![tactic(auto)]
 
 #[cfg(test)]

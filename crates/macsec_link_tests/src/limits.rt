@@ -12,12 +12,12 @@ use std::alloc::Global;
 use std::process::Abort;
 use std::test::Fail;
 
-/// The fault of a world of these ends.
+/// The fault of creating a world with these ends.
 fn fault_of_new(alloc: Global, a: EndConfig, b: EndConfig) -> Option<WorldFault> {
     world_of(alloc, a, b).err()
 }
 
-/// The fault of a run of these ends without an event.
+/// The fault of a run with these ends and no events.
 fn fault_of_run(alloc: Global, a: EndConfig, b: EndConfig) -> Option<WorldFault> {
     run_of(alloc, a, b, &[]).err()
 }
@@ -42,14 +42,14 @@ fn creations(rt: HostRuntime) {
     }
 }
 
-/// A frame of one octet is put on the link, and has this number.
+/// Puts a frame of one octet on the link, where it gets this number.
 fn inject(rt: &impl Abort, alloc: Global, world: &mut World, n: u32) -> Result<(), Fail> {
     let event = Event::Inject(frame(alloc, &[0])?);
     make(rt, world, &event, n);
     Ok(())
 }
 
-/// A frame passes over the association, and the link then has 65,536 frames: that one, and 65,535 of one octet.
+/// Sends a frame over the SA and delivers it, then fills the link to 65,536 frames with 65,535 frames of one octet.
 fn fill(rt: &impl Abort, alloc: Global, world: &mut World) -> Result<(), Fail> {
     send(rt, alloc, world, 0, 0)?;
     let passed = verdict_on(rt, world, 0)?;
@@ -60,17 +60,17 @@ fn fill(rt: &impl Abort, alloc: Global, world: &mut World) -> Result<(), Fail> {
     Ok(())
 }
 
-/// Is this the fault of an event?
+/// Whether this is the fault of an event.
 fn is_fault(got: &Result<Outcome, WorldFault>, fault: WorldFault) -> bool {
     matches!(got, Err(found) if *found == fault)
 }
 
-/// This event does not happen, for this reason.
+/// This event fails with this fault.
 fn assert_fault(rt: &impl Abort, world: &mut World, event: &Event, fault: WorldFault) {
     assert!(rt; is_fault(&result_of(world, event), fault));
 }
 
-/// What an end shows: its counters, and the packet numbers of the association.
+/// What an end shows: its counters, and the packet numbers of the SA.
 #[derive(Clone, Copy, PartialEq, Eq)]
 struct Shown {
     counters: Counters,
@@ -103,7 +103,7 @@ fn assert_counted(rt: &impl Abort, a: &Shown, b: &Shown) {
     assert!(rt; matches!(b.rx_row, Some(row) if row.next == 2));
 }
 
-/// A frame of no octet and one of one octet are not put on the link.
+/// Frames of no octet and of one octet are not put on the link.
 fn assert_no_room(rt: &impl Abort, alloc: Global, world: &mut World) -> Result<(), Fail> {
     let octet = Event::Inject(frame(alloc, &[0])?);
     assert_fault(rt, world, &octet, WorldFault::LinkFull);
@@ -112,7 +112,7 @@ fn assert_no_room(rt: &impl Abort, alloc: Global, world: &mut World) -> Result<(
     Ok(())
 }
 
-/// No client of A sends, and none of B, which has no association to send on.
+/// No client of A can send, and no client of B, which has no SA to send on.
 fn assert_unsent(rt: &impl Abort, alloc: Global, world: &mut World) -> Result<(), Fail> {
     let controlled = Event::Send(End::A, frame(alloc, &client(0))?);
     assert_fault(rt, world, &controlled, WorldFault::LinkFull);
@@ -139,12 +139,12 @@ fn assert_full(rt: &impl Abort, alloc: Global, world: &mut World) -> Result<(), 
     assert_unsent(rt, alloc, world)
 }
 
-/// Is this what the ends show?
+/// Whether the ends show this.
 fn are_shown(rt: &impl Abort, world: &World, a: &Shown, b: &Shown) -> bool {
     state_of(rt, world, End::A) == *a && state_of(rt, world, End::B) == *b
 }
 
-/// Two ends with an association from A to B, over a full link: no fault changes a counter, nor a packet number.
+/// Two ends with an SA from A to B, over a full link: no fault changes a counter or a packet number.
 fn check_full(rt: &impl Abort, alloc: Global, world: &mut World) -> Result<(), Fail> {
     fill(rt, alloc, world)?;
     let (a, b) = (state_of(rt, world, End::A), state_of(rt, world, End::B));
@@ -154,7 +154,7 @@ fn check_full(rt: &impl Abort, alloc: Global, world: &mut World) -> Result<(), F
     Ok(())
 }
 
-/// Each fault in its order, and no counter changes, nor a packet number.
+/// Each fault in its order; no counter and no packet number changes.
 #[test]
 fn full_link(rt: HostRuntime) -> Result<(), Fail> {
     let protection = Protection {

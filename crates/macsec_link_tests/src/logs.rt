@@ -1,4 +1,4 @@
-//! A whole run, and what was sent under each key and delivered from each association.
+//! A whole run, and the frames sent under each key and delivered from each SA.
 
 use crate::fixture::{self, A, B, an, client, frame, run_of};
 use macsec_link::{An, Command, End, Event, Outcome, Report, Verdict, World, WorldFault};
@@ -6,20 +6,20 @@ use std::alloc::Global;
 use std::process::Abort;
 use std::test::Fail;
 
-/// An event that is wanted, and its result. A client frame is told by its last octet.
+/// An event and its expected result. A client frame is identified by its last octet.
 #[derive(Clone, Copy)]
 enum Wanted {
     /// A command is carried out.
     Done(End, Command),
     /// A client of A sends a frame.
     Sent(u8),
-    /// A frame leaves the uncontrolled port of A.
+    /// A frame is sent from the uncontrolled port of A.
     SentUncontrolled(u8),
-    /// A link frame is passed at B, and its client frame delivered.
+    /// A link frame passes at B, and its client frame is delivered.
     Passed(u32, u8),
-    /// It comes late.
+    /// A link frame is late at B.
     Late(u32),
-    /// It comes late and is delivered, for want of replay protection.
+    /// A link frame is late at B and delivered, because replay protection is off.
     Delayed(u32, u8),
 }
 
@@ -38,7 +38,7 @@ fn event_of(alloc: Global, wanted: Wanted) -> Result<Event, Fail> {
     }
 }
 
-/// Is the result the one that is wanted?
+/// Whether the result is the expected one.
 fn is_wanted(got: &Result<Outcome, WorldFault>, wanted: Wanted) -> bool {
     match got {
         Ok(Outcome::Done) => matches!(wanted, Wanted::Done(_, _)),
@@ -60,22 +60,22 @@ fn is_wanted(got: &Result<Outcome, WorldFault>, wanted: Wanted) -> bool {
     }
 }
 
-/// A key for the suite of both ends is installed.
+/// Installs a key for the suite of both ends.
 fn key(end: End, number: u8) -> Wanted {
     Wanted::Done(end, fixture::key(number, 0))
 }
 
-/// A transmit association is created at A, for integrity only.
+/// Creates a transmit SA at A, which does not encrypt.
 fn tx_sa(an: An, key: u8) -> Wanted {
     Wanted::Done(End::A, fixture::tx_sa(an, key, false))
 }
 
-/// A receive association of frames from A is created at B.
+/// Creates a receive SA at B for frames from A.
 fn rx_sa(an: An, key: u8) -> Wanted {
     Wanted::Done(End::B, fixture::rx_sa(an, key, 0))
 }
 
-/// A receive association of this number is created at B, under this key, and taken into use.
+/// Creates a receive SA with this number at B, under this key, and enables it.
 fn receiving(an: An, key: u8) -> [Wanted; 2] {
     [
         rx_sa(an, key),
@@ -83,7 +83,7 @@ fn receiving(an: An, key: u8) -> [Wanted; 2] {
     ]
 }
 
-/// A key for both ends, and an association of this number under it at A, which is taken into use.
+/// Installs a key at both ends, creates an SA with this number under it at A, and enables it.
 fn sending(an: An, number: u8) -> [Wanted; 4] {
     [
         key(End::A, number),
@@ -93,7 +93,7 @@ fn sending(an: An, number: u8) -> [Wanted; 4] {
     ]
 }
 
-/// Events behind others.
+/// Appends events.
 fn push_all(all: &mut Vec<Wanted>, more: &[Wanted]) -> Result<(), Fail> {
     for wanted in more {
         all.push(*wanted)?;
@@ -101,14 +101,14 @@ fn push_all(all: &mut Vec<Wanted>, more: &[Wanted]) -> Result<(), Fail> {
     Ok(())
 }
 
-/// The first association, from A to B.
+/// The first SA, from A to B.
 fn push_first(all: &mut Vec<Wanted>, first: An) -> Result<(), Fail> {
     push_all(all, &sending(first, 0))?;
     push_all(all, &[Wanted::Done(End::B, Command::RxSc(A.sci))])?;
     push_all(all, &receiving(first, 0))
 }
 
-/// What passes over the first association of the run.
+/// The frames over the first SA of the run.
 const OF_FIRST: [Wanted; 5] = [
     Wanted::Sent(0),
     Wanted::Sent(1),
@@ -117,7 +117,7 @@ const OF_FIRST: [Wanted; 5] = [
     Wanted::Late(0),
 ];
 
-/// What passes over the second one, before it is created again.
+/// The frames over the second SA, before it is created again.
 const OF_SECOND: [Wanted; 3] = [
     Wanted::Sent(2),
     Wanted::Passed(2, 2),
@@ -136,8 +136,8 @@ fn push_rollover(all: &mut Vec<Wanted>, first: An, second: An) -> Result<(), Fai
     push_all(all, &[Wanted::Passed(2, 2)])
 }
 
-/// The sender goes over to another association under another key, and its receiver with it. A receive association
-/// that is created again begins a new log. A late frame and a frame of the uncontrolled port's client are in none.
+/// The sender changes to another SA with another key, and so does its receiver. A receive SA that is created again
+/// starts a new log. A late frame and a frame from the uncontrolled port are in no log.
 #[test]
 fn rollover(rt: HostRuntime) -> Result<(), Fail> {
     let mut all = Vec::new(rt.alloc());
@@ -148,7 +148,7 @@ fn rollover(rt: HostRuntime) -> Result<(), Fail> {
     Ok(())
 }
 
-/// B takes up replay protection, or leaves it, with this window.
+/// Sets replay protection at B on or off, with this window.
 fn replay(protect: bool, window: u64) -> Wanted {
     Wanted::Done(End::B, Command::Replay { protect, window })
 }
@@ -166,7 +166,7 @@ fn push_order(
     push_all(all, deliveries)
 }
 
-/// So it is in a run.
+/// Checks this order in a run.
 fn assert_order(
     rt: &impl Abort,
     alloc: Global,
@@ -180,8 +180,8 @@ fn assert_order(
     Ok(())
 }
 
-/// At a window of 0 a frame passes only if its packet number is above all before it, without replay protection late
-/// frames are delivered, and at a window of 1 a repeat inside it passes.
+/// With a window of 0 a frame passes only if its packet number is above all earlier ones. Without replay protection
+/// late frames are delivered. With a window of 1 a repeat inside it passes.
 #[test]
 fn orders(rt: HostRuntime) -> Result<(), Fail> {
     let in_order = [
@@ -222,7 +222,7 @@ fn report_of(alloc: Global, all: &[Wanted]) -> Result<Report, Fail> {
     Ok(run_of(alloc, A, B, events.as_slice())?)
 }
 
-/// Each event has the result that is wanted.
+/// Each event has the expected result.
 fn assert_results(rt: &impl Abort, results: &[Result<Outcome, WorldFault>], all: &[Wanted]) {
     assert_eq!(rt; results.len(), all.len());
     for (got, wanted) in results.iter().zip(all) {
@@ -230,7 +230,7 @@ fn assert_results(rt: &impl Abort, results: &[Result<Outcome, WorldFault>], all:
     }
 }
 
-/// Are these the frames of a log, by their last octets?
+/// Whether these are the frames of a log, by their last octets.
 fn is_log(log: Option<&[Vec<u8>]>, clients: Option<&[u8]>) -> bool {
     match (log, clients) {
         (Some(log), Some(clients)) => log.len() == clients.len()
@@ -243,13 +243,13 @@ fn is_log(log: Option<&[Vec<u8>]>, clients: Option<&[u8]>) -> bool {
     }
 }
 
-/// These were sent under a key.
+/// These frames were sent under a key.
 fn assert_sent(rt: &impl Abort, world: &World, end: End, key: u8, clients: &[u8]) {
     let log = world.sent(end, fixture::key_number(key));
     assert!(rt; is_log(Some(log), Some(clients)), "sent under {key}");
 }
 
-/// These were delivered from an association.
+/// These frames were delivered from an SA.
 fn assert_delivered(
     rt: &impl Abort,
     world: &World,
@@ -261,7 +261,7 @@ fn assert_delivered(
     assert!(rt; is_log(log, clients), "delivered from {number}");
 }
 
-/// The logs of both ends, and the link frame of the uncontrolled port's client.
+/// The logs of both ends, and the link frame from the uncontrolled port.
 fn assert_logs(rt: &impl Abort, world: &World) {
     assert_sent(rt, world, End::A, 0, &[0, 1]);
     assert_sent(rt, world, End::A, 1, &[2]);

@@ -17,12 +17,12 @@ pub fn key_number() -> KeyNumber {
     KeyNumber::new(0).unwrap()
 }
 
-/// The number of no key.
+/// A key number that no key has.
 pub fn unused_number() -> KeyNumber {
     KeyNumber::new(256).unwrap()
 }
 
-/// A table of the key of the test frames.
+/// A key table with the key of the test frames.
 pub fn key_table(alloc: Global) -> Result<KeyTable, Fail> {
     let mut keys = KeyTable::new(alloc)?;
     let key = NewKey {

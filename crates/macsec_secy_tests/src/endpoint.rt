@@ -1,5 +1,5 @@
-//! What no clause says, and no script can show: the faults of configurations and of frames, the options, the key
-//! under which a frame is sent, the association that a received frame is for, and what deleted ones had counted.
+//! What no clause states and no script can show: the faults of configurations and of frames, the options, the key under
+//! which a frame is sent, the SA of a received frame, and the counters of deleted SAs.
 
 use macsec_secy::{
     An, Command, DropReason, EndConfig, FrameFault, Key, KeyNumber, Mode, NewFault, NewKey,
@@ -9,7 +9,7 @@ use macsec_vectors::{CLIENT_54, CLIENT_60, KEY_128, LINK_54, LINK_60, SCI};
 use std::alloc::Global;
 use std::process::Abort;
 
-/// The sender, whose SCI is that of the test frames.
+/// The sender, which has the SCI of the test frames.
 const SENDER: EndConfig = EndConfig {
     suite: Suite::Gcm128,
     sci: Sci(SCI),
@@ -19,14 +19,14 @@ const SENDER: EndConfig = EndConfig {
 
 const EXTENDED_NUMBER: u64 = 0x1_b2c2_8465;
 
-/// The associations 2 and 3 of the sender's channel.
+/// The SAs 2 and 3 of the sender's channel.
 const OF_2: Option<(Sci, u8)> = Some((Sci(SCI), 2));
 
 const OF_3: Option<(Sci, u8)> = Some((Sci(SCI), 3));
 
 const TOO_LONG: Answer = Answer::Dropped(DropReason::TooLong);
 
-/// What becomes of a client frame: of one that is sent, its octets and its key.
+/// The result for a client frame: for a sent one its octets and its key.
 #[derive(Clone, Copy, PartialEq, Eq, Debug)]
 enum Answer {
     Sent(usize, Option<u16>),
@@ -39,8 +39,7 @@ fn key_number() -> KeyNumber {
     KeyNumber::new(4095).unwrap()
 }
 
-/// The key of the test frames, at the sender. With its salt, its SSCI and `EXTENDED_NUMBER` the IV is that of the
-/// test frames.
+/// The key of the test frames, at the sender. Its salt and SSCI and `EXTENDED_NUMBER` give the IV of the test frames.
 fn senders_key() -> NewKey {
     NewKey {
         number: key_number(),
@@ -56,7 +55,7 @@ fn an(rt: &impl Abort, number: u8) -> An {
     An::new(number).expect(rt, "an association number")
 }
 
-/// An endpoint of this configuration, after these commands, none of which it refuses.
+/// An endpoint with this configuration, after these commands, all of which it accepts.
 fn endpoint(rt: &impl Abort, alloc: Global, config: EndConfig, commands: &[Command]) -> Secy {
     let mut secy = Secy::new(alloc, config).expect(rt, "an endpoint");
     for command in commands {
@@ -65,12 +64,12 @@ fn endpoint(rt: &impl Abort, alloc: Global, config: EndConfig, commands: &[Comma
     secy
 }
 
-/// Gives the endpoint a command that it does not refuse.
+/// Gives the endpoint a command, which it must accept.
 fn carry_out(rt: &impl Abort, secy: &mut Secy, command: &Command) {
     assert!(rt; secy.command(command).is_ok());
 }
 
-/// What becomes of a client frame, in short.
+/// The result for a client frame.
 fn answer_to(secy: &mut Secy, client: &[u8]) -> Answer {
     match secy.send(client) {
         Ok(Sent::Link { frame, under }) => Answer::Sent(frame.len(), under),
@@ -111,7 +110,7 @@ fn configurations(rt: HostRuntime) {
     }
 }
 
-/// What is sent at the uncontrolled port.
+/// What is sent from the uncontrolled port.
 fn uncontrolled<'a>(secy: &Secy, frame: &'a [u8]) -> Result<&'a [u8], FrameFault> {
     secy.send_uncontrolled(frame)
 }
@@ -121,7 +120,7 @@ fn fault_of(secy: &mut Secy, frame: &[u8]) -> Option<FrameFault> {
     secy.receive(frame).err()
 }
 
-/// A frame at the uncontrolled port is sent as it is, and received, or both have this fault.
+/// A frame from the uncontrolled port is sent unchanged, and can be received; or both calls return this fault.
 fn assert_uncontrolled(rt: &impl Abort, secy: &mut Secy, frame: &[u8], fault: Option<FrameFault>) {
     let wanted = match fault {
         Some(fault) => Err(fault),
@@ -131,7 +130,7 @@ fn assert_uncontrolled(rt: &impl Abort, secy: &mut Secy, frame: &[u8], fault: Op
     assert!(rt; fault_of(secy, frame) == fault);
 }
 
-/// What becomes of a client frame of so many octets, protected or not.
+/// The result for a client frame of this length, protected or not.
 fn assert_length(rt: &impl Abort, secy: &mut Secy, protect: bool, length: usize, wanted: Answer) {
     let octets = [0; 9249];
     carry_out(rt, secy, &Command::Protect(protect));
@@ -208,8 +207,8 @@ fn options(rt: HostRuntime) {
     assert!(rt; endpoint(&rt, rt.alloc(), SENDER, &commands).options() == last);
 }
 
-/// The receiver of the test frames, whose key is of another suite than its own: its association 2 is for them, and
-/// its association 3 begins with the last packet number.
+/// The receiver of the test frames. Its key has another suite than its configuration. Its SA 2 is for the test frames,
+/// and its SA 3 starts with the last packet number.
 fn receiver(rt: &impl Abort, alloc: Global) -> Secy {
     let config = EndConfig {
         sci: Sci([0, 0, 0, 0, 0, 0, 0, 2]),
@@ -245,10 +244,10 @@ fn receiver(rt: &impl Abort, alloc: Global) -> Secy {
     endpoint(rt, alloc, config, &commands)
 }
 
-/// What becomes of a link frame: the verdict, the association that it is for, and what is delivered.
+/// The result for a link frame: the verdict, its SA, and what is delivered.
 type Wanted<'a> = (Verdict, Option<(Sci, u8)>, Option<&'a [u8]>);
 
-/// What becomes of a link frame that is not at fault, and what is shown of it at the uncontrolled port.
+/// The result for a link frame without a fault, and the frame shown at the uncontrolled port.
 fn received<'a>(secy: &'a mut Secy, link: &'a [u8]) -> Option<(Wanted<'a>, &'a [u8])> {
     let Ok(received) = secy.receive(link) else {
         return None;
@@ -257,7 +256,7 @@ fn received<'a>(secy: &'a mut Secy, link: &'a [u8]) -> Option<(Wanted<'a>, &'a [
     Some((found, received.uncontrolled))
 }
 
-/// Gives the endpoint a link frame: this becomes of it, and it is shown as it is at the uncontrolled port.
+/// Gives the endpoint a link frame, checks the result, and that the frame is shown unchanged at the uncontrolled port.
 fn assert_received(rt: &impl Abort, secy: &mut Secy, link: &[u8], wanted: Wanted<'_>) {
     let (verdict, _, _) = wanted;
     assert!(rt; received(secy, link) == Some((wanted, link)), "{verdict:?}");
@@ -274,7 +273,7 @@ const REPLAY_OFF: Command = Command::Replay {
     window: 0,
 };
 
-/// A command, a frame, the octets of it that are others, and what becomes of it then.
+/// A command, a frame, the octets of it that are changed, and the result.
 type Case = (
     Command,
     &'static [u8],
@@ -354,7 +353,7 @@ const CASES: [Case; 13] = [
     ),
 ];
 
-/// Sets the octet at a place.
+/// Sets the octet at an index.
 fn set(link: &mut [u8], place: usize, octet: u8) {
     if let Some(at) = link.get_mut(place) {
         *at = octet;
@@ -376,7 +375,7 @@ fn assert_case(rt: &impl Abort, secy: &mut Secy, case: &Case) {
     assert_received(rt, secy, link, *wanted);
 }
 
-/// From the recovery of its packet number on a frame is for an association, also if no packet number is recovered.
+/// A frame has an SA from the recovery of its packet number on, even if no packet number is recovered.
 #[test]
 fn associations_of_frames(rt: HostRuntime) {
     let mut secy = receiver(&rt, rt.alloc());
@@ -385,13 +384,13 @@ fn associations_of_frames(rt: HostRuntime) {
     }
 }
 
-/// The passed and the late frames among what was counted.
+/// The numbers of passed and of late frames in these counters.
 fn passed_and_late(counters: Option<RxCounters>) -> Option<(u64, u64)> {
     let counters = counters?;
     Some((counters.in_pkts_ok, counters.in_pkts_late))
 }
 
-/// So many frames were passed and late in the sender's channel, in its association 2, and in its deleted associations.
+/// Checks the numbers of passed and late frames in the sender's channel, in its SA 2, and in its deleted SAs.
 fn assert_counted(
     rt: &impl Abort,
     secy: &Secy,
@@ -407,7 +406,7 @@ fn assert_counted(
     assert!(rt; counted == (Some(channel), association, Some(removed)));
 }
 
-/// What a deleted association had counted stays with its channel, and a new one of its number begins at 0.
+/// The counters of a deleted SA stay with its channel, and a new SA with its number starts at 0.
 #[test]
 fn counters_of_deleted_associations(rt: HostRuntime) {
     let mut secy = receiver(&rt, rt.alloc());

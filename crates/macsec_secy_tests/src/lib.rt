@@ -1,6 +1,6 @@
-//! Tests of the endpoint and of its channels, over their public calls alone: what no clause of `macsec_pn`, `macsec_tx`,
-//! `macsec_rx` and `macsec_secy` says, that the definitions send and pass the frames of the standard, and that each call
-//! succeeds. What becomes of other frames is shown by the scripts of `macsec_examples`.
+//! Tests of the endpoint and of its channels through their public calls. They test what no clause of `macsec_pn`,
+//! `macsec_tx`, `macsec_rx` and `macsec_secy` states; that the definitions send and accept the standard's frames; and
+//! that each call succeeds. The scripts of `macsec_examples` show the results for other frames.
 #![tactic(auto)]
 
 #[cfg(test)]

@@ -1,4 +1,4 @@
-//! Packet numbers at the last one, in a window and across 2^32.
+//! Packet numbers: the last one, those in a window, and those across 2^32.
 
 use macsec_pn::{RxNumbers, TxNumbers};
 

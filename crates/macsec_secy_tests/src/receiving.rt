@@ -1,4 +1,4 @@
-//! The receive channels: one channel with one association, its commands and its frames.
+//! The receive channels: one channel with one SA, its commands and its frames.
 
 ghost use Rattle.std.specs.Prelude.{IfOk};
 ghost use Rattle.macsec_rx.specs.Commands.{HaveRxKeys};
@@ -13,13 +13,13 @@ use std::alloc::Global;
 use std::process::Abort;
 use std::test::Fail;
 
-/// The SCI of the test frames' sender.
+/// The SCI of the sender of the test frames.
 const SENDER: Sci = Sci(SCI);
 
 /// The own SCI.
 const OWN: Sci = Sci([0, 0, 0, 0, 0, 0, 0, 2]);
 
-/// The sender's channel, whose association for the test frames is enabled.
+/// The sender's channel, whose SA for the test frames is enabled.
 fn channel_on(keys: &KeyTable) -> Result<RxChannels, Fail>
     ensures { IfOk result (λ channels. HaveRxKeys keys.now channels.rows) }
 {
@@ -37,7 +37,7 @@ fn channel_on(keys: &KeyTable) -> Result<RxChannels, Fail>
     Ok(channels)
 }
 
-/// The association of these packet numbers, next and lowest acceptable.
+/// The SA with these packet numbers, next and lowest acceptable.
 fn row(next: u64, lowest: u64, on: bool) -> RxRow {
     RxRow {
         sci: SENDER,
@@ -59,14 +59,13 @@ fn options(mode: Mode) -> RxOptions {
     }
 }
 
-/// The delivered frame, as it stands in the slice.
+/// The delivered frame, which is in the slice.
 fn delivered_octets(judged: Judged, out: &[u8]) -> Option<&[u8]> {
     let (place, length) = judged.delivered?;
     out.get(place..)?.get(..length)
 }
 
-/// What a new association makes of a link frame, and the association afterwards. What is delivered stands in the
-/// slice.
+/// The judgement of a new SA on a link frame, and the SA afterwards. The delivered frame is written to the slice.
 fn judged(
     rt: &impl Abort,
     keys: &KeyTable,
@@ -85,8 +84,8 @@ fn judged(
     Ok((judged, channels.row(SENDER, an())))
 }
 
-/// A test frame gets this verdict from a new association and gives this client frame, and its packet number is
-/// accepted if it is valid.
+/// A test frame gets this verdict from a new SA and gives this client frame, and its packet number is accepted if the
+/// frame is valid.
 fn check_frame(
     rt: &impl Abort,
     keys: &KeyTable,
@@ -129,8 +128,7 @@ fn frame_of_0(tci_an: u8) -> [u8; 86] {
     link
 }
 
-/// A frame of PN 0 with this octet of TCI and AN gets this verdict from a new association in Strict, and is for the
-/// association or for none.
+/// A frame with PN 0 and this octet of TCI and AN gets this verdict from a new SA in Strict, with the SA or with none.
 fn check_frame_of_0(
     rt: &impl Abort,
     keys: &KeyTable,
@@ -149,8 +147,8 @@ fn check_frame_of_0(
     Ok(())
 }
 
-/// PN 0 is at fault under the key of an association with packet numbers of 32 bits, so not before E without C, and not
-/// without an association.
+/// PN 0 is at fault only under the key of an SA with 32-bit packet numbers. So E without C is found first, and a frame
+/// without an SA has no such fault.
 #[test]
 fn packet_number_0(rt: HostRuntime) -> Result<(), Fail> {
     let keys = key_table(rt.alloc())?;
@@ -165,7 +163,7 @@ fn packet_number_0(rt: HostRuntime) -> Result<(), Fail> {
     Ok(())
 }
 
-/// A command on the association or on its channel.
+/// A command on the SA or on its channel.
 #[derive(Clone, Copy)]
 enum Command {
     Off,
@@ -173,7 +171,7 @@ enum Command {
     DeleteChannel,
 }
 
-/// The answer of the channels to a command.
+/// The result of the channels for a command.
 fn answer_to(channels: &mut RxChannels, command: Command) -> Result<(), Refusal> {
     match command {
         Command::Off => channels.rx_off(SENDER, an()),
@@ -182,14 +180,14 @@ fn answer_to(channels: &mut RxChannels, command: Command) -> Result<(), Refusal>
     }
 }
 
-/// The association, whether it uses the key of the test frames, and the first channel; no other key is ever used.
+/// The SA, whether it uses the key of the test frames, and the first channel; no other key is ever used.
 fn seen(rt: &impl Abort, channels: &RxChannels) -> (Option<RxRow>, bool, Option<Sci>) {
     assert!(rt; !channels.uses(unused_number()));
     let row = channels.row(SENDER, an());
     (row, channels.uses(key_number()), channels.channel(0))
 }
 
-/// The packet number after that of the test frames.
+/// The packet number after the test frames' one.
 const RAISED: u64 = PACKET_NUMBER as u64 + 1;
 
 /// The sender's channel, after its lowest acceptable packet number was raised and its window narrowed to 0.
@@ -201,7 +199,7 @@ fn raised_channel(alloc: Global) -> Result<RxChannels, Fail> {
     Ok(channels)
 }
 
-/// A command, its answer, and afterwards whether the association is there, disabled, and the first channel.
+/// A command, its result, and afterwards whether the SA exists, disabled, and the first channel.
 const COMMANDS: [(Command, Result<(), Refusal>, bool, Option<Sci>); 4] = [
     (Command::Off, Ok(()), true, Some(SENDER)),
     (Command::Delete, Ok(()), false, Some(SENDER)),
@@ -209,12 +207,12 @@ const COMMANDS: [(Command, Result<(), Refusal>, bool, Option<Sci>); 4] = [
     (Command::DeleteChannel, Ok(()), false, None),
 ];
 
-/// The association and the first channel are these, and the key is used while the association is there.
+/// The SA and the first channel are these, and the key is used exactly while the SA exists.
 fn check_seen(rt: &impl Abort, channels: &RxChannels, row: Option<RxRow>, channel: Option<Sci>) {
     assert!(rt; seen(rt, channels) == (row, row.is_some(), channel));
 }
 
-/// The lowest acceptable packet number is raised, and then the next one with it; a window of 0 leaves both.
+/// The lowest acceptable packet number is raised, and the next one with it; then a window of 0 changes neither.
 #[test]
 fn commands(rt: HostRuntime) -> Result<(), Fail> {
     let mut channels = raised_channel(rt.alloc())?;

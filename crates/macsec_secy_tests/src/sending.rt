@@ -1,4 +1,4 @@
-//! The transmit channel: one association, its commands and its frames.
+//! The transmit channel: one SA, its commands and its frames.
 
 ghost use Rattle.std.specs.Prelude.{IfOk};
 ghost use Rattle.macsec_tx.specs.Commands.{HaveKeys};
@@ -21,7 +21,7 @@ const OPTIONS: TxOptions = TxOptions {
     many: false,
 };
 
-/// A channel whose association for the test frames is enabled, and encrypts if `conf` is true.
+/// A channel whose SA for the test frames is enabled, and encrypts if `conf` is true.
 fn channel_on(keys: &KeyTable, conf: bool) -> Result<TxChannel, Fail>
     ensures { IfOk result (λ channel. HaveKeys keys.now channel) }
 {
@@ -31,7 +31,7 @@ fn channel_on(keys: &KeyTable, conf: bool) -> Result<TxChannel, Fail>
     Ok(channel)
 }
 
-/// The enabled association of this packet number.
+/// The enabled SA with this next packet number.
 fn row(next: u128, conf: bool) -> TxRow {
     TxRow {
         an: an(),
@@ -42,8 +42,8 @@ fn row(next: u128, conf: bool) -> TxRow {
     }
 }
 
-/// What becomes of a client frame at a new channel, its association afterwards, and the first unused packet number of
-/// the key. What is sent stands in the slice.
+/// The result for a client frame at a new channel, its SA afterwards, and the first unused packet number of the key.
+/// The sent frame is written to the slice.
 fn sent(
     alloc: Global,
     conf: bool,
@@ -80,14 +80,14 @@ fn frames_of_the_standard(rt: HostRuntime) -> Result<(), Fail> {
     Ok(())
 }
 
-/// A command on the association.
+/// A command on the SA.
 #[derive(Clone, Copy)]
 enum Command {
     Off,
     Delete,
 }
 
-/// The channel's answer to a command.
+/// The channel's result for a command.
 fn answer_to(channel: &mut TxChannel, command: Command) -> Result<(), Refusal> {
     match command {
         Command::Off => channel.tx_off(an()),
@@ -95,7 +95,7 @@ fn answer_to(channel: &mut TxChannel, command: Command) -> Result<(), Refusal> {
     }
 }
 
-/// The enabled association, and whether the channel uses the key of the test frames; it never uses another.
+/// The enabled SA, and whether the channel uses the key of the test frames; it never uses another.
 fn seen(rt: &impl Abort, channel: &TxChannel) -> (Option<TxRow>, bool) {
     assert!(rt; !channel.uses(unused_number()));
     (channel.row_on(), channel.uses(key_number()))
@@ -107,7 +107,7 @@ fn new_channel(alloc: Global) -> Result<TxChannel, Fail> {
     channel_on(&keys, false)
 }
 
-/// A command, its answer, and whether the channel uses the key of the test frames afterwards.
+/// A command, its result, and whether the channel uses the key of the test frames afterwards.
 const COMMANDS: [(Command, Result<(), Refusal>, bool); 3] = [
     (Command::Off, Ok(()), true),
     (Command::Delete, Ok(()), false),
