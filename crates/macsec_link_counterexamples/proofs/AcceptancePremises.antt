@@ -1,5 +1,5 @@
--- Premises of the law on acceptance that are needed: without each of these there is a run in which the others hold and
--- the frame is not passed.
+-- Premises that the law of acceptance needs: for each of these there is a run in which the others hold and the frame
+-- does not pass.
 use Rattle.std.proofs.Common.{◌≡◌, ◌≢◌, inl, ℕ, ◌+◌, ◌-◌, ◌^◌, ◌<◌, ◌≤◌, true, false, List, [], ◌∷◌, ◌++◌, length, refl, ap, arith, subst, sym, ◌∙◌}
 use Rattle.std.specs.Prelude.{replicate, slice_get, Option, Some, None, Result, Ok}
 use Rattle.std.proofs.lemmas.List.{take_all, take_at}
@@ -40,7 +40,7 @@ use Rattle.macsec_link_counterexamples.proofs.TracedSteps.{send_step, sent_by, t
 use Rattle.macsec_link_counterexamples.proofs.WorkedEnds.{Fails, client, counts, gcm_a, gcm_b, installed_key, log, new_key, no_salt}
 use Rattle.macsec_link_counterexamples.proofs.WorkedEnds.{receives_from, rx_from, sci_a, sends_from, tx_from, xpn_a, xpn_b}
 
--- the premises by name
+-- the names of the premises
 pub data Premise : Type 0 where
   Validates : Premise
   ReadsSci : Premise
@@ -65,7 +65,7 @@ Holds sender receiver tx rx p SameSsci = is_xpn (the_key sender.keys tx.key).sui
 Holds sender receiver tx rx p InTime = rx.lowest ≤ tx.next
 Holds sender receiver tx rx p IsNear = is_xpn (the_key sender.keys tx.key).suite ≡ true → tx.next < rx.lowest + 2 ^ 31
 
--- all of them are the premises of the law
+-- together they are the premises of the law
 premises_suffice : (sender receiver : State) (tx : TxRow) (rx : RxRow) (p : MpduParts) → ((r : Premise) → Holds sender receiver tx rx p r) → CanAccept sender receiver tx rx p
 premises_suffice sender receiver tx rx p holds = record {
   not_disabled = holds Validates;
@@ -76,12 +76,12 @@ premises_suffice sender receiver tx rx p holds = record {
   near = holds IsNear;
 }
 
--- the association is there, and all premises hold but this one
+-- the SA exists, and all premises but this one hold
 pub record CanAcceptBut (left_out : Premise) (sender receiver : State) (tx : TxRow) (rx : RxRow) (p : MpduParts) : Type 0 where
   pub there : rx_row receiver.rx.rows sender.config.sci p.tag.an ≡ Some rx
   pub holds : (r : Premise) → r ≢ left_out → Holds sender receiver tx rx p r
 
--- the delivery of what a sender makes of its client's frame, by the law without this premise
+-- the delivery of what a sender makes of its client frame, by the law without this premise
 abbrev pub AcceptsWithout : Premise → State → WorldState → End → ℕ → List ℕ → TxRow → RxRow → Type 0
 AcceptsWithout left_out sender w e n client tx rx =
     let p = parts_sent (tx_options sender) (the_key sender.keys tx.key) tx client in
@@ -92,7 +92,7 @@ abbrev pub LawWithout : Premise → EndConfig → EndConfig → List Event → T
 LawWithout left_out a b events = (e : End) (k m n : ℕ) (client : List ℕ) (tx : TxRow) (rx : RxRow) →
     AcceptsWithout left_out (end_of (world_at a b events k) (other_end e)).state (world_at a b events m) e n client tx rx
 
--- ---- one frame of A's client, and its delivery to B
+-- ---- one client frame of A, and its delivery to B
 
 abbrev pub heard : Verdict → Option (List ℕ) → Result Outcome WorldFault
 heard verdict delivered = Ok (Heard verdict delivered)
@@ -127,7 +127,7 @@ module _ (left_out : Premise) (a b : EndConfig) (commands : List Event) (w : Wor
       goes_on [] v is = ap (λ (x : WorldState). (world_step x (Send A client)).1) is
       goes_on (event ∷ events) v is = goes_on events (world_step v event).1 is
 
-  -- the law is false where the frame has another verdict
+  -- the law is false if the frame gets another verdict
   pub fails_by : (verdict : Verdict) (delivered : Option (List ℕ)) → verdict ≢ Passed → (world_step (world_sent w tx frame) (Deliver B 0)).0 ≡ heard verdict delivered →
       LawWithout left_out a b sent → ⊥
   fails_by verdict delivered other is law =
@@ -140,7 +140,7 @@ module _ (left_out : Premise) (a b : EndConfig) (commands : List Event) (w : Wor
       on_link : slice_get (world_sent w tx frame).frames 0 ≡ Some (in_a_row (parts_sent (tx_options w.a.state) (the_key w.a.state.keys tx.key) tx client))
       on_link = ap (λ (fs : List (List ℕ)). slice_get (fs ++ frame ∷ []) 0) empty ∙ ap Some (sym seals)
 
--- ---- the runs: A's association 0 sends for integrity alone, and B's receives, after some more commands
+-- ---- the runs: SA 0 of A sends for integrity only, and SA 0 of B receives, after some more commands
 
 abbrev pub key_row : Suite → ℕ → InstalledKey
 key_row suite ssci = installed_key suite no_salt ssci 1
@@ -178,7 +178,7 @@ seals_as_frame a next =
     ap (λ (it : Sealed). frame_with (tag_sent (tx_options (start a)) (tx_from next) client) client it)
     (sealed (replicate 16 7) (iv_sent (tx_options (start a)) (key_row a.suite 1) (tx_from next)) (aad_sent (tx_options (start a)) (key_row a.suite 1) (tx_from next) client))
 
--- what holds of each premise but one
+-- P holds of each premise but one
 pub each_but : (P : Premise → Type 0) (left_out : Premise) → (Validates ≢ left_out → P Validates) → (ReadsSci ≢ left_out → P ReadsSci) → (IsOn ≢ left_out → P IsOn) →
     (SameBytes ≢ left_out → P SameBytes) → (SameSuite ≢ left_out → P SameSuite) → (SameOffset ≢ left_out → P SameOffset) →
     (SameSalt ≢ left_out → P SameSalt) → (SameSsci ≢ left_out → P SameSsci) → (InTime ≢ left_out → P InTime) → (IsNear ≢ left_out → P IsNear) →
@@ -198,7 +198,7 @@ abbrev pub HoldsIn : EndConfig → ℕ → State → RxRow → Premise → Type 
 HoldsIn a next b rx r =
     Holds (world_before a next b).a.state b (tx_from next) rx (parts_sent (tx_options (start a)) (key_row a.suite 1) (tx_from next) client) r
 
--- ---- B is in mode Disabled
+-- ---- B is in the mode Disabled
 
 abbrev disabled : State
 disabled = record (state_b gcm_b (rx_from 1)) { options = record (first_options gcm_b) { mode = Disabled } }
@@ -252,7 +252,7 @@ sci_needed = (
       NoSaError None (λ same. cc) (has_no_channel (tag_from without_sci 1)),
 )
 
--- ---- the association is off
+-- ---- the SA is disabled
 
 abbrev rx_off : RxRow
 rx_off = record (rx_from 1) { on = false }
@@ -293,7 +293,7 @@ in_time_needed = (
       Late None (λ same. cc) (is_late (tag_from gcm_a 1)),
 )
 
--- ---- A has extended packet numbers and sends 2^32, whose lower half is 0; B has 32-bit ones, of which 0 is none
+-- ---- A has extended packet numbers and sends 2^32, whose lower half is 0; B has 32-bit ones, for which 0 is invalid
 
 abbrev of_32_bits : WorldState
 of_32_bits = world_before xpn_a (2 ^ 32) (state_b gcm_b (rx_from (2 ^ 32 - 1)))
@@ -316,7 +316,7 @@ suite_needed = (
       BadTag None (λ same. cc) (is_zero (tag_from xpn_a (2 ^ 32))),
 )
 
--- ---- A sends 2^32, and B's association goes from 1 on: it recovers 0, which is no packet number
+-- ---- A sends 2^32, and B's SA accepts from 1 on: it recovers 0, which is no packet number
 
 is_far : (tag : List ℕ) →
     (world_step (world_sent (world_before xpn_a (2 ^ 32) (state_b xpn_b (rx_from 1))) (tx_from (2 ^ 32)) (frame_from xpn_a (2 ^ 32) tag)) (Deliver B 0)).0 ≡ heard BadTag None

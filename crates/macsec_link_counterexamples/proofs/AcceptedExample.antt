@@ -1,5 +1,5 @@
--- A run in which the premises of the law on acceptance are met, for a frame as it was sent and for that frame
--- padded: so the law says something of it.
+-- A run that meets the premises of the law of acceptance, for a frame as sent and for the padded frame. So the premises
+-- can be met.
 use Rattle.std.proofs.Common.{◌≡◌, inl, inr, ℕ, Bool, List, [], ◌∷◌, refl, true, false, arith}
 use Rattle.std.specs.Prelude.{replicate, Some, None}
 use Rattle.macsec_tag.specs.Frame.{MpduParts}
@@ -24,7 +24,7 @@ use Rattle.macsec_link_counterexamples.proofs.WorkedEnds.{client, config, new_ke
 abbrev pub salt : List ℕ
 salt = replicate 12 9
 
--- seven commands, a frame of A's client, and its link frame padded
+-- seven commands, a client frame of A, and its link frame padded
 abbrev pub events : Bool → List Event
 events conf =
     Command A (Key (new_key salt 1)) ∷ Command A (TxSa 2 0 5 conf) ∷ Command A (TxOn 2) ∷

@@ -1,5 +1,5 @@
--- For acceptance the key's bytes are needed, and for encrypted frames its confidentiality offset: with others at B another
--- tag is valid, and that of A's frame is not. The first octets of both tags are computed, by AES and GHASH.
+-- Acceptance needs the same key bytes and, for encrypted frames, the same confidentiality offset. With others at B
+-- another tag is valid, and the tag of A's frame is not. The first octets of both tags are computed, by AES and GHASH.
 use Rattle.std.proofs.Common.{◌≡◌, ℕ, Bool, true, false, List, [], ◌∷◌, ◌++◌, length, refl, ap, sym, ◌∙◌, arith}
 use Rattle.std.specs.Prelude.{◌==◌, ◌&&◌, bit_xor, drop, replicate, slice_index, slice_range, take, if◌then◌else◌, Some, None}
 use Rattle.std.specs.Cmp.Lexicographic.{same_text}
@@ -38,7 +38,7 @@ use Rattle.macsec_link_counterexamples.proofs.SealedFrames.{Sealed, aad_sent, cl
 use Rattle.macsec_link_counterexamples.proofs.TracedSteps.{sent_by}
 use Rattle.macsec_link_counterexamples.proofs.WorkedEnds.{Fails, bytes, client, gcm_a, gcm_b, new_key, no_salt, receives_from, rx_from, sci_a, sends_from, tx_from}
 
--- ---- a tag by its hash
+-- ---- a tag, from its hash
 
 abbrev hash_of : ℕ → List ℕ → List ℕ → ℕ
 hash_of subkey aad ciphertext = ghash subkey (pad aad ++ (pad ciphertext ++ pad (length_block aad ciphertext)))
@@ -46,7 +46,7 @@ hash_of subkey aad ciphertext = ghash subkey (pad aad ++ (pad ciphertext ++ pad 
 abbrev tag_with : List ℕ → List ℕ → List ℕ → List ℕ → List ℕ
 tag_with key iv aad ciphertext = authentication_tag key (pre_counter_block iv) aad ciphertext
 
--- its first octet, by that of the hash and by that of the block that covers it
+-- its first octet, from the first octets of the hash and of the block that covers it
 by_hash : (key iv aad ciphertext : List ℕ) →
     first (tag_with key iv aad ciphertext) ≡ bit_xor (slice_index (to_be_bytes w128 (hash_of (hash_subkey key) aad ciphertext)) 0) (cover key iv)
 unfolding authentication_tag gctr first cover
@@ -64,7 +64,7 @@ of_empty : (key iv aad : List ℕ) → tag_of key iv aad ≡ tag_with key iv aad
 unfolding tag_of seal_of gctr
 of_empty key iv aad = refl
 
--- ---- AES, of the block of zeros and of the counter block, under A's key and under another one
+-- ---- AES of the zero block and of the counter block, under A's key and under another one
 
 abbrev other_bytes : List ℕ
 other_bytes = replicate 16 8
@@ -152,13 +152,13 @@ bytes_needed = (
       (bytes_answered (tag_from gcm_a 1) (closes other_bytes iv aad (first (tag_of bytes iv aad)) (items 15 (rest (tag_of bytes iv aad))) tags_differ)),
 )
 
--- ---- another offset at B: all that A's client sends stays clear, and B takes all of it as ciphertext
+-- ---- another offset at B: all that A's client sends stays in clear, and B takes all of it for ciphertext
 
 long_tag : (key iv aad ciphertext : List ℕ) → length (tag_with key iv aad ciphertext) ≡ 16
 unfolding authentication_tag gctr
 long_tag _ _ _ _ = refl
 
--- a text with a ciphertext opens with one tag alone, whatever its plaintext is
+-- a text with a ciphertext opens with only one tag, whatever its plaintext is
 closes_with : (key iv aad ciphertext : List ℕ) (octet : ℕ) (others : List ℕ) → (first (tag_with key iv aad ciphertext) == octet) ≡ false →
     open_of key iv aad ciphertext (octet ∷ others) ≡ None
 unfolding open_of seal_of

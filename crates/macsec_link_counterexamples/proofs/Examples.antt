@@ -26,7 +26,7 @@ config max_frame last = record { suite = Gcm128; sci = record { 0 = 2 ∷ 0 ∷ 
 abbrev fresh : WorldState
 fresh = new_world (config 1518 1) (config 1518 2)
 
--- a link of so many frames of one octet
+-- a link with n frames of one octet
 abbrev filled : ℕ → WorldState
 filled n = record fresh { frames = replicate n (0 ∷ []) }
 
@@ -48,7 +48,7 @@ no_such_frame = refl
 too_short : result (filled 65536) (Deliver B 0) ≡ Err fault.Short
 too_short = refl
 
--- a full link comes before the endpoint drops, and moves no counter
+-- a full link is reported before the endpoint drops the frame, and changes no counter
 full_before_drop : world_step (filled 65536) (Send A (replicate 14 0)) ≡ (Err fault.LinkFull, filled 65536)
 full_before_drop = refl
 
@@ -85,7 +85,7 @@ long_inject = refl
 short_inject : results_of fresh (Inject (0 ∷ []) ∷ Deliver B 0 ∷ Alter 0 1 0xff ∷ Alter 1 0 0 ∷ []) ≡ Ok (Made 0) ∷ Err fault.Short ∷ Err fault.AlterRange ∷ Err fault.NoFrame ∷ []
 short_inject = refl
 
--- padding leaves a frame of 60 octets or more as it is, and fills up a shorter one
+-- padding does not change a frame of 60 octets or more, and fills up a shorter one
 long_frame_stays : padded_frame (replicate 86 7) ≡ replicate 86 7
 long_frame_stays = refl
 
@@ -95,15 +95,14 @@ short_frame_grows = refl
 untagged : results_of fresh (SendUncontrolled A (replicate 14 7) ∷ Deliver B 0 ∷ []) ≡ Ok (Made 0) ∷ Ok (Heard verdict.NoTag None) ∷ []
 untagged = refl
 
--- A's fault before B's
+-- A's fault is reported before B's
 first_fault : make_fault (config 63 1) (config 63 2) ≡ Some (fault.Make A MaxFrame)
 first_fault = refl
 
 second_fault : make_fault (config 64 1) (config 9249 2) ≡ Some (fault.Make B MaxFrame)
 second_fault = refl
 
--- that link frames are octets is needed for the order of delivery: of other numbers two packet numbers could be
--- spelled the same
+-- the order of delivery needs link frames to be octets: larger numbers could spell two packet numbers in the same way
 wide_number : from_be_bytes w32 (256 ∷ 0 ∷ 0 ∷ 5 ∷ []) ≡ 2 ^ 32 + 5
 wide_number = refl
 

@@ -1,6 +1,6 @@
--- A run that meets all premises of the laws on origin and order, and delivers: A's client sends two frames, each link
--- frame comes to B at once, and B delivers both in their order. The cipher is not computed: of a tag it is known that it
--- has 16 octets and opens.
+-- A run that meets all premises of the laws of origin and order, and delivers: A's client sends two frames, each link
+-- frame is delivered to B at once, and B delivers both client frames in order. The cipher is not computed: all that is
+-- known of a tag is that it has 16 octets and opens.
 use Rattle.std.proofs.Common.{◌≡◌, ℕ, ◌+◌, ◌*◌, List, [], ◌∷◌, ◌++◌, refl, ap, sym, subst, ◌∙◌, arith}
 use Rattle.std.specs.Prelude.{replicate, slice_get, true, false, Some, None}
 use Rattle.macsec_gcm.specs.Gcm.{open_of}
@@ -37,7 +37,7 @@ use Rattle.macsec_link_counterexamples.proofs.TracedSteps.{genuine_append, genui
 use Rattle.macsec_link_counterexamples.proofs.WorkedEnds.{bytes, counts, gcm_a, gcm_b, installed_key, log, logs_sent, new_key, no_salt}
 use Rattle.macsec_link_counterexamples.proofs.WorkedEnds.{of_two, receives_from, rx_from, sci_a, sends_from, tx_from}
 
--- a client's frame with two octets of data
+-- a client frame with two octets of data
 abbrev pub client : ℕ → List ℕ
 client octet = replicate 12 3 ++ octet ∷ octet ∷ []
 
@@ -50,13 +50,13 @@ second_exchange = Send A (client 2) ∷ Deliver B 1 ∷ []
 abbrev pub exchange : List Event
 exchange = Send A (client 1) ∷ Deliver B 0 ∷ second_exchange
 
--- ---- the ends, by the packet numbers that come next
+-- ---- the ends, by their next packet numbers
 
 abbrev pub key_row : ℕ → ℕ → InstalledKey
 key_row ssci first_unused = installed_key Gcm128 no_salt ssci first_unused
 
--- with these options of B, A has sent up to n; B's association, the octets that B validated, what it and its channel
--- have counted; what A's client sent, what B delivered, and the link's frames
+-- B has these options, and A has sent up to n; then B's SA, the octets that B validated, and the counters of the SA and
+-- its channel; what A's client sent, what B delivered, and the link's frames
 abbrev pub trace_at : Options → ℕ → RxRow → ℕ → RxCounters → List (List ℕ) → List (List ℕ) → List (List ℕ) → List CipherUse → List Mark → Trace
 trace_at options n row m counted sent delivered frames seals marks = record {
   world = record {
@@ -108,7 +108,7 @@ iv number = iv_of Gcm128 sci_a 1 no_salt number
 abbrev pub aad : ℕ → List ℕ → List ℕ
 aad number frame = aad_sent options (key_row 1 number) (tx_from number) frame
 
--- the link frame and the use of the cipher, by what sealing gives
+-- the link frame and the use of the cipher, from the result of sealing
 abbrev pub link_frame_with : ℕ → List ℕ → Sealed → List ℕ
 link_frame_with number frame it = frame_with (tag_sent options (tx_from number) frame) frame it
 
@@ -118,7 +118,7 @@ use_with number frame it = cipher_use (key_row 1 number) (iv number) (parts_with
 abbrev pub tag : ℕ → List ℕ → List ℕ
 tag number frame = tag_of bytes (iv number) (aad number frame)
 
--- this tag opens A's frame of this number
+-- this tag opens A's frame with this packet number
 abbrev pub Opens : ℕ → List ℕ → Type 0
 Opens number t = open_of bytes (iv number) (aad number (client number)) [] (items 16 t) ≡ Some []
 
@@ -213,7 +213,7 @@ events = commands ++ exchange
 abbrev pub last_world : WorldState
 last_world = world_after (new_world gcm_a gcm_b) events
 
--- what the laws on origin and order ask of B's association, and what it delivers: so neither is empty
+-- the premises of the laws of origin and order for B's SA, and what it delivers: so the laws are not vacuous
 pub record MeetsPremises : Type 0 where
   pub made : make_fault gcm_a gcm_b ≡ None
   pub genuine : IsGenuine (new_trace gcm_a gcm_b) events
@@ -252,7 +252,7 @@ trace_ends =
 last_world_is : last_world ≡ (heard_second first_tag second_tag).world
 last_world_is = sym (world_of_trace (new_trace gcm_a gcm_b) events) ∙ ap (λ (t : Trace). t.world) trace_ends
 
--- B's options are those of the making at each moment
+-- B's options are the initial ones at each moment
 each_moment : (P : State → Type 0) → ((s : State) → s.options ≡ first_options gcm_b → P s) → AtEach (WhileLive P) (new_world gcm_a gcm_b) events
 each_moment P so =
     each_append (WhileLive P) (new_world gcm_a gcm_b) ready.world commands exchange

@@ -1,5 +1,5 @@
--- What was sealed and comes in time is genuine where an end opens it: so the premise of the laws on origin and order, that
--- no tag is forged, holds of each frame that the law on acceptance speaks of, at both ends, padded or not.
+-- What was sealed and arrives in time is genuine when an end opens it. So for each frame within the premises of the law
+-- of acceptance, at both ends, padded or not, the premise of the laws of origin and order holds that no tag is forged.
 use Rattle.std.proofs.Common.{◌≡◌, inl, inr, ℕ, zero, suc, ◌<◌, List, [], ◌∷◌, ◌++◌, length, take, refl, ap, sym, subst, ◌∙◌, arith, Contains}
 use Rattle.std.specs.Prelude.{slice_get, Some, None, IfSome}
 use Rattle.std.proofs.lemmas.List.Elements.{Contains-append_left}
@@ -57,7 +57,7 @@ module _ (law_of_step : LawOfStep) (laws : EndpointLaws) (w : WorldState) (e : E
   frame_is : in_a_row p ++ at.behind ≡ frame_at w n
   frame_is = (finds w n (in_a_row p ++ at.behind) sound at.there).found
 
-  -- it is what was sealed of it
+  -- it is what was sealed for it
   pub opened_in_time : use_opened s (frame_at w n) ≡ Some (use_sealed_by sender client tx)
   opened_in_time =
       let it = law_of_step sender s client tx rx at.behind sender_sound (sound_end w sound e) good by can at.may in
@@ -65,7 +65,7 @@ module _ (law_of_step : LawOfStep) (laws : EndpointLaws) (w : WorldState) (e : E
       (ap (λ (j : Judgement). use_opened_in s j j.row (reading (in_a_row p ++ at.behind))) it.judged
       ∙ ap (use_opened_in s (at_row rx tx.next 13 Passed (Some client)) (Some rx)) it.reads ∙ ap Some it.opens)
 
--- ---- what was sealed stays, and what was sent stands on the link
+-- ---- what was sealed stays, and what was sent stays on the link
 
 seals_stay : (t : Trace) (events : List Event) (u : CipherUse) → Contains t.seals u → Contains (trace_after t events).seals u
 seals_stay t [] u there = there
@@ -77,7 +77,7 @@ last_member : {X : Type 0} (xs : List X) (x : X) → IsMember (xs ++ x ∷ []) x
 last_member [] x = inl refl
 last_member (y ∷ xs) x = inr (last_member xs x)
 
--- a client frame that an end sends, without fault, by this association
+-- an end sends a client frame, without a fault, by this SA
 record IsSentBy (w : WorldState) (e : End) (client : List ℕ) (tx : TxRow) : Type 0 where
   none : fault_of w (Send e client) ≡ None
   by : (sending_of (end_of w e).state client).by ≡ Some tx
@@ -128,14 +128,14 @@ stands_later w (event ∷ events) (suc k) (suc m) e client tx before found is se
 
 -- ---- the law
 
--- event k sends a client frame protected, by this association of the end
+-- event k sends a client frame, protected by this SA of the end
 pub record Protects (a b : EndConfig) (events : List Event) (k : ℕ) (e : End) (client : List ℕ) (tx : TxRow) : Type 0 where
   pub sends : slice_get events k ≡ Some (Send e client)
   pub none : fault_of (world_at a b events k) (Send e client) ≡ None
   pub by : (sending_of (end_of (world_at a b events k) e).state client).by ≡ Some tx
 
--- what event k sends protected is genuine at each later moment at which the other end can accept it: whichever number the
--- link frame has, and also if it is padded
+-- what event k sends protected is genuine at each later moment at which the other end can accept it, whatever number
+-- the link frame has, padded or not
 abbrev pub IsGenuineInTime : EndConfig → EndConfig → List Event → Type 0
 IsGenuineInTime a b events = (e : End) (k m n : ℕ) (client : List ℕ) (tx : TxRow) (rx : RxRow) →
     let before = world_at a b events k in
@@ -157,7 +157,7 @@ genuine_in_time law_of_step laws a b events sounds e k m n client tx rx sends le
     subst (λ (v : WorldState). IfSome (use_opened (end_of v e).state (frame_at v n)) (Contains seals)) (sym (world_of_trace (new_trace a b) (take m events)))
     (subst (λ o. IfSome o (Contains seals)) (sym opened) sealed)
 
--- its link frame is there at each of these moments
+-- its link frame exists at each of these moments
 pub is_on_link : (a b : EndConfig) (events : List Event) (e : End) (k m : ℕ) (client : List ℕ) (tx : TxRow) → Protects a b events k e client tx → k < m →
     IsOnLink (world_at a b events m) (length (world_at a b events k).frames) (frame_sent (world_at a b events k) e client tx)
 is_on_link a b events e k m client tx sends less =

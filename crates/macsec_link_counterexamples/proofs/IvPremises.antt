@@ -1,5 +1,5 @@
--- Each premise of the law on packet numbers is needed: without it there is a run in which two uses of the cipher have
--- the same key bytes and the same IV.
+-- The law on packet numbers needs each premise: without it there is a run in which two uses of the cipher have the same
+-- key bytes and the same IV.
 use Rattle.std.proofs.Common.{◌≡◌, ◌≢◌, ℕ, true, List, [], ◌∷◌, refl, AllPairs, arith, Contains}
 use Rattle.std.specs.Prelude.{replicate}
 use Rattle.macsec_gcm.specs.Octets.{sum_with_stream}
@@ -32,7 +32,7 @@ DifferAtEnd a b events = DifferInSsci (world_after (new_world a b) events)
 abbrev HaveOtherSscis : InstalledKey → InstalledKey → Type 0
 HaveOtherSscis x y = x.bytes ≡ y.bytes → is_xpn x.suite ≡ true → x.ssci ≢ y.ssci
 
--- ---- the SCIs: 32-bit packet numbers, and one SCI at both ends
+-- ---- the SCIs: 32-bit packet numbers, and the same SCI at both ends
 
 -- the law without the premise that the SCIs differ
 abbrev pub LawForOneSci : EndConfig → EndConfig → List Event → Type 0
@@ -48,17 +48,17 @@ other_scis_needed = (
       0 1 no_use (omega arith) (omega arith) refl refl,
 )
 
--- ---- the suite: A has 32-bit packet numbers, and B extended ones; the salt, which is the same at both ends, makes B's IV
--- that of A
+-- ---- the suite: A has 32-bit packet numbers and B extended ones; with the salt, the same at both ends, B's IV equals
+-- A's
 
--- keys of the same bytes at both ends have the same salt, and different own SSCIs, whatever their suites
+-- keys with the same bytes at both ends have the same salt and different own SSCIs, whatever their suites
 abbrev pub AgreeButInSuite : InstalledKey → InstalledKey → Type 0
 AgreeButInSuite x y = x.bytes ≡ y.bytes → (x.salt ≡ y.salt) × (x.ssci ≢ y.ssci)
 
 abbrev pub AgreeButInSuites : WorldState → Type 0
 AgreeButInSuites w = (x y : InstalledKey) → Contains w.a.state.keys x → Contains w.b.state.keys y → AgreeButInSuite x y
 
--- the law without the premise that the suites are the same, and with the others of keys for all suites
+-- the law without the premise that the suites are the same; the other premises hold of keys of all suites
 abbrev pub LawForOtherSuites : EndConfig → EndConfig → List Event → Type 0
 LawForOtherSuites a b events = a.sci ≢ b.sci → AgreeButInSuites (world_after (new_world a b) events) → RepeatsNone a b events
 
@@ -79,9 +79,9 @@ same_suite_needed = (
       0 1 no_use (omega arith) (omega arith) refl refl,
 )
 
--- ---- the salt: extended packet numbers, and salts that make the IVs of two SSCIs the same
+-- ---- the salt: extended packet numbers, and salts with which two SSCIs have the same IV
 
--- keys of the same bytes at both ends have the same suite
+-- keys with the same bytes at both ends have the same suite
 abbrev pub AgreeOnSuite : InstalledKey → InstalledKey → Type 0
 AgreeOnSuite x y = x.bytes ≡ y.bytes → x.suite ≡ y.suite
 
@@ -105,7 +105,7 @@ same_salt_needed = (
       0 1 no_use (omega arith) (omega arith) refl refl,
 )
 
--- ---- the SSCIs: extended packet numbers, and one SSCI and one salt at both ends
+-- ---- the SSCIs: extended packet numbers, and the same SSCI and salt at both ends
 
 -- the law without the premise that the own SSCIs differ
 abbrev pub LawForOneSsci : EndConfig → EndConfig → List Event → Type 0

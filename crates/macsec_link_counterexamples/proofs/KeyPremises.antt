@@ -1,5 +1,5 @@
--- For acceptance the salt and the SSCI are needed, where packet numbers are extended: with others at B its IV is another
--- one, and the tag does not open. Two blocks of AES are computed for each.
+-- With extended packet numbers, acceptance needs the same salt and SSCI. With others at B its IV differs, and the tag
+-- does not open. Two blocks of AES are computed for each.
 use Rattle.std.proofs.Common.{◌≡◌, ◌≢◌, ℕ, false, List, [], ◌∷◌, ◌++◌, refl, ap, arith}
 use Rattle.std.specs.Prelude.{◌==◌, replicate, slice_index, None}
 use Rattle.std.proofs.lemmas.Bool.{eqb-false, ne_eqb}

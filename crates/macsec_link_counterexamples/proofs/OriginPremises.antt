@@ -1,6 +1,6 @@
--- Two premises of the laws on origin and order are needed. Where a tag is forged, B delivers a frame that A never sent. In
--- mode Check it does so without any forged tag, and stays deceived in mode Strict: of two frames that differ in the ICV
--- alone at most one opens, and the other one is delivered as Invalid.
+-- The laws of origin and order need two premises. If a tag is forged, B delivers a frame that A never sent. In the mode
+-- Check it does so without any forged tag, and the promise stays broken in the mode Strict: of two frames that differ
+-- only in the ICV at most one opens, and the other one is delivered as Invalid.
 use Rattle.std.proofs.Common.{◌≡◌, ◌⊎◌, inl, inr, ℕ, zero, suc, ◌≤◌, false, List, [], ◌∷◌, ◌++◌, length, refl, ap, sym, subst, ◌∙◌, arith, Contains}
 use Rattle.std.specs.Prelude.{◌==◌, replicate, Some}
 use Rattle.std.proofs.lemmas.Bool.{ne_eqb}
@@ -39,12 +39,12 @@ sent_none y there sent =
     let none : Contains [] (client 1) = subst (λ (k : InstalledKey). Contains (sent_under [] k.number) (client 1)) (sym (only (key_row 1 1) y there)) sent in
     omega (arith, none.1)
 
--- no frame is among none
+-- one frame is no subsequence of none
 no_subsequence_of_none : (x : List ℕ) → IsSubsequence (x ∷ []) [] → ⊥
 no_subsequence_of_none x ([], rising, found) = cc
 no_subsequence_of_none x (place ∷ places, rising, found) = cc
 
--- ---- a frame is injected that fits B's key
+-- ---- an injected frame that is valid under B's key
 
 abbrev forging : List ℕ → List Event
 forging t = Inject (link_frame_of 1 (client 1) t) ∷ Deliver B 0 ∷ []
@@ -84,7 +84,7 @@ each_moment P so =
 while_there : (P : State → Type 0) → ((s : State) → s.options ≡ first_options gcm_b → P s) → WhileThere gcm_a gcm_b forged B 0 P
 while_there P so k within = at_moment (WhileLive P) (new_world gcm_a gcm_b) forged (each_moment P so) k within
 
--- the law on origin without the premise that no tag is forged
+-- the law of origin without the premise that no tag is forged
 abbrev pub OriginWhereForged : EndConfig → EndConfig → List Event → Type 0
 OriginWhereForged a b events = (e : End) (i k : ℕ) → WhileThere a b events e i IsStrict → k ≤ length events → WasSentByOther (world_at a b events k) e i
 
@@ -99,7 +99,7 @@ genuineness_needed = (
       sent_none it.0 it.1 it.3,
 )
 
--- the law on order without it
+-- the law of order without it
 abbrev pub OrderWhereForged : EndConfig → EndConfig → List Event → Type 0
 OrderWhereForged a b events =
     AgreeOnKeys (world_after (new_world a b) events) →
@@ -118,7 +118,7 @@ genuineness_needed_for_order = (
       no_subsequence_of_none (client 1) (in_order (key_row 1 1) (0, omega arith, refl) refl),
 )
 
--- ---- in mode Check
+-- ---- the mode Check
 
 abbrev pub options_check : Options
 options_check = record (first_options gcm_b) { mode = Check }
@@ -132,11 +132,11 @@ in_check = trace_at options_check 0 (rx_from 1) 0 no_rx_counters [] [] [] [] []
 pub is_in_check : trace_after (new_trace gcm_a gcm_b) commands_check ≡ in_check
 is_in_check = refl
 
--- an ICV of this octet and fifteen zeros
+-- an ICV that is this octet and fifteen zeros
 abbrev pub icv_of : ℕ → List ℕ
 icv_of octet = octet ∷ replicate 15 0
 
--- A's frame of this number with such an ICV
+-- A's frame with this packet number and such an ICV
 abbrev pub guessed : ℕ → ℕ → List ℕ
 guessed number octet = link_frame_with number (client number) ([], icv_of octet)
 
@@ -209,7 +209,7 @@ each_in_check octet other =
     (live_next HasStrictOrder (unvalidated octet) (strict_again octet) (Command B (Validate Strict)) [] (λ live. record { replay = refl; window = refl }) (is_strict_again octet)
     (λ live. record { replay = refl; window = refl }))))
 
--- the law on origin where the end is strict after the last event, whatever it was before
+-- the law of origin if the end is strict after the last event, whatever it was before
 abbrev pub OriginWhereStrictAtEnd : EndConfig → EndConfig → List Event → Type 0
 OriginWhereStrictAtEnd a b events =
     IsGenuine (new_trace a b) events → (e : End) (i : ℕ) → IsStrict (end_of (world_after (new_world a b) events) e).state → WasSentByOther (world_after (new_world a b) events) e i
@@ -225,7 +225,7 @@ origin_fails octet other = (
       sent_none it.0 it.1 it.3,
 )
 
--- and the law on order, with the other premises at each moment
+-- the law of order likewise, with the other premises at each moment
 abbrev pub OrderWhereStrictAtEnd : EndConfig → EndConfig → List Event → Type 0
 OrderWhereStrictAtEnd a b events =
     IsGenuine (new_trace a b) events → AgreeOnKeys (world_after (new_world a b) events) →
@@ -251,7 +251,7 @@ zero_or_one : (n : ℕ) → ((n == 0) ≡ false) ⊎ ((n == 1) ≡ false)
 zero_or_one zero = inr refl
 zero_or_one (suc n) = inl (ne_eqb (suc n) 0 (λ same. omega (arith, same)))
 
--- of the frames of this number whose ICVs are 0 and 1 with zeros behind, one at least is not A's own
+-- of the frames with this packet number whose ICVs are 0 and 1 followed by zeros, at least one is not A's own
 pub of_one : (number : ℕ) (P : ℕ → Type 0) → ((octet : ℕ) → IsOther number octet → P octet) → P 0 ⊎ P 1
 of_one number P goes = by_octet (zero_or_one (first (tag_of bytes (iv number) (aad number (client number)))))
   where
@@ -259,7 +259,7 @@ of_one number P goes = by_octet (zero_or_one (first (tag_of bytes (iv number) (a
     by_octet (inl other) = inl (goes 0 other)
     by_octet (inr other) = inr (goes 1 other)
 
--- and that one is delivered as Invalid
+-- that frame is delivered as Invalid
 pub strictness_needed : Fails OriginWhereStrictAtEnd gcm_a gcm_b (guess 0) ⊎ Fails OriginWhereStrictAtEnd gcm_a gcm_b (guess 1)
 strictness_needed = of_one 1 (λ octet. Fails OriginWhereStrictAtEnd gcm_a gcm_b (guess octet)) origin_fails
 

@@ -1,6 +1,6 @@
--- Why the law on order would hold without its premise on the suite: where one end's packet numbers are extended and the
--- other's have 32 bits, an IV of both has one upper half of the extended packet number alone, since salt and SCI stay. So the
--- packet numbers, of which the SecTAG has the lower halves, rise at both ends together.
+-- Why the law of order would hold without its premise on the suite. If one end's packet numbers are extended and the
+-- other's have 32 bits, two equal IVs fix the upper half of the extended packet number, since salt and SCI stay. So the
+-- packet numbers, whose lower halves are in the SecTAG, rise together at both ends.
 use Rattle.std.proofs.Common.{◌≡◌, ℕ, ◌^◌, ◌<◌, List, [], ◌∷◌, ◌++◌, length, take, get_or, ap, sym, ◌∙◌, arith}
 use Rattle.std.specs.Prelude.{◌/◌, ◌%◌}
 use Rattle.std.specs.Int.{w32, w64, to_be_bytes}
@@ -9,11 +9,11 @@ use Rattle.std.proofs.lemmas.Nat.{shr-shr}
 use Rattle.macsec_suite.specs.Suites.{extended_iv}
 use Rattle.macsec_link_counterexamples.proofs.Ivs.{get_or-sum, same_of_4, xor_same}
 
--- the first four octets of an extended packet number are those of its upper half
+-- the first four octets of an extended packet number are its upper half
 upper_octets : (n : ℕ) → take 4 (to_be_bytes w64 n) ≡ to_be_bytes w32 (n / 2 ^ 32)
 upper_octets n = λ i. sym (shr-shr n 32 24) i % 256 ∷ sym (shr-shr n 32 16) i % 256 ∷ sym (shr-shr n 32 8) i % 256 ∷ n / 2 ^ 32 % 256 ∷ []
 
--- octets of two IVs of one salt
+-- the octets of two equal IVs with the same salt
 same_unsalted_octet : (ssci ssci' n n' k : ℕ) (salt : List ℕ) → k < length salt → get_or (extended_iv ssci salt n) k 0 ≡ get_or (extended_iv ssci' salt n') k 0 →
     get_or (to_be_bytes w32 ssci ++ to_be_bytes w64 n) k 0 ≡ get_or (to_be_bytes w32 ssci' ++ to_be_bytes w64 n') k 0
 same_unsalted_octet ssci ssci' n n' k salt within same =

@@ -1,7 +1,7 @@
--- The premises of the laws ask for no more than they say. No tag is forged by a frame that does not open, whatever the mode
--- and the verdict, nor by an event that only makes a link frame. The law on packet numbers speaks of runs with uses at both
--- ends, with 32-bit packet numbers also under one SSCI and two salts. An end that was strict until its association was
--- deleted may leave mode Strict then.
+-- The premises of the laws demand no more than they state. A frame that does not open forges no tag, whatever the mode
+-- and the verdict; nor does an event that only creates a link frame. The law on packet numbers covers runs with uses of
+-- the cipher at both ends, also with 32-bit packet numbers, the same SSCI and different salts. An end that was strict
+-- until its SA was deleted may then leave the mode Strict.
 use Rattle.std.proofs.Common.{◌≡◌, ◌≢◌, ℕ, Bool, true, false, List, [], ◌∷◌, ◌++◌, length, refl, sym, subst, arith}
 use Rattle.std.specs.Prelude.{◌==◌, if◌then◌else◌, replicate, Option, Some, None, IfSome, Contains}
 use Rattle.macsec_tag.specs.Table.{Reading, bad, tagged, untagged}
@@ -29,7 +29,7 @@ use Rattle.macsec_link.specs.World.{end_of, frame_at, new_world}
 use Rattle.macsec_link_counterexamples.proofs.TracedSteps.{WhileLive, at_moment}
 use Rattle.macsec_link_counterexamples.proofs.WorkedEnds.{both_send, gcm_a, gcm_b, new_key, no_salt, of_two, receives_from, sci_a, sci_b, scis_differ, xpn_a, xpn_b}
 
--- a frame of which step 13 of reception does not decide asks for nothing
+-- a frame that step 13 of reception does not decide has no condition
 pub nothing_asked : (t : Trace) (e : End) (n : ℕ) → ((judgement_of (end_of t.world e).state (frame_at t.world n)).step == 13) ≡ false → IsGenuineAt t (Deliver e n)
 nothing_asked t e n not13 = by_parts (judgement_of s frame) (judgement_of s frame).row (table.reading frame) not13
   where
@@ -47,7 +47,7 @@ nothing_asked t e n not13 = by_parts (judgement_of s frame) (judgement_of s fram
     by_parts j (Some row) (bad fault) not13 = tt
     by_parts j (Some row) (tagged p) not13 = subst (λ (b : Bool). IfSome (if b then Some (use_to_open_by s row j.number p) else None) (Contains t.seals)) (sym not13) tt
 
--- an event that is no delivery asks for nothing
+-- an event that is no delivery has no condition
 pub others_ask_nothing : (t : Trace) (e : End) (frame : List ℕ) (n place octet : ℕ) →
     IsGenuineAt t (Send e frame) × (IsGenuineAt t (SendUncontrolled e frame) × (IsGenuineAt t (Inject frame) × (IsGenuineAt t (Alter n place octet) × IsGenuineAt t (Pad n))))
 others_ask_nothing t e frame n place octet = (tt, (tt, (tt, (tt, tt))))
@@ -62,7 +62,7 @@ pub record MeetIvPremises (a b : EndConfig) (events : List Event) : Type 0 where
   pub differ : DifferInSsci (world_after (new_world a b) events)
   pub two_seals : length (trace_of a b events).seals ≡ 2
 
--- with 32-bit packet numbers, also where the ends have one SSCI and two salts
+-- with 32-bit packet numbers, the same SSCI and different salts
 pub one_ssci_of_32_bits : MeetIvPremises gcm_a gcm_b (both_send (new_key no_salt 0) (new_key (1 ∷ replicate 11 0) 0))
 one_ssci_of_32_bits = record {
   made = refl;
@@ -72,7 +72,7 @@ one_ssci_of_32_bits = record {
   two_seals = refl;
 }
 
--- with extended ones
+-- with extended packet numbers
 pub two_sscis : MeetIvPremises xpn_a xpn_b (both_send (new_key no_salt 1) (new_key no_salt 2))
 two_sscis = record {
   made = refl;
@@ -82,7 +82,7 @@ two_sscis = record {
   two_seals = refl;
 }
 
--- ---- mode Strict
+-- ---- the mode Strict
 
 abbrev strict_until_deleted : List Event
 strict_until_deleted = receives_from B (new_key no_salt 2) sci_a 1 1 ++ Command B (RxDel sci_a 0) ∷ Command B (Validate Check) ∷ []

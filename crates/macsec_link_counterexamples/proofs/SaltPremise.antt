@@ -1,6 +1,6 @@
--- That the ends agree on the salt is needed for the order of deliveries: with another salt at B a packet number that B
--- recovers is another one than A's, and the IV may fit all the same. A sends three frames, from ffffffff on; B takes the
--- third as number 1, and then the first as 1ffffffff.
+-- The order of deliveries needs the same salt at both ends. With another salt at B, B can recover another packet number
+-- than A's, and the IV can still be the same. A sends three frames, from ffffffff on; B takes the third as number 1,
+-- and then the first as 1ffffffff.
 use Rattle.std.proofs.Common.{◌≡◌, ◌≢◌, ℕ, get_or, zero, suc, ◌+◌, ◌-◌, ◌*◌, ◌^◌, ◌<◌, false, List, [], ◌∷◌, ◌++◌, refl, ap, sym, subst, ◌∙◌, arith}
 use Rattle.std.specs.Prelude.{replicate, Some}
 use Rattle.macsec_gcm.specs.Gcm.{open_of}
@@ -37,7 +37,7 @@ use Rattle.macsec_link_counterexamples.proofs.TracedSteps.{genuine_append, genui
 use Rattle.macsec_link_counterexamples.proofs.WorkedEnds.{Fails, bytes, counts, installed_key, log, logs_sent, new_key, no_salt, of_two}
 use Rattle.macsec_link_counterexamples.proofs.WorkedEnds.{receives_from, rx_from, sci_a, sends_from, tx_from, xpn_a, xpn_b}
 
--- B's salt turns the lowest bit of the upper half
+-- B's salt flips the lowest bit of the upper half
 abbrev salt_b : List ℕ
 salt_b = replicate 7 0 ++ 1 ∷ replicate 4 0
 
@@ -69,7 +69,7 @@ events = commands ++ exchange
 abbrev key_row : List ℕ → ℕ → ℕ → InstalledKey
 key_row salt ssci first_unused = installed_key Xpn128 salt ssci first_unused
 
--- A has sent n frames, of which the first unused number is told; B's association and what it has accepted
+-- A has sent n frames, with this first unused packet number; then B's SA and what it has accepted
 abbrev trace_at : ℕ → ℕ → RxRow → ℕ → List (List ℕ) → List (List ℕ) → List (List ℕ) → List CipherUse → List Mark → Trace
 trace_at n unused row m sent delivered frames seals marks = record {
   world = record {
@@ -236,8 +236,8 @@ first_opens = opens bytes (iv 0) (aad 0)
 third_opens : Opens 2 third_tag
 third_opens = opens bytes (iv 2) (aad 2)
 
--- the traces of the run: A sent one, two and three frames; B heard the third; its lowest number was raised; and it heard
--- the first
+-- the traces of the run: A sent one, two and three frames; B received the third; its lowest acceptable packet number
+-- was raised; and B received the first
 abbrev one : Trace
 one = sent_one first_tag
 
@@ -287,7 +287,7 @@ last_world_is =
     ∙ ap (λ (t : Trace). trace_after t last_delivery) raised_is
     ∙ heard_first_is)
 
--- B's options are those of the making at each moment
+-- B's options are the initial ones at each moment
 each_moment : (P : State → Type 0) → ((s : State) → s.options ≡ first_options xpn_b → P s) → AtEach (WhileLive P) (new_world xpn_a xpn_b) events
 each_moment P so =
     each_append (WhileLive P) (new_world xpn_a xpn_b) ready.world commands exchange
@@ -303,7 +303,7 @@ each_moment P so =
 while_there : (P : State → Type 0) → ((s : State) → s.options ≡ first_options xpn_b → P s) → WhileThere xpn_a xpn_b events B 0 P
 while_there P so k within = at_moment (WhileLive P) (new_world xpn_a xpn_b) events (each_moment P so) k within
 
--- the third and then the first are no subsequence
+-- the third frame followed by the first is no subsequence
 no_subsequence : (x y z : List ℕ) → y ≢ x → z ≢ x → IsSubsequence (z ∷ x ∷ []) (x ∷ y ∷ z ∷ []) → ⊥
 no_subsequence x y z other other' ([], rising, found) = cc
 no_subsequence x y z other other' (p ∷ [], rising, found) = cc
@@ -315,7 +315,7 @@ no_subsequence x y z other other' (p ∷ suc (suc (suc q)) ∷ places, rising, f
 differ : (n m : ℕ) → n ≢ m → client n ≢ client m
 differ n m other same = other (ap (λ (frame : List ℕ). get_or frame 12 0) same)
 
--- the law on order, with the suite alone of what the keys are to agree on
+-- the law of order, if keys need only agree on the suite
 abbrev pub OrderForOtherSalts : EndConfig → EndConfig → List Event → Type 0
 OrderForOtherSalts a b events =
     IsGenuine (new_trace a b) events → AgreeOnSuites (world_after (new_world a b) events) →

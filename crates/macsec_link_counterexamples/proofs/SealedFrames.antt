@@ -1,5 +1,5 @@
--- Frames sealed for integrity alone, told octet by octet: what sealing gives of them is a tag of 16 octets, whatever
--- they are, so that runs with such frames compute without the cipher.
+-- Frames sealed for integrity only, octet by octet. Sealing gives a tag of 16 octets, whatever they are, so runs with
+-- such frames are computed without the cipher.
 use Rattle.std.proofs.Common.{◌≡◌, ℕ, zero, suc, List, [], ◌∷◌, ◌++◌, length, take, drop, true, false, refl, ap, sym, ◌∙◌, arith, eq-eqb}
 use Rattle.std.specs.Prelude.{◌==◌, ◌&&◌, slice_range, if◌then◌else◌, Some, None}
 use Rattle.macsec_gcm.specs.Gcm.{authentication_tag, gctr, open_of, seal_of}
@@ -33,9 +33,9 @@ each_item zero (x ∷ xs) long = absurd (omega (arith, long))
 each_item (suc n) [] long = absurd (omega (arith, long))
 each_item (suc n) (x ∷ xs) long = ap (λ (ys : List ℕ). x ∷ ys) (each_item n xs (omega (arith, long)))
 
--- ---- the cipher, of an empty plaintext
+-- ---- the cipher with an empty plaintext
 
--- ciphertext and tag, as sealing gives them
+-- the ciphertext and the tag that sealing gives
 abbrev pub Sealed : Type 0
 Sealed = List ℕ × List ℕ
 
@@ -69,7 +69,7 @@ opens_tag key iv aad = ap (λ b. if b then Some [] else None) (same_refl (seal_o
 pub opens : (key iv aad : List ℕ) → open_of key iv aad [] (items 16 (tag_of key iv aad)) ≡ Some []
 opens key iv aad = ap (open_of key iv aad []) (each_item 16 (tag_of key iv aad) (long_tag key iv aad)) ∙ opens_tag key iv aad
 
--- at most one tag opens: none that begins with another octet
+-- at most one tag opens: a tag with another first octet does not
 pub first_differs : (xs : List ℕ) (octet : ℕ) (others : List ℕ) → length xs ≡ 16 → (first xs == octet) ≡ false → same_octets xs (octet ∷ others) ≡ false
 unfolding first
 first_differs [] octet others long other = absurd (omega (arith, long))
@@ -82,11 +82,11 @@ closes key iv aad octet others other =
 
 -- ---- frames
 
--- the additional authenticated data of a client's frame that an association sends for integrity alone: all of it
+-- the additional authenticated data of a client frame that an SA sends for integrity only: the whole frame
 abbrev pub aad_sent : TxOptions → InstalledKey → TxRow → List ℕ → List ℕ
 aad_sent options key row frame = (aad_and_plaintext key.offset false (take 6 frame) (slice_range frame 6 12) (tag_sent options row frame) (drop 12 frame)).0
 
--- the parts of such a frame, by what sealing gives
+-- the parts of such a frame, from the result of sealing
 abbrev pub parts_with : Tag → List ℕ → Sealed → MpduParts
 parts_with tag frame it = record {
   da = take 6 frame;

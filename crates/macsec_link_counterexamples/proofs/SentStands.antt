@@ -1,5 +1,5 @@
--- What an end sends protected stands on the link from then on: so the law on acceptance says something of each frame
--- that is sent protected.
+-- What an end sends protected is on the link from then on. So the law of acceptance covers each frame that is sent
+-- protected.
 use Rattle.std.proofs.Common.{◌≡◌, ℕ, ◌+◌, Bool, true, false, List, [], ◌∷◌, ◌++◌, length, refl, ap, sym, ◌∙◌, append-nil}
 use Rattle.std.specs.Prelude.{nat_lt, slice_get, slice_set, if◌then◌else◌, Option, Some, None}
 use Rattle.std.proofs.lemmas.Option.{slice_get_within}
@@ -25,7 +25,7 @@ use Rattle.macsec_link.proofs.Windows.{slice_get-more}
 
 -- ---- no link frame vanishes
 
--- the link of a later world has the frames of an earlier one, in their places, and perhaps more after them
+-- the link of a later world has the frames of an earlier one, with the same numbers, and perhaps more after them
 abbrev Grows : WorldState → WorldState → Type 0
 Grows w after = (more : List (List ℕ)) × (after.frames ≡ w.frames ++ more)
 
@@ -62,7 +62,7 @@ stays_on_link w (event ∷ events) n frame there =
     let more = slice_get-more w.frames grows.0 n (slice_get_within w.frames n frame there) in
     stays_on_link (world_step w event).1 events n frame (ap (λ (frames : List (List ℕ)). slice_get frames n) grows.1 ∙ more ∙ there)
 
--- ---- what is protected leaves
+-- ---- a protected frame is sent
 
 by_row : (options : TxOptions) (keys : List InstalledKey) (frame : List ℕ) (on : Option TxRow) (row : TxRow) → (sending_by options keys frame on).by ≡ Some row →
     (sending_by options keys frame on).leaving ≡ protected row.key (protected_frame options (the_key keys row.key) row frame)
@@ -90,7 +90,7 @@ leaves_protected options keys rows frame row by = by_test options.protect by
     by_test true by' = by_row options keys frame (row_on rows) row by'
     by_test false by' = cc
 
--- ---- and stands on the link, as the last frame
+-- ---- and is the last frame on the link
 
 last_found : (xs : List (List ℕ)) (x : List ℕ) → slice_get (xs ++ x ∷ []) (length xs) ≡ Some x
 last_found [] x = refl
@@ -107,7 +107,7 @@ left w A input frame under is =
 left w B input frame under is =
     ap (λ (o : Output). slice_get (reaction (with_end w B (end_after w.b input (step w.b.state input))) o).1.frames (length w.frames)) is ∙ last_found w.frames frame
 
--- a Send that no fault stops, and that an association protects
+-- a Send without a fault, which an SA protects
 pub stands_on_link : (w : WorldState) (e : End) (client : List ℕ) (tx : TxRow) → fault_of w (Send e client) ≡ None → frame_fault client ≡ None →
     (sending_of (end_of w e).state client).by ≡ Some tx →
     let s = (end_of w e).state in

@@ -1,5 +1,5 @@
--- One event of a trace, by what the endpoint makes of it: so a worked run goes on from a world that is written out,
--- and never computes what it had before.
+-- One event of a trace, from the endpoint's result. So a worked run continues from a world that is written out, and
+-- never computes earlier events again.
 use Rattle.std.proofs.Common.{◌≡◌, ℕ, ◌≤◌, zero, suc, List, [], ◌∷◌, ◌++◌, length, take, refl, ap, sym, subst, arith}
 use Rattle.std.specs.Prelude.{slice_get, true, Some, None, IfSome, Contains}
 use Rattle.macsec_tag.specs.Table.{reading}
@@ -25,7 +25,7 @@ world_of t = t.world
 
 -- ---- one event
 
--- A's association sends this frame
+-- A's SA sends this frame
 abbrev pub sent_by : TxRow → List ℕ → Sending
 sent_by row frame = record { leaving = protected row.key frame; by = Some row }
 
@@ -64,7 +64,7 @@ pub genuine_at : (s : State) (frame : List ℕ) (j : Judgement) (seals : List Ci
     IfSome (use_opened_in s j j.row (reading frame)) (Contains seals) → IfSome (use_opened s frame) (Contains seals)
 genuine_at s frame j seals judged it = subst (λ (j : Judgement). IfSome (use_opened_in s j j.row (reading frame)) (Contains seals)) (sym judged) it
 
--- ---- events in their order
+-- ---- several events, in order
 
 pub genuine_next : (t after : Trace) (event : Event) (events : List Event) → IsGenuineAt t event → trace_step t event ≡ after →
     IsGenuine after events → IsGenuine t (event ∷ events)
@@ -74,16 +74,16 @@ pub genuine_append : (t after : Trace) (events more : List Event) → IsGenuine 
 genuine_append t after [] more now is later = subst (λ (x : Trace). IsGenuine x more) (sym is) later
 genuine_append t after (event ∷ events) more now is later = (now.0, genuine_append (trace_step t event) after events more now.1 is later)
 
--- a fact of the world at each moment
+-- P holds of the world at each moment
 abbrev pub AtEach : (WorldState → Type 0) → WorldState → List Event → Type 0
 AtEach P w [] = P w
 AtEach P w (event ∷ events) = P w × AtEach P (world_step w event).1 events
 
--- a fact of B at a moment, while its association 0 is there
+-- P holds of B's state while its SA 0 exists
 abbrev pub WhileLive : (State → Type 0) → WorldState → Type 0
 WhileLive P w = IfSome (slice_get w.b.delivered 0) (λ log. log.live ≡ true → P w.b.state)
 
--- of each moment before the last
+-- P holds at each moment before the last
 abbrev pub AtEachBefore : (WorldState → Type 0) → WorldState → List Event → Type 0
 AtEachBefore P w [] = Unit {0}
 AtEachBefore P w (event ∷ events) = P w × AtEachBefore P (world_step w event).1 events
@@ -92,7 +92,7 @@ pub each_next : (P : WorldState → Type 0) (w after : WorldState) (event : Even
     AtEach P after events → AtEach P w (event ∷ events)
 each_next P w after event events now is later = (now, subst (λ (x : WorldState). AtEach P x events) (sym is) later)
 
--- the same of what holds of B at the moments of a trace
+-- the same for a property of B along a trace
 pub live_next : (P : State → Type 0) (t after : Trace) (event : Event) (events : List Event) → WhileLive P t.world → trace_step t event ≡ after →
     AtEach (WhileLive P) after.world events → AtEach (WhileLive P) t.world (event ∷ events)
 live_next P t after event events now is later = each_next (WhileLive P) t.world after.world event events now (ap world_of is) later

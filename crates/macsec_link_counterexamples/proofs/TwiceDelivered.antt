@@ -1,6 +1,6 @@
--- Replay protection, and its window of 0, are needed for the order of deliveries, and at every moment: with it off, or with
--- a window of 1, one frame is delivered twice, though no tag is forged and B validates strictly, and though B has both
--- afterwards. With it off the later packet number is not above the earlier one either.
+-- The order of deliveries needs replay protection with a window of 0, at every moment. With it off, or with a window of
+-- 1, one frame is delivered twice, though no tag is forged, B validates strictly, and B has both settings afterwards.
+-- With it off, the later packet number is not above the earlier one either.
 use Rattle.std.proofs.Common.{◌≡◌, ℕ, zero, suc, ◌+◌, ◌<◌, Bool, true, false, List, [], ◌∷◌, ◌++◌, refl, ap, sym, subst, ◌∙◌, arith, AllPairs}
 use Rattle.std.specs.Prelude.{Some}
 use Rattle.macsec_tag.specs.Table.{parts_at}
@@ -33,7 +33,7 @@ use Rattle.macsec_link_counterexamples.proofs.TracedSteps.{AtEach, WhileLive, af
 use Rattle.macsec_link_counterexamples.proofs.TracedSteps.{genuine_append, genuine_at, genuine_next, live_next, send_step, sent_by}
 use Rattle.macsec_link_counterexamples.proofs.WorkedEnds.{Fails, bytes, gcm_a, gcm_b, of_two, rx_from, tx_from}
 
--- with replay protection on the window is 1, and with it off 0
+-- the window is 1 with replay protection on, and 0 with it off
 abbrev window : Bool → ℕ
 window true = 1
 window false = 0
@@ -41,7 +41,7 @@ window false = 0
 abbrev commands : Bool → List Event
 commands replay = exchange.commands ++ Command B (Replay replay (window replay)) ∷ []
 
--- then replay protection is on, and its window 0
+-- then replay protection is on with a window of 0
 abbrev back : List Event
 back = Command B (Replay true 0) ∷ []
 
@@ -56,7 +56,7 @@ events replay = commands replay ++ Send A (client 1) ∷ twice
 abbrev options_of : Bool → Options
 options_of replay = record (first_options gcm_b) { replay = replay; window = window replay }
 
--- the lowest acceptable packet number after number 1
+-- the lowest acceptable packet number after packet number 1
 abbrev lowest : Bool → ℕ
 lowest true = 1
 lowest false = 2
@@ -170,7 +170,8 @@ trace_ends replay =
 last_world_is : (replay : Bool) → world_after (new_world gcm_a gcm_b) (events replay) ≡ (at_end replay first_tag).world
 last_world_is replay = sym (world_of_trace (new_trace gcm_a gcm_b) (events replay)) ∙ ap (λ (t : Trace). t.world) (trace_ends replay)
 
--- B is strict all the while, and its options are these from its association's making on, but for replay and window
+-- B is strict at each moment, and its other options but replay and window are the initial ones from the creation of its
+-- SA on
 each_moment : (replay : Bool) (P : State → Type 0) → ((s : State) → s.options ≡ first_options gcm_b → P s) → ((s : State) → s.options ≡ options_of replay → P s) →
     AtEach (WhileLive P) (new_world gcm_a gcm_b) (events replay)
 each_moment replay P first so =
@@ -186,21 +187,21 @@ while_there : (replay : Bool) (P : State → Type 0) → ((s : State) → s.opti
     WhileThere gcm_a gcm_b (events replay) B 0 P
 while_there replay P first so k within = at_moment (WhileLive P) (new_world gcm_a gcm_b) (events replay) (each_moment replay P first so) k within
 
--- one frame sent, delivered twice, is no subsequence
+-- one frame delivered twice is no subsequence of the frame sent once
 no_subsequence : (x : List ℕ) → IsSubsequence (x ∷ x ∷ []) (x ∷ []) → ⊥
 no_subsequence x ([], rising, found) = cc
 no_subsequence x (p ∷ [], rising, found) = cc
 no_subsequence x (p ∷ zero ∷ places, rising, found) = let less : p < 0 = rising 0 (omega arith) in omega (arith, less)
 no_subsequence x (p ∷ suc q ∷ places, rising, found) = cc
 
--- ---- the law on order
+-- ---- the law of order
 
--- what is left of the premises on replay protection: with it on, any window; with it off, the window of 0
+-- the remaining premise on replay protection: any window if it is on, the window of 0 if it is off
 abbrev pub HasRest : Bool → State → Type 0
 HasRest true s = s.options.replay ≡ true
 HasRest false s = s.options.window ≡ 0
 
--- the law on order, with that alone at each moment, and with both after the last event
+-- the law of order with only that premise at each moment, and with both settings after the last event
 abbrev pub OrderWithRest : Bool → EndConfig → EndConfig → List Event → Type 0
 OrderWithRest replay a b events =
     IsGenuine (new_trace a b) events → AgreeOnKeys (world_after (new_world a b) events) →
@@ -232,7 +233,7 @@ protection_needed = (refl, order_fails false)
 
 -- ---- the law on windows
 
--- of two marks, without the premise that replay protection is on at the later one
+-- the window for two marks, without the premise that replay protection is on at the later one
 abbrev IsWithinWindowOff : Mark → Mark → Type 0
 IsWithinWindowOff earlier later = earlier.validated ≡ true → earlier.number < later.number + later.window
 

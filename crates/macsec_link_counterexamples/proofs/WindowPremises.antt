@@ -1,6 +1,6 @@
--- The premise of the law on windows that the earlier frame was validated is needed: in mode Check a frame of packet
--- number 2 whose ICV is not genuine is delivered as Invalid, the numbers of the association stay, and the frame of number
--- 1 is passed after it.
+-- The law of windows needs the premise that the earlier frame was validated. In the mode Check a frame with packet
+-- number 2 and a wrong ICV is delivered as Invalid, the packet numbers of the SA stay, and then the frame with packet
+-- number 1 passes.
 use Rattle.std.proofs.Common.{◌≡◌, ◌⊎◌, ℕ, ◌+◌, ◌<◌, true, false, List, [], ◌∷◌, ◌++◌, refl, ap, subst, ◌∙◌, arith, AllPairs}
 use Rattle.std.specs.Prelude.{replicate, Some}
 use Rattle.macsec_tag.specs.Table.{parts_at}
@@ -22,7 +22,7 @@ use Rattle.macsec_link_counterexamples.proofs.SealedFrames.{Sealed, closes, seal
 use Rattle.macsec_link_counterexamples.proofs.TracedSteps.{after_both, deliver_step, send_step, sent_by}
 use Rattle.macsec_link_counterexamples.proofs.WorkedEnds.{Fails, bytes, gcm_a, gcm_b, rx_from, tx_from}
 
--- a frame of number 2 with an ICV that is guessed, and then A's own of number 1
+-- a frame with packet number 2 and a guessed ICV, and then A's own with packet number 1
 abbrev then_sent : List Event
 then_sent = Send A (client 1) ∷ Deliver B 1 ∷ []
 
@@ -96,7 +96,7 @@ trace_ends octet other =
 
 -- ---- the law
 
--- of two marks, without the premise that the earlier frame was validated
+-- the window for two marks, without the premise that the earlier frame was validated
 abbrev IsWithinAnyway : Mark → Mark → Type 0
 IsWithinAnyway earlier later = later.replay ≡ true → earlier.number < later.number + later.window
 
@@ -113,6 +113,6 @@ fails octet other = (
       omega (arith, less),
 )
 
--- of the frames whose ICVs are 0 and 1 with zeros behind, one at least is delivered as Invalid
+-- of the frames whose ICVs are 0 and 1 followed by zeros, at least one is delivered as Invalid
 pub validation_needed_for_window : Fails WindowOfAll gcm_a gcm_b (events 0) ⊎ Fails WindowOfAll gcm_a gcm_b (events 1)
 validation_needed_for_window = of_one 2 (λ octet. Fails WindowOfAll gcm_a gcm_b (events octet)) fails

@@ -1,4 +1,4 @@
--- The ends of worked runs: their configurations and keys, and the commands by which association 0 sends or receives.
+-- The ends of worked runs: their configurations and keys, and the commands by which SA 0 sends or receives.
 use Rattle.std.proofs.Common.{◌≡◌, ◌≢◌, ◌⊎◌, inl, inr, ℕ, true, false, List, [], ◌∷◌, ◌++◌, ap, get_or, subst, Contains}
 use Rattle.std.specs.Prelude.{replicate, Bool, Some, None}
 use Rattle.macsec_aes.specs.declared.Key.TheVariants.{K128}
@@ -32,7 +32,7 @@ sci_b = record { 0 = 2 ∷ 0 ∷ 0 ∷ 0 ∷ 0 ∷ 2 ∷ 0 ∷ 1 ∷ [] }
 pub scis_differ : (s t : Sci) → get_or s.0 5 0 ≢ get_or t.0 5 0 → s ≢ t
 scis_differ s t differ same = differ (ap (λ (x : Sci). get_or x.0 5 0) same)
 
--- a configuration by which each frame that is sent carries the SCI
+-- a configuration with which each sent frame carries the SCI
 abbrev pub config : Suite → Sci → EndConfig
 config suite sci = record { suite = suite; sci = sci; max_frame = 1518; form = form.Sci }
 
@@ -51,46 +51,46 @@ xpn_b = config Xpn128 sci_b
 abbrev pub no_salt : List ℕ
 no_salt = replicate 12 0
 
--- key 0, of the same bytes at both ends
+-- key 0, with the same bytes at both ends
 abbrev pub bytes : List ℕ
 bytes = replicate 16 7
 
 abbrev pub new_key : List ℕ → ℕ → NewKey
 new_key salt ssci = record { number = 0; bytes = K128 bytes; salt = salt; ssci = ssci; offset = 0; suite = None }
 
--- a client's frame of two octets of data
+-- a client frame with two octets of data
 abbrev pub client : List ℕ
 client = replicate 14 3
 
--- a law is false of this run, whose ends can be made
+-- the law is false of this run, whose ends can be created
 abbrev pub Fails : (EndConfig → EndConfig → List Event → Type 0) → EndConfig → EndConfig → List Event → Type 0
 Fails law a b events = (make_fault a b ≡ None) × (law a b events → ⊥)
 
--- association 0 sends from this packet number on
+-- SA 0 sends from this packet number on
 abbrev pub sends_from : End → NewKey → ℕ → Bool → List Event
 sends_from e key next conf = Command e (Key key) ∷ Command e (TxSa 0 0 next conf) ∷ Command e (TxOn 0) ∷ []
 
--- a frame of each end, from packet number 1 on
+-- each end sends a frame, from packet number 1 on
 abbrev pub both_send : NewKey → NewKey → List Event
 both_send a b = sends_from A a 1 false ++ sends_from B b 1 false ++ Send A client ∷ Send B client ∷ []
 
--- association 0 of the only channel receives from this packet number on
+-- SA 0 of the only channel receives from this packet number on
 abbrev pub receives_from : End → NewKey → Sci → ℕ → ℕ → List Event
 receives_from e key sci ssci lowest =
     Command e (Key key) ∷ Command e (RxSc sci) ∷ Command e (RxSa sci 0 0 ssci lowest) ∷ Command e (RxOn sci 0) ∷ []
 
--- the association that sends so, for integrity alone, and the one that receives so from A
+-- the SA that sends so, for integrity only, and the one that receives so from A
 abbrev pub tx_from : ℕ → TxRow
 tx_from next = record { an = 0; key = 0; next = next; conf = false; on = true }
 
 abbrev pub rx_from : ℕ → RxRow
 rx_from next = record { sci = sci_a; an = 0; key = 0; ssci = 1; next = next; lowest = next; on = true }
 
--- what the latter and its channel have counted
+-- the counters of the receive SA and its channel
 abbrev pub counts : RxCounters → ChannelCounters
 counts counted = record (new_channel_counters sci_a) { counters = counted; associations = Some counted ∷ None ∷ None ∷ None ∷ [] }
 
--- what was delivered from the latter
+-- what was delivered from the receive SA
 abbrev pub log : List (List ℕ) → DeliveryLog
 log frames = record { sci = sci_a; an = 0; key = 0; live = true; frames = frames }
 
@@ -111,6 +111,6 @@ only key x there = by_place (member (key ∷ []) x there)
     by_place (inl here) = here
     by_place (inr none) = absurd none
 
--- where each end has one key, what holds of these two holds of any two
+-- if each end has one key, what holds of these two holds of any two
 pub of_two : {X : Type 0} (R : X → X → Type 0) (a b : X) → R a b → (x y : X) → Contains (a ∷ []) x → Contains (b ∷ []) y → R x y
 of_two R a b holds x y there there' = subst (λ k. R k y) (only a x there) (subst (R a) (only b y there') holds)
