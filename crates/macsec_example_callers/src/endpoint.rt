@@ -131,7 +131,7 @@ pub fn is_passed(secy: &mut Secy, frame: &[u8]) -> Result<bool, FrameFault>
     Ok(received.verdict == Verdict::Passed)
 }
 
-/// The number of frames from a sender that were found valid and not late; `None` if it has no receive channel.
+/// The number of frames from a sender that were found valid and not late; `None` if it has no receive SC.
 pub fn passed_count(secy: &Secy, sender: Sci) -> Option<u64>
     ensures { result ≡ option_map (λ counters. counters.in_pkts_ok) (rx_counters_of secy.now.rx_counters sender) }
 {

@@ -220,7 +220,7 @@ validation_needed = (
       Unchecked (Some client) (λ same. cc) (is_unchecked (tag_from gcm_a 1)),
 )
 
--- ---- the tag carries no SCI, and B has a second channel
+-- ---- the tag carries no SCI, and B has a second SC
 
 abbrev without_sci : EndConfig
 without_sci = record gcm_a { form = form.Auto }

@@ -56,7 +56,7 @@ abbrev pub key_row : ℕ → ℕ → InstalledKey
 key_row ssci first_unused = installed_key Gcm128 no_salt ssci first_unused
 
 -- B has these options, and A has sent up to n; then B's SA, the octets that B validated, and the counters of the SA and
--- its channel; what A's client sent, what B delivered, and the link's frames
+-- its SC; what A's client sent, what B delivered, and the link's frames
 abbrev pub trace_at : Options → ℕ → RxRow → ℕ → RxCounters → List (List ℕ) → List (List ℕ) → List (List ℕ) → List CipherUse → List Mark → Trace
 trace_at options n row m counted sent delivered frames seals marks = record {
   world = record {

@@ -74,7 +74,7 @@ sends_from e key next conf = Command e (Key key) ∷ Command e (TxSa 0 0 next co
 abbrev pub both_send : NewKey → NewKey → List Event
 both_send a b = sends_from A a 1 false ++ sends_from B b 1 false ++ Send A client ∷ Send B client ∷ []
 
--- SA 0 of the only channel receives from this packet number on
+-- SA 0 of the only SC receives from this packet number on
 abbrev pub receives_from : End → NewKey → Sci → ℕ → ℕ → List Event
 receives_from e key sci ssci lowest =
     Command e (Key key) ∷ Command e (RxSc sci) ∷ Command e (RxSa sci 0 0 ssci lowest) ∷ Command e (RxOn sci 0) ∷ []
@@ -86,7 +86,7 @@ tx_from next = record { an = 0; key = 0; next = next; conf = false; on = true }
 abbrev pub rx_from : ℕ → RxRow
 rx_from next = record { sci = sci_a; an = 0; key = 0; ssci = 1; next = next; lowest = next; on = true }
 
--- the counters of the receive SA and its channel
+-- the counters of the receive SA and its SC
 abbrev pub counts : RxCounters → ChannelCounters
 counts counted = record (new_channel_counters sci_a) { counters = counted; associations = Some counted ∷ None ∷ None ∷ None ∷ [] }
 

@@ -1,4 +1,4 @@
-//! The frames delivered from each receive SA of an end, and the table of the live logs.
+//! The frames delivered from each receive SA (secure association) of an end, and the table of the live logs.
 
 ghost use Rattle.std.specs.Prelude.{◌≡◌, ◌<◌, ◌≤◌, All, [], filter, find, true, OnErr, OnOk, map, vec_capacity, vec_len};
 ghost use Rattle.macsec_rx.specs.Channels.{same_sci};
@@ -10,8 +10,7 @@ use macsec_secy::{An, Command, KeyNumber, Sci};
 use std::alloc::{AllocError, Global};
 use std::marker::Model;
 
-/// The log of a receive SA: its channel, its number, its key, whether the SA still exists, and the frames delivered
-/// from it.
+/// The log of a receive SA: its SC, its number, its key, whether the SA still exists, and the frames delivered from it.
 #[derive(Drop)]
 pub(crate) struct Deliveries {
     sci: Sci,
@@ -55,7 +54,7 @@ impl Deliveries {
         self.frames.as_slice()
     }
 
-    /// Whether this is the log of the existing SA with this channel and number.
+    /// Whether this is the log of the existing SA with this SC and number.
     fn is_live_at(&self, sci: Sci, an: u8) -> bool
         ensures { result ≡ is_live_at sci an self.now.log }
     {
@@ -78,7 +77,7 @@ impl Deliveries {
         self.frames.push(frame).unwrap();
     }
 
-    /// Closes this log if it belongs to the existing SA with this channel and number.
+    /// Closes this log if it belongs to the existing SA with this SC and number.
     fn close_at(&mut self, sci: Sci, an: u8)
         ensures { self.new.log ≡ log_closing (is_live_at sci an) self.old.log }
     {
@@ -87,7 +86,7 @@ impl Deliveries {
         }
     }
 
-    /// Closes this log if its SA belongs to this channel.
+    /// Closes this log if its SA belongs to this SC.
     fn close_in(&mut self, sci: Sci)
         ensures { self.new.log ≡ log_closing (λ log. same_sci log.sci sci) self.old.log }
     {
@@ -109,7 +108,7 @@ pub(crate) fn reserve_live(logs: &mut Vec<Deliveries>, live: &[usize]) -> Result
     Ok(())
 }
 
-/// Whether the log at this index belongs to the existing SA with this channel and number.
+/// Whether the log at this index belongs to the existing SA with this SC and number.
 fn is_live_at(logs: &[Deliveries], place: usize, sci: Sci, an: u8) -> bool
     ensures { result ≡ passes_at (is_live_at sci an) (logs_of logs.now) place }
 {
@@ -128,7 +127,7 @@ fn place_of(logs: &[Deliveries], live: &[usize], sci: Sci, an: u8) -> Option<usi
         .copied()
 }
 
-/// Adds a frame to the log of the existing SA with this channel and number.
+/// Adds a frame to the log of the existing SA with this SC and number.
 fn push_first(logs: &mut Vec<Deliveries>, live: &[usize], sci: Sci, an: u8, frame: Vec<u8>)
     requires live { live.now ≡ live_places (logs_of logs.old.items) }
     requires places { All (HasPlaceAt logs.old.items) live.now }
@@ -157,7 +156,7 @@ pub(crate) fn push_delivered(
     }
 }
 
-/// Closes the log of the SA with this channel and number.
+/// Closes the log of the SA with this SC and number.
 fn close_at(logs: &mut Vec<Deliveries>, live: &[usize], sci: Sci, an: u8)
     requires live { live.now ≡ live_places (logs_of logs.old.items) }
     ensures { logs_of logs.new.items ≡ map (log_closing (is_live_at sci an)) (logs_of logs.old.items) }
@@ -167,7 +166,7 @@ fn close_at(logs: &mut Vec<Deliveries>, live: &[usize], sci: Sci, an: u8)
     }
 }
 
-/// Closes the logs of the SAs of this channel.
+/// Closes the logs of the SAs of this SC.
 fn close_in(logs: &mut Vec<Deliveries>, live: &[usize], sci: Sci)
     requires live { live.now ≡ live_places (logs_of logs.old.items) }
     ensures { logs_of logs.new.items ≡ map (log_closing (λ log. same_sci log.sci sci)) (logs_of logs.old.items) }

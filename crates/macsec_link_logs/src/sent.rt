@@ -10,7 +10,7 @@ use std::alloc::{AllocError, Global};
 use std::marker::Model;
 use std::mem;
 
-/// The number of association numbers of a transmit channel.
+/// The number of association numbers of a transmit SC.
 const AN_COUNT: u8 = 4;
 
 /// The log of a key: the key's number, and the frames sent under it.

@@ -60,8 +60,8 @@ fn of_number(number: u32, lowest: u32) -> Verdict {
 
 /// The verdict on a frame with one bit flipped in the octet at this index, by the packet number that it then has. In
 /// the octet of TCI and AN: V, and ES or SCB together with SC, give BadTag; E without C gives Reserved; another AN has
-/// no SA; without SC the SCI is the only channel's. Any SL other than 2 means more data than the frame has. Another SCI
-/// belongs to no channel.
+/// no SA; with the bit SC clear, the SCI is the only channel's. Any SL other than 2 means more data than the frame has.
+/// Another SCI belongs to no SC.
 fn wanted(place: u32, bit: u8, conf: bool, number: u32, lowest: u32) -> Verdict {
     match (place, bit, conf) {
         (12..14, _, _) => Verdict::NoTag,

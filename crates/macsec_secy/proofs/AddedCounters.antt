@@ -1,4 +1,4 @@
--- Sums of each counter over a channel's SAs, when an SA counts a frame, is created or is deleted.
+-- Sums of each counter over an SC's SAs, when an SA counts a frame, is created or is deleted.
 use Rattle.std.proofs.Common.{◌≡◌, ◌∙◌, ℕ, zero, suc, ◌+◌, ◌<◌, ◌%◌, ◌^◌, List, [], ◌∷◌, set, refl, ap, sym, arith}
 use Rattle.std.specs.Prelude.{Option, Some, None, option_map}
 use Rattle.std.proofs.Math.Nat.{add-mod-mod, mod-add-mod}

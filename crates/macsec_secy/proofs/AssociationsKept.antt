@@ -1,4 +1,4 @@
--- Every input keeps this: each channel has counters for exactly its SAs, and the channel's own counters are the sums.
+-- Every input keeps this: each SC has counters for exactly its SAs, and the SC's own counters are the sums.
 use Rattle.std.proofs.Common.{◌≡◌, ◌∙◌, ◌⊎◌, inl, inr, ℕ, zero, suc, ◌<◌, Bool, true, false, List, [], ◌∷◌, ◌++◌, map, filter}
 use Rattle.std.proofs.Common.{length, set, refl, ap, sym, arith, length-set, get_or-set_same, get_or-set_other, Contains}
 use Rattle.std.specs.Prelude.{◌==◌, ◌&&◌, ◌||◌, not, find, if◌then◌else◌, is_some, option_map, unwrap_or, Option, Some, None, IfSome}
@@ -62,7 +62,7 @@ has_rx-append (row ∷ rows) new sci an = by_test (is_at sci an row) (has_rx-app
     by_test true later = refl
     by_test false later = later
 
--- a filter that keeps the SAs with this channel and number does not change whether one exists
+-- a filter that keeps the SAs with this SC and number does not change whether one exists
 has_rx-left : (keep : RxRow → Bool) (rows : List RxRow) (sci : Sci) (an : ℕ) → ((row : RxRow) → is_at sci an row ≡ true → keep row ≡ true) →
     has_rx (filter keep rows) sci an ≡ has_rx rows sci an
 has_rx-left keep [] sci an kept = refl
@@ -87,7 +87,7 @@ has_rx-gone keep (row ∷ rows) sci an gone = by_tests (is_at sci an row) (keep 
     by_tests false true here left later = ap (λ b. is_some (if b then Some row else rx_row (filter keep rows) sci an)) here ∙ later
     by_tests false false here left later = later
 
--- a channel that does not exist has no SA
+-- an SC that does not exist has no SA
 pub has_rx-no_channel : (scis : List Sci) (rows : List RxRow) (sci : Sci) (an : ℕ) → AreRxRows scis rows → has_channel scis sci ≡ false → has_rx rows sci an ≡ false
 has_rx-no_channel scis [] sci an are none = refl
 has_rx-no_channel scis (row ∷ rows) sci an are none = by_test (is_at sci an row) refl (has_rx-no_channel scis rows sci an are.2 none)
@@ -117,7 +117,7 @@ each_there rows =
     λ row there. there_if (is_at row.sci row.an) rows row there (at_own_place row) in
     All-weaker (Contains rows) (λ row. has_rx rows row.sci row.an ≡ true) found rows (All-contains_itself rows)
 
--- ---- channels
+-- ---- SCs
 
 new_channel : (rows : List RxRow) (sci : Sci) → ((an : ℕ) → has_rx rows sci an ≡ false) → AreOfAssociations rows (new_channel_counters sci)
 new_channel rows sci none = record { count = refl; there = λ an. nobody an ∙ sym (none an); sum = refl }
@@ -155,7 +155,7 @@ without_a_channel rows (c ∷ channels) sci are =
           sum = of.sum;
         }) later
 
--- the counters of one channel change
+-- the counters of one SC change
 one_changed : (rows after : List RxRow) (change : ChannelCounters → ChannelCounters) (sci : Sci) →
     ((c : ChannelCounters) → c.sci ≡ sci → AreOfAssociations rows c → AreOfAssociations after (change c)) →
     ((c : ChannelCounters) → same_sci c.sci sci ≡ false → AreOfAssociations rows c → AreOfAssociations after c) → (channels : List ChannelCounters) → AreOfAll rows channels →

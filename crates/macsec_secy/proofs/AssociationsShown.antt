@@ -1,5 +1,4 @@
--- The counters of an SA that an endpoint returns exist exactly if the SA does, and their sums are the channel's
--- counters.
+-- The counters of an SA that an endpoint returns exist exactly if the SA does, and their sums are the SC's counters.
 use Rattle.std.proofs.Common.{◌≡◌, ◌∙◌, ℕ, Bool, true, false, List, [], ◌∷◌, map, length, refl, ap, sym, arith}
 use Rattle.std.specs.Prelude.{◌||◌, if◌then◌else◌, is_some, option_and_then, option_map, Option, Some, None}
 use Rattle.macsec_tag.specs.declared.identifiers.Sci.{Sci}

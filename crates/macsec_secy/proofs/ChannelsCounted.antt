@@ -1,4 +1,4 @@
--- Every input keeps the counters of each channel, in the order of the channels.
+-- Every input keeps the counters of each SC, in the order of the SCs.
 use Rattle.std.proofs.Common.{◌≡◌, ℕ, suc, Bool, true, false, List, [], ◌∷◌, map, filter, length, refl, ap, ◌∙◌}
 use Rattle.std.specs.Prelude.{not, if◌then◌else◌, Option, Some, None}
 use Rattle.std.specs.List.{refill}
@@ -16,7 +16,7 @@ use Rattle.macsec_secy.specs.Sound.{sci_of_counters}
 use Rattle.macsec_secy.proofs.KeysKept.{field_kept}
 use Rattle.macsec_secy.proofs.Lent.{left_in_place}
 
--- a change of a channel's counters keeps its SCI
+-- a change of an SC's counters keeps its SCI
 pub scis_kept : (change : ChannelCounters → ChannelCounters) → ((row : ChannelCounters) → (change row).sci ≡ row.sci) → (sci : Sci) (rows : List ChannelCounters) →
     map sci_of_counters (map (at_channel change sci) rows) ≡ map sci_of_counters rows
 scis_kept change same sci [] = refl
@@ -32,7 +32,7 @@ after_judging j rows = by_parts (is_counted_by_channel j) j.row
     by_parts true None = refl
     by_parts true (Some row) = scis_kept (count_in_channel j.verdict row.an) (λ r. refl) row.sci rows
 
--- a channel is deleted
+-- an SC is deleted
 pub without_counters : (sci : Sci) (rows : List ChannelCounters) →
     map sci_of_counters (filter (λ row. not (same_sci row.sci sci)) rows) ≡ filter (λ s. not (same_sci s sci)) (map sci_of_counters rows)
 without_counters sci [] = refl
@@ -44,7 +44,7 @@ without_counters sci (row ∷ rows) = by_test (not (same_sci row.sci sci)) (with
     by_test true later = ap (λ ss. row.sci ∷ ss) later
     by_test false later = later
 
--- counting keeps the number of channels
+-- counting keeps the number of SCs
 length-at_first : (change : ChannelCounters → ChannelCounters) (sci : Sci) (rows : List ChannelCounters) → length (at_first change sci rows) ≡ length rows
 length-at_first change sci [] = refl
 length-at_first change sci (row ∷ rows) = by_test (same_sci row.sci sci) (length-at_first change sci rows)
@@ -57,7 +57,7 @@ length_kept : (verdict : Verdict) (place : Option (Sci × ℕ)) (rows : List Cha
 length_kept verdict None rows = refl
 length_kept verdict (Some place) rows = length-at_first (count_in_channel verdict place.1) place.0 rows
 
--- the channels after one of them was changed through a borrowed slice
+-- the SCs after one of them was changed through a borrowed slice
 pub changed_again : (old lent new : List ChannelCounters) (change : ChannelCounters → ChannelCounters) (sci : Sci) → lent ≡ old → new ≡ map (at_channel change sci) lent →
     refill (length old) old new ≡ map (at_channel change sci) old
 changed_again old lent new change sci same changed =

@@ -21,7 +21,7 @@ use Rattle.macsec_secy.specs.Counting.{at_channel, plus, count_in_channel, count
 use Rattle.macsec_secy.specs.Reception.{counted_at_row, data_counted, is_counted_by_channel, octets_counted, packet_counted, rx_packet_counted}
 use Rattle.macsec_secy.specs.Sound.{AreCounters, AreRxCounters, AreTxCounters}
 
--- the counters of the channels have 64 bits
+-- the counters of the SCs have 64 bits
 abbrev pub AreChannelCounters : List ChannelCounters → Type 0
 AreChannelCounters rows = All (λ row. AreRxCounters row.counters) rows
 
@@ -107,7 +107,7 @@ after_channel Reserved c are = are
 after_channel NoSa c are = are
 after_channel NoSaError c are = are
 
--- a change of a channel's counters
+-- a change of an SC's counters
 pub after_change : (change : ChannelCounters → ChannelCounters) →
     ((row : ChannelCounters) → AreRxCounters row.counters → AreRxCounters (change row).counters) → (sci : Sci) (rows : List ChannelCounters) →
     AreChannelCounters rows → AreChannelCounters (map (at_channel change sci) rows)

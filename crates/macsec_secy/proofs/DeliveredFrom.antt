@@ -27,7 +27,7 @@ use Rattle.macsec_secy.proofs.Sums.{one_sci}
 use Rattle.macsec_secy.proofs.KeysApart.{the_key_found}
 use Rattle.macsec_secy.proofs.RxRowsStay.{accepts, at_one_place, rx_row-map}
 
--- ---- the SA is found by its channel and number
+-- ---- the SA is found by its SC and number
 
 octets_same : (xs : List ℕ) → same_octets xs xs ≡ true
 octets_same [] = refl
@@ -36,7 +36,7 @@ octets_same (x ∷ xs) = rw (eq-eqb x x refl, octets_same xs) refl
 pub at_own_place : (row : RxRow) → is_at row.sci row.an row ≡ true
 at_own_place row = rw (octets_same row.sci.0, eq-eqb row.an row.an refl) refl
 
--- no other SA has this one's channel and number
+-- no other SA has this one's SC and number
 elsewhere : (r : RxRow) (rows : List RxRow) → list_any (same_place r) rows ≡ false → All (λ row. is_at row.sci row.an r ≡ false) rows
 elsewhere r [] none = All-nil (λ row. is_at row.sci row.an r ≡ false)
 elsewhere r (row ∷ rows) none =

@@ -1,5 +1,5 @@
--- Changing the first channel with an SCI: as a loop does it, and as a change of every channel with the SCI. Both are
--- the same, since no two channels have the same SCI.
+-- Changing the first SC with an SCI: as a loop does it, and as a change of every SC with the SCI. Both are the same,
+-- since no two SCs have the same SCI.
 use Rattle.std.proofs.Common.{◌≡◌, ◌∙◌, ℕ, ◌+◌, ◌<◌, Bool, true, false, List, [], ◌∷◌, ◌++◌, map, length, take, drop, set, get_or, refl, ap, sym, add-one}
 use Rattle.std.specs.Prelude.{if◌then◌else◌}
 use Rattle.std.proofs.lemmas.List.{drop_more, set_split}
@@ -13,12 +13,12 @@ use Rattle.macsec_secy.specs.Verdicts.{at_first}
 use Rattle.macsec_secy.specs.Sound.{sci_of_counters}
 use Rattle.macsec_secy.proofs.Sums.{map-at_channel_elsewhere, one_sci}
 
--- if the first channel of the list has the SCI, it is changed
+-- if the first SC of the list has the SCI, it is changed
 at_first-cons : (change : ChannelCounters → ChannelCounters) (sci : Sci) (row : ChannelCounters) (rows : List ChannelCounters) → same_sci row.sci sci ≡ true →
     at_first change sci (row ∷ rows) ≡ change row ∷ rows
 at_first-cons change sci row rows here = ap (λ b. if b then change row ∷ rows else row ∷ at_first change sci rows) here
 
--- a loop finds the channel at an index and changes it there
+-- a loop finds the SC at an index and changes it there
 pub set-at_first : (change : ChannelCounters → ChannelCounters) (sci : Sci) (old rows : List ChannelCounters) (i : ℕ) (d : ChannelCounters) → i < length rows → rows ≡ old →
     at_first change sci old ≡ take i old ++ at_first change sci (drop i old) → same_sci (get_or rows i d).sci sci ≡ true →
     set rows i (change (get_or rows i d)) ≡ at_first change sci old
@@ -31,7 +31,7 @@ set-at_first change sci old rows i d within same behind here =
     ap (at_first change sci) (sym (drop_more rows i d within))
     ) ∙ sym there ∙ ap (at_first change sci) same
 
--- if no two channels have the same SCI, changing the first one with it is changing all with it
+-- if no two SCs have the same SCI, changing the first one with it is changing all with it
 pub at_first-distinct : (change : ChannelCounters → ChannelCounters) (sci : Sci) (rows : List ChannelCounters) → AreScis (map sci_of_counters rows) →
     map (at_channel change sci) rows ≡ at_first change sci rows
 at_first-distinct change sci [] distinct = refl

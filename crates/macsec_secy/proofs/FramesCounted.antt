@@ -1,4 +1,4 @@
--- Each received frame raises the sum of the received-packet counters by one. Only the deletion of a channel changes it
+-- Each received frame raises the sum of the received-packet counters by one. Only the deletion of an SC changes it
 -- otherwise.
 use Rattle.std.proofs.Common.{◌≡◌, ℕ, ◌+◌, ◌%◌, ◌^◌, Bool, true, false, List, [], ◌∷◌, map, refl, ap, ◌∙◌, add-zero, arith}
 use Rattle.std.specs.Prelude.{if◌then◌else◌, nat_le, is_some, not, ◌&&◌, ◌||◌, Option, Some, None, IfSome}
@@ -44,12 +44,12 @@ abbrev IsCountedOnce : List ChannelCounters → Judgement → Type 0
 IsCountedOnce rows j =
     (c : Counters) → IsOneMore (packets_of (packet_counted j c) + channels_packets (rx_packet_counted j rows)) (packets_of c + channels_packets rows)
 
--- no two channels have the same SCI, and one of them has `sci`
+-- no two SCs have the same SCI, and one of them has `sci`
 record HasCounters (rows : List ChannelCounters) (sci : Sci) : Type 0 where
   distinct : AreScis (map sci_of_counters rows)
   there : has_channel (map sci_of_counters rows) sci ≡ true
 
--- the channel of an SA counts its frame once
+-- the SC of an SA counts its frame once
 in_channel : (rows : List ChannelCounters) (row : RxRow) → HasCounters rows row.sci → (verdict : Verdict) → RaisesOne verdict → (packets : ℕ) →
     IsOneMore (packets + channels_packets (map (at_channel (count_in_channel verdict row.an) row.sci) rows)) (packets + channels_packets rows)
 in_channel rows row has verdict raises packets = IsOneMore-add_left packets _ _ (IsOneMore-channels_packets verdict raises row.sci row.an rows has.distinct has.there)
@@ -102,7 +102,7 @@ once_tagged rows options keys p row has = by_test (p.tag.e && not p.tag.c)
     by_test true c = IsOneMore-raised_part _ _ c.in_pkts_reserved (omega arith)
     by_test false c = once_of_row rows options keys p row has c
 
--- ---- the SA enabled for a frame belongs to a channel, which has counters
+-- ---- the SA enabled for a frame belongs to an SC, which has counters
 
 all_of_channels : (scis : List Sci) (rows : List RxRow) → AreRxRows scis rows → All (λ row. has_channel scis row.sci ≡ true) rows
 all_of_channels scis [] are = All-nil (λ row. has_channel scis row.sci ≡ true)

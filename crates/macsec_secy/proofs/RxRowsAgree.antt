@@ -1,5 +1,5 @@
--- Whatever the input, no two receive SAs of a channel have the same number, and the next packet number of each exceeds
--- its lowest acceptable one by at most the replay window.
+-- Whatever the input, no two receive SAs of an SC have the same number, and the next packet number of each exceeds its
+-- lowest acceptable one by at most the replay window.
 use Rattle.std.proofs.Common.{◌≡◌, ◌∙◌, ◌≤◌, ◌+◌, ℕ, Bool, true, false, List, [], ◌∷◌, map, filter, refl, arith, sym}
 use Rattle.std.specs.Prelude.{◌==◌, nat_lt, if◌then◌else◌, Option, Some, None}
 use Rattle.std.specs.List.{All, list_any, slice_index_or}
@@ -27,7 +27,7 @@ pub record RxRowsAgree (window : ℕ) (rows : List RxRow) : Type 0 where
   pub places : NoTwo same_place rows
   pub within : All (IsWithin window) rows
 
--- a change that keeps an SA's channel and number
+-- a change that keeps an SA's SC and number
 record KeepsPlace (f : RxRow → RxRow) : Type 0 where
   sci : (row : RxRow) → (f row).sci ≡ row.sci
   an : (row : RxRow) → (f row).an ≡ row.an
@@ -97,7 +97,7 @@ some_left keep window rows agree = record {
 
 -- ---- raising
 
--- if one SA has this channel and number, no other one has them
+-- if one SA has this SC and number, no other one has them
 others_elsewhere : (sci : Sci) (an : ℕ) (row : RxRow) → is_at sci an row ≡ true → (others : List RxRow) → list_any (same_place row) others ≡ false →
     All (λ r. is_at sci an r ≡ false) others
 others_elsewhere sci an row here [] none = All-nil (λ r. is_at sci an r ≡ false)
@@ -112,7 +112,7 @@ others_elsewhere sci an row here (other ∷ others) none =
         let no = sym same ∙ apart in
         cc
 
--- the packet number is not below the lowest acceptable one of the SA with this channel and number
+-- the packet number is not below the lowest acceptable one of the SA with this SC and number
 abbrev IsNotBelow : Sci → ℕ → ℕ → RxRow → Type 0
 IsNotBelow sci an pn row = is_at sci an row ≡ true → row.lowest ≤ pn
 

@@ -23,7 +23,7 @@ use Rattle.macsec_secy.proofs.KeysKept.{field_kept}
 
 -- ---- changes of SAs
 
--- a change that keeps an SA's channel and number, and does not lower its next packet number
+-- a change that keeps an SA's SC and number, and does not lower its next packet number
 pub record KeepsPlace (f : RxRow → RxRow) : Type 0 where
   pub sci : (row : RxRow) → (f row).sci ≡ row.sci
   pub an : (row : RxRow) → (f row).an ≡ row.an
@@ -44,7 +44,7 @@ above-map : (f : RxRow → RxRow) → KeepsPlace f → (rows : List RxRow) (sci 
 above-map f keeps rows sci an n it =
     record { row = f it.row; there = rx_row-map f keeps rows sci an ∙ ap (option_map f) it.there; above = omega (arith, it.above, keeps.next it.row) }
 
--- changing the SA with one channel and number is such a change too
+-- changing the SA with one SC and number is such a change too
 pub at_one_place : (f : RxRow → RxRow) → KeepsPlace f → (sci : Sci) (an : ℕ) → KeepsPlace (at_place f sci an)
 at_one_place f keeps sci an = record {
   sci = λ row. field_kept (λ (r : RxRow). r.sci) f keeps.sci (is_at sci an row) row;
@@ -102,7 +102,7 @@ above_left : (keep : RxRow → Bool) (rows : List RxRow) (sci : Sci) (an n : ℕ
     IsAbove (filter keep rows) sci an n
 above_left keep rows sci an n kept it = record { row = it.row; there = row_left keep rows sci an kept it.row it.there; above = it.above }
 
--- a deletion of another SA, or of another channel, leaves this one
+-- a deletion of another SA, or of another SC, leaves this one
 pub not_deleted : (sci of_sci : Sci) (an of_an : ℕ) → (same_sci sci of_sci && an == of_an) ≡ false → (row : RxRow) → is_at sci an row ≡ true → not (is_at of_sci of_an row) ≡ true
 not_deleted sci of_sci an of_an other row here =
     let parts = and_parts (same_sci row.sci sci) (row.an == an) here in

@@ -79,7 +79,7 @@ tables_after s frame sound hold = by_fault (frame_fault frame)
     by_fault None = record { keys = hold.keys; tx = hold.tx; rx = sound.rx }
     by_fault (Some f) = record { keys = sound.keys; tx = sound.tx; rx = sound.rx }
 
--- the machine's state after a frame, given the transmit channel's result
+-- the machine's state after a frame, given the transmit SC's result
 pub sound_after : (before now : State) (frame : List ℕ) → before ≡ now → IsSound before → (options : TxOptions) → options ≡ tx_options before →
     (result : TxResult) (out : List ℕ) (rows : List TxRow) (keys : List InstalledKey) → ShowsLeaving result out (sending options before.keys before.tx frame).leaving →
     rows ≡ rows_after before.tx (sending options before.keys before.tx frame).by → keys ≡ keys_after before.keys (sending options before.keys before.tx frame).by →

@@ -187,7 +187,7 @@ pub ready_by_rx : (s : State) (c : Command) (channels after : Channels) (answer 
 ready_by_rx s c channels after answer room refuses ok err behind are ready =
     record { sound = by_rx s c channels after answer refuses ok err behind are ready.sound; room = ready.room }
 
--- after a command that the channels carry out or refuse, they are the channels of the machine's state
+-- after a command that the SCs carry out or refuse, they are the SCs of the machine's state
 pub left_by_rx : (s : State) (c : Command) (channels after : Channels) (answer : Result (Unit {0}) Refusal) → refusal_of answer ≡ refusal s c →
     OnOk answer (channels ≡ after) → OnErr answer (channels ≡ s.rx) → record s { rx = after } ≡ effect s c → record s { rx = channels } ≡ state_after_command s c
 left_by_rx s c channels after (Ok done) refuses ok err behind = ap (λ r. record s { rx = r }) ok ∙ behind ∙ ap (λ r. unless_refused r s c) refuses

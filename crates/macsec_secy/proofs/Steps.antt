@@ -30,12 +30,12 @@ pub record Tells (mode : Mode) (j : Judgement) : Type 0 where
   pub channel : (rows : List ChannelCounters) → AreScis (map sci_of_counters rows) → rx_packet_counted j rows ≡ counted_at_place j.verdict (option_map place_of j.row) rows
   pub opened : nat_le 11 j.step ≡ is_opened mode j.verdict
 
--- the SA and its channel count the frame
+-- the SA and its SC count the frame
 by_channel : (verdict : Verdict) (row : RxRow) (rows : List ChannelCounters) → AreScis (map sci_of_counters rows) →
     map (at_channel (count_in_channel verdict row.an) row.sci) rows ≡ at_first (count_in_channel verdict row.an) row.sci rows
 by_channel verdict row rows distinct = at_first-distinct (count_in_channel verdict row.an) row.sci rows distinct
 
--- no channel and no SA counts a frame with the verdict BadTag
+-- no SC and no SA counts a frame with the verdict BadTag
 bad_tag_uncounted : (an : ℕ) (row : ChannelCounters) → row ≡ count_in_channel BadTag an row
 bad_tag_uncounted an row =
     ap {B = ChannelCounters} (λ associations. record row { associations = associations })

@@ -51,9 +51,9 @@ IsOneMore-add_right new old rest one =
 pub mod-as_plus_0 : (n : ℕ) → n % 2 ^ 64 ≡ plus (n % 2 ^ 64) 0
 mod-as_plus_0 n = omega arith
 
--- ---- channels
+-- ---- SCs
 
--- a verdict raises the sum of its channel
+-- a verdict raises the sum of its SC
 abbrev pub RaisesOne : Verdict → Type 0
 RaisesOne verdict = (c : RxCounters) → IsOneMore (channel_packets_of (count_verdict verdict c)) (channel_packets_of c)
 
@@ -75,11 +75,11 @@ RaisesOne-Invalid c = IsOneMore-raised_part _ _ c.in_pkts_invalid (omega arith)
 pub RaisesOne-Passed : RaisesOne Passed
 RaisesOne-Passed c = IsOneMore-raised_part _ _ c.in_pkts_ok (omega arith)
 
--- the sum over the channels
+-- the sum over the SCs
 abbrev pub channels_packets : List ChannelCounters → ℕ
 channels_packets rows = sum_by (λ row. channel_packets_of row.counters) rows
 
--- if no channel has the SCI, nothing changes
+-- if no SC has the SCI, nothing changes
 pub map-at_channel_elsewhere : (change : ChannelCounters → ChannelCounters) (sci : Sci) (rows : List ChannelCounters) → has_channel (map sci_of_counters rows) sci ≡ false →
     map (at_channel change sci) rows ≡ rows
 map-at_channel_elsewhere change sci [] none = refl
@@ -88,7 +88,7 @@ map-at_channel_elsewhere change sci (row ∷ rows) none =
     ap (λ b. (if b then change row else row) ∷ map (at_channel change sci) rows) parts.0
     ∙ ap (λ rs. row ∷ rs) (map-at_channel_elsewhere change sci rows parts.1)
 
--- if a channel has the SCI, only that channel counts the frame
+-- if an SC has the SCI, only that SC counts the frame
 pub IsOneMore-channels_packets : (verdict : Verdict) → RaisesOne verdict → (sci : Sci) (an : ℕ) (rows : List ChannelCounters) → AreScis (map sci_of_counters rows) →
     has_channel (map sci_of_counters rows) sci ≡ true → IsOneMore (channels_packets (map (at_channel (count_in_channel verdict an) sci) rows)) (channels_packets rows)
 IsOneMore-channels_packets verdict raises sci an [] distinct there = cc
@@ -112,7 +112,7 @@ IsOneMore-channels_packets verdict raises sci an (row ∷ rows) distinct there =
         rw (map-at_channel_elsewhere (count_in_channel verdict an) sci rows none) here
     by_test false other later there' = IsOneMore-add_left (channel_packets_of row.counters) _ _ (later there')
 
--- a change that keeps each channel's counters keeps the sum
+-- a change that keeps each SC's counters keeps the sum
 pub channels_packets-at_channel : (change : ChannelCounters → ChannelCounters) → ((row : ChannelCounters) → (change row).counters ≡ row.counters) →
     (sci : Sci) (rows : List ChannelCounters) →
     channels_packets (map (at_channel change sci) rows) ≡ channels_packets rows

@@ -25,7 +25,7 @@ same_an a b = a.an == b.an
 abbrev pub both_on : TxRow → TxRow → Bool
 both_on a b = a.on && b.on
 
--- both have the same channel and number
+-- both have the same SC and number
 abbrev pub same_place : RxRow → RxRow → Bool
 same_place a b = is_at b.sci b.an a
 
@@ -59,9 +59,9 @@ pub record Agrees (s : State) : Type 0 where
   pub tx_numbers : NoTwo same_an s.tx
   -- at most one transmit SA is enabled
   pub one_on : NoTwo both_on s.tx
-  -- no receive channel has the endpoint's own SCI
+  -- no receive SC has the endpoint's own SCI
   pub other_scis : has_channel s.rx.scis s.config.sci ≡ false
-  -- no two receive SAs of a channel have the same number
+  -- no two receive SAs of an SC have the same number
   pub rx_places : NoTwo same_place s.rx.rows
   -- with extended packet numbers, no receive SA has its key's own SSCI
   pub other_sscis : All (λ row. HasOtherSsci s.keys row) s.rx.rows

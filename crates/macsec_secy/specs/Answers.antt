@@ -53,11 +53,11 @@ MakesEndpoint config (Err Memory) = config_fault config ≡ None
 MakesEndpoint config (Err MaxFrame) = config_fault config ≡ Some MaxFrame
 MakesEndpoint config (Err SciForm) = config_fault config ≡ Some SciForm
 
--- the counters of the channel with this SCI and of its SAs, if it exists
+-- the counters of the SC with this SCI and of its SAs, if it exists
 abbrev pub channel_counters_of : List ChannelCounters → Sci → Option ChannelCounters
 channel_counters_of rows sci = find (λ row. same_sci row.sci sci) rows
 
--- the channel's counters, if it exists
+-- the SC's counters, if it exists
 abbrev pub rx_counters_of : List ChannelCounters → Sci → Option RxCounters
 rx_counters_of rows sci = option_map (λ (row : ChannelCounters). row.counters) (channel_counters_of rows sci)
 
@@ -66,6 +66,6 @@ abbrev pub rx_sa_counters_of : List ChannelCounters → Sci → ℕ → Option R
 rx_sa_counters_of rows sci an =
     option_and_then (λ (row : ChannelCounters). counters_at row.associations an) (channel_counters_of rows sci)
 
--- the sums of the counters of its deleted SAs, if the channel exists
+-- the sums of the counters of its deleted SAs, if the SC exists
 abbrev pub rx_removed_of : List ChannelCounters → Sci → Option RxCounters
 rx_removed_of rows sci = option_map (λ (row : ChannelCounters). row.removed) (channel_counters_of rows sci)

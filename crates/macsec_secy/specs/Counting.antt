@@ -24,7 +24,7 @@ count_leaving (protected key frame) c = c
 count_leaving no_sa c = record c { out_pkts_no_sa = plus c.out_pkts_no_sa 1 }
 count_leaving too_long c = record c { out_pkts_too_long = plus c.out_pkts_too_long 1 }
 
--- the transmit channel's counters after a protected frame with this many octets of data, including those before the
+-- the transmit SC's counters after a protected frame with this many octets of data, including those before the
 -- confidentiality offset; `conf`: the SA encrypts
 abbrev pub count_octets : Bool → ℕ → TxCounters → TxCounters
 count_octets conf octets c =
@@ -32,15 +32,15 @@ count_octets conf octets c =
     then record c { out_pkts_encrypted = plus c.out_pkts_encrypted 1; out_octets_encrypted = plus c.out_octets_encrypted octets }
     else record c { out_pkts_protected = plus c.out_pkts_protected 1; out_octets_protected = plus c.out_octets_protected octets }
 
--- the transmit channel's counters after a client frame, with the SA that protects it, if one does; the data is the
--- frame without DA and SA (the addresses)
+-- the transmit SC's counters after a client frame, with the SA that protects it, if one does; the data is the frame
+-- without DA and SA (the addresses)
 abbrev pub count_protected : Option TxRow → List ℕ → TxCounters → TxCounters
 count_protected None frame c = c
 count_protected (Some row) frame c = count_octets row.conf (length frame - 12) c
 
 -- ---- received frames
 
--- the endpoint's counters after a frame with this verdict; from `Late` on, channels count instead
+-- the endpoint's counters after a frame with this verdict; from `Late` on, SCs count instead
 abbrev pub count_packet : Verdict → Counters → Counters
 count_packet Untagged c = record c { in_pkts_untagged = plus c.in_pkts_untagged 1 }
 count_packet NoTag c = record c { in_pkts_no_tag = plus c.in_pkts_no_tag 1 }
@@ -55,7 +55,7 @@ count_packet Delayed c = c
 count_packet Invalid c = c
 count_packet Passed c = c
 
--- the counters of a channel or of an SA after a frame with this verdict
+-- the counters of an SC or of an SA after a frame with this verdict
 abbrev pub count_verdict : Verdict → RxCounters → RxCounters
 count_verdict Passed c = record c { in_pkts_ok = plus c.in_pkts_ok 1 }
 count_verdict Unchecked c = record c { in_pkts_unchecked = plus c.in_pkts_unchecked 1 }
@@ -79,14 +79,14 @@ abbrev pub count_in_association : Verdict → ℕ → List (Option RxCounters) �
 count_in_association verdict an associations =
     slice_set associations an (option_map (count_verdict verdict) (counters_at associations an))
 
--- the channel and its SA with this number count the frame
+-- the SC and its SA with this number count the frame
 abbrev pub count_in_channel : Verdict → ℕ → ChannelCounters → ChannelCounters
 count_in_channel verdict an row = record row {
   counters = count_verdict verdict row.counters;
   associations = count_in_association verdict an row.associations;
 }
 
--- changes the counters of the channel with this SCI
+-- changes the counters of the SC with this SCI
 abbrev pub at_channel : (ChannelCounters → ChannelCounters) → Sci → ChannelCounters → ChannelCounters
 at_channel change sci row = if same_sci row.sci sci then change row else row
 
@@ -115,7 +115,7 @@ sum_of [] = no_rx_counters
 sum_of (None ∷ associations) = sum_of associations
 sum_of (Some counters ∷ associations) = added counters (sum_of associations)
 
--- a new channel has no SAs and has counted nothing
+-- a new SC has no SAs and has counted nothing
 abbrev pub new_channel_counters : Sci → ChannelCounters
 new_channel_counters sci = record {
   sci = sci;

@@ -47,11 +47,11 @@ pub record KeysStay (s after : State) : Type 0 where
 
 -- ---- receive SAs
 
--- each SA is found by its channel and number
+-- each SA is found by its SC and number
 abbrev pub RxRowsAreApart : List RxRow → Type 0
 RxRowsAreApart rows = (row : RxRow) → Contains rows row → rx_row rows row.sci row.an ≡ Some row
 
--- the command deletes the SA with this channel and number, if it exists
+-- the command deletes the SA with this SC and number, if it exists
 abbrev pub deletes : Sci → ℕ → Command → Bool
 deletes sci an (RxScDel of_sci) = same_sci sci of_sci
 deletes sci an (RxDel of_sci of_an) = same_sci sci of_sci && an == of_an
@@ -61,12 +61,12 @@ abbrev pub is_deleting : Sci → ℕ → Input → Bool
 is_deleting sci an (operator_command c) = deletes sci an c
 is_deleting sci an input = false
 
--- the SA with this channel and number exists, and its next packet number is at least n
+-- the SA with this SC and number exists, and its next packet number is at least n
 pub record IsAbove (rows : List RxRow) (sci : Sci) (an n : ℕ) : Type 0 where
   pub row : RxRow
   pub there : rx_row rows sci an ≡ Some row
   pub above : n ≤ row.next
 
--- until it is deleted, an SA with its channel and number exists, and its next packet number is no lower
+-- until it is deleted, an SA with its SC and number exists, and its next packet number is no lower
 abbrev pub RxRowStays : State → Input → Sci → ℕ → ℕ → Type 0
 RxRowStays s input sci an n = is_deleting sci an input ≡ false → IsAbove s.rx.rows sci an n → IsAbove (step s input).1.rx.rows sci an n

@@ -20,7 +20,7 @@ judge_reading s frame (tagged p) = judge_tagged (rx_options s) s.keys s.rx p
 abbrev pub judgement_of : State → List ℕ → Judgement
 judgement_of s frame = judge_reading s frame (reading frame)
 
--- if step 8 or a later one decides, the channel and its SA count the verdict, otherwise the endpoint does
+-- if step 8 or a later one decides, the SC and its SA count the verdict, otherwise the endpoint does
 abbrev pub is_counted_by_channel : Judgement → Bool
 is_counted_by_channel j = nat_le 8 j.step
 

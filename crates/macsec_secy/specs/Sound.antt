@@ -37,14 +37,14 @@ pub record AreCounters (c : Counters) : Type 0 where
   pub out_pkts_too_long : c.out_pkts_too_long < 2 ^ 64
   pub out_pkts_no_sa : c.out_pkts_no_sa < 2 ^ 64
 
--- the counters of the transmit channel have 64 bits
+-- the counters of the transmit SC have 64 bits
 pub record AreTxCounters (c : TxCounters) : Type 0 where
   pub out_pkts_protected : c.out_pkts_protected < 2 ^ 64
   pub out_pkts_encrypted : c.out_pkts_encrypted < 2 ^ 64
   pub out_octets_protected : c.out_octets_protected < 2 ^ 64
   pub out_octets_encrypted : c.out_octets_encrypted < 2 ^ 64
 
--- the counters of a receive channel or SA have 64 bits
+-- the counters of a receive SC or SA have 64 bits
 pub record AreRxCounters (c : RxCounters) : Type 0 where
   pub in_pkts_ok : c.in_pkts_ok < 2 ^ 64
   pub in_pkts_unchecked : c.in_pkts_unchecked < 2 ^ 64
@@ -53,17 +53,17 @@ pub record AreRxCounters (c : RxCounters) : Type 0 where
   pub in_pkts_invalid : c.in_pkts_invalid < 2 ^ 64
   pub in_pkts_not_valid : c.in_pkts_not_valid < 2 ^ 64
 
--- a channel has counters for an SA of a number exactly if that SA exists, and the channel's own counters are the sums
--- over its SAs and its deleted SAs
+-- an SC has counters for an SA of a number exactly if that SA exists, and the SC's own counters are the sums over its
+-- SAs and its deleted SAs
 pub record AreOfAssociations (rows : List RxRow) (c : ChannelCounters) : Type 0 where
   pub count : length c.associations ≡ max_association_count
   pub there : (an : ℕ) → is_some (counters_at c.associations an) ≡ has_rx rows c.sci an
   pub sum : c.counters ≡ added (sum_of c.associations) c.removed
 
 -- the configured largest frame is within its limits, and the endpoint's SCI has 8 octets; keys, transmit SAs and
--- receive channels meet their bounds; the keys allow the replay window; the key of each SA is in the table; each
--- channel has its counters, in the order of the channels; the counters have 64 bits; a channel's counters are the sums
--- over its SAs; and the rows of the tables agree with one another
+-- receive SCs meet their bounds; the keys allow the replay window; the key of each SA is in the table; each SC has its
+-- counters, in the order of the SCs; the counters have 64 bits; an SC's counters are the sums over its SAs; and the
+-- rows of the tables agree with one another
 pub record IsSound (s : State) : Type 0 where
   pub max_frame_least : min_max_frame ≤ s.config.max_frame
   pub max_frame_most : s.config.max_frame ≤ max_frame_len

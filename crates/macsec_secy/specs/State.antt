@@ -15,8 +15,8 @@ use Rattle.macsec_secy.specs.declared.counters.RxCounters.{RxCounters}
 use Rattle.macsec_secy.specs.declared.counters.ChannelCounters.{ChannelCounters}
 
 -- the configuration; the options; the keys, in order of installation; the transmit SAs, in order of creation; the
--- receive channels with their SAs; the counters of the endpoint, of its transmit channel, and of each receive channel
--- with its SAs
+-- receive SCs (secure channels) with their SAs; the counters of the endpoint, of its transmit SC, and of each receive
+-- SC with its SAs
 pub record State : Type 0 where
   pub config : EndConfig
   pub options : Options
@@ -73,7 +73,7 @@ start config = record {
   rx_counters = [];
 }
 
--- there is more than one receive channel
+-- there is more than one receive SC
 abbrev pub has_many : List Sci → Bool
 has_many scis = nat_lt 1 (length scis)
 

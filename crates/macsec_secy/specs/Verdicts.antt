@@ -30,12 +30,12 @@ abbrev pub counted_by : Mode → Verdict → Bool → ℕ → Counters → Count
 counted_by mode verdict e octets c =
     if is_opened mode verdict then count_octets_received e octets (count_packet verdict c) else count_packet verdict c
 
--- changes the first channel with this SCI; no two channels have the same SCI
+-- changes the first SC with this SCI; no two SCs have the same SCI
 abbrev pub at_first : (ChannelCounters → ChannelCounters) → Sci → List ChannelCounters → List ChannelCounters
 at_first change sci [] = []
 at_first change sci (row ∷ rows) = if same_sci row.sci sci then change row ∷ rows else row ∷ at_first change sci rows
 
--- the channels' counters after a tagged frame for this SA, if it has one
+-- the counters of the receive SCs after a tagged frame for this SA, if it has one
 abbrev pub counted_at_place : Verdict → Option (Sci × ℕ) → List ChannelCounters → List ChannelCounters
 counted_at_place verdict None rows = rows
 counted_at_place verdict (Some place) rows = at_first (count_in_channel verdict place.1) place.0 rows

@@ -24,10 +24,10 @@ pub enum Sent<'a> {
 /// The result for a link frame.
 #[derive(Drop)]
 pub struct Received<'a> {
-    /// The verdict on the frame. Exactly one counter of packets counts it at the endpoint or at its channels.
+    /// The verdict on the frame. Exactly one packet counter of the endpoint and its receive SCs counts it.
     pub verdict: Verdict,
-    /// The receive SA (secure association) for the frame, as the SCI of its channel and its number, 0 to 3; `None` if
-    /// the verdict does not depend on an SA. `Secy::rx_row` returns the SA.
+    /// The receive SA (secure association) for the frame, as its SCI and its association number, 0 to 3; `None` if the
+    /// verdict does not depend on an SA. `Secy::rx_row` returns the SA.
     pub row: Option<(Sci, u8)>,
     /// The frame at the uncontrolled port, unchanged.
     pub uncontrolled: &'a [u8],

@@ -1,4 +1,4 @@
-//! The counters of receive channels and of their SAs (IEEE 802.1AE, 10.7).
+//! The counters of receive SCs (secure channels) and of their SAs (secure associations; IEEE 802.1AE, 10.7).
 
 ghost use Rattle.std.specs.Prelude.{◌≡◌, map};
 ghost use Rattle.macsec_secy.specs.State.{no_rx_counters};
@@ -24,7 +24,7 @@ impl RxCounters {
         }
     }
 
-    /// Counts a frame with this verdict, if channels and SAs have a counter for it.
+    /// Counts a frame with this verdict, if SCs and SAs have a counter for it.
     fn count(&mut self, verdict: Verdict)
         ensures { self.new ≡ count_verdict verdict self.old }
     {
@@ -55,7 +55,7 @@ impl RxCounters {
 }
 
 impl ChannelCounters {
-    /// The counters of a new channel, which has no SAs: all 0.
+    /// The counters of a new SC, which has no SAs: all 0.
     pub(crate) fn new(sci: Sci) -> ChannelCounters
         ensures { result ≡ new_channel_counters sci }
     {
@@ -67,7 +67,7 @@ impl ChannelCounters {
         }
     }
 
-    /// Counts a frame in the channel and in its SA with this number.
+    /// Counts a frame in the SC and in its SA with this number.
     fn count(&mut self, verdict: Verdict, an: An)
         ensures { self.new ≡ count_in_channel verdict an self.old }
     {
@@ -77,7 +77,7 @@ impl ChannelCounters {
         }
     }
 
-    /// If the channel has this SCI, starts the counters of a new SA with this number at 0.
+    /// If the SC has this SCI, starts the counters of a new SA with this number at 0.
     fn add(&mut self, sci: Sci, an: An)
         ensures { self.new ≡ at_channel (with_association an) sci self.old }
     {
@@ -86,8 +86,8 @@ impl ChannelCounters {
         }
     }
 
-    /// If the channel has this SCI, adds the counters of the SA with this number to those of the deleted SAs, and
-    /// removes them.
+    /// If the SC has this SCI, adds the counters of the SA with this number to those of the deleted SAs, and removes
+    /// them.
     fn remove(&mut self, sci: Sci, an: An)
         ensures { self.new ≡ at_channel (without_association an) sci self.old }
     {
@@ -100,7 +100,7 @@ impl ChannelCounters {
     }
 }
 
-/// Starts the counters of a new SA of this channel, with this number, at 0.
+/// Starts the counters of a new SA of this SC, with this number, at 0.
 pub(crate) fn add_association(rows: &mut [ChannelCounters], sci: Sci, an: An)
     ensures { rows.new ≡ map (at_channel (with_association an) sci) rows.old }
 {
@@ -109,7 +109,7 @@ pub(crate) fn add_association(rows: &mut [ChannelCounters], sci: Sci, an: An)
     }
 }
 
-/// Adds the counters of this channel's SA with this number to those of the channel's deleted SAs, and removes them.
+/// Adds the counters of this SC's SA with this number to those of the SC's deleted SAs, and removes them.
 pub(crate) fn remove_association(rows: &mut [ChannelCounters], sci: Sci, an: An)
     ensures { rows.new ≡ map (at_channel (without_association an) sci) rows.old }
 {
@@ -118,7 +118,7 @@ pub(crate) fn remove_association(rows: &mut [ChannelCounters], sci: Sci, an: An)
     }
 }
 
-/// Counts a frame at the channel with this SCI and at its SA with this number. No other counters change.
+/// Counts a frame at the SC with this SCI and at its SA with this number. No other counters change.
 fn count_at(rows: &mut [ChannelCounters], verdict: Verdict, sci: Sci, an: An)
     ensures { rows.new ≡ at_first (count_in_channel verdict an) sci rows.old }
 {
@@ -130,7 +130,7 @@ fn count_at(rows: &mut [ChannelCounters], verdict: Verdict, sci: Sci, an: An)
     }
 }
 
-/// Counts a frame at its SA and at that SA's channel, if it has an SA.
+/// Counts a frame at its SA and at that SA's SC, if it has an SA.
 pub(crate) fn count_at_row(rows: &mut [ChannelCounters], verdict: Verdict, row: Option<(Sci, An)>)
     ensures { rows.new ≡ counted_at_place verdict row rows.old }
 {

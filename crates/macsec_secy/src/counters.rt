@@ -19,7 +19,7 @@ pub struct Counters {
     pub out_pkts_no_sa: u64,
 }
 
-/// The counters of the transmit channel, modulo 2^64.
+/// The counters of the transmit SC, modulo 2^64.
 #[derive(Clone, Copy, PartialEq, Eq, Debug)]
 pub struct TxCounters {
     pub out_pkts_protected: u64,
@@ -28,7 +28,7 @@ pub struct TxCounters {
     pub out_octets_encrypted: u64,
 }
 
-/// The counters of a receive channel, or of a receive SA, modulo 2^64 (10.7).
+/// The counters of a receive SC, or of a receive SA, modulo 2^64 (10.7).
 #[derive(Clone, Copy, PartialEq, Eq, Debug, Default)]
 pub struct RxCounters {
     pub in_pkts_ok: u64,
@@ -39,14 +39,14 @@ pub struct RxCounters {
     pub in_pkts_not_valid: u64,
 }
 
-/// The counters of the receive channel with this SCI, and of its SAs.
+/// The counters of the receive SC with this SCI, and of its SAs.
 #[derive(Clone, Copy, PartialEq, Eq, Debug, Default)]
 pub struct ChannelCounters {
     pub sci: Sci,
-    /// The counters of the channel.
+    /// The counters of the SC.
     pub counters: RxCounters,
     /// The counters of each SA since its creation, by association number.
     pub associations: [Option<RxCounters>; ASSOCIATION_COUNT],
-    /// The sums of the counters of the channel's deleted SAs.
+    /// The sums of the counters of the SC's deleted SAs.
     pub removed: RxCounters,
 }

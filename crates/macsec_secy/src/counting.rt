@@ -1,5 +1,5 @@
-//! What transmission and reception count at the endpoint and at the transmit channel (IEEE 802.1AE, 10.7). The
-//! counters of receive channels are in `associations`.
+//! What transmission and reception count at the endpoint and at the transmit SC (IEEE 802.1AE, 10.7). The counters of
+//! receive SCs are in `associations`.
 
 ghost use Rattle.std.specs.Prelude.{◌≡◌};
 ghost use Rattle.macsec_tx.specs.Transmit.{no_sa, plain, too_long};
@@ -50,7 +50,7 @@ impl Counters {
         self.out_pkts_too_long = self.out_pkts_too_long.wrapping_add(1);
     }
 
-    /// Counts a frame if its verdict is one that the endpoint counts, and not a channel.
+    /// Counts a frame if the endpoint counts its verdict, and not a receive SC.
     pub(crate) fn count_packet(&mut self, verdict: Verdict)
         ensures { self.new ≡ count_packet verdict self.old }
     {
@@ -67,7 +67,7 @@ impl Counters {
         }
     }
 
-    /// Counts a tagged frame with this many octets of secure data. The frame counts here only if no channel counts its
+    /// Counts a tagged frame with this many octets of secure data. The frame counts here only if no SC counts its
     /// verdict; the octets count if the cipher was applied, which follows from the verdict and the mode of validation.
     pub(crate) fn count_tagged(&mut self, mode: Mode, verdict: Verdict, e: bool, octets: u64)
         ensures { self.new ≡ counted_by mode verdict e octets self.old }

@@ -76,9 +76,9 @@ pub fn keys_stay()
     ensures stay { (s : State) (input : Input) → IsSound s → KeysStay s (step s input).1 }
 {}
 
-/// In every state for which `IsSound` holds, a receive SA is the only one with its channel and number. After every
-/// input there is still an SA with that channel and number, and its next packet number is no lower, until a command
-/// deletes the SA or its channel.
+/// In every state for which `IsSound` holds, a receive SA is the only one with its SC and number. After every input
+/// there is still an SA with that SC and number, and its next packet number is no lower, until a command deletes the SA
+/// or its SC.
 pub fn rx_rows_stay()
     ensures apart { (s : State) → IsSound s → RxRowsAreApart s.rx.rows }
     ensures stay { (s : State) (input : Input) (sci : Sci) (an n : ℕ) → RxRowStays s input sci an n }

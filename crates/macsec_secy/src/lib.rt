@@ -4,11 +4,11 @@
 //! configuration has that fault; or `Memory`. For every argument and in every state, `command`, `send`,
 //! `send_uncontrolled` and `receive` are one step of the machine of `specs/Step.antt`: the result, the frames returned,
 //! and the state after with all counters. The calls that read return parts of that state. Each counter that
-//! `rx_counters` returns is, modulo 2^64, the sum of the counters of the channel's SAs (`rx_sa_counters`) and of
-//! `rx_removed`. Each link frame of 14 to 9,248 octets raises the sum of the InPkts counters of the endpoint and its
-//! channels by one, modulo 2^64. Of all other calls only a `command` that deletes a channel can change that sum
-//! (`AddsFrames`). The calls that make or change an endpoint also state what holds of it at all times (`IsSound`, which
-//! includes `Agrees`). By its type only `new` takes an allocator.
+//! `rx_counters` returns for a receive SC (secure channel) is, modulo 2^64, the sum of the counters of its SAs (secure
+//! associations, `rx_sa_counters`) and of `rx_removed`. Each link frame of 14 to 9,248 octets raises the sum of the
+//! InPkts counters of the endpoint and its receive SCs by one, modulo 2^64. Of all other calls only a `command` that
+//! deletes a receive SC can change that sum (`AddsFrames`). The calls that make or change an endpoint also state what
+//! holds of it at all times (`IsSound`, which includes `Agrees`). By its type only `new` takes an allocator.
 //!
 //! Laws of the machine (`laws`). `uses_no_number_twice`: for every list of inputs, the packet numbers of the frames
 //! sent protected under one key number rise in the order of sending. `accepts_sent`: a frame that another endpoint

@@ -1,4 +1,5 @@
-//! The endpoint's own part of reception: the counters of its channels, and the options that it passes to them.
+//! The endpoint's own part of reception: the counters of the receive SCs (secure channels), and the options that it
+//! passes to them.
 
 ghost use Rattle.std.specs.Prelude.{◌≡◌, ◌+◌, ◌≤◌, length, option_map, IfSome};
 ghost use Rattle.macsec_suite.specs.Refusals.{refusal_of};
@@ -14,7 +15,7 @@ use crate::{An, ChannelCounters, KeyNumber, Mode, Refusal, Sci, Secy, Verdict};
 use macsec_rx::{Judged, RxOptions};
 
 impl Secy {
-    /// Creates a receive channel, with counters of 0.
+    /// Creates a receive SC, with counters of 0.
     pub(crate) fn rx_sc(&mut self, sci: Sci) -> Result<(), Refusal>
         ensures refusal { refusal_of result ≡ refusal self.old (by.RxSc sci) }
         ensures after { self.new ≡ state_after_command self.old (by.RxSc sci) }
@@ -25,7 +26,7 @@ impl Secy {
         Ok(())
     }
 
-    /// Deletes a receive channel with its SAs, and the counters of both.
+    /// Deletes a receive SC with its SAs, and the counters of both.
     pub(crate) fn rx_sc_del(&mut self, sci: Sci) -> Result<(), Refusal>
         ensures refusal { refusal_of result ≡ refusal self.old (by.RxScDel sci) }
         ensures after { self.new ≡ state_after_command self.old (by.RxScDel sci) }
@@ -54,7 +55,7 @@ impl Secy {
         Ok(())
     }
 
-    /// Deletes a receive SA. Its counters are added to those of its channel's deleted SAs.
+    /// Deletes a receive SA. Its counters are added to those of its SC's deleted SAs.
     pub(crate) fn rx_del(&mut self, sci: Sci, an: An) -> Result<(), Refusal>
         ensures refusal { refusal_of result ≡ refusal self.old (by.RxDel sci an) }
         ensures after { self.new ≡ state_after_command self.old (by.RxDel sci an) }
@@ -97,7 +98,7 @@ pub(crate) fn delivered_untagged(mode: Mode, frame: &[u8]) -> Option<&[u8]>
     }
 }
 
-/// An SA as the SCI of its channel and its number.
+/// An SA as its SCI and its association number.
 pub(crate) fn sci_and_number(row: Option<(Sci, An)>) -> Option<(Sci, u8)>
     ensures { result ≡ row }
 {

@@ -28,7 +28,7 @@ impl Secy {
         self.counters
     }
 
-    /// The counters of the transmit channel.
+    /// The counters of the transmit SC.
     pub fn tx_counters(&self) -> TxCounters
         ensures { result ≡ self.now.tx_counters }
     {
@@ -42,8 +42,8 @@ impl Secy {
         self.tx.row(an)
     }
 
-    /// The counters of the receive channel with this SCI, if it exists. Each is, modulo 2^64, the sum of that counter
-    /// over the channel's SAs (`rx_sa_counters`) and of `rx_removed` (10.7).
+    /// The counters of the receive SC with this SCI, if it exists. Each is, modulo 2^64, the sum of that counter over
+    /// the SC's SAs (`rx_sa_counters`) and of `rx_removed` (10.7).
     pub fn rx_counters(&self, sci: Sci) -> Option<RxCounters>
         ensures counters { result ≡ rx_counters_of self.now.rx_counters sci }
         ensures sum { result ≡ rx_sums_of self.now.rx_counters sci }
@@ -52,7 +52,7 @@ impl Secy {
         Some(channel.counters)
     }
 
-    /// The counters of this channel's receive SA with this number since its creation, if it exists.
+    /// The counters of this SC's receive SA with this number since its creation, if it exists.
     pub fn rx_sa_counters(&self, sci: Sci, an: An) -> Option<RxCounters>
         ensures counters { result ≡ rx_sa_counters_of self.now.rx_counters sci an }
         ensures there { is_some result ≡ has_rx self.now.rx.rows sci an }
@@ -61,8 +61,8 @@ impl Secy {
         channel.associations[usize::from(an.number())]
     }
 
-    /// The sums, modulo 2^64, of the counters of all SAs deleted from the receive channel with this SCI since the
-    /// channel was created, if the channel exists.
+    /// The sums, modulo 2^64, of the counters of all SAs deleted from the receive SC with this SCI since the SC was
+    /// created, if the SC exists.
     pub fn rx_removed(&self, sci: Sci) -> Option<RxCounters>
         ensures { result ≡ rx_removed_of self.now.rx_counters sci }
     {
@@ -70,7 +70,7 @@ impl Secy {
         Some(channel.removed)
     }
 
-    /// The counters of the receive channel with this SCI and of its SAs, if it exists.
+    /// The counters of the receive SC with this SCI and of its SAs, if it exists.
     fn channel_counters(&self, sci: Sci) -> Option<ChannelCounters>
         ensures row { result ≡ channel_counters_of self.now.rx_counters sci }
         ensures sound { IsSound self.now }
@@ -83,8 +83,8 @@ impl Secy {
         None
     }
 
-    /// The SCI of the receive channel at this index in the order of creation, from 0, if it exists. There are at most
-    /// 64 channels.
+    /// The SCI of the receive SC at this index in the order of creation, from 0, if it exists. There are at most 64
+    /// SCs.
     pub fn rx_channel(&self, place: usize) -> Option<Sci>
         ensures sci { result ≡ slice_get self.now.rx.scis place }
         ensures count { length self.now.rx.scis ≤ max_channel_count }
@@ -92,7 +92,7 @@ impl Secy {
         self.rx.channel(place)
     }
 
-    /// This channel's receive SA (secure association) with this number, if it exists.
+    /// This SC's receive SA (secure association) with this number, if it exists.
     pub fn rx_row(&self, sci: Sci, an: An) -> Option<RxRow>
         ensures { result ≡ rx_row self.now.rx.rows sci an }
     {

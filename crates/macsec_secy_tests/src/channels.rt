@@ -1,4 +1,4 @@
-//! What the tests of channels share: the association number and the key of the test frames.
+//! What the tests of secure channels share: the association number and the key of the test frames.
 
 use macsec_aes::Key;
 use macsec_suite::{KeyNumber, KeyTable, NewKey, Suite};

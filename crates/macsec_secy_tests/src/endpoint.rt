@@ -19,7 +19,7 @@ const SENDER: EndConfig = EndConfig {
 
 const EXTENDED_NUMBER: u64 = 0x1_b2c2_8465;
 
-/// The SAs 2 and 3 of the sender's channel.
+/// The SAs 2 and 3 of the sender's SC.
 const OF_2: Option<(Sci, u8)> = Some((Sci(SCI), 2));
 
 const OF_3: Option<(Sci, u8)> = Some((Sci(SCI), 3));
@@ -390,7 +390,7 @@ fn passed_and_late(counters: Option<RxCounters>) -> Option<(u64, u64)> {
     Some((counters.in_pkts_ok, counters.in_pkts_late))
 }
 
-/// Checks the numbers of passed and late frames in the sender's channel, in its SA 2, and in its deleted SAs.
+/// Checks the numbers of passed and late frames in the sender's SC, in its SA 2, and in its deleted SAs.
 fn assert_counted(
     rt: &impl Abort,
     secy: &Secy,
@@ -406,7 +406,7 @@ fn assert_counted(
     assert!(rt; counted == (Some(channel), association, Some(removed)));
 }
 
-/// The counters of a deleted SA stay with its channel, and a new SA with its number starts at 0.
+/// The counters of a deleted SA stay with its SC, and a new SA with its number starts at 0.
 #[test]
 fn counters_of_deleted_associations(rt: HostRuntime) {
     let mut secy = receiver(&rt, rt.alloc());

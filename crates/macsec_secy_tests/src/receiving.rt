@@ -1,4 +1,4 @@
-//! The receive channels: one channel with one SA, its commands and its frames.
+//! The receive SCs (secure channels): one SC with one SA, its commands and its frames.
 
 ghost use Rattle.std.specs.Prelude.{IfOk};
 ghost use Rattle.macsec_rx.specs.Commands.{HaveRxKeys};
@@ -19,7 +19,7 @@ const SENDER: Sci = Sci(SCI);
 /// The own SCI.
 const OWN: Sci = Sci([0, 0, 0, 0, 0, 0, 0, 2]);
 
-/// The sender's channel, whose SA for the test frames is enabled.
+/// The sender's SC, whose SA for the test frames is enabled.
 fn channel_on(keys: &KeyTable) -> Result<RxChannels, Fail>
     ensures { IfOk result (λ channels. HaveRxKeys keys.now channels.rows) }
 {
@@ -163,7 +163,7 @@ fn packet_number_0(rt: HostRuntime) -> Result<(), Fail> {
     Ok(())
 }
 
-/// A command on the SA or on its channel.
+/// A command on the SA or on its SC.
 #[derive(Clone, Copy)]
 enum Command {
     Off,
@@ -171,7 +171,7 @@ enum Command {
     DeleteChannel,
 }
 
-/// The result of the channels for a command.
+/// The result of the SCs for a command.
 fn answer_to(channels: &mut RxChannels, command: Command) -> Result<(), Refusal> {
     match command {
         Command::Off => channels.rx_off(SENDER, an()),
@@ -180,7 +180,7 @@ fn answer_to(channels: &mut RxChannels, command: Command) -> Result<(), Refusal>
     }
 }
 
-/// The SA, whether it uses the key of the test frames, and the first channel; no other key is ever used.
+/// The SA, whether it uses the key of the test frames, and the first SC; no other key is ever used.
 fn seen(rt: &impl Abort, channels: &RxChannels) -> (Option<RxRow>, bool, Option<Sci>) {
     assert!(rt; !channels.uses(unused_number()));
     let row = channels.row(SENDER, an());
@@ -190,7 +190,7 @@ fn seen(rt: &impl Abort, channels: &RxChannels) -> (Option<RxRow>, bool, Option<
 /// The packet number after the test frames' one.
 const RAISED: u64 = PACKET_NUMBER as u64 + 1;
 
-/// The sender's channel, after its lowest acceptable packet number was raised and its window narrowed to 0.
+/// The sender's SC, after its lowest acceptable packet number was raised and its window narrowed to 0.
 fn raised_channel(alloc: Global) -> Result<RxChannels, Fail> {
     let keys = key_table(alloc)?;
     let mut channels = channel_on(&keys)?;
@@ -199,7 +199,7 @@ fn raised_channel(alloc: Global) -> Result<RxChannels, Fail> {
     Ok(channels)
 }
 
-/// A command, its result, and afterwards whether the SA exists, disabled, and the first channel.
+/// A command, its result, and afterwards whether the SA exists, disabled, and the first SC.
 const COMMANDS: [(Command, Result<(), Refusal>, bool, Option<Sci>); 4] = [
     (Command::Off, Ok(()), true, Some(SENDER)),
     (Command::Delete, Ok(()), false, Some(SENDER)),
@@ -207,7 +207,7 @@ const COMMANDS: [(Command, Result<(), Refusal>, bool, Option<Sci>); 4] = [
     (Command::DeleteChannel, Ok(()), false, None),
 ];
 
-/// The SA and the first channel are these, and the key is used exactly while the SA exists.
+/// The SA and the first SC are these, and the key is used exactly while the SA exists.
 fn check_seen(rt: &impl Abort, channels: &RxChannels, row: Option<RxRow>, channel: Option<Sci>) {
     assert!(rt; seen(rt, channels) == (row, row.is_some(), channel));
 }

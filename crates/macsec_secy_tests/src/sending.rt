@@ -1,4 +1,4 @@
-//! The transmit channel: one SA, its commands and its frames.
+//! The transmit SC (secure channel): one SA, its commands and its frames.
 
 ghost use Rattle.std.specs.Prelude.{IfOk};
 ghost use Rattle.macsec_tx.specs.Commands.{HaveKeys};
@@ -21,7 +21,7 @@ const OPTIONS: TxOptions = TxOptions {
     many: false,
 };
 
-/// A channel whose SA for the test frames is enabled, and encrypts if `conf` is true.
+/// An SC whose SA for the test frames is enabled, and encrypts if `conf` is true.
 fn channel_on(keys: &KeyTable, conf: bool) -> Result<TxChannel, Fail>
     ensures { IfOk result (λ channel. HaveKeys keys.now channel) }
 {
@@ -42,8 +42,8 @@ fn row(next: u128, conf: bool) -> TxRow {
     }
 }
 
-/// The result for a client frame at a new channel, its SA afterwards, and the first unused packet number of the key.
-/// The sent frame is written to the slice.
+/// The result for a client frame at a new SC, its SA afterwards, and the first unused packet number of the key. The
+/// sent frame is written to the slice.
 fn sent(
     alloc: Global,
     conf: bool,
@@ -87,7 +87,7 @@ enum Command {
     Delete,
 }
 
-/// The channel's result for a command.
+/// The SC's result for a command.
 fn answer_to(channel: &mut TxChannel, command: Command) -> Result<(), Refusal> {
     match command {
         Command::Off => channel.tx_off(an()),
@@ -95,19 +95,19 @@ fn answer_to(channel: &mut TxChannel, command: Command) -> Result<(), Refusal> {
     }
 }
 
-/// The enabled SA, and whether the channel uses the key of the test frames; it never uses another.
+/// The enabled SA, and whether the SC uses the key of the test frames; it never uses another.
 fn seen(rt: &impl Abort, channel: &TxChannel) -> (Option<TxRow>, bool) {
     assert!(rt; !channel.uses(unused_number()));
     (channel.row_on(), channel.uses(key_number()))
 }
 
-/// A new channel.
+/// A new SC.
 fn new_channel(alloc: Global) -> Result<TxChannel, Fail> {
     let keys = key_table(alloc)?;
     channel_on(&keys, false)
 }
 
-/// A command, its result, and whether the channel uses the key of the test frames afterwards.
+/// A command, its result, and whether the SC uses the key of the test frames afterwards.
 const COMMANDS: [(Command, Result<(), Refusal>, bool); 3] = [
     (Command::Off, Ok(()), true),
     (Command::Delete, Ok(()), false),

@@ -1,5 +1,5 @@
--- The invariant: closing the channel's logs at the remaining indices closes all of them. At first all indices of the
--- table remain.
+-- The invariant: closing the SC's logs at the remaining indices closes all of them. At first all indices of the table
+-- remain.
 use Rattle.std.proofs.Common.{◌∙◌, ℕ, List, ap, arith, get_or, length-set, map, refl}
 use Rattle.macsec_rx.specs.Channels.{same_sci}
 use Rattle.macsec_link_logs.specs.Logs.{log_closing}

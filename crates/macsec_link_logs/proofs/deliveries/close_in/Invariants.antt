@@ -5,7 +5,7 @@ use Rattle.macsec_link_logs.specs.Places.{logs_of}
 use Rattle.macsec_link_logs.proofs.LiveTable.{with_each}
 use Rattle.macsec_link_logs.proofs.deliveries.close_in.Given as goal
 
--- closing the channel's logs at the remaining indices closes all of them
+-- closing the SC's logs at the remaining indices closes all of them
 abbrev pub invariant-loop-place : goal.invariant-loop-place
 invariant-loop-place l =
     let change = log_closing (λ log. same_sci log.sci l.sci) in

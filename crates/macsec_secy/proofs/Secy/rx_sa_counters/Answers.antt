@@ -1,5 +1,5 @@
--- Counters exist exactly if the SA does: by `IsSound` a channel has counters for exactly its own SAs (`shown_there`),
--- and no SA has an SCI without a channel.
+-- Counters exist exactly if the SA does: by `IsSound` an SC has counters for exactly its own SAs (`shown_there`), and
+-- no SA has an SCI without an SC.
 use Rattle.std.proofs.Common.{◌∙◌, ap, rules}
 use Rattle.std.specs.Prelude.{is_some, option_and_then}
 use Rattle.macsec_secy.specs.declared.counters.ChannelCounters.{ChannelCounters}

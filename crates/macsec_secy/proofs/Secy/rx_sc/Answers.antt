@@ -1,5 +1,5 @@
--- A new channel has counters of 0, and the endpoint stays sound. The contract of `RxChannels::rx_sc` gives the
--- channels, and `after_effect` the rest.
+-- A new SC has counters of 0, and the endpoint stays sound. The contract of `RxChannels::rx_sc` gives the SCs, and
+-- `after_effect` the rest.
 use Rattle.std.proofs.Common.{rules, subst, sym}
 use Rattle.macsec_rx.specs.Rows.{AreChannels}
 use Rattle.macsec_commands.specs.declared.command.Command.TheVariants as by

@@ -1,5 +1,5 @@
--- The state after the command is the defined one, and sound. The contract of `RxChannels::rx_sc_del` gives the
--- channels, the contract of `retain`, which is a filter, gives the remaining counters, and `after_effect` the rest.
+-- The state after the command is the defined one, and sound. The contract of `RxChannels::rx_sc_del` gives the SCs, the
+-- contract of `retain`, which is a filter, gives the remaining counters, and `after_effect` the rest.
 use Rattle.std.proofs.Common.{◌≡◌, ◌∙◌, ap, rules, subst, sym}
 use Rattle.std.specs.Prelude.{filter, not}
 use Rattle.arrayvec.proofs.ArrayVecLemmas.{filter-from_retain}

@@ -1,5 +1,5 @@
--- A client frame, one arm for each result of the transmit channel: the state is the one after the step, and the result
--- is the step's output.
+-- A client frame, one arm for each result of the transmit SC: the state is the one after the step, and the result is
+-- the step's output.
 use Rattle.std.proofs.Common.{◌≡◌, ◌∙◌, ap, refl, rules, take, subst}
 use Rattle.std.specs.Prelude.{None, Some}
 use Rattle.macsec_secy.specs.Step.{client_frame, frame_fault, leaves, step}

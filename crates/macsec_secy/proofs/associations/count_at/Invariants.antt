@@ -3,7 +3,7 @@ use Rattle.macsec_secy.specs.Counting.{count_in_channel}
 use Rattle.macsec_secy.specs.Verdicts.{at_first}
 use Rattle.macsec_secy.proofs.associations.count_at.Given as goal
 
--- no channel before the index has the SCI, and nothing is counted yet
+-- no SC before the index has the SCI, and nothing is counted yet
 abbrev pub invariant-loop-row : goal.invariant-loop-row
 invariant-loop-row l = record {
   same : l.rows ≡ l.initial.rows;

@@ -1,4 +1,4 @@
--- One clause each: an SA is found by its channel and number (`DeliveredFrom`), and its next packet number does not fall
+-- One clause each: an SA is found by its SC and number (`DeliveredFrom`), and its next packet number does not fall
 -- (`RxRowsStay`).
 use Rattle.macsec_secy.proofs.DeliveredFrom.{rx_rows_are_apart}
 use Rattle.macsec_secy.proofs.RxRowsStay.{rx_rows_stay}
