@@ -1,4 +1,4 @@
--- A run whose text is flushed returns and writes what it does without.
+-- The contract of a run still holds after the text is flushed.
 use Rattle.std.proofs.Common.{◌≡◌, ℕ, List, Option, Some, None, Result, Ok, Err}
 use Rattle.std.specs.Prelude.{IfErr, IfSome}
 use Rattle.std.specs.Io.KnownBytes.{Keeps}
@@ -16,7 +16,7 @@ use Rattle.macsec_cli_runs.specs.Captures.{capture_end}
 abbrev known : Option (List ℕ) → Option (List ℕ) → Written
 known octets lines = record { output = octets; text = lines }
 
--- the output is not touched by the flush of the text
+-- the flush of the text leaves the output unchanged
 kept : (octets mid new : Option (List ℕ)) → Keeps mid new → Kept (known octets mid) (known octets new)
 kept octets mid new keeps = record { output = Keeps-refl octets; text = keeps }
 
@@ -39,7 +39,7 @@ flushed direction (Some c) None old octets mid new keeps done text gives = tt
 flushed direction (Some c) (Some f) old octets mid new keeps done text gives =
     given direction c f old (known octets mid) (known octets new) (kept octets mid new keeps) done text gives
 
--- what is unwritten stays so
+-- what was not written is not written by the flush either
 pub unwritten : {E : Type 0} (old : Written) (octets mid new : Option (List ℕ)) → Keeps mid new → (done : Result (Unit {0}) CaptureFault) (text : Result (Unit {0}) E) →
     IfErr done (LeavesBoth old (known octets mid)) → IfErr (capture_end done text) (LeavesBoth old (known octets new))
 unwritten old octets mid new keeps (Ok done) (Err error) leaves = tt

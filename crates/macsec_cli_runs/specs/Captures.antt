@@ -1,4 +1,4 @@
--- How a run over named files of a capture ends.
+-- How a run over the named files of a capture ends.
 use Rattle.std.specs.Prelude.{◌≡◌, ◌⊎◌, ℕ, List, Option, Result, Ok, Err}
 use Rattle.std.specs.Io.KnownBytes.{Keeps}
 use Rattle.macsec_script_parser.specs.declared.faults.ScriptFault.TheVariants as script
@@ -8,7 +8,7 @@ use Rattle.macsec_cli_runs.specs.declared.captures.CapturePaths.{CapturePaths}
 use Rattle.macsec_cli_runs.specs.declared.failures.Failure.{Failure}
 use Rattle.macsec_cli_runs.specs.declared.failures.Failure.TheVariants.{Usage, CannotOpen, Script, Pcap}
 
--- a run ends by its own fault, else by that of the text's flush
+-- the fault of a run, if it has one, else the fault of the text's flush
 abbrev pub capture_end : {E : Type 0} → Result (Unit {0}) CaptureFault → Result (Unit {0}) E → Result (Unit {0}) CaptureFault
 capture_end (Err fault) text = Err fault
 capture_end (Ok done) (Err error) = Err (capture.Script script.Write)
@@ -22,7 +22,7 @@ CaptureFailsAs paths (CannotOpen path) =
 CaptureFailsAs paths (Script fault) = Unit {0}
 CaptureFailsAs paths (Pcap fault) = Unit {0}
 
--- no line is printed if a file can't be opened, or the configuration is at fault
+-- no line is printed if a file can't be opened, or if the configuration has a fault or can't be read
 abbrev pub LeavesLines : Option (List ℕ) → Option (List ℕ) → Failure → Type 0
 LeavesLines old new Usage = Keeps old new
 LeavesLines old new (CannotOpen path) = Keeps old new

@@ -1,4 +1,4 @@
--- What the program writes on standard error, and its status.
+-- What the program writes to standard error, and its exit status.
 use Rattle.std.specs.Prelude.{◌≡◌, ℕ, List, [], ◌++◌, codes, Option, Result, Ok, Err}
 use Rattle.std.specs.Io.KnownBytes.{Keeps}
 use Rattle.macsec_cli_runs.specs.declared.failures.Failure.{Failure}
@@ -19,7 +19,7 @@ failure_status (CannotOpen path) = 1
 failure_status (Script fault) = fault_status fault
 failure_status (Pcap fault) = 1
 
--- the status and the text of how a program ends
+-- the exit status and the text for the result of the program
 abbrev pub told_status : Result (Unit {0}) Failure → ℕ
 told_status (Ok done) = 0
 told_status (Err failure) = failure_status failure
@@ -28,7 +28,7 @@ abbrev pub told_text : Result (Unit {0}) Failure → List ℕ
 told_text (Ok done) = []
 told_text (Err failure) = failure_text failure
 
--- what a run from standard input returns is what a run of its script does
+-- a run from standard input returns what a run of that script returns
 abbrev pub NamedGives : List ℕ → Option (List ℕ) → Option (List ℕ) → Result (Unit {0}) Failure → Type 0
 NamedGives script old new (Ok done) = RunGives script old new (Ok done)
 NamedGives script old new (Err (Script fault)) = RunGives script old new (Err fault)
@@ -36,8 +36,7 @@ NamedGives script old new (Err Usage) = ⊥
 NamedGives script old new (Err (CannotOpen path)) = ⊥
 NamedGives script old new (Err (Pcap fault)) = ⊥
 
--- a run of a named script never says that the arguments are invalid or that a capture file has a fault, and only the
--- named file can't be opened
+-- a run of a named script returns no `Usage` and no fault of a capture file, and `CannotOpen` only for the named file
 abbrev pub FailsAs : List ℕ → Failure → Type 0
 FailsAs name Usage = ⊥
 FailsAs name (CannotOpen path) = path.now ≡ name

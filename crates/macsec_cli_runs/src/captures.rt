@@ -1,4 +1,4 @@
-//! A run over the capture file of a path, by the configuration of one, into the file of another.
+//! A run over named files: a configuration, a capture file to read and one to write.
 
 ghost use Rattle.std.specs.Prelude.{◌≡◌, IfSome, IfErr};
 ghost use Rattle.macsec_capture.specs.Captured.{captured};
@@ -25,7 +25,7 @@ pub struct CapturePaths<'a> {
     pub output: &'a str,
 }
 
-/// How a run ends whose text was flushed: by its own fault, if it has one, else by that of the flush.
+/// The fault of a run, if it has one, else the fault of the text's flush.
 fn capture_end(done: Result<(), CaptureFault>, text: io::Result<()>) -> Result<(), CaptureFault>
     ensures { result ≡ capture_end done text }
 {
@@ -36,7 +36,7 @@ fn capture_end(done: Result<(), CaptureFault>, text: io::Result<()>) -> Result<(
     }
 }
 
-/// Runs a capture like `run_capture`, which flushes the output, and flushes the text.
+/// Runs a capture like `run_capture`, which flushes the output, and then flushes the text.
 fn run_and_flush<C: Read, R: Read, W: Write, T: Write>(
     alloc: Global,
     direction: Direction,
@@ -56,8 +56,8 @@ fn run_and_flush<C: Read, R: Read, W: Write, T: Write>(
     capture_end(done, flushed)
 }
 
-/// Runs a capture like `run_capture` over the files of these paths, through buffers, and flushes what was written. The
-/// files are opened in the order of their fields, and the output emptied, before anything else.
+/// Runs a capture like `run_capture` over the files at these paths, with buffers, and flushes output and text. First
+/// the files are opened in the order of their fields; the output is truncated.
 pub fn capture_named<'a, H: Files, T: Write>(
     rt: &H,
     alloc: Global,

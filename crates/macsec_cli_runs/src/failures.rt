@@ -1,4 +1,4 @@
-//! How a program that runs a script or a capture ends: what goes wrong, as a line on standard error and as its status.
+//! How the program reports a failure: a line on standard error, and the exit status.
 
 ghost use Rattle.std.specs.Prelude.{◌≡◌, ◌≢◌, OnOk};
 ghost use Rattle.std.specs.IoError.{error_kind};
@@ -14,29 +14,29 @@ use macsec_script_parser::ScriptFault;
 use std::io::{self, Write};
 use thiserror::Error;
 
-/// The octets of the longest line that is written at once: that of a path of 4,096 octets fits, and no system opens a
-/// longer one.
+/// The length in octets of the longest line that is written by one call. The line of a path of 4,096 octets fits; no
+/// system opens a longer path.
 const LINE_ROOM: usize = 4352;
 
-/// Why a program that runs a script or a capture does not end well.
+/// Why the program fails.
 #[derive(Clone, Copy, Debug, Error)]
 pub enum Failure<'a> {
-    /// The arguments are of none of the program's forms.
+    /// The arguments match none of the program's forms.
     #[error("the arguments are invalid")]
     Usage,
-    /// The file of this path can't be opened.
+    /// The file at this path can't be opened.
     #[error("{0} can't be opened")]
     CannotOpen(&'a str),
-    /// The script or its run has a fault, or the program was out of memory before it.
+    /// The script, the configuration or the run has a fault, or memory ran out before the run.
     #[error(transparent)]
     Script(#[from] ScriptFault),
-    /// A capture file is not read or written.
+    /// A capture file can't be read or written.
     #[error(transparent)]
     Pcap(#[from] PcapFault),
 }
 
 impl Failure<'_> {
-    /// Writes the one line of the failure.
+    /// Writes the line of the failure.
     fn tell<W: Write>(self, writer: &mut W) -> io::Result<()>
         ensures { OnOk result (Appends (W.contents writer.old) (W.contents writer.new) (failure_text self.entry)) }
     {
@@ -51,8 +51,8 @@ impl Failure<'_> {
         }
     }
 
-    /// Writes the one line of the failure with one call, without memory; in pieces if it is that of a longer path than
-    /// there is room for.
+    /// Writes the line of the failure by one call, without allocating. A line that is too long for the buffer is
+    /// written in pieces.
     fn tell_at_once<W: Write>(self, writer: &mut W) -> io::Result<()>
         ensures { OnOk result (Appends (W.contents writer.old) (W.contents writer.new) (failure_text self.entry)) }
     {
@@ -63,7 +63,7 @@ impl Failure<'_> {
         }
     }
 
-    /// The program's status: 2 if the arguments or the script are at fault, else 1.
+    /// The exit status: 2 if the arguments are invalid or the script has a fault, else 1.
     fn status(self) -> u8
         ensures { result ≡ failure_status self.entry }
     {
@@ -75,7 +75,7 @@ impl Failure<'_> {
     }
 }
 
-/// Why the arguments of a program can't be read: it is out of memory, or one of them is not UTF-8.
+/// Why the arguments can't be read: memory ran out, or an argument is not UTF-8.
 pub fn failure_of_words<'a>(error: &io::Error) -> Failure<'a>
     ensures memory { error_kind error.now ≡ OutOfMemory → result ≡ Script Memory }
     ensures usage { error_kind error.now ≢ OutOfMemory → result ≡ Usage }
@@ -87,8 +87,8 @@ pub fn failure_of_words<'a>(error: &io::Error) -> Failure<'a>
     }
 }
 
-/// Reports how a program ends: writes the one line of its failure, if it fails. Returns its status, 0 if it ends
-/// well, and whether the writer took the line.
+/// Reports the result of the program: writes the line of its failure, if it failed. Returns the exit status, which is 0
+/// if it did not fail, and whether the line was written.
 pub fn tell<W: Write>(writer: &mut W, ended: Result<(), Failure<'_>>) -> (u8, io::Result<()>)
     ensures status { result.0 ≡ told_status ended.entry }
     ensures line { OnOk result.1 (Appends (W.contents writer.old) (W.contents writer.new) (told_text ended.entry)) }

@@ -1,4 +1,4 @@
-//! A run of the script of a name: that of standard input, or of a file.
+//! A run of a named script: from standard input or from a file.
 
 ghost use Rattle.std.specs.Prelude.{◌≡◌, ◌≢◌, codes, IfSome, IfErr, MatchResult, Ok, Err};
 ghost use Rattle.macsec_script_parser.specs.declared.faults.ScriptFault.TheVariants.{Write};
@@ -14,7 +14,7 @@ use std::fs;
 use std::io::{self, Read, Write};
 use std::rt::Files;
 
-/// How a run ends whose output was flushed: by its own fault, if it has one, else by that of the flush.
+/// The fault of a run, if it has one, else the fault of the output's flush.
 fn run_end(done: Result<(), ScriptFault>, flushed: io::Result<()>) -> Result<(), ScriptFault>
     ensures { MatchResult done (λ _. MatchResult flushed (λ _. result ≡ Ok tt) (λ _. result ≡ Err Write)) (λ fault. result ≡ Err fault) }
 {
@@ -36,8 +36,8 @@ fn run_and_flush<R: Read, W: Write>(
     run_end(done, flushed)
 }
 
-/// Runs the script of this name, standard input if the name is `-` and else the file of this path, and flushes
-/// what it printed. If a file is named, standard input is not read.
+/// Runs the script of this name, and flushes what it printed. The name `-` is standard input; any other is the path of
+/// a file, and then standard input is not read.
 pub fn run_named<'a, H: Files, R: Read, W: Write>(
     rt: &H,
     alloc: Global,

@@ -1,4 +1,4 @@
-//! What stands in the place of standard streams that were closed before the program started.
+//! Replacements for standard streams that were closed before the program started.
 
 ghost use Rattle.std.specs.Prelude.{codes, IfErr};
 ghost use Rattle.macsec_cli_runs.specs.Failures.{FailsAsOpening};
@@ -7,13 +7,13 @@ use crate::failures::Failure;
 use std::fs;
 use std::rt::Files;
 
-/// The directory that stands in. No read of it and no write to it succeeds, whichever stream it stands for.
+/// The directory that replaces a closed stream. No read from it and no write to it succeeds.
 const STAND_IN: &str = "/";
 
-/// Three open directories. A system gives a file that is opened the least number that is free, and the standard streams
-/// have the first three. So while these are held, no other file that is opened is taken for a standard stream, and a
-/// stream that was closed fails at its first read or write. If they were not held and standard output was closed, CONFIG
-/// would have its number, and `macsec protect CONFIG IN /dev/stdout` would empty CONFIG.
+/// Three open directories. A system gives an opened file the lowest free descriptor, and the standard streams have the
+/// first three. So while these are open, no other file gets the descriptor of a standard stream, and a closed stream
+/// fails at its first read or write. Without them, if standard output was closed, CONFIG would get its descriptor, and
+/// `macsec protect CONFIG IN /dev/stdout` would truncate CONFIG.
 #[derive(Drop)]
 pub struct StandIns<F> {
     _first: F,
@@ -21,8 +21,8 @@ pub struct StandIns<F> {
     _third: F,
 }
 
-/// Opens what stands in for closed standard streams; before any other file, and to be held for the whole run. Returns
-/// `CannotOpen` if the directory `/` can't be opened three times.
+/// Opens the replacements for closed standard streams. Call it before any other file is opened, and keep the result for
+/// the whole run. Returns `CannotOpen` if the directory `/` can't be opened three times.
 pub fn open_stand_ins<H: Files>(rt: &H) -> Result<StandIns<H::File>, Failure<'static>>
     ensures { IfErr result (FailsAsOpening (codes "/")) }
 {

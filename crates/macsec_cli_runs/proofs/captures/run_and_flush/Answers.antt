@@ -1,4 +1,4 @@
--- The run's own clauses, carried over the flush of the text.
+-- The clauses of the run, carried over the flush of the text.
 use Rattle.macsec_cli_runs.proofs.Flushed.{flushed, unwritten}
 use Rattle.macsec_cli_runs.proofs.captures.run_and_flush.Goals as goal
 
