@@ -1,7 +1,7 @@
-//! The program `macsec`: runs a script for a MACsec endpoint, or protects or validates the frames of a capture file.
+//! The program `macsec`: runs a script for two MACsec endpoints, or protects or validates the frames of a capture file.
 //!
-//! Proved: `main` is safe and returns. That it passes the process's words, the line and the status on is compared by
-//! `tools/stored-runs`, and no clause says it.
+//! Proved: `main` is safe and returns. No clause says that it passes on the process's arguments, the line and the exit
+//! status; `tools/stored-runs` compares them.
 #![tactic(auto)]
 
 use macsec_cli_args::run_program;

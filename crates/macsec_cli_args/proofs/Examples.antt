@@ -1,4 +1,4 @@
--- Words of the command line, and what they ask for.
+-- Worked command lines, and what they ask for.
 use Rattle.std.specs.Prelude.{◌≡◌, [], ◌∷◌, codes, Some, None, refl}
 use Rattle.clap.proofs.OnLiterals.{clap_on_literals}
 use Rattle.macsec_capture.specs.declared.Direction.TheVariants.{Protect, Validate}
@@ -20,7 +20,7 @@ protection : asked (codes "macsec" ∷ codes "protect" ∷ codes "c" ∷ codes "
 unfolding clap_on_literals
 protection = refl
 
--- for a capture `-` is the name of a file
+-- for a capture, `-` is the name of a file
 validation : asked (codes "macsec" ∷ codes "validate" ∷ codes "-" ∷ codes "i" ∷ codes "o" ∷ []) ≡ Some (capturing Validate (codes "-") (codes "i") (codes "o"))
 unfolding clap_on_literals
 validation = refl

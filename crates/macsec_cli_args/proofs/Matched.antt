@@ -1,4 +1,4 @@
--- What clap met, as what the words ask for.
+-- What clap matches is what the arguments ask for.
 use Rattle.std.proofs.Common.{◌≡◌, ◌∙◌, ◌⊎◌, inl, inr, List, [], ◌∷◌, true, ap, refl, subst, sym, Option, Err}
 use Rattle.clap.specs.Words.{App, HasKind, HasMatchesOf, IsAmong, Kinds, Text, fault_of, is_simple, is_simple_and_free}
 use Rattle.clap.specs.Words.{kind_of, subcommand_of, subcommand_rows_of}
@@ -13,7 +13,7 @@ pub is_free : is_simple_and_free macsec_app ≡ true
 unfolding clap_on_literals
 is_free = refl
 
--- an error of clap's: out of memory, or a fault of the words
+-- an error of clap: out of memory, or a fault of the arguments
 pub refused : (kind : ErrorKind) (kinds : Kinds) (asked : Option Asked) → (kind ≡ OutOfMemory) ⊎ IsAmong kind kinds →
     Asks (without_fault kinds asked) (Err (kind_failure kind))
 refused OutOfMemory kinds asked why = refl
@@ -31,7 +31,7 @@ are_simple : is_simple macsec_app ≡ true
 unfolding clap_on_literals
 are_simple = refl
 
--- what is found in the matches of words that are taken is what they ask for
+-- the task in the matches of accepted arguments is what they ask for
 pub taken_words : (app : App) (words : List Text) (m : ArgMatches) (found : Option Asked) → app ≡ macsec_app →
     (is_simple_and_free app ≡ true → fault_of app words ≡ []) → HasMatchesOf app words m →
     found ≡ asked_in (subcommand_rows_of m) → asked words ≡ found

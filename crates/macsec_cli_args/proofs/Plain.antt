@@ -1,4 +1,4 @@
--- What is read of a command says that none of its arguments is global.
+-- No argument of a plain command is global.
 use Rattle.std.proofs.Common.{◌≡◌, ◌&&◌, not, Bool, true, false, refl}
 
 pub no_globals : (a b h r : Bool) → (a && (not b && (not h && r))) ≡ true → h ≡ false

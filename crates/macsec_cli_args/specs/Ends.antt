@@ -1,4 +1,4 @@
--- How the program ends by its words, and what is told of an end.
+-- The results of the program for its arguments, and how a result is reported.
 use Rattle.std.specs.Prelude.{◌≡◌, ◌⊎◌, ℕ, List, codes, Option, IsSome, OnOk, Result, Ok, Err}
 use Rattle.std.specs.Io.KnownBytes.{Appends}
 use Rattle.std.specs.declared.io.ErrorKind.{ErrorKind}
@@ -10,12 +10,12 @@ use Rattle.macsec_cli_runs.specs.declared.failures.Failure.TheVariants.{Script, 
 use Rattle.macsec_cli_runs.specs.Failures.{FailsAsOpening, told_status, told_text}
 use Rattle.macsec_cli_args.specs.Words.{FailsBy, asked}
 
--- what the words ask for was done, or it failed, or `/` can't be opened
+-- the task of the arguments was carried out, or it failed, or `/` can't be opened
 abbrev pub EndsBy : List Text → Result (Unit {0}) Failure → Type 0
 EndsBy words (Ok done) = IsSome (asked words)
 EndsBy words (Err failure) = (FailsBy words failure) ⊎ (FailsAsOpening (codes "/") failure)
 
--- the failure of words that can't be read: there is no memory, or one of them is not UTF-8
+-- the failure of arguments that can't be read: memory ran out, or an argument is not UTF-8
 abbrev pub unread_failure : ErrorKind → Failure
 unread_failure OutOfMemory = Script Memory
 unread_failure _ = Usage
@@ -23,12 +23,12 @@ unread_failure _ = Usage
 abbrev pub IsUnread : ErrorKind → Result (Unit {0}) Failure → Type 0
 IsUnread kind ended = ended ≡ Err (unread_failure kind)
 
--- some words make it end so, or words that can't be read
+-- a result for some arguments, or for arguments that can't be read
 pub data EndsAtAll (ended : Result (Unit {0}) Failure) : Type 0 where
   by_words : (words : List Text) → EndsBy words ended → EndsAtAll ended
   unread : (kind : ErrorKind) → IsUnread kind ended → EndsAtAll ended
 
--- of one of these ends, this is the status, and its text is what was written if it was taken
+-- for one of these results, this is the exit status, and its text was written if the write succeeded
 pub record IsTold {E : Type 0} (Ends : Result (Unit {0}) Failure → Type 0) (old new : Option (List ℕ)) (status : ℕ)
     (taken : Result (Unit {0}) E) : Type 0 where
   pub ended : Result (Unit {0}) Failure

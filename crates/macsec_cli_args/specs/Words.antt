@@ -1,4 +1,4 @@
--- The words of the command line, as clap's definitions read them: `run SCRIPT`, `protect CONFIG IN OUT` or
+-- The arguments of the program, as clap's definitions read them: `run SCRIPT`, `protect CONFIG IN OUT` or
 -- `validate CONFIG IN OUT`.
 use Rattle.std.specs.Prelude.{◌≡◌, ◌⊎◌, List, [], ◌∷◌, codes, bytes_eq, true, if◌then◌else◌, Option, Some, None, option_map, option_and_then, IsSome, IsSomeAnd, Result, Ok, Err}
 use Rattle.clap.specs.Words.{App, Kinds, Row, Rule, Text, fault_of, first_of, new_app, new_rule, subcommand_of, with_rule, with_subcommand}
@@ -13,7 +13,7 @@ use Rattle.macsec_capture.specs.declared.Direction.TheVariants.{Protect, Validat
 use Rattle.macsec_cli_args.specs.declared.Task.{Task}
 use Rattle.macsec_cli_args.specs.declared.Task.TheVariants.{Run, Capture}
 
--- what the words ask for: a run of this script, or a capture by a configuration, an input and an output
+-- what the arguments ask for: a run of this script, or a capture with a configuration, an input and an output
 pub data Asked : Type 0 where
   running : (script : Text) → Asked
   capturing : Direction → (config : Text) → (input : Text) → (output : Text) → Asked
@@ -22,7 +22,7 @@ abbrev pub asked_by : Task → Asked
 asked_by (Run script) = running script.now
 asked_by (Capture direction paths) = capturing direction paths.config.now paths.input.now paths.output.now
 
--- an argument that must be there
+-- a required argument
 abbrev pub name_rule : Text → Rule
 name_rule id = record (new_rule id) { required = true; action = Some Set }
 
@@ -32,7 +32,7 @@ run_app = with_rule (new_app (codes "run")) (name_rule (codes "SCRIPT"))
 abbrev pub capture_app : Text → App
 capture_app form = with_rule (with_rule (with_rule (new_app form) (name_rule (codes "CONFIG"))) (name_rule (codes "IN"))) (name_rule (codes "OUT"))
 
--- the program takes one of three subcommands
+-- the program has three subcommands, and one of them is required
 abbrev pub macsec_app : App
 macsec_app =
     let app = new_app (codes "macsec") in
@@ -62,16 +62,16 @@ abbrev pub without_fault : Kinds → Option Asked → Option Asked
 without_fault [] asked = asked
 without_fault (kind ∷ kinds) asked = None
 
--- what the words ask for, the program's own name first, where they are taken
+-- what the arguments ask for, if they are accepted; the first word is the program's name
 abbrev pub asked : List Text → Option Asked
 asked words = without_fault (fault_of macsec_app words) (asked_in (subcommand_of macsec_app words))
 
--- the failure of an error of clap's: out of memory, or invalid arguments
+-- the failure for an error of clap: out of memory, or invalid arguments
 abbrev pub kind_failure : ErrorKind → Failure
 kind_failure OutOfMemory = Script Memory
 kind_failure other = Usage
 
--- that is asked for, nothing is, or there is no memory
+-- the task is what is asked for; or `Usage`, and nothing is asked for; or memory ran out
 abbrev pub Asks : Option Asked → Result Task Failure → Type 0
 Asks asked (Ok task) = asked ≡ Some (asked_by task)
 Asks asked (Err Usage) = asked ≡ None
@@ -89,7 +89,7 @@ abbrev pub IsCapture : Asked → Type 0
 IsCapture (running script) = ⊥
 IsCapture (capturing direction config input output) = Unit {0}
 
--- why words lead to no run that ends well: they ask for nothing, or name a file that can't be opened, or the run fails
+-- why the arguments fail: they ask for nothing, they name a file that can't be opened, or the run fails
 abbrev pub FailsBy : List Text → Failure → Type 0
 FailsBy words Usage = asked words ≡ None
 FailsBy words (CannotOpen path) = IsSomeAnd (asked words) (NamesFile path.now)

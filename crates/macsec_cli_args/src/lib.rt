@@ -1,16 +1,16 @@
-//! The words of the program's command line, and the run that they ask for.
+//! The arguments of the program, and the run that they ask for.
 //!
-//! Proved: `task_of_words` returns the task that the words ask for, as `clap`'s definitions read the program's three
-//! forms (`specs/Words.antt`); or `Usage`, only if they ask for nothing; or `Memory`. `run_words` returns `Ok` only if
-//! the words are of one of the three forms; `Usage` only if they ask for nothing; `CannotOpen` only of a file that they
-//! name; a fault of a capture file only if they ask for a capture; a fault of a script other than `Memory` only if they
-//! are of a form. That it does what they ask for no clause says.
+//! Proved: `task_of_words` returns the task that the arguments ask for, as `clap`'s definitions read the program's
+//! three forms (`specs/Words.antt`); or `Usage`, only if they match no form; or `Memory`. `run_words` returns `Ok` only
+//! if the arguments match a form, `Usage` only if they match none, and `CannotOpen` only for a file that they name. It
+//! returns a fault of a capture file only if they ask for a capture, and a fault of a script other than `Memory` only
+//! if they match a form. No clause says that it does what they ask for.
 //!
-//! Proved: there is an end of which `run_and_tell` returns the status and, if the writer took it, wrote the line, to a
-//! writer whose octets a contract can name. It is one that `run_words` may return for these words, or that `/` can't be
-//! opened. `run_program`, which takes the process's own words, returns and writes what belongs to the end of some
-//! words, or of words that can't be read; of which, no contract says. Worked command lines are in
-//! `proofs/Examples.antt`.
+//! Proved: `run_and_tell` returns the exit status of some result and, if the line was written, wrote the line of that
+//! result to a writer whose octets a contract can name. The result is one that `run_words` may return for these
+//! arguments, or that `/` can't be opened. `run_program` returns the exit status and writes the line of *some*
+//! arguments, or of arguments that can't be read. No contract says that they are the process's. Worked command lines
+//! are in `proofs/Examples.antt`.
 #![tactic(auto)]
 
 mod program;
@@ -28,17 +28,17 @@ pub use program::{run_and_tell, run_program};
 use std::alloc::{AllocError, Global};
 use std::io::BufWriter;
 
-/// What the words ask the program for.
+/// What the arguments ask the program for.
 #[derive(Clone, Copy)]
 pub enum Task<'a> {
-    /// To run a script.
+    /// Run a script.
     Run(&'a str),
-    /// To protect or validate the frames of a capture.
+    /// Protect or validate the frames of a capture.
     Capture(Direction, CapturePaths<'a>),
 }
 
-/// What the words behind the program's own name ask for: `run SCRIPT`, `protect CONFIG IN OUT` or
-/// `validate CONFIG IN OUT`.
+/// The task of the arguments after the program's name: `run SCRIPT`, `protect CONFIG IN OUT` or
+/// `validate CONFIG IN OUT`. `words` begins with the program's name.
 pub fn task_of_words<'a>(alloc: Global, words: &'a [String]) -> Result<Task<'a>, Failure<'a>>
     ensures { Asks (asked (map string_bytes words.now)) result }
 {
@@ -54,7 +54,7 @@ pub fn task_of_words<'a>(alloc: Global, words: &'a [String]) -> Result<Task<'a>,
     }
 }
 
-/// Does what the words behind the program's own name ask for. What it prints goes to standard output.
+/// Carries out the task of the arguments after the program's name, and prints to standard output.
 pub fn run_words<'a>(rt: &HostRuntime, words: &'a [String]) -> Result<(), Failure<'a>>
     ensures done { IfOk result (λ _. IsSome (asked (map string_bytes words.now))) }
     ensures failure { IfErr result (FailsBy (map string_bytes words.now)) }
@@ -71,7 +71,7 @@ pub fn run_words<'a>(rt: &HostRuntime, words: &'a [String]) -> Result<(), Failur
     }
 }
 
-/// Why the arguments are not taken: the program is out of memory, or they are of none of its forms.
+/// Why the arguments are refused: memory ran out, or they match none of the program's forms.
 fn failure_of_kind<'a>(kind: ErrorKind) -> Failure<'a>
     ensures { result ≡ kind_failure kind }
 {
@@ -81,7 +81,7 @@ fn failure_of_kind<'a>(kind: ErrorKind) -> Failure<'a>
     }
 }
 
-/// The task in what was matched.
+/// The task in the matches.
 fn task_of<'a>(matches: &ArgMatches<'a>) -> Option<Task<'a>>
     ensures { option_map asked_by result ≡ asked_in (subcommand_rows_of matches.now) }
 {
@@ -94,7 +94,7 @@ fn task_of<'a>(matches: &ArgMatches<'a>) -> Option<Task<'a>>
     }
 }
 
-/// The run of a script in what was matched behind its subcommand.
+/// The run of a script, in the matches of its subcommand.
 fn run_of<'a>(matches: &ArgMatches<'a>) -> Option<Task<'a>>
     ensures { option_map asked_by result ≡ run_in (rows_of (found_of matches.now)) }
 {
@@ -104,7 +104,7 @@ fn run_of<'a>(matches: &ArgMatches<'a>) -> Option<Task<'a>>
     }
 }
 
-/// The capture in what was matched behind its subcommand.
+/// The capture, in the matches of its subcommand.
 fn capture_of<'a>(direction: Direction, matches: &ArgMatches<'a>) -> Option<Task<'a>>
     ensures { option_map asked_by result ≡ capture_in direction (rows_of (found_of matches.now)) }
 {
@@ -126,11 +126,11 @@ fn value_of<'a>(matches: &ArgMatches<'a>, id: &str) -> Option<&'a str>
     matches.get_str(id)
 }
 
-/// The command line that the program takes.
+/// The command line that the program accepts.
 fn command<'a>(alloc: Global) -> Result<Command<'a>, AllocError>
     ensures { IfOk result (λ command. app_of command ≡ macsec_app) }
 {
-    // At each `?` at most one command is there to be dropped, which keeps the proof short.
+    // At each `?` at most one command has to be dropped, which keeps the proof short.
     let run = Command::new(alloc, "run").arg(name_argument(alloc, "SCRIPT"))?;
     let runs = Command::new(alloc, "macsec")
         .subcommand_required(true)
@@ -151,7 +151,7 @@ fn capture_command<'a>(alloc: Global, form: &'a str) -> Result<Command<'a>, Allo
         .arg(name_argument(alloc, "OUT"))
 }
 
-/// The name of a file, which must be there.
+/// The argument for a file name, which is required.
 fn name_argument<'a>(alloc: Global, id: &'a str) -> Arg<'a>
     ensures rule { rule_of result ≡ name_rule id.now }
     ensures local { result.global ≡ false }

@@ -1,4 +1,4 @@
-//! The whole program but for its `main`: what it does by its words, what it tells of that, and its status.
+//! The whole program except `main`: carries out its arguments, reports a failure, and returns the exit status.
 
 ghost use Rattle.std.specs.Prelude.{map, string_bytes, IfErr, IfOk};
 ghost use Rattle.std.specs.IoError.{error_kind};
@@ -9,7 +9,8 @@ use macsec_cli_runs::{Failure, failure_of_words, open_stand_ins, tell};
 use std::env;
 use std::io::{self, Write};
 
-/// The program `macsec`: does what its own words ask for, and tells on `errors` how that ended, as `run_and_tell` does.
+/// The program `macsec`: carries out the task of the process's arguments, and reports a failure on `errors`, as
+/// `run_and_tell` does.
 pub fn run_program<W: Write>(rt: &HostRuntime, errors: &mut W) -> (u8, io::Result<()>)
     ensures { IsTold EndsAtAll (W.contents errors.old) (W.contents errors.new) result.0 result.1 }
 {
@@ -17,7 +18,7 @@ pub fn run_program<W: Write>(rt: &HostRuntime, errors: &mut W) -> (u8, io::Resul
     run_own(rt, &own, errors)
 }
 
-/// Does the same by words that were read, or could not be.
+/// The same, for arguments that were read or could not be read.
 fn run_own<W: Write>(
     rt: &HostRuntime,
     own: &io::Result<Vec<String>>,
@@ -32,8 +33,8 @@ fn run_own<W: Write>(
     }
 }
 
-/// Does what the words behind the program's own name ask for, and writes one line on `errors` if it fails. Returns the
-/// program's status, and whether the line was taken.
+/// Carries out the task of the arguments after the program's name, and writes a line to `errors` if it fails. Returns
+/// the exit status, and whether the line was written.
 pub fn run_and_tell<W: Write>(
     rt: &HostRuntime,
     words: &[String],
@@ -45,7 +46,7 @@ pub fn run_and_tell<W: Write>(
     tell(errors, ended)
 }
 
-/// How the run ends that the words ask for, while no file that it opens can be taken for a standard stream.
+/// Carries out the task of the arguments, while no file that is opened can get the descriptor of a standard stream.
 fn end_of_words<'a>(rt: &HostRuntime, words: &'a [String]) -> Result<(), Failure<'a>>
     ensures { EndsBy (map string_bytes words.now) result }
 {
@@ -55,7 +56,7 @@ fn end_of_words<'a>(rt: &HostRuntime, words: &'a [String]) -> Result<(), Failure
     }
 }
 
-/// The program's own words, its name among them.
+/// The arguments of the process, beginning with the program's name.
 fn own_words(rt: &HostRuntime) -> io::Result<Vec<String>> {
     Ok(env::args(rt)?.collect(rt.alloc())?)
 }

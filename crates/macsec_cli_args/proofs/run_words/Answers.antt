@@ -1,4 +1,4 @@
--- The fault is that of memory, so that another fault is refused soon.
+-- The fault is `Memory`, so that another fault is refused quickly.
 use Rattle.std.proofs.Common.{inr, refl}
 use Rattle.macsec_cli_args.proofs.run_words.Goals as goal
 

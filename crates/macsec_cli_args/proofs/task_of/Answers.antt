@@ -1,4 +1,4 @@
--- What is captured is in this direction; the rest is by search. On a mutant the prover tries nothing else.
+-- The direction of a capture is the subcommand's; the rest is by search. The prover tries nothing else on a mutant.
 use Rattle.std.proofs.Common.{◌≡◌, rules}
 use Rattle.std.specs.Option.{option_map}
 use Rattle.clap.specs.Words.{found_of, rows_of}

@@ -1,4 +1,4 @@
--- What is matched is what the words ask for; an error is a fault of the words, or there is no memory.
+-- The matches are what the arguments ask for. An error of clap is a fault of the arguments, or out of memory.
 use Rattle.std.proofs.Common.{ap, map, refl, string_bytes, ◌∙◌}
 use Rattle.clap.specs.Words.{is_simple_and_free}
 use Rattle.macsec_cli_args.proofs.Matched.{is_free, refused_words, taken_words}

@@ -1,4 +1,4 @@
--- The end that is told is that of the words.
+-- The reported result is the result for the arguments.
 use Rattle.macsec_cli_args.proofs.program.run_and_tell.Goals as goal
 
 pub returns : goal.returns

@@ -1,4 +1,4 @@
--- By this tactic alone: on a mutant the prover tries nothing else.
+-- By this tactic alone, so that the prover tries nothing else on a mutant.
 use Rattle.std.proofs.Common.{rules}
 use Rattle.macsec_cli_args.proofs.program.run_own.Goals as goal
 

@@ -1,4 +1,4 @@
--- The end that is told is that of the words, or that they can't be read.
+-- The reported result is the result for the arguments, or that they can't be read.
 use Rattle.std.specs.Prelude.{ℕ, List, Option, Result, Ok, Err, IfErr, IfOk, map, string_bytes}
 use Rattle.std.specs.declared.io.ErrorKind.{ErrorKind}
 use Rattle.clap.specs.Words.{Text}
