@@ -1,5 +1,5 @@
-//! The rows of a test are runs: the configuration, the capture file in hex, and what is wanted: the output file in hex,
-//! in which a question mark is any digit, the text, and the name of the fault. All are in pieces that are joined.
+//! Runs over captures. Each row of a test is a run: the configuration and the capture file in hex, and the expected
+//! output file in hex, where a question mark is any digit, text, and name of the fault. All are in pieces to be joined.
 
 mod named;
 
@@ -19,17 +19,17 @@ type Row = (
     &'static str,
 );
 
-/// The header of a file in microseconds, with the lowest octets first.
+/// The header of a file in microseconds, little endian.
 pub const MICRO: &str = "d4c3b2a1020004000000000000000000ffff000001000000";
 
-/// A record of a client frame of 14 octets, with the lowest octets first.
+/// A record of a client frame of 14 octets, little endian.
 pub const RECORD: &str = "00000000000000000e0000000e000000ffffffffffff0200000000010800";
 
-/// The header of a file in nanoseconds, with the lowest octets first.
+/// The header of a file in nanoseconds, little endian.
 const NANO: &str = "4d3cb2a1020004000000000000000000ffff000001000000";
 
-/// Blocks of a file in the format pcapng, with the lowest octets first: a section header, an interface, a packet of that
-/// client frame, and statistics.
+/// Blocks of a pcapng file, little endian: a section header, an interface, a packet of that client frame, and
+/// statistics.
 const SECTION: &str = "0a0d0d0a1c0000004d3c2b1a01000000ffffffffffffffff1c000000";
 
 const INTERFACE: &str = "0100000014000000010000000000040014000000";
@@ -47,7 +47,7 @@ pub const SENDER: &str = "end A gcm128 0200000000010001 1518 sci\n\
 
 pub const SENDER_DONE: &str = "2 done\n3 done\n4 done\n";
 
-/// An endpoint that receives what that one sends, and what its commands print.
+/// An endpoint that receives what the sender sends, and what its commands print.
 pub const RECEIVER: &str = "end A gcm128 0000000000000002 1518 auto\n\
     A key 0 ad7a2bd03eac835a6f620fdcb506b345 0\n\
     A rxsc 0200000000010001\n\
@@ -56,7 +56,7 @@ pub const RECEIVER: &str = "end A gcm128 0000000000000002 1518 auto\n\
 
 const RECEIVER_DONE: &str = "2 done\n3 done\n4 done\n5 done\n";
 
-/// What is sent for the client frame of the record with packet numbers 1 and 2, in records, with any ICV.
+/// The records of what is sent for the client frame with packet numbers 1 and 2. The ICV can be anything.
 const SENT_1: &str =
     "00000000000000002e0000002e000000ffffffffffff02000000000188e520020000000102000000000100010800????????????????????????????????";
 
@@ -78,7 +78,7 @@ pub fn octets(alloc: Global, pieces: &[&str]) -> Result<Vec<u8>, Fail> {
     Ok(hex::decode(alloc, text.as_str())?)
 }
 
-/// How a run ends: the name of its fault, or nothing.
+/// The name of a run's fault, or nothing.
 fn ended(done: Result<(), CaptureFault>) -> &'static str {
     match done {
         Ok(()) => "",
@@ -87,7 +87,7 @@ fn ended(done: Result<(), CaptureFault>) -> &'static str {
     }
 }
 
-/// Is the text what is wanted, in which a question mark is any digit?
+/// Whether the text is the expected one, where a question mark is any digit.
 fn is_as_wanted(text: &[u8], wanted: &[u8]) -> bool {
     text.len() == wanted.len()
         && text
@@ -96,7 +96,7 @@ fn is_as_wanted(text: &[u8], wanted: &[u8]) -> bool {
             .all(|(octet, other)| octet == other || *other == b'?')
 }
 
-/// What a run writes, prints, and how it ends.
+/// What a run writes and prints, and its fault.
 #[derive(Drop)]
 struct Run {
     output: Vec<u8>,
@@ -138,7 +138,7 @@ const ROWS: [Row; 12] = [
         ],
         "",
     ),
-    // The same in the format pcapng, in microseconds, with statistics between: in nanoseconds.
+    // The same as pcapng in microseconds, with statistics between the packets. The output is in nanoseconds.
     (
         Direction::Protect,
         &[SENDER],
@@ -198,7 +198,7 @@ const ROWS: [Row; 12] = [
         ],
         "",
     ),
-    // Nanoseconds, with the highest octets first; a frame of 13 octets, and one that is sent at its record's time.
+    // Nanoseconds, big endian. A frame of 13 octets, and one that is sent at its record's time.
     (
         Direction::Protect,
         &["end A gcm128 0200000000010001 1518 sci\nA protect off\n"],
@@ -215,7 +215,7 @@ const ROWS: [Row; 12] = [
         &["2 done\nrecord 0 fault 1 Short\nrecord 1 link 14\n"],
         "CutRecord",
     ),
-    // No association: the frame is dropped, and no frame of it is written.
+    // No SA: the frame is dropped, and nothing is written for it.
     (
         Direction::Protect,
         &["end A gcm128 0200000000010001 1518 sci\n"],
@@ -224,7 +224,7 @@ const ROWS: [Row; 12] = [
         &["record 0 dropped NoSA\n"],
         "CutRecord",
     ),
-    // Verdicts that deliver nothing and the frame itself.
+    // A verdict that delivers nothing, and one that delivers the frame unchanged.
     (
         Direction::Validate,
         &["end A gcm128 0200000000010001 1518 sci\n"],
@@ -252,21 +252,21 @@ const ROWS: [Row; 12] = [
     (Direction::Validate, &["# no end\n"], &[], &[], &[], "Ends"),
 ];
 
-/// Is what was written these pieces of hex, in which a question mark is any digit?
+/// Whether these pieces of hex were written, where a question mark is any digit.
 fn is_written(alloc: Global, output: &[u8], pieces: &[&str]) -> Result<bool, Fail> {
     let written = hex::encode(alloc, output)?;
     let wanted = joined(alloc, pieces)?;
     Ok(is_as_wanted(written.as_bytes(), wanted.as_bytes()))
 }
 
-/// These pieces of text were printed.
+/// Checks that these pieces of text were printed.
 fn check_text(rt: &impl Abort, alloc: Global, text: &[u8], pieces: &[&str]) -> Result<(), Fail> {
     let wanted = joined(alloc, pieces)?;
     assert_eq!(rt; text, wanted.as_bytes());
     Ok(())
 }
 
-/// The run over a configuration and a capture file in pieces.
+/// Runs a configuration over a capture file, both in pieces.
 fn run_of(
     alloc: Global,
     direction: Direction,
@@ -278,7 +278,7 @@ fn run_of(
     Ok(outcome(alloc, direction, config.as_str(), input.as_slice()))
 }
 
-/// A run writes and prints what a row wants, and ends as it wants.
+/// Checks the output, the text and the fault of a run.
 fn check_run(rt: &impl Abort, alloc: Global, run: &Run, row: &Row) -> Result<(), Fail> {
     let (_, _, _, output, text, fault) = *row;
     assert_eq!(rt; run.fault, fault);
@@ -287,7 +287,7 @@ fn check_run(rt: &impl Abort, alloc: Global, run: &Run, row: &Row) -> Result<(),
     Ok(())
 }
 
-/// The runs of rows.
+/// Checks the runs of these rows.
 fn check_rows(rt: &impl Abort, alloc: Global, rows: &[Row]) -> Result<(), Fail> {
     for row in rows {
         let (direction, config, input, _, _, _) = *row;
@@ -297,21 +297,21 @@ fn check_rows(rt: &impl Abort, alloc: Global, rows: &[Row]) -> Result<(), Fail> 
     Ok(())
 }
 
-/// Captures that end well, that end with a fault of the input's format, and with one of the configuration: what was
-/// written before it stays, and there are no counters.
+/// Captures without a fault, with a fault of the input's format, and with a fault of the configuration. After a fault
+/// there are no counters, and what was written before it stays.
 #[test]
 fn captures(rt: HostRuntime) -> Result<(), Fail> {
     check_rows(&rt, rt.alloc(), &ROWS)
 }
 
-/// So it is with this capture file.
+/// Checks that for this capture file.
 fn check_back(rt: &impl Abort, alloc: Global, input: &[u8]) -> Result<(), Fail> {
     let sent = outcome(alloc, Direction::Protect, SENDER, input);
     let back = outcome(alloc, Direction::Validate, RECEIVER, sent.output.as_slice());
     assert_back(rt, alloc, &back, input)
 }
 
-/// A run ends well with these client frames.
+/// Checks that a run has no fault and delivers these client frames.
 fn assert_back(rt: &impl Abort, alloc: Global, back: &Run, input: &[u8]) -> Result<(), Fail> {
     assert_eq!(rt; back.fault, "");
     assert_eq!(rt; back.output.as_slice(), input);
@@ -320,7 +320,7 @@ fn assert_back(rt: &impl Abort, alloc: Global, back: &Run, input: &[u8]) -> Resu
     check_text(rt, alloc, back.text.as_slice(), &wanted)
 }
 
-/// What was protected is validated by the endpoint at the other end, and gives the client frames.
+/// The endpoint at the other end validates what was protected, and delivers the client frames.
 #[test]
 fn there_and_back(rt: HostRuntime) -> Result<(), Fail> {
     let input = octets(rt.alloc(), &[MICRO, RECORD, RECORD])?;

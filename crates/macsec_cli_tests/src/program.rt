@@ -1,4 +1,4 @@
-//! What the runs print goes to the standard output of the test, and is compared by `tools/stored-runs`.
+//! The whole program. Its runs print to the standard output of the test; `tools/stored-runs` compares that text.
 
 use macsec_cli_args::run_and_tell;
 use std::alloc::AllocError;
@@ -6,8 +6,8 @@ use std::process::Abort;
 use std::test::Fail;
 use std::{fs, io};
 
-/// The files that the words name: a script without a fault and one with a fault, the configurations of an endpoint that
-/// protects and of one that receives what it sends, a capture file of client frames, and one that is cut.
+/// The files that the arguments name: a script without a fault and one with a fault, the configurations of a sender and
+/// of its receiver, a capture file of client frames, and one that is cut.
 const FILES: &[(&str, &[u8])] = &[
     (
         "script",
@@ -37,7 +37,7 @@ const FRAMES: &[u8] = b"\xd4\xc3\xb2\xa1\x02\0\x04\0\0\0\0\0\0\0\0\0\xff\xff\0\0
       \0\0\0\0\0\0\0\0\x0e\0\0\0\x0e\0\0\0\xff\xff\xff\xff\xff\xff\x02\0\0\0\0\x01\x08\0\
       \0\0\0\0\0\0\0\0\x0e\0\0\0\x0e\0\0\0\xff\xff\xff\xff\xff\xff\x02\0\0\0\0\x01\x08\0";
 
-/// How the program ends by these words behind its own name: its status, and what is told.
+/// Runs the program with these arguments. Returns its exit status, and its line on standard error.
 fn end_of(rt: &HostRuntime, words: &[&str]) -> Result<(u8, Vec<u8>), AllocError> {
     let mut own = Vec::new(rt.alloc());
     own.push(String::new(rt.alloc()))?;
@@ -51,14 +51,14 @@ fn end_of(rt: &HostRuntime, words: &[&str]) -> Result<(u8, Vec<u8>), AllocError>
     Ok((status, told))
 }
 
-/// The program ends with this status, and tells this.
+/// Checks the exit status and the line on standard error.
 fn check_end(rt: &impl Abort, words: &[&str], found: (u8, Vec<u8>), wanted: (u8, &str)) {
     let (status, told) = found;
     assert_eq!(rt; status, wanted.0, "{words:?}");
     assert_eq!(rt; told.as_slice(), wanted.1.as_bytes());
 }
 
-/// Writes the files that the words name.
+/// Writes the files that the arguments name.
 fn write_files(rt: &HostRuntime) -> io::Result<()> {
     for (name, octets) in FILES {
         fs::write(rt, *name, *octets)?;
@@ -66,7 +66,7 @@ fn write_files(rt: &HostRuntime) -> io::Result<()> {
     Ok(())
 }
 
-/// Removes them, and those that the runs write.
+/// Removes these files, and the files that the runs write.
 fn remove_files(rt: &HostRuntime) -> io::Result<()> {
     for (name, _) in FILES {
         fs::remove_file(rt, *name)?;
@@ -77,8 +77,8 @@ fn remove_files(rt: &HostRuntime) -> io::Result<()> {
     Ok(())
 }
 
-/// Each form of the program runs on the files that it names, a capture in the direction of its form: what is protected
-/// is longer by 32 octets a frame, and validated it is what it was. Words of no form run nothing.
+/// Each form of the program runs on the files that it names. `protect` makes each frame 32 octets longer, and
+/// `validate` restores the frames. Arguments that match no form run nothing.
 #[test]
 fn ends_of_words(rt: HostRuntime) -> Result<(), Fail> {
     write_files(&rt)?;

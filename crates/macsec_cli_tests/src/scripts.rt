@@ -1,5 +1,5 @@
-//! What scripts print is compared by `macsec_examples`. Here are scripts at fault, what is told of a failure, and what no
-//! script shows. Readers and writers that fail are in `macsec_failures_tests`.
+//! Scripts with faults, the reports of failures, and what no script shows. `macsec_examples` compares what scripts
+//! print; readers and writers that fail are in `macsec_failures_tests`.
 
 mod failures;
 mod faults;
@@ -27,34 +27,34 @@ fn text() -> &'static str {
     "3 done\n4 done\n5 frame 0 ffffffffffff0200000000010800\n6 tx 2 0 0000000000000001 off int\n"
 }
 
-/// How the run of a script ends.
+/// Runs a script.
 fn end_of(alloc: Global, script: &str, text: &mut Vec<u8>) -> Result<(), ScriptFault> {
     let mut reader = script.as_bytes();
     run_script(alloc, &mut reader, text)
 }
 
-/// The status of an end, and what standard error gets of it.
+/// The exit status of a result, and its line on standard error.
 fn told_of(alloc: Global, ended: Result<(), Failure<'_>>) -> (u8, Vec<u8>) {
     let mut told = Vec::new(alloc);
     let (status, _) = tell(&mut told, ended);
     (status, told)
 }
 
-/// What standard error gets of a failure, and the status.
+/// Checks the line of a failure on standard error, and its exit status.
 fn assert_told(rt: &impl Abort, alloc: Global, failure: Failure<'_>, wanted: &str, status: u8) {
     let (found, told) = told_of(alloc, Err(failure));
     assert_eq!(rt; told.as_slice(), wanted.as_bytes());
     assert_eq!(rt; found, status);
 }
 
-/// How the run of a script ends, and whether it prints nothing.
+/// Runs a script. Returns the result, and whether it printed nothing.
 fn silent_end_of(alloc: Global, script: &str) -> (Result<(), ScriptFault>, bool) {
     let mut text = Vec::new(alloc);
     let done = end_of(alloc, script, &mut text);
     (done, text.is_empty())
 }
 
-/// A script prints nothing; its fault, if one is wanted, is told.
+/// Checks that a script prints nothing, and that its fault, if one is expected, is reported.
 fn assert_ends(rt: &impl Abort, alloc: Global, script: &str, wanted: Option<&str>) {
     let (done, is_silent) = silent_end_of(alloc, script);
     assert!(rt; is_silent);

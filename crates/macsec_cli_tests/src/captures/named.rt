@@ -1,4 +1,4 @@
-//! Captures whose files are named.
+//! Captures over named files.
 
 use super::{MICRO, RECEIVER, RECORD, SENDER, SENDER_DONE, joined, octets};
 use macsec_capture::Direction;
@@ -7,13 +7,13 @@ use std::process::Abort;
 use std::test::Fail;
 use std::{fs, io};
 
-/// How a run ends: its status, what is told, and what is printed.
+/// The exit status of a run, its line on standard error, and the text that it prints.
 type Ended = (u8, Vec<u8>, Vec<u8>);
 
-/// The names of the files of a run, and how it is to end.
+/// The names of the files of a run, and its expected exit status, line and text.
 type Case = ([&'static str; 3], (u8, &'static str, &'static str));
 
-/// How the run over files of these names ends.
+/// Runs over the files of these names.
 fn end_of(rt: &HostRuntime, direction: Direction, names: [&str; 3]) -> Ended {
     let [config, input, output] = names;
     let paths = CapturePaths {
@@ -30,7 +30,7 @@ fn end_of(rt: &HostRuntime, direction: Direction, names: [&str; 3]) -> Ended {
     (status, told, text)
 }
 
-/// A run ends as it is to.
+/// Checks the exit status, the line and the text of a run.
 fn assert_end(rt: &impl Abort, ended: &Ended, wanted: (u8, &str, &str)) {
     let (status, told, text) = ended;
     let (wanted_status, line, printed) = wanted;
@@ -39,7 +39,7 @@ fn assert_end(rt: &impl Abort, ended: &Ended, wanted: (u8, &str, &str)) {
     assert_octets(rt, text.as_slice(), printed.as_bytes());
 }
 
-/// These octets are those.
+/// Checks that the octets are the expected ones.
 fn assert_octets(rt: &impl Abort, found: &[u8], wanted: &[u8]) {
     assert_eq!(rt; found, wanted);
 }
@@ -63,7 +63,7 @@ fn write_text(rt: &HostRuntime, name: &str, pieces: &[&str]) -> Result<(), Fail>
     Ok(())
 }
 
-/// Does the file of this name have the octets of these pieces of hex?
+/// Whether the file of this name has the octets of these pieces of hex.
 fn has_hex(rt: &HostRuntime, name: &str, pieces: &[&str]) -> Result<bool, Fail> {
     let wanted = octets(rt.alloc(), pieces)?;
     let found = fs::read(rt, name)?;
@@ -78,7 +78,7 @@ fn remove_files(rt: &HostRuntime, names: &[&str]) -> io::Result<()> {
     Ok(())
 }
 
-/// Protections over files some of which can't be opened or are at fault.
+/// Runs that protect, over files that can't be opened or have a fault.
 const NAMED: [Case; 6] = [
     (["no", "not", "no/out"], (1, "macsec: cannot open no\n", "")),
     (
@@ -100,8 +100,8 @@ const NAMED: [Case; 6] = [
     ),
 ];
 
-/// Files that can't be opened are reported in the order of their names, before a fault of the configuration; else the
-/// status is that of the run.
+/// The first file that can't be opened is reported, before any fault of the configuration. Otherwise the exit status is
+/// the run's.
 #[test]
 fn ends_of_named_captures(rt: HostRuntime) -> Result<(), Fail> {
     write_text(&rt, "sender", &[SENDER])?;
@@ -115,7 +115,7 @@ fn ends_of_named_captures(rt: HostRuntime) -> Result<(), Fail> {
     Ok(())
 }
 
-/// What is protected into one file is validated out of it into another, which is emptied first.
+/// Frames are protected into one file, and validated from that file into another, which is truncated first.
 #[test]
 fn files_there_and_back(rt: HostRuntime) -> Result<(), Fail> {
     write_text(&rt, "from", &[SENDER])?;
@@ -150,10 +150,10 @@ const FAULTS: [Case; 3] = [
     ),
 ];
 
-/// A configuration at fault.
+/// A configuration with a fault.
 const AT_FAULT: &str = "end A gcm128 0200000000010001 1518 sci\nA key 0 00 0\n";
 
-/// The files of those runs, but for the output.
+/// Writes the configurations and the capture files of those runs.
 fn write_inputs(rt: &HostRuntime) -> Result<(), Fail> {
     write_text(rt, "begins", &[SENDER])?;
     write_text(rt, "ends", &[AT_FAULT])?;
@@ -162,7 +162,7 @@ fn write_inputs(rt: &HostRuntime) -> Result<(), Fail> {
     write_hex(rt, "other", &["00"; 24])
 }
 
-/// How a run over files of these names ends, whose output had octets before, and whether it has none then.
+/// Runs over the files of these names, where the output file is not empty. Returns whether it is empty afterwards.
 fn end_of_filled(
     rt: &HostRuntime,
     direction: Direction,
@@ -174,7 +174,7 @@ fn end_of_filled(
     Ok((ended, is_empty))
 }
 
-/// An output that had octets is empty after a run that a fault of the configuration ends, or one of the input's header.
+/// After a fault of the configuration or of the input's header, the output file is empty, even if it was not before.
 #[test]
 fn outputs_of_faults_are_emptied(rt: HostRuntime) -> Result<(), Fail> {
     write_inputs(&rt)?;

@@ -1,4 +1,4 @@
-//! How a program that runs a script ends, and what it tells of that.
+//! How a program that runs a script reports failures.
 
 use super::{assert_told, script, text, told_of};
 use macsec_cli_runs::{Failure, PcapFault, failure_of_words, run_named};
@@ -7,7 +7,7 @@ use std::process::Abort;
 use std::test::Fail;
 use std::{fs, io};
 
-/// Failures with what is told of them, and their statuses.
+/// Failures with their lines and exit statuses.
 const TOLD: [(Failure<'static>, &str, u8); 7] = [
     (Failure::Usage, "macsec: usage\n", 2),
     (
@@ -30,14 +30,14 @@ const TOLD: [(Failure<'static>, &str, u8); 7] = [
     ),
 ];
 
-/// The same of arguments that can't be read, by the kind of their error.
+/// The same for arguments that can't be read, by the kind of the error.
 const TOLD_OF_WORDS: [(io::ErrorKind, &str, u8); 3] = [
     (io::ErrorKind::OutOfMemory, "macsec: Memory\n", 1),
     (io::ErrorKind::InvalidData, "macsec: usage\n", 2),
     (io::ErrorKind::Other, "macsec: usage\n", 2),
 ];
 
-/// Out of memory is not returned as invalid arguments.
+/// Each failure has its line and exit status. Out of memory is not reported as invalid arguments.
 #[test]
 fn failures_told(rt: HostRuntime) {
     for (failure, told, status) in &TOLD {
@@ -50,22 +50,22 @@ fn failures_told(rt: HostRuntime) {
     assert!(rt; told.is_empty() && status == 0);
 }
 
-/// What an error of this kind makes of arguments that can't be read.
+/// The failure of arguments that can't be read because of an error of this kind.
 fn of_words(kind: io::ErrorKind) -> Failure<'static> {
     failure_of_words(&io::Error::from(kind))
 }
 
-/// A script that sends a frame without an association, and its text.
+/// A script that sends a frame without an SA, and its text.
 const DROPPED: (&str, &str) = (
     "end A gcm128 12153524c0895e81 1518 sci\nend B gcm128 0000000000000002 1518 auto\nA send ffffffffffff0200000000010800\n",
     "3 dropped NoSA\n",
 );
 
-/// How the run of a named script ends: its status, what is told and printed, and how many octets of standard input it
-/// left.
+/// The result of a run of a named script: its exit status, its line on standard error, the text that it prints, and the
+/// number of octets left in standard input.
 type Ended = (u8, Vec<u8>, Vec<u8>, usize);
 
-/// How the run of a named script ends, where standard input has the script `script`.
+/// Runs a named script, with the script `script` in standard input.
 fn ended(rt: &HostRuntime, name: &str, script: &str) -> Ended {
     let mut input = script.as_bytes();
     let mut output = Vec::new(rt.alloc());
@@ -74,7 +74,7 @@ fn ended(rt: &HostRuntime, name: &str, script: &str) -> Ended {
     (status, told, output, input.len())
 }
 
-/// A run ends so.
+/// Checks the result of a run.
 fn assert_ended(rt: &impl Abort, name: &str, ended: &Ended, wanted: (u8, &str, &str, usize)) {
     let (status, told, output, left) = ended;
     let (wanted_status, line, printed, wanted_left) = wanted;
@@ -83,8 +83,8 @@ fn assert_ended(rt: &impl Abort, name: &str, ended: &Ended, wanted: (u8, &str, &
     assert_eq!(rt; output.as_slice(), printed.as_bytes());
 }
 
-/// A script is read from the file that is named, and from standard input only if that is named. A file that can't be
-/// opened is reported by its path, a directory can't be read.
+/// A script is read from the named file, and from standard input only if that is named. A file that can't be opened is
+/// reported with its path. A directory can't be read.
 #[test]
 fn named_scripts(rt: HostRuntime) -> Result<(), Fail> {
     fs::write(&rt, "drops", DROPPED.0)?;

@@ -1,4 +1,4 @@
-//! Lines and scripts at fault.
+//! Lines and scripts with faults.
 
 use super::{assert_ends, end_of};
 use macsec_script::{LineFault, parse_line};
@@ -12,8 +12,8 @@ const ENDS: &str =
 /// A line, and its fault.
 type Faulty = (&'static str, LineFault);
 
-/// The first word, and after an end's letter the second, comes first, then the number of words, and then the words
-/// from left to right.
+/// Lines with faults. First the first word is checked, and after an end's letter the second; then the number of words;
+/// then the words from left to right.
 const LINES_AT_FAULT: [Faulty; 35] = [
     ("B frob", LineFault::Word),
     ("C send 00", LineFault::Word),
@@ -75,7 +75,7 @@ fn fault_of(alloc: Global, line: &str) -> Option<LineFault> {
     parse_line(alloc, line.as_bytes()).err()
 }
 
-/// What is told of a fault in the third line of a script.
+/// The line on standard error for a fault in the third line of a script.
 fn told_of(fault: LineFault) -> &'static str {
     match fault {
         LineFault::Word => "macsec: line 3: Word\n",
@@ -88,12 +88,12 @@ fn told_of(fault: LineFault) -> &'static str {
     }
 }
 
-/// This line as the third of a script.
+/// A script whose third line is this line.
 fn script_with(alloc: Global, line: &str) -> Result<String, AllocError> {
     format!(in alloc; "{ENDS}{line}\nA numbers\n")
 }
 
-/// The line alone, and as the third of a script, of which nothing is printed then.
+/// Checks the fault of the line alone, and as the third line of a script, which prints nothing.
 fn check_line(
     rt: &impl Abort,
     alloc: Global,
@@ -114,7 +114,7 @@ fn lines_at_fault(rt: HostRuntime) -> Result<(), AllocError> {
     Ok(())
 }
 
-/// Scripts at fault, and what is told of them.
+/// Scripts with faults, and their lines on standard error.
 const SCRIPTS_AT_FAULT: [(&str, &str); 12] = [
     ("frob\nend\n", "macsec: line 1: Word\n"),
     ("#\nend\nfrob\n", "macsec: line 2: Count\n"),
@@ -154,7 +154,7 @@ const SCRIPTS_AT_FAULT: [(&str, &str); 12] = [
     ),
 ];
 
-/// The first fault is told, and a line in a wrong place by `Ends`.
+/// The first fault is reported. A line in a wrong place is the fault `Ends`.
 #[test]
 fn scripts_at_fault(rt: HostRuntime) {
     for (script, told) in &SCRIPTS_AT_FAULT {
@@ -162,7 +162,7 @@ fn scripts_at_fault(rt: HostRuntime) {
     }
 }
 
-/// A piece of a text, so often.
+/// A piece of text, repeated `count` times.
 fn repeated(alloc: Global, piece: &str, count: u32) -> Result<String, AllocError> {
     let mut text = String::new(alloc);
     for _ in 0..count {
@@ -174,7 +174,7 @@ fn repeated(alloc: Global, piece: &str, count: u32) -> Result<String, AllocError
 /// A line of 32 octets with its line feed.
 const OF_32_OCTETS: &str = "# a line of a comment, repeated\n";
 
-/// A script is skipped, and with this rest it is at fault.
+/// Checks that a script is skipped, and that it has a fault if `rest` is appended.
 fn check_long(
     rt: &impl Abort,
     alloc: Global,
@@ -187,7 +187,7 @@ fn check_long(
     Ok(())
 }
 
-/// A line of 20,000 octets, a script of 65,536 lines, or one of 1,048,576 octets, is skipped, and a longer one is at
+/// A line of 20,000 octets, a script of 65,536 lines, and a script of 1,048,576 octets are skipped. A longer one has a
 /// fault.
 #[test]
 fn long_lines_and_scripts(rt: HostRuntime) -> Result<(), AllocError> {
@@ -202,13 +202,13 @@ fn long_lines_and_scripts(rt: HostRuntime) -> Result<(), AllocError> {
     Ok(())
 }
 
-/// A script whose third line begins so, with so many digits 0 after that.
+/// A script whose third line is `start`, followed by `count` digits 0.
 fn script_of_digits(alloc: Global, start: &str, count: u32) -> Result<String, AllocError> {
     let digits = repeated(alloc, "0", count)?;
     format!(in alloc; "{ENDS}{start}{digits}\n")
 }
 
-/// A script ends well, and prints this.
+/// Checks that a script has no fault, and prints this.
 fn assert_printed(rt: &impl Abort, alloc: Global, script: &str, printed: &str) {
     let mut text = Vec::new(alloc);
     let done = end_of(alloc, script, &mut text);
@@ -216,8 +216,8 @@ fn assert_printed(rt: &impl Abort, alloc: Global, script: &str, printed: &str) {
     assert_eq!(rt; text.as_slice(), printed.as_bytes());
 }
 
-/// A `send` line of 20,000 octets is carried out: its frame is too long for the link. One of 20,001 is at fault, and
-/// nothing is printed.
+/// A `send` line of 20,000 octets is carried out: its frame is too long for the link. A line of 20,001 octets has a
+/// fault, and nothing is printed.
 #[test]
 fn long_lines_of_frames(rt: HostRuntime) -> Result<(), AllocError> {
     let longest = script_of_digits(rt.alloc(), "A  send ", 19_992)?;

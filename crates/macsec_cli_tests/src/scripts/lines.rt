@@ -1,4 +1,4 @@
-//! Lines, scripts and configurations without a fault, as they are read.
+//! How lines, scripts and configurations without a fault are read.
 
 use macsec_script::{
     Command, End, Event, Line, LineFault, ScriptFault, parse_config, parse_line, parse_script,
@@ -6,7 +6,7 @@ use macsec_script::{
 use std::alloc::Global;
 use std::process::Abort;
 
-/// What a line says, in short: of a frame, its last octet.
+/// What a line says, in short. A frame is represented by its last octet.
 #[derive(Clone, Copy, PartialEq, Eq)]
 enum Said {
     Skipped,
@@ -49,7 +49,7 @@ fn of_line(read: &Result<Option<Line>, LineFault>) -> Said {
     }
 }
 
-/// Does a line say this?
+/// Whether a line says this.
 fn says(alloc: Global, line: &str, wanted: Said) -> bool {
     of_line(&parse_line(alloc, line.as_bytes())) == wanted
 }
@@ -75,7 +75,7 @@ fn good_lines(rt: HostRuntime) {
     }
 }
 
-/// How many lines are not skipped, and the number of the last of them; or the fault.
+/// The number of lines that are not skipped, and the line number of the last of them; or the fault.
 fn counted(
     read: &Result<Vec<(u32, Line)>, ScriptFault>,
 ) -> Result<(usize, Option<u32>), (&'static str, Option<u32>)> {
@@ -99,7 +99,7 @@ fn config_counted(
     counted(&parse_config(alloc, text.as_bytes()))
 }
 
-/// Lines of the ends, one that is skipped, and a command; and texts at fault.
+/// The lines of both ends, a line that is skipped, and a command; and texts with a fault.
 const SCRIPT: &str =
     "end A gcm128 12153524c0895e81 1518 sci\nend B gcm128 0000000000000002 1518 auto\n\nA txon 2\n";
 

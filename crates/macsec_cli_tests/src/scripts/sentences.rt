@@ -1,5 +1,5 @@
-//! The sentences of faults and refusals, for callers that show them: each by what `docs/` and the definitions say of
-//! it.
+//! The sentences of faults and refusals, for callers that show them. The expected texts follow `docs/` and the
+//! definitions.
 
 use macsec_capture::CaptureFault;
 use macsec_cli_runs::Failure;
@@ -14,7 +14,7 @@ use std::fmt::Display;
 use std::process::Abort;
 use std::test::Fail;
 
-/// Each of these is told by the sentence beside it.
+/// Checks that each of these is displayed as the sentence beside it.
 fn assert_told<E: Display>(rt: &impl Abort, alloc: Global, rows: &[(E, &str)]) -> Result<(), Fail> {
     for (fault, wanted) in rows {
         let told = format!(in alloc; "{fault}")?;
@@ -164,7 +164,7 @@ const SCRIPT: [(ScriptFault, &str); 10] = [
     (ScriptFault::Write, "the text can't be written"),
 ];
 
-/// A fault that holds another one is told as that one.
+/// A fault that holds another one is displayed as that one.
 const HELD: [(CaptureFault, &str); 2] = [
     (
         CaptureFault::Script(ScriptFault::Word(3)),
@@ -186,30 +186,30 @@ const FAILURE: [(Failure<'static>, &str); 4] = [
     ),
 ];
 
-/// The sentences of faults of frames and keys.
+/// Checks the sentences of faults of frames and keys.
 fn check_parts(rt: &impl Abort, alloc: Global) -> Result<(), Fail> {
     assert_told(rt, alloc, &TAG)?;
     assert_told(rt, alloc, &SUITE)?;
     assert_told(rt, alloc, &FRAME)
 }
 
-/// Those of refusals.
+/// Checks the sentences of refusals.
 fn check_refusals(rt: &impl Abort, alloc: Global) -> Result<(), Fail> {
     assert_told(rt, alloc, &REFUSAL)
 }
 
-/// Those of ends and their link.
+/// Checks the sentences of faults of the ends and of the link.
 fn check_ends(rt: &impl Abort, alloc: Global) -> Result<(), Fail> {
     assert_told(rt, alloc, &NEW)?;
     assert_told(rt, alloc, &WORLD)
 }
 
-/// Those of capture files.
+/// Checks the sentences of faults of capture files.
 fn check_files(rt: &impl Abort, alloc: Global) -> Result<(), Fail> {
     assert_told(rt, alloc, &PCAP)
 }
 
-/// Those of runs.
+/// Checks the sentences of faults of runs.
 fn check_runs(rt: &impl Abort, alloc: Global) -> Result<(), Fail> {
     assert_told(rt, alloc, &SCRIPT)?;
     assert_told(rt, alloc, &HELD)?;
