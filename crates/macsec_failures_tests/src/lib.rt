@@ -1,5 +1,5 @@
-//! Tests of devices that fail: each read and each write of a script, of a capture and of a capture file's records, at one
-//! call alone and from one call on; what is told then, and with how many calls.
+//! Tests of failing devices. Each read and each write of a script, of a capture and of a capture file's records fails,
+//! at one call alone and from that call on. The tests check what is reported, and the number of calls.
 #![tactic(auto)]
 
 #[cfg(test)]

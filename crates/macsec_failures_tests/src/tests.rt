@@ -1,4 +1,4 @@
-//! What the tests share: a script, and a capture in each direction with its configuration.
+//! Shared by the tests: a script, and a capture in each direction with its configuration.
 
 mod ends;
 mod records;
@@ -16,7 +16,7 @@ const SCRIPT: &str = "end A gcm128 12153524c0895e81 1518 sci\n\
     A sendu ffffffffffff0200000000010800\n\
     A numbers\n";
 
-/// What it prints, in four lines.
+/// The text that the script prints, in four lines.
 const SCRIPT_TEXT: &str =
     "3 done\n4 done\n5 frame 0 ffffffffffff0200000000010800\n6 tx 2 0 0000000000000001 off int\n";
 
@@ -26,7 +26,7 @@ const SENDER: &str = "end A gcm128 0200000000010001 1518 sci\n\
     A txsa 0 0 1 int\n\
     A txon 0\n";
 
-/// An endpoint that receives what that one sends.
+/// An endpoint that receives what the sender sends.
 const RECEIVER: &str = "end A gcm128 0000000000000002 1518 auto\n\
     A key 0 ad7a2bd03eac835a6f620fdcb506b345 0\n\
     A rxsc 0200000000010001\n\
@@ -38,19 +38,19 @@ const HEADER: &str = "d4c3b2a1020004000000000000000000ffff000001000000";
 
 const RECORD: &str = "00000000000000000e0000000e000000ffffffffffff0200000000010800";
 
-/// The records of what is sent for the client frame with packet numbers 1 and 2. Their ICVs are OpenSSL's.
+/// The records of what is sent for the client frame with packet numbers 1 and 2. OpenSSL computed their ICVs.
 const SENT_1: &str =
     "00000000000000002e0000002e000000ffffffffffff02000000000188e5200200000001020000000001000108008e3d3a0bba9402aac21a039e881269e6";
 
 const SENT_2: &str =
     "00000000000000002e0000002e000000ffffffffffff02000000000188e520020000000202000000000100010800711a359b8f9a2b7c880dca1196f41d67";
 
-/// The capture file of the client frame, twice, of 84 octets.
+/// A capture file with the client frame twice, of 84 octets.
 fn client_file(alloc: Global) -> Result<Vec<u8>, Fail> {
     octets(alloc, &[HEADER, RECORD, RECORD])
 }
 
-/// The capture file of what is sent for it, of 148 octets.
+/// A capture file of what is sent for these two frames, of 148 octets.
 fn link_file(alloc: Global) -> Result<Vec<u8>, Fail> {
     octets(alloc, &[HEADER, SENT_1, SENT_2])
 }

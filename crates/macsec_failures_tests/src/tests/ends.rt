@@ -1,4 +1,4 @@
-//! How programs end whose devices fail.
+//! The reports of a program whose devices fail.
 
 use super::{RECEIVER, SCRIPT, SENDER, client_file, link_file, push_all};
 use macsec_cli_runs::{
@@ -11,13 +11,13 @@ use std::process::Abort;
 use std::test::Fail;
 use std::{fs, io};
 
-/// The status of a failure that is told to this device, and whether its line is written.
+/// The exit status of a failure that is reported to this device, and whether its line was written.
 fn told_to(device: &mut FailingWriter, failure: Failure<'_>) -> (u8, bool) {
     let (status, done) = tell(device, Err(failure));
     (status, done.is_ok())
 }
 
-/// A failure is this line, written with one call, and has this status, on a full device too, which is called once.
+/// Checks the exit status and the line of a failure. The line is written by one call, and a full device is called once.
 fn check_line(rt: &impl Abort, alloc: Global, failure: Failure<'_>, wanted: (u8, &str)) {
     let (status, text) = wanted;
     let mut line = FailingWriter::new(alloc, Fails::Never, false);
@@ -32,7 +32,7 @@ fn check_line(rt: &impl Abort, alloc: Global, failure: Failure<'_>, wanted: (u8,
     assert_eq!(rt; full.calls(), 1, "{text}");
 }
 
-/// This line was written with one call.
+/// Checks that this line was written by one call.
 fn assert_line(rt: &impl Abort, line: &FailingWriter, text: &str) {
     assert_eq!(rt; line.written(), text.as_bytes());
     assert_eq!(rt; line.calls(), 1, "{text}");
@@ -59,7 +59,7 @@ const LINES: [(Failure<'static>, u8, &str); 5] = [
     ),
 ];
 
-/// A long path, in 4,096 octets.
+/// A path of 4,096 octets.
 fn long_path(alloc: Global) -> Result<String, AllocError> {
     let mut longest = String::new(alloc);
     for _ in 0..4096 {
@@ -75,7 +75,7 @@ fn line_of_path(alloc: Global, path: &str) -> Result<String, AllocError> {
     Ok(line)
 }
 
-/// Each failure is one line, and is written with one call; a status needs no line.
+/// Each failure is one line, written by one call. The exit status does not depend on whether the line was written.
 #[test]
 fn lines_are_written_at_once(rt: HostRuntime) -> Result<(), Fail> {
     for (failure, status, told) in LINES {
@@ -88,7 +88,7 @@ fn lines_are_written_at_once(rt: HostRuntime) -> Result<(), Fail> {
     Ok(())
 }
 
-/// How the run of a script ends whose text's flush fails: its status, and what is told.
+/// The exit status of a script's run whose text can't be flushed, and its line on standard error.
 fn end_of_script(rt: &HostRuntime, script: &str) -> (u8, Vec<u8>) {
     let mut input = script.as_bytes();
     let mut text = FailingWriter::new(rt.alloc(), Fails::Never, true);
@@ -100,13 +100,13 @@ fn end_of_script(rt: &HostRuntime, script: &str) -> (u8, Vec<u8>) {
     (status, told)
 }
 
-/// A run has this status, and this is told.
+/// Checks the exit status of a run, and its line.
 fn assert_told(rt: &impl Abort, (status, told): (u8, &[u8]), (wanted, line): (u8, &str)) {
     assert_eq!(rt; status, wanted, "{line}");
     assert_eq!(rt; told, line.as_bytes());
 }
 
-/// A flush that fails is told, but not in place of the run's own fault.
+/// A failed flush is reported, unless the run has a fault: then that fault is reported.
 #[test]
 fn flushes_of_scripts_that_fail(rt: HostRuntime) {
     for (script, wanted) in [
@@ -118,8 +118,8 @@ fn flushes_of_scripts_that_fail(rt: HostRuntime) {
     }
 }
 
-/// How a capture ends that is written to this file, and whose text's flush fails if it is to: its status, what is told,
-/// and whether the line of the second record is the last one of the text, with no counters behind it.
+/// Runs a capture into this file; the flush of its text fails if `flush_fails`. Returns its exit status, its line on
+/// standard error, and whether the text ends with the line of the second record, without counters.
 fn end_of_capture(
     rt: &HostRuntime,
     direction: Direction,
@@ -157,7 +157,7 @@ fn write_files(rt: &HostRuntime, client: &[u8], link: &[u8]) -> io::Result<()> {
     write_file(rt, "link", link)
 }
 
-/// Removes what was written.
+/// Removes the files.
 fn remove_files(rt: &HostRuntime) -> io::Result<()> {
     for name in ["sender", "receiver", "client", "link", "written"] {
         fs::remove_file(rt, name)?;
@@ -165,7 +165,7 @@ fn remove_files(rt: &HostRuntime) -> io::Result<()> {
     Ok(())
 }
 
-/// A capture ends with status 1, tells this, and has the line of the second record as its last one, or has not.
+/// Checks that a capture has exit status 1 and this line, and whether its text ends with the line of the second record.
 fn assert_end(
     rt: &impl Abort,
     (status, told, ended): (u8, &[u8], bool),
@@ -175,7 +175,7 @@ fn assert_end(
     assert_eq!(rt; told, wanted.as_bytes());
 }
 
-/// The same of an output on a full device, behind which there are no counters, and of the text of a capture.
+/// The same for a capture whose output is on a full device, which prints no counters, and for its text.
 #[test]
 fn flushes_of_captures_that_fail(rt: HostRuntime) -> Result<(), Fail> {
     let client = client_file(rt.alloc())?;
@@ -195,7 +195,7 @@ fn flushes_of_captures_that_fail(rt: HostRuntime) -> Result<(), Fail> {
     Ok(())
 }
 
-/// What stands in for closed streams can be opened.
+/// The replacements for closed streams can be opened.
 #[test]
 fn stand_ins(rt: HostRuntime) {
     assert!(&rt; open_stand_ins(&rt).is_ok());

@@ -1,4 +1,4 @@
-//! Readers and writers of capture files over devices that fail.
+//! Readers and writers of capture files over failing devices.
 
 use super::{HEADER, RECORD, client_file, octets};
 use macsec_failing_io::{FailingReader, FailingWriter, Fails};
@@ -7,13 +7,13 @@ use std::alloc::Global;
 use std::process::Abort;
 use std::test::Fail;
 
-/// Is there a next record?
+/// Whether there is a next record.
 fn has_next(reader: &mut PcapReader<&mut FailingReader<'_>>) -> Result<bool, PcapFault> {
     Ok(reader.next()?.is_some())
 }
 
-/// How many records a file has, up to eight, and what the call behind them returns; `None` if one of the next three calls
-/// returns something else.
+/// The number of records in a file, up to eight, and what the call after them returns. `None` if one of the next three
+/// calls returns something else.
 fn counted_of(
     reader: &mut PcapReader<&mut FailingReader<'_>>,
 ) -> Option<(usize, Result<bool, PcapFault>)> {
@@ -34,7 +34,7 @@ fn counted_of(
     Some((count, ended))
 }
 
-/// The same of this source, if its header can be read.
+/// The same for this source, if its header can be read.
 fn counted(
     alloc: Global,
     source: &mut FailingReader<'_>,
@@ -45,8 +45,8 @@ fn counted(
     }
 }
 
-/// What is counted of the file of two records if the read of this number fails: in pieces of 7 octets the header takes 4
-/// calls, the 16 octets of a record 3, its frame 2, and the end 1.
+/// The expected count for the file of two records if the read of this number fails. With 7 octets a call, the header
+/// takes 4 calls, the 16 octets of a record 3, its frame 2, and the end 1.
 fn wanted_count(at: usize) -> (usize, Result<bool, PcapFault>) {
     match at {
         0..9 => (0, Err(PcapFault::Read)),
@@ -56,7 +56,7 @@ fn wanted_count(at: usize) -> (usize, Result<bool, PcapFault>) {
     }
 }
 
-/// What is counted of a file if reads fail, and how often it is read after that.
+/// The count for a file whose reads fail, and the number of reads after that.
 fn counted_failing(
     alloc: Global,
     file: &[u8],
@@ -67,7 +67,7 @@ fn counted_failing(
     (found, source.calls_after())
 }
 
-/// The read of this number fails of this file.
+/// Checks the read of this number, failing alone and with all reads after it.
 fn check_read(rt: &impl Abort, alloc: Global, file: &[u8], at: usize) {
     for fails in [Fails::At(at), Fails::From(at)] {
         let (found, calls_after) = counted_failing(alloc, file, fails);
@@ -76,8 +76,8 @@ fn check_read(rt: &impl Abort, alloc: Global, file: &[u8], at: usize) {
     }
 }
 
-/// A read that fails is returned as such, whichever it is, for good, and the source is not read again, whether it would
-/// fail again or not; an end is not read past.
+/// Whichever read fails, that call and every later one return `Read`. The source is not read again, whether it would
+/// fail again or not, and it is not read after its end.
 #[test]
 fn reads_that_fail(rt: HostRuntime) -> Result<(), Fail> {
     let file = client_file(rt.alloc())?;
@@ -90,7 +90,7 @@ fn reads_that_fail(rt: HostRuntime) -> Result<(), Fail> {
 /// The head of a record of 262,145 captured octets.
 const TOO_LONG: &str = "00000000000000000100040001000400";
 
-/// Of a record that is too long only the head is read: 4 calls for the header of the file, and 3 for that.
+/// Only the head of a record that is too long is read: 4 calls for the header of the file, and 3 for the head.
 #[test]
 fn records_that_are_too_long(rt: HostRuntime) -> Result<(), Fail> {
     let file = octets(rt.alloc(), &[HEADER, TOO_LONG, RECORD])?;
@@ -101,13 +101,13 @@ fn records_that_are_too_long(rt: HostRuntime) -> Result<(), Fail> {
     Ok(())
 }
 
-/// What the writing of a record returns.
+/// Writes a record.
 fn write_of(writer: &mut PcapWriter<'_, FailingWriter>, captured: &[u8]) -> Result<(), PcapFault> {
     writer.write(0, 0, captured)
 }
 
-/// What the writing of the header, of a record of three octets and of three empty ones returns; what comes after a header
-/// that is not written counts as not written.
+/// The results of writing the header, a record of three octets and three empty ones. If the header is not written, the
+/// records count as not written.
 fn answers(destination: &mut FailingWriter) -> [Result<(), PcapFault>; 5] {
     let mut found = [Err(PcapFault::Write); 5];
     if let Ok(mut writer) = PcapWriter::new(destination, Resolution::Nano) {
@@ -120,7 +120,7 @@ fn answers(destination: &mut FailingWriter) -> [Result<(), PcapFault>; 5] {
     found
 }
 
-/// Are the first ones of these written, so many, and the others not?
+/// Whether the first `count` of these are written, and the others are not.
 fn are_written(found: &[Result<(), PcapFault>], count: usize) -> bool {
     for (i, answer) in found.iter().enumerate() {
         let wanted = if i < count {
@@ -135,14 +135,14 @@ fn are_written(found: &[Result<(), PcapFault>], count: usize) -> bool {
     true
 }
 
-/// What is written if writes fail, how often the destination was called, and how often after it failed.
+/// The results if writes fail, the number of calls of the destination, and the number of calls after it failed.
 fn written_failing(alloc: Global, fails: Fails) -> ([Result<(), PcapFault>; 5], usize, usize) {
     let mut destination = FailingWriter::new(alloc, fails, false);
     let found = answers(&mut destination);
     (found, destination.calls(), destination.calls_after())
 }
 
-/// The write of this number fails, and so many of the five are written.
+/// Checks that `count` of the five are written if the write of this number fails.
 fn check_write(rt: &impl Abort, alloc: Global, at: usize, count: usize) {
     for fails in [Fails::At(at), Fails::From(at)] {
         let (found, _, calls_after) = written_failing(alloc, fails);
@@ -151,12 +151,12 @@ fn check_write(rt: &impl Abort, alloc: Global, at: usize, count: usize) {
     }
 }
 
-/// A write that fails is returned as such, whichever it is, for good, and nothing is written after it.
+/// Whichever write fails, that call and every later one return `Write`, and nothing is written after it.
 #[test]
 fn writes_that_fail(rt: HostRuntime) {
     let (found, calls, _) = written_failing(rt.alloc(), Fails::Never);
     assert!(&rt; are_written(&found, 5));
-    // The header by one call, a record by two, and an empty one by one.
+    // The header takes one call, a record two, and an empty record one.
     assert_eq!(&rt; calls, 6);
     // How many of the five are written.
     for (at, count) in [(0, 0), (1, 1), (2, 1), (3, 2), (4, 3), (5, 4)] {

@@ -1,4 +1,4 @@
-//! Runs of scripts and captures of which one device fails.
+//! Runs of scripts and captures with one failing device.
 
 use super::tasks::{Stop, Task};
 use macsec_capture::{CaptureFault, Direction, run_capture};
@@ -18,13 +18,13 @@ enum Place {
     Text,
 }
 
-/// What a device answers if it fails, for what and by which name; and its calls: so many of which each, if it fails,
-/// leaves the run at the stop behind so many steps.
+/// A device: the part and the name of its fault, and its calls. Each entry `(calls, steps)` stands for that many calls;
+/// if one of them fails, the run is at the stop after that many steps.
 type Device = (Place, &'static str, &'static str, &'static [(usize, usize)]);
 
-/// A read gives 16 octets at most, and the last one none; the first read of a capture file is one of four octets. The
-/// header of a file is written by one call, and a record by two; a script's line by one; and of a capture's line each
-/// piece, as `3` and ` done`, and each octet in hex by one.
+/// A read returns at most 16 octets, and the last one none. The first read of a capture file is of four octets. The
+/// header of a file is written by one call, a record by two, and a line of a script by one. In a line of a capture each
+/// piece (such as `3` and ` done`) and each octet in hex is one call.
 const OF_SCRIPT: [Device; 2] = [
     (Place::Script, "script", "Read", &[(13, 0)]),
     (Place::Text, "script", "Write", &[(4, 0)]),
@@ -64,11 +64,11 @@ const OF_VALIDATION: [Device; 4] = [
     ),
 ];
 
-/// So many calls of a device are made to fail: all but those for the counters of the channel and of its association, at
-/// the end of a validation.
+/// The number of calls of a device that are made to fail: all except the calls for the counters of the SC and of its
+/// SA, at the end of a validation.
 const CHECKED_CALLS: usize = 112;
 
-/// The devices of a run: the source is the script, or the configuration of the capture.
+/// The devices of a run. The source is the script, or the configuration of the capture.
 #[derive(Drop)]
 struct Devices<'a> {
     source: FailingReader<'a>,
@@ -77,16 +77,16 @@ struct Devices<'a> {
     text: FailingWriter,
 }
 
-/// What a run answers: for what it failed, and by which name.
+/// The fault of a run: its part and its name.
 #[derive(Clone, Copy, PartialEq, Eq)]
 struct Answer(&'static str, &'static str);
 
-/// When a device fails, if the one of this place does.
+/// `fails` if the failing device is this one, else no failure.
 fn if_at(place: Place, other: Place, fails: Fails) -> Fails {
     if place == other { fails } else { Fails::Never }
 }
 
-/// What a script answers.
+/// The fault of a script's run.
 fn of_script(done: Result<(), ScriptFault>) -> Answer {
     match done {
         Ok(()) => Answer("", ""),
@@ -94,7 +94,7 @@ fn of_script(done: Result<(), ScriptFault>) -> Answer {
     }
 }
 
-/// What a capture answers.
+/// The fault of a capture's run.
 fn of_capture(done: Result<(), CaptureFault>) -> Answer {
     match done {
         Ok(()) => Answer("", ""),
@@ -111,7 +111,7 @@ fn source_of(task: Task) -> Place {
     }
 }
 
-/// The devices of a run of which the one of this place fails.
+/// The devices of a run, of which only the one at this place fails.
 fn devices_of(alloc: Global, task: Task, file: &[u8], place: Place, fails: Fails) -> Devices<'_> {
     let source = task.source().as_bytes();
     let of_source = if_at(place, source_of(task), fails);
@@ -148,7 +148,7 @@ fn run_over(alloc: Global, task: Task, devices: &mut Devices<'_>) -> Answer {
     }
 }
 
-/// How often the device of this place was called, before it failed or ended, and after.
+/// The number of calls of the device at this place, and the number of calls after it failed or was at its end.
 fn calls_of(devices: &Devices<'_>, place: Place) -> (usize, usize) {
     match place {
         Place::Script | Place::Config => (devices.source.calls(), devices.source.calls_after()),
@@ -158,7 +158,8 @@ fn calls_of(devices: &Devices<'_>, place: Place) -> (usize, usize) {
     }
 }
 
-/// Is what a run wrote that of the stop? Of the device that failed it need only begin what there is at the end.
+/// Whether a run wrote what the stop has. What the failing device got has to be only a prefix of what it gets in a
+/// complete run.
 fn is_at(devices: &Devices<'_>, place: Place, stop: &Stop, end: &Stop) -> bool {
     let output = devices.output.written();
     let text = devices.text.written();
@@ -169,12 +170,12 @@ fn is_at(devices: &Devices<'_>, place: Place, stop: &Stop, end: &Stop) -> bool {
     }
 }
 
-/// Does the whole begin with this part?
+/// Whether the whole begins with this part.
 fn is_begun(part: &[u8], whole: &[u8]) -> bool {
     whole.starts_with(part)
 }
 
-/// How many calls these are.
+/// The total number of these calls.
 fn count_of(calls: &[(usize, usize)]) -> usize {
     let mut count: usize = 0;
     for (more, _) in calls {
@@ -183,7 +184,7 @@ fn count_of(calls: &[(usize, usize)]) -> usize {
     count
 }
 
-/// The stop at which the call of this number leaves the run, or that behind no step.
+/// The number of steps before the stop of a run whose call of this number fails, or 0.
 fn stop_of(calls: &[(usize, usize)], at: usize) -> usize {
     let mut left = at;
     for (more, stop) in calls {
@@ -195,7 +196,7 @@ fn stop_of(calls: &[(usize, usize)], at: usize) -> usize {
     0
 }
 
-/// The call of a device that fails, what the run then answers, and the stop at which it is.
+/// The failing call of a device, the expected fault of the run, and its stop.
 #[derive(Clone, Copy)]
 struct Call<'a> {
     task: Task,
@@ -207,7 +208,7 @@ struct Call<'a> {
     end: &'a Stop,
 }
 
-/// A run answers as the call wants, its device is not called again, and it is at the stop of this call.
+/// Checks that the run has the expected fault and is at the expected stop, and that its device was not called again.
 fn assert_failed(rt: &impl Abort, devices: &Devices<'_>, answer: Answer, call: &Call<'_>) {
     let (place, at) = (call.place, call.at);
     let calls = calls_of(devices, place);
@@ -219,7 +220,7 @@ fn assert_failed(rt: &impl Abort, devices: &Devices<'_>, answer: Answer, call: &
     );
 }
 
-/// Whether the call of this number fails alone or with all after it, the run ends with the answer of its device.
+/// Checks that the run ends with the fault of its device, whether this call fails alone or with all calls after it.
 fn check_call(rt: &impl Abort, alloc: Global, call: &Call<'_>) {
     for fails in [Fails::At(call.at), Fails::From(call.at)] {
         let mut devices = devices_of(alloc, call.task, call.file, call.place, fails);
@@ -228,12 +229,12 @@ fn check_call(rt: &impl Abort, alloc: Global, call: &Call<'_>) {
     }
 }
 
-/// These octets were written by a run of which a device of this place could fail.
+/// Checks the octets that a run wrote. `place` is the device under test.
 fn assert_written(rt: &impl Abort, place: Place, written: &[u8], wanted: &[u8]) {
     assert_eq!(rt; written, wanted, "{place:?}");
 }
 
-/// A run none of whose calls fails is at its end.
+/// Checks that a run without a failing call is complete, and the number of its device's calls.
 fn check_end(
     rt: &impl Abort,
     alloc: Global,
@@ -251,7 +252,7 @@ fn check_end(
     assert_written(rt, place, devices.text.written(), end.text.as_bytes());
 }
 
-/// Each call of this device.
+/// Checks each call of this device.
 fn check_device(
     rt: &impl Abort,
     alloc: Global,
@@ -285,7 +286,7 @@ fn check_device(
     Ok(())
 }
 
-/// Each call of each of these devices.
+/// Checks each call of each of these devices.
 fn check_devices(
     rt: &impl Abort,
     alloc: Global,
@@ -327,7 +328,7 @@ enum Flush {
     OfText,
 }
 
-/// The devices of a capture of which a flush fails.
+/// The devices of a capture with a failing flush.
 fn flushing<'a>(alloc: Global, config: &'a str, file: &'a [u8], flush: Flush) -> Devices<'a> {
     Devices {
         source: FailingReader::new(config.as_bytes(), 16, Fails::Never),
@@ -337,7 +338,7 @@ fn flushing<'a>(alloc: Global, config: &'a str, file: &'a [u8], flush: Flush) ->
     }
 }
 
-/// A run whose flush fails is at this stop, and has flushed the output once, and not the text.
+/// Checks that a run whose flush fails is at this stop, and has flushed the output once and the text never.
 fn assert_flushed(rt: &impl Abort, devices: &Devices<'_>, flush: Flush, stop: &Stop) {
     assert_eq!(rt;
         devices.output.written(),
@@ -349,7 +350,7 @@ fn assert_flushed(rt: &impl Abort, devices: &Devices<'_>, flush: Flush, stop: &S
     assert!(rt; flushes == (1, 0), "{flush:?}");
 }
 
-/// A run whose flush fails answers this, and is at the stop behind so many steps.
+/// Checks that a run whose flush fails has this fault, and is at the stop after this many steps.
 fn check_flush(
     rt: &impl Abort,
     alloc: Global,
@@ -367,7 +368,7 @@ fn check_flush(
     Ok(())
 }
 
-/// So it is for each flush of a capture in this direction.
+/// Checks each flush of a capture in this direction.
 fn check_flushes(
     rt: &impl Abort,
     alloc: Global,
@@ -385,8 +386,8 @@ fn check_flushes(
     Ok(())
 }
 
-/// If the output can't be flushed behind the records, there are no counters. It is flushed too where a record ends the
-/// run, and the fault of the input comes before that of the flush. The text is not flushed.
+/// If the output can't be flushed after the records, there are no counters. The output is flushed even if a record ends
+/// the run, and then the fault of the input is returned, not the fault of the flush. The text is not flushed.
 #[test]
 fn flushes_of_a_capture(rt: HostRuntime) -> Result<(), Fail> {
     let alloc = rt.alloc();
@@ -397,7 +398,7 @@ fn flushes_of_a_capture(rt: HostRuntime) -> Result<(), Fail> {
     Ok(())
 }
 
-/// What a run of a script of 1,100,000 line feeds answers, of which each read gives 1,024, and how often it reads.
+/// The fault of a run of a script of 1,100,000 line feeds, read 1,024 at a time, and the number of reads.
 fn long_script_run(alloc: Global) -> Result<(Answer, usize), Fail> {
     let script = vec![in alloc; b'\n'; 1_100_000]?;
     let mut source = FailingReader::new(script.as_slice(), 1024, Fails::Never);
@@ -406,7 +407,7 @@ fn long_script_run(alloc: Global) -> Result<(Answer, usize), Fail> {
     Ok((answer, source.calls()))
 }
 
-/// A script that is too long is read no further than to the call that makes it so: 1,024 calls give 1,048,576 octets.
+/// Reading stops at the call that makes the script too long: 1,024 calls give 1,048,576 octets, and one more is made.
 #[test]
 fn scripts_that_are_too_long(rt: HostRuntime) -> Result<(), Fail> {
     let (answer, calls) = long_script_run(rt.alloc())?;

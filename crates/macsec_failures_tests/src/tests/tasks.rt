@@ -1,4 +1,4 @@
-//! The runs of which devices fail, and their stops: where a run can end before its end.
+//! The runs whose devices fail, and their stops: the points where a failing device can end them.
 
 use super::{
     HEADER, RECEIVER, RECORD, SCRIPT, SCRIPT_TEXT, SENDER, SENT_1, SENT_2, client_file, link_file,
@@ -8,20 +8,20 @@ use macsec_vectors::{COUNTERS_OF_TWO_RECEIVED, COUNTERS_OF_TWO_SENT};
 use std::alloc::Global;
 use std::test::Fail;
 
-/// A run of the script, or of a capture: the client frames are protected, or the link frames validated.
+/// A run of the script, or of a capture, which protects the client frames or validates the link frames.
 #[derive(Clone, Copy, Debug)]
 pub enum Task {
     Script,
     Capture(Direction),
 }
 
-/// What a run adds from one stop to the next: to the output, in hex, and to the text.
+/// What a run writes from one stop to the next: to the output, in hex, and to the text.
 pub type Step = (&'static str, &'static str);
 
-/// The text of a script is written at its end.
+/// The script has one step: its whole text.
 const SCRIPT_STEPS: [Step; 1] = [("", SCRIPT_TEXT)];
 
-/// A capture: the configuration, the header, each record, and the counters.
+/// The steps of a capture: the configuration, the header, each record, and the counters.
 const PROTECT_STEPS: [Step; 5] = [
     ("", "2 done\n3 done\n4 done\n"),
     (HEADER, ""),
@@ -39,7 +39,7 @@ const VALIDATE_STEPS: [Step; 5] = [
 ];
 
 impl Task {
-    /// What the run adds, step by step.
+    /// The steps of the run.
     pub fn steps(self) -> &'static [Step] {
         match self {
             Task::Script => &SCRIPT_STEPS,
@@ -67,7 +67,7 @@ impl Task {
     }
 }
 
-/// What is written at a stop, to the output and to the text.
+/// What a run has written at a stop, to the output and to the text.
 #[derive(Drop)]
 pub struct Stop {
     pub output: Vec<u8>,
@@ -75,7 +75,7 @@ pub struct Stop {
 }
 
 impl Stop {
-    /// The stop behind so many steps: all of them for the end.
+    /// The stop after the first `count` steps.
     pub fn behind(alloc: Global, steps: &[Step], count: usize) -> Result<Stop, Fail> {
         let mut digits = String::new(alloc);
         let mut text = String::new(alloc);
