@@ -18,8 +18,8 @@ enum Place {
     Text,
 }
 
-/// A device: the part and the name of its fault, and its calls. Each entry `(calls, steps)` stands for that many calls;
-/// if one of them fails, the run is at the stop after that many steps.
+/// A device: the part and the name of its fault, and its calls. An entry `(calls, steps)` is that many calls; if one of
+/// them fails, the run is at the stop after that many steps.
 type Device = (Place, &'static str, &'static str, &'static [(usize, usize)]);
 
 /// A read returns at most 16 octets, and the last one none. The first read of a capture file is of four octets. The
@@ -111,7 +111,7 @@ fn source_of(task: Task) -> Place {
     }
 }
 
-/// The devices of a run, of which only the one at this place fails.
+/// The devices of a run. Only the one at this place fails.
 fn devices_of(alloc: Global, task: Task, file: &[u8], place: Place, fails: Fails) -> Devices<'_> {
     let source = task.source().as_bytes();
     let of_source = if_at(place, source_of(task), fails);
@@ -321,7 +321,7 @@ fn devices_of_a_validation(rt: HostRuntime) -> Result<(), Fail> {
     check_devices(&rt, rt.alloc(), task, &OF_VALIDATION)
 }
 
-/// The flush of which writer fails.
+/// The writer whose flush fails.
 #[derive(Clone, Copy, Debug, PartialEq, Eq)]
 enum Flush {
     OfOutput,
