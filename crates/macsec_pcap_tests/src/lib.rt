@@ -1,5 +1,5 @@
-//! Tests of capture files of both formats: what no clause says of `macsec_pcap` and `macsec_pcapng`, over their public
-//! faces alone.
+//! Tests of capture files in both formats. They check what no clause of `macsec_pcap` and `macsec_pcapng` says, and use
+//! only public calls.
 #![tactic(auto)]
 
 #[cfg(test)]

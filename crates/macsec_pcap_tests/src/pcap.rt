@@ -1,5 +1,5 @@
-//! Files in the format pcap. What a reader returns is told as one text: the unit of the times, then what the calls of
-//! `next` return, one after another.
+//! Files in the format pcap. What a reader returns is compared as one text: the unit of the times, then the answers of
+//! `next` one after another.
 
 use crate::words::{Row, assert_text, octets, tell_answer};
 use macsec_pcap::{PcapFault, PcapReader, PcapWriter, Resolution};
@@ -9,7 +9,7 @@ use std::io::{self, Read};
 use std::process::Abort;
 use std::test::Fail;
 
-/// The unit of a reader's times, and what the reader returns, up to two calls after the last record.
+/// Appends the unit of a reader's times, and the reader's answers, up to two calls after the last record.
 fn tell_records<R: Read + Drop>(
     alloc: Global,
     reader: &mut PcapReader<R>,
@@ -31,7 +31,7 @@ fn tell_records<R: Read + Drop>(
     Ok(())
 }
 
-/// What a reader returns of a file, or why there is none.
+/// Appends the unit and the answers of a reader of this file, or the fault of creating one.
 fn tell_file<R: Read + Drop>(alloc: Global, source: R, text: &mut String) -> Result<(), Fail> {
     match PcapReader::new(alloc, source) {
         Ok(mut reader) => tell_records(alloc, &mut reader, text),
@@ -39,14 +39,14 @@ fn tell_file<R: Read + Drop>(alloc: Global, source: R, text: &mut String) -> Res
     }
 }
 
-/// What is told of a file.
+/// The unit and the answers of a reader of this file, as text.
 fn told(alloc: Global, file: &[u8]) -> Result<String, Fail> {
     let mut text = String::new(alloc);
     tell_file(alloc, file, &mut text)?;
     Ok(text)
 }
 
-/// A file is told as is wanted; if not, the place of the case is shown.
+/// Checks the unit and the answers of a reader of this file. A failure prints the index of the case.
 fn assert_told(
     rt: &impl Abort,
     alloc: Global,
@@ -58,12 +58,12 @@ fn assert_told(
     assert_text(rt, alloc, text.as_str(), wanted, place)
 }
 
-/// Files in each order and unit, with whole, partial and empty records, and with each fault of the format.
+/// Files in each byte order and unit, with whole, partial and empty records, and with each fault of the format.
 const FILES: [Row; 24] = [
     ("micro", "Micro end end"),
     ("micro record record", "Micro told told end end"),
     ("nano_big", "Nano end end"),
-    // A record with the highest octets first: time 1.2, five octets captured of five.
+    // A record, big endian: time 1.2, five octets captured of five.
     (
         "nano_big 00000001000000020000000500000005 0102030405",
         "Nano 1.2:0102030405 end end",
@@ -77,12 +77,12 @@ const FILES: [Row; 24] = [
         "4d3cb2a1020004000000000000000000ffff000001000000",
         "Nano end end",
     ),
-    // Time zone, accuracy and snapshot length are not tested.
+    // Time zone, accuracy and snapshot length are not checked.
     (
         "d4c3b2a102000400010203040506070800000000 01000000",
         "Micro end end",
     ),
-    // The faults of the header, each alone and in their order.
+    // The faults of the header, each alone and in order.
     ("00c3b2a1020004000000000000000000ffff000001000000", "Magic"),
     (
         "d4c3b2a1030004000000000000000000ffff000001000000",
@@ -106,17 +106,17 @@ const FILES: [Row; 24] = [
         "Version",
     ),
     ("00", "CutHeader"),
-    // A file in one order whose version is in the other.
+    // A file in one byte order whose version is in the other.
     (
         "d4c3b2a1000200040000000000000000ffff000001000000",
         "Version",
     ),
-    // 20 octets were captured of a frame of 14: the record is whole, and has all of them.
+    // 20 octets were captured of a frame of 14: the record is whole, and has all 20.
     (
         "micro 0000000000000000140000000e000000 ffffffffffff0200000000010800010203040506",
         "Micro 0.0:ffffffffffff0200000000010800010203040506 end end",
     ),
-    // One octet more was captured than the frame had, one less, none of an empty frame, and none of a frame.
+    // One octet more was captured than the frame had, one less, none of an empty frame, and none of a nonempty one.
     (
         "micro 0000000000000000020000000100000011222222",
         "Micro 0.0:1122 CutRecord CutRecord",
@@ -133,7 +133,7 @@ const FILES: [Row; 24] = [
         "micro 01000000ffffffff0000000001000000 record",
         "Micro 1.4294967295 partial told end end",
     ),
-    // Captured lengths of 262,145 and of 2^32 - 1, though no captured octet is there; 262,144 is no fault.
+    // Captured lengths of 262,145 and of 2^32 - 1, without any captured octets; 262,144 is not a fault.
     (
         "micro record 00000000000000000100040001000400",
         "Micro told RecordLength RecordLength",
@@ -157,7 +157,7 @@ fn files(rt: HostRuntime) -> Result<(), Fail> {
     Ok(())
 }
 
-/// What is told of so many octets of a file of two records.
+/// The expected text for the first `len` octets of a file of two records.
 fn told_of_prefix(len: usize) -> &'static str {
     match len {
         0..24 => "CutHeader",
@@ -181,7 +181,7 @@ fn prefixes(rt: HostRuntime) -> Result<(), Fail> {
     Ok(())
 }
 
-/// What a writer answers to a frame with this time.
+/// Writes a frame with this time.
 fn answer_to(
     writer: &mut PcapWriter<'_, Vec<u8>>,
     seconds: u32,
@@ -198,21 +198,21 @@ fn write_two(file: &mut Vec<u8>, resolution: Resolution, frame: &[u8]) -> Result
     answer_to(&mut writer, 0x0102_0304, 0x0506_0708, &[])
 }
 
-/// What is written of two frames with these times.
+/// The file of two frames with these times.
 fn written(alloc: Global, resolution: Resolution, frame: &[u8]) -> Result<Vec<u8>, Fail> {
     let mut file = Vec::new(alloc);
     write_two(&mut file, resolution, frame)?;
     Ok(file)
 }
 
-/// A file has the octets of these words.
+/// Checks that a file has the octets of these words.
 fn assert_octets(rt: &impl Abort, alloc: Global, file: &[u8], wanted: &str) -> Result<(), Fail> {
     let wanted = octets(alloc, wanted)?;
     assert_eq!(rt; file, wanted.as_slice());
     Ok(())
 }
 
-/// What is written in each unit, and how it is told.
+/// The written file in each unit, and the text of its reader.
 const WRITTEN: [(Resolution, &str, &str); 2] = [
     (
         Resolution::Micro,
@@ -226,7 +226,7 @@ const WRITTEN: [(Resolution, &str, &str); 2] = [
     ),
 ];
 
-/// Both headers and two records, as they are written and as they are read again.
+/// Both headers and two records, as they are written and as they are read.
 #[test]
 fn files_are_written(rt: HostRuntime) -> Result<(), Fail> {
     let frame = [0xff, 0xff, 0xff, 0xff, 0xff, 0xff, 2, 0, 0, 0, 0, 1, 8, 0];
@@ -238,7 +238,7 @@ fn files_are_written(rt: HostRuntime) -> Result<(), Fail> {
     Ok(())
 }
 
-/// Whether a writer takes a frame of so many octets, or why not.
+/// Writes a frame of `len` octets.
 fn answer_to_length(
     alloc: Global,
     writer: &mut PcapWriter<'_, Vec<u8>>,
@@ -248,7 +248,7 @@ fn answer_to_length(
     Ok(answer_to(writer, 1, 2, frame.as_slice()))
 }
 
-/// A frame of 262,144 octets is written, one of 262,145 is not, nor is any after it.
+/// Checks that a frame of 262,144 octets is written, that one of 262,145 is not, and that no frame is after that.
 fn assert_answers(rt: &impl Abort, alloc: Global, file: &mut Vec<u8>) -> Result<(), Fail> {
     let mut writer = PcapWriter::new(file, Resolution::Micro)?;
     for (len, answer) in [
@@ -261,7 +261,7 @@ fn assert_answers(rt: &impl Abort, alloc: Global, file: &mut Vec<u8>) -> Result<
     Ok(())
 }
 
-/// What is told of a file of one frame of so many octets 5a.
+/// The expected text for a file of one frame of `len` octets 5a.
 fn told_of_frame(alloc: Global, len: usize) -> Result<String, AllocError> {
     let mut text = String::new(alloc);
     text.push_str("Micro 1.2:")?;
@@ -272,7 +272,7 @@ fn told_of_frame(alloc: Global, len: usize) -> Result<String, AllocError> {
     Ok(text)
 }
 
-/// A frame of 262,144 octets is written and read, one of 262,145 is not written, nor is any after it.
+/// A frame of 262,144 octets is written and read. One of 262,145 octets is not written, and no frame is after that.
 #[test]
 fn longest_frame(rt: HostRuntime) -> Result<(), Fail> {
     let mut file = Vec::new(rt.alloc());
@@ -282,7 +282,7 @@ fn longest_frame(rt: HostRuntime) -> Result<(), Fail> {
     assert_told(&rt, rt.alloc(), file.as_slice(), wanted.as_str(), 0)
 }
 
-/// A file of empty records at time 0: its header, and then so many octets of 0.
+/// A file of empty records at time 0: its header, and then this many octets of 0.
 #[derive(Drop)]
 struct EmptyRecords<'a> {
     header: &'a [u8],
@@ -304,7 +304,7 @@ impl Read for EmptyRecords<'_> {
     }
 }
 
-/// How many records a reader returns, and the fault after them, if there is one.
+/// The number of records that a reader returns, and the fault after them, if any.
 fn count_of<R: Read + Drop>(reader: &mut PcapReader<R>) -> (u32, Option<PcapFault>) {
     for n in 0..16_777_218 {
         match reader.next() {
@@ -316,8 +316,8 @@ fn count_of<R: Read + Drop>(reader: &mut PcapReader<R>) -> (u32, Option<PcapFaul
     (16_777_218, None)
 }
 
-/// A file of 16,777,216 records is read, and if one octet follows them, the fault is `RecordCount`, though no record is
-/// whole there.
+/// A file of 16,777,216 records is read. If one more octet follows, the fault is `RecordCount`, although that octet is
+/// not a record.
 #[test]
 fn most_records(rt: HostRuntime) -> Result<(), Fail> {
     let header = octets(rt.alloc(), "micro")?;

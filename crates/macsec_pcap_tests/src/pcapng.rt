@@ -1,5 +1,5 @@
-//! Files in the format pcapng, given block by block. What a reader returns is told as one text: what the calls of `next`
-//! return, one after another, up to two calls after the last record.
+//! Files in the format pcapng, given block by block. What a reader returns is compared as one text: the answers of
+//! `next` one after another, up to two calls after the last record.
 
 use crate::words::{Row, assert_text, octets, spelled, tell_answer};
 use macsec_failing_io::{FailingReader, Fails};
@@ -11,7 +11,7 @@ use std::io::Read;
 use std::process::Abort;
 use std::test::Fail;
 
-/// What a reader returns, up to two calls after the last record.
+/// Appends the answers of a reader, up to two calls after the last record.
 fn tell_records<R: Read + Drop>(
     alloc: Global,
     reader: &mut CaptureReader<R>,
@@ -28,7 +28,7 @@ fn tell_records<R: Read + Drop>(
     Ok(())
 }
 
-/// What a reader returns of a file, or why there is none.
+/// Appends the answers of a reader of this file, or the fault of creating one.
 fn tell_file<R: Read + Drop>(alloc: Global, source: R, text: &mut String) -> Result<(), Fail> {
     match CaptureReader::new(alloc, source) {
         Ok(mut reader) => tell_records(alloc, &mut reader, text),
@@ -36,14 +36,14 @@ fn tell_file<R: Read + Drop>(alloc: Global, source: R, text: &mut String) -> Res
     }
 }
 
-/// What is told of a file.
+/// The answers of a reader of this file, as text.
 fn told<R: Read + Drop>(alloc: Global, source: R) -> Result<String, Fail> {
     let mut text = String::new(alloc);
     tell_file(alloc, source, &mut text)?;
     Ok(text)
 }
 
-/// A file is told as is wanted; if not, the place of the case is shown.
+/// Checks the answers of a reader of this file. A failure prints the index of the case.
 fn assert_told(
     rt: &impl Abort,
     alloc: Global,
@@ -55,7 +55,7 @@ fn assert_told(
     assert_text(rt, alloc, text.as_str(), wanted, place)
 }
 
-/// Each file is told as is wanted.
+/// Checks the answers for each file.
 fn compare(rt: &impl Abort, alloc: Global, rows: &[Row]) -> Result<(), Fail> {
     for (place, (file, wanted)) in rows.iter().enumerate() {
         let file = octets(alloc, file)?;
@@ -69,13 +69,13 @@ const FILES: [Row; 14] = [
     ("little", "end end"),
     ("little ethernet", "end end"),
     ("little ethernet packet packet", "told told end end"),
-    // Nanoseconds, with the highest octets first: 1.000000002, five octets.
+    // Nanoseconds, big endian: 1.000000002, five octets.
     (
         "big 000000010000001c000100000004000000090001090000000000001c
          000000060000002800000000000000003b9aca020000000500000005010203040500000000000028",
         "1.2:0102030405 end end",
     ),
-    // A second section in the other order: 1.000002, in microseconds.
+    // A second section in the other byte order: 1.000002, in microseconds.
     (
         "little ethernet packet big ethernet_big
          00000006000000280000000000000000000f42420000000500000005010203040500000000000028",
@@ -89,7 +89,7 @@ const FILES: [Row; 14] = [
          ad0b00000c0000000c000000",
         "told told end end",
     ),
-    // Options of a section header, and of a packet.
+    // Options of a section header and of a packet.
     (
         "0a0d0d0a000000281a2b3c4d00010000ffffffffffffffff00040003617070000000000000000028",
         "end end",
@@ -106,14 +106,14 @@ const FILES: [Row; 14] = [
         "0a0d0d0a1c0000004d3c2b1a01000200ffffffffffffffff1c000000 ethernet packet",
         "told end end",
     ),
-    // One octet fewer was captured than the frame had, and one more.
+    // One octet less was captured than the frame had, and one more.
     (
         "little ethernet
          06000000300000000000000000000000000000000e0000000f000000ffffffffffff0200000000010800000030000000
          06000000300000000000000000000000000000000e0000000d000000ffffffffffff0200000000010800000030000000",
         "0.0 partial told end end",
     ),
-    // A simple packet of 14 octets, whole, also if the snap length is 0; cut by a snap length of 8.
+    // A simple packet of 14 octets: whole, even if the snap length is 0; cut by a snap length of 8.
     (
         "little ethernet 03000000200000000e000000ffffffffffff0200000000010800000020000000 packet",
         "told told end end",
@@ -127,7 +127,7 @@ const FILES: [Row; 14] = [
         "little 0100000014000000010000000800000014000000 03000000180000000e000000ffffffffffff020018000000",
         "0.0 partial end end",
     ),
-    // An interface that is not of Ethernet, of which no packet comes.
+    // An interface that is not Ethernet, without packets.
     (
         "little ethernet 0100000014000000710000000000040014000000 packet",
         "told end end",
@@ -139,7 +139,7 @@ fn files(rt: HostRuntime) -> Result<(), Fail> {
     compare(&rt, rt.alloc(), &FILES)
 }
 
-/// Packets at 1,537 units on interfaces of many resolutions, in one section; and the largest times.
+/// Packets at 1,537 units on interfaces with many resolutions in one section; and the largest times.
 const RESOLUTIONS: [Row; 6] = [
     // Microseconds, thousandths, 1/1024 of a second (1.5009765625), seconds, and 10^-12 of a second (1.537 ns).
     (
@@ -185,7 +185,8 @@ const RESOLUTIONS: [Row; 6] = [
          060000002000000000000000000000003f420f00000000000000000020000000",
         "0.0: Time Time",
     ),
-    // An option of another code, with padding, before if_tsresol; and one behind the last option, which is not read.
+    // An option with another code and with padding, before if_tsresol; and one after the last option, which is not
+    // read.
     (
         "little
          01000000340000000100000000000400020005006574683000000000090001000900000000000000090001000000000034000000
@@ -199,13 +200,13 @@ fn resolutions(rt: HostRuntime) -> Result<(), Fail> {
     compare(&rt, rt.alloc(), &RESOLUTIONS)
 }
 
-/// What is told of a file of these words.
+/// The answers for a file of these words.
 fn told_of(alloc: Global, words: &str) -> Result<String, Fail> {
     let file = octets(alloc, words)?;
     told(alloc, file.as_slice())
 }
 
-/// Two files of two records each, of which the second is partial, are told alike.
+/// Checks that two files give the same answers. Each has two records, and the second is partial.
 fn assert_alike(rt: &impl Abort, alloc: Global, one: &str, other: &str) -> Result<(), Fail> {
     let one = told_of(alloc, one)?;
     let other = told_of(alloc, other)?;
@@ -214,8 +215,7 @@ fn assert_alike(rt: &impl Abort, alloc: Global, one: &str, other: &str) -> Resul
     Ok(())
 }
 
-/// A file in the format pcap, at so many seconds and nanoseconds, and one in the format pcapng, of a resolution and at so
-/// many units of it.
+/// A pcap file with times in seconds and nanoseconds, and a pcapng file with the same times in units of its resolution.
 const ALIKE: [Row; 9] = [
     (
         "nano 0300000000000000 whole_record 0300000000000000 partial_record",
@@ -273,7 +273,7 @@ const ALIKE: [Row; 9] = [
     ),
 ];
 
-/// The records of a file in the format pcap, in nanoseconds, are those of one in the format pcapng of the same records.
+/// A pcap file in nanoseconds and a pcapng file of the same records give the same records.
 #[test]
 fn either_format(rt: HostRuntime) -> Result<(), Fail> {
     for (pcap, pcapng) in ALIKE {
@@ -284,7 +284,7 @@ fn either_format(rt: HostRuntime) -> Result<(), Fail> {
 
 /// Each fault of the format.
 const FAULTS: [Row; 25] = [
-    // In the first section header: the byte-order magic, the version, the length, another block in its place.
+    // In the first section header: the byte-order magic, the version, the length; and another block instead of it.
     (
         "0a0d0d0a1c0000004c3c2b1a01000000ffffffffffffffff1c000000",
         "Magic",
@@ -301,10 +301,10 @@ const FAULTS: [Row; 25] = [
         "0a0d0d0a180000004d3c2b1a010000000000000018000000",
         "BlockLength",
     ),
-    // A file in neither format, with fewer octets than a header of the format pcap, and with as many.
+    // A file in neither format, with fewer octets than a pcap header, and with as many.
     ("0000000d0000000c0000000c", "CutHeader"),
     ("0000000d0000000c0000000c0000000d0000000c0000000c", "Magic"),
-    // In a later one.
+    // In a later section header.
     (
         "little ethernet packet 0a0d0d0a1c0000004c3c2b1a01000000ffffffffffffffff1c000000",
         "told Magic Magic",
@@ -313,7 +313,7 @@ const FAULTS: [Row; 25] = [
         "little ethernet packet 0a0d0d0a1c0000004d3c2b1a02000000ffffffffffffffff1c000000",
         "told Version Version",
     ),
-    // Lengths: of 8 octets, of 13, too small for the type, and another one at the end.
+    // Block lengths: 8 octets, 13, too small for the type, and a different length at the end.
     ("little ad0b00000800000008000000", "BlockLength BlockLength"),
     (
         "little ad0b00000d000000000d000000",
@@ -332,7 +332,7 @@ const FAULTS: [Row; 25] = [
         "little ad0b00000c00000010000000 ethernet",
         "BlockLength BlockLength",
     ),
-    // More captured octets than the block has, of either kind of packet; too many.
+    // More captured octets than the block has, in either kind of packet; and more than a record can have.
     (
         "little ethernet
          0600000030000000000000000000000000000000110000000e000000ffffffffffff0200000000010800000030000000",
@@ -352,7 +352,7 @@ const FAULTS: [Row; 25] = [
          0600000030000000000000000000000000000000000004000e000000ffffffffffff0200000000010800000030000000",
         "BlockLength BlockLength",
     ),
-    // if_tsresol of two octets, and an option that is not all there.
+    // if_tsresol of two octets, and an option that is cut.
     (
         "little 010000001c000000010000000000040009000200090900001c000000",
         "BlockLength BlockLength",
@@ -361,7 +361,7 @@ const FAULTS: [Row; 25] = [
         "little 010000001c000000010000000000040002000500657468301c000000",
         "BlockLength BlockLength",
     ),
-    // No interface, of either kind of packet; one of the section before; one that is not of Ethernet.
+    // No interface, for either kind of packet; an interface of the section before; one that is not Ethernet.
     ("little packet", "NoInterface NoInterface"),
     (
         "little 03000000200000000e000000ffffffffffff0200000000010800000020000000",
@@ -384,9 +384,9 @@ fn faults(rt: HostRuntime) -> Result<(), Fail> {
     compare(&rt, rt.alloc(), &FAULTS)
 }
 
-/// Files that Wireshark's editcap and mergecap (4.0.17) wrote of two capture files (pcap): the frames of the one at
-/// 1.000002 and 1700000000.999999, in microseconds; those of the other at 3.000000007 and 1700000001.999999999, in
-/// nanoseconds, the last of 19 octets of 30. The option that names a machine is left out.
+/// Files that Wireshark's editcap and mergecap (4.0.17) wrote from two pcap files. One has frames at 1.000002 and
+/// 1700000000.999999, in microseconds. The other has frames at 3.000000007 and 1700000001.999999999, in nanoseconds;
+/// the last was captured with 19 octets of 30. The option that names a machine is left out.
 const FILES_OF_WIRESHARK: [Row; 2] = [
     (
         "0a0d0d0a6c0000004d3c2b1a01000000ffffffffffffffff
@@ -416,7 +416,7 @@ fn files_of_wireshark(rt: HostRuntime) -> Result<(), Fail> {
     compare(&rt, rt.alloc(), &FILES_OF_WIRESHARK)
 }
 
-/// What is told of so many octets of that file.
+/// The expected answers for the first `len` octets of the file in `prefixes`.
 fn told_of_prefix(len: usize) -> &'static str {
     match len {
         0..28 => "CutHeader",
@@ -427,8 +427,8 @@ fn told_of_prefix(len: usize) -> &'static str {
     }
 }
 
-/// Every prefix of a file of 28, 20, 48, 28 and 20 octets: a section, its interface, a packet, a second section, and its
-/// interface.
+/// Every prefix of a file with a section header, an interface, a packet, a second section header and its interface, of
+/// 28, 20, 48, 28 and 20 octets.
 #[test]
 fn prefixes(rt: HostRuntime) -> Result<(), Fail> {
     let file = octets(rt.alloc(), "little ethernet packet big ethernet_big")?;
@@ -440,8 +440,8 @@ fn prefixes(rt: HostRuntime) -> Result<(), Fail> {
     Ok(())
 }
 
-/// What is told of a file of one packet if the read of this number fails: in pieces of 7 octets the first four octets take
-/// 1 call, the rest of the section header 5, the interface 5, the packet 9, and the end 1.
+/// The expected answers for a file of one packet if the read of this number fails. With 7 octets a call, the first four
+/// octets take 1 call, the rest of the section header 5, the interface 5, the packet 9, and the end 1.
 fn told_of_read(at: usize) -> &'static str {
     match at {
         0..6 => "Read",
@@ -451,14 +451,14 @@ fn told_of_read(at: usize) -> &'static str {
     }
 }
 
-/// What is told of a file if reads fail, and how often it is read after that.
+/// The answers for a file whose reads fail, and the number of reads after that.
 fn told_failing(alloc: Global, file: &[u8], fails: Fails) -> Result<(String, usize), Fail> {
     let mut source = FailingReader::new(file, 7, fails);
     let text = told(alloc, &mut source)?;
     Ok((text, source.calls_after()))
 }
 
-/// The read of this number fails of this file.
+/// Checks the read of this number, failing alone and with all reads after it.
 fn check_read(rt: &impl Abort, alloc: Global, file: &[u8], at: usize) -> Result<(), Fail> {
     for fails in [Fails::At(at), Fails::From(at)] {
         let (text, calls_after) = told_failing(alloc, file, fails)?;
@@ -468,8 +468,8 @@ fn check_read(rt: &impl Abort, alloc: Global, file: &[u8], at: usize) -> Result<
     Ok(())
 }
 
-/// A read that fails is returned as such, whichever it is, for good, and the file is not read again, whether it would fail
-/// again or not; an end is not read past.
+/// Whichever read fails, that call and every later one return `Read`. The file is not read again, whether it would fail
+/// again or not, and it is not read after its end.
 #[test]
 fn failing_reads(rt: HostRuntime) -> Result<(), Fail> {
     let file = octets(rt.alloc(), "little ethernet packet")?;
@@ -479,7 +479,7 @@ fn failing_reads(rt: HostRuntime) -> Result<(), Fail> {
     Ok(())
 }
 
-/// The octets of words, each so many times.
+/// The octets of words, each repeated this many times.
 fn repeated(alloc: Global, words: &[(&str, usize)]) -> Result<Vec<u8>, Fail> {
     let mut text = String::new(alloc);
     for (word, count) in words {
@@ -490,8 +490,8 @@ fn repeated(alloc: Global, words: &[(&str, usize)]) -> Result<Vec<u8>, Fail> {
     Ok(hex::decode(alloc, text.as_str())?)
 }
 
-/// A skipped block of 600,000 octets, and a packet of 262,144 octets with 8,192 octets of options behind
-/// it, before the last packet.
+/// A skipped block of 600,000 octets, and a packet of 262,144 octets followed by 8,192 octets of options, before the
+/// last packet.
 const LONGEST: [(&str, usize); 11] = [
     ("little", 1),
     ("ethernet", 1),
@@ -506,7 +506,7 @@ const LONGEST: [(&str, usize); 11] = [
     ("packet", 1),
 ];
 
-/// How many octets the next record has, and the last of them; of a partial one none.
+/// The number of octets in the next record, and the last of them; for a partial record 0 and none.
 fn next_octets(reader: &mut PcapngReader<&[u8]>) -> Result<Option<(usize, Option<u8>)>, PcapFault> {
     match reader.next()? {
         Some(record) => match record.body {
@@ -517,7 +517,7 @@ fn next_octets(reader: &mut PcapngReader<&[u8]>) -> Result<Option<(usize, Option
     }
 }
 
-/// A skipped block that is longer than a frame can be, and a packet of the longest frame with options behind it.
+/// A skipped block that is longer than a frame can be, and a packet with the longest frame and with options after it.
 #[test]
 fn longest_blocks(rt: HostRuntime) -> Result<(), Fail> {
     let file = repeated(rt.alloc(), &LONGEST)?;
@@ -528,7 +528,7 @@ fn longest_blocks(rt: HostRuntime) -> Result<(), Fail> {
     Ok(())
 }
 
-/// A section of 256 interfaces, and of one more.
+/// A section with 256 interfaces, and one with 257.
 #[test]
 fn interfaces(rt: HostRuntime) -> Result<(), Fail> {
     for (count, wanted) in [(256, "end end"), (257, "InterfaceCount InterfaceCount")] {

@@ -1,4 +1,4 @@
-//! Files are given as hex, and what a reader returns as text. Both are written in words, of which some stand for more
+//! Files are given as hex, and what a reader returns as text. Both are written in words; some words are abbreviations
 //! (`WORDS`).
 
 use macsec_pcap::{Body, PcapFault, Record};
@@ -7,21 +7,21 @@ use std::fmt::Write;
 use std::process::Abort;
 use std::test::Fail;
 
-/// Words that stand for octets of a file, or for what is told of it.
+/// Abbreviations for octets of a file, or for a reader's answers.
 const WORDS: [(&str, &str); 16] = [
-    // The header of a file in microseconds, with the lowest octets first.
+    // The header of a file in microseconds, little endian.
     ("micro", "d4c3b2a1020004000000000000000000ffff000001000000"),
-    // The header of a file in nanoseconds, with the highest octets first.
+    // The header of a file in nanoseconds, big endian.
     (
         "nano_big",
         "a1b23c4d0002000400000000000000000000ffff00000001",
     ),
-    // A record of a client frame of 14 octets at time 0, with the lowest octets first.
+    // A record of a client frame of 14 octets at time 0, little endian.
     (
         "record",
         "00000000000000000e0000000e000000ffffffffffff0200000000010800",
     ),
-    // Section headers of an unknown length, in both orders.
+    // Section headers of unknown length, in both byte orders.
     (
         "little",
         "0a0d0d0a1c0000004d3c2b1a01000000ffffffffffffffff1c000000",
@@ -30,13 +30,13 @@ const WORDS: [(&str, &str); 16] = [
         "big",
         "0a0d0d0a0000001c1a2b3c4d00010000ffffffffffffffff0000001c",
     ),
-    // An interface of Ethernet without options, so in microseconds, of snap length 262,144; in both orders.
+    // An Ethernet interface without options, so in microseconds, with snap length 262,144; in both byte orders.
     ("ethernet", "0100000014000000010000000000040014000000"),
     ("ethernet_big", "0000000100000014000100000004000000000014"),
     // An interface up to the number of its resolution, and what follows it.
     ("resolution", "010000001c000000010000000000040009000100"),
     ("resolved", "0000001c000000"),
-    // A client frame of 14 octets at time 0, with two octets of padding; and how it is told.
+    // A client frame of 14 octets at time 0, with two octets of padding; and the answer for it.
     (
         "packet",
         "06000000300000000000000000000000000000000e0000000e000000ffffffffffff0200000000010800000030000000",
@@ -47,7 +47,7 @@ const WORDS: [(&str, &str); 16] = [
         "empty",
         "0600000020000000000000000000000000000000000000000000000020000000",
     ),
-    // The header of a file in the format pcap, in nanoseconds; and the lengths and the octets of records there.
+    // The header of a pcap file in nanoseconds; and the lengths and the octets of records in pcap files.
     ("nano", "4d3cb2a1020004000000000000000000ffff000001000000"),
     (
         "whole_record",
@@ -61,10 +61,10 @@ const WORDS: [(&str, &str); 16] = [
     ("end_of_14", "000030000000"),
 ];
 
-/// Words of a file, and words of what is told of it.
+/// The words of a file, and the words of the answers for it.
 pub type Row = (&'static str, &'static str);
 
-/// What a word stands for: itself, if it is no word of the table.
+/// The meaning of a word: itself, unless it is in the table.
 pub fn spelled(word: &str) -> &str {
     for (name, text) in &WORDS {
         if *name == word {
@@ -74,7 +74,7 @@ pub fn spelled(word: &str) -> &str {
     word
 }
 
-/// What a record says, as text.
+/// Appends a record as text.
 fn tell_record(alloc: Global, text: &mut String, record: Record<'_>) -> Result<(), Fail> {
     let (seconds, fraction) = (record.seconds, record.fraction);
     match record.body {
@@ -87,7 +87,7 @@ fn tell_record(alloc: Global, text: &mut String, record: Record<'_>) -> Result<(
     Ok(())
 }
 
-/// What a call of `next` returns, as text; says whether it is a record.
+/// Appends the answer of a call of `next` as text. Returns whether it is a record.
 pub fn tell_answer(
     alloc: Global,
     answer: Result<Option<Record<'_>>, PcapFault>,
@@ -105,7 +105,7 @@ pub fn tell_answer(
     Ok(false)
 }
 
-/// What words stand for, each behind a gap.
+/// The meanings of words, each after a gap.
 fn spelled_out(alloc: Global, words: &str, gap: &str) -> Result<String, AllocError> {
     let mut text = String::new(alloc);
     for word in words.split_whitespace() {
@@ -121,7 +121,7 @@ pub fn octets(alloc: Global, words: &str) -> Result<Vec<u8>, Fail> {
     Ok(hex::decode(alloc, text.as_str())?)
 }
 
-/// What is told of a file is what is wanted; if not, the place of the case is shown.
+/// Checks the text for a file. A failure prints the index of the case.
 pub fn assert_text(
     rt: &impl Abort,
     alloc: Global,
