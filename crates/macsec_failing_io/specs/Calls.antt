@@ -3,7 +3,7 @@ use Rattle.std.specs.Prelude.{ℕ, Bool, false, nat_eq, nat_le}
 use Rattle.macsec_failing_io.specs.declared.Fails.{Fails}
 use Rattle.macsec_failing_io.specs.declared.Fails.TheVariants.{Never, At, From}
 
--- none does; that of this number; or each from this number on
+-- no call, the call of this number, or each call from this number on
 abbrev pub fails_at : Fails → ℕ → Bool
 fails_at Never call = false
 fails_at (At number) call = nat_eq call number

@@ -1,7 +1,7 @@
-//! Readers and writers over memory that fail when they are told to, for tests of those that read and write.
+//! Readers and writers over memory that fail at chosen calls, for tests of code that reads and writes.
 //!
-//! Proved: which calls of a device fail (`Fails::fails_at`): of a reader these and no others, of a writer these and
-//! perhaps others for want of memory; which octets a device has left, or has; what it shows.
+//! Proved: which calls of a device fail (`Fails::fails_at`). Of a reader exactly these fail; of a writer these, and
+//! maybe others if memory runs out. Also proved: which octets a reader has left and a writer has, and what each shows.
 #![tactic(auto)]
 
 mod reader;
@@ -25,7 +25,7 @@ pub enum Fails {
 }
 
 impl Fails {
-    /// Does the call of this number fail?
+    /// Whether the call of this number fails.
     pub fn fails_at(self, call: usize) -> bool
         ensures { result ≡ fails_at self call }
     {

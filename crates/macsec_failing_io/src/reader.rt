@@ -8,8 +8,9 @@ ghost use Rattle.macsec_failing_io.specs.Calls.{fails_at};
 use crate::Fails;
 use std::io::{self, Read};
 
-/// A reader over octets that gives at most so many a call, and one at least. A call that fails does so as one that was
-/// interrupted, and takes nothing. It counts its calls, and those after it failed or had no octets left.
+/// A reader over octets, with a maximum number of octets a call, which is at least one. A failing call returns the
+/// error `Interrupted`, and reads nothing. The reader counts its calls, and the calls after it failed or was at its
+/// end.
 #[derive(Drop)]
 pub struct FailingReader<'a> {
     rest: &'a [u8],
@@ -21,7 +22,7 @@ pub struct FailingReader<'a> {
 }
 
 impl<'a> FailingReader<'a> {
-    /// A reader over these octets, in pieces of this length at most.
+    /// A reader over these octets that returns at most `piece` octets a call.
     pub fn new(octets: &'a [u8], piece: usize, fails: Fails) -> FailingReader<'a>
         ensures rest { result.rest.now ≡ octets.now }
         ensures piece { result.piece ≡ piece }
@@ -40,14 +41,14 @@ impl<'a> FailingReader<'a> {
         }
     }
 
-    /// How often it was called.
+    /// The number of calls.
     pub fn calls(&self) -> usize
         ensures { result ≡ self.now.calls }
     {
         self.calls
     }
 
-    /// How often it was called after it failed or gave nothing.
+    /// The number of calls after it failed or was at its end.
     pub fn calls_after(&self) -> usize
         ensures { result ≡ self.now.calls_after }
     {

@@ -9,7 +9,7 @@ use crate::Fails;
 use std::alloc::Global;
 use std::io::{self, Write};
 
-/// A writer into memory, whose flush can fail too. It counts its calls, those after it failed, and its flushes.
+/// A writer to memory, whose flush can fail too. It counts its calls, the calls after it failed, and its flushes.
 #[derive(Drop)]
 pub struct FailingWriter {
     written: Vec<u8>,
@@ -50,21 +50,21 @@ impl FailingWriter {
         self.written.as_slice()
     }
 
-    /// How often it was written to.
+    /// The number of writes.
     pub fn calls(&self) -> usize
         ensures { result ≡ self.now.calls }
     {
         self.calls
     }
 
-    /// How often it was written to after it failed.
+    /// The number of writes after it failed.
     pub fn calls_after(&self) -> usize
         ensures { result ≡ self.now.calls_after }
     {
         self.calls_after
     }
 
-    /// How often it was flushed.
+    /// The number of flushes.
     pub fn flushes(&self) -> usize
         ensures { result ≡ self.now.flushes }
     {

@@ -1,4 +1,4 @@
--- What is read is taken from the front of the rest; these proofs are here for speed.
+-- What is read is a prefix of the rest. These proofs are here for speed.
 use Rattle.std.proofs.Common.{arith}
 use Rattle.std.proofs.lemmas.Grind.{common_steps}
 use Rattle.macsec_failing_io.proofs.reader.FailingReaderRead.read.Goals as goal
