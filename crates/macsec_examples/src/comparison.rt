@@ -5,7 +5,7 @@ ghost use Rattle.std.specs.List.{common_prefix_len};
 
 const LINE_FEED: u8 = b'\n';
 
-/// The number of the first line, from 1, in which a text is not the expected one; `None` if they are the same.
+/// The number of the first line, from 1, in which a text differs from the expected one; `None` if they are the same.
 pub fn differing_line(text: &[u8], wanted: &[u8]) -> Option<usize>
     ensures same { IsNone result ↔ (text.now ≡ wanted.now) }
     ensures first { IfSome result (λ line. line ≡ 1 + count_by (λ octet. octet == LINE_FEED) (take (common_prefix_len nat_eq text.now wanted.now) text.now)) }
@@ -16,7 +16,7 @@ pub fn differing_line(text: &[u8], wanted: &[u8]) -> Option<usize>
     Some(1 + line_feed_count(&text[..common_len(text, wanted)]))
 }
 
-/// How many octets from the front on are the same in both texts.
+/// The length in octets of the longest common prefix.
 fn common_len(text: &[u8], wanted: &[u8]) -> usize
     ensures { result ≡ common_prefix_len nat_eq text.now wanted.now }
 {
@@ -30,7 +30,7 @@ fn common_len(text: &[u8], wanted: &[u8]) -> usize
     same
 }
 
-/// How many lines of a text end.
+/// The number of line feeds in a text.
 fn line_feed_count(text: &[u8]) -> usize
     ensures { result ≡ count_by (λ octet. octet == LINE_FEED) text.now }
 {

@@ -1,7 +1,7 @@
-//! Runs each script of `data/`, and compares what it prints with the text that stands beside it.
+//! Runs each script of `data/`, and compares what it prints with the text beside it.
 //!
-//! Proved: `differing_line` returns `None` exactly if two texts are the same, and else the number of the line of the
-//! first octet in which they differ. That `main` compares each text no clause says.
+//! Proved: `differing_line` returns `None` exactly if two texts are the same, else the number of the line with the
+//! first octet that differs. No clause says that `main` compares each text.
 #![tactic(auto)]
 
 mod comparison;
@@ -89,7 +89,7 @@ fn main(rt: HostRuntime) -> anyhow::Result<ExitCode> {
     Ok(status)
 }
 
-/// The first line in which what a script prints is not what stands beside it, if there is one.
+/// The first line in which what a script prints differs from the text beside it, if any.
 fn differing_line_of(rt: &HostRuntime, name: &str) -> anyhow::Result<Option<usize>> {
     let script = format!(in rt.alloc(); "{name}.macsec")?;
     let text = format!(in rt.alloc(); "{name}.txt")?;

@@ -5,7 +5,7 @@ use Rattle.std.specs.Slice.Iter.{iter_rest}
 use Rattle.std.specs.Iterator.Adapters.{zip_first, zip_second}
 use Rattle.macsec_examples.proofs.comparison.common_len.Goals as goal
 
--- one of the texts is at its end, so no further octet is the same
+-- one of the texts is at its end, so the common prefix ends here
 pub returns : goal.returns
 returns c =
     let text = c.args.text.now in

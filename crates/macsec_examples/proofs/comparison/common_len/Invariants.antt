@@ -2,7 +2,7 @@ use Rattle.std.proofs.Common.{◌≡◌, ◌+◌, drop, length, nat_eq}
 use Rattle.std.specs.List.{common_prefix_len}
 use Rattle.macsec_examples.proofs.comparison.common_len.Given as goal
 
--- the octets so far are the same, and those that are left are compared with one another
+-- the octets so far are the same, and the remaining octets are still to be compared
 abbrev pub invariant-loop-octet : goal.invariant-loop-octet
 invariant-loop-octet l =
     (l.same ≡ length l.yielded)
