@@ -1,10 +1,10 @@
-//! The calls by their names.
+//! The calls and their names.
 
 use crate::{captures, endpoints, scripts, worlds};
 use macsec_script::ScriptFault;
 
-/// Makes the call of this name on a text, after so many allocations, and prints what came of it. Returns `None` if there
-/// is no such call, and a fault if the text is none for it or can't be printed.
+/// Makes the call of this name on a text, after this many allocations, and prints its result. Returns `None` if there
+/// is no such call, and a fault if the text is invalid for it or the result can't be printed.
 pub fn report(
     rt: &HostRuntime,
     name: &str,

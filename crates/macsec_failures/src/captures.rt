@@ -1,4 +1,4 @@
-//! Capture files.
+//! The calls on capture files.
 
 use crate::room::{fill, one, write_answer};
 use macsec_capture::{CaptureFault, Direction, run_capture};
@@ -9,7 +9,7 @@ use macsec_script_printer::write_fault;
 use std::alloc::Global;
 use std::io::Write;
 
-/// The most octets of what a capture writes, to its output and as its text.
+/// The maximum number of octets that a run writes to its output, and to its text.
 const ROOM: usize = 65_536;
 
 /// The header of a capture file.
@@ -23,7 +23,7 @@ const RECORD: [u8; 30] = [
     0, 0, 1, 8, 0,
 ];
 
-/// A section header of a file in the format pcapng.
+/// A section header of a pcapng file.
 const SECTION: [u8; 28] = [
     0x0a, 0x0d, 0x0d, 0x0a, 28, 0, 0, 0, 0x4d, 0x3c, 0x2b, 0x1a, 1, 0, 0, 0, 0xff, 0xff, 0xff,
     0xff, 0xff, 0xff, 0xff, 0xff, 28, 0, 0, 0,
@@ -49,7 +49,7 @@ pub fn pcapng_reader<W: Write>(
     write_answer(writer, filled, answer_of(&reader), after)
 }
 
-/// `CaptureReader::new`, of a file in the format of this name.
+/// `CaptureReader::new`, on a file in the format of this name.
 pub fn capture_reader<W: Write>(
     alloc: Global,
     before: u32,
@@ -66,7 +66,7 @@ pub fn capture_reader<W: Write>(
     write_answer(writer, filled, answer_of(&reader), after)
 }
 
-/// What the making of a reader answers.
+/// The answer of creating a reader.
 fn answer_of<T>(made: &Result<T, PcapFault>) -> &'static str {
     match made {
         Ok(_) => "done",
@@ -74,7 +74,7 @@ fn answer_of<T>(made: &Result<T, PcapFault>) -> &'static str {
     }
 }
 
-/// A capture file of that record, three times.
+/// A capture file with that record three times.
 fn capture_file() -> [u8; 114] {
     let mut file = [0; 114];
     file[..24].copy_from_slice(&HEADER);
@@ -84,7 +84,7 @@ fn capture_file() -> [u8; 114] {
     file
 }
 
-/// `run_capture` on that file, with this text as the configuration; its text, and its output.
+/// `run_capture` on that file, with this text as the configuration. Prints the run's text and output.
 pub fn run<W: Write>(
     alloc: Global,
     before: u32,
@@ -105,7 +105,7 @@ pub fn run<W: Write>(
     write_outputs(writer, output.as_slice(), printed.as_slice())
 }
 
-/// `run_capture`, of this configuration and this file.
+/// `run_capture` with this configuration and this file.
 fn protect(
     alloc: Global,
     mut text: &[u8],
@@ -123,7 +123,7 @@ fn protect(
     )
 }
 
-/// What a run answers.
+/// The answer of a run.
 fn answer_of_run(ended: &Result<(), CaptureFault>) -> &'static str {
     match ended {
         Ok(()) => "done",

@@ -6,7 +6,7 @@ use macsec_script::ScriptFault;
 use macsec_script_printer::{Label, print_counters, write_fault};
 use std::io::{self, Write};
 
-/// Enough octets for the counters of the endpoints here. Where a text is longer the answer is `Write`.
+/// Enough octets for the counters of the endpoints here. A longer text gives `Write`.
 const COUNTERS_ROOM: usize = 8_192;
 
 /// Writes the counters of an endpoint that are not 0.

@@ -1,4 +1,4 @@
-//! Key tables and endpoints.
+//! The calls on key tables and endpoints.
 
 use crate::counted::write_counters;
 use crate::room::{fill, one, write_answer};
@@ -10,13 +10,13 @@ use macsec_suite::KeyTable;
 use std::alloc::Global;
 use std::io::Write;
 
-/// How often the events of a script are gone through in a long run.
+/// How often a long run repeats the events of a script.
 const ROUND_COUNT: u32 = 10_000;
 
-/// The most octets that are kept of a link frame.
+/// The length in octets of the longest link frame that is kept.
 const ROOM: usize = 256;
 
-/// Two endpoints that can be made.
+/// Valid configurations of two endpoints.
 pub const A: EndConfig = EndConfig {
     suite: Suite::Gcm128,
     sci: Sci([0x12, 0x15, 0x35, 0x24, 0xc0, 0x89, 0x5e, 0x81]),
@@ -57,8 +57,8 @@ pub fn fault_name(fault: Option<NewFault>) -> &'static str {
     }
 }
 
-/// The calls of two endpoints: the events of a script, again and again; and the counters of both that are not 0 then. A
-/// delivery is one of the frame that was sent last.
+/// The calls of two endpoints: repeats the events of a script, and prints the counters of both that are not 0. Each
+/// delivery is of the frame that was sent last.
 pub fn turns<W: Write>(
     alloc: Global,
     before: u32,
@@ -69,7 +69,7 @@ pub fn turns<W: Write>(
     turns_of(alloc, before, lines.as_slice(), writer)
 }
 
-/// The same of these lines.
+/// The same for these lines.
 fn turns_of<W: Write>(
     alloc: Global,
     before: u32,
@@ -81,7 +81,7 @@ fn turns_of<W: Write>(
     write_turns(alloc, before, &mut a, &mut b, lines, writer)
 }
 
-/// A new endpoint.
+/// Creates an endpoint.
 fn endpoint(alloc: Global, config: EndConfig) -> Result<Secy, ScriptFault> {
     match Secy::new(alloc, config) {
         Ok(endpoint) => Ok(endpoint),
@@ -89,7 +89,7 @@ fn endpoint(alloc: Global, config: EndConfig) -> Result<Secy, ScriptFault> {
     }
 }
 
-/// The same of these endpoints.
+/// The same for these endpoints.
 fn write_turns<W: Write>(
     alloc: Global,
     before: u32,
@@ -145,7 +145,7 @@ impl LastSent {
         }
     }
 
-    /// Keeps a copy of a frame, if it has room for it.
+    /// Keeps a copy of a frame, if the frame fits.
     fn keep(&mut self, frame: &[u8]) {
         if frame.len() <= ROOM {
             self.octets[..frame.len()].copy_from_slice(frame);
@@ -154,7 +154,7 @@ impl LastSent {
     }
 }
 
-/// One event at an endpoint.
+/// Carries out one event at an endpoint.
 fn turn(secy: &mut Secy, last: &mut LastSent, event: &Event) {
     match event {
         Event::Command(_, command) => order(secy, command),
@@ -184,7 +184,7 @@ fn receive(secy: &mut Secy, frame: &[u8]) {
     let _ = secy.receive(frame);
 }
 
-/// The end of an event, if it has one.
+/// The end at which an event happens, if it has one.
 fn end_of(event: &Event) -> Option<End> {
     match event {
         Event::Command(end, _)

@@ -1,10 +1,10 @@
-//! The program `macsec_failures`: makes a call that allocates, of which one allocation may be refused, and prints the
+//! The program `macsec_failures`: makes a call that allocates, one of whose allocations may be refused, and prints the
 //! result of the call and the state after it.
 //!
 //! The arguments are the name of the call and a number; standard input is the text that the call works on. The program
-//! first makes that many allocations and frees them. Where the toolchain refuses the N-th allocation of a process, the
-//! number so chooses which allocation of the call is refused: with one allocation less before the call, the refused one
-//! comes one later in it. After the call the program makes one more allocation. If that is the refused one, the call
+//! first makes that many allocations and frees them. If the toolchain refuses the N-th allocation of a process, the
+//! number chooses which allocation of the call is refused: with one allocation less before the call, the refused one
+//! comes one later in the call. After the call the program makes one more allocation. If that one is refused, the call
 //! made fewer.
 #![tactic(auto)]
 

@@ -5,7 +5,8 @@ use macsec_script_printer::write_fault;
 use std::alloc::{AllocError, Global};
 use std::io::Write;
 
-/// Makes so many allocations, and gives each back; ends at the first that is refused. Returns how many were not refused.
+/// Makes up to `count` allocations, and frees each at once. Stops at the first that is refused. Returns how many were
+/// granted.
 pub fn fill(alloc: Global, count: u32) -> u32 {
     for done in 0..count {
         if one(alloc).is_err() {
@@ -15,13 +16,13 @@ pub fn fill(alloc: Global, count: u32) -> u32 {
     count
 }
 
-/// Makes an allocation, and gives it back.
+/// Makes an allocation, and frees it.
 pub fn one(alloc: Global) -> Result<(), AllocError> {
     let _room: Vec<u8> = Vec::with_capacity(alloc, 1)?;
     Ok(())
 }
 
-/// Writes how many allocations were made before a call, what it answered, and whether the allocation after it was refused.
+/// Writes the number of allocations before a call, the call's answer, and whether the allocation after it was refused.
 pub fn write_answer<W: Write>(
     writer: &mut W,
     filled: u32,

@@ -1,4 +1,4 @@
-//! Lines, scripts and configurations.
+//! The calls on lines, scripts and configurations.
 
 use crate::room::{fill, one, write_answer};
 use macsec_script::{LineFault, ScriptFault, parse_config, parse_line, parse_script, run_script};
@@ -6,7 +6,7 @@ use macsec_script_printer::write_fault;
 use std::alloc::Global;
 use std::io::Write;
 
-/// The most octets of what a script prints.
+/// The maximum number of octets that a script prints.
 const TEXT_ROOM: usize = 65_536;
 
 /// `parse_line`, on the text up to its last line feed.
@@ -54,7 +54,7 @@ pub fn config<W: Write>(
     write_answer(writer, filled, script_answer(lines.err()), after)
 }
 
-/// `run_script`, and what it prints.
+/// `run_script`. Prints what the script prints.
 pub fn run<W: Write>(
     alloc: Global,
     before: u32,

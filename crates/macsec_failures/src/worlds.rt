@@ -1,4 +1,4 @@
-//! Worlds.
+//! The calls on worlds.
 
 use crate::counted::write_counters;
 use crate::endpoints::{A, B};
@@ -12,7 +12,7 @@ use std::alloc::{AllocError, Global};
 use std::fmt;
 use std::io::Write;
 
-/// The most link frames and the most delivery logs that are written.
+/// The maximum number of link frames, and of delivery logs, that are printed.
 const MOST: u32 = 65_536;
 
 /// `World::new`.
@@ -23,7 +23,7 @@ pub fn world<W: Write>(alloc: Global, before: u32, writer: &mut W) -> Result<(),
     write_answer(writer, filled, answer(&world), after)
 }
 
-/// The name of a world's fault, as far as it is told apart here.
+/// The name of a world's fault, as far as it is distinguished here.
 fn fault_name(fault: WorldFault) -> &'static str {
     match fault {
         WorldFault::Memory => "Memory",
@@ -31,7 +31,7 @@ fn fault_name(fault: WorldFault) -> &'static str {
     }
 }
 
-/// What a script has: the two ends, and the events after them.
+/// The contents of a script: the two ends, and the events after them.
 #[derive(Drop)]
 struct Case {
     a: EndConfig,
@@ -48,7 +48,7 @@ fn case_of(alloc: Global, text: &[u8]) -> Result<Case, ScriptFault> {
     Ok(Case { a, b, events })
 }
 
-/// What a script says of an end, or this if it says nothing.
+/// The configuration of an end in a script, or this one if the script has none.
 fn config_of(lines: &[(u32, Line)], wanted: End, or: EndConfig) -> EndConfig {
     for (_, line) in lines {
         if let Line::End(end, config) = line
@@ -79,8 +79,8 @@ fn add_event(events: &mut Vec<Event>, line: Line) -> Result<(), AllocError> {
     Ok(())
 }
 
-/// `World::step` with the last event of a script, in the world after the others: what stands before it and after it, and what
-/// the same event answers then and what stands after that.
+/// `World::step` with the last event of a script, in the world after the others. Prints the world before the event, and
+/// the outcome and the world after it. Then repeats the event, and prints its outcome and the world after it.
 pub fn step<W: Write>(
     alloc: Global,
     before: u32,
@@ -91,7 +91,7 @@ pub fn step<W: Write>(
     step_of(alloc, before, &case, writer)
 }
 
-/// The same of a case.
+/// The same for a case.
 fn step_of<W: Write>(
     alloc: Global,
     before: u32,
@@ -106,7 +106,7 @@ fn step_of<W: Write>(
     write_steps(alloc, before, &mut world, last, writer)
 }
 
-/// The same with this event, in this world.
+/// The same for this event in this world.
 fn write_steps<W: Write>(
     alloc: Global,
     before: u32,
@@ -119,7 +119,7 @@ fn write_steps<W: Write>(
     write_step(world, last, writer)
 }
 
-/// A world of these ends.
+/// Creates a world of these ends.
 fn world_of(alloc: Global, a: EndConfig, b: EndConfig) -> Result<World, ScriptFault> {
     match World::new(alloc, a, b) {
         Ok(world) => Ok(world),
@@ -127,7 +127,7 @@ fn world_of(alloc: Global, a: EndConfig, b: EndConfig) -> Result<World, ScriptFa
     }
 }
 
-/// What comes of an event.
+/// Carries out an event.
 fn outcome_of(world: &mut World, event: &Event) -> Result<Outcome, WorldFault> {
     world.step(event)
 }
@@ -139,7 +139,7 @@ fn go_through(world: &mut World, events: &[Event]) {
     }
 }
 
-/// An event of which an allocation may be refused: whether it happened, and what stands after it.
+/// Carries out an event, one of whose allocations may be refused. Prints its outcome and the world after it.
 fn step_refused<W: Write>(
     alloc: Global,
     before: u32,
@@ -154,7 +154,7 @@ fn step_refused<W: Write>(
     write_after(writer, &outcome, world)
 }
 
-/// An event, and what stands after it.
+/// Carries out an event. Prints its outcome and the world after it.
 fn write_step<W: Write>(
     world: &mut World,
     event: &Event,
@@ -164,7 +164,7 @@ fn write_step<W: Write>(
     write_after(writer, &outcome, world)
 }
 
-/// Writes what came of an event, and what stands after it.
+/// Prints the outcome of an event and the world after it.
 fn write_after<W: Write>(
     writer: &mut W,
     outcome: &Result<Outcome, WorldFault>,
@@ -174,7 +174,7 @@ fn write_after<W: Write>(
     write_world(writer, world)
 }
 
-/// `World::run` with the events of a script: the outcomes, and what stands after them.
+/// `World::run` with the events of a script. Prints the outcomes and the world after them.
 pub fn run<W: Write>(
     alloc: Global,
     before: u32,
@@ -198,7 +198,7 @@ fn run_case<W: Write>(
     write_run(writer, filled, &report, after)
 }
 
-/// Writes what came of a run.
+/// Prints the result of a run.
 fn write_run<W: Write>(
     writer: &mut W,
     filled: u32,
@@ -222,7 +222,7 @@ fn run_events(
     World::run(alloc, a, b, events)
 }
 
-/// Writes the outcomes of a run, and what stands after them.
+/// Prints the outcomes of a run and the world after them.
 fn write_report<W: Write>(writer: &mut W, report: &Report) -> Result<(), ScriptFault> {
     for outcome in &report.results {
         write_outcome(writer, outcome)?;
@@ -230,7 +230,7 @@ fn write_report<W: Write>(writer: &mut W, report: &Report) -> Result<(), ScriptF
     write_world(writer, &report.world)
 }
 
-/// Whether a call ended well.
+/// The answer of a call: `done` or the name of its fault.
 fn answer<T>(made: &Result<T, WorldFault>) -> &'static str {
     match made {
         Ok(_) => "done",
@@ -238,7 +238,7 @@ fn answer<T>(made: &Result<T, WorldFault>) -> &'static str {
     }
 }
 
-/// Writes what came of an event in a line.
+/// Prints the outcome of an event on one line.
 fn write_outcome<W: Write>(
     writer: &mut W,
     outcome: &Result<Outcome, WorldFault>,
@@ -274,7 +274,7 @@ fn write_heard<W: Write>(
     write_fault(writeln!(writer, "outcome {verdict} {delivered}"))
 }
 
-/// Writes all that callers see of a world.
+/// Prints everything that callers can see of a world.
 fn write_world<W: Write>(writer: &mut W, world: &World) -> Result<(), ScriptFault> {
     write_fault(writeln!(writer, "stands"))?;
     for end in [End::A, End::B] {
@@ -285,7 +285,7 @@ fn write_world<W: Write>(writer: &mut W, world: &World) -> Result<(), ScriptFaul
     write_link(writer, world)
 }
 
-/// Writes the options, the counters that are not 0, and the packet numbers of an endpoint.
+/// Prints the options, the counters that are not 0, and the packet numbers of an endpoint.
 fn write_endpoint<W: Write>(writer: &mut W, endpoint: &Secy) -> Result<(), ScriptFault> {
     let options = endpoint.options();
     write_fault(writeln!(writer, "{options:?}"))?;
@@ -293,7 +293,7 @@ fn write_endpoint<W: Write>(writer: &mut W, endpoint: &Secy) -> Result<(), Scrip
     print_numbers(writer, 0, endpoint)
 }
 
-/// Writes the frames on the link.
+/// Prints the frames on the link.
 fn write_link<W: Write>(writer: &mut W, world: &World) -> Result<(), ScriptFault> {
     for n in 0..MOST {
         let Some(frame) = world.frame(n) else {
@@ -304,7 +304,7 @@ fn write_link<W: Write>(writer: &mut W, world: &World) -> Result<(), ScriptFault
     Ok(())
 }
 
-/// Writes what an end sent.
+/// Prints what an end sent.
 fn write_sent<W: Write>(writer: &mut W, world: &World, end: End) -> Result<(), ScriptFault> {
     for n in 0..4096 {
         let key = KeyNumber::new(n).unwrap();
@@ -313,7 +313,7 @@ fn write_sent<W: Write>(writer: &mut W, world: &World, end: End) -> Result<(), S
     Ok(())
 }
 
-/// Writes what an end sent under the key of a number.
+/// Prints what an end sent under the key of this number.
 fn write_frames<W: Write>(writer: &mut W, n: u16, frames: &[Vec<u8>]) -> Result<(), ScriptFault> {
     for frame in frames {
         let octets = frame.as_slice();
@@ -322,7 +322,7 @@ fn write_frames<W: Write>(writer: &mut W, n: u16, frames: &[Vec<u8>]) -> Result<
     Ok(())
 }
 
-/// Writes what was delivered to an end.
+/// Prints what was delivered to an end.
 fn write_delivered<W: Write>(writer: &mut W, world: &World, end: End) -> Result<(), ScriptFault> {
     for number in 0..MOST as usize {
         let Some(frames) = world.delivered(end, number) else {
