@@ -1,4 +1,4 @@
-//! Octets per second of AES, of GHASH and of sealing, each block by block and in lanes.
+//! Octets per second of AES, GHASH and sealing, each block by block and in lanes.
 
 use crate::plain::PlainKey;
 use macsec_aes::{Key, Schedule, encrypt};
@@ -10,17 +10,17 @@ use std::io;
 use std::num::saturating_f64_to_u64;
 use std::time::{Duration, Instant};
 
-/// A text that is processed again and again: its number of octets, and how often.
+/// A text that is processed repeatedly: its length in octets, and how often.
 #[derive(Clone, Copy)]
 struct Work {
     length: u16,
     turns: u32,
 }
 
-/// The number of octets of the longest text.
+/// The length in octets of the longest text.
 const MAX_LENGTH: usize = 9_216;
 
-/// Short, usual and longest frames: some four million octets of each.
+/// Short, usual and longest frames: about four million octets of each.
 const WORKS: [Work; 3] = [
     Work {
         length: 64,
@@ -40,7 +40,7 @@ const KEY: Key = Key::K128([0x2b; 16]);
 
 const SUBKEY: Block = Block(0x66e9_4bd4_ef8a_2c3b_884c_fa59_ca34_2b2e);
 
-/// How long a measured function took, and an octet of its result, so that the result is computed.
+/// The time of a measured function, and an octet of its result, so that the result has to be computed.
 type Measured = (Duration, u8);
 
 /// A measured function.
@@ -54,7 +54,7 @@ enum Function {
     Seal,
 }
 
-/// The functions, in the order in which they are measured.
+/// The functions, in the order of measurement.
 const FUNCTIONS: [Function; 6] = [
     Function::Encrypt,
     Function::Encrypt16,
@@ -65,7 +65,7 @@ const FUNCTIONS: [Function; 6] = [
 ];
 
 impl Function {
-    /// Its name.
+    /// The name of the function.
     fn name(self) -> &'static str {
         match self {
             Function::Encrypt => "encrypt",
@@ -77,7 +77,7 @@ impl Function {
         }
     }
 
-    /// Does it so often. Returns an octet of the result.
+    /// Runs the function as often as `work` says. Returns an octet of the result.
     fn run(self, keys: &Keys, work: Work) -> u8 {
         match self {
             Function::Encrypt => encrypted(&keys.schedule, work),
@@ -120,14 +120,14 @@ fn report_works(rt: &HostRuntime, keys: &Keys) -> io::Result<()> {
     Ok(())
 }
 
-/// How long it takes to do it so often.
+/// The time of a function for this work.
 fn time(rt: &HostRuntime, function: Function, keys: &Keys, work: Work) -> io::Result<Measured> {
     let start = Instant::now(rt)?;
     let last = function.run(keys, work);
     Ok((start.elapsed(rt)?, last))
 }
 
-/// Prints a line of what was measured.
+/// Prints the line of a measurement.
 fn line(rt: &HostRuntime, name: &str, work: Work, measured: Measured) -> io::Result<()> {
     let (took, last) = measured;
     let length = work.length;
@@ -136,7 +136,7 @@ fn line(rt: &HostRuntime, name: &str, work: Work, measured: Measured) -> io::Res
     println!(rt; "{name} {length} {rate} octets per second, last octet {last:02x}")
 }
 
-/// Encrypts blocks one after another, each the result of the one before.
+/// Encrypts blocks one after another. Each is the result of the one before.
 fn encrypted(schedule: &Schedule, work: Work) -> u8 {
     let mut block = [0; 16];
     for _ in 0..work.turns {
@@ -147,7 +147,7 @@ fn encrypted(schedule: &Schedule, work: Work) -> u8 {
     block[0]
 }
 
-/// Encrypts as many blocks, sixteen at a time, each the result of the one before.
+/// Encrypts as many blocks, sixteen at a time. Each is the result of a block of the sixteen before.
 fn encrypted16(schedule: &LaneSchedule, work: Work) -> u8 {
     let mut blocks = [[0; 16]; 16];
     for _ in 0..work.turns.div_ceil(16) {
@@ -158,7 +158,7 @@ fn encrypted16(schedule: &LaneSchedule, work: Work) -> u8 {
     blocks[0][0]
 }
 
-/// Hashes the same text again and again.
+/// Hashes the same text repeatedly.
 fn hashed<H: Hash128 + Drop>(work: Work) -> u8 {
     let text = [0x5a; MAX_LENGTH];
     let length = MAX_LENGTH.min(usize::from(work.length));
@@ -169,7 +169,7 @@ fn hashed<H: Hash128 + Drop>(work: Work) -> u8 {
     hash.value().0.to_be_bytes()[0]
 }
 
-/// Seals a text in place again and again, block by block.
+/// Seals a text in place repeatedly, block by block.
 fn plainly_sealed(key: &PlainKey, work: Work) -> u8 {
     let mut text = [0x5a; MAX_LENGTH];
     let length = MAX_LENGTH.min(usize::from(work.length));
@@ -180,7 +180,7 @@ fn plainly_sealed(key: &PlainKey, work: Work) -> u8 {
     last
 }
 
-/// Seals a text in place again and again.
+/// Seals a text in place repeatedly.
 fn sealed(key: &GcmKey, work: Work) -> u8 {
     let mut text = [0x5a; MAX_LENGTH];
     let length = MAX_LENGTH.min(usize::from(work.length));

@@ -8,10 +8,10 @@ use std::alloc::Global;
 use std::num::saturating_f64_to_u64;
 use std::time::{Duration, Instant};
 
-/// The numbers of octets of a frame's data that are measured.
+/// The measured lengths of a frame's data, in octets.
 const DATA_LENGTHS: [u16; 3] = [64, 512, 1_500];
 
-/// How often a frame is sent or received in a round, and the number of rounds, of which the fastest counts.
+/// How often a frame is sent or received in a round, and the number of rounds. The fastest round counts.
 const TURN_COUNT: u32 = 1_024;
 
 const ROUND_COUNT: u32 = 16;
@@ -22,7 +22,7 @@ const SENDER: Sci = Sci([2, 0, 0, 0, 0, 1, 0, 1]);
 
 const RECEIVER: Sci = Sci([2, 0, 0, 0, 0, 2, 0, 1]);
 
-/// What an endpoint does with a frame, again and again.
+/// What an endpoint does with a frame repeatedly.
 #[derive(Clone, Copy)]
 enum Work {
     Send,
@@ -30,7 +30,7 @@ enum Work {
 }
 
 impl Work {
-    /// Its name on the command line, and that of the endpoint's call.
+    /// The name on the command line, which is also the name of the endpoint's call.
     fn name(self) -> &'static str {
         match self {
             Work::Send => "send",
@@ -38,7 +38,7 @@ impl Work {
         }
     }
 
-    /// What becomes of the frame each time.
+    /// What happens to the frame each time.
     fn result(self) -> &'static str {
         match self {
             Work::Send => "sent",
@@ -46,7 +46,7 @@ impl Work {
         }
     }
 
-    /// A new endpoint that does it.
+    /// Creates an endpoint for this work.
     fn endpoint(self, alloc: Global, an: An) -> anyhow::Result<Secy> {
         match self {
             Work::Send => sender(alloc, an),
@@ -54,7 +54,7 @@ impl Work {
         }
     }
 
-    /// A frame with so many octets of data with which it is done.
+    /// The frame for this work, with `data_length` octets of data.
     fn frame(self, alloc: Global, an: An, data_length: u16) -> anyhow::Result<Vec<u8>> {
         match self {
             Work::Send => client_frame(alloc, data_length),
@@ -62,7 +62,7 @@ impl Work {
         }
     }
 
-    /// Does the endpoint send or pass the frame?
+    /// Sends or receives the frame. Returns whether it was sent or passed.
     fn is_done(self, secy: &mut Secy, frame: &[u8]) -> anyhow::Result<bool> {
         match self {
             Work::Send => is_sent(secy, frame),
@@ -70,7 +70,7 @@ impl Work {
         }
     }
 
-    /// Does it so each of so many times?
+    /// Sends or receives the frame `turns` times. Returns whether it was sent or passed each time.
     fn is_always_done(self, secy: &mut Secy, frame: &[u8], turns: u32) -> anyhow::Result<bool> {
         let mut all_done = true;
         for _ in 0..turns {
@@ -80,13 +80,13 @@ impl Work {
     }
 }
 
-/// Has an endpoint carry a command out.
+/// Carries out a command at an endpoint.
 fn order(secy: &mut Secy, command: &Command) -> anyhow::Result<()> {
     secy.command(command)?;
     Ok(())
 }
 
-/// Has an endpoint carry commands out.
+/// Carries out commands at an endpoint.
 fn order_all(secy: &mut Secy, commands: &[Command]) -> anyhow::Result<()> {
     for command in commands {
         order(secy, command)?;
@@ -94,7 +94,7 @@ fn order_all(secy: &mut Secy, commands: &[Command]) -> anyhow::Result<()> {
     Ok(())
 }
 
-/// A new key of this number and these bytes.
+/// The command that installs a key with this number and these bytes.
 fn new_key(number: KeyNumber, bytes: [u8; 16]) -> Command {
     Command::Key(NewKey {
         number,
@@ -111,7 +111,7 @@ fn key_number() -> KeyNumber {
     KeyNumber::new(0).unwrap()
 }
 
-/// An endpoint of this SCI without keys, whose frames may be as long as any.
+/// An endpoint with this SCI, without keys, and with the longest possible maximum frame.
 fn endpoint(alloc: Global, sci: Sci) -> anyhow::Result<Secy> {
     let secy = Secy::new(
         alloc,
@@ -125,14 +125,14 @@ fn endpoint(alloc: Global, sci: Sci) -> anyhow::Result<Secy> {
     Ok(secy)
 }
 
-/// An endpoint of this SCI that has carried out these commands.
+/// An endpoint with this SCI that has carried out these commands.
 fn ready_endpoint(alloc: Global, sci: Sci, commands: &[Command]) -> anyhow::Result<Secy> {
     let mut secy = endpoint(alloc, sci)?;
     order_all(&mut secy, commands)?;
     Ok(secy)
 }
 
-/// An endpoint that sends encrypted.
+/// An endpoint that encrypts what it sends.
 fn sender(alloc: Global, an: An) -> anyhow::Result<Secy> {
     let key = key_number();
     let commands = [
@@ -148,7 +148,7 @@ fn sender(alloc: Global, an: An) -> anyhow::Result<Secy> {
     ready_endpoint(alloc, SENDER, &commands)
 }
 
-/// An endpoint that receives what that one sends, and takes a packet number again and again.
+/// An endpoint that receives what the sender sends, and accepts the same packet number repeatedly.
 pub fn receiver(alloc: Global, an: An) -> anyhow::Result<Secy> {
     let key = key_number();
     let commands = [
@@ -170,7 +170,7 @@ pub fn receiver(alloc: Global, an: An) -> anyhow::Result<Secy> {
     ready_endpoint(alloc, RECEIVER, &commands)
 }
 
-/// A client frame of so many octets of data, behind DA and SA.
+/// A client frame with `data_length` octets of data after DA and SA.
 fn client_frame(alloc: Global, data_length: u16) -> anyhow::Result<Vec<u8>> {
     let frame = vec![in alloc; 0x5a; 12 + usize::from(data_length)]?;
     Ok(frame)
@@ -185,39 +185,39 @@ fn sent_frame(alloc: Global, secy: &mut Secy, frame: &[u8]) -> anyhow::Result<Ve
     Ok(sent)
 }
 
-/// A client frame of so many octets of data as an endpoint sends it.
+/// The link frame of a client frame with `data_length` octets of data.
 pub fn link_frame(alloc: Global, an: An, data_length: u16) -> anyhow::Result<Vec<u8>> {
     let client = client_frame(alloc, data_length)?;
     sent_frame(alloc, &mut sender(alloc, an)?, client.as_slice())
 }
 
-/// Does an endpoint send a frame?
+/// Sends a frame. Returns whether a link frame was sent.
 fn is_sent(secy: &mut Secy, frame: &[u8]) -> anyhow::Result<bool> {
     Ok(matches!(secy.send(frame)?, Sent::Link { .. }))
 }
 
-/// Does an endpoint pass a frame?
+/// Receives a frame. Returns whether it was passed.
 fn is_passed(secy: &mut Secy, frame: &[u8]) -> anyhow::Result<bool> {
     Ok(secy.receive(frame)?.verdict == Verdict::Passed)
 }
 
-/// Does an endpoint pass a frame each time that it is received, so many times?
+/// Receives a frame `turns` times. Returns whether it was passed each time.
 pub fn is_always_passed(secy: &mut Secy, frame: &[u8], turns: u32) -> anyhow::Result<bool> {
     Work::Receive.is_always_done(secy, frame, turns)
 }
 
-/// How many times a second something is done that was done so many times.
+/// The rate per second of `count` turns in this time.
 fn rate(count: u32, took: Duration) -> u64 {
     saturating_f64_to_u64(f64::from(count) / took.as_secs_f64())
 }
 
-/// The number in a word.
+/// Parses a number.
 fn number_in(word: &str) -> anyhow::Result<u16> {
     word.parse::<u16>()
         .context(format_args!("the number {word}"))
 }
 
-/// Sends a frame with so many octets of data so many times, or receives its link frame.
+/// Sends a frame of this data length this many times, or receives its link frame as often.
 pub fn repeat(rt: &HostRuntime, what: &str, length: &str, count: &str) -> anyhow::Result<()> {
     let (length, turns) = (number_in(length)?, u32::from(number_in(count)?));
     let is_right = match what {
@@ -229,14 +229,14 @@ pub fn repeat(rt: &HostRuntime, what: &str, length: &str, count: &str) -> anyhow
     Ok(())
 }
 
-/// Is a new frame with so many octets of data sent or passed by a new endpoint each of so many times?
+/// Sends or receives a new frame at a new endpoint `turns` times. Returns whether it was sent or passed each time.
 fn repeat_work(rt: &HostRuntime, work: Work, data_length: u16, turns: u32) -> anyhow::Result<bool> {
     let an = An::new(0).unwrap();
     let frame = work.frame(rt.alloc(), an, data_length)?;
     work.is_always_done(&mut work.endpoint(rt.alloc(), an)?, frame.as_slice(), turns)
 }
 
-/// How long it takes to send or receive a frame so many times.
+/// The time of a round: sends or receives a frame `TURN_COUNT` times.
 fn time_work(
     rt: &HostRuntime,
     work: Work,
@@ -251,7 +251,7 @@ fn time_work(
     Ok(start.elapsed(rt)?)
 }
 
-/// The shortest time of a round in which a frame is sent or received.
+/// The shortest time of a round with this frame.
 fn fastest_work(
     rt: &HostRuntime,
     work: Work,
@@ -265,7 +265,7 @@ fn fastest_work(
     Ok(fastest)
 }
 
-/// The shortest time of a round in which frames with so many octets of data are sent or received.
+/// The shortest time of a round with a frame of this data length.
 fn measure(rt: &HostRuntime, work: Work, an: An, data_length: u16) -> anyhow::Result<Duration> {
     let frame = work.frame(rt.alloc(), an, data_length)?;
     fastest_work(
@@ -276,7 +276,7 @@ fn measure(rt: &HostRuntime, work: Work, an: An, data_length: u16) -> anyhow::Re
     )
 }
 
-/// Measures sending or receiving frames of one length, and prints how fast it is.
+/// Measures sending or receiving frames of one length, and prints the rate.
 fn report_work(rt: &HostRuntime, work: Work, an: An, data_length: u16) -> anyhow::Result<()> {
     let frames = rate(TURN_COUNT, measure(rt, work, an, data_length)?);
     let name = work.name();
@@ -284,7 +284,7 @@ fn report_work(rt: &HostRuntime, work: Work, an: An, data_length: u16) -> anyhow
     Ok(())
 }
 
-/// Measures frames at an endpoint, and prints how fast they are.
+/// Measures sending and receiving at an endpoint, and prints the rates.
 pub fn report(rt: &HostRuntime) -> anyhow::Result<()> {
     let an = An::new(0).unwrap();
     for data_length in DATA_LENGTHS {

@@ -1,5 +1,5 @@
-//! Octets per second of frames with 1,500 octets of data, encrypted: protected in place, and received by an endpoint,
-//! beside sealing of 1,500 octets.
+//! Octets per second of encrypted frames with 1,500 octets of data, protected in place and received by an endpoint,
+//! compared with sealing 1,500 octets.
 
 use crate::endpoints::{is_always_passed, link_frame, receiver};
 use macsec_gcm::GcmKey;
@@ -9,13 +9,13 @@ use std::io;
 use std::num::saturating_f64_to_u64;
 use std::time::{Duration, Instant};
 
-/// The number of octets of a frame's data.
+/// The length in octets of a frame's data.
 const DATA_LENGTH: u16 = 1_500;
 
-/// The number of octets of a link frame: DA, SA, a SecTAG with SCI, data and ICV.
+/// The length in octets of a link frame: DA, SA, a SecTAG with SCI, data and ICV.
 const LINK_LENGTH: usize = 12 + 16 + DATA_LENGTH as usize + 16;
 
-/// How often a frame is processed in a round, and the number of rounds, of which the fastest counts.
+/// How often a frame is processed in a round, and the number of rounds. The fastest round counts.
 const TURN_COUNT: u32 = 256;
 
 const ROUND_COUNT: u32 = 16;
@@ -30,10 +30,10 @@ enum Work {
     Receive,
 }
 
-/// What is measured, in turn.
+/// What is measured, in this order in each round.
 const WORKS: [Work; 3] = [Work::Seal, Work::Protect, Work::Receive];
 
-/// The keys and the frame with which it is done.
+/// The keys and the frame for the measurements.
 #[derive(Clone, Copy)]
 struct Parts<'a> {
     gcm_key: &'a GcmKey,
@@ -41,7 +41,7 @@ struct Parts<'a> {
     frame: &'a [u8],
 }
 
-/// Seals a text again and again.
+/// Seals a text repeatedly.
 fn seal(key: &GcmKey) {
     let mut text = [0x5a; DATA_LENGTH as usize];
     for _ in 0..TURN_COUNT {
@@ -49,7 +49,7 @@ fn seal(key: &GcmKey) {
     }
 }
 
-/// Protects a frame in place again and again.
+/// Protects a frame in place repeatedly.
 fn protect(key: &SuiteKey) {
     let mut frame = [0x5a; LINK_LENGTH];
     for _ in 0..TURN_COUNT {
@@ -57,7 +57,7 @@ fn protect(key: &SuiteKey) {
     }
 }
 
-/// Does it again and again. Returns whether each frame was passed, if frames are received.
+/// Runs a round of this work. Returns whether each received frame was passed.
 fn is_done(work: Work, parts: Parts, secy: &mut Secy) -> anyhow::Result<bool> {
     match work {
         Work::Seal => seal(parts.gcm_key),
@@ -67,7 +67,7 @@ fn is_done(work: Work, parts: Parts, secy: &mut Secy) -> anyhow::Result<bool> {
     Ok(true)
 }
 
-/// How long it takes to do it again and again.
+/// The time of a round, and whether each received frame was passed.
 fn time(
     rt: &HostRuntime,
     work: Work,
@@ -84,14 +84,14 @@ fn rate(took: Duration) -> f64 {
     f64::from(DATA_LENGTH) * f64::from(TURN_COUNT) / took.as_secs_f64()
 }
 
-/// Prints how fast that was, and the ratio to sealing in hundredths.
+/// Prints the rate, and its ratio to sealing in hundredths.
 fn line(rt: &HostRuntime, name: &str, took: Duration, seal: Duration) -> io::Result<()> {
     let octets = saturating_f64_to_u64(rate(took));
     let ratio = saturating_f64_to_u64(100.0 * rate(took) / rate(seal));
     println!(rt; "{name} {DATA_LENGTH} {octets} octets per second, {ratio} hundredths of seal")
 }
 
-/// The shortest times of a round of each of the three, and whether each frame was passed.
+/// The shortest time of a round for each of the three, and whether each frame was passed.
 fn shortest_times(
     rt: &HostRuntime,
     parts: Parts,
@@ -109,7 +109,7 @@ fn shortest_times(
     Ok((shortest, all_passed))
 }
 
-/// Prints how fast the three are, and whether each frame was passed.
+/// Prints the three rates, and whether each frame was passed.
 fn print(rt: &HostRuntime, shortest: [Duration; 3], all_passed: bool) -> io::Result<()> {
     let [seal, protect, receive] = shortest;
     line(rt, "seal", seal, seal)?;
@@ -118,14 +118,14 @@ fn print(rt: &HostRuntime, shortest: [Duration; 3], all_passed: bool) -> io::Res
     println!(rt; "each frame was passed: {all_passed}")
 }
 
-/// Measures sealing, protecting and receiving in turn, and prints how fast they are.
+/// Measures sealing, protecting and receiving, and prints the rates.
 fn measure(rt: &HostRuntime, parts: Parts, secy: &mut Secy) -> anyhow::Result<()> {
     let (shortest, all_passed) = shortest_times(rt, parts, secy)?;
     print(rt, shortest, all_passed)?;
     Ok(())
 }
 
-/// Measures them with new keys and this frame.
+/// Measures the three with new keys and this frame.
 fn measure_new(rt: &HostRuntime, secy: &mut Secy, frame: &[u8]) -> anyhow::Result<()> {
     let suite_key = SuiteKey::new(Suite::Gcm128, Key::K128(BYTES), [0; 12], 0)?;
     let gcm_key = GcmKey::new(Key::K128(BYTES));
@@ -137,7 +137,7 @@ fn measure_new(rt: &HostRuntime, secy: &mut Secy, frame: &[u8]) -> anyhow::Resul
     measure(rt, parts, secy)
 }
 
-/// Measures them with a new frame, and prints how fast they are.
+/// Measures the three with a new frame, and prints the rates.
 pub fn report(rt: &HostRuntime) -> anyhow::Result<()> {
     let an = An::new(0).unwrap();
     let frame = link_frame(rt.alloc(), an, DATA_LENGTH)?;

@@ -1,6 +1,7 @@
-//! Octets per second of AES, GHASH and sealing, block by block and in lanes, and of protecting and receiving frames;
-//! frames per second of an endpoint. With the arguments `send LENGTH COUNT` or `receive LENGTH COUNT` the program sends
-//! or receives that many frames, for a tool that counts instructions. Without arguments it does nothing.
+//! The benchmark. With the argument `measure` the program prints the octets per second of AES, GHASH and sealing, block
+//! by block and in lanes, and of protecting and receiving frames, and the frames per second of an endpoint. With the
+//! arguments `send LENGTH COUNT` or `receive LENGTH COUNT` it sends or receives that many frames, for a tool that
+//! counts instructions. Without arguments it does nothing.
 #![tactic(auto)]
 
 mod cipher;
@@ -11,7 +12,7 @@ mod plain;
 use anyhow::bail;
 use std::env;
 
-/// Measures everything, and prints it.
+/// Measures everything, and prints the rates.
 fn measure(rt: &HostRuntime) -> anyhow::Result<()> {
     cipher::report(rt)?;
     frames::report(rt)?;

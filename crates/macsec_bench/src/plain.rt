@@ -1,11 +1,11 @@
-//! Sealing by AES-GCM (SP 800-38D, 7.1) block by block, with which the sealing of `macsec_gcm` is compared.
+//! Sealing by AES-GCM (SP 800-38D, 7.1) block by block, for comparison with `macsec_gcm`.
 
 use macsec_aes::{Key, Schedule, encrypt};
 use macsec_field128::Block;
 use macsec_gcm::inc32;
 use macsec_ghash::{Hash128, PlainHash};
 
-/// A key whose use goes block by block.
+/// A key that is used block by block.
 #[derive(Drop)]
 pub struct PlainKey {
     schedule: Schedule,
@@ -13,7 +13,7 @@ pub struct PlainKey {
 }
 
 impl PlainKey {
-    /// The key of an AES key.
+    /// Expands an AES key.
     pub fn new(key: &Key) -> PlainKey {
         let schedule = Schedule::expand(key);
         let subkey = Block(u128::from_be_bytes(encrypt(&schedule, [0; 16])));
@@ -35,7 +35,7 @@ impl PlainKey {
         tag
     }
 
-    /// Adds the key stream from a counter block on to a text.
+    /// XORs the key stream that begins at the counter block `first` into a text.
     fn add_stream(&self, first: [u8; 16], text: &mut [u8]) {
         let mut counter = first;
         for piece in text.chunks_mut(16) {
