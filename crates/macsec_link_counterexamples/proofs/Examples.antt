@@ -95,7 +95,6 @@ short_frame_grows = refl
 untagged : results_of fresh (SendUncontrolled A (replicate 14 7) ∷ Deliver B 0 ∷ []) ≡ Ok (Made 0) ∷ Ok (Heard verdict.NoTag None) ∷ []
 untagged = refl
 
--- A's fault is reported before B's
 first_fault : make_fault (config 63 1) (config 63 2) ≡ Some (fault.Make A MaxFrame)
 first_fault = refl
 

@@ -33,13 +33,11 @@ use Rattle.macsec_link_counterexamples.proofs.SealedFrames.{closes, first, tag_o
 use Rattle.macsec_link_counterexamples.proofs.TracedSteps.{AtEach, WhileLive, world_of, after_both, at_moment, deliver_step, each_append, genuine_append, genuine_at, genuine_next, live_next}
 use Rattle.macsec_link_counterexamples.proofs.WorkedEnds.{Fails, bytes, gcm_a, gcm_b, of_two, only, rx_from}
 
--- A has sent nothing
 sent_none : (y : InstalledKey) → Contains (key_row 1 1 ∷ []) y → Contains (sent_under [] y.number) (client 1) → ⊥
 sent_none y there sent =
     let none : Contains [] (client 1) = subst (λ (k : InstalledKey). Contains (sent_under [] k.number) (client 1)) (sym (only (key_row 1 1) y there)) sent in
     omega (arith, none.1)
 
--- one frame is no subsequence of none
 no_subsequence_of_none : (x : List ℕ) → IsSubsequence (x ∷ []) [] → ⊥
 no_subsequence_of_none x ([], rising, found) = cc
 no_subsequence_of_none x (place ∷ places, rising, found) = cc
@@ -246,7 +244,6 @@ order_fails octet other = (
       no_subsequence_of_none (client 1) (in_order (key_row 1 1) (0, omega arith, refl) refl),
 )
 
--- no number is both 0 and 1
 zero_or_one : (n : ℕ) → ((n == 0) ≡ false) ⊎ ((n == 1) ≡ false)
 zero_or_one zero = inr refl
 zero_or_one (suc n) = inl (ne_eqb (suc n) 0 (λ same. omega (arith, same)))

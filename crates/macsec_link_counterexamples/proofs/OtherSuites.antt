@@ -1,6 +1,6 @@
 -- Why the law of order would hold without its premise on the suite. If one end's packet numbers are extended and the
--- other's have 32 bits, two equal IVs fix the upper half of the extended packet number, since salt and SCI stay. So the
--- packet numbers, whose lower halves are in the SecTAG, rise together at both ends.
+-- other's have 32 bits, an IV that both can have has only one upper half of the extended packet number, since salt and
+-- SCI stay. So the packet numbers, whose lower halves are in the SecTAG, rise together at both ends.
 use Rattle.std.proofs.Common.{◌≡◌, ℕ, ◌^◌, ◌<◌, List, [], ◌∷◌, ◌++◌, length, take, get_or, ap, sym, ◌∙◌, arith}
 use Rattle.std.specs.Prelude.{◌/◌, ◌%◌}
 use Rattle.std.specs.Int.{w32, w64, to_be_bytes}
@@ -13,7 +13,7 @@ use Rattle.macsec_link_counterexamples.proofs.Ivs.{get_or-sum, same_of_4, xor_sa
 upper_octets : (n : ℕ) → take 4 (to_be_bytes w64 n) ≡ to_be_bytes w32 (n / 2 ^ 32)
 upper_octets n = λ i. sym (shr-shr n 32 24) i % 256 ∷ sym (shr-shr n 32 16) i % 256 ∷ sym (shr-shr n 32 8) i % 256 ∷ n / 2 ^ 32 % 256 ∷ []
 
--- the octets of two equal IVs with the same salt
+-- equal octets of two IVs with the same salt are equal without the salt
 same_unsalted_octet : (ssci ssci' n n' k : ℕ) (salt : List ℕ) → k < length salt → get_or (extended_iv ssci salt n) k 0 ≡ get_or (extended_iv ssci' salt n') k 0 →
     get_or (to_be_bytes w32 ssci ++ to_be_bytes w64 n) k 0 ≡ get_or (to_be_bytes w32 ssci' ++ to_be_bytes w64 n') k 0
 same_unsalted_octet ssci ssci' n n' k salt within same =

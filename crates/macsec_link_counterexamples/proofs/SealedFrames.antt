@@ -65,7 +65,6 @@ opens_tag : (key iv aad : List ℕ) → open_of key iv aad [] (tag_of key iv aad
 unfolding open_of seal_of gctr tag_of
 opens_tag key iv aad = ap (λ b. if b then Some [] else None) (same_refl (seal_of key iv aad []).1)
 
--- what was sealed opens
 pub opens : (key iv aad : List ℕ) → open_of key iv aad [] (items 16 (tag_of key iv aad)) ≡ Some []
 opens key iv aad = ap (open_of key iv aad []) (each_item 16 (tag_of key iv aad) (long_tag key iv aad)) ∙ opens_tag key iv aad
 

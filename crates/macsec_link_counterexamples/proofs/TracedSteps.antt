@@ -74,7 +74,6 @@ pub genuine_append : (t after : Trace) (events more : List Event) → IsGenuine 
 genuine_append t after [] more now is later = subst (λ (x : Trace). IsGenuine x more) (sym is) later
 genuine_append t after (event ∷ events) more now is later = (now.0, genuine_append (trace_step t event) after events more now.1 is later)
 
--- P holds of the world at each moment
 abbrev pub AtEach : (WorldState → Type 0) → WorldState → List Event → Type 0
 AtEach P w [] = P w
 AtEach P w (event ∷ events) = P w × AtEach P (world_step w event).1 events
@@ -83,7 +82,6 @@ AtEach P w (event ∷ events) = P w × AtEach P (world_step w event).1 events
 abbrev pub WhileLive : (State → Type 0) → WorldState → Type 0
 WhileLive P w = IfSome (slice_get w.b.delivered 0) (λ log. log.live ≡ true → P w.b.state)
 
--- P holds at each moment before the last
 abbrev pub AtEachBefore : (WorldState → Type 0) → WorldState → List Event → Type 0
 AtEachBefore P w [] = Unit {0}
 AtEachBefore P w (event ∷ events) = P w × AtEachBefore P (world_step w event).1 events
@@ -108,7 +106,6 @@ at_moment P w [] each (suc k) within = absurd (omega (arith, within))
 at_moment P w (event ∷ events) each zero within = each.0
 at_moment P w (event ∷ events) each (suc k) within = at_moment P (world_step w event).1 events each.1 k (omega (arith, within))
 
--- the trace after two lists of events
 pub after_both : (t after : Trace) (events more : List Event) → trace_after t events ≡ after → trace_after t (events ++ more) ≡ trace_after after more
 after_both t after [] more is = subst (λ (x : Trace). trace_after t more ≡ trace_after x more) is refl
 after_both t after (event ∷ events) more is = after_both (trace_step t event) after events more is

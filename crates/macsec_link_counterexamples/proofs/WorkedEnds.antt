@@ -90,11 +90,9 @@ rx_from next = record { sci = sci_a; an = 0; key = 0; ssci = 1; next = next; low
 abbrev pub counts : RxCounters → ChannelCounters
 counts counted = record (new_channel_counters sci_a) { counters = counted; associations = Some counted ∷ None ∷ None ∷ None ∷ [] }
 
--- what was delivered from the receive SA
 abbrev pub log : List (List ℕ) → DeliveryLog
 log frames = record { sci = sci_a; an = 0; key = 0; live = true; frames = frames }
 
--- what was sent under key 0, if anything
 abbrev pub logs_sent : List (List ℕ) → SentLogs
 logs_sent [] = []
 logs_sent (frame ∷ frames) = record { key = 0; frames = frame ∷ frames } ∷ []

@@ -32,7 +32,6 @@ live_before live places = cond live (zero ∷ map suc places) (map suc places)
 
 -- ---- logs with their capacity
 
--- a log is replaced by a changed one
 logs_of-set : (change : Change) (logs : List KeptLog) (place : ℕ) (old new : KeptLog) → old ≡ get_or logs place old → new.log ≡ change old.log →
     logs_of (set logs place new) ≡ with_at change place (logs_of logs)
 logs_of-set change [] place old new is changed = refl
@@ -70,7 +69,6 @@ place_found (k ∷ logs) (suc place) old is within has = place_found logs place 
 
 -- ---- the table
 
--- an index below this count
 abbrev IsPlace : ℕ → ℕ → Type 0
 IsPlace count place = place < count
 
@@ -90,7 +88,6 @@ all_within logs table is =
     let each : All (IsPlace (length logs)) (live_places (logs_of logs)) = λ i d inside. omega (arith, length-map logs log_of, within (logs_of logs) i d inside) in
     subst (λ (places : List ℕ). All (IsPlace (length logs)) places) (sym is) each
 
--- what holds of each index in a table holds of the one that a search finds
 holds_of_found : (P : ℕ → Type 0) (test : ℕ → Bool) (places : List ℕ) (place : ℕ) → All P places → find test places ≡ Some place → P place
 holds_of_found P test [] place all found = cc
 holds_of_found P test (p ∷ places) place all found = by_test (test p) (holds_of_found P test places place (λ i d inside. all (suc i) d (omega (arith, inside)))) found
@@ -99,7 +96,6 @@ holds_of_found P test (p ∷ places) place all found = by_test (test p) (holds_o
     by_test true later found' = let it : p ≡ place = cc in subst P it (all 0 p (omega arith))
     by_test false later found' = later found'
 
--- a new live log
 live_places-push : (logs : List DeliveryLog) (new : DeliveryLog) → new.live ≡ true → live_places (logs ++ new ∷ []) ≡ live_places logs ++ length logs ∷ []
 live_places-push [] new live = ap (λ b. live_before b []) live
 live_places-push (log ∷ logs) new live = ap (live_before log.live) (live_places-push logs new live) ∙ by_test log.live

@@ -100,7 +100,6 @@ HasPlaceFor kept (protected key made) = HasPlace kept key
 HasPlaceFor kept no_sa = Unit {0}
 HasPlaceFor kept too_long = Unit {0}
 
--- the output for a frame without a fault
 output_is : (s : State) (frame : List ℕ) → frame_fault frame ≡ None →
     step s (client_frame frame) ≡ (sent_output frame (sending_of s frame).leaving, state_after_sending s frame (sending_of s frame))
 output_is s frame fits = ap (λ f. unless_fault f s (sent_output frame (sending_of s frame).leaving, state_after_sending s frame (sending_of s frame))) fits

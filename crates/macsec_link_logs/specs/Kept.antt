@@ -5,7 +5,6 @@ use Rattle.macsec_tx.specs.declared.TxRow.{TxRow}
 use Rattle.macsec_tx.specs.Transmit.{tx_row}
 use Rattle.macsec_link_logs.specs.Logs.{SentLog, SentLogs}
 
--- the octets of each frame
 abbrev pub frames_kept : List (Vec ℕ) → List (List ℕ)
 frames_kept frames = map (λ f. f.items) frames
 

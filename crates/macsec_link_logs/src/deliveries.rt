@@ -34,7 +34,6 @@ impl Model for Deliveries {
 }
 
 impl Deliveries {
-    /// The log of a new SA.
     fn new(alloc: Global, sci: Sci, an: An, key: KeyNumber) -> Deliveries
         ensures { result.log ≡ record { sci = sci; an = an; key = key; live = true; frames = [] } }
     {
@@ -47,7 +46,6 @@ impl Deliveries {
         }
     }
 
-    /// The frames, in order.
     pub(crate) fn frames(&self) -> &[Vec<u8>]
         ensures { frames_kept result.now ≡ self.now.log.frames }
     {
@@ -176,7 +174,6 @@ fn close_in(logs: &mut Vec<Deliveries>, live: &[usize], sci: Sci)
     }
 }
 
-/// Whether the log at this index is live.
 fn is_live(logs: &[Deliveries], place: usize) -> bool
     ensures { result ≡ passes_at (λ log. log.live) (logs_of logs.now) place }
 {

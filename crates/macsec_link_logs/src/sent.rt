@@ -33,7 +33,6 @@ impl Model for SentFrames {
 }
 
 impl SentFrames {
-    /// The frames, in order.
     fn frames(&self) -> &[Vec<u8>]
         ensures { frames_kept result.now ≡ self.now.log.frames }
     {

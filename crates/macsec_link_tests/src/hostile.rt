@@ -39,7 +39,6 @@ fn altered(rt: &impl Abort, world: &mut World, n: u32, place: u32, octet: u8) ->
     Ok(altered)
 }
 
-/// The packet number in a link frame.
 fn packet_number(world: &World, n: u32) -> Option<u32> {
     match world.frame(n)?.get(16..20)? {
         [first, second, third, last] => Some(u32::from_be_bytes([*first, *second, *third, *last])),
@@ -98,7 +97,6 @@ fn deliver_altered(
     Ok(())
 }
 
-/// An octet of a link frame.
 fn octet_at(world: &World, n: u32, place: u32) -> Option<u8> {
     world.frame(n)?.get(place as usize).copied()
 }
@@ -210,7 +208,6 @@ const ENCRYPTED: Protection = Protection {
     conf: true,
 };
 
-/// The last octets of all frames.
 const ALL: [u8; 10] = [0, 1, 2, 3, 4, 5, 6, 7, 8, 9];
 
 /// If the frames arrive in order, all are delivered, each once.

@@ -60,7 +60,6 @@ fn fill(rt: &impl Abort, alloc: Global, world: &mut World) -> Result<(), Fail> {
     Ok(())
 }
 
-/// Whether this is the fault of an event.
 fn is_fault(got: &Result<Outcome, WorldFault>, fault: WorldFault) -> bool {
     matches!(got, Err(found) if *found == fault)
 }
@@ -81,7 +80,6 @@ struct Shown {
     rx_row: Option<RxRow>,
 }
 
-/// What an end shows.
 fn state_of(rt: &impl Abort, world: &World, end: End) -> Shown {
     let secy = world.end(end);
     Shown {
@@ -139,7 +137,6 @@ fn assert_full(rt: &impl Abort, alloc: Global, world: &mut World) -> Result<(), 
     assert_unsent(rt, alloc, world)
 }
 
-/// Whether the ends show this.
 fn are_shown(rt: &impl Abort, world: &World, a: &Shown, b: &Shown) -> bool {
     state_of(rt, world, End::A) == *a && state_of(rt, world, End::B) == *b
 }

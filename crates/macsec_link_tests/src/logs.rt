@@ -23,7 +23,6 @@ enum Wanted {
     Delayed(u32, u8),
 }
 
-/// The event.
 fn event_of(alloc: Global, wanted: Wanted) -> Result<Event, Fail> {
     match wanted {
         Wanted::Done(end, command) => Ok(Event::Command(end, command)),
@@ -38,7 +37,6 @@ fn event_of(alloc: Global, wanted: Wanted) -> Result<Event, Fail> {
     }
 }
 
-/// Whether the result is the expected one.
 fn is_wanted(got: &Result<Outcome, WorldFault>, wanted: Wanted) -> bool {
     match got {
         Ok(Outcome::Done) => matches!(wanted, Wanted::Done(_, _)),
@@ -93,7 +91,6 @@ fn sending(an: An, number: u8) -> [Wanted; 4] {
     ]
 }
 
-/// Appends events.
 fn push_all(all: &mut Vec<Wanted>, more: &[Wanted]) -> Result<(), Fail> {
     for wanted in more {
         all.push(*wanted)?;
@@ -124,7 +121,6 @@ const OF_SECOND: [Wanted; 3] = [
     Wanted::SentUncontrolled(3),
 ];
 
-/// The events of `rollover`.
 fn push_rollover(all: &mut Vec<Wanted>, first: An, second: An) -> Result<(), Fail> {
     push_first(all, first)?;
     push_all(all, &OF_FIRST)?;
@@ -207,7 +203,6 @@ fn orders(rt: HostRuntime) -> Result<(), Fail> {
     assert_order(&rt, rt.alloc(), replay(true, 1), &inside)
 }
 
-/// These events.
 fn events_of(alloc: Global, all: &[Wanted]) -> Result<Vec<Event>, Fail> {
     let mut events = Vec::new(alloc);
     for wanted in all {
@@ -216,13 +211,11 @@ fn events_of(alloc: Global, all: &[Wanted]) -> Result<Vec<Event>, Fail> {
     Ok(events)
 }
 
-/// The report of a run of these events.
 fn report_of(alloc: Global, all: &[Wanted]) -> Result<Report, Fail> {
     let events = events_of(alloc, all)?;
     Ok(run_of(alloc, A, B, events.as_slice())?)
 }
 
-/// Each event has the expected result.
 fn assert_results(rt: &impl Abort, results: &[Result<Outcome, WorldFault>], all: &[Wanted]) {
     assert_eq!(rt; results.len(), all.len());
     for (got, wanted) in results.iter().zip(all) {
@@ -243,13 +236,11 @@ fn is_log(log: Option<&[Vec<u8>]>, clients: Option<&[u8]>) -> bool {
     }
 }
 
-/// These frames were sent under a key.
 fn assert_sent(rt: &impl Abort, world: &World, end: End, key: u8, clients: &[u8]) {
     let log = world.sent(end, fixture::key_number(key));
     assert!(rt; is_log(Some(log), Some(clients)), "sent under {key}");
 }
 
-/// These frames were delivered from an SA.
 fn assert_delivered(
     rt: &impl Abort,
     world: &World,

@@ -11,21 +11,18 @@ use Rattle.macsec_secy.specs.Sound.{AreRxCounters}
 
 -- ---- one counter
 
--- a sum of three counters
 in_three : (x y z : ℕ) → plus (plus x y) z ≡ (x + y + z) % 2 ^ 64
 in_three x y z = mod-add-mod (x + y) (2 ^ 64) z
 
 to_three : (x y z : ℕ) → plus x (plus y z) ≡ (x + y + z) % 2 ^ 64
 to_three x y z = let same : x + (y + z) ≡ x + y + z = omega arith in add-mod-mod x (y + z) (2 ^ 64) ∙ ap (λ n. n % 2 ^ 64) same
 
--- the first of two is raised by one
 raised_left : (x y : ℕ) → plus (plus x 1) y ≡ plus (plus x y) 1
 raised_left x y = let same : x + 1 + y ≡ x + y + 1 = omega arith in in_three x 1 y ∙ ap (λ n. n % 2 ^ 64) same ∙ sym (in_three x y 1)
 
 raised_right : (x y : ℕ) → plus x (plus y 1) ≡ plus (plus x y) 1
 raised_right x y = to_three x y 1 ∙ sym (in_three x y 1)
 
--- the order does not matter
 swapped : (x y z : ℕ) → plus x (plus y z) ≡ plus y (plus x z)
 swapped x y z = let same : x + y + z ≡ y + x + z = omega arith in to_three x y z ∙ ap (λ n. n % 2 ^ 64) same ∙ sym (to_three y x z)
 
@@ -60,7 +57,6 @@ added_nothing c are =
     same_counters (added no_rx_counters c) c (nothing _ are.in_pkts_ok) (nothing _ are.in_pkts_unchecked) (nothing _ are.in_pkts_delayed) (nothing _ are.in_pkts_late)
     (nothing _ are.in_pkts_invalid) (nothing _ are.in_pkts_not_valid)
 
--- the first of two counts a verdict
 pub added-counted_left : (verdict : Verdict) (a b : RxCounters) → added (count_verdict verdict a) b ≡ count_verdict verdict (added a b)
 added-counted_left Passed a b = ap {B = RxCounters} (λ n. record (added a b) { in_pkts_ok = n }) (raised_left _ _)
 added-counted_left Unchecked a b = ap {B = RxCounters} (λ n. record (added a b) { in_pkts_unchecked = n }) (raised_left _ _)
@@ -91,7 +87,6 @@ added-counted_right NoSaError a b = refl
 
 -- ---- SAs
 
--- a sum has 64 bits
 wraps : (counter n : ℕ) → plus counter n < 2 ^ 64
 wraps counter n = omega arith
 

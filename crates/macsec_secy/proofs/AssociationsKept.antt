@@ -155,7 +155,6 @@ without_a_channel rows (c ∷ channels) sci are =
           sum = of.sum;
         }) later
 
--- the counters of one SC change
 one_changed : (rows after : List RxRow) (change : ChannelCounters → ChannelCounters) (sci : Sci) →
     ((c : ChannelCounters) → c.sci ≡ sci → AreOfAssociations rows c → AreOfAssociations after (change c)) →
     ((c : ChannelCounters) → same_sci c.sci sci ≡ false → AreOfAssociations rows c → AreOfAssociations after c) → (channels : List ChannelCounters) → AreOfAll rows channels →
@@ -174,7 +173,6 @@ last_number : (scis : List Sci) (rows : List RxRow) (new : RxRow) → AreRxRows 
 last_number scis [] new are = are.0.an
 last_number scis (row ∷ rows) new are = last_number scis rows new are.2
 
--- an option that is not Some is None
 none_from : {A : Type 0} (o : Option A) → is_some o ≡ false → o ≡ None
 none_from None none = refl
 none_from (Some x) none = cc

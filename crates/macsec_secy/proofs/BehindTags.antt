@@ -7,7 +7,6 @@ use Rattle.std.proofs.lemmas.List.{drop_at, take_at}
 use Rattle.macsec_tag.specs.declared.identifiers.Sci.{Sci}
 use Rattle.macsec_tag.specs.Tag.{IsTag, Tag, bit_where, c_bit, e_bit, es_bit, sc_bit, scb_bit, sci_octets, encoding, tci_an}
 
--- in equal lists, what follows two prefixes of the same length is equal
 pub same_back : (a b x y : List ℕ) → length a ≡ length b → a ++ x ≡ b ++ y → x ≡ y
 same_back a b x y long e = sym (drop_at a x (length b) long) ∙ ap (drop (length b)) e ∙ drop_at b y (length b) refl
 

@@ -16,7 +16,6 @@ use Rattle.macsec_secy.specs.Sound.{sci_of_counters}
 use Rattle.macsec_secy.proofs.KeysKept.{field_kept}
 use Rattle.macsec_secy.proofs.Lent.{left_in_place}
 
--- a change of an SC's counters keeps its SCI
 pub scis_kept : (change : ChannelCounters → ChannelCounters) → ((row : ChannelCounters) → (change row).sci ≡ row.sci) → (sci : Sci) (rows : List ChannelCounters) →
     map sci_of_counters (map (at_channel change sci) rows) ≡ map sci_of_counters rows
 scis_kept change same sci [] = refl
@@ -32,7 +31,6 @@ after_judging j rows = by_parts (is_counted_by_channel j) j.row
     by_parts true None = refl
     by_parts true (Some row) = scis_kept (count_in_channel j.verdict row.an) (λ r. refl) row.sci rows
 
--- an SC is deleted
 pub without_counters : (sci : Sci) (rows : List ChannelCounters) →
     map sci_of_counters (filter (λ row. not (same_sci row.sci sci)) rows) ≡ filter (λ s. not (same_sci s sci)) (map sci_of_counters rows)
 without_counters sci [] = refl
@@ -44,7 +42,6 @@ without_counters sci (row ∷ rows) = by_test (not (same_sci row.sci sci)) (with
     by_test true later = ap (λ ss. row.sci ∷ ss) later
     by_test false later = later
 
--- counting keeps the number of SCs
 length-at_first : (change : ChannelCounters → ChannelCounters) (sci : Sci) (rows : List ChannelCounters) → length (at_first change sci rows) ≡ length rows
 length-at_first change sci [] = refl
 length-at_first change sci (row ∷ rows) = by_test (same_sci row.sci sci) (length-at_first change sci rows)

@@ -21,11 +21,9 @@ use Rattle.macsec_secy.specs.Counting.{at_channel, plus, count_in_channel, count
 use Rattle.macsec_secy.specs.Reception.{counted_at_row, data_counted, is_counted_by_channel, octets_counted, packet_counted, rx_packet_counted}
 use Rattle.macsec_secy.specs.Sound.{AreCounters, AreRxCounters, AreTxCounters}
 
--- the counters of the SCs have 64 bits
 abbrev pub AreChannelCounters : List ChannelCounters → Type 0
 AreChannelCounters rows = All (λ row. AreRxCounters row.counters) rows
 
--- counters of 0
 zero : 0 < 2 ^ 64
 zero = omega arith
 
@@ -38,7 +36,6 @@ no_tx_counted = assumption zero
 pub no_rx_counted : AreRxCounters no_rx_counters
 no_rx_counted = assumption zero
 
--- a raised counter has 64 bits
 wraps : (counter n : ℕ) → plus counter n < 2 ^ 64
 wraps counter n = omega arith
 
@@ -83,7 +80,6 @@ after_data untagged c are = are
 after_data (bad fault) c are = are
 after_data (tagged p) c are = after_octets_received p.tag.e _ c are
 
--- a property of both branches is one of the result
 either : {A : Type 0} (P : A → Type 0) (test : Bool) (a b : A) → P a → P b → P (if test then a else b)
 either P true a b pa pb = pa
 either P false a b pa pb = pb
@@ -107,7 +103,6 @@ after_channel Reserved c are = are
 after_channel NoSa c are = are
 after_channel NoSaError c are = are
 
--- a change of an SC's counters
 pub after_change : (change : ChannelCounters → ChannelCounters) →
     ((row : ChannelCounters) → AreRxCounters row.counters → AreRxCounters (change row).counters) → (sci : Sci) (rows : List ChannelCounters) →
     AreChannelCounters rows → AreChannelCounters (map (at_channel change sci) rows)

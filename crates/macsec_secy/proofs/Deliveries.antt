@@ -34,7 +34,6 @@ pub record Tells (options : RxOptions) (keys : List InstalledKey) (p : MpduParts
   pub on_time : options.replay ≡ true → row.lowest ≤ j.number
   pub opened : is_strict options.mode ≡ true → OpensParts keys p j row frame
 
--- this holds for every SA and every frame of the judgement
 abbrev TellsAll : RxOptions → List InstalledKey → MpduParts → Judgement → Option RxRow → Type 0
 TellsAll options keys p j used = (row : RxRow) (frame : List ℕ) → j.row ≡ Some row → j.delivered ≡ Some frame → Tells options keys p j used row frame
 

@@ -13,7 +13,6 @@ use Rattle.macsec_secy.specs.Verdicts.{at_first}
 use Rattle.macsec_secy.specs.Sound.{sci_of_counters}
 use Rattle.macsec_secy.proofs.Sums.{map-at_channel_elsewhere, one_sci}
 
--- if the first SC of the list has the SCI, it is changed
 at_first-cons : (change : ChannelCounters → ChannelCounters) (sci : Sci) (row : ChannelCounters) (rows : List ChannelCounters) → same_sci row.sci sci ≡ true →
     at_first change sci (row ∷ rows) ≡ change row ∷ rows
 at_first-cons change sci row rows here = ap (λ b. if b then change row ∷ rows else row ∷ at_first change sci rows) here

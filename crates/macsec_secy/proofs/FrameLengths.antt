@@ -167,7 +167,6 @@ FitsIn n untagged = Unit {0}
 FitsIn n (bad found) = Unit {0}
 FitsIn n (tagged p) = length (bare_frame p) ≤ n
 
--- the delivered frame has at most n octets
 abbrev DeliversUpTo : ℕ → Judgement → Type 0
 DeliversUpTo n j = IfSome j.delivered (λ frame. length frame ≤ n)
 

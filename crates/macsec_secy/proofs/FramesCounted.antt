@@ -39,7 +39,6 @@ use Rattle.macsec_secy.proofs.Sums.{RaisesOne-Late, RaisesOne-NotValid, RaisesOn
 
 -- ---- what the judgement raises
 
--- the frame is counted once
 abbrev IsCountedOnce : List ChannelCounters → Judgement → Type 0
 IsCountedOnce rows j =
     (c : Counters) → IsOneMore (packets_of (packet_counted j c) + channels_packets (rx_packet_counted j rows)) (packets_of c + channels_packets rows)
@@ -108,7 +107,6 @@ all_of_channels : (scis : List Sci) (rows : List RxRow) → AreRxRows scis rows 
 all_of_channels scis [] are = All-nil (λ row. has_channel scis row.sci ≡ true)
 all_of_channels scis (row ∷ rows) are = All-cons (λ r. has_channel scis r.sci ≡ true) row rows are.0.channel (all_of_channels scis rows are.2)
 
--- what holds of all SAs holds of the one that is enabled for a frame
 pub of_in_use : (P : RxRow → Type 0) (rows : List RxRow) (an : ℕ) (sci : Option Sci) → All P rows → IfSome (in_use rows an sci) P
 of_in_use P rows an None all = tt
 of_in_use P [] an (Some sci) all = tt

@@ -34,7 +34,6 @@ in_use_is P rows sci an row all is =
     let parts = and_parts (same_sci row.sci sci) (row.an == an) here in
     record { sci = one_sci row.sci sci parts.0; an = eqb-true row.an an parts.1; holds = it.holds }
 
--- what holds of all keys holds of a key in the table
 pub the_key_holds : (P : InstalledKey → Type 0) (keys : List InstalledKey) (number : ℕ) → All P keys → IsSome (key_row keys number) → P (the_key keys number)
 the_key_holds P keys number all there = by_row (key_row keys number) refl there
   where

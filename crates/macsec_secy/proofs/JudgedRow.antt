@@ -62,7 +62,6 @@ by_reading P s frame untagged holds = by_test (is_strict s.options.mode)
 by_reading P s frame (bad fault) holds = tt
 by_reading P s frame (tagged p) holds = by_tagged P (rx_options s) p s.keys (in_use s.rx.rows p.tag.an (sci_of s.rx.scis p)) (holds p)
 
--- what holds of any SA enabled for a frame holds of the SA in its judgement
 pub of_judged_row : (P : RxRow → Type 0) (s : State) (frame : List ℕ) → ((p : MpduParts) → IfSome (in_use s.rx.rows p.tag.an (sci_of s.rx.scis p)) P) →
     IfSome (judgement_of s frame).row P
 of_judged_row P s frame holds = by_reading P s frame (reading frame) holds

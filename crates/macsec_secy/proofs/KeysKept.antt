@@ -10,7 +10,6 @@ use Rattle.macsec_tx.specs.declared.TxRow.{TxRow}
 use Rattle.macsec_tx.specs.Transmit.{keys_after, next_used, rows_after, tx_row, used_at}
 use Rattle.macsec_tx.specs.Commands.{HaveKeys, off_at, switch_to, tx_sa_refusals, with_tx_off, with_tx_on, with_tx_sa, without_tx}
 
--- the key with this number is in the table
 abbrev pub IsThere : List InstalledKey → ℕ → Type 0
 IsThere keys number = IsSome (key_row keys number)
 
@@ -18,7 +17,6 @@ IsThere keys number = IsSome (key_row keys number)
 abbrev HasKey : List InstalledKey → Option TxRow → Type 0
 HasKey keys row = IfSome row (λ r. IsThere keys r.key)
 
--- a conditional change keeps each field that the change keeps
 pub field_kept : {A B : Type 0} (field : A → B) (change : A → A) → ((x : A) → field (change x) ≡ field x) → (test : Bool) (x : A) →
     field (if test then change x else x) ≡ field x
 field_kept field change same true x = same x
@@ -62,18 +60,15 @@ pub there_noting : (keys : List InstalledKey) (number pn other : ℕ) → IsTher
 there_noting keys number pn other there =
     there_after_change (at_number (row_noting pn) number) (same_number (row_noting pn) (λ key. refl) number) keys other there
 
--- an SA has its key as long as each key stays in the table
 has_key_where_keys_stay : (keys after : List InstalledKey) (row : Option TxRow) → ((number : ℕ) → IsThere keys number → IsThere after number) →
     HasKey keys row → HasKey after row
 has_key_where_keys_stay keys after None stay here = tt
 has_key_where_keys_stay keys after (Some row) stay here = stay row.key here
 
--- a key is installed
 pub with_another_key : (keys : List InstalledKey) (rows : List TxRow) (new : InstalledKey) → HaveKeys keys rows → HaveKeys (keys ++ new ∷ []) rows
 with_another_key keys rows new have an =
     has_key_where_keys_stay keys (keys ++ new ∷ []) (tx_row rows an) (there_with_more keys (new ∷ [])) (have an)
 
--- the key with one number changes, and keeps its number
 with_a_key_changed : (change : InstalledKey → InstalledKey) → ((key : InstalledKey) → (change key).number ≡ key.number) →
     (keys : List InstalledKey) (rows : List TxRow) (number : ℕ) → HaveKeys keys rows → HaveKeys (map (at_number change number) keys) rows
 with_a_key_changed change same keys rows number have an =
@@ -81,11 +76,9 @@ with_a_key_changed change same keys rows number have an =
     (there_after_change (at_number change number) (same_number change same number) keys)
     (have an)
 
--- a key is retired
 pub with_a_key_retired : (keys : List InstalledKey) (rows : List TxRow) (number : ℕ) → HaveKeys keys rows → HaveKeys (keys_retiring keys number) rows
 with_a_key_retired keys rows number have = with_a_key_changed retired_row (λ key. refl) keys rows number have
 
--- a packet number is used under a key
 with_a_number_used : (keys : List InstalledKey) (rows : List TxRow) (number pn : ℕ) → HaveKeys keys rows → HaveKeys (keys_noting keys number pn) rows
 with_a_number_used keys rows number pn have = with_a_key_changed (row_noting pn) (λ key. refl) keys rows number have
 
@@ -109,7 +102,6 @@ with_changed_rows keys change same (row ∷ rows) an here =
     by_test true later here = subst (IsThere keys) (sym (same.key row)) here
     by_test false later here = later here
 
--- the SA with one number changes
 at_an : (change : TxRow → TxRow) → Keeps change → (an : ℕ) → Keeps (λ row. if row.an == an then change row else row)
 at_an change same an = record {
   an = λ row. field_kept (λ (r : TxRow). r.an) change same.an (row.an == an) row;
@@ -120,7 +112,6 @@ at_an change same an = record {
 pub with_one_on : (keys : List InstalledKey) (rows : List TxRow) (an : ℕ) → HaveKeys keys rows → HaveKeys keys (with_tx_on rows an)
 with_one_on keys rows an have n = with_changed_rows keys (switch_to an) (record { an = λ row. refl; key = λ row. refl }) rows n (have n)
 
--- an SA is disabled
 pub with_one_off : (keys : List InstalledKey) (rows : List TxRow) (an : ℕ) → HaveKeys keys rows → HaveKeys keys (with_tx_off rows an)
 with_one_off keys rows an have n =
     with_changed_rows keys (off_at an) (at_an (λ row. record row { on = false }) (record { an = λ row. refl; key = λ row. refl }) an) rows n (have n)
@@ -137,7 +128,6 @@ none_left (row ∷ rows) an = by_test (row.an == an) refl (none_left rows an)
     by_test true same later = later
     by_test false differs later = rw differs later
 
--- the SAs with other numbers stay
 others_left : (rows : List TxRow) (an number : ℕ) → (an == number) ≡ false → tx_row (without_tx rows an) number ≡ tx_row rows number
 others_left [] an number differs = refl
 others_left (row ∷ rows) an number differs = by_test (row.an == an) refl (others_left rows an number differs)
@@ -149,7 +139,6 @@ others_left (row ∷ rows) an number differs = by_test (row.an == an) refl (othe
         later ∙ sym (ap (λ b. if b then Some row else tx_row rows number) other)
     by_test false kept later = ap (λ found. if row.an == number then Some row else found) later
 
--- each SA has its key after a deletion
 pub without_one : (keys : List InstalledKey) (rows : List TxRow) (an : ℕ) → HaveKeys keys rows → HaveKeys keys (without_tx rows an)
 without_one keys rows an have number = by_test (an == number) refl
   where
@@ -181,7 +170,6 @@ pub not_refused : (holds : Bool) (refusal : Refusal) (later : Option Refusal) �
 not_refused true refusal later none = refl
 not_refused false refusal later none = cc
 
--- each SA has its key after a creation
 pub with_one_more : (keys : List InstalledKey) (rows : List TxRow) (an key next : ℕ) (conf : Bool) →
     first_refusal (tx_sa_refusals keys rows an key next) ≡ None → HaveKeys keys rows → HaveKeys keys (with_tx_sa rows an key next conf)
 with_one_more keys rows an key next conf none have number =

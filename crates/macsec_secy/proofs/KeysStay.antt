@@ -33,7 +33,6 @@ same_key key = record { number = refl; suite = refl; bytes = refl; salt = refl; 
 all_stay : (keys : List InstalledKey) → StayIn keys keys
 all_stay keys key there = record { later = key; there = there; is_later = same_key key }
 
--- every key changes
 changed : (f : InstalledKey → InstalledKey) (keys : List InstalledKey) → ((key : InstalledKey) → Contains keys key → IsLaterKey key (f key)) → StayIn keys (map f keys)
 changed f keys later key there = record { later = f key; there = Contains-map f keys key there; is_later = later key there }
 

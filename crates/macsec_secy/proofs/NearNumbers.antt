@@ -5,7 +5,6 @@ use Rattle.std.proofs.lemmas.Bool.{and_left, and_right, ne_eqb}
 use Rattle.std.proofs.lemmas.Bool.Decides.{nat_tests}
 use Rattle.macsec_pn.specs.Numbers.{recovered_number}
 
--- the last packet number
 abbrev pub last_number : Bool → ℕ
 last_number xpn = if xpn then 2 ^ 64 - 1 else 2 ^ 32 - 1
 

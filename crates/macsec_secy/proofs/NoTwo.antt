@@ -30,12 +30,10 @@ none-with p (x ∷ xs) new none fails =
     let parts = or_parts (p x) (list_any p xs) none in
     or_from (p x) (list_any p (xs ++ new ∷ [])) parts.0 (none-with p xs new parts.1 fails)
 
--- a test that nothing passes
 pub none_at_all : {A : Type 0} (p : A → Bool) → ((x : A) → p x ≡ false) → (xs : List A) → list_any p xs ≡ false
 none_at_all p fails [] = refl
 none_at_all p fails (x ∷ xs) = or_from (p x) (list_any p xs) (fails x) (none_at_all p fails xs)
 
--- if no element is found, none passes
 pub none_found : {A : Type 0} (p : A → Bool) (xs : List A) → is_some (find p xs) ≡ false → list_any p xs ≡ false
 none_found p [] none = refl
 none_found p (x ∷ xs) none = by_test (p x) (none_found p xs) none
@@ -46,14 +44,12 @@ none_found p (x ∷ xs) none = by_test (p x) (none_found p xs) none
 
 -- ---- no two elements pass the test together
 
--- after the elements are changed
 pub no_two-map : {A B : Type 0} (f : A → B) (test : A → A → Bool) (after : B → B → Bool) → ((x y : A) → test x y ≡ false → after (f x) (f y) ≡ false) →
     (xs : List A) → NoTwo test xs → NoTwo after (map f xs)
 no_two-map f test after stays [] apart = tt
 no_two-map f test after stays (x ∷ xs) apart =
     (none-map f (test x) (after (f x)) (stays x) xs apart.0, no_two-map f test after stays xs apart.1)
 
--- after elements are removed
 pub no_two-filter : {A : Type 0} (keep : A → Bool) (test : A → A → Bool) (xs : List A) → NoTwo test xs → NoTwo test (filter keep xs)
 no_two-filter keep test [] apart = tt
 no_two-filter keep test (x ∷ xs) apart = by_test (keep x) (none-filter (test x) keep xs apart.0) (no_two-filter keep test xs apart.1)

@@ -14,7 +14,6 @@ use Rattle.macsec_tx.specs.Transmit.{parts_under}
 use Rattle.macsec_secy.specs.Protects.{OpensAs}
 use Rattle.macsec_secy.proofs.BehindTags.{same_back, same_behind_tags, same_front}
 
--- the laws of sealing and opening
 pub record CipherLaws : Type 0 where
   pub undoes : OpenUndoesSeal
   pub injective : SealingIsInjective
@@ -80,7 +79,6 @@ module _ (laws : CipherLaws) (key : InstalledKey) (iv : List ℕ) (tag : Tag) (f
 
 -- ---- what is opened
 
--- a frame is its addresses followed by its data
 cut_frame : (frame : List ℕ) → 12 ≤ length frame → (take 6 frame ++ slice_range frame 6 12) ++ drop 12 frame ≡ frame
 cut_frame frame long = ap (λ (xs : List ℕ). xs ++ drop 12 frame) (sym (take-add 6 6 frame)) ∙ take-append-drop 12 frame
 

@@ -23,7 +23,6 @@ HaveOtherSscis keys rows = All (λ row. HasOtherSsci keys row) rows
 
 -- ---- changes of the keys
 
--- a key is installed
 pub with_another_key : (keys : List InstalledKey) (rows : List RxRow) (new : InstalledKey) → HaveOtherSscis keys rows → HaveOtherSscis (keys ++ new ∷ []) rows
 with_another_key keys rows new have = All-weaker (HasOtherSsci keys) (HasOtherSsci (keys ++ new ∷ [])) still rows have
   where
@@ -102,7 +101,6 @@ pub with_all_narrowed : (keys : List InstalledKey) (channels : Channels) (window
     HaveOtherSscis keys (channels_narrowed channels window).rows
 with_all_narrowed keys channels window have = rows_changed keys (row_narrowed window) (record { key = λ row. refl; ssci = λ row. refl }) channels.rows have
 
--- an SA is created
 pub with_one_more : (keys : List InstalledKey) (channels : Channels) (sci : Sci) (an key ssci lowest : ℕ) →
     first_refusal (rx_sa_refusals keys channels sci an key ssci lowest) ≡ None → HaveOtherSscis keys channels.rows →
     HaveOtherSscis keys (with_rx_sa channels sci an key ssci lowest).rows
@@ -112,7 +110,6 @@ with_one_more keys channels sci an key ssci lowest e have =
     let has : HasOtherSsci keys new = record { there = not_refused (is_number_used keys key) NoKey _ e; other = none.1.1.1.1.1.0 } in
     All-append (HasOtherSsci keys) channels.rows (new ∷ []) have (All-cons (HasOtherSsci keys) new [] has (All-nil (HasOtherSsci keys)))
 
--- a link frame is received
 pub after_receiving : (keys : List InstalledKey) (window : ℕ) (j : Judgement) (rows : List RxRow) → HaveOtherSscis keys rows → HaveOtherSscis keys (rows_after window j rows)
 after_receiving keys window j rows have = by_parts (accepted_number j) j.row
   where

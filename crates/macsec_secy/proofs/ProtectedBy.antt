@@ -45,7 +45,6 @@ protected_by options keys rows frame row by = by_test options.protect by
     by_test true by' = by_on options keys rows frame row (row_on rows) refl by'
     by_test false by' = cc
 
--- what holds of all SAs holds of the enabled one
 pub is_row : (rows : List TxRow) (row : TxRow) → AreTxRows rows → row_on rows ≡ Some row → IsTxRow row
 is_row [] row are on = cc
 is_row (r ∷ rows) row are on = by_test r.on (is_row rows row are.2) on

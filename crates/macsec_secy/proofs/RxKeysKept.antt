@@ -70,7 +70,6 @@ pub without_channel_of : (keys : List InstalledKey) (channels : Channels) (sci :
     HaveRxKeys keys (without_channel channels sci).rows
 without_channel_of keys channels sci have = All-filter (λ row. not (same_sci row.sci sci)) (KeyIsThere keys) channels.rows have
 
--- an SA is created
 pub with_one_more : (keys : List InstalledKey) (channels : Channels) (sci : Sci) (an key ssci lowest : ℕ) →
     first_refusal (rx_sa_refusals keys channels sci an key ssci lowest) ≡ None → HaveRxKeys keys channels.rows →
     HaveRxKeys keys (with_rx_sa channels sci an key ssci lowest).rows
@@ -79,7 +78,6 @@ with_one_more keys channels sci an key ssci lowest none have =
     All-append (KeyIsThere keys) channels.rows (new ∷ []) have
     (All-cons (KeyIsThere keys) new [] (not_refused (is_number_used keys key) NoKey _ none) (All-nil (KeyIsThere keys)))
 
--- a link frame is received
 pub after_receiving : (keys : List InstalledKey) (window : ℕ) (j : Judgement) (rows : List RxRow) → HaveRxKeys keys rows → HaveRxKeys keys (rows_after window j rows)
 after_receiving keys window j rows have = by_parts (accepted_number j) j.row
   where

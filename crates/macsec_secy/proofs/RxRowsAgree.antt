@@ -88,7 +88,6 @@ with_one_switched channels window sci an on agree = record {
     still : (row : RxRow) → IsWithin window row → IsWithin window (at_place (row_switched on) sci an row)
     still row within = one_within window (row_switched on) sci an row (λ here. within) within
 
--- some SAs are deleted
 pub some_left : (keep : RxRow → Bool) (window : ℕ) (rows : List RxRow) → RxRowsAgree window rows → RxRowsAgree window (filter keep rows)
 some_left keep window rows agree = record {
   places = no_two-filter keep same_place rows agree.places;
@@ -145,11 +144,9 @@ with_one_raised keys channels window sci an pn e agree =
 
 -- ---- frames
 
--- an SA accepts a packet number
 accepting : (window number : ℕ) (row : RxRow) → IsWithin window row → IsWithin window (row_accepting window number row)
 accepting window number row within = omega arith
 
--- a link frame is received
 pub after_receiving : (window : ℕ) (j : Judgement) (rows : List RxRow) → RxRowsAgree window rows → RxRowsAgree window (rows_after window j rows)
 after_receiving window j rows agree = by_parts (accepted_number j) j.row
   where

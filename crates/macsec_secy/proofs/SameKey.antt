@@ -4,7 +4,6 @@ use Rattle.std.specs.Prelude.{◌==◌, if◌then◌else◌, Some, IsSome, unwra
 use Rattle.macsec_suite.specs.KeyRows.{InstalledKey, key_row, no_key, the_key}
 use Rattle.macsec_secy.proofs.KeysKept.{IsThere}
 
--- a key is the same when others are added after it
 pub same_with_more : (keys more : List InstalledKey) (number : ℕ) → IsThere keys number → the_key (keys ++ more) number ≡ the_key keys number
 same_with_more [] more number there = cc
 same_with_more (key ∷ keys) more number there = by_test (key.number == number) (same_with_more keys more number) there

@@ -19,7 +19,6 @@ clear_within : (offset : ℕ) (e : Bool) (xs : List ℕ) → clear_length offset
 clear_within offset true xs = omega arith
 clear_within offset false xs = omega arith
 
--- two lists, as a pair
 abbrev two : List ℕ → List ℕ → List ℕ × List ℕ
 two a c = (a, c)
 

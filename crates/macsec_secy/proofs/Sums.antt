@@ -18,11 +18,9 @@ use Rattle.macsec_secy.specs.Counting.{at_channel, count_in_channel, count_verdi
 use Rattle.macsec_secy.specs.Sums.{channel_packets_of}
 use Rattle.macsec_secy.specs.Sound.{sci_of_counters}
 
--- SCIs that compare equal are equal
 pub one_sci : (s t : Sci) → same_sci s t ≡ true → s ≡ t
 one_sci s t same = ap {B = Sci} (λ octets. record { 0 = octets }) (same_text s.0 t.0 (sym same))
 
--- one more, modulo 2^64
 abbrev pub IsOneMore : ℕ → ℕ → Type 0
 IsOneMore new old = new % 2 ^ 64 ≡ plus (old % 2 ^ 64) 1
 
@@ -47,7 +45,6 @@ IsOneMore-add_right new old rest one =
     let right : old + rest ≡ rest + old = omega arith in
     rw (left, right) (IsOneMore-add_left rest new old one)
 
--- a sum plus 0 is the same
 pub mod-as_plus_0 : (n : ℕ) → n % 2 ^ 64 ≡ plus (n % 2 ^ 64) 0
 mod-as_plus_0 n = omega arith
 
@@ -75,7 +72,6 @@ RaisesOne-Invalid c = IsOneMore-raised_part _ _ c.in_pkts_invalid (omega arith)
 pub RaisesOne-Passed : RaisesOne Passed
 RaisesOne-Passed c = IsOneMore-raised_part _ _ c.in_pkts_ok (omega arith)
 
--- the sum over the SCs
 abbrev pub channels_packets : List ChannelCounters → ℕ
 channels_packets rows = sum_by (λ row. channel_packets_of row.counters) rows
 

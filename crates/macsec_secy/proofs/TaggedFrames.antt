@@ -19,22 +19,18 @@ use Rattle.macsec_secy.specs.Sound.{sci_of_counters}
 use Rattle.macsec_secy.specs.Step.{frame_fault, link_frame, received, step}
 use Rattle.macsec_secy.proofs.Steps.{Tells, tells_tagged}
 
--- the judgement of a tagged frame
 abbrev pub judged : State → MpduParts → Judgement
 judged s p = judge_tagged (rx_options s) s.keys s.rx p
 
--- the output
 pub answered : (s : State) (frame : List ℕ) (p : MpduParts) → reading frame ≡ tagged p → frame_fault frame ≡ None →
     (verdict : Verdict) (row : Option (Sci × ℕ)) (delivered : Option (List ℕ)) → verdict ≡ (judged s p).verdict → row ≡ option_map place_of (judged s p).row →
     delivered ≡ (judged s p).delivered → received verdict row frame delivered ≡ (step s (link_frame frame)).0
 answered s frame p reads fits verdict row delivered v r d = rw (fits, reads, v, r, d) refl
 
--- the endpoint's counters
 counters_after : (mode : Mode) (j : Judgement) (p : MpduParts) (c : Counters) → Tells mode j →
     counted_by mode j.verdict p.tag.e (length p.secure_data) c ≡ octets_counted j (tagged p) (packet_counted j c)
 counters_after mode j p c tells = rw (tells.opened, tells.packet c) refl
 
--- the state
 pub state_left : (s : State) (frame : List ℕ) (p : MpduParts) → reading frame ≡ tagged p → frame_fault frame ≡ None → AreScis (map sci_of_counters s.rx_counters) →
     record s {
       rx = record s.rx { rows = rows_after s.options.window (judged s p) s.rx.rows };

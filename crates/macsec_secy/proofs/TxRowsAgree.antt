@@ -68,7 +68,6 @@ without_one rows an agree = record {
   one_on = no_two-filter (λ row. not (row.an == an)) both_on rows agree.one_on;
 }
 
--- a client frame is sent
 pub after_sending : (rows : List TxRow) (by : Option TxRow) → TxRowsAgree rows → TxRowsAgree (rows_after rows by)
 after_sending rows None agree = agree
 after_sending rows (Some by) agree = record {

@@ -109,7 +109,6 @@ next_grows an row = by_test (row.an == an)
     by_test true = omega arith
     by_test false = omega arith
 
--- an SA with another key
 other_used : (keys : List InstalledKey) (by row : TxRow) → (by.key ≡ row.key → ⊥) → HasUnusedNext keys row → HasUnusedNext (keys_noting keys by.key by.next) (used_at by.an row)
 other_used keys by row other unused =
     let same = sym (used_keeps_key by.an row) in
@@ -119,7 +118,6 @@ other_used keys by row other unused =
           (omega (arith, first-noting_other keys by.key by.next row.key other, unused.next, next_grows by.an row));
     }
 
--- the sending SA
 own_used : (keys : List InstalledKey) (by : TxRow) → HasUnusedNext keys by → HasUnusedNext (keys_noting keys by.key by.next) (used_at by.an by)
 own_used keys by unused =
     subst (λ b. HasUnusedNext (keys_noting keys by.key by.next) (if b then next_used by else by)) (sym (eq-eqb by.an by.an refl))
@@ -146,7 +144,6 @@ on_has_other_key (row ∷ rows) by key on none =
     by_on true other later on' same = let it : row ≡ by = cc in eqb-false row.key key other (ap (λ r. r.key) it ∙ same)
     by_on false other later on' same = later on' same
 
--- the next packet number of the enabled SA is unused
 pub on_unused : (keys : List InstalledKey) (rows : List TxRow) (by : TxRow) → row_on rows ≡ Some by → HaveUnusedNext keys rows → HasUnusedNext keys by
 on_unused keys [] by on have = cc
 on_unused keys (row ∷ rows) by on have = by_on row.on (λ on'. on_unused keys rows by on' have.2) on

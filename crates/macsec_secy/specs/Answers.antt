@@ -20,7 +20,6 @@ use Rattle.macsec_secy.specs.State.{State, start}
 use Rattle.macsec_commands.specs.Configs.{config_fault}
 use Rattle.macsec_secy.specs.Step.{Output, done, refused, leaves, dropped_no_sa, dropped_too_long, received, fault}
 
--- the result of `command`
 abbrev pub output_of_command : {A : Type 0} → Result A Refusal → Output
 output_of_command (Ok nothing) = done
 output_of_command (Err r) = refused r
@@ -30,18 +29,15 @@ abbrev pub drop_output : DropReason → Output
 drop_output NoSa = dropped_no_sa
 drop_output TooLong = dropped_too_long
 
--- the result of `send`
 abbrev pub output_of_sent : Result Sent FrameFault → Output
 output_of_sent (Ok (Link frame under)) = leaves frame.now under
 output_of_sent (Ok (Dropped reason)) = drop_output reason
 output_of_sent (Err f) = fault f
 
--- the result of `receive`
 abbrev pub output_of_received : Result Received FrameFault → Output
 output_of_received (Ok r) = received r.verdict r.row r.uncontrolled.now (option_map (λ (f : Bor (List ℕ)). f.now) r.controlled)
 output_of_received (Err f) = fault f
 
--- the result of `send_uncontrolled`
 abbrev pub output_of_frame : Result (Bor (List ℕ)) FrameFault → Output
 output_of_frame (Ok frame) = leaves frame.now None
 output_of_frame (Err f) = fault f

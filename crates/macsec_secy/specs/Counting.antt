@@ -12,7 +12,6 @@ use Rattle.macsec_secy.specs.declared.counters.RxCounters.{RxCounters}
 use Rattle.macsec_secy.specs.declared.counters.ChannelCounters.{ChannelCounters}
 use Rattle.macsec_secy.specs.State.{no_rx_counters}
 
--- a counter raised by n
 abbrev pub plus : ℕ → ℕ → ℕ
 plus counter n = (counter + n) % 2 ^ 64
 

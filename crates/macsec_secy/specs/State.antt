@@ -27,7 +27,6 @@ pub record State : Type 0 where
   pub tx_counters : TxCounters
   pub rx_counters : List ChannelCounters
 
--- counters of 0
 abbrev pub no_counters : Counters
 no_counters = record {
   in_pkts_untagged = 0;

@@ -34,7 +34,6 @@ enum Answer {
     Fault(FrameFault),
 }
 
-/// The number of the key of the test frames.
 fn key_number() -> KeyNumber {
     KeyNumber::new(4095).unwrap()
 }
@@ -69,7 +68,6 @@ fn carry_out(rt: &impl Abort, secy: &mut Secy, command: &Command) {
     assert!(rt; secy.command(command).is_ok());
 }
 
-/// The result for a client frame.
 fn answer_to(secy: &mut Secy, client: &[u8]) -> Answer {
     match secy.send(client) {
         Ok(Sent::Link { frame, under }) => Answer::Sent(frame.len(), under),
@@ -110,12 +108,10 @@ fn configurations(rt: HostRuntime) {
     }
 }
 
-/// What is sent from the uncontrolled port.
 fn uncontrolled<'a>(secy: &Secy, frame: &'a [u8]) -> Result<&'a [u8], FrameFault> {
     secy.send_uncontrolled(frame)
 }
 
-/// The fault of a received frame.
 fn fault_of(secy: &mut Secy, frame: &[u8]) -> Option<FrameFault> {
     secy.receive(frame).err()
 }
@@ -353,7 +349,6 @@ const CASES: [Case; 13] = [
     ),
 ];
 
-/// Sets the octet at an index.
 fn set(link: &mut [u8], place: usize, octet: u8) {
     if let Some(at) = link.get_mut(place) {
         *at = octet;
@@ -384,7 +379,6 @@ fn associations_of_frames(rt: HostRuntime) {
     }
 }
 
-/// The numbers of passed and of late frames in these counters.
 fn passed_and_late(counters: Option<RxCounters>) -> Option<(u64, u64)> {
     let counters = counters?;
     Some((counters.in_pkts_ok, counters.in_pkts_late))

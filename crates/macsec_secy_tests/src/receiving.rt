@@ -16,7 +16,6 @@ use std::test::Fail;
 /// The SCI of the sender of the test frames.
 const SENDER: Sci = Sci(SCI);
 
-/// The own SCI.
 const OWN: Sci = Sci([0, 0, 0, 0, 0, 0, 0, 2]);
 
 /// The sender's SC, whose SA for the test frames is enabled.
@@ -171,7 +170,6 @@ enum Command {
     DeleteChannel,
 }
 
-/// The result of the SCs for a command.
 fn answer_to(channels: &mut RxChannels, command: Command) -> Result<(), Refusal> {
     match command {
         Command::Off => channels.rx_off(SENDER, an()),

@@ -87,7 +87,6 @@ enum Command {
     Delete,
 }
 
-/// The SC's result for a command.
 fn answer_to(channel: &mut TxChannel, command: Command) -> Result<(), Refusal> {
     match command {
         Command::Off => channel.tx_off(an()),
@@ -101,7 +100,6 @@ fn seen(rt: &impl Abort, channel: &TxChannel) -> (Option<TxRow>, bool) {
     (channel.row_on(), channel.uses(key_number()))
 }
 
-/// A new SC.
 fn new_channel(alloc: Global) -> Result<TxChannel, Fail> {
     let keys = key_table(alloc)?;
     channel_on(&keys, false)
