@@ -98,7 +98,7 @@ failures: build/macsec build/macsec-failures
 stored-runs: build/macsec
 	tools/stored-runs
 
-controls: build/macsec build/libmacsec.a
+controls: build/macsec build/macsec-rattle build/macsec-failures build/libmacsec.a
 	tools/controls
 
 peer: build/macsec

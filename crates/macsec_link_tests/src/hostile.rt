@@ -119,6 +119,10 @@ fn bring(
                 verdict_on(rt, world, FRAMES - 1 - n)?;
             }
             Way::Altered => {
+                assert!(rt;
+                    octet_at(world, n, LINK_LEN).is_none(),
+                    "frame {n} is longer"
+                );
                 for place in 0..LINK_LEN {
                     deliver_altered(rt, world, conf, lowest, n, place)?;
                 }

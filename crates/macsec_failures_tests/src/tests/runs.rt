@@ -267,6 +267,13 @@ fn check_device(
         let mut devices = devices_of(alloc, task, file, place, fails);
         check_end(rt, alloc, task, place, &mut devices, count, end);
     }
+    // At each stop of the run a call is made to fail.
+    let last = count.min(CHECKED_CALLS).saturating_sub(1);
+    assert_eq!(rt;
+        stop_of(calls, last),
+        stop_of(calls, count.saturating_sub(1)),
+        "{place:?}"
+    );
     for at in 0..count.min(CHECKED_CALLS) {
         let stop = Stop::behind(alloc, task.steps(), stop_of(calls, at))?;
         check_call(
