@@ -1,15 +1,15 @@
-"""Made capture files in the format pcapng: of some frames, in any form that docs/CAPTURES.md names, and at fault.
+"""Makes pcapng files from frames: in every form that docs/CAPTURES.md names, and with faults.
 
-A file has one section or some, each in an order of octets and with interfaces of its own. Between the blocks of its
-packets stand others, which say nothing.
+A file has one or more sections. Each section has its own byte order and its own interfaces. Between the packet blocks
+are blocks that the program skips.
 """
 
 import struct
 
 SECTION, INTERFACE, SIMPLE, ENHANCED = 0x0A0D0D0A, 1, 3, 6
-# Old packets, names, statistics, secrets, and blocks of makers; and types that no one has.
+# Obsolete packets, names, statistics, secrets and custom blocks; and types that are not assigned.
 OTHERS = (2, 4, 5, 10, 0x0BAD, 0x40000BAD, 0, 7, 0xFFFFFFFF)
-# What if_tsresol says: powers of ten and of two, some of them with units that are finer than a nanosecond.
+# Values of if_tsresol: powers of ten and of two, some of them with units finer than a nanosecond.
 RESOLUTIONS = (0, 3, 6, 6, 9, 9, 10, 12, 19, 20, 127, 0x80, 0x80 | 10, 0x80 | 20, 0x80 | 30, 0x80 | 63, 0x80 | 64, 0xFF)
 OFFSETS = (0, 1, -1, 1_700_000_000, -(2**31), 2**32 - 1, 2**63 - 1, -(2**63))
 
@@ -19,7 +19,7 @@ def padded(octets):
 
 
 def units_of(resolution):
-    """How many units a second has."""
+    """The number of units in a second."""
     return 2 ** (resolution - 128) if resolution > 127 else 10**resolution
 
 
@@ -35,18 +35,18 @@ class Blocks:
         self.begin_section()
 
     def odd(self, odds, choices, usual):
-        """Mostly what is usual; in a file that can be at fault, one time of so many one of these."""
+        """The usual value; in a file that may have faults, once in `odds` times one of the choices."""
         return usual if self.is_sound or self.rng.randrange(odds) else self.rng.choice(choices)
 
     def add(self, kind, body):
-        """A block; seldom with a length that is none."""
+        """Appends a block, rarely with an invalid length."""
         body, length = padded(body), len(padded(body)) + 12
         first = self.odd(80, (length - 4, length + 4, length + 1, 0, 8, 2**32 - 4), length)
         last = self.odd(80, (length - 4, length + 4, 0, 2**32 - 4), first)
         self.octets += struct.pack(self.order + "II", kind, first) + body + struct.pack(self.order + "I", last)
 
     def begin_section(self):
-        """A section header; some sections know their length."""
+        """Appends a section header; some sections give their length."""
         rng = self.rng
         self.order, self.interfaces = rng.choice("<<>"), []
         magic = self.odd(40, (0x1A2B3C4E, 0, 0xA1B2C3D4), 0x1A2B3C4D)
@@ -58,7 +58,7 @@ class Blocks:
             self.describe()
 
     def describe(self):
-        """An interface, with options in any order, some of which are read past."""
+        """Appends an interface, with options in any order. The program skips some of them."""
         rng, order = self.rng, self.order
         resolution, offset, options = 6, 0, []
         if rng.randrange(4):
@@ -74,7 +74,7 @@ class Blocks:
         options += [option(order, code, value) for code, value in others if rng.randrange(2)]
         rng.shuffle(options)
         if rng.randrange(2):
-            # What comes behind the last option is not read.
+            # Nothing after the last option is read.
             options += [option(order, 0, b""), rng.choice((b"", option(order, 9, b"\x03"), b"\xff" * 4))]
         link = self.odd(20, (0, 113, 257, 65_535), 1)
         snap = rng.choice((0, 262_144, 65_535, 65_535, 14, 20, 1_518))
@@ -82,12 +82,12 @@ class Blocks:
         self.add(INTERFACE, struct.pack(order + "HHI", link, rng.choice((0, 0, 9)), snap) + b"".join(options))
 
     def between(self):
-        """A block that says nothing, of an interface or of nobody."""
+        """Appends a block that the program skips, of a known type or an unassigned one."""
         rng = self.rng
         self.add(rng.choice(OTHERS), rng.randbytes(rng.choice((0, 4, 20, 20, 33, 100, 5_000))))
 
     def ticks(self, resolution, offset):
-        """A time that mostly is one of some seconds; in a file that can be at fault, any."""
+        """A time, usually one of a few values; in a file that may have faults, any time."""
         rng, units = self.rng, units_of(resolution)
         odd = self.odd(4, (2**32, -1 - offset), 0)
         seconds = max(0, rng.choice((rng.randrange(100), 2**32 - 1 - offset, 1_700_000_000, odd)))
@@ -99,7 +99,7 @@ class Blocks:
         return ticks % 2**64 if rng.randrange(4) else rng.choice((1, rng.randrange(2**32), 2**64 - 1))
 
     def send(self, frame):
-        """A packet of this frame, or of a part of it."""
+        """Appends a packet with this frame, or with part of it."""
         rng = self.rng
         whole = len(frame) + self.odd(12, (1, 6, 1_000, -6, -1), 0)
         if self.interfaces and rng.randrange(5) == 0 and self.fits(len(frame)):
@@ -115,18 +115,18 @@ class Blocks:
         self.add(ENHANCED, fields + padded(frame) + options)
 
     def fits(self, size):
-        """Can a simple packet have all of so many octets?"""
+        """Can a simple packet have all of this number of octets?"""
         snap = self.interfaces[0][0]
         return not self.is_sound or snap == 0 or size <= snap
 
     def many(self):
-        """As many interfaces as a section can have, or one more."""
+        """Appends interfaces up to the limit of a section, or one more."""
         for _ in range(256 + self.rng.randrange(2) - len(self.interfaces)):
             self.describe()
 
 
 def made_file(rng, frames, is_sound=False):
-    """A file of these frames; one that is sound has all of them, whole."""
+    """A file with these frames; if it is sound, it has all of them complete."""
     blocks = Blocks(rng, is_sound)
     for frame in frames:
         way = rng.randrange(12)

@@ -1,8 +1,8 @@
-/* Makes the calls of macsec.h that the lines of standard input name, and prints what each answers: for fuzz/calls.py.
+/* Makes the calls of macsec.h that the lines of standard input name, and prints each answer. fuzz/calls.py runs it.
  *
- * A line is the name of a call without macsec_, the number of a handle, and its other arguments: numbers in decimal,
- * octets in hex, and - where there are none. Each frame lies in a block of exactly its length, and each answer in one of
- * its own, so that valgrind sees what is read or written beside them. A line of another kind ends the program. */
+ * A line is the name of a call without macsec_, the number of a handle, and the other arguments: numbers in decimal,
+ * octets in hex, and - for no octets. Each frame is in a block of exactly its length, and each answer in a block of its
+ * own, so that valgrind detects reads and writes outside them. A line in any other form ends the program. */
 #include "macsec.h"
 #include <errno.h>
 #include <stdio.h>
@@ -34,16 +34,16 @@ static unsigned digit(char c) {
     return c >= '0' && c <= '9' ? (unsigned)(c - '0') : (unsigned)(c - 'a') + 10;
 }
 
-/* How many octets a word has at most. */
+/* The number of octets that a word has at most. */
 static size_t length_of(const char *word) {
     if (word == NULL)
         fail("a word is missing");
     return strlen(word) / 2;
 }
 
-/* Writes the octets of a word and returns how many they are. */
+/* Writes the octets of a word and returns their number. */
 static size_t octets(const char *word, uint8_t *to, size_t most) {
-    size_t count = length_of(word); /* of "-" none */
+    size_t count = length_of(word); /* 0 for "-" */
     if (count > most)
         fail("too many octets");
     for (size_t i = 0; i < count; i++)
@@ -70,7 +70,7 @@ static void *room_of(size_t size) {
     return room;
 }
 
-/* A number of 128 bits by its halves. */
+/* Prints a number of 128 bits, given as two halves. */
 static void print_halves(uint64_t high, uint64_t low) {
     printf(" %llx%016llx", (unsigned long long)high, (unsigned long long)low);
 }
@@ -186,7 +186,7 @@ static uint32_t tx_counters(macsec_endpoint *e) {
     return status;
 }
 
-/* Those of a channel, of its association of this number, or of its removed ones. */
+/* The counters of a channel, of its SA with this AN, or of its deleted SAs. */
 static uint32_t rx_counters(macsec_endpoint *e, const char *name, char **w) {
     macsec_rx_counters_shown c = { 7, 7, 7, 7, 7, 7 };
     uint8_t sci[8];
@@ -255,7 +255,7 @@ static uint32_t rx_command(macsec_endpoint *e, const char *name, char **w, int c
     return macsec_rx_sa(e, sci, an, (uint16_t)number(w[2]), (uint32_t)number(w[3]), number(w[4]));
 }
 
-/* A command whose first argument, if it has one, is a number. */
+/* A command whose first argument, if any, is a number. */
 static uint32_t command(macsec_endpoint *e, const char *name, char **w) {
     uint64_t n = number(w[0]);
     if (strcmp(name, "protect") == 0)

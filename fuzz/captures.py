@@ -1,12 +1,12 @@
-"""Capture files, by the rules of docs/CAPTURES.md: what a file holds in either format, and what is written.
+"""The rules of docs/CAPTURES.md for capture files: what a file contains in either format, and what is written.
 
-Standard library alone.
+Needs only the standard library.
 """
 
 import struct
 
 MAX_RECORD, MAX_BODY, MAX_INTERFACES = 262_144, 262_164, 256
-# The types of the blocks that are not skipped, and the fewest octets of each; of any other block they are 12.
+# The types of the blocks that are not skipped, and their minimum lengths in octets; it is 12 for any other block.
 SECTION, INTERFACE, SIMPLE, ENHANCED = 0x0A0D0D0A, 1, 3, 6
 LEAST = {SECTION: 28, INTERFACE: 20, SIMPLE: 16, ENHANCED: 32}
 ORDERS = {b"\x1a\x2b\x3c\x4d": ">", b"\x4d\x3c\x2b\x1a": "<"}
@@ -17,18 +17,18 @@ class PcapFault(Exception):
 
 
 def read_capture(file):
-    """Whether the unit is a nanosecond, and the records: seconds, fraction, and the frame, or None of a partial one."""
+    """Whether the unit is a nanosecond, and the records: seconds, fraction, and the frame, or None if it is partial."""
     if file[:4] == struct.pack(">I", SECTION):
         return True, read_packets(file, *read_first_block(file))
     order, is_nano = read_header(file)
     return is_nano, read_records(file, order)
 
 
-# The format pcap.
+# The pcap format.
 
 
 def read_header(file):
-    """The order of octets, and whether the unit is a nanosecond."""
+    """The byte order, and whether the unit is a nanosecond."""
     if len(file) < 24:
         raise PcapFault("CutHeader")
     for order in "<>":
@@ -43,7 +43,7 @@ def read_header(file):
 
 
 def read_records(file, order):
-    """The records of a file in the format pcap."""
+    """The records of a pcap file."""
     place = 24
     while place < len(file):
         if len(file) - place < 16:
@@ -66,11 +66,11 @@ def write_record(seconds, fraction, frame):
     return struct.pack("<IIII", seconds, fraction, len(frame), len(frame)) + frame
 
 
-# The format pcapng.
+# The pcapng format.
 
 
 def read_block(file, place, order):
-    """The block at a place: the order of its octets, its type, its body, and the place behind it."""
+    """The block at an offset: its byte order, its type, its body, and the offset after it."""
     if len(file) - place < 8:
         raise PcapFault("CutRecord")
     (kind,) = struct.unpack_from(order + "I", file, place)
@@ -98,7 +98,7 @@ def test_version(order, body):
 
 
 def read_first_block(file):
-    """The order of octets of the first section, and the place behind its header."""
+    """The byte order of the first section, and the offset after its header."""
     try:
         order, _, body, place = read_block(file, 0, ">")
     except PcapFault as fault:
@@ -108,7 +108,7 @@ def read_first_block(file):
 
 
 def read_packets(file, order, place):
-    """The packets behind the first section header, with times in nanoseconds."""
+    """The packets after the first section header, with times in nanoseconds."""
     interfaces = []
     while place < len(file):
         order, kind, body, place = read_block(file, place, order)
@@ -152,7 +152,7 @@ def read_interface(order, body):
 
 
 def interface_of(interfaces, number):
-    """What is known of the interface of a packet, which is one of Ethernet: all but its link type."""
+    """Everything but the link type of a packet's interface, which must be Ethernet."""
     if number >= len(interfaces):
         raise PcapFault("NoInterface")
     link, *rest = interfaces[number]

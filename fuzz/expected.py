@@ -1,7 +1,8 @@
 """What the program must print, write and return, by the rules of docs/: scripts, endpoints, links and captures.
 
-The rules of docs/ are written here once more, in Python, so that an answer of the program can be compared with them.
-captures.py has those of capture files. Standard library alone. FIPS 197 and SP 800-38D are at the end of this file.
+The rules of docs/ are written here again in Python, so that the program's answers can be compared with them. The rules
+for capture files are in captures.py. FIPS 197 and SP 800-38D are at the end of this file. Needs only the standard
+library.
 """
 
 import functools
@@ -89,9 +90,9 @@ def is_hex(word):
 AN, NUMBER, OFFSET, LINK_NUMBER = decimal(0, 3), decimal(0, 4095), decimal(0, 255), decimal(0, 2**32 - 1)
 SCI, SSCI, SALT, FRAME, OCTET = hexadecimal(8), hexadecimal(4), hexadecimal(12), hexadecimal(), hexadecimal(1)
 WINDOW, SUITE = decimal(0, 2**64 - 1), one_of(*SUITES)
-# The words of a key that are never left out.
+# The words of a key that are always present.
 KEY = (NUMBER, hexadecimal(16, 32), OFFSET)
-# The lines that do not begin with an end, and those that do: the words after the keyword, in each of their forms.
+# The lines that do not begin with an end, and those that do: the words after the keyword, for each form.
 PLAIN = {
     "end": [(one_of("A", "B"), SUITE, SCI, decimal(64, MAX_FRAME), one_of(*FORMS))],
     "alter": [(LINK_NUMBER, LINK_NUMBER, OCTET)],
@@ -159,7 +160,7 @@ def is_in_place(index, keyword, end, values, is_config):
 
 
 def parse(octets, is_config):
-    """The lines of a script, or of a configuration, that are not skipped, with their numbers."""
+    """The lines of a script or of a configuration that are not skipped, with their numbers."""
     lines = octets.split(b"\n")
     if not lines[-1]:
         lines.pop()
@@ -191,7 +192,7 @@ def parse(octets, is_config):
 
 
 class Sa:
-    """An association: a transmit association has no lowest packet number, and a receive association no mode."""
+    """An SA. A transmit SA has no lowest packet number, and a receive SA has no `conf`."""
 
     def __init__(self, key, next_pn, ssci=None, conf=None):
         self.key, self.next, self.lowest, self.ssci, self.conf, self.on = key, next_pn, next_pn, ssci, conf, False
@@ -219,7 +220,7 @@ class Endpoint:
         self.counters = dict.fromkeys(SECY_COUNTERS, 0)
         self.seal, self.open_sealed = seal, open_sealed
 
-    # Commands. The refusals of each are tested in the order of their numbers.
+    # Commands. Each tests its refusals in the order of their numbers.
 
     def command(self, keyword, values):
         getattr(self, "do_" + keyword)(*values)
@@ -243,7 +244,7 @@ class Endpoint:
         self.form = form
 
     def do_key(self, number, octets, offset, *rest):
-        """The words after the offset are none, a suite, an SSCI and a salt, or all three."""
+        """After the offset come no words, a suite, an SSCI and a salt, or all three."""
         suite = rest[0] if len(rest) in (1, 3) else self.suite
         ssci, salt = rest[-2:] if len(rest) > 1 else (bytes(4), bytes(12))
         key_length, is_xpn = SUITES[suite]
@@ -344,7 +345,7 @@ class Endpoint:
         return bytes(a ^ b for a, b in zip(key.salt, ssci + struct.pack(">Q", pn)))
 
     def tag_bits(self, source):
-        """The bits of the SecTAG that say whose frame it is: SC, ES, SCB or none."""
+        """The bits of the SecTAG that identify the sender: SC, ES, SCB or none."""
         if self.form == "auto":
             return 0x20 if len(self.channels) > 1 else 0
         if self.form != "sci" and source == self.sci[:6]:
@@ -352,7 +353,7 @@ class Endpoint:
         return 0x20
 
     def send(self, frame):
-        """The link frame, or why there is none."""
+        """The link frame, or the reason why there is none."""
         if not self.protects:
             if len(frame) > self.max_frame:
                 self.count("OutPktsTooLong")
@@ -385,14 +386,14 @@ class Endpoint:
         return head + sealed
 
     def receive(self, frame):
-        """The verdict on a link frame, and what is delivered at the controlled port or None."""
+        """The verdict on a link frame, and the frame delivered at the controlled port or None."""
         verdict, delivered, counting = self.judged(frame)
         for it in counting or (self,):
             it.counters["InPkts" + verdict] = (it.counters["InPkts" + verdict] + 1) % 2**64
         return verdict, delivered
 
     def judged(self, frame):
-        """The verdict, what is delivered, and the channel and its association that count it or None."""
+        """The verdict, the delivered frame, and the channel and SA that count it or None."""
         read = read_frame(frame)
         if read == "Untagged":
             return ("NoTag", None, None) if self.mode == "strict" else ("Untagged", frame, None)
@@ -524,7 +525,7 @@ class World:
         return f"frame {len(self.link) - 1} {frame.hex()}"
 
     def event(self, keyword, end, values):
-        """What an event prints."""
+        """Carries out an event, and returns what it prints."""
         if keyword in ("send", "sendu", "inject"):
             return self.sending(keyword, end, *values)
         if keyword == "deliver":
@@ -557,7 +558,7 @@ class World:
         return f"dropped {reason}" if made is None else self.add(made)
 
     def result(self, keyword, end, values):
-        """What a command or an event prints."""
+        """Carries out a command or an event, and returns what it prints."""
         if keyword not in COMMANDS:
             try:
                 return self.event(keyword, end, values)
@@ -579,7 +580,7 @@ def text_of(lines):
 
 
 def lines_told(world, number, keyword, end, values):
-    """The lines that are printed of a line of a script."""
+    """The lines that are printed for a line of a script."""
     if keyword == "counters":
         return world.ends[end].counter_lines(number)
     if keyword == "numbers":
@@ -588,7 +589,7 @@ def lines_told(world, number, keyword, end, values):
 
 
 def run_script(script, make_world=World):
-    """Status, text and the line on standard error."""
+    """The exit status, the text and the line on standard error."""
     try:
         lines = parse(script, is_config=False)
     except ScriptFault as fault:
@@ -604,7 +605,7 @@ def run_script(script, make_world=World):
 
 
 def run_capture(direction, config, file):
-    """Status, text, the line on standard error, and the output file."""
+    """The exit status, the text, the line on standard error, and the output file."""
     try:
         lines = parse(config, is_config=True)
     except ScriptFault as fault:
@@ -626,7 +627,7 @@ def run_capture(direction, config, file):
 
 
 def record_result(endpoint, direction, frame):
-    """What is printed of a record, and the frame that is written or None."""
+    """What is printed for a record, and the frame that is written or None."""
     if frame is None:
         return "partial", None
     if len(frame) < MIN_FRAME:
@@ -640,7 +641,7 @@ def record_result(endpoint, direction, frame):
     return (verdict if delivered is None else f"{verdict} {len(delivered)}"), delivered
 
 
-# AES of FIPS 197, forward alone, and GCM of SP 800-38D with IVs of 12 octets and tags of 16.
+# AES of FIPS 197, encryption only, and GCM of SP 800-38D with IVs of 12 octets and tags of 16.
 
 
 def xtime(a):
@@ -663,7 +664,7 @@ def s_box_of(a):
 
 
 S_BOX = [s_box_of(it) for it in range(256)]
-# SubBytes and MixColumns of one octet, for each of the four rows, as a word.
+# SubBytes and MixColumns of one octet, as a word for each of the four rows.
 MIXED = [
     [
         int.from_bytes(bytes(product(S_BOX[it], factor) for factor in (2, 1, 1, 3)[-row:] + (2, 1, 1, 3)[:-row]), "big")

@@ -1,6 +1,6 @@
-"""The inputs of fuzz.py: scripts, configurations, captures and words of the command line, altered or made.
+"""The inputs of fuzz.py: altered or generated scripts, configurations, captures and command line arguments.
 
-Input number N of a seed depends on these two alone, and on the files of this repository that it starts from.
+Input number N of a seed depends only on these two numbers and on the files of this repository that it starts from.
 """
 
 import collections
@@ -18,14 +18,15 @@ import promises
 
 ROOT = pathlib.Path(__file__).resolve().parent.parent
 DATA = ROOT / "crates/macsec_examples/data"
-# A client frame of 14 octets, the shortest one.
+# A client frame of 14 octets, the minimum.
 SHORTEST = bytes.fromhex("ffffffffffff0200000000010800")
 
 
 class Case:
-    """The words of the program, its standard input, its files, and the answer that is expected.
+    """The program's arguments, its standard input, its files, and the expected answer.
 
-    The answer has status, text, standard error, and the octets of OUT, or None where no file is created or changed.
+    The answer has the exit status, the text, standard error, and the octets of OUT, or None if no file is created or
+    changed.
     """
 
     def __init__(self, kind, words, answer, stdin=b"", files=(), met=None, out="out"):
@@ -33,12 +34,12 @@ class Case:
         self.met, self.out = met or {}, out
 
     def files_after(self):
-        """The files that there must be after the run."""
+        """The files that must exist after the run."""
         return self.files if self.answer[3] is None else {**self.files, self.out: self.answer[3]}
 
 
 class Capture:
-    """The fields of a capture file. A record is its times, its lengths less those of its frame, and its frame."""
+    """The fields of a capture file. A record has its times, its lengths minus the frame's length, and its frame."""
 
     def __init__(self, frames, order="<", is_nano=False):
         self.order, self.is_nano = order, is_nano
@@ -83,7 +84,7 @@ class Corpus:
         self.lines = sorted({line for script in self.scripts for line in script.split(b"\n") if len(line) < 300})
 
     def add_runs(self, script, text):
-        """What each end of a script sends and receives, as captures of that end."""
+        """Adds what each end of a script sends and receives, as captures of that end."""
         link = {int(n): bytes.fromhex(it.decode()) for n, it in re.findall(rb" frame (\d+) ([0-9a-f]+)", text)}
         lines = [it.split() for it in script.split(b"\n")]
         for end in (b"A", b"B"):
@@ -126,13 +127,13 @@ EDGES = (
 
 
 def span(rng, length):
-    """A range of places, mostly a short one."""
+    """A range of indices, usually a short one."""
     first = rng.randrange(length + 1)
     return first, min(length, first + rng.choice((1, 1, 2, 3, 8, 40, length)))
 
 
 def of_items(rng, items, others):
-    """Items of a list are left out, repeated, exchanged or taken from elsewhere."""
+    """The items of a list, some of them removed, repeated, exchanged or taken from elsewhere."""
     items = list(items)
     first, last = span(rng, len(items))
     way = rng.randrange(6)
@@ -153,7 +154,7 @@ def of_items(rng, items, others):
 
 
 def of_octets(rng, octets):
-    """Octets are altered, left out, repeated or put in, or the end is cut."""
+    """The octets, some of them altered, removed, repeated or inserted, or without the end."""
     octets = bytearray(octets)
     first, last = span(rng, len(octets))
     way = rng.randrange(6)
@@ -173,7 +174,7 @@ def of_octets(rng, octets):
 
 
 def of_word(rng, word, words):
-    """Another word in its place, mostly one of its kind, or one with another digit."""
+    """Another word in place of this one, usually one of the same kind, or one with another digit."""
     way = rng.randrange(24)
     if way < 10:
         return rng.choice(words[kind_of(word)] or [word])
@@ -190,7 +191,7 @@ def of_word(rng, word, words):
 
 
 def kind_of(word):
-    """Words of one kind can mostly stand in each other's places."""
+    """The kind of a word. Words of one kind can usually replace each other."""
     if word.isdigit() and len(word) < 6:
         return "number"
     if re.fullmatch(rb"[0-9a-fA-F]+", word) and len(word) > 1:
@@ -199,7 +200,7 @@ def kind_of(word):
 
 
 def of_words(rng, line, words):
-    """A word of a line is altered, or its words are."""
+    """A line with one word altered, or with its words rearranged."""
     items = line.split(b" ")
     if rng.randrange(16) == 0:
         return b" ".join(of_items(rng, items, words[None]))
@@ -209,7 +210,7 @@ def of_words(rng, line, words):
 
 
 def of_text(rng, corpus, text):
-    """A script or a configuration, after some mutations, or at a limit."""
+    """A script or a configuration after some mutations, or one at a limit."""
     if rng.randrange(250) == 0:
         return at_limit(rng, text)
     if rng.randrange(15) == 0:
@@ -227,7 +228,7 @@ def of_text(rng, corpus, text):
 
 
 def at_limit(rng, text):
-    """A text with a line or a length at one of the limits of scripts, or one octet or line past it; or a long one."""
+    """A text with a line or a length at one of the limits of scripts, or one octet or line past it; or a long text."""
     past = rng.randrange(-1, 2)
     way = rng.choice((0, 1, 2, 2, 2, 3, 4))
     if way == 0:
@@ -244,7 +245,7 @@ def at_limit(rng, text):
 
 
 def at_edge(rng, text):
-    """A text with a long line, a number of many digits, two carriage returns, or no line behind its first."""
+    """A text with a long line, a number with many digits, two carriage returns, or no line after its first."""
     way, lines = rng.choice((0, 0, 1, 2, 3)), text.split(b"\n")
     if way == 0:
         return text + b"#" * (expected.MAX_LINE + rng.choice((0, 0, -1, 1))) + rng.choice((b"\r\n", b"\r\n", b"\n"))
@@ -258,7 +259,7 @@ def at_edge(rng, text):
 
 
 def of_frame(rng, frame):
-    """A frame, with another tag, cut, padded or altered."""
+    """A frame with another tag, or one that is cut, padded or altered."""
     frame = bytearray(frame)
     way = rng.randrange(8)
     if way == 0:
@@ -279,19 +280,19 @@ def of_frame(rng, frame):
 
 
 def of_capture(rng, frames):
-    """A capture file of these frames in one of the two formats, in any form, after some mutations."""
+    """A capture file with these frames, in either format and any form, after some mutations."""
     octets = of_blocks(rng, frames) if rng.randrange(3) == 0 else of_records(rng, frames)
     return octets if rng.random() < 0.7 else of_octets(rng, octets)
 
 
 def of_blocks(rng, frames):
-    """A file in the format pcapng, after some mutations of frames and blocks."""
+    """A pcapng file, after some mutations of frames and blocks."""
     frames = [of_frame(rng, it) if rng.randrange(4) == 0 else it for it in frames]
     return blocks.made_file(rng, frames, is_sound=rng.randrange(3) == 0)
 
 
 def of_records(rng, frames):
-    """A file in the format pcap, after some mutations of frames, records and fields."""
+    """A pcap file, after some mutations of frames, records and fields."""
     capture = Capture(frames, rng.choice("<<>"), rng.random() < 0.3)
     for _ in range(rng.choice((0, 1, 1, 2, 3))):
         records, place = capture.records, rng.randrange(len(capture.records) or 1)
@@ -317,7 +318,7 @@ def of_records(rng, frames):
 
 
 def script_case(rng, corpus):
-    """A script of this repository or a made one, after mutations."""
+    """A script of this repository or a generated one, after mutations."""
     script = rng.choice(corpus.scripts)
     if rng.randrange(2):
         script = made.made_script(rng)[0]
@@ -333,7 +334,7 @@ def script_case(rng, corpus):
 
 
 def made_case(rng, _corpus):
-    """A script without a fault, of two ends that have associations in both directions, and of any events."""
+    """A script without a fault, for two ends that have SAs in both directions, with any events."""
     script, text, met = made.made_script(rng)
     return Case("made", ["run", "-"], (0, text, b"", None), script, met=met)
 
@@ -353,7 +354,7 @@ def capture_case(rng, corpus):
 
 
 def back_case(rng, _corpus):
-    """Client frames are protected, or what that made of them is validated, which must give them again."""
+    """Client frames to protect; or the resulting link frames to validate, which must give the client frames back."""
     suite, own, others = (rng.choice(list(expected.SUITES)) for _ in range(3))
     length, is_xpn = expected.SUITES[suite]
     key, sci = rng.randbytes(length).hex(), "0200000000010001"
@@ -384,7 +385,7 @@ def back_case(rng, _corpus):
 
 
 def words_case(rng, corpus):
-    """Words of no form of the program, names of files that can't be opened or read, and files whose name is `-`."""
+    """Invalid arguments, names of files that cannot be opened or read, or files with the name `-`."""
     way = rng.randrange(16)
     if way < 4:
         return usage_case(rng, way)
@@ -392,7 +393,7 @@ def words_case(rng, corpus):
 
 
 def usage_case(rng, way):
-    """Words of no form of the program: no file is created or changed."""
+    """Arguments that the program refuses: no file is created or changed."""
     words = rng.choice((["run", "-"], ["protect", "config", "in", "out"], ["validate", "config", "in", "out"]))
     if way == 0:
         words = words[: rng.randrange(len(words))]
@@ -415,7 +416,8 @@ def small_files():
 
 
 def dash_case(rng, corpus):
-    """A file of the name `-`, and other octets on standard input, which `-` means for SCRIPT alone."""
+    """A file with the name `-`, and different octets on standard input. Only for SCRIPT does `-` mean standard
+    input."""
     scripts = rng.sample(corpus.scripts, 2)
     way = rng.randrange(8)
     if way < 2:
@@ -437,7 +439,7 @@ def dash_case(rng, corpus):
 
 
 def name_case(rng):
-    """One of the names is that of no file, or of a folder."""
+    """One of the names belongs to no file, or to a folder."""
     files = small_files()
     words = rng.choice((["run", "-"], ["protect", "config", "in", "out"], ["validate", "config", "in", "out"]))
     place = rng.randrange(1, len(words))

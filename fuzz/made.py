@@ -1,8 +1,8 @@
-"""Made scripts: two ends, their keys and associations, and what their managers, their clients and the link then do.
+"""Makes scripts: two ends, their keys and SAs, and then events by their managers, their clients and the link.
 
-A script is made beside a run of it, so that its lines can name the keys, frames and packet numbers that are there. Most
-have keys on which the ends agree, and some have other salts, offsets, suites or SSCIs at the two ends. The suite of a
-key may be another than its end's.
+A script is run while it is made, so that its lines can name existing keys, frames and packet numbers. In most scripts
+the ends' keys agree; in some the two ends have different salts, offsets, suites or SSCIs. The suite of a key can differ
+from its end's.
 """
 
 import copy
@@ -30,12 +30,12 @@ class Maker:
         self.set_up()
 
     def both(self, odds, choose):
-        """One value for both ends; or, at these odds, one for each."""
+        """One value for both ends; or, at these odds, a separate value for each."""
         value = choose()
         return value, choose() if self.rng.random() < odds else value
 
     def add(self, line):
-        """Adds a line, and carries it out."""
+        """Adds a line and carries it out."""
         keyword, end, values = expected.parse_words(line.split())
         self.lines.append(line)
         if keyword == "end":
@@ -43,7 +43,7 @@ class Maker:
         else:
             self.text += expected.lines_told(self.watch, len(self.lines), keyword, end, values)
 
-    # The ends as they begin.
+    # The initial ends.
 
     def create_ends(self):
         rng = self.rng
@@ -56,12 +56,12 @@ class Maker:
             self.add(f"end {end} {suite} {sci} {most} {rng.choice((form, 'auto', 'sci'))}")
 
     def first_number(self, is_xpn):
-        """The packet number that associations begin at under keys with extended packet numbers, or under the others."""
+        """The first packet number of SAs, under keys with extended packet numbers or under the others."""
         extended = (2**32 + 2**31, 2**64 - 4, 2**33 - 3) if is_xpn else ()
         return self.rng.choice((1, 1, 5, 2**31 - 1, 2**32 - 4, 2**32 - 2, *extended))
 
     def set_up(self):
-        """Keys, options, and associations in both directions, of which the first is enabled."""
+        """Keys, options, and SAs in both directions. The first SA is enabled."""
         rng, shift = self.rng, self.rng.choice((0, 0, 0, 10))
         for end in "AB":
             if rng.randrange(20) == 0:
@@ -81,7 +81,7 @@ class Maker:
             for an in (0, 1):
                 self.listen(end, an, self.first_of(self.other(end), an))
 
-    # What is chosen.
+    # Choices.
 
     def end(self):
         return self.rng.choice("AB")
@@ -90,7 +90,7 @@ class Maker:
         return "B" if end == "A" else "A"
 
     def an_of(self, rows):
-        """Mostly the number of an association that there is."""
+        """The number of an SA, which usually exists."""
         return self.rng.choice([*rows] * 4 + [0, 1, 2, 3])
 
     def int_or_conf(self):
@@ -101,12 +101,12 @@ class Maker:
         return self.ends[end].channel(self.ends[self.other(end)].sci)
 
     def first_of(self, end, an):
-        """The packet number that a transmit association of this end mostly begins at."""
+        """The packet number at which a transmit SA of this end usually begins."""
         endpoint = self.ends[end]
         return self.first[an in endpoint.tx and endpoint.keys[endpoint.tx[an].key].is_xpn]
 
     def suite_of(self, end, index):
-        """The suite of a key at an end: mostly one for both ends, that of an end or another."""
+        """The suite of a key at an end: usually the same at both ends, either one end's suite or another."""
         if index not in self.suites:
             own = {it: endpoint.suite for it, endpoint in self.ends.items()}
             named = dict(zip("AB", self.both(0.05, lambda: self.rng.choice((*own.values(), *expected.SUITES)))))
@@ -114,7 +114,7 @@ class Maker:
         return self.suites[index][end]
 
     def change_numbers(self, end, index):
-        """A key that is new gets a suite with extended packet numbers if those that the end sends are not, or without."""
+        """Gives a new key a suite with extended packet numbers if the end sends without them, and the reverse."""
         endpoint = self.ends[end]
         is_xpn = any(sa.on and endpoint.keys[sa.key].is_xpn for sa in endpoint.tx.values())
         suite = self.rng.choice([it for it, (_, extended) in expected.SUITES.items() if extended != is_xpn])
@@ -124,12 +124,12 @@ class Maker:
         return bytes([index]) * expected.SUITES[self.suite_of(end, index)][0]
 
     def frame_number(self):
-        """A link frame, mostly a late one; or the one after the last."""
+        """A link frame, usually a recent one; or the number after the last one."""
         count = len(self.link)
         return self.rng.choice((self.rng.randrange(count + 1), max(0, count - self.rng.randrange(1, 5))))
 
     def client(self, end):
-        """A client frame, mostly one that was not sent before."""
+        """A client frame, usually a new one."""
         rng = self.rng
         if self.clients and rng.randrange(8) == 0:
             return rng.choice(self.clients)
@@ -140,10 +140,10 @@ class Maker:
         self.clients.append(f"ffffffffffff{source}{0x0800 + len(self.clients):04x}{'5a' * size}")
         return self.clients[-1]
 
-    # Lines of one event, and some of the commands that belong together.
+    # Lines of one event, and groups of commands that belong together.
 
     def install(self, end, number, index):
-        """A key, whose line names its suite if it is not the end's, and sometimes if it is."""
+        """A key. Its line names the suite if it is not the end's, and sometimes even if it is."""
         suite, rest = self.suite_of(end, index), ""
         is_xpn = expected.SUITES[suite][1]
         if suite != self.ends[end].suite or self.rng.randrange(4) == 0:
@@ -153,7 +153,7 @@ class Maker:
         self.add(f"{end} key {number} {self.octets_of(end, index).hex()} {0 if is_xpn else self.offsets[end]}{rest}")
 
     def listen(self, end, an, pn):
-        """A receive association for one of the other end's, mostly with its key."""
+        """A receive SA for one of the other end's SAs, usually with its key."""
         rng, peer = self.rng, self.ends[self.other(end)]
         octets = peer.keys[peer.tx[an].key].octets if an in peer.tx else None
         numbers = [it for it, key in self.ends[end].keys.items() if key.octets == octets] or [rng.randrange(4)]
@@ -172,7 +172,7 @@ class Maker:
             self.add(f"{self.other(end)} deliver {max(0, len(self.link) - 1)}")
 
     def burst(self):
-        """Some frames are sent, and delivered in another order, some twice."""
+        """Some frames are sent, and then delivered in another order, some of them twice."""
         end, before = self.end(), len(self.link)
         for _ in range(self.rng.randrange(2, 6)):
             self.add(f"{end} send {self.client(end)}")
@@ -189,7 +189,7 @@ class Maker:
         self.add(f"{end} deliver {number}")
 
     def deliver_last(self):
-        """The frame that was made last goes to an end, or to both."""
+        """Delivers the newest link frame to one end, or to both."""
         if self.link and self.rng.randrange(4):
             for end in self.rng.choice(("A", "B", "AB")):
                 self.add(f"{end} deliver {len(self.link) - 1}")
@@ -209,7 +209,7 @@ class Maker:
         self.deliver_last()
 
     def inject(self):
-        """Someone on the link gives a frame again, or another one; few have the key."""
+        """Someone on the link repeats a frame or sends another one, rarely with the key."""
         rng, number = self.rng, self.frame_number()
         frame = self.link[number] if number < len(self.link) else rng.randbytes(40)
         way = rng.randrange(12)
@@ -228,7 +228,7 @@ class Maker:
         self.deliver_last()
 
     def forged(self, end):
-        """A frame by someone who has an end's key, or None."""
+        """A frame made by someone who has an end's key, or None."""
         clone = copy.copy(self.ends[end])
         clone.seal, clone.counters = expected.seal, dict(clone.counters)
         clone.keys = {number: copy.copy(key) for number, key in clone.keys.items()}
@@ -274,7 +274,7 @@ class Maker:
         self.add(f"{end} key {number} {octets.hex()} {rng.choice((0, 0, 0, 30, 50, 1))}{rest}")
 
     def retire(self):
-        """A key is retired, mostly after its associations are deleted; then it is used or installed again."""
+        """Retires a key, usually after deleting its SAs, and then uses it or installs it again."""
         rng, end = self.rng, self.end()
         endpoint = self.ends[end]
         number = self.used_key(end)
@@ -292,12 +292,12 @@ class Maker:
             self.send(end)
 
     def used_key(self, end):
-        """The number of a key, mostly of one under which a frame was protected."""
+        """The number of a key, usually one that has protected a frame."""
         keys = self.ends[end].keys
         return self.rng.choice([it for it, key in keys.items() if key.first_unused > 1] or list(keys) or [0])
 
     def free(self, end, number):
-        """The associations under a key are deleted."""
+        """Deletes the SAs under a key."""
         endpoint = self.ends[end]
         for an in [it for it, sa in endpoint.tx.items() if sa.key == number]:
             self.add(f"{end} txdel {an}")
@@ -306,7 +306,8 @@ class Maker:
             self.add(f"{end} rxdel {sci} {an}")
 
     def widen(self):
-        """A window at the limit of extended packet numbers, beside keys that have them, and after those are retired."""
+        """Sets a window at the limit for extended packet numbers, with such keys installed and after they are
+        retired."""
         rng, end = self.rng, self.end()
         wide = rng.choice((2**30 - 1, 2**30, 2**30, 2**32 - 1))
         self.add(f"{end} replay on {wide}")
@@ -318,7 +319,7 @@ class Maker:
         self.add(f"{end} replay {rng.choice(('on', 'off'))} {wide}")
         self.install(end, rng.randrange(6, 9), rng.randrange(6, 9))
 
-    # Associations.
+    # SAs.
 
     def free_an(self, end):
         return next((it for it in range(4) if it not in self.ends[end].tx), 0)
@@ -329,7 +330,7 @@ class Maker:
         self.add(f"{end} {word} {self.an_of(self.ends[end].tx)}")
 
     def remake(self):
-        """A transmit association is made again under its key, from another packet number, at its place or another."""
+        """Creates a transmit SA again under its key, from another packet number, with the same AN or another."""
         rng, end = self.rng, self.end()
         endpoint = self.ends[end]
         an = self.an_of(endpoint.tx)
@@ -352,7 +353,7 @@ class Maker:
             self.again(self.other(end), there)
 
     def roll(self):
-        """Both ends install a key, and an end's traffic goes over to it."""
+        """Both ends install a key, and one end's traffic changes to it."""
         end, index = self.end(), self.rng.randrange(2, 8)
         an = self.free_an(end)
         if self.rng.randrange(2):
@@ -367,7 +368,7 @@ class Maker:
         self.send(end)
 
     def again(self, end=None, an=None):
-        """A receive association is made anew, mostly from a packet number that its sender comes to."""
+        """Creates a receive SA again, usually from a packet number that its sender will reach."""
         rng, end = self.rng, end or self.end()
         peer = self.ends[self.other(end)]
         an = self.an_of(peer.tx) if an is None else an
@@ -397,7 +398,7 @@ class Maker:
         self.add(f"{end} rxlow {self.ends[self.other(end)].sci.hex()} {an} {max(pn, 0) % 2**64:x}")
 
     def channels(self):
-        """Channels of others, of which there can be too many; or the peer's, made anew."""
+        """Creates channels for other senders, sometimes too many; or the peer's channel again."""
         rng, end = self.rng, self.end()
         peer = self.ends[self.other(end)].sci.hex()
         way = rng.randrange(6)
@@ -411,7 +412,7 @@ class Maker:
             self.again(end)
 
     def reflect(self):
-        """An end is told to receive what it sent itself, and its frames come back to it."""
+        """Makes an end receive what it sent itself: its frames come back to it."""
         end = self.end()
         endpoint = self.ends[end]
         an = self.an_of(endpoint.tx)

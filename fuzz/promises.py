@@ -1,8 +1,8 @@
-"""The promises of docs/LINK.md, looked for in a run of expected.py's World at each of its events.
+"""Checks the promises of docs/LINK.md at each event of a run of expected.py's World.
 
-A `Watch` is that world with both ends' uses of the cipher written down. After each event it asks what the promises say
-of the events so far, where their premises are met by then, and raises `Broken` if one does not hold. It counts in `met`
-how often the premises of each were met. The lines of such a run are compared with the program's, octet for octet.
+A `Watch` is that world with a record of both ends' uses of the cipher. After each event it checks each promise for the
+events so far, if the promise's premises are met, and raises `Broken` if it does not hold. `met` counts how often the
+premises of each promise were met. The lines of such a run are compared with the program's, octet for octet.
 """
 
 import collections
@@ -10,27 +10,27 @@ import collections
 import expected
 
 PROMISES = "ivs seals origin order window acceptance".split()
-# A use of the cipher by a sender or a receiver; and a client frame that was protected, with its key and packet number.
+# A use of the cipher by a sender or a receiver; and a protected client frame, with its key and packet number.
 Use = collections.namedtuple("Use", "key iv aad ciphertext tag")
 Sent = collections.namedtuple("Sent", "end key an number client")
 
 
 class Broken(Exception):
-    """The promise that does not hold of a run, and what was seen."""
+    """The promise that a run breaks, and what was seen."""
 
     def __str__(self):
         return f"promise `{self.args[0]}`: {self.args[1]}"
 
 
 class Log:
-    """What a receive association delivered, and whether the premises on its end were met all the while."""
+    """What a receive SA delivered, and whether its end met the premises all the time."""
 
     def __init__(self, sa):
         self.sa, self.frames, self.highest_validated, self.strict, self.ordered = sa, [], 0, True, True
 
 
 class Watch:
-    """Two ends and the link of the module `model`, which is expected.py or a copy of it with a mistake."""
+    """Two ends and the link in the module `model`, which is expected.py or a copy of it with a mistake."""
 
     def __init__(self, ends, model=expected):
         self.ends, self.world = ends, model.World(ends)
@@ -56,7 +56,7 @@ class Watch:
         self.asked.append((Use(*parts), result))
 
     def result(self, keyword, end, values):
-        """What a command or an event prints."""
+        """Carries out a command or an event, and returns what it prints."""
         self.sealed, self.asked = [], []
         endpoint = self.ends.get(end)
         if keyword == "deliver" and values[0] < len(self.world.link):
@@ -74,7 +74,7 @@ class Watch:
     # Promise 1.
 
     def sending(self, end, endpoint, client, numbers):
-        """A client frame was protected, by an association with one of these packet numbers."""
+        """Checks a client frame that was protected. `numbers` has the packet numbers that its SA can have used."""
         (use, plaintext), frame = self.sealed[0], self.world.link[-1]
         an = frame[14] & 3
         key = next((it for it in endpoint.keys.values() if it.octets == use.key), None)
@@ -100,7 +100,7 @@ class Watch:
         return [(x, y) for x in a for y in b if x.octets == y.octets]
 
     def keys_agree(self):
-        """Have such keys the same suite and, if packet numbers are extended, the same salt?"""
+        """Do these keys have the same suite and, if packet numbers are extended, the same salt?"""
         return all(x.suite == y.suite and (not x.is_xpn or x.salt == y.salt) for x, y in self.shared_keys())
 
     def keys_differ_in_ssci(self):
@@ -109,7 +109,7 @@ class Watch:
     # Promises 2 to 4.
 
     def follow(self, end, endpoint):
-        """After a command: the logs of the receive associations that there are, and their end's options."""
+        """Updates the logs of the existing receive SAs, and their end's options, after a command."""
         there = [sa for channel in endpoint.channels for sa in channel.sas.values()]
         old = {id(log.sa): log for log in self.logs[end]}
         self.logs[end] = [old.get(id(sa)) or Log(sa) for sa in there]
@@ -118,7 +118,7 @@ class Watch:
             log.ordered &= endpoint.replay and endpoint.window == 0
 
     def delivery(self, end, endpoint, frame, values):
-        """A link frame arrives, whose sender may be anyone."""
+        """A link frame arrives. Anyone may have sent it."""
         due = [it.client for it in self.on_link.get(frame, ()) if it.end != end and self.is_due(it, endpoint, frame)]
         counts = [(it, dict(it.counters)) for it in endpoint.channels]
         lowest = {id(log.sa): log.sa.lowest for log in self.logs[end]}
@@ -138,7 +138,7 @@ class Watch:
         return told
 
     def delivered(self, end, log, frame, number, is_validated):
-        """A frame was delivered from an association."""
+        """Checks a frame that was delivered from an SA."""
         endpoint = self.ends[end]
         log.frames.append(frame)
         octets = endpoint.keys[log.sa.key].octets
@@ -157,7 +157,7 @@ class Watch:
             log.highest_validated = max(log.highest_validated, number)
 
     def is_due(self, sent, endpoint, frame):
-        """Are the premises of acceptance met by an end, of a frame that the other one sent?"""
+        """Does an end meet the premises of acceptance for a frame that the other end sent?"""
         sender = self.ends[sent.end]
         sas = next((it.sas for it in endpoint.channels if it.sci == sender.sci), {})
         sa = sas.get(sent.an)
@@ -183,7 +183,8 @@ def iv_of(endpoint, key, number):
 
 
 def is_valid(use):
-    """Has it the tag of GCM? Then someone forged what was opened and never sealed; else it was opened wrongly."""
+    """Is the GCM tag of this use valid? If so, what was opened and never sealed is a forgery; if not, it was opened
+    wrongly."""
     return use.tag == expected.tag_of(use.key, use.iv, use.aad, use.ciphertext)
 
 
@@ -193,7 +194,7 @@ def is_subsequence(items, of_items):
 
 
 def sci_read(endpoint, frame):
-    """The SCI of the SecTAG; or what follows from SCB, ES or the only receive channel."""
+    """The SCI in the SecTAG, or else the one that SCB, ES or the only receive channel implies."""
     if frame[14] & 0x20:
         return frame[20:28]
     if frame[14] & 0x50:
@@ -210,7 +211,7 @@ def recovered(key, lowest, low):
 
 
 def checked_run(script, model=expected):
-    """Status, text and the line on standard error of a script; and how often the premises of each promise were met."""
+    """The status, text and standard error line of a script, and how often the premises of each promise were met."""
     watches = []
 
     def watch(ends):

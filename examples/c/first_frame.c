@@ -1,5 +1,5 @@
-/* Protects the 54-octet test frame of IEEE Std 802.1AE, Annex C, at one endpoint, and validates it at another, twice: the
- * second time it is late. What it prints is in first_frame.txt. */
+/* Protects the 54-octet test frame of IEEE Std 802.1AE, Annex C, at one endpoint, and validates it twice at another.
+ * The second time, the frame is late. The output is in first_frame.txt. */
 #include "macsec.h"
 #include <stdio.h>
 #include <string.h>
@@ -11,7 +11,7 @@ static const uint8_t client[] = { 0xd6, 0x09, 0xb1, 0xf0, 0x56, 0x63, 0x7a, 0x0d
                                   0x2b, 0x2c, 0x2d, 0x2e, 0x2f, 0x30, 0x31, 0x32, 0x33, 0x34, 0x00, 0x01 };
 static const uint8_t key_octets[16] = { 0xad, 0x7a, 0x2b, 0xd0, 0x3e, 0xac, 0x83, 0x5a,
                                         0x6f, 0x62, 0x0f, 0xdc, 0xb5, 0x06, 0xb3, 0x45 };
-/* The association number and the packet number of the annex. */
+/* The AN and the packet number of the annex. */
 enum { AN = 2 };
 static const uint64_t FIRST_PN = 0xb2c28465;
 
@@ -28,7 +28,7 @@ static void print(const char *what, const uint8_t *frame, size_t length) {
     printf("\n");
 }
 
-/* An endpoint that sends, and only protects integrity. */
+/* Creates an endpoint that sends with integrity only. */
 static int make_sender(macsec_endpoint *e, const macsec_sak *key) {
     macsec_config config = { { 0 }, MACSEC_SUITE_GCM_AES_128, MACSEC_FORM_SCI, 1518 };
     memcpy(config.sci, sci_a, sizeof sci_a);
@@ -36,7 +36,7 @@ static int make_sender(macsec_endpoint *e, const macsec_sak *key) {
            failed("tx_sa", macsec_tx_sa(e, AN, key->number, FIRST_PN, false)) || failed("tx_on", macsec_tx_on(e, AN));
 }
 
-/* An endpoint that receives what the other sends. */
+/* Creates an endpoint that receives what the other one sends. */
 static int make_receiver(macsec_endpoint *e, const macsec_sak *key) {
     macsec_config config = { { 0, 0, 0, 0, 0, 0, 0, 2 }, MACSEC_SUITE_GCM_AES_128, MACSEC_FORM_AUTO, 1518 };
     return failed("new", macsec_new(e, &config)) || failed("key", macsec_key(e, key)) ||
@@ -56,7 +56,7 @@ int main(void) {
     if (failed("send", macsec_send(&a, client, sizeof client, &sent)) || sent.fate != MACSEC_FATE_PROTECTED)
         return 1;
     print("sent", sent.frame, sent.length);
-    /* The frame that `a` lends stays as it is: the calls are to `b`. */
+    /* The frame borrowed from `a` stays valid, since these calls are to `b`. */
     for (int i = 0; i < 2; i++) {
         if (failed("receive", macsec_receive(&b, sent.frame, sent.length, &received)))
             return 1;

@@ -1,12 +1,11 @@
-/* A MACsec device in user space: a TAP device is the client's port, and another network device the link below.
+/* A MACsec device in user space. Its client uses a TAP device; the link is another network device.
  *
  *     macsec-tap CONFIG TAP LINK [REKEY]
- *
- * CONFIG has the lines of docs/SCRIPT.md for one end, A: `end A ..` and then its commands; REKEY has commands alone.
- * The library reads both. Each packet number begins at PN of the line `txsa`: every run must be given new keys, since
- * under one key no packet number may be used twice. SIGUSR1 prints counters, SIGUSR2 carries out the commands of REKEY
- * (new keys and associations), SIGTERM and SIGINT end it. It is an example, for Linux, and not proved; it needs the
- * right to open both devices. TAP's MTU should be 32 octets below that of LINK. */
+ * CONFIG has the lines of docs/SCRIPT.md for one end, A: `end A ..` and then its commands. REKEY has only commands. The
+ * library reads both. Packet numbers begin at PN of the line `txsa`. Use new keys for every run, since no packet number
+ * may be used twice under one key. SIGUSR1 prints the counters, SIGUSR2 carries out the commands of REKEY (new keys and
+ * SAs), and SIGTERM and SIGINT end the program. It is an example for Linux and is not proved. It needs permission to
+ * open both devices. The MTU of TAP should be 32 octets below the MTU of LINK. */
 #define _DEFAULT_SOURCE
 #include "macsec.h"
 #include <arpa/inet.h>
@@ -56,7 +55,7 @@ static FILE *opened(const char *name) {
     return file;
 }
 
-/* What a file has, in a block of its own. */
+/* Returns the contents of a file in a new block, which the caller frees. */
 static uint8_t *contents(const char *name, size_t *length) {
     size_t room = 4096;
     uint8_t *text = NULL;
@@ -74,7 +73,7 @@ static uint8_t *contents(const char *name, size_t *length) {
     return text;
 }
 
-/* Creates the endpoint of CONFIG. Where a command of it is refused, there is none, and the program ends. */
+/* Creates the endpoint of CONFIG. If a command in it is refused, there is no endpoint, and the program ends. */
 static void configure(macsec_endpoint *e, const char *name) {
     size_t length;
     uint32_t line;
@@ -85,7 +84,7 @@ static void configure(macsec_endpoint *e, const char *name) {
         refuse(name, line, status);
 }
 
-/* Carries out the commands of REKEY, line by line. Here a refused one ends the program. */
+/* Carries out the commands of REKEY, line by line. In this example a refused command ends the program. */
 static void carry_out(macsec_endpoint *e, const char *name) {
     char *line = NULL;
     size_t room = 0;
@@ -126,7 +125,7 @@ static int open_link(const char *name) {
     return link;
 }
 
-/* A frame of the client: what is sent for it goes to the link. */
+/* Takes a frame from the client, and sends the resulting frame, if any, to the link. */
 static void from_client(macsec_endpoint *e, int tap, int link) {
     static uint8_t frame[MACSEC_FRAME_MAX + 1];
     macsec_sent sent;
@@ -136,7 +135,7 @@ static void from_client(macsec_endpoint *e, int tap, int link) {
         perror("link");
 }
 
-/* A frame of the link, unless this host sent it: what is delivered of it goes to the client. */
+/* Takes a frame from the link, unless this host sent it, and delivers the resulting frame, if any, to the client. */
 static void from_link(macsec_endpoint *e, int tap, int link) {
     static uint8_t frame[MACSEC_FRAME_MAX + 1];
     struct sockaddr_ll from;

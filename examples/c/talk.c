@@ -1,5 +1,5 @@
-/* Two endpoints in memory that talk under GCM-AES-XPN-128, encrypted both ways: what a repeated frame, an altered one, one
- * without a SecTAG and one for a handle that was freed become, and what is counted. What it prints is in talk.txt. */
+/* Two endpoints in memory talk under GCM-AES-XPN-128, encrypted both ways. The example shows what happens to a repeated
+ * frame, an altered one, one without a SecTAG and one for a freed handle, and the counters. talk.txt has the output. */
 #include "macsec.h"
 #include <inttypes.h>
 #include <stdio.h>
@@ -8,7 +8,7 @@
 
 static const uint8_t scis[2][8] = { { 2, 0, 0, 0, 0, 1, 0, 1 }, { 2, 0, 0, 0, 0, 2, 0, 1 } };
 
-/* An example does not go on after a status that it does not expect. */
+/* The example ends if a call returns a status that it does not expect. */
 static void must(const char *what, uint32_t status) {
     if (status != MACSEC_OK) {
         fprintf(stderr, "%s: status %u\n", what, (unsigned)status);
@@ -16,8 +16,8 @@ static void must(const char *what, uint32_t status) {
     }
 }
 
-/* One end of the talk: it sends under key 0 and receives under key 1, or the other way round, so that each key has one
- * sender. With extended packet numbers each sender has an SSCI of its own under a key. */
+/* Creates one end. It sends under key 0 and receives under key 1, or the other way round, so that each key has only one
+ * sender. With extended packet numbers, each sender under a key needs its own SSCI. */
 static void make_end(macsec_endpoint *e, int own) {
     macsec_config config = { { 0 }, MACSEC_SUITE_GCM_AES_XPN_128, MACSEC_FORM_SCI, 1518 };
     int other = 1 - own;
@@ -25,7 +25,7 @@ static void make_end(macsec_endpoint *e, int own) {
     must("new", macsec_new(e, &config));
     for (int it = 0; it < 2; it++) {
         macsec_sak key = { { 0 }, { 0 }, 0, MACSEC_SUITE_DEFAULT, 0, 16, 0 };
-        memset(key.bytes, 0x10 + it, 16); /* a key for an example alone */
+        memset(key.bytes, 0x10 + it, 16); /* only for this example */
         memset(key.salt, 0x20 + it, sizeof key.salt);
         key.ssci = (uint32_t)own + 1;
         key.number = (uint16_t)it;
@@ -38,7 +38,7 @@ static void make_end(macsec_endpoint *e, int own) {
     must("rx_on", macsec_rx_on(e, scis[other], 0));
 }
 
-/* Sends a text in a frame, and copies the frame that leaves: the one shown is lent until the next call with the handle. */
+/* Sends a text in a frame, and copies the link frame, which is borrowed only until the next call with this handle. */
 static size_t say(macsec_endpoint *e, const char *text, uint8_t *link) {
     uint8_t frame[64] = { 2, 0, 0, 0, 0, 9, 2, 0, 0, 0, 0, 8, 0x88, 0xb5 };
     size_t length = 14 + strlen(text);
@@ -104,7 +104,7 @@ int main(void) {
     must("rx_del", macsec_rx_del(&ends[1], scis[0], 0));
     count("b, without the association", &ends[1], scis[0]);
 
-    /* What is refused, and a handle that holds no endpoint. */
+    /* Refused commands, and a handle without an endpoint. */
     printf("b: tx_on of 4: %u, of 3: %u\n", (unsigned)macsec_tx_on(&ends[1], 4), (unsigned)macsec_tx_on(&ends[1], 3));
     macsec_free(&ends[0]);
     macsec_free(&ends[0]);
