@@ -79,8 +79,8 @@ InLast records taken Holds = (n : ℕ) × (n + 1 ≡ taken) × (n < length recor
 
 -- a run over the records that the reader holds, after `taken` of them: it ends with the last one, or with the fault
 -- after it, unless a read or a write fails first. If a read fails, both writers have what the taken records write. A
--- write fails in the last record taken. If the text fails, the output has what comes before that record; if the output
--- fails, the text has that record's line, and the output all that comes before the record
+-- write fails in the last record taken. If the text fails, the output has what comes before that record. If the output
+-- fails, the text has that record's line, and the output all that comes before the record and at most what it adds
 abbrev pub RunsHeld : Direction → State → Capture → ℕ → Written → Written → State → Result (Unit {0}) CaptureFault → Type 0
 RunsHeld direction s held taken old new after (Ok done) =
     (held.fault ≡ None) × Adds (records_part direction s 0 held.records) old new after
@@ -145,7 +145,7 @@ TakesFile direction s file old new after (Ok done) =
     (file.capture.fault ≡ None) × Adds (behind_header file (records_part direction s 0 file.capture.records)) old new after
 TakesFile direction s file old new after (Err fault) = CaptureGives (captured_after direction (nothing s) (Ok file)) old new (Err fault)
 
--- the fault of the records, if they have one, else that of the output's flush
+-- the fault of the records, if they have one, else the fault of the output's flush
 abbrev pub flushed_end : {E : Type 0} → Result (Unit {0}) CaptureFault → Result (Unit {0}) E → Result (Unit {0}) CaptureFault
 flushed_end (Err fault) flushed = Err fault
 flushed_end (Ok done) (Err error) = Err (Pcap pcap.Write)

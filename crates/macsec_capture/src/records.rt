@@ -34,8 +34,7 @@ pub(crate) fn run_records<R: Read, W: Write, T: Write>(
     requires places { reader.old.places ≡ max_records }
     requires no_fault { fault_of writer.old ≡ None }
     ensures lent { (lent writer.new).ghost_name ≡ (lent writer.old).ghost_name }
-    // The number of records taken is the decrease of the reader's places. So a run that goes on after a fault takes too
-    // many.
+    // `taken` is the number of places that the reader used. So a run that goes on after a fault takes too many records.
     ensures records { RunsRecords direction endpoint.old reader.old.ahead (reader.old.places - reader.new.places)
         (known (contents W.contents writer.old) (T.contents text.old)) (known (contents W.contents writer.new) (T.contents text.new)) endpoint.new result }
     ensures fault { IfErr result IsLateFault }

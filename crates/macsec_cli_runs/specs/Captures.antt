@@ -22,7 +22,8 @@ CaptureFailsAs paths (CannotOpen path) =
 CaptureFailsAs paths (Script fault) = Unit {0}
 CaptureFailsAs paths (Pcap fault) = Unit {0}
 
--- no line is printed if a file can't be opened, or if the configuration has a fault or can't be read
+-- no line is printed if a file can't be opened, or if the configuration has a fault, can't be read or runs out of
+-- memory
 abbrev pub LeavesLines : Option (List ℕ) → Option (List ℕ) → Failure → Type 0
 LeavesLines old new Usage = Keeps old new
 LeavesLines old new (CannotOpen path) = Keeps old new

@@ -10,7 +10,7 @@
 //! `Usage` is never returned. With `Script(Memory)`, `Script(Read)` or a fault of the configuration nothing was written
 //! to the text. No clause speaks of the contents of files.
 //!
-//! Proved: `tell` returns the exit status of the result. If it returns that the line was written, it wrote the line of
+//! Proved: `tell` returns the exit status for a result. If it returns that the line was written, it wrote the line of
 //! the failure, or nothing if there is none, to a writer whose octets a contract can name. `failure_of_words` returns
 //! `Memory` for an error that is out of memory, else `Usage`. If `open_stand_ins` fails, the failure is that `/` can't
 //! be opened; no clause says when it fails. A failed flush of the text never replaces a fault of the run (private

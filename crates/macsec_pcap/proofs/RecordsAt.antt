@@ -28,8 +28,7 @@ head_of-append order head rest long =
       number-drop-append order 4 12 head rest (omega (arith, long)),
     ) refl
 
--- what is at the beginning of octets, given how many they are, the head, the octets after it, and the octets after the
--- record
+-- what is at the beginning of n octets, given the head, the octets after the head, and the octets after the record
 abbrev by_tests : ℕ → Head → List ℕ → List ℕ → Result (Option (CaptureRecord × List ℕ)) PcapFault
 by_tests n head behind after =
     if n == 0 then Ok None

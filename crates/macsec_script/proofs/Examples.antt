@@ -109,7 +109,7 @@ five_lines : printed_text (both_ends ++ codes "A key 0 ad7a2bd03eac835a6f620fdcb
 unfolding hex_on_literals digits
 five_lines = refl
 
--- SAs are shown in the order of their ANs, not of their creation
+-- SAs are printed in the order of their ANs, not of their creation
 shown : printed_text (both_ends ++ codes "A numbers\nA key 0 ad7a2bd03eac835a6f620fdcb506b345 0\nA key 1 000102030405060708090a0b0c0d0e0f 0\n"
     ++ codes "A txsa 3 0 abcdef conf\nA txsa 1 1 1 int\nA txon 1\nA numbers\n") ≡
     Ok (codes "4 done\n5 done\n6 done\n7 done\n8 done\n9 tx 1 1 0000000000000001 on int\n9 tx 3 0 0000000000abcdef off conf\n")
@@ -131,7 +131,7 @@ two_ends : printed_text (both_ends ++ codes "A protect off\nB validate check\nA 
 unfolding hex_on_literals digits
 two_ends = refl
 
--- the counters of an endpoint, and then of its receive channels in the order of their creation
+-- the counters of an endpoint, and then of its receive SCs in the order of their creation
 counters_shown : printed_text (both_ends ++ codes "A protect off\nA send 00112233445566778899aabb0800\nA rxsc 0000000000000003\nA rxsc 0000000000000002\nA counters\n") ≡
     Ok (codes "3 done\n4 frame 0 00112233445566778899aabb0800\n5 done\n6 done\n"
     ++ codes "7 InPktsUntagged 0\n7 InPktsNoTag 0\n7 InPktsBadTag 0\n7 InPktsReserved 0\n7 InPktsNoSA 0\n"

@@ -14,7 +14,7 @@ use Rattle.macsec_script.specs.Promised.{ArePromised, IsPromised, events_of}
 
 -- ---- the ends of a script
 
--- the promises hold of every list of events in whose course the world stays sound
+-- the promises hold of every list of events during which the world stays sound
 abbrev pub SoundKeepPromises : Type 0
 SoundKeepPromises = (a b : EndConfig) (events : List Event) → AreSound a b events → KeepsPromises a b events
 

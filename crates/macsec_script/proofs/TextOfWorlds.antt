@@ -1,4 +1,4 @@
--- What a line prints depends only on the world after the events of the lines before it.
+-- Each line of a script is printed from the world after the events of the lines before it.
 use Rattle.std.proofs.Common.{◌≡◌, ℕ, List, [], ◌∷◌, ◌++◌, refl, sym, ◌∙◌, ap, append_assoc, append-nil}
 use Rattle.macsec_commands.specs.declared.event.Event.{Event}
 use Rattle.macsec_link.specs.World.{WorldState}

@@ -1,5 +1,4 @@
--- Numbers in hex with leading zeros: `{:016x}` prints a packet number below 2^64, and `{:x}` and `{:016x}` a larger
--- one.
+-- Numbers in hex with leading zeros: what `{:016x}` prints, and `{:x}{:016x}` of the two halves of a number.
 use Rattle.std.proofs.Common.{◌≡◌, ℕ, suc, zero, ◌+◌, ◌-◌, ◌*◌, ◌/◌, ◌%◌, ◌^◌, ◌≤◌, ◌<◌, List, [], ◌∷◌, ◌++◌, length, replicate, cond, false, arith}
 use Rattle.std.proofs.Common.{refl, sym, ap, ◌∙◌, append_assoc, append-nil, length-append, add-one, ⊎_elim, eq-eqb, ne_eqb}
 use Rattle.std.proofs.Math.Nat.{div-div-eq-div-mul, div-one, pow-suc, one-le-pow}

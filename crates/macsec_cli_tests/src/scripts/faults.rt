@@ -12,8 +12,8 @@ const ENDS: &str =
 /// A line, and its fault.
 type Faulty = (&'static str, LineFault);
 
-/// Lines with faults. First the first word is checked, and after an end's letter the second; then the number of words;
-/// then the words from left to right.
+/// Lines with faults. The first word is checked first, and after an end's letter the second. Then the number of words
+/// is checked, and then the words from left to right.
 const LINES_AT_FAULT: [Faulty; 35] = [
     ("B frob", LineFault::Word),
     ("C send 00", LineFault::Word),

@@ -5,8 +5,7 @@ use Rattle.macsec_rx.specs.Limits.{max_channel_count}
 use Rattle.macsec_script_printer.specs.Counters.{channel_text}
 use Rattle.macsec_script_printer.proofs.counters.write_channels.Given as goal
 
--- the lines of the channels before the place are written; from the second turn on, the number of channels is known to
--- be in range
+-- the lines of the channels before the place are written; after the first turn, the number of channels is in range
 abbrev pub invariant-loop-place : goal.invariant-loop-place
 invariant-loop-place g l = record {
   text :
