@@ -10,8 +10,8 @@ pub fn script_has_ends()
     ensures { (text : List ℕ) (lines : List NumberedLine) → HasNoneOrEnds text lines }
 {}
 
-/// What a line prints depends on the world after the events of the lines before it. So the text shows the worlds of one
-/// list of events, over which `run_script` proves the promises.
+/// Each line of a script is printed from the world after the events of the lines before it. So the text shows the
+/// worlds of one list of events. `run_script` ensures the promises over that list.
 pub fn prints_of_worlds()
     ensures { (w : WorldState) (before : List NumberedLine) (line : NumberedLine) (more : List NumberedLine) → IsTextOfWorlds w before line more }
 {}
