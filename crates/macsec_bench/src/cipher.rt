@@ -65,7 +65,6 @@ const FUNCTIONS: [Function; 6] = [
 ];
 
 impl Function {
-    /// The name of the function.
     fn name(self) -> &'static str {
         match self {
             Function::Encrypt => "encrypt",
@@ -120,14 +119,12 @@ fn report_works(rt: &HostRuntime, keys: &Keys) -> io::Result<()> {
     Ok(())
 }
 
-/// The time of a function for this work.
 fn time(rt: &HostRuntime, function: Function, keys: &Keys, work: Work) -> io::Result<Measured> {
     let start = Instant::now(rt)?;
     let last = function.run(keys, work);
     Ok((start.elapsed(rt)?, last))
 }
 
-/// Prints the line of a measurement.
 fn line(rt: &HostRuntime, name: &str, work: Work, measured: Measured) -> io::Result<()> {
     let (took, last) = measured;
     let length = work.length;
@@ -180,7 +177,6 @@ fn plainly_sealed(key: &PlainKey, work: Work) -> u8 {
     last
 }
 
-/// Seals a text in place repeatedly.
 fn sealed(key: &GcmKey, work: Work) -> u8 {
     let mut text = [0x5a; MAX_LENGTH];
     let length = MAX_LENGTH.min(usize::from(work.length));

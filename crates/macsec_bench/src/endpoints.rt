@@ -80,13 +80,11 @@ impl Work {
     }
 }
 
-/// Carries out a command at an endpoint.
 fn order(secy: &mut Secy, command: &Command) -> anyhow::Result<()> {
     secy.command(command)?;
     Ok(())
 }
 
-/// Carries out commands at an endpoint.
 fn order_all(secy: &mut Secy, commands: &[Command]) -> anyhow::Result<()> {
     for command in commands {
         order(secy, command)?;
@@ -176,7 +174,6 @@ fn client_frame(alloc: Global, data_length: u16) -> anyhow::Result<Vec<u8>> {
     Ok(frame)
 }
 
-/// The frame as the endpoint sends it.
 fn sent_frame(alloc: Global, secy: &mut Secy, frame: &[u8]) -> anyhow::Result<Vec<u8>> {
     let sent = match secy.send(frame)? {
         Sent::Link { frame, under: _ } => Vec::from_slice(alloc, frame)?,
@@ -211,7 +208,6 @@ fn rate(count: u32, took: Duration) -> u64 {
     saturating_f64_to_u64(f64::from(count) / took.as_secs_f64())
 }
 
-/// Parses a number.
 fn number_in(word: &str) -> anyhow::Result<u16> {
     word.parse::<u16>()
         .context(format_args!("the number {word}"))

@@ -41,7 +41,6 @@ struct Parts<'a> {
     frame: &'a [u8],
 }
 
-/// Seals a text repeatedly.
 fn seal(key: &GcmKey) {
     let mut text = [0x5a; DATA_LENGTH as usize];
     for _ in 0..TURN_COUNT {
@@ -49,7 +48,6 @@ fn seal(key: &GcmKey) {
     }
 }
 
-/// Protects a frame in place repeatedly.
 fn protect(key: &SuiteKey) {
     let mut frame = [0x5a; LINK_LENGTH];
     for _ in 0..TURN_COUNT {
@@ -125,7 +123,6 @@ fn measure(rt: &HostRuntime, parts: Parts, secy: &mut Secy) -> anyhow::Result<()
     Ok(())
 }
 
-/// Measures the three with new keys and this frame.
 fn measure_new(rt: &HostRuntime, secy: &mut Secy, frame: &[u8]) -> anyhow::Result<()> {
     let suite_key = SuiteKey::new(Suite::Gcm128, Key::K128(BYTES), [0; 12], 0)?;
     let gcm_key = GcmKey::new(Key::K128(BYTES));

@@ -83,7 +83,6 @@ fn run_line<T: Write>(
     }
 }
 
-/// The outcome of a command.
 fn outcome_of(done: Result<(), Refusal>) -> Outcome
     ensures { result ≡ command_outcome (output_of_command done) }
 {

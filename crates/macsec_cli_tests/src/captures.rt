@@ -104,7 +104,6 @@ struct Run {
     fault: &'static str,
 }
 
-/// Runs a capture.
 fn outcome(alloc: Global, direction: Direction, config: &str, input: &[u8]) -> Run {
     let mut output = Vec::new(alloc);
     let mut text = Vec::new(alloc);
@@ -287,7 +286,6 @@ fn check_run(rt: &impl Abort, alloc: Global, run: &Run, row: &Row) -> Result<(),
     Ok(())
 }
 
-/// Checks the runs of these rows.
 fn check_rows(rt: &impl Abort, alloc: Global, rows: &[Row]) -> Result<(), Fail> {
     for row in rows {
         let (direction, config, input, _, _, _) = *row;
@@ -304,7 +302,6 @@ fn captures(rt: HostRuntime) -> Result<(), Fail> {
     check_rows(&rt, rt.alloc(), &ROWS)
 }
 
-/// Checks that for this capture file.
 fn check_back(rt: &impl Abort, alloc: Global, input: &[u8]) -> Result<(), Fail> {
     let sent = outcome(alloc, Direction::Protect, SENDER, input);
     let back = outcome(alloc, Direction::Validate, RECEIVER, sent.output.as_slice());

@@ -51,14 +51,12 @@ fn end_of(rt: &HostRuntime, words: &[&str]) -> Result<(u8, Vec<u8>), AllocError>
     Ok((status, told))
 }
 
-/// Checks the exit status and the line on standard error.
 fn check_end(rt: &impl Abort, words: &[&str], found: (u8, Vec<u8>), wanted: (u8, &str)) {
     let (status, told) = found;
     assert_eq!(rt; status, wanted.0, "{words:?}");
     assert_eq!(rt; told.as_slice(), wanted.1.as_bytes());
 }
 
-/// Writes the files that the arguments name.
 fn write_files(rt: &HostRuntime) -> io::Result<()> {
     for (name, octets) in FILES {
         fs::write(rt, *name, *octets)?;
@@ -66,7 +64,7 @@ fn write_files(rt: &HostRuntime) -> io::Result<()> {
     Ok(())
 }
 
-/// Removes these files, and the files that the runs write.
+/// Removes the files that the arguments name, and those that the runs write.
 fn remove_files(rt: &HostRuntime) -> io::Result<()> {
     for (name, _) in FILES {
         fs::remove_file(rt, *name)?;

@@ -11,7 +11,6 @@ use macsec_script::{ScriptFault, run_script};
 use std::alloc::Global;
 use std::process::Abort;
 
-/// A script without a fault.
 fn script() -> &'static str {
     "end A gcm128 12153524c0895e81 1518 sci
 end B gcm128 0000000000000002 1518 auto
@@ -22,12 +21,11 @@ A numbers
 "
 }
 
-/// What it prints, in four lines.
+/// The text that `script` prints, in four lines.
 fn text() -> &'static str {
     "3 done\n4 done\n5 frame 0 ffffffffffff0200000000010800\n6 tx 2 0 0000000000000001 off int\n"
 }
 
-/// Runs a script.
 fn end_of(alloc: Global, script: &str, text: &mut Vec<u8>) -> Result<(), ScriptFault> {
     let mut reader = script.as_bytes();
     run_script(alloc, &mut reader, text)

@@ -66,7 +66,6 @@ pub fn capture_reader<W: Write>(
     write_answer(writer, filled, answer_of(&reader), after)
 }
 
-/// The answer of creating a reader.
 fn answer_of<T>(made: &Result<T, PcapFault>) -> &'static str {
     match made {
         Ok(_) => "done",
@@ -123,7 +122,6 @@ fn protect(
     )
 }
 
-/// The answer of a run.
 fn answer_of_run(ended: &Result<(), CaptureFault>) -> &'static str {
     match ended {
         Ok(()) => "done",
@@ -133,7 +131,6 @@ fn answer_of_run(ended: &Result<(), CaptureFault>) -> &'static str {
     }
 }
 
-/// Writes the text and the output of a run.
 fn write_outputs<W: Write>(
     writer: &mut W,
     output: &[u8],

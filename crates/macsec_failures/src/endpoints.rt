@@ -69,7 +69,6 @@ pub fn turns<W: Write>(
     turns_of(alloc, before, lines.as_slice(), writer)
 }
 
-/// The same for these lines.
 fn turns_of<W: Write>(
     alloc: Global,
     before: u32,
@@ -81,7 +80,6 @@ fn turns_of<W: Write>(
     write_turns(alloc, before, &mut a, &mut b, lines, writer)
 }
 
-/// Creates an endpoint.
 fn endpoint(alloc: Global, config: EndConfig) -> Result<Secy, ScriptFault> {
     match Secy::new(alloc, config) {
         Ok(endpoint) => Ok(endpoint),
@@ -89,7 +87,6 @@ fn endpoint(alloc: Global, config: EndConfig) -> Result<Secy, ScriptFault> {
     }
 }
 
-/// The same for these endpoints.
 fn write_turns<W: Write>(
     alloc: Global,
     before: u32,
@@ -109,7 +106,6 @@ fn write_turns<W: Write>(
     write_counters(writer, Label::End, b)
 }
 
-/// Carries out the events of these lines.
 fn go_through(a: &mut Secy, b: &mut Secy, last: &mut LastSent, lines: &[(u32, Line)]) {
     for (_, line) in lines {
         if let Line::Event(event) = line {
@@ -130,7 +126,6 @@ struct LastSent {
 }
 
 impl LastSent {
-    /// No frame.
     fn new() -> LastSent {
         LastSent {
             octets: [0; ROOM],
@@ -154,7 +149,6 @@ impl LastSent {
     }
 }
 
-/// Carries out one event at an endpoint.
 fn turn(secy: &mut Secy, last: &mut LastSent, event: &Event) {
     match event {
         Event::Command(_, command) => order(secy, command),
@@ -169,7 +163,6 @@ fn order(secy: &mut Secy, command: &Command) {
     let _ = secy.command(command);
 }
 
-/// Sends a frame, and keeps the link frame.
 fn send(secy: &mut Secy, last: &mut LastSent, frame: &[u8]) {
     if let Ok(Sent::Link { frame, .. }) = secy.send(frame) {
         last.keep(frame);

@@ -39,7 +39,6 @@ struct Case {
     events: Vec<Event>,
 }
 
-/// The two ends and the events of a script.
 fn case_of(alloc: Global, text: &[u8]) -> Result<Case, ScriptFault> {
     let lines = parse_script(alloc, text)?;
     let a = config_of(lines.as_slice(), End::A, A);
@@ -60,7 +59,6 @@ fn config_of(lines: &[(u32, Line)], wanted: End, or: EndConfig) -> EndConfig {
     or
 }
 
-/// The events of a script.
 fn events_of(alloc: Global, lines: Vec<(u32, Line)>) -> Result<Vec<Event>, ScriptFault> {
     let mut events = Vec::new(alloc);
     for (_, line) in lines {
@@ -71,7 +69,6 @@ fn events_of(alloc: Global, lines: Vec<(u32, Line)>) -> Result<Vec<Event>, Scrip
     Ok(events)
 }
 
-/// Adds the event of a line, if it has one.
 fn add_event(events: &mut Vec<Event>, line: Line) -> Result<(), AllocError> {
     if let Line::Event(event) = line {
         events.push(event)?;
@@ -91,7 +88,6 @@ pub fn step<W: Write>(
     step_of(alloc, before, &case, writer)
 }
 
-/// The same for a case.
 fn step_of<W: Write>(
     alloc: Global,
     before: u32,
@@ -106,7 +102,6 @@ fn step_of<W: Write>(
     write_steps(alloc, before, &mut world, last, writer)
 }
 
-/// The same for this event in this world.
 fn write_steps<W: Write>(
     alloc: Global,
     before: u32,
@@ -119,7 +114,6 @@ fn write_steps<W: Write>(
     write_step(world, last, writer)
 }
 
-/// Creates a world of these ends.
 fn world_of(alloc: Global, a: EndConfig, b: EndConfig) -> Result<World, ScriptFault> {
     match World::new(alloc, a, b) {
         Ok(world) => Ok(world),
@@ -127,12 +121,10 @@ fn world_of(alloc: Global, a: EndConfig, b: EndConfig) -> Result<World, ScriptFa
     }
 }
 
-/// Carries out an event.
 fn outcome_of(world: &mut World, event: &Event) -> Result<Outcome, WorldFault> {
     world.step(event)
 }
 
-/// Carries out events.
 fn go_through(world: &mut World, events: &[Event]) {
     for event in events {
         let _ = outcome_of(world, event);
@@ -185,7 +177,6 @@ pub fn run<W: Write>(
     run_case(alloc, before, &case, writer)
 }
 
-/// The same with the events of a case.
 fn run_case<W: Write>(
     alloc: Global,
     before: u32,
@@ -198,7 +189,6 @@ fn run_case<W: Write>(
     write_run(writer, filled, &report, after)
 }
 
-/// Prints the result of a run.
 fn write_run<W: Write>(
     writer: &mut W,
     filled: u32,
@@ -212,7 +202,6 @@ fn write_run<W: Write>(
     }
 }
 
-/// `World::run`.
 fn run_events(
     alloc: Global,
     a: EndConfig,
@@ -293,7 +282,6 @@ fn write_endpoint<W: Write>(writer: &mut W, endpoint: &Secy) -> Result<(), Scrip
     print_numbers(writer, 0, endpoint)
 }
 
-/// Prints the frames on the link.
 fn write_link<W: Write>(writer: &mut W, world: &World) -> Result<(), ScriptFault> {
     for n in 0..MOST {
         let Some(frame) = world.frame(n) else {
@@ -304,7 +292,6 @@ fn write_link<W: Write>(writer: &mut W, world: &World) -> Result<(), ScriptFault
     Ok(())
 }
 
-/// Prints what an end sent.
 fn write_sent<W: Write>(writer: &mut W, world: &World, end: End) -> Result<(), ScriptFault> {
     for n in 0..4096 {
         let key = KeyNumber::new(n).unwrap();
@@ -322,7 +309,6 @@ fn write_frames<W: Write>(writer: &mut W, n: u16, frames: &[Vec<u8>]) -> Result<
     Ok(())
 }
 
-/// Prints what was delivered to an end.
 fn write_delivered<W: Write>(writer: &mut W, world: &World, end: End) -> Result<(), ScriptFault> {
     for number in 0..MOST as usize {
         let Some(frames) = world.delivered(end, number) else {

@@ -62,7 +62,6 @@ fn octets(alloc: Global, pieces: &[&str]) -> Result<Vec<u8>, Fail> {
     Ok(hex::decode(alloc, text.as_str())?)
 }
 
-/// Appends texts, one after another.
 fn push_all(text: &mut String, pieces: &[&str]) -> Result<(), AllocError> {
     for piece in pieces {
         text.push_str(piece)?;

@@ -181,7 +181,6 @@ fn prefixes(rt: HostRuntime) -> Result<(), Fail> {
     Ok(())
 }
 
-/// Writes a frame with this time.
 fn answer_to(
     writer: &mut PcapWriter<'_, Vec<u8>>,
     seconds: u32,
@@ -205,7 +204,6 @@ fn written(alloc: Global, resolution: Resolution, frame: &[u8]) -> Result<Vec<u8
     Ok(file)
 }
 
-/// Checks that a file has the octets of these words.
 fn assert_octets(rt: &impl Abort, alloc: Global, file: &[u8], wanted: &str) -> Result<(), Fail> {
     let wanted = octets(alloc, wanted)?;
     assert_eq!(rt; file, wanted.as_slice());
@@ -238,7 +236,6 @@ fn files_are_written(rt: HostRuntime) -> Result<(), Fail> {
     Ok(())
 }
 
-/// Writes a frame of `len` octets.
 fn answer_to_length(
     alloc: Global,
     writer: &mut PcapWriter<'_, Vec<u8>>,

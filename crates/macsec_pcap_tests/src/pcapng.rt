@@ -55,7 +55,6 @@ fn assert_told(
     assert_text(rt, alloc, text.as_str(), wanted, place)
 }
 
-/// Checks the answers for each file.
 fn compare(rt: &impl Abort, alloc: Global, rows: &[Row]) -> Result<(), Fail> {
     for (place, (file, wanted)) in rows.iter().enumerate() {
         let file = octets(alloc, file)?;

@@ -74,7 +74,6 @@ pub fn spelled(word: &str) -> &str {
     word
 }
 
-/// Appends a record as text.
 fn tell_record(alloc: Global, text: &mut String, record: Record<'_>) -> Result<(), Fail> {
     let (seconds, fraction) = (record.seconds, record.fraction);
     match record.body {

@@ -75,14 +75,12 @@ fn channel_counters(counters: RxCounters) -> [NamedCounter; 6]
     ]
 }
 
-/// Writes the line of an endpoint's counter.
 fn write_counter<W: Write>(writer: &mut W, label: Label, name: &str, value: u64) -> io::Result<()>
     ensures { OnOk result (Appends (W.contents writer.old) (W.contents writer.new) (counter_text label (name.now, value))) }
 {
     writeln!(writer, "{label} {name} {value}")
 }
 
-/// Writes the lines of an endpoint's counters.
 fn write_own<W: Write>(writer: &mut W, label: Label, counters: &[NamedCounter]) -> io::Result<()>
     ensures { OnOk result (Appends (W.contents writer.old) (W.contents writer.new) (flat_map (counter_text label) (map (λ c. (c.0.now, c.1)) counters.now))) }
 {
@@ -92,7 +90,6 @@ fn write_own<W: Write>(writer: &mut W, label: Label, counters: &[NamedCounter]) 
     Ok(())
 }
 
-/// Writes the line of a receive SC's counter.
 fn write_rx_counter<W: Write>(
     writer: &mut W,
     label: Label,
@@ -107,7 +104,6 @@ fn write_rx_counter<W: Write>(
     writeln!(writer, " {name} {value}")
 }
 
-/// Writes the lines of a receive SC's counters.
 fn write_rx<W: Write>(
     writer: &mut W,
     label: Label,
@@ -137,7 +133,6 @@ fn write_channel<W: Write>(
     }
 }
 
-/// Writes the line of a receive SA's counter.
 fn write_sa_counter<W: Write>(
     writer: &mut W,
     label: Label,
@@ -153,7 +148,6 @@ fn write_sa_counter<W: Write>(
     writeln!(writer, " {an} {name} {value}")
 }
 
-/// Writes the lines of a receive SA's counters.
 fn write_sa<W: Write>(
     writer: &mut W,
     label: Label,
@@ -226,7 +220,6 @@ fn write_channels<W: Write>(writer: &mut W, label: Label, endpoint: &Secy) -> io
     Ok(())
 }
 
-/// Writes the lines of all counters.
 fn write_counters<W: Write>(writer: &mut W, label: Label, endpoint: &Secy) -> io::Result<()>
     ensures { OnOk result (Appends (W.contents writer.old) (W.contents writer.new) (counters_text label endpoint.now)) }
 {

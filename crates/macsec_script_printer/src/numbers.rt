@@ -123,7 +123,6 @@ fn write_rx_channels<W: Write>(writer: &mut W, n: u32, endpoint: &Secy) -> io::R
     Ok(())
 }
 
-/// Writes the lines of all SAs.
 fn write_numbers<W: Write>(writer: &mut W, n: u32, endpoint: &Secy) -> io::Result<()>
     ensures { OnOk result (Appends (W.contents writer.old) (W.contents writer.new) (numbers_text n endpoint.now)) }
 {

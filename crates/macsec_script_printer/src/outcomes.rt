@@ -15,7 +15,6 @@ use macsec_script_parser::ScriptFault;
 use macsec_secy::{DropReason, Refusal, Verdict};
 use std::io::{self, Write};
 
-/// The name of a refusal.
 fn refusal_name(refusal: Refusal) -> &'static str
     ensures { result.now ≡ refusal_name refusal }
 {
@@ -53,7 +52,6 @@ pub fn drop_text(reason: DropReason) -> &'static str
     }
 }
 
-/// The name of a fault of an event.
 fn world_fault_name(fault: WorldFault) -> &'static str
     ensures { result.now ≡ world_fault_name fault }
 {
@@ -123,7 +121,6 @@ fn write_heard<W: Write>(
     }
 }
 
-/// Writes the line of an outcome.
 fn write_outcome<W: Write>(
     writer: &mut W,
     line: u32,

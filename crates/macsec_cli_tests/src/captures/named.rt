@@ -13,7 +13,6 @@ type Ended = (u8, Vec<u8>, Vec<u8>);
 /// The names of the files of a run, and its expected exit status, line and text.
 type Case = ([&'static str; 3], (u8, &'static str, &'static str));
 
-/// Runs over the files of these names.
 fn end_of(rt: &HostRuntime, direction: Direction, names: [&str; 3]) -> Ended {
     let [config, input, output] = names;
     let paths = CapturePaths {
@@ -39,12 +38,10 @@ fn assert_end(rt: &impl Abort, ended: &Ended, wanted: (u8, &str, &str)) {
     assert_octets(rt, text.as_slice(), printed.as_bytes());
 }
 
-/// Checks that the octets are the expected ones.
 fn assert_octets(rt: &impl Abort, found: &[u8], wanted: &[u8]) {
     assert_eq!(rt; found, wanted);
 }
 
-/// Writes a file of this name.
 fn write_file(rt: &HostRuntime, name: &str, octets: &[u8]) -> io::Result<()> {
     fs::write(rt, name, octets)
 }
@@ -70,7 +67,6 @@ fn has_hex(rt: &HostRuntime, name: &str, pieces: &[&str]) -> Result<bool, Fail> 
     Ok(found.as_slice() == wanted.as_slice())
 }
 
-/// Removes the files of these names.
 fn remove_files(rt: &HostRuntime, names: &[&str]) -> io::Result<()> {
     for name in names {
         fs::remove_file(rt, *name)?;

@@ -74,7 +74,6 @@ fn ended(rt: &HostRuntime, name: &str, script: &str) -> Ended {
     (status, told, output, input.len())
 }
 
-/// Checks the result of a run.
 fn assert_ended(rt: &impl Abort, name: &str, ended: &Ended, wanted: (u8, &str, &str, usize)) {
     let (status, told, output, left) = ended;
     let (wanted_status, line, printed, wanted_left) = wanted;

@@ -70,7 +70,6 @@ const LINES_AT_FAULT: [Faulty; 35] = [
     ("end A gcm128 12153524c0895e81 63 es", LineFault::Number),
 ];
 
-/// The fault of a line.
 fn fault_of(alloc: Global, line: &str) -> Option<LineFault> {
     parse_line(alloc, line.as_bytes()).err()
 }

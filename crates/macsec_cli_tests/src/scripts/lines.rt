@@ -22,7 +22,6 @@ enum Said {
     Other,
 }
 
-/// What an event says, in short.
 fn of_event(event: &Event) -> Said {
     match event {
         Event::Send(end, frame) => Said::Send(*end, frame.octets().last().copied()),
@@ -37,7 +36,6 @@ fn of_event(event: &Event) -> Said {
     }
 }
 
-/// What a line says, in short.
 fn of_line(read: &Result<Option<Line>, LineFault>) -> Said {
     match read {
         Ok(None) => Said::Skipped,
@@ -49,7 +47,6 @@ fn of_line(read: &Result<Option<Line>, LineFault>) -> Said {
     }
 }
 
-/// Whether a line says this.
 fn says(alloc: Global, line: &str, wanted: Said) -> bool {
     of_line(&parse_line(alloc, line.as_bytes())) == wanted
 }

@@ -186,30 +186,25 @@ const FAILURE: [(Failure<'static>, &str); 4] = [
     ),
 ];
 
-/// Checks the sentences of faults of frames and keys.
 fn check_parts(rt: &impl Abort, alloc: Global) -> Result<(), Fail> {
     assert_told(rt, alloc, &TAG)?;
     assert_told(rt, alloc, &SUITE)?;
     assert_told(rt, alloc, &FRAME)
 }
 
-/// Checks the sentences of refusals.
 fn check_refusals(rt: &impl Abort, alloc: Global) -> Result<(), Fail> {
     assert_told(rt, alloc, &REFUSAL)
 }
 
-/// Checks the sentences of faults of the ends and of the link.
 fn check_ends(rt: &impl Abort, alloc: Global) -> Result<(), Fail> {
     assert_told(rt, alloc, &NEW)?;
     assert_told(rt, alloc, &WORLD)
 }
 
-/// Checks the sentences of faults of capture files.
 fn check_files(rt: &impl Abort, alloc: Global) -> Result<(), Fail> {
     assert_told(rt, alloc, &PCAP)
 }
 
-/// Checks the sentences of faults of runs.
 fn check_runs(rt: &impl Abort, alloc: Global) -> Result<(), Fail> {
     assert_told(rt, alloc, &SCRIPT)?;
     assert_told(rt, alloc, &HELD)?;

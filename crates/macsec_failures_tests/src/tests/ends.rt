@@ -59,7 +59,6 @@ const LINES: [(Failure<'static>, u8, &str); 5] = [
     ),
 ];
 
-/// A path of 4,096 octets.
 fn long_path(alloc: Global) -> Result<String, AllocError> {
     let mut longest = String::new(alloc);
     for _ in 0..4096 {
@@ -68,7 +67,6 @@ fn long_path(alloc: Global) -> Result<String, AllocError> {
     Ok(longest)
 }
 
-/// The line of a path that can't be opened.
 fn line_of_path(alloc: Global, path: &str) -> Result<String, AllocError> {
     let mut line = String::new(alloc);
     push_all(&mut line, &["macsec: cannot open ", path, "\n"])?;
@@ -100,7 +98,6 @@ fn end_of_script(rt: &HostRuntime, script: &str) -> (u8, Vec<u8>) {
     (status, told)
 }
 
-/// Checks the exit status of a run, and its line.
 fn assert_told(rt: &impl Abort, (status, told): (u8, &[u8]), (wanted, line): (u8, &str)) {
     assert_eq!(rt; status, wanted, "{line}");
     assert_eq!(rt; told, line.as_bytes());
@@ -144,12 +141,10 @@ fn end_of_capture(
     (status, told, text.written().ends_with(last.as_bytes()))
 }
 
-/// Writes a file of this name.
 fn write_file(rt: &HostRuntime, name: &str, octets: &[u8]) -> io::Result<()> {
     fs::write(rt, name, octets)
 }
 
-/// Writes the configurations and the capture files.
 fn write_files(rt: &HostRuntime, client: &[u8], link: &[u8]) -> io::Result<()> {
     write_file(rt, "sender", SENDER.as_bytes())?;
     write_file(rt, "receiver", RECEIVER.as_bytes())?;
@@ -157,7 +152,6 @@ fn write_files(rt: &HostRuntime, client: &[u8], link: &[u8]) -> io::Result<()> {
     write_file(rt, "link", link)
 }
 
-/// Removes the files.
 fn remove_files(rt: &HostRuntime) -> io::Result<()> {
     for name in ["sender", "receiver", "client", "link", "written"] {
         fs::remove_file(rt, name)?;

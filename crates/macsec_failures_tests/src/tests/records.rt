@@ -7,7 +7,6 @@ use std::alloc::Global;
 use std::process::Abort;
 use std::test::Fail;
 
-/// Whether there is a next record.
 fn has_next(reader: &mut PcapReader<&mut FailingReader<'_>>) -> Result<bool, PcapFault> {
     Ok(reader.next()?.is_some())
 }
@@ -101,7 +100,6 @@ fn records_that_are_too_long(rt: HostRuntime) -> Result<(), Fail> {
     Ok(())
 }
 
-/// Writes a record.
 fn write_of(writer: &mut PcapWriter<'_, FailingWriter>, captured: &[u8]) -> Result<(), PcapFault> {
     writer.write(0, 0, captured)
 }

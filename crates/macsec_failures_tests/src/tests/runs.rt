@@ -86,7 +86,6 @@ fn if_at(place: Place, other: Place, fails: Fails) -> Fails {
     if place == other { fails } else { Fails::Never }
 }
 
-/// The fault of a script's run.
 fn of_script(done: Result<(), ScriptFault>) -> Answer {
     match done {
         Ok(()) => Answer("", ""),
@@ -94,7 +93,6 @@ fn of_script(done: Result<(), ScriptFault>) -> Answer {
     }
 }
 
-/// The fault of a capture's run.
 fn of_capture(done: Result<(), CaptureFault>) -> Answer {
     match done {
         Ok(()) => Answer("", ""),
@@ -123,12 +121,10 @@ fn devices_of(alloc: Global, task: Task, file: &[u8], place: Place, fails: Fails
     }
 }
 
-/// A run of the script.
 fn script_run(alloc: Global, devices: &mut Devices<'_>) -> Answer {
     of_script(run_script(alloc, &mut devices.source, &mut devices.text))
 }
 
-/// A run of a capture.
 fn capture_run(alloc: Global, direction: Direction, devices: &mut Devices<'_>) -> Answer {
     of_capture(run_capture(
         alloc,
@@ -140,7 +136,6 @@ fn capture_run(alloc: Global, direction: Direction, devices: &mut Devices<'_>) -
     ))
 }
 
-/// A run over these devices.
 fn run_over(alloc: Global, task: Task, devices: &mut Devices<'_>) -> Answer {
     match task {
         Task::Script => script_run(alloc, devices),
@@ -170,7 +165,6 @@ fn is_at(devices: &Devices<'_>, place: Place, stop: &Stop, end: &Stop) -> bool {
     }
 }
 
-/// Whether the whole begins with this part.
 fn is_begun(part: &[u8], whole: &[u8]) -> bool {
     whole.starts_with(part)
 }
@@ -252,7 +246,6 @@ fn check_end(
     assert_written(rt, place, devices.text.written(), end.text.as_bytes());
 }
 
-/// Checks each call of this device.
 fn check_device(
     rt: &impl Abort,
     alloc: Global,
@@ -293,7 +286,6 @@ fn check_device(
     Ok(())
 }
 
-/// Checks each call of each of these devices.
 fn check_devices(
     rt: &impl Abort,
     alloc: Global,
@@ -308,20 +300,17 @@ fn check_devices(
     Ok(())
 }
 
-/// Each device of a script.
 #[test]
 fn devices_of_a_script(rt: HostRuntime) -> Result<(), Fail> {
     check_devices(&rt, rt.alloc(), Task::Script, &OF_SCRIPT)
 }
 
-/// Each device of a capture whose frames are protected.
 #[test]
 fn devices_of_a_protection(rt: HostRuntime) -> Result<(), Fail> {
     let task = Task::Capture(Direction::Protect);
     check_devices(&rt, rt.alloc(), task, &OF_PROTECTION)
 }
 
-/// Each device of a capture whose frames are validated.
 #[test]
 fn devices_of_a_validation(rt: HostRuntime) -> Result<(), Fail> {
     let task = Task::Capture(Direction::Validate);
@@ -375,7 +364,6 @@ fn check_flush(
     Ok(())
 }
 
-/// Checks each flush of a capture in this direction.
 fn check_flushes(
     rt: &impl Abort,
     alloc: Global,
