@@ -41,3 +41,6 @@ returns-clause-done c =
 -- For speed: the prover finds this proof, but on a mutant it would try more than this search.
 pub returns-clause-refusal : goal.returns-clause-refusal
 returns-clause-refusal c = search rules
+
+pub returns-then-pn-eq0-clause-refusal : goal.returns-then-pn-eq0-clause-refusal
+returns-then-pn-eq0-clause-refusal c = search rules

@@ -17,3 +17,6 @@ returns-clause-rows c = invariant_of-self c
 
 pub returns-clause-refusal : goal.returns-clause-refusal
 returns-clause-refusal c = search rules
+
+pub returns-then-row-from-clause-refusal : goal.returns-then-row-from-clause-refusal
+returns-then-row-from-clause-refusal c = search rules

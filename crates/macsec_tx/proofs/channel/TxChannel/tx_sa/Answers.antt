@@ -27,3 +27,6 @@ returns-clause-rows c = invariant_of-self c
 
 pub returns-clause-refusal : goal.returns-clause-refusal
 returns-clause-refusal c = search rules
+
+pub returns-then-next-eq0-clause-refusal : goal.returns-then-next-eq0-clause-refusal
+returns-then-next-eq0-clause-refusal c = search rules
