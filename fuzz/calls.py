@@ -107,7 +107,7 @@ FAULTS |= {"LineLong": "LINE_LONG", "ScriptLong": "CONFIG_LONG"}
 
 
 def parsed(text, told):
-    """The lines of a configuration; a fault is shown with what is told of its line."""
+    """The lines of a configuration; a fault is shown with its line."""
     try:
         return expected.parse(text, is_config=True)
     except expected.ScriptFault as fault:
@@ -442,7 +442,7 @@ class Calls:
         return words[field]
 
     def altered(self, words):
-        """Words of which one is another one, or missing, or of which there is one more."""
+        """Words with one of them changed, missing or added."""
         place, chance = self.random.randrange(len(words)), self.random.random()
         other = self.pick(("B", "x", "0", "4096", "9" * 21, "0g", "abc", "on", "end", "#"))
         if chance < 0.6:
@@ -466,12 +466,12 @@ class Calls:
         return "\n".join([f"end A {SUITES[suite]} {sci.hex()} 1518 sci", *("A " + it for it in lines), ""]).encode()
 
     def key_line(self, suite, ssci):
-        """The line of a key of this suite, whose number is that of the suite."""
+        """The line of a key of this suite, with the suite's number as its own."""
         octets = self.keys[suite][: expected.SUITES[SUITES[suite]][0]]
         return f"key {suite} {octets.hex()} 0 {ssci:08x} {self.SALT.hex()}"
 
     def text(self):
-        """The text of a configuration, of which the first lines are most often good ones."""
+        """The text of a configuration. Most often its first lines have no fault."""
         if self.random.random() < 0.1:
             return self.pick((b"", b"# A\n\n", b"\n" * 65_536, b"\n" * 65_537, b"# " + b"A" * 19_999, b"end A\n"))
         suite, sci = self.pick(list(SUITES)), self.sci()

@@ -50,7 +50,7 @@ STATED = [
     (1, rb"macsec: pcap (%s)\n" % "|".join(PCAP_FAULTS).encode()),
     (1, rb"macsec: cannot open [^\n]*\n"),
 ]
-# The outcome that a line of the text tells.
+# The outcome in a line of the text.
 OUTCOME = re.compile(
     rb"^(?:record )?\d+ "
     rb"(refused \d+ \w+|fault \d \w+|dropped \w+|frame|link|partial|done|(?!InP|InO|OutP|OutO)[A-Z]\w+)\b",
@@ -176,7 +176,7 @@ class Tally:
 
 
 def start_worker(seed, programs):
-    """A worker has files of this repository of its own."""
+    """Each worker reads the files of this repository itself."""
     global SEED, CORPUS, BUILDS
     SEED, CORPUS, BUILDS = seed, Corpus(), programs
 

@@ -22,7 +22,7 @@ import expected
 import inputs
 import promises
 
-# The mistake, and a text of the rules, which stands there once, with the one that takes its place.
+# The mistake, a text that occurs once in the rules, and the text that replaces it.
 PLANTED = [
     (
         "a late frame is one at the lowest acceptable number too",

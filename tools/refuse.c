@@ -1,6 +1,6 @@
 /* A library that `tools/failures memory` loads before a program. It refuses one allocation of the program: the one of the
    number in REFUSED, from 1, or none at 0. At the end of the program it writes into the file named by ALLOCATIONS how many
-   allocations there were. It counts those of the program's own code, and not those of the C library. */
+   allocations there were. It counts allocations of the program's own code, not of the C library. */
 #define _GNU_SOURCE
 #include <dlfcn.h>
 #include <fcntl.h>
