@@ -24,8 +24,8 @@
 # make c-programs    builds the library for C and the programs over it, runs them, and makes 100,000 random calls
 # make lanes-used    sees that the cipher is built of its lanes, powers and pieces
 # make clean         removes what make has built
-# install, pages, fuzz, failures, stored-runs, controls and peer prove and build the program first; install also the
-# library for C. All of them work in any order in one checkout.
+# install, pages, fuzz, failures, stored-runs, controls and peer prove and build the program first; install, controls and
+# c-programs the library for C. All of them work in any order in one checkout.
 RT := $(shell command -v rt 2>/dev/null)
 SOURCES := crates.txt $(shell find crates -name out -prune -o -type f \( -name '*.rt' -o -name '*.antt' \) -print)
 INPUTS := 100000

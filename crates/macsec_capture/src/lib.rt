@@ -2,9 +2,8 @@
 //! what is sent or delivered to another capture file, in the format pcap.
 //!
 //! `captured` (`specs/Captured.antt`) defines what a run writes to the output and to the text, and the fault that ends
-//! it: the commands and then the frames go through the steps of the machine. A run has a stop after the commands, one
-//! after the output's header, and one after each record. No stop has the counters. A configuration with a fault has no
-//! stops.
+//! it: the commands and then the frames go through the steps of the machine. A run has a stop after the commands, after
+//! the output's header, and after each record, without counters. A configuration with a fault has no stops.
 //!
 //! Proved, of `run_capture` over readers and writers whose octets a contract can name:
 //! - `Ok`: output and text are what `captured` gives, and it gives no fault.
@@ -17,8 +16,8 @@
 //!   before it and at most what this one has. `Script(Write)`: the output is at a stop. The contract of the private
 //!   `run_records` also says at which record a read or a write failed.
 //!
-//! Over any reader: with a fault in `Script` other than `Write` nothing was written. The endpoint refuses no
-//! configuration without a fault, and no frame of an endpoint is too long for a record.
+//! Over any reader: with a fault in `Script` other than `Write` nothing was written. A configuration without a fault
+//! makes an endpoint, and no frame of an endpoint is too long for a record.
 #![tactic(auto)]
 
 mod commands;
