@@ -1,4 +1,4 @@
--- What lies ahead of a reader.
+-- What a reader has still to return, before and after each block and each call of `next`.
 use Rattle.std.proofs.Common.{◌≡◌, ℕ, zero, suc, ◌-◌, ◌≤◌, ◌<◌, List, refl, sym, ap, subst, ◌∙◌, arith}
 use Rattle.std.specs.Prelude.{Option, Some, None, IfSome, Result, Ok, Err}
 use Rattle.macsec_pcap.specs.declared.fault.PcapFault.{PcapFault}
@@ -17,9 +17,9 @@ use Rattle.macsec_pcapng.specs.Packets.{record_in}
 use Rattle.macsec_pcapng.specs.Answers.{TakesOne, TakesPacket}
 use Rattle.macsec_pcapng.specs.Reading.{ahead_of, told}
 
--- ---- a block is taken
+-- ---- reading a block
 
--- what is known to be held, from octets on and from later ones on
+-- if the octets are known, their content is the content of later octets, with a later section and count of blocks
 abbrev pub Goes : ℕ → Section → Option (List ℕ) → ℕ → Section → Option (List ℕ) → Type 0
 Goes blocks section old left next new = IfSome old (λ octets. (rest : List ℕ) × (new ≡ Some rest)
     × ((places : ℕ) → capture_of blocks section places octets ≡ capture_of left next places rest))
@@ -28,7 +28,7 @@ pub goes_none : (blocks : ℕ) (section : Section) (old : Option (List ℕ)) →
 goes_none blocks section None = tt
 goes_none blocks section (Some octets) = (octets, refl, λ places. refl)
 
--- by what is taken of octets
+-- the content of octets, from their first block
 begins : (left : ℕ) (section : Section) (octets : List ℕ) (places : ℕ) → 0 < left →
     capture_of left section places octets ≡ begun_by (taken_at section octets) places (λ next n rest. capture_of (left - 1) next n rest)
 unfolding capture_of
@@ -37,7 +37,7 @@ begins (suc left) section octets places some =
     let same : suc left - 1 ≡ left = omega arith in
     ap (λ l. begun_by (taken_at section octets) places (λ next n rest. capture_of l next n rest)) (sym same)
 
--- one more block was taken, and had no packet
+-- one more block was read, and it had no packet
 pub goes_on : (blocks left : ℕ) (section next last : Section) (old mid new : Option (List ℕ)) (room : List ℕ) → 0 < left → Goes blocks section old left next mid →
     IfSome mid (λ octets. TakesOne next octets last new room (Ok Skipped)) → Goes blocks section old (left - 1) last new
 goes_on blocks left section next last None mid new room some goes taken = tt
@@ -97,7 +97,7 @@ unfolding capture_of
 over zero next places rest none = refl
 over (suc n) next places rest none = absurd (omega (arith, none))
 
--- there were as many blocks as there can be
+-- the limit of blocks is reached
 pub goes_over : (blocks left after : ℕ) (section next last : Section) (old mid new : Option (List ℕ)) (room : List ℕ) → left ≡ 0 → Goes blocks section old left next mid →
     IfSome old (λ octets. TakesPacket blocks section octets after last new room (Err RecordCount))
 goes_over blocks left after section next last None mid new room none goes = tt
@@ -105,15 +105,15 @@ goes_over blocks left after section next last (Some octets) mid new room none go
 
 -- ---- the calls of `next`
 
--- a reader that has come so far
+-- a reader in this state
 abbrev pub standing : Course → ℕ → Section → ℕ → Option (List ℕ) → Reading
 standing course blocks section places octets = record { resolution = Nano; places = places; ahead = ahead_of course blocks section places octets }
 
--- the call of `next` on a reader
+-- a call of `next` on a reader
 abbrev pub Steps : Reading → Result (Option CaptureRecord) PcapFault → Reading → Type 0
 Steps now answer new = IsAfter now answer new × Answers now.ahead answer
 
--- it was going
+-- the reader was between two blocks
 going : (now : Reading) (course : Course) (blocks : ℕ) (section : Section) (places : ℕ) (octets : Option (List ℕ)) → course ≡ Going →
     standing course blocks section places octets ≡ now →
     standing Going blocks section places octets ≡ now
@@ -130,7 +130,7 @@ end_answers : (blocks left places : ℕ) (section last : Section) (old new : Opt
 end_answers blocks left places section last None new room taken = tt
 end_answers blocks left places section last (Some octets) new room taken = sym (ap first_of (taken places))
 
--- there is no place for the packet
+-- the limit of records is reached
 full_answers : (blocks left places : ℕ) (section last : Section) (old new : Option (List ℕ)) (room : List ℕ) (packet : Packet) → places ≡ 0 →
     IfSome old (λ octets. TakesPacket blocks section octets left last new room (Ok (Some packet))) → Answers (told blocks section places old) (Err RecordCount)
 full_answers blocks left places section last None new room packet none taken = tt
@@ -189,7 +189,7 @@ steps_fault now course blocks left places section last old new room fault is sam
     subst (λ r. Steps r (Err fault) (standing (Failed fault) left last places new)) (going now course blocks section places old is same)
     (record { resolution = refl; places = refl; ahead = refl }, fault_answers blocks left places section last old new room fault taken)
 
--- the call on a reader that has returned the end, or a fault
+-- a call on a reader that has returned `None` or a fault
 pub steps_ended : (now : Reading) (course : Course) (blocks places : ℕ) (section : Section) (octets : Option (List ℕ)) →
     course ≡ Ended → standing course blocks section places octets ≡ now → Steps now (Ok None) (standing course blocks section places octets)
 steps_ended now course blocks places section octets is same =

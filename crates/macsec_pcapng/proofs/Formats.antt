@@ -1,4 +1,4 @@
--- A fault of a capture file's format is none of memory or of a device.
+-- The fault of a capture file in either format is never `Memory`, `Read` or `Write`.
 use Rattle.std.proofs.Common.{ℕ, zero, suc, List, [], drop, length}
 use Rattle.std.specs.Prelude.{nat_lt, not, ◌==◌, Option, Some, None, Result, Ok, Err}
 use Rattle.macsec_pcap.specs.declared.fault.PcapFault.{PcapFault}

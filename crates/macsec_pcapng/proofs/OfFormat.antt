@@ -1,4 +1,4 @@
--- What is read of a file has no fault of memory or of a device.
+-- The results of reading a file have no fault `Memory`, `Read` or `Write`.
 use Rattle.std.specs.Prelude.{Bool, true, false, if◌then◌else◌, Some, Result, Ok, Err}
 use Rattle.macsec_pcap.specs.declared.fault.PcapFault.{PcapFault}
 use Rattle.macsec_pcapng.specs.Laws.{IsOfFormat}
@@ -7,7 +7,7 @@ abbrev pub FaultIsOfFormat : {X : Type 0} → Result X PcapFault → Type 0
 FaultIsOfFormat (Ok x) = Unit {0}
 FaultIsOfFormat (Err fault) = IsOfFormat (Some fault)
 
--- of two, by a test
+-- a choice between two such results
 pub picked : {X : Type 0} (P : X → Type 0) (b : Bool) (x y : X) → P x → P y → P (if b then x else y)
 picked P true x y first second = first
 picked P false x y first second = second

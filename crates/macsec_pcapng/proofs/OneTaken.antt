@@ -1,4 +1,4 @@
--- A block that is read and carried out, and a file's first one.
+-- Reading a block and applying it to the section, and reading the first block of a file.
 use Rattle.std.proofs.Common.{◌≡◌, ◌≢◌, ℕ, ◌+◌, ◌-◌, ◌≤◌, List, take, drop, sym, ap, subst, ◌∙◌, arith}
 use Rattle.std.specs.Prelude.{Option, Some, None, IfSome, Result, Ok, Err, false, true, ◌==◌, nat_lt, if◌then◌else◌}
 use Rattle.std.proofs.lemmas.Bool.Decides.{nat_tests}
@@ -25,7 +25,7 @@ use Rattle.macsec_pcapng.specs.Packets.{record_in}
 use Rattle.macsec_pcapng.specs.Section.{Section}
 use Rattle.macsec_pcapng.specs.Sections.{left_by, new_section}
 
--- a packet's octets are among those of its block's body that are kept
+-- the octets of a packet are within the kept octets of the block's body
 record_in-take : (packet : Packet) (room : List ℕ) (n : ℕ) → packet.start + packet.captured ≤ n → record_in packet (take n room) ≡ record_in packet room
 record_in-take packet room n fits =
     let m = n - packet.start in
@@ -40,7 +40,7 @@ unless_read : (begins : Begins) (section : Section) (fault : PcapFault) → Unle
 unless_read begins section Read h = tt
 unless_read begins section fault h = ap (taken_by section) h
 
--- what is taken and left, by other names of the same
+-- the same result under equal names
 pub taken_as : (old new : Option (List ℕ)) (order section_order : Order) (room : List ℕ) (answer named : Result (Option Head) PcapFault) → order ≡ section_order → answer ≡ named →
     IfSome old (λ octets. TakesBlock (block_at order octets) new room answer) → IfSome old (λ octets. TakesBlock (block_at section_order octets) new room named)
 taken_as old new order section_order room answer named same is taken =
@@ -64,7 +64,7 @@ pub one_end : (old new last : Option (List ℕ)) (section next : Section) (room 
 one_end None new last section next room other taken = tt
 one_end (Some octets) new last section next room other taken = ap (taken_by section) taken
 
--- a block was, and what it leaves
+-- a block was read, and what it leaves
 pub one_skipped : (old new : Option (List ℕ)) (section next : Section) (room : List ℕ) (head : Head) →
     IfSome old (λ octets. TakesBlock (block_at section.order octets) new room (Ok (Some head))) →
     IsLeft (left_by section (block_by head (take (kept head.len) room))) next (Ok None) →

@@ -1,4 +1,4 @@
--- Options that are read one after another.
+-- Options are read one after another: one step of the loop in `with_options`.
 use Rattle.std.proofs.Common.{◌≡◌, ℕ, zero, suc, ◌+◌, ◌-◌, ◌<◌, List, drop, refl, ap, ◌∙◌, arith}
 use Rattle.std.specs.Prelude.{Some, None, Ok, Err}
 use Rattle.macsec_pcap.specs.declared.fault.PcapFault.{PcapFault}
@@ -6,7 +6,7 @@ use Rattle.macsec_pcap.specs.declared.form.Order.{Order}
 use Rattle.macsec_pcapng.specs.declared.interfaces.Interface.{Interface}
 use Rattle.macsec_pcapng.specs.Interfaces.{after_option, option_at, options_in}
 
--- what is read of octets is what is read after their first option
+-- reading all options is reading the first one and then the rest
 pub options_in-more : (order : Order) (n k : ℕ) (octets : List ℕ) (interface described : Interface) (len : ℕ) → k < n →
     option_at order octets interface ≡ Ok (Some (described, len)) →
     options_in order (n - k) octets interface ≡ options_in order (n - (k + 1)) (drop len octets) described

@@ -1,4 +1,4 @@
--- A fault of a file in the format pcapng is none of memory or of a device.
+-- The fault of a pcapng file is never `Memory`, `Read` or `Write`.
 use Rattle.std.proofs.Common.{ℕ, zero, suc, ◌+◌, ◌-◌, List, drop, take, length}
 use Rattle.std.specs.Prelude.{◌==◌, nat_lt, not, slice_get, Option, Some, None, Result, Ok, Err}
 use Rattle.macsec_pcap.specs.declared.fault.PcapFault.{PcapFault}
@@ -143,7 +143,7 @@ left_by_format section block =
     (leaves_packet_format section (simple section.interfaces block.order block.len block.front)
     (simple_format (slice_get section.interfaces 0) block.order block.len block.front)) tt)))
 
--- ---- what is taken, and what a file holds
+-- ---- reading a block, and the content of a file
 
 taken_with_format : (left : Leaves) (front rest : List ℕ) → FaultIsOfFormat left → FaultIsOfFormat (taken_with left front rest)
 taken_with_format (Err fault) front rest of_format = of_format

@@ -1,4 +1,4 @@
--- Blocks that are read piece by piece.
+-- A block that is read in pieces (type and length, body, length) is the block of the definition.
 use Rattle.std.proofs.Common.{◌≡◌, ◌≢◌, ℕ, ◌+◌, ◌-◌, ◌<◌, ◌≤◌, List, ◌++◌, length, take, drop, refl, sym, ap, subst, ◌∙◌, arith, length-append, length-drop, take-append-drop}
 use Rattle.std.specs.Prelude.{Option, Some, None, IfSome, Result, Ok, Err, false, true, nat_lt, ◌==◌}
 use Rattle.std.proofs.lemmas.Bool.{le-ltb, lt-ltb}
@@ -27,7 +27,7 @@ block_at-head order octets long =
     let whole : nat_lt (length octets) 8 ≡ false = le-ltb (length octets) 8 long in
     rw (test, whole) refl
 
--- what is returned of the octets behind them is returned of all
+-- what is returned for the octets after the first eight is returned for all
 pub takes_behind : (order : Order) (old mid new : Option (List ℕ)) (head room : List ℕ) (n : ℕ) (answer : Result (Option Head) PcapFault) → length head ≡ 8 → 8 ≤ n →
     IsFilled old mid head n → IfSome mid (λ behind. TakesBlock (block_with order head behind) new room answer) →
     IfSome old (λ octets. TakesBlock (block_at order octets) new room answer)
@@ -41,7 +41,7 @@ takes_behind order (Some octets) mid new head room n answer long whole filled ta
     subst (λ begins. TakesBlock begins new room answer) (sym meant)
     (subst (λ m. IfSome m (λ behind. TakesBlock (block_with order head behind) new room answer)) left taken)
 
--- the same of a section header
+-- the same for a section header
 pub takes_section : (order : Order) (old mid new : Option (List ℕ)) (head room : List ℕ) (n : ℕ) (answer : Result (Option Head) PcapFault) → length head ≡ 8 → 8 ≤ n →
     IsFilled old mid head n → is_section head ≡ true → IfSome mid (λ behind. TakesBlock (section_in head behind) new room answer) →
     IfSome old (λ octets. TakesBlock (block_at order octets) new room answer)
@@ -53,7 +53,7 @@ takes_section order old mid new head room n answer long whole filled is taken =
     within None h = tt
     within (Some behind) h = rw is h
 
--- and of any other block
+-- the same for any other block
 pub takes_other : (order : Order) (old mid new : Option (List ℕ)) (head room : List ℕ) (n kind total : ℕ) (answer : Result (Option Head) PcapFault) → length head ≡ 8 → 8 ≤ n →
     IsFilled old mid head n → is_section head ≡ false → kind ≡ number order 4 head → total ≡ total_length order head →
     IfSome mid (λ behind. TakesBlock (block_of order kind total behind) new room answer) →
@@ -78,7 +78,7 @@ section_in-whole : (head behind : List ℕ) → 4 ≤ length behind → section_
 section_in-whole head behind long =
     let whole : nat_lt (length behind) 4 ≡ false = le-ltb (length behind) 4 long in rw whole refl
 
--- with its magic at the front of a room
+-- its magic is at the front of a room
 pub section_taken : (head four start room : List ℕ) (old mid new : Option (List ℕ)) (order : Order) (total : ℕ) (answer : Result (Option Head) PcapFault) → length four ≡ 4 →
     start ≡ four → Some order ≡ order_of_magic start → total ≡ total_length order head → IfSome old (λ behind. Fetches four behind mid (Ok tt)) →
     IfSome mid (λ rest. TakesBlock (block_of order section_header total (start ++ rest)) new room answer) →
@@ -99,9 +99,9 @@ section_taken head four start room (Some behind) mid new order total answer long
     (subst (λ b. TakesBlock (block_of order section_header (total_length order head) b) new room answer) joined
     (subst (λ m. IfSome m (λ rest. TakesBlock (block_of order section_header (total_length order head) (four ++ rest)) new room answer)) left at_four))
 
--- ---- the body, and the length behind it
+-- ---- the body, and the length after it
 
--- the length can be that of such a block
+-- the length is allowed for this type
 pub block_of-length : (order : Order) (kind total : ℕ) (behind : List ℕ) → is_length kind total ≡ true →
     block_of order kind total behind ≡ block_of_len order kind total (total - 12) behind
 block_of-length order kind total behind can = rw can refl
@@ -143,7 +143,7 @@ body_fault order kind total len front (Some rest) new last room other CutRecord 
 body_fault order kind total len front (Some rest) new last room other Read can same failed = tt
 body_fault order kind total len front (Some rest) new last room other fault can same failed = cc
 
--- the body was read, and the length behind it was not, or is another
+-- the body was read; the length after it was not, or it differs
 pub trailer_fault : (order : Order) (kind total len : ℕ) (front : List ℕ) (old mid new last : Option (List ℕ)) (room : List ℕ) (fault : PcapFault) →
     is_length kind total ≡ true → len ≡ total - 12 →
     IfSome old (λ rest. TakesBody len (front ++ rest) mid room (Ok tt)) → IfSome mid (λ octets. TakesTrailer order total octets new (Err fault)) →
@@ -166,7 +166,7 @@ trailer_fault order kind total len front (Some rest) mid new last room fault can
     let here : TakesTrailer order total (drop len (front ++ rest)) new (Err fault) =
     subst (λ m. IfSome m (λ octets. TakesTrailer order total octets new (Err fault))) body.2 failed in cc
 
--- both were
+-- both were read
 pub block_taken : (order : Order) (kind total len : ℕ) (front : List ℕ) (old mid new : Option (List ℕ)) (room : List ℕ) → is_length kind total ≡ true → len ≡ total - 12 →
     IfSome old (λ rest. TakesBody len (front ++ rest) mid room (Ok tt)) → IfSome mid (λ octets. TakesTrailer order total octets new (Ok tt)) →
     IfSome old (λ rest. TakesBlock (block_of order kind total (front ++ rest)) new room (Ok (Some (record { order = order; kind = kind; len = len }))))
@@ -192,7 +192,7 @@ piece_fault (Some rest) mid last room piece other known end len CutRecord whole 
     omega (arith, long, short, l, p, length-append (take known room) rest)
 piece_fault (Some rest) mid last room piece other known end len fault whole k e l p failed = failed
 
--- a body is read in two pieces, behind what is known of it
+-- after the octets that are already known, a body is read in two pieces
 pub body_taken : (old mid new : Option (List ℕ)) (room piece others : List ℕ) (known end len : ℕ) (answer : Result (Unit {0}) PcapFault) →
     length room ≡ 262164 → known ≤ end → end ≤ 262164 → end ≤ len → end ≡ kept len → length piece + known ≡ end →
     IfSome old (λ rest. Fetches piece rest mid (Ok tt)) → IfSome mid (λ xs. Skips (len - end) xs new answer) →

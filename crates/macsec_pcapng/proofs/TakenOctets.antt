@@ -1,11 +1,11 @@
--- Octets that are taken from a reader.
+-- Reading and skipping octets of a reader.
 use Rattle.std.proofs.Common.{◌≡◌, ℕ, ◌≤◌, List, ◌++◌, length, take, drop, refl, sym, ap, ◌∙◌, arith, length-append}
 use Rattle.std.specs.Prelude.{Option, Some, None, IfSome, Ok}
 use Rattle.std.proofs.lemmas.List.{drop_at, take_all, take_at}
 use Rattle.macsec_pcap.specs.Filled.{IsFilled}
 use Rattle.macsec_pcapng.specs.Answers.{Fetches}
 
--- ---- a room is filled
+-- ---- filling a room
 
 pub fetches : (old new : Option (List ℕ)) (room : List ℕ) (n : ℕ) → length room ≤ n → IsFilled old new room n → IfSome old (λ octets. Fetches room octets new (Ok tt))
 fetches None new room n whole filled = tt
@@ -17,8 +17,8 @@ fetches (Some octets) (Some ys) room n whole filled =
       ap Some (sym (ap (drop (length room)) joined ∙ drop_at room ys _ refl)),
     )
 
--- ---- octets are gone
+-- ---- skipping octets
 
--- the first n octets are gone
+-- the first n octets were skipped
 abbrev pub IsPast : Option (List ℕ) → Option (List ℕ) → ℕ → Type 0
 IsPast old new n = IfSome old (λ octets. (n ≤ length octets) × (new ≡ Some (drop n octets)))

@@ -1,4 +1,5 @@
--- A file whose first four octets were read before the reader of its format begins.
+-- The first four octets of a file are read to find its format. The reader for that format then reads the whole file,
+-- from a cursor over these four octets and then from the source.
 use Rattle.std.proofs.Common.{◌≡◌, ℕ, ◌≤◌, List, [], ◌∷◌, ◌++◌, length, drop, refl, sym, ap, subst, ◌∙◌, arith, take-append-drop}
 use Rattle.std.specs.Prelude.{true, false, if◌then◌else◌, Option, Some, None, IfSome, Result, Ok, option_map}
 use Rattle.std.specs.Fmt.{option_append}
@@ -12,7 +13,7 @@ use Rattle.macsec_pcapng.specs.Captures.{captures_of}
 use Rattle.macsec_pcapng.specs.Files.{pcapng_of}
 use Rattle.macsec_pcapng.proofs.TakenOctets.{fetches}
 
--- what begins with them tells the format by them alone
+-- the first four octets decide the format
 is_section-append : (front rest : List ℕ) → length front ≡ 4 → is_section (front ++ rest) ≡ is_section front
 is_section-append [] rest long = absurd (omega (arith, long))
 is_section-append (a ∷ []) rest long = absurd (omega (arith, long))
@@ -21,17 +22,17 @@ is_section-append (a ∷ b ∷ c ∷ []) rest long = absurd (omega (arith, long)
 is_section-append (a ∷ b ∷ c ∷ d ∷ []) rest long = refl
 is_section-append (a ∷ b ∷ c ∷ d ∷ e ∷ more) rest long = absurd (omega (arith, long))
 
--- these octets come again, and then what is left
+-- `whole` is these octets and then what is left of the source
 abbrev pub ComesAgain : List ℕ → Option (List ℕ) → Option (List ℕ) → Type 0
 ComesAgain front left whole = (rest : List ℕ) → left ≡ Some rest → whole ≡ Some (front ++ rest)
 
--- by a cursor at their beginning, and the source behind it
+-- a cursor at the start of these octets, chained with the source, reads so
 pub comes_again : (front inner : List ℕ) (pos : ℕ) (left whole : Option (List ℕ)) → whole ≡ option_append (option_map (drop pos) (Some inner)) left →
     pos ≡ 0 → inner ≡ front → ComesAgain front left whole
 comes_again front inner pos left whole is begins same = λ rest there.
     is ∙ ap (option_append (option_map (drop pos) (Some inner))) there ∙ ap (λ n. Some (drop n inner ++ rest)) begins ∙ ap (λ xs. Some (xs ++ rest)) same
 
--- that is the file, whose format they tell
+-- `whole` is the file, and `front` decides its format
 record IsWhole (file : List ℕ) (whole : Option (List ℕ)) (front : List ℕ) : Type 0 where
   same : whole ≡ Some file
   format : is_section file ≡ is_section front
@@ -46,7 +47,7 @@ is_whole file left whole front n long enough filled again =
       format = ap is_section joined ∙ is_section-append front rest long;
     }
 
--- what the reader of the format opens
+-- what the reader for the format opens is what the definition of both formats says
 pub opens_pcapng : (old left whole : Option (List ℕ)) (front : List ℕ) (n : ℕ) (answer : Result Reading PcapFault) → length front ≡ 4 → 4 ≤ n →
     IsFilled old left front n → ComesAgain front left whole → is_section front ≡ true →
     IfSome whole (λ file. Opens (pcapng_of file) answer) → IfSome old (λ file. Opens (captures_of file) answer)

@@ -1,5 +1,5 @@
--- What a pcapng file holds (draft-ietf-opsawg-pcapng, 3 General File Structure): its blocks one after another, the first of
--- them a section header.
+-- The content of a pcapng file (draft-ietf-opsawg-pcapng, 3 General File Structure). A file is a list of blocks, and
+-- the first is a section header.
 use Rattle.std.specs.Prelude.{ℕ, zero, suc, ◌==◌, List, [], if◌then◌else◌, Option, Some, None, Result, Ok, Err}
 use Rattle.macsec_pcap.specs.declared.fault.PcapFault.{PcapFault}
 use Rattle.macsec_pcap.specs.declared.fault.PcapFault.TheVariants.{Magic, CutHeader, CutRecord, RecordCount}
@@ -14,8 +14,8 @@ use Rattle.macsec_pcapng.specs.Packets.{record_in}
 use Rattle.macsec_pcapng.specs.Section.{Section}
 use Rattle.macsec_pcapng.specs.Sections.{Leaves, left_by, new_section}
 
--- what is taken of octets: nothing, or a block, which leaves a section, a record if it has one, and the octets after it; or
--- the first fault
+-- the result of reading one block: nothing at the end of the file; or a section, a record if the block has one, and the
+-- octets after the block; or the first fault
 abbrev pub Takes : Type 0
 Takes = Result (Option (Section × Option CaptureRecord × List ℕ)) PcapFault
 
@@ -36,19 +36,20 @@ taken_at section octets = taken_by section (block_at section.order octets)
 abbrev pub ended : Option PcapFault → Capture
 ended fault = record { records = []; fault = fault }
 
--- a record, if there is a place for it, and what comes after it
+-- a record and what comes after it, if one more record is allowed
 abbrev pub with_record : ℕ → CaptureRecord → (ℕ → Capture) → Capture
 with_record zero first more = ended (Some RecordCount)
 with_record (suc places) first more = followed_by first (more places)
 
--- what octets hold, by what is taken of them, and by what those after it hold
+-- the content of octets, from their first block and the content of the octets after it
 abbrev pub begun_by : Takes → ℕ → (Section → ℕ → List ℕ → Capture) → Capture
 begun_by (Err fault) places more = ended (Some fault)
 begun_by (Ok None) places more = ended None
 begun_by (Ok (Some (section, None, rest))) places more = more section places rest
 begun_by (Ok (Some (section, Some first, rest))) places more = with_record places first (λ left. more section left rest)
 
--- what octets hold in a section, of which fewer blocks than this are read, with places for so many records
+-- the content of octets within a section. The fault is `RecordCount` after `blocks` blocks, or at a record after
+-- `places` records
 unfoldable pub capture_of : ℕ → Section → ℕ → List ℕ → Capture
 capture_of zero section places octets = ended (Some RecordCount)
 capture_of (suc blocks) section places octets =
@@ -56,24 +57,24 @@ capture_of (suc blocks) section places octets =
 
 -- ---- the file
 
--- behind its first section header
+-- from its first section, and the octets after that section's header
 abbrev pub file_after : Result Section PcapFault → List ℕ → Result CaptureFile PcapFault
 file_after (Err fault) rest = Err fault
 file_after (Ok section) rest = Ok (record { resolution = Nano; capture = capture_of max_blocks section max_records rest })
 
--- a file that ends within its first block is cut in its header
+-- a file that ends within its first block has the fault `CutHeader`
 abbrev pub in_header : PcapFault → PcapFault
 in_header CutRecord = CutHeader
 in_header fault = fault
 
--- by its first block
+-- from its first block, which must be a section header
 abbrev pub file_by : Begins → Result CaptureFile PcapFault
 file_by (Err fault) = Err (in_header fault)
 file_by (Ok None) = Err CutHeader
 file_by (Ok (Some (block, rest))) =
     if block.kind == section_header then file_after (new_section block.order block.front) rest else Err Magic
 
--- what a pcapng file holds, with times in nanoseconds; a section header has an order of its own, so the one here is that of
--- no block of a file that begins with one
+-- the content of a pcapng file, with times in nanoseconds. A section header is read in the byte order of its magic, so
+-- `Big` matters only for a file whose first block is of another type, which has a fault in any case
 abbrev pub pcapng_of : List ℕ → Result CaptureFile PcapFault
 pcapng_of file = file_by (block_at Big file)

@@ -1,4 +1,4 @@
--- A reader of files in either format: what callers see of the reader of the format that the file has.
+-- A reader of files in either format looks to its callers like the reader for the format of the file.
 use Rattle.macsec_pcap.specs.Reading.{Reading}
 use Rattle.macsec_pcapng.specs.declared.captures.Format.{Format}
 use Rattle.macsec_pcapng.specs.declared.captures.Format.TheVariants.{Pcap, Pcapng}

@@ -1,5 +1,5 @@
--- The interfaces of a section (draft-ietf-opsawg-pcapng, 4.2 Interface Description Block): link type (2 octets), reserved
--- (2), snap length (4), and options.
+-- The interfaces of a section (draft-ietf-opsawg-pcapng, 4.2 Interface Description Block): link type (2 octets),
+-- reserved (2), snap length (4), and options.
 use Rattle.std.specs.Prelude.{ℕ, zero, suc, ◌+◌, ◌/◌, ◌*◌, Bool, ◌==◌, List, length, take, drop, slice_index, nat_lt, if◌then◌else◌, Option, Some, None, Result, Ok, Err}
 use Rattle.macsec_pcap.specs.declared.fault.PcapFault.{PcapFault}
 use Rattle.macsec_pcap.specs.declared.fault.PcapFault.TheVariants.{BlockLength}
@@ -8,7 +8,7 @@ use Rattle.macsec_pcap.specs.Numbers.{number}
 use Rattle.macsec_pcapng.specs.declared.interfaces.Interface.{Interface}
 use Rattle.macsec_pcapng.specs.Limits.{max_options, room_length}
 
--- the link type is that of Ethernet
+-- the link type is Ethernet
 abbrev pub is_ethernet : Interface → Bool
 is_ethernet interface = interface.link_type == 1
 
@@ -23,11 +23,11 @@ value_length order octets = number order 2 (drop 2 octets)
 abbrev pub padded : ℕ → ℕ
 padded len = (len + 3) / 4 * 4
 
--- how many octets an option has
+-- the length of an option, in octets
 abbrev pub option_length : Order → List ℕ → ℕ
 option_length order octets = 4 + padded (value_length order octets)
 
--- of the options of an interface two are read: if_tsresol, code 9, of one octet, and if_tsoffset, code 14, of eight
+-- two options are read: if_tsresol (code 9, one octet) and if_tsoffset (code 14, eight octets); all others are ignored
 abbrev pub with_option : Order → Interface → ℕ → List ℕ → Result Interface PcapFault
 with_option order interface code value =
     if code == 9 then (if length value == 1 then Ok (record interface { resolution = slice_index value 0 }) else Err BlockLength)
@@ -38,8 +38,8 @@ abbrev pub behind_option : Result Interface PcapFault → ℕ → Result (Option
 behind_option (Err fault) n = Err fault
 behind_option (Ok interface) n = Ok (Some (interface, n))
 
--- the interface by the option that begins here, and how many octets this has; none if fewer than four octets are left, or
--- at the option of code 0 (opt_endofopt)
+-- the interface after the option that begins here, and the length of that option; none if fewer than four octets are
+-- left, or at code 0 (opt_endofopt)
 abbrev pub option_at : Order → List ℕ → Interface → Result (Option (Interface × ℕ)) PcapFault
 option_at order octets interface =
     if nat_lt (length octets) 4 then Ok None
@@ -52,7 +52,7 @@ after_option (Err fault) interface octets more = Err fault
 after_option (Ok None) interface octets more = Ok interface
 after_option (Ok (Some (described, n))) interface octets more = more (drop n octets) described
 
--- the interface by the options that begin here, of which there are at most so many
+-- the interface after the options that begin here, at most n
 unfoldable pub options_in : Order → ℕ → List ℕ → Interface → Result Interface PcapFault
 options_in order zero octets interface = Ok interface
 options_in order (suc n) octets interface =
@@ -65,7 +65,8 @@ abbrev pub plain_interface : Order → List ℕ → Interface
 plain_interface order front =
     record { link_type = number order 2 front; snap_len = number order 4 (drop 4 front); resolution = 6; offset = 0 }
 
--- the interface that a body of so many octets describes; all of them are read, so there are as many as are kept at most
+-- the interface that a body of `len` octets describes; the whole body is read, so it must not be longer than what is
+-- kept
 abbrev pub interface_of : Order → ℕ → List ℕ → Result Interface PcapFault
 interface_of order len front =
     if nat_lt room_length len then Err BlockLength

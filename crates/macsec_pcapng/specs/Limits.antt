@@ -1,7 +1,7 @@
--- The limits of what is read of a pcapng file.
+-- The limits of a reader of pcapng files.
 use Rattle.std.specs.Prelude.{ℕ}
 
--- the octets of a block's body that are kept: the 20 before an enhanced packet, and the most octets of one
+-- the most octets of a block's body that are kept: the 20 before an enhanced packet's data, and the longest packet
 abbrev pub room_length : ℕ
 room_length = 262164
 
@@ -9,10 +9,10 @@ room_length = 262164
 abbrev pub max_interfaces : ℕ
 max_interfaces = 256
 
--- the most options of an interface; as many as the room has place for
+-- the most options of an interface; no more fit into the kept octets of a body
 abbrev pub max_options : ℕ
 max_options = 65541
 
--- a file has fewer blocks than this behind its first one
+-- after its first block, a file has fewer blocks than this
 abbrev pub max_blocks : ℕ
 max_blocks = 4294967295

@@ -12,21 +12,21 @@ use Rattle.macsec_pcapng.specs.declared.times.Time.{Time}
 use Rattle.macsec_pcapng.specs.Interfaces.{is_ethernet}
 use Rattle.macsec_pcapng.specs.Times.{time_of}
 
--- at a time that is in range
+-- a packet whose time is in range
 abbrev pub packet_at : Option Time → ℕ → ℕ → ℕ → Result Packet PcapFault
 packet_at None start captured original = Err time_fault
 packet_at (Some time) start captured original =
     Ok (record { seconds = time.seconds; fraction = time.nanoseconds; start = start; captured = captured; original = original })
 
--- a packet whose octets stand in a body of `len` behind its first `start`: they are not too many, and all there
+-- a packet whose data begin at offset `start` in a body of `len` octets: not too long, and all within the body
 abbrev pub packet_of : Option Time → ℕ → ℕ → ℕ → ℕ → Result Packet PcapFault
 packet_of time len start captured original =
     if nat_lt max_record_length captured then Err RecordLength
     else if nat_lt len (start + captured) then Err BlockLength
     else packet_at time start captured original
 
--- ---- an enhanced packet: interface (4 octets), time (its higher 4 and its lower 4), captured length (4), original length
--- (4), the captured octets, padding and options
+-- ---- an enhanced packet: interface (4 octets), time (its higher 4 and its lower 4), captured length (4), original
+-- length (4), the captured octets, padding and options
 
 abbrev pub ticks : Order → List ℕ → ℕ
 ticks order front = number order 4 (drop 4 front) * 2 ^ 32 + number order 4 (drop 8 front)
@@ -42,7 +42,7 @@ enhanced interfaces order len front = enhanced_on (slice_get interfaces (number 
 
 -- ---- a simple packet, of the first interface: original length (4 octets), the captured octets, and padding
 
--- as many octets are captured as the packet has, but no more than the snap length, if that is not 0
+-- the captured length is the original length, but at most the snap length, unless that is 0
 abbrev pub within_snap : ℕ → ℕ → ℕ
 within_snap snap original = if snap == 0 then original else if nat_lt snap original then snap else original
 
@@ -55,7 +55,7 @@ simple_on (Some interface) order len front =
 abbrev pub simple : List Interface → Order → ℕ → List ℕ → Result Packet PcapFault
 simple interfaces order len front = simple_on (slice_get interfaces 0) order len front
 
--- ---- its record; it is partial if fewer octets were captured than the packet had
+-- ---- its record, which is partial if the captured length is below the original length
 
 abbrev pub record_in : Packet → List ℕ → CaptureRecord
 record_in packet front = record {

@@ -1,4 +1,4 @@
--- What lies ahead of a reader of a pcapng file.
+-- What a reader of a pcapng file has still to return.
 use Rattle.std.specs.Prelude.{ℕ, List, Option, Some, None}
 use Rattle.macsec_pcap.specs.Reading.{Ahead, over, failed, holds, untold}
 use Rattle.macsec_pcapng.specs.declared.reader.Course.{Course}
@@ -6,7 +6,7 @@ use Rattle.macsec_pcapng.specs.declared.reader.Course.TheVariants.{Going, Ended,
 use Rattle.macsec_pcapng.specs.Section.{Section}
 use Rattle.macsec_pcapng.specs.Files.{capture_of}
 
--- what octets hold, if they are known
+-- the content of the remaining octets, if a contract can name them
 abbrev pub told : ℕ → Section → ℕ → Option (List ℕ) → Ahead
 told blocks section places None = untold
 told blocks section places (Some octets) = holds (capture_of blocks section places octets)

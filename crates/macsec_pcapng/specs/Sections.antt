@@ -1,4 +1,4 @@
--- What the blocks of a section say (draft-ietf-opsawg-pcapng, 4.1 Section Header Block).
+-- How each block changes a section (draft-ietf-opsawg-pcapng, 4.1 Section Header Block).
 use Rattle.std.specs.Prelude.{ℕ, Bool, ◌==◌, ◌&&◌, ◌||◌, List, [], ◌∷◌, ◌++◌, length, drop, if◌then◌else◌, Option, Some, None, Result, Ok, Err}
 use Rattle.macsec_pcap.specs.declared.fault.PcapFault.{PcapFault}
 use Rattle.macsec_pcap.specs.declared.fault.PcapFault.TheVariants.{Version, InterfaceCount}
@@ -12,8 +12,8 @@ use Rattle.macsec_pcapng.specs.Interfaces.{interface_of}
 use Rattle.macsec_pcapng.specs.Packets.{enhanced, simple}
 use Rattle.macsec_pcapng.specs.Section.{Section}
 
--- the body of a section header: byte-order magic (4 octets), major and minor version (2 each), section length (8), options.
--- The version is 1.0, or 1.2, which some writers put in its place
+-- the body of a section header: byte-order magic (4 octets), major and minor version (2 each), section length (8),
+-- options. The version is 1.0, or 1.2, which some programs write instead
 abbrev pub is_version : Order → List ℕ → Bool
 is_version order front =
     (number order 2 (drop 4 front) == 1) && ((number order 2 (drop 6 front) == 0) || (number order 2 (drop 6 front) == 2))
@@ -22,7 +22,7 @@ is_version order front =
 abbrev pub new_section : Order → List ℕ → Result Section PcapFault
 new_section order front = if is_version order front then Ok (record { order = order; interfaces = [] }) else Err Version
 
--- a section with one interface more
+-- a section with one more interface
 abbrev pub with_one_more : Section → Interface → Result Section PcapFault
 with_one_more section interface =
     if length section.interfaces == max_interfaces then Err InterfaceCount
@@ -44,7 +44,7 @@ abbrev pub leaves_packet : Section → Result Packet PcapFault → Leaves
 leaves_packet section (Err fault) = Err fault
 leaves_packet section (Ok packet) = Ok (section, Some packet)
 
--- what a block leaves; one of any other type is skipped
+-- what a block leaves; a block of any other type is skipped
 abbrev pub left_by : Section → Block → Leaves
 left_by section block =
     if block.kind == section_header then leaves_section (new_section block.order block.front)

@@ -1,25 +1,25 @@
--- Times (draft-ietf-opsawg-pcapng, 4.2 and 4.3): a number of 64 bits, in units that the interface's if_tsresol gives, behind
--- 1970 and its if_tsoffset.
+-- Times (draft-ietf-opsawg-pcapng, 4.2 and 4.3): a 64-bit number of units since the beginning of 1970. The interface's
+-- if_tsresol gives the unit, and its if_tsoffset is added in seconds.
 use Rattle.std.specs.Prelude.{ℕ, ◌+◌, ◌-◌, ◌*◌, ◌/◌, ◌%◌, ◌^◌, nat_lt, if◌then◌else◌, Option, Some, None}
 use Rattle.macsec_pcapng.specs.declared.interfaces.Interface.{Interface}
 use Rattle.macsec_pcapng.specs.declared.times.Time.{Time}
 
--- how many units a second has: if the highest bit of if_tsresol is set, a power of two, else a power of ten
+-- units per second: a power of two if the highest bit of if_tsresol is set, else a power of ten
 abbrev pub units : ℕ → ℕ
 units resolution = if nat_lt 127 resolution then 2 ^ (resolution - 128) else 10 ^ resolution
 
--- whole nanoseconds, rounded down
+-- the same time in nanoseconds, rounded down
 abbrev pub nanoseconds : ℕ → ℕ → ℕ
 nanoseconds ticks resolution = ticks * 1000000000 / units resolution
 
--- seconds with an offset, a number of 64 bits in two's complement; none before 1970
+-- seconds plus a 64-bit offset in two's complement; none before 1970
 abbrev pub with_offset : ℕ → ℕ → Option ℕ
 with_offset seconds offset =
     if nat_lt offset (2 ^ 63) then Some (seconds + offset)
     else if nat_lt (seconds + offset) (2 ^ 64) then None
     else Some (seconds + offset - 2 ^ 64)
 
--- a time whose seconds have 32 bits
+-- a time whose seconds fit into 32 bits
 abbrev pub time_in_range : Option ℕ → ℕ → Option Time
 time_in_range None nanoseconds = None
 time_in_range (Some seconds) nanoseconds =
@@ -28,6 +28,6 @@ time_in_range (Some seconds) nanoseconds =
 abbrev pub time_by : ℕ → ℕ → Option Time
 time_by nanoseconds offset = time_in_range (with_offset (nanoseconds / 1000000000) offset) (nanoseconds % 1000000000)
 
--- the time of so many units on this interface
+-- the time after `ticks` units of this interface
 abbrev pub time_of : Interface → ℕ → Option Time
 time_of interface ticks = time_by (nanoseconds ticks interface.resolution) interface.offset

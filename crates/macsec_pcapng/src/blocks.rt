@@ -8,10 +8,10 @@ use crate::octets::{fetch, skip};
 use macsec_pcap::{Order, PcapFault, fill};
 use std::io::Read;
 
-/// How many octets of a block's body are kept: the 20 before an enhanced packet, and the most octets of one.
+/// The most octets of a block's body that are kept: the 20 before an enhanced packet's data, and the longest packet.
 pub(crate) const ROOM_LEN: usize = 262_164;
 
-/// The type of a section header (4.1), the same in either order.
+/// The type of a section header (4.1). It reads the same in either byte order.
 pub(crate) const SECTION_HEADER: u32 = 0x0a0d_0d0a;
 
 /// The type of an interface description (4.2).
@@ -26,17 +26,17 @@ pub(crate) const ENHANCED_PACKET: u32 = 6;
 /// The byte-order magic of a section header.
 const MAGIC: u32 = 0x1a2b_3c4d;
 
-/// How many octets a block has besides its body.
+/// The octets of a block around its body: its type, and its total length twice.
 const FRAME_LEN: u32 = 12;
 
-/// What a block is, but for its body.
+/// A block without its body.
 #[derive(Clone, Copy)]
 pub(crate) struct Head {
-    /// The order of its numbers.
+    /// The byte order of its numbers.
     pub(crate) order: Order,
     /// Its type.
     pub(crate) kind: u32,
-    /// How many octets its body has.
+    /// The length of its body, in octets.
     pub(crate) len: u32,
 }
 
@@ -60,7 +60,7 @@ fn is_length(kind: u32, total: u32) -> bool
     total >= least_length(kind) && total % 4 == 0
 }
 
-/// How many octets of a body are kept.
+/// The number of octets that are kept of a body of this length.
 pub(crate) fn kept(len: u32) -> usize
     ensures kept { result ≡ kept len }
     ensures fits { result ≤ 262164 }
@@ -71,7 +71,7 @@ pub(crate) fn kept(len: u32) -> usize
     if len > ROOM_LEN { ROOM_LEN } else { len }
 }
 
-/// Is this the type of a section header?
+/// Does a block that begins with these octets have the type of a section header?
 pub(crate) fn is_section(head: &[u8]) -> bool
     requires { 4 ≤ length head.now }
     ensures { result ≡ is_section head.now }
@@ -79,7 +79,7 @@ pub(crate) fn is_section(head: &[u8]) -> bool
     Order::Big.u32(head) == SECTION_HEADER
 }
 
-/// The total length of the block of which these are the first octets.
+/// The total length of the block that begins with these octets.
 fn total_length(order: Order, head: &[u8]) -> u32
     requires { 8 ≤ length head.now }
     ensures { result ≡ total_length order head.now }
@@ -87,7 +87,7 @@ fn total_length(order: Order, head: &[u8]) -> u32
     order.u32(&head[4..])
 }
 
-/// The order in which the first four octets are the byte-order magic, if they are it in one.
+/// The byte order in which the first four octets are the byte-order magic, or `None` if there is none.
 fn order_of_magic(octets: &[u8]) -> Option<Order>
     requires { 4 ≤ length octets.now }
     ensures { result ≡ order_of_magic octets.now }
@@ -101,8 +101,8 @@ fn order_of_magic(octets: &[u8]) -> Option<Order>
     None
 }
 
-/// Reads the block that begins here in a section of this order, if the file goes on, with its body to the front of the
-/// room, as far as it is kept.
+/// Reads the next block in a section of this byte order, or returns `None` at the end of the file. The kept octets of
+/// its body are at the front of `room`.
 pub(crate) fn take_block<R: Read>(
     source: &mut R,
     order: Order,
@@ -127,7 +127,7 @@ pub(crate) fn take_block<R: Read>(
     take_known(source, order, order.u32(&head), total, 0, room)
 }
 
-/// Reads the section header whose first eight octets were read.
+/// Reads the rest of a section header. `head` has its first eight octets.
 fn take_section<R: Read>(
     source: &mut R,
     head: &[u8],
@@ -146,8 +146,8 @@ fn take_section<R: Read>(
     take_known(source, order, SECTION_HEADER, total, 4, room)
 }
 
-/// Reads the rest of the block of this type and total length, of whose body this many octets were read to the front of
-/// the room.
+/// Reads the rest of a block of this type and total length. The first `known` octets of its body are already at the
+/// front of `room`.
 fn take_known<R: Read>(
     source: &mut R,
     order: Order,
@@ -176,7 +176,7 @@ fn take_known<R: Read>(
     }
 }
 
-/// Reads the rest of a body of this length, of which this many octets were read to the front of the room.
+/// Reads the rest of a body of this length. Its first `known` octets are already at the front of `room`.
 fn take_body<R: Read>(
     source: &mut R,
     len: u32,
@@ -195,7 +195,7 @@ fn take_body<R: Read>(
     }
 }
 
-/// Reads the total length at the end of a block, which is the one at its beginning.
+/// Reads the total length at the end of a block. Returns `BlockLength` if it differs from the one at its beginning.
 fn take_trailer<R: Read>(source: &mut R, order: Order, total: u32) -> Result<(), PcapFault>
     ensures { IfSome (R.remaining source.old) (λ octets. TakesTrailer order total octets (R.remaining source.new) result) }
 {

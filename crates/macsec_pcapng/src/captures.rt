@@ -17,23 +17,24 @@ use std::alloc::Global;
 use std::io::{Chain, Cursor, Read};
 use std::marker::Model;
 
-/// How many octets of a file tell its format.
+/// The number of octets that decide the format of a file.
 const FRONT_LEN: usize = 4;
 
-/// A source whose first octets were read to tell the format, and are read again.
+/// A source whose first octets were read to find the format, followed by the rest. They are read a second time from the
+/// cursor.
 type Whole<R> = Chain<Cursor<[u8; FRONT_LEN]>, R>;
 
-/// The reader of the format that a file has.
+/// The reader for the format of the file.
 #[derive(Drop)]
 pub(crate) enum Format<R: Read> {
-    /// The file is one in the format pcap.
+    /// The file is a pcap file.
     Pcap(PcapReader<Whole<R>>),
-    /// The file is one in the format pcapng.
+    /// The file is a pcapng file.
     Pcapng(PcapngReader<Whole<R>>),
 }
 
-/// Reads a capture file in either format, record by record. It takes memory when it is created, for one record, and none
-/// afterwards.
+/// Reads a capture file in either format, record by record. It allocates space for one record when it is created, and
+/// never again.
 #[derive(Drop)]
 pub struct CaptureReader<R: Read> {
     format: Format<R>,
@@ -50,7 +51,7 @@ impl<R: Read> Model for CaptureReader<R> {
 }
 
 impl<R: Read + Drop> CaptureReader<R> {
-    /// Reads the header of a file from its source, in the format that the first four octets tell. Returns the first fault
+    /// Reads the header of a file. The first four octets decide whether it is pcapng or pcap. Returns the first fault
     /// of the header, `Read` if a read fails first, or `Memory`.
     pub fn new(alloc: Global, mut source: R) -> Result<CaptureReader<R>, PcapFault>
         ensures opened { IfSome (R.remaining source) (λ file. Opens (captures_of file) result) }
@@ -84,7 +85,7 @@ impl<R: Read + Drop> CaptureReader<R> {
 }
 
 impl<R: Read> CaptureReader<R> {
-    /// The unit of the file's times: nanoseconds in the format pcapng.
+    /// The unit of the file's times: always nanoseconds for a pcapng file.
     pub fn resolution(&self) -> Resolution
         ensures { result ≡ self.now.resolution }
     {
@@ -94,8 +95,8 @@ impl<R: Read> CaptureReader<R> {
         }
     }
 
-    /// The next record, or `None` if the file has ended, and from then on. Returns the fault of the format before the next
-    /// record, or `Read` if a read fails first; either is returned by each later call too.
+    /// The next record, or `None` at the end of the file. Returns the fault of the format before the next record, or
+    /// `Read` if a read fails first. After `None` or a fault, each later call returns the same.
     pub fn next(&mut self) -> Result<Option<Record<'_>>, PcapFault>
         ensures* after { sem 𝓛 (Rests (the_row R.row R.Read) self.entry (IsAfter self.old (answer_of result))) }
         ensures answer { Answers self.old.ahead (answer_of result) }
@@ -107,7 +108,7 @@ impl<R: Read> CaptureReader<R> {
     }
 }
 
-/// Is a file that begins with these octets one in the format pcapng? Any other is one in the format pcap.
+/// Is a file that begins with these octets a pcapng file? Any other is read as pcap.
 fn is_pcapng(front: &[u8]) -> bool
     requires { 4 ≤ length front.now }
     ensures { result ≡ is_section front.now }

@@ -10,36 +10,36 @@ use macsec_pcap::{Order, PcapFault};
 /// The link type of Ethernet.
 const ETHERNET: u16 = 1;
 
-/// The code of the option behind the last one.
+/// The code that ends the options, opt_endofopt.
 const END_OF_OPTIONS: u16 = 0;
 
-/// The code of the option with the unit of the times, if_tsresol.
+/// The code of if_tsresol, the unit of the times.
 const TIME_RESOLUTION: u16 = 9;
 
-/// The code of the option with the offset of the times, if_tsoffset.
+/// The code of if_tsoffset, the offset of the times.
 const TIME_OFFSET: u16 = 14;
 
-/// The unit of the times of an interface without that option: microseconds.
+/// The unit of the times of an interface without if_tsresol: microseconds.
 const MICROSECONDS: u8 = 6;
 
-/// How many options there are at most; as many as the room has place for.
+/// The most options of an interface. No more fit into the kept octets of a body.
 const MAX_OPTIONS: u32 = 65_541;
 
-/// An interface, as its description says.
+/// An interface, from its description block.
 #[derive(Clone, Copy, Default)]
 pub(crate) struct Interface {
     /// Its link type.
     pub(crate) link_type: u16,
-    /// The most octets of a packet that it captures, or 0 if there is no such limit.
+    /// The most octets that are captured of a packet, or 0 for no limit.
     pub(crate) snap_len: u32,
-    /// The unit of its times, as if_tsresol has it.
+    /// The unit of its times, encoded as in if_tsresol.
     pub(crate) resolution: u8,
-    /// The seconds to be added to its times, as if_tsoffset has them: in two's complement.
+    /// The seconds to add to its times, as in if_tsoffset: in two's complement.
     pub(crate) offset: u64,
 }
 
 impl Interface {
-    /// Is it one of Ethernet?
+    /// Is it an Ethernet interface?
     pub(crate) fn is_ethernet(self) -> bool
         ensures { result ≡ is_ethernet self }
     {
@@ -47,7 +47,7 @@ impl Interface {
     }
 }
 
-/// The interface that a body of so many octets describes, which begins with these.
+/// The interface that a body of `len` octets describes. `front` has the kept octets of the body.
 pub(crate) fn interface_of(order: Order, len: u32, front: &[u8]) -> Result<Interface, PcapFault>
     requires { 8 ≤ length front.now }
     ensures { result ≡ interface_of order len front.now }
@@ -58,7 +58,7 @@ pub(crate) fn interface_of(order: Order, len: u32, front: &[u8]) -> Result<Inter
     with_options(order, &front[8..], plain_interface(order, front))
 }
 
-/// The interface without its options.
+/// The interface before its options are read.
 fn plain_interface(order: Order, front: &[u8]) -> Interface
     requires { 8 ≤ length front.now }
     ensures { result ≡ plain_interface order front.now }
@@ -71,7 +71,7 @@ fn plain_interface(order: Order, front: &[u8]) -> Interface
     }
 }
 
-/// The interface by these options.
+/// The interface after all of these options.
 fn with_options(order: Order, octets: &[u8], plain: Interface) -> Result<Interface, PcapFault>
     ensures { result ≡ options_in order max_options octets.now plain }
 {
@@ -90,7 +90,8 @@ fn with_options(order: Order, octets: &[u8], plain: Interface) -> Result<Interfa
     Ok(interface)
 }
 
-/// The interface by the option that begins here, and how many octets this has; none behind the last option.
+/// The interface after the option that begins here, and the length of that option in octets; `None` after the last
+/// option.
 fn option_at(
     order: Order,
     octets: &[u8],
@@ -117,7 +118,7 @@ fn option_at(
     }
 }
 
-/// How many octets the value of the option that begins here has.
+/// The length of the value of the option that begins here, in octets, without padding.
 fn value_length(order: Order, octets: &[u8]) -> usize
     requires { 4 ≤ length octets.now }
     ensures value { result ≡ value_length order octets.now }
@@ -126,7 +127,7 @@ fn value_length(order: Order, octets: &[u8]) -> usize
     usize::from(order.u16(&octets[2..]))
 }
 
-/// How many octets a value has with its padding.
+/// The length of a value with its padding, in octets.
 fn padded(len: usize) -> usize
     requires { len < 65536 }
     ensures padded { result ≡ padded len }
@@ -135,7 +136,7 @@ fn padded(len: usize) -> usize
     (len + 3) / 4 * 4
 }
 
-/// The interface by the option with this code and value.
+/// The interface after the option with this code and value.
 fn with_option(
     order: Order,
     interface: Interface,

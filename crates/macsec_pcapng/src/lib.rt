@@ -1,21 +1,23 @@
-//! Capture files in the format pcapng (draft-ietf-opsawg-pcapng), of Ethernet frames: a reader, and one of files in that
-//! format or pcap.
+//! Capture files of Ethernet frames in the format pcapng (draft-ietf-opsawg-pcapng): a reader of pcapng files, and a
+//! reader of files in pcapng or pcap.
 //!
-//! The definition `pcapng_of` (`specs/Files.antt`) says of every list of octets what it is as such a file: its records in
-//! order, whole or partial, with times in nanoseconds, and the fault of the format after them; or the first fault of its
-//! first section header. It is one of blocks (`specs/Blocks.antt`), each in the order of octets of its section, and of
-//! what each leaves: a new section, one more interface, a packet, or nothing (`specs/Sections.antt`).
+//! The definition `pcapng_of` (`specs/Files.antt`) gives the content of every list of octets as a pcapng file: its
+//! records in order, whole or partial, with times in nanoseconds, and the fault of the format after them; or the first
+//! fault of its first section header. It builds on the definition of a block (`specs/Blocks.antt`), which is read in
+//! the byte order of its section, and on what each block leaves: a new section, one more interface, a packet, or
+//! nothing (`specs/Sections.antt`).
 //!
 //! Proved, over a reader whose octets a contract can name: `PcapngReader::new` returns a reader at the first record of
-//! that file, or the fault of its header, or `Memory` or `Read`; each `next` returns the next record, or, after the
-//! last one, `None` or the fault of the format there, or else `Read`. Over any reader: after `None` each later call
-//! returns `None`, and after a fault that fault; each record takes one of 16,777,216 places, so a loop of such calls
-//! ends. Only `new` is handed an allocator.
+//! that file, or the fault of its header, or `Memory` or `Read`. Each `next` returns the next record, or, after the
+//! last one, `None` or the fault of the format there, or else `Read`. Proved over any reader: after `None` each later
+//! call returns `None`, and after a fault that fault. Each record takes one of 16,777,216 places, so a loop of such
+//! calls ends. Only `new` takes an allocator.
 //!
-//! `CaptureReader` reads files in either format, which their first four octets tell: the same is proved of it, by the
-//! definition `captures_of` (`specs/Captures.antt`), `pcapng_of` of a file that begins with 0a 0d 0d 0a and else `file_of`
-//! of `macsec_pcap`. The contracts are those of the `PcapReader` there, as are a record, a fault and what lies ahead. The
-//! law `laws::faults_are_of_format`: no file has `Memory`, `Read` or `Write` for its fault.
+//! `CaptureReader` reads files in either format. A file that begins with 0a 0d 0d 0a is pcapng; any other is read as
+//! pcap. The same is proved of it with the definition `captures_of` (`specs/Captures.antt`), which is `pcapng_of` for
+//! pcapng and `file_of` of `macsec_pcap` for pcap. Both readers share the contracts of `PcapReader` in `macsec_pcap`,
+//! and its definitions of a record, a fault and what a reader has still to return. The law
+//! `laws::faults_are_of_format`: no file has `Memory`, `Read` or `Write` for its fault.
 #![tactic(auto)]
 
 mod blocks;

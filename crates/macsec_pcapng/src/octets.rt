@@ -1,4 +1,4 @@
-//! Octets from a reader, all of them or a fault.
+//! Reads or skips a number of octets: all of them, or a fault.
 
 ghost use Rattle.std.specs.Prelude.{IfSome};
 ghost use Rattle.macsec_pcapng.specs.Answers.{Fetches, Skips};
@@ -6,10 +6,10 @@ ghost use Rattle.macsec_pcapng.specs.Answers.{Fetches, Skips};
 use macsec_pcap::{PcapFault, fill};
 use std::io::Read;
 
-/// How many octets are skipped at a time.
+/// The most octets that are skipped by one read.
 const PIECE_LEN: usize = 4096;
 
-/// Fills the room, or returns `CutRecord` if fewer octets are there, or `Read`.
+/// Fills `room`. Returns `CutRecord` if the file ends before that, or `Read` if a read fails.
 pub(crate) fn fetch<R: Read>(source: &mut R, room: &mut [u8]) -> Result<(), PcapFault>
     ensures { IfSome (R.remaining source.old) (λ octets. Fetches room.new octets (R.remaining source.new) result) }
 {
@@ -19,7 +19,7 @@ pub(crate) fn fetch<R: Read>(source: &mut R, room: &mut [u8]) -> Result<(), Pcap
     Ok(())
 }
 
-/// Skips this many octets, in pieces, or returns `CutRecord` if fewer are there, or `Read`.
+/// Skips `count` octets. Returns `CutRecord` if the file ends before that, or `Read` if a read fails.
 pub(crate) fn skip<R: Read>(source: &mut R, count: usize) -> Result<(), PcapFault>
     ensures { IfSome (R.remaining source.old) (λ octets. Skips count octets (R.remaining source.new) result) }
 {

@@ -10,13 +10,14 @@ use crate::interfaces::Interface;
 use crate::times::Time;
 use macsec_pcap::{Body, MAX_RECORD_LEN, Order, PcapFault, Record};
 
-/// How many octets an enhanced packet has before its own: interface, time, captured length and original length.
+/// The octets before the data of an enhanced packet: interface, time, captured length and original length.
 const ENHANCED_LEN: usize = 20;
 
-/// How many octets a simple packet has before its own: the original length.
+/// The octets before the data of a simple packet: the original length.
 const SIMPLE_LEN: usize = 4;
 
-/// A packet: its time, where its octets stand in the body of its block, and how many were captured of how many.
+/// A packet: its time, the offset of its data in the body of its block, and its captured and original lengths in
+/// octets.
 #[derive(Clone, Copy)]
 pub(crate) struct Packet {
     pub(crate) seconds: u32,
@@ -27,7 +28,7 @@ pub(crate) struct Packet {
 }
 
 impl Packet {
-    /// Its record, if the room begins with the body of its block.
+    /// Its record. `room` begins with the body of its block.
     pub(crate) fn record(self, room: &[u8]) -> Record<'_>
         requires { self.start + self.captured ≤ length room.now }
         ensures { shown result ≡ record_in self room.now }
@@ -45,7 +46,7 @@ impl Packet {
     }
 }
 
-/// The packet of an enhanced packet block whose body has so many octets and begins with these.
+/// The packet of an enhanced packet block. Its body has `len` octets and begins with `front`.
 pub(crate) fn enhanced(
     interfaces: &[Interface],
     order: Order,
@@ -67,7 +68,7 @@ pub(crate) fn enhanced(
     packet_of(time, len, ENHANCED_LEN, captured, order.u32(&front[16..]))
 }
 
-/// How many octets of an enhanced packet were captured.
+/// The captured length of an enhanced packet, in octets.
 fn captured_length(order: Order, front: &[u8]) -> u32
     requires { 20 ≤ length front.now }
     ensures { result ≡ number order 4 (drop 12 front.now) }
@@ -85,7 +86,7 @@ fn ticks(order: Order, front: &[u8]) -> u64
     high * (1 << 32) + low
 }
 
-/// The packet of a simple packet block whose body has so many octets and begins with these.
+/// The packet of a simple packet block, at time 0. Its body has `len` octets and begins with `front`.
 pub(crate) fn simple(
     interfaces: &[Interface],
     order: Order,
@@ -111,7 +112,7 @@ pub(crate) fn simple(
     packet_of(Some(time), len, SIMPLE_LEN, captured, original)
 }
 
-/// How many octets of a packet are captured by this snap length, which is 0 if there is no limit.
+/// The captured length of a packet under this snap length, in octets. A snap length of 0 is no limit.
 fn within_snap(snap: u32, original: u32) -> u32
     ensures { result ≡ within_snap snap original }
 {
@@ -124,7 +125,7 @@ fn within_snap(snap: u32, original: u32) -> u32
     original
 }
 
-/// The packet of which so many octets were captured, which stand behind the first `start` of a body.
+/// The packet whose captured octets begin at offset `start` in a body of `len` octets.
 fn packet_of(
     time: Option<Time>,
     len: u32,

@@ -18,31 +18,31 @@ use std::alloc::Global;
 use std::io::Read;
 use std::marker::Model;
 
-/// A file has fewer blocks than this behind its first one.
+/// After its first block, a file has fewer blocks than this.
 const MAX_BLOCKS: u32 = 4_294_967_295;
 
-/// How far a reader has come.
+/// The state of a reader.
 #[derive(Clone, Copy)]
 pub(crate) enum Course {
-    /// The reader is at a block's place.
+    /// The reader is between two blocks.
     Going,
-    /// The reader has returned that the file has ended.
+    /// The reader has returned `None`: the file has ended.
     Ended,
     /// The reader has returned this fault.
     Failed(PcapFault),
 }
 
-/// Reads a pcapng file, packet by packet. It takes memory when it is created, for one packet, and none afterwards.
+/// Reads a pcapng file, packet by packet. It allocates space for one packet when it is created, and never again.
 #[derive(Drop)]
 pub struct PcapngReader<R: Read> {
     source: R,
     section: Section,
     course: Course,
-    // For how many records there are places after those that were read.
+    // The most records that can still be returned.
     places: u32,
-    // How many more blocks are read.
+    // The most blocks that can still be read.
     blocks: u32,
-    // The octets of the last packet are in it.
+    // The kept octets of the last block's body.
     room: Vec<u8>,
 }
 
@@ -61,8 +61,8 @@ impl<R: Read> Model for PcapngReader<R> {
 }
 
 impl<R: Read + Drop> PcapngReader<R> {
-    /// Reads the first section header of a file from its source. Returns the first fault of the header, `Read` if a read
-    /// fails first, or `Memory`.
+    /// Reads the first section header of a file. Returns the first fault of the header, `Read` if a read fails first,
+    /// or `Memory`.
     pub fn new(alloc: Global, mut source: R) -> Result<PcapngReader<R>, PcapFault>
         ensures opened { IfSome (R.remaining source) (λ file. Opens (pcapng_of file) result) }
         ensures places { IfOk result (λ reader. reader.places ≡ max_records) }
@@ -85,7 +85,7 @@ impl<R: Read + Drop> PcapngReader<R> {
 }
 
 impl<R: Read> PcapngReader<R> {
-    /// The unit of the times that are returned: nanoseconds.
+    /// The unit of the times of the records: nanoseconds.
     pub fn resolution(&self) -> Resolution
         ensures { result ≡ self.now.resolution }
     {
@@ -93,8 +93,9 @@ impl<R: Read> PcapngReader<R> {
         Resolution::Nano
     }
 
-    /// The next record, with its time in nanoseconds, or `None` if the file has ended, and from then on. Returns the fault
-    /// of the format before the next record, or `Read` if a read fails first; either is returned by each later call too.
+    /// The next record, with its time in nanoseconds, or `None` at the end of the file. Returns the fault of the format
+    /// before the next record, or `Read` if a read fails first. After `None` or a fault, each later call returns the
+    /// same.
     pub fn next(&mut self) -> Result<Option<Record<'_>>, PcapFault>
         ensures* after { sem 𝓛 (Rests (the_row R.row R.Read) self.entry (IsAfter self.old (answer_of result))) }
         ensures answer { Answers self.old.ahead (answer_of result) }
@@ -142,7 +143,7 @@ fn read_header<R: Read>(source: &mut R, room: &mut [u8]) -> Result<Section, Pcap
     Section::new(head.order, &room[..kept(head.len)])
 }
 
-/// The fault of a file whose first block has this one: a file that ends within it is cut in its header.
+/// The fault of a file whose first block has this fault. `CutRecord` becomes `CutHeader`.
 fn in_header(fault: PcapFault) -> PcapFault
     ensures { result ≡ in_header fault }
 {

@@ -1,4 +1,4 @@
-//! A section, and what its blocks make of it.
+//! A section, and how each of its blocks changes it.
 
 ghost use Rattle.std.specs.Prelude.{◌≡◌, ◌≤◌, ◌+◌, IfOk, IfSome, length};
 ghost use Rattle.macsec_pcapng.specs.Answers.{IsLeft, IsMade, block_by};
@@ -13,7 +13,7 @@ use arrayvec::ArrayVec;
 use macsec_pcap::{Order, PcapFault};
 use std::marker::Model;
 
-/// A section, as far as it was read: the order of its numbers, and its interfaces, up to 256.
+/// A section, as far as it was read: the byte order of its numbers, and up to 256 interfaces.
 #[derive(Drop)]
 pub(crate) struct Section {
     order: Order,
@@ -29,7 +29,7 @@ impl Model for Section {
 }
 
 impl Section {
-    /// The section whose header has this order and a body that begins with these octets.
+    /// The new section of a header with this byte order. `front` has the first octets of its body.
     pub(crate) fn new(order: Order, front: &[u8]) -> Result<Section, PcapFault>
         requires { 16 ≤ length front.now }
         ensures { result ≡ new_section order front.now }
@@ -43,14 +43,14 @@ impl Section {
         })
     }
 
-    /// The order of its numbers.
+    /// The byte order of its numbers.
     pub(crate) fn order(&self) -> Order
         ensures { result ≡ self.now.order }
     {
         self.order
     }
 
-    /// Carries out the block with this head, whose body begins with these octets, and returns its packet, if it has one.
+    /// Applies a block to the section, and returns its packet, if it has one. `front` has the kept octets of its body.
     pub(crate) fn take(&mut self, head: Head, front: &[u8]) -> Result<Option<Packet>, PcapFault>
         requires front { length front.now ≡ kept head.len }
         requires least { least_length head.kind ≤ head.len + 12 }
@@ -79,7 +79,7 @@ impl Section {
         }
     }
 
-    /// Becomes the section whose header has this order and a body that begins with these octets.
+    /// Starts a new section, from a header with this byte order. `front` has the first octets of its body.
     fn begin(&mut self, order: Order, front: &[u8]) -> Result<(), PcapFault>
         requires { 16 ≤ length front.now }
         ensures { IsMade (new_section order front.now) self.new result }
@@ -93,7 +93,7 @@ impl Section {
         }
     }
 
-    /// Adds the interface that a body of so many octets describes, which begins with these.
+    /// Adds the interface that a body of `len` octets describes. `front` has the kept octets of the body.
     fn describe(&mut self, order: Order, len: u32, front: &[u8]) -> Result<(), PcapFault>
         requires { 8 ≤ length front.now }
         ensures { IsMade (with_interface self.old (interface_of order len front.now)) self.new result }
@@ -104,7 +104,7 @@ impl Section {
         }
     }
 
-    /// Adds an interface, the last, or returns `InterfaceCount`.
+    /// Appends an interface, or returns `InterfaceCount` if there are 256 already.
     fn add(&mut self, interface: Interface) -> Result<(), PcapFault>
         ensures { IsMade (with_one_more self.old interface) self.new result }
     {
@@ -116,7 +116,7 @@ impl Section {
     }
 }
 
-/// Is the version of the format 1.0, or 1.2, which some writers put in its place?
+/// Is the version 1.0, or 1.2, which some programs write instead?
 fn is_version(order: Order, front: &[u8]) -> bool
     requires { 16 ≤ length front.now }
     ensures { result ≡ is_version order front.now }

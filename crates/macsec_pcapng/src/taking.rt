@@ -1,4 +1,4 @@
-//! Packets, one after another, and what stands between them.
+//! Reads packet after packet, and skips the blocks between them.
 
 ghost use Rattle.std.specs.Prelude.{◌≡◌, ◌≤◌, ◌+◌, IfOk, IfSome, length};
 ghost use Rattle.macsec_pcapng.specs.Answers.{IsWithin, TakesOne, TakesPacket};
@@ -9,7 +9,7 @@ use crate::section::Section;
 use macsec_pcap::PcapFault;
 use std::io::Read;
 
-/// What is taken at a block's place.
+/// What was read where a block can begin.
 #[derive(Clone, Copy)]
 pub(crate) enum Taken {
     /// Nothing: the file has ended.
@@ -20,7 +20,8 @@ pub(crate) enum Taken {
     Found(Packet),
 }
 
-/// Reads the next packet, if there is one, of a file of so many more blocks at most; its octets are in the room.
+/// Reads the next packet, or returns `None` at the end of the file. Its octets are in `room`. Counts each block down in
+/// `blocks`, and returns `RecordCount` when that is 0.
 pub(crate) fn take_packet<R: Read>(
     source: &mut R,
     section: &mut Section,
@@ -43,7 +44,7 @@ pub(crate) fn take_packet<R: Read>(
     Err(PcapFault::RecordCount)
 }
 
-/// Reads a block, if there is one, and carries it out.
+/// Reads the next block, if there is one, and applies it to the section.
 fn take_one<R: Read>(
     source: &mut R,
     section: &mut Section,

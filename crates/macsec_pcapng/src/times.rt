@@ -5,26 +5,26 @@ ghost use Rattle.macsec_pcapng.specs.Times.{nanoseconds, time_by, time_of, units
 
 use crate::interfaces::Interface;
 
-/// How many nanoseconds a second has.
+/// Nanoseconds per second.
 const NANOSECONDS: u128 = 1_000_000_000;
 
-/// In if_tsresol, the bit that is set if the unit is a power of two.
+/// The bit of if_tsresol that is set if the unit is a power of two.
 const POWER_OF_TWO: u8 = 0x80;
 
 /// The first offset that is negative, in two's complement.
 const FIRST_NEGATIVE: u128 = 1 << 63;
 
-/// A time after the beginning of 1970.
+/// A time since the beginning of 1970.
 #[derive(Clone, Copy)]
 pub(crate) struct Time {
     /// Whole seconds.
     pub(crate) seconds: u32,
-    /// The rest, below a second.
+    /// Nanoseconds within the second.
     pub(crate) nanoseconds: u32,
 }
 
 impl Interface {
-    /// The time of so many units on this interface, or none if its seconds do not have 32 bits.
+    /// The time after `ticks` units of this interface, or `None` if its seconds do not fit into 32 bits.
     pub(crate) fn time(self, ticks: u64) -> Option<Time>
         ensures { result ≡ time_of self ticks }
     {
@@ -32,7 +32,7 @@ impl Interface {
     }
 }
 
-/// How many units of this resolution a second has, if the number has 128 bits.
+/// Units of this resolution per second, or `None` if the number does not fit into 128 bits.
 fn units(resolution: u8) -> Option<u128>
     ensures { SomeIff result (units resolution < 2 ^ 128) (units resolution) }
 {
@@ -43,7 +43,7 @@ fn units(resolution: u8) -> Option<u128>
     }
 }
 
-/// Whole nanoseconds, rounded down.
+/// `ticks` units of this resolution in nanoseconds, rounded down.
 fn nanoseconds(ticks: u64, resolution: u8) -> u128
     ensures value { result ≡ nanoseconds ticks resolution }
     ensures bound { result < 2 ^ 94 }
@@ -54,7 +54,7 @@ fn nanoseconds(ticks: u64, resolution: u8) -> u128
     }
 }
 
-/// The time of so many nanoseconds, with this offset in seconds.
+/// The time after `nanoseconds` and this offset in seconds, or `None` if its seconds do not fit into 32 bits.
 fn time_by(nanoseconds: u128, offset: u64) -> Option<Time>
     requires { nanoseconds < 2 ^ 94 }
     ensures { result ≡ time_by nanoseconds offset }
@@ -69,7 +69,7 @@ fn time_by(nanoseconds: u128, offset: u64) -> Option<Time>
     })
 }
 
-/// Seconds with an offset in two's complement, unless they are before 1970.
+/// Seconds plus an offset in two's complement, or `None` before 1970.
 fn with_offset(seconds: u128, offset: u64) -> Option<u128>
     requires { seconds < 2 ^ 94 }
     ensures { result ≡ with_offset seconds offset }

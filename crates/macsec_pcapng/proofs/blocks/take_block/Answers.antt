@@ -17,7 +17,7 @@ returns-clause-block g c =
     takes_other c.args.order _ _ _ c.fill.new.room _ c.in_ok-count.count c.u32.result c.total_length-total.result c.take_known.result
     c.fill.auto.room whole c.in_ok-count.ensures is c.u32.ensures c.total_length-total.ensures c.take_known.ensures.block
 
--- From here on the proofs are here for speed: a search computes the length of the room.
+-- The proofs from here on are here for speed: a search would compute the length of the room.
 pub take_section-requires-clause-head : goal.take_section-requires-clause-head
 take_section-requires-clause-head g c = omega arith
 

@@ -9,7 +9,7 @@ returns-clause-block g c =
     section_taken c.args.head.now c.fetch.new.room _ _ _ _ _ c.in-Some.order c.total_length-total.result c.take_known.result four
     (take_at c.fetch.new.room _ 4 four) c.in-Some.ensures c.total_length-total.ensures c.in_ok-fetch.ensures c.take_known.ensures.block
 
--- From here on the proofs are here for speed: a search computes the length of the room.
+-- The proofs from here on are here for speed: a search would compute the length of the room.
 pub slice_bounds-fetch-end : goal.slice_bounds-fetch-end
 slice_bounds-fetch-end g c = omega arith
 

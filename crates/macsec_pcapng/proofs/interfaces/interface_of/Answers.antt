@@ -7,7 +7,7 @@ use Rattle.macsec_pcapng.specs.Interfaces.{interface_of, options_in, plain_inter
 use Rattle.macsec_pcapng.specs.Limits.{max_options, room_length}
 use Rattle.macsec_pcapng.proofs.interfaces.interface_of.Goals as goal
 
--- a body all of whose octets are kept
+-- a body that is kept completely
 interface_of-kept : (order : Order) (len : ℕ) (front : List ℕ) → len ≤ room_length →
     interface_of order len front ≡ options_in order max_options (drop 8 front) (plain_interface order front)
 interface_of-kept order len front few =

@@ -9,7 +9,7 @@ use Rattle.macsec_pcapng.specs.declared.interfaces.Interface.{Interface}
 use Rattle.macsec_pcapng.specs.Interfaces.{behind_option, option_at, option_code, option_length, padded, value_length, with_option}
 use Rattle.macsec_pcapng.proofs.interfaces.option_at.Goals as goal
 
--- an option that is not the last: its code, the length of its value, and the octets that it has in all
+-- an option before the last: its code, the length of its value, and its total length
 record IsOption (order : Order) (octets : List ℕ) (code n len : ℕ) : Type 0 where
   head : 4 ≤ length octets
   here : code ≡ option_code order octets

@@ -1,4 +1,4 @@
--- A room that was filled; this proof is here for speed.
+-- The room was filled. This proof is here for speed.
 use Rattle.std.proofs.Common.{arith}
 use Rattle.macsec_pcapng.proofs.TakenOctets.{fetches}
 use Rattle.macsec_pcapng.proofs.octets.fetch.Goals as goal

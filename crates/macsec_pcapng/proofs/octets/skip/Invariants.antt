@@ -2,7 +2,7 @@ use Rattle.std.proofs.Common.{◌≤◌, ◌-◌}
 use Rattle.macsec_pcapng.proofs.TakenOctets.{IsPast}
 use Rattle.macsec_pcapng.proofs.octets.skip.Given as goal
 
--- what is gone from the count was skipped
+-- as many octets were skipped as the count has decreased by
 abbrev pub invariant-loop-left : goal.invariant-loop-left
 invariant-loop-left g l = (l.left ≤ l.count) × IsPast (g.R.Read.remaining l.initial.source) (g.R.Read.remaining l.source) (l.count - l.left)
 

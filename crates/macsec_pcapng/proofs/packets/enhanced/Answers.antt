@@ -1,4 +1,4 @@
--- Each number of the packet by an equation of its own, so that a wrong number is refused soon.
+-- A separate equation for each number of the packet, so that the prover refuses a wrong number quickly.
 use Rattle.std.proofs.Common.{◌≡◌, ◌∙◌, ◌-◌, ◌<◌, ◌≤◌, ℕ, zero, suc, List, [], ◌∷◌, Option, Some, None, Result, Err, false, true}
 use Rattle.std.proofs.Common.{ap, arith, drop, get_or, length, refl, sym, take}
 use Rattle.std.specs.Prelude.{nat_lt}

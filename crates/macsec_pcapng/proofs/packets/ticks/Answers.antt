@@ -1,4 +1,4 @@
--- Each half by an equation of its own; this proof is here for speed.
+-- A separate equation for each half. This proof is here for speed.
 use Rattle.std.proofs.Common.{◌≡◌, ◌∙◌, ◌+◌, ◌*◌, ◌-◌, ℕ, List, ap, drop, length, take}
 use Rattle.std.proofs.lemmas.List.{take_rest}
 use Rattle.macsec_pcap.specs.declared.form.Order.{Order}

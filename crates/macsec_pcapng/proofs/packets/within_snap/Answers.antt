@@ -1,4 +1,4 @@
--- By search alone: without this proof the prover tries other tactics on a mutant, which takes longer.
+-- By search alone. Without this proof the prover tries other tactics on a mutant, which takes longer.
 use Rattle.std.proofs.Common.{rules}
 use Rattle.macsec_pcapng.proofs.packets.within_snap.Goals as goal
 

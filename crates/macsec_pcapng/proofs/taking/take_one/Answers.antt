@@ -46,7 +46,7 @@ returns-in-Err-take-clause-taken g c =
     c.kept.ensures.kept refl c.in-Err-take.ensures.left in
     one_refused _ octets octets c.args.section.now c.take.new.self room room head c.in-Err-take.fault taken left
 
--- From here on the proofs are here for speed: a search computes the length of the room.
+-- The proofs from here on are here for speed: a search would compute the length of the room.
 pub take_block-requires : goal.take_block-requires
 take_block-requires g c = c.requires
 

@@ -62,7 +62,7 @@ returns-else-self-eq0 g c =
     new.room some.packet (shown c.record.result) c.in-Going.is c.self.view_is place same (rw some.field-0-is at some.ensures.taken) in
     ((refl, λ x. tt, steps.0), record { after = tt; answer = steps.1 })
 
--- From here on the proofs are here for speed: a search computes the length of the room.
+-- The proofs from here on are here for speed: a search would compute the length of the room.
 pub invariant_of-self : goal.invariant_of-self
 invariant_of-self g c = omega arith
 

@@ -1,4 +1,4 @@
--- That the front of a body has the octets that its block needs; these proofs are here for speed.
+-- The kept octets of a body are as many as its type of block needs. These proofs are here for speed.
 use Rattle.std.proofs.Common.{◌≡◌, ◌≤◌, ◌+◌, ℕ, arith}
 use Rattle.std.proofs.lemmas.Bool.Decides.{nat_tests}
 use Rattle.macsec_pcapng.specs.Blocks.{kept}
