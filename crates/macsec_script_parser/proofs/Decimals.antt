@@ -1,4 +1,4 @@
--- Digits make a number larger.
+-- Further digits never make a number smaller.
 use Rattle.std.proofs.Common.{◌≡◌, ℕ, ◌+◌, ◌*◌, ◌≤◌, ◌<◌, List, [], ◌∷◌, drop, get_or, arith, refl, sym, ap}
 use Rattle.std.specs.Prelude.{Bool, true, false, ◌&&◌, cond, nat_le, Result, Ok, Err, length, ◌-◌}
 use Rattle.std.proofs.lemmas.Bool.Decides.{nat_tests}

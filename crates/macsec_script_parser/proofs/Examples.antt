@@ -1,4 +1,4 @@
--- Lines of the script language and what they say, and configurations of one end.
+-- Worked examples: lines of the script language, and configurations of one end.
 use Rattle.std.specs.Prelude.{◌≡◌, ℕ, List, ◌++◌, [], ◌∷◌, replicate, codes, Some, None, Ok, Err, true, false, refl}
 use Rattle.hex.proofs.OnLiterals.{hex_on_literals}
 use Rattle.macsec_aes.specs.declared.Key.TheVariants.{K128, K256}
@@ -24,7 +24,7 @@ blank = refl
 comment : line_of (codes " \t#frob") ≡ Ok None
 comment = refl
 
--- ---- keywords that there are not
+-- ---- unknown keywords
 
 frob : line_of (codes "A frob") ≡ Err Word
 frob = refl
@@ -214,7 +214,7 @@ longest = refl
 too_long : line_of (codes "A send " ++ replicate 19994 48) ≡ Err LineLong
 too_long = refl
 
--- ---- lines that say something
+-- ---- valid lines
 
 end_a : line_of (codes "end A gcm128 12153524c0895e81 1518 sci") ≡
     Ok (Some (line.End A (record {
@@ -438,7 +438,7 @@ commands : config_of (only_end ++ codes "\n# on\nA txon 0\nA replay off 2\n") �
 unfolding hex_on_literals
 commands = refl
 
--- it has the line of its end
+-- it must have its `end` line
 no_line : config_of [] ≡ Err (script.Ends 0)
 no_line = refl
 
@@ -452,7 +452,7 @@ end_b_alone = refl
 command_before_its_end : config_of (codes "A txon 0\n" ++ only_end) ≡ Err (script.Ends 1)
 command_before_its_end = refl
 
--- it has no second end, no command at B, no frame and no line that shows something
+-- it cannot have a second end, a command at B, a frame or a line that shows something
 second_end : config_of (only_end ++ codes "end B gcm128 0000000000000002 1518 auto\n") ≡ Err (script.Ends 2)
 unfolding hex_on_literals
 second_end = refl
@@ -469,7 +469,7 @@ counters_of_a : config_of (only_end ++ codes "A counters\n") ≡ Err (script.End
 unfolding hex_on_literals
 counters_of_a = refl
 
--- a line in a wrong place that has a fault of its own has that one, and the first line at fault is it
+-- if a line is out of order and also has another fault, the other fault counts; only the first faulty line is reported
 own_fault : config_of (only_end ++ codes "B txon 4\nA send 00\n") ≡ Err (script.Number 2)
 unfolding hex_on_literals
 own_fault = refl

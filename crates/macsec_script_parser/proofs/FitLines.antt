@@ -1,4 +1,4 @@
--- An endpoint can be created of each configuration among the lines of a text without fault.
+-- If a text has no fault, an endpoint can be created from each configuration among its lines.
 use Rattle.std.proofs.Common.{◌≡◌, ℕ, ◌+◌, List, [], ◌∷◌, refl, sym, ap, ◌∙◌, subst}
 use Rattle.std.specs.Prelude.{Bool, true, false, cond, Option, Some, None, Result, Ok, Err, ◌==◌}
 use Rattle.macsec_script_parser.specs.declared.lines.Line.{Line}

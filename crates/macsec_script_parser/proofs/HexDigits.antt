@@ -1,4 +1,4 @@
--- A number of up to 16 hex digits has 64 bits.
+-- A number of up to 16 hex digits fits into 64 bits.
 use Rattle.std.proofs.Common.{ℕ, ◌+◌, ◌*◌, ◌^◌, ◌≤◌, ◌<◌, arith, suc}
 use Rattle.std.proofs.Math.Nat.{pow-suc, pow-le-pow_right}
 

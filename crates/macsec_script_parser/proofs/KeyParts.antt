@@ -1,4 +1,4 @@
--- A key from its words, where the suite, the SSCI and the salt are read beside the first three.
+-- A key from its words. The suite, the SSCI and the salt are read separately from the first three words.
 use Rattle.std.proofs.Common.{◌≡◌, ℕ, List, refl, ap, ◌∙◌}
 use Rattle.std.specs.Prelude.{Option, Some, None, Result, Ok, Err}
 use Rattle.macsec_aes.specs.declared.Key.{Key}
@@ -24,7 +24,7 @@ and_then-pair (Ok x) (Ok y) next = refl
 
 -- ---- a key
 
--- what is read of the first three words, of a suite, and of an SSCI and a salt
+-- a key, from the results of reading the first three words, a suite, and an SSCI with a salt
 abbrev pub key_of : End → Result ℕ LineFault → Result Key LineFault → Result ℕ LineFault → Result (Option Suite) LineFault → Result (ℕ × List ℕ) LineFault → Result Line LineFault
 key_of at number bytes offset suite more =
     and_then number (λ n. and_then bytes (λ key. and_then offset (λ offset. and_then suite (λ suite. and_then more (λ more.

@@ -1,4 +1,4 @@
--- Keywords that there are not.
+-- Unknown keywords.
 use Rattle.std.proofs.Common.{◌≡◌, ℕ, List, [], ◌++◌, Bool, true, ap, sym, subst, ◌∙◌}
 use Rattle.std.specs.Prelude.{bytes_eq, Result, Ok, Err}
 use Rattle.std.proofs.lemmas.Slice.Eq.{bytes_eq-Decides}
@@ -9,7 +9,7 @@ use Rattle.macsec_script_parser.specs.declared.lines.LineFault.TheVariants.{Word
 use Rattle.macsec_script_parser.specs.Kinds.{Kind, kinds_of, read_as, read_line}
 use Rattle.macsec_script_parser.specs.Readings.{Reads}
 
--- a keyword that three parts of a table have not
+-- a keyword that is in none of three parts of a table
 pub none_of_three : (xs ys zs : List Kind) (keyword : List ℕ) (words : List (List ℕ)) → kinds_of xs keyword ≡ [] → kinds_of ys keyword ≡ [] →
     kinds_of zs keyword ≡ [] → read_line (xs ++ (ys ++ zs)) keyword words ≡ Err Word
 none_of_three xs ys zs keyword words p q r =
@@ -17,11 +17,11 @@ none_of_three xs ys zs keyword words p q r =
     (filter-append (λ kind. bytes_eq kind.keyword keyword) xs (ys ++ zs) ∙ ap (λ l. l ++ kinds_of (ys ++ zs) keyword) p
     ∙ filter-append (λ kind. bytes_eq kind.keyword keyword) ys zs ∙ ap (λ l. l ++ kinds_of zs keyword) q ∙ r)
 
--- what holds of a word's letters holds of a keyword that is that word
+-- what holds for the letters of a word holds for a keyword with these letters
 pub at_word : (P : List ℕ → Type 0) (keyword letters : List ℕ) (test : Bool) → test ≡ bytes_eq letters keyword → test ≡ true → P letters → P keyword
 at_word P keyword letters test is same of_letters = subst P ((bytes_eq-Decides letters keyword).0 (sym is ∙ same)) of_letters
 
--- what reading returns without a need of memory
+-- the result of a reading that needs no memory
 pub reads_itself : (meant line : Result Line LineFault) → line ≡ meant → Reads meant line
 reads_itself meant (Ok x) same = sym same
 reads_itself meant (Err Memory) same = tt

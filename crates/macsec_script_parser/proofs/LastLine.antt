@@ -1,4 +1,4 @@
--- A text's lines: its pieces but for an empty last one.
+-- The lines of a text are its parts between line feeds, except an empty last one.
 use Rattle.std.proofs.Common.{◌≡◌, ◌==◌, ℕ, ◌-◌, List, [], ◌∷◌, length, take, map, suc, refl, sym, ap, ◌∙◌, subst, arith}
 use Rattle.std.specs.Prelude.{Bool, true, false, cond, if◌then◌else◌, Option, Some, None}
 use Rattle.std.specs.Option.{option_copied, option_map}
@@ -42,13 +42,13 @@ seen_last lines last h =
     let now = λ (line : Bor (List ℕ)). line.now in
     rw (length-map lines now) (slice_get-map now lines (length lines - 1) ∙ ap (option_map now) h)
 
--- what `last` gave
+-- the result of `last`
 pub last_seen : (lines lent : List (Bor (List ℕ))) (r : Option (Bor (Bor (List ℕ)))) → option_copied r ≡ slice_get lent (length lent - 1) →
     lent ≡ lines → option_copied r ≡ slice_get lines (length lines - 1)
 last_seen lines lent r value same =
     let P : List (Bor (List ℕ)) → Type 0 = λ ls. option_copied r ≡ slice_get ls (length ls - 1) in subst P same value
 
--- an empty last piece was left out
+-- an empty last part was left out
 pub without_last : (lines : List (Bor (List ℕ))) (text : List ℕ) (last : Bor (List ℕ)) (n : ℕ) → n ≡ length lines → seen lines ≡ pieces_of text →
     slice_get lines (length lines - 1) ≡ Some last → is_empty last.now ≡ true → seen (take (n - 1) lines) ≡ lines_of text
 without_last lines text last n all_of all there empty =
@@ -58,14 +58,14 @@ without_last lines text last n all_of all there empty =
     ∙ ap (λ b. cond b (take (length (seen lines) - 1) (seen lines)) (seen lines)) empty
     ∙ ap (λ m. take (m - 1) (seen lines)) (length-map lines v) ∙ take-map v (length lines - 1) lines))
 
--- the last piece is a line
+-- the last part is a line
 pub with_last : (lines : List (Bor (List ℕ))) (text : List ℕ) (last : Bor (List ℕ)) → seen lines ≡ pieces_of text →
     slice_get lines (length lines - 1) ≡ Some last → is_empty last.now ≡ false → seen lines ≡ lines_of text
 with_last lines text last all there full =
     sym (sym (ap trimmed all) ∙ trimmed-last (seen lines) last.now (seen_last lines last there)
     ∙ ap (λ b. cond b (take (length (seen lines) - 1) (seen lines)) (seen lines)) full)
 
--- there is no piece
+-- there is no part
 pub without_lines : (lines : List (Bor (List ℕ))) (text : List ℕ) → seen lines ≡ pieces_of text →
     slice_get lines (length lines - 1) ≡ None → seen lines ≡ lines_of text
 without_lines [] text all none = ap trimmed all

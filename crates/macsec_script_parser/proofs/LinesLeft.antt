@@ -1,4 +1,4 @@
--- Parsing line by line.
+-- Parsing a text line by line gives what the definition gives for the whole text.
 use Rattle.std.proofs.Common.{◌≡◌, ℕ, ◌+◌, ◌<◌, List, [], ◌∷◌, ◌++◌, drop, get_or, length, map, refl, sym, subst, ◌∙◌, ap, append_assoc}
 use Rattle.std.proofs.lemmas.List.{drop-map, drop_more}
 use Rattle.std.specs.Prelude.{Bool, true, cond, Some, None, Result, Ok, Err}
@@ -14,11 +14,11 @@ use Rattle.macsec_script_parser.specs.Kinds.{line_of, and_then}
 use Rattle.macsec_script_parser.specs.Scripts.{NumberedLine, at_line, result_at_line, place_after, next_place, line_before, lines_from}
 use Rattle.macsec_script_parser.specs.Readings.{Reads, Parses}
 
--- what was said so far, with the lines that are left, is the whole
+-- the lines parsed so far and the lines that are left make the whole result
 abbrev pub IsOnTheWay : Place → List NumberedLine → Place → ℕ → List (List ℕ) → Type 0
 IsOnTheWay first said place i all = map_ok (λ more. said ++ more) (lines_from place (i + 1) (drop i all)) ≡ lines_from first 1 all
 
--- ---- one line more
+-- ---- one more line
 
 skipped : (place : Place) (n : ℕ) (text : List ℕ) (more : List (List ℕ)) → line_of text ≡ Ok None →
     lines_from place n (text ∷ more) ≡ lines_from place (n + 1) more

@@ -1,4 +1,4 @@
--- A line of one kind, from as many words as the kind has, read from left to right.
+-- A line of one kind has as many words as the kind, and they are read from left to right.
 use Rattle.std.proofs.Common.{◌≡◌, ℕ, ◌<◌, ◌≤◌, List, [], ◌∷◌, length, get_or, map, arith, sym, ap, ◌∙◌, subst}
 use Rattle.std.specs.Prelude.{◌==◌, cond, Some, None, Result, Ok, Err}
 use Rattle.std.specs.Borrow.{Bor}
@@ -8,7 +8,7 @@ use Rattle.macsec_script_parser.specs.declared.lines.LineFault.TheVariants.{Memo
 use Rattle.macsec_script_parser.specs.Kinds.{Kind, and_then, read_kind, read_words}
 use Rattle.macsec_script_parser.specs.Readings.{Reads}
 
--- ---- the words of a line, by their number
+-- ---- the words of a line, by their count
 
 pub at_one_word : (P : List (List ℕ) → Type 0) (words : List (Bor (List ℕ))) (d : Bor (List ℕ)) → 1 ≤ length words → length words < 2 →
     P ((get_or words 0 d).now ∷ []) → P (map (λ w. w.now) words)
@@ -61,7 +61,7 @@ at_six_words P (a ∷ b ∷ c ∷ d ∷ e ∷ []) default least below h = absurd
 at_six_words P (a ∷ b ∷ c ∷ d ∷ e ∷ f ∷ []) default least below h = h
 at_six_words P (a ∷ b ∷ c ∷ d ∷ e ∷ f ∷ g ∷ more) default least below h = absurd (omega arith)
 
--- ---- a line of a keyword that has one kind
+-- ---- a line whose keyword has one kind
 
 abbrev pub OfKind : ℕ → Kind → Result Line LineFault → List (List ℕ) → Type 0
 OfKind n kind result words = result ≡ read_kind (cond (n == length words) (Some kind) None) words
@@ -96,7 +96,7 @@ pub failed : {X Y : Type 0} {r : Result X LineFault} {fault : LineFault} (next :
     r ≡ Err fault → Err fault ≡ and_then r next
 failed next read = sym (ap (λ r. and_then r next) read)
 
--- a fault of the word is that of the line, or both are of memory
+-- the line has the fault of the word, or both are `Memory`
 at_fault : {X Y : Type 0} (r : Result X LineFault) (next : X → Result Y LineFault) (fault : LineFault) → Reads r (Err fault) → Reads (and_then r next) (Err fault)
 at_fault r next Memory read = tt
 at_fault r next fault read = ap (λ r. and_then r next) read

@@ -1,4 +1,4 @@
--- What is printed of a script's fault, and the status that it gives the program.
+-- The line that is printed for a fault of a script, and the exit status.
 use Rattle.std.specs.Prelude.{ℕ, List, ◌++◌, decimal, codes, Option, Some, None}
 use Rattle.macsec_script_parser.specs.declared.faults.ScriptFault.{ScriptFault}
 use Rattle.macsec_script_parser.specs.declared.faults.ScriptFault.TheVariants.{Word, Count, Hex, Number, Ends, LineLong, ScriptLong, Memory, Read, Write}
@@ -15,7 +15,7 @@ fault_name Memory = codes "Memory"
 fault_name Read = codes "Read"
 fault_name Write = codes "Write"
 
--- the line of a fault, if it is a line's
+-- the line number of a fault, if it has one
 abbrev pub fault_line : ScriptFault → Option ℕ
 fault_line (Word n) = Some n
 fault_line (Count n) = Some n
@@ -32,7 +32,7 @@ text_at None name = codes "macsec: " ++ name ++ codes "\n"
 abbrev pub fault_text : ScriptFault → List ℕ
 fault_text fault = text_at (fault_line fault) (fault_name fault)
 
--- 2 if the script is at fault, 1 if memory, the reader or the writer is
+-- 2 if the script is at fault; 1 if memory ran out, or the reader or the writer failed
 abbrev pub fault_status : ScriptFault → ℕ
 fault_status Memory = 1
 fault_status Read = 1

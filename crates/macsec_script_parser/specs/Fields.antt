@@ -1,4 +1,4 @@
--- What a word of a line can be, the value that it then has, and how it is read.
+-- The types of words of a line: the values of each, and how it is read.
 use Rattle.std.specs.Prelude.{ℕ, List, [], ◌∷◌, Bool, true, false, bytes_eq, slice_index, codes, Result, Ok, Err}
 use Rattle.std.specs.Int.{w32, from_be_bytes}
 use Rattle.macsec_aes.specs.declared.Key.{Key}
@@ -48,7 +48,7 @@ Value protection = Bool
 Value switch = Bool
 Value validation = Mode
 
--- what a table has for a keyword
+-- the value of a keyword in a table
 abbrev pub value_of_keyword : {A : Type 0} → List (List ℕ × A) → List ℕ → Result A LineFault
 value_of_keyword [] word = Err Word
 value_of_keyword (row ∷ rows) word = value_or (bytes_eq row.0 word) row.1 (value_of_keyword rows word)
@@ -67,18 +67,18 @@ suites =
 abbrev pub forms : List (List ℕ × TagForm)
 forms = (codes "auto", form.Auto) ∷ (codes "sci", form.Sci) ∷ (codes "es", form.Es) ∷ (codes "scb", form.Scb) ∷ []
 
--- are the data of a client frame encrypted too?
+-- is the data of client frames encrypted as well?
 abbrev pub protections : List (List ℕ × Bool)
 protections = (codes "int", false) ∷ (codes "conf", true) ∷ []
 
--- is what the line names switched on?
+-- is the option of the line on?
 abbrev pub switches : List (List ℕ × Bool)
 switches = (codes "on", true) ∷ (codes "off", false) ∷ []
 
 abbrev pub modes : List (List ℕ × Mode)
 modes = (codes "disabled", mode.Disabled) ∷ (codes "check", mode.Check) ∷ (codes "strict", mode.Strict) ∷ []
 
--- a function of the value, where there is one
+-- a function of the value, if there is one
 abbrev pub map_ok : {A B E : Type 0} → (A → B) → Result A E → Result B E
 map_ok f (Ok x) = Ok (f x)
 map_ok f (Err fault) = Err fault
@@ -89,16 +89,16 @@ as_octet octets = slice_index octets 0
 abbrev pub as_sci : List ℕ → Sci
 as_sci octets = record { 0 = octets }
 
--- the number of an SSCI's four octets, of which the first is the most significant
+-- the SSCI of four octets, most significant octet first
 abbrev pub as_ssci : List ℕ → ℕ
 as_ssci octets = from_be_bytes w32 octets
 
--- a value, or where there is none the other reading
+-- a value if there is one, else the other result
 abbrev pub or_else : {A E : Type 0} → Result A E → Result A E → Result A E
 or_else (Ok x) other = Ok x
 or_else (Err fault) other = other
 
--- a key of 16 octets, or of 32
+-- a key of 16 or 32 octets
 abbrev pub key_of_word : List ℕ → Result Key LineFault
 key_of_word word = or_else (map_ok K128 (octets_of 16 word)) (map_ok K256 (octets_of 32 word))
 

@@ -1,4 +1,4 @@
--- The kinds of lines, each by its keyword, the words after it, and what it says.
+-- The kinds of lines: for each, its keyword, the words after it, and the line that they make.
 use Rattle.std.specs.Prelude.{ℕ, ◌-◌, ◌^◌, ◌==◌, replicate, List, [], ◌∷◌, ◌++◌, length, filter, find, nat_lt, bytes_eq}
 use Rattle.std.specs.Prelude.{codes, Bool, true, not, is_some, if◌then◌else◌, Option, Some, None, Result, Ok, Err}
 use Rattle.macsec_aes.specs.declared.Key.{Key}
@@ -21,7 +21,7 @@ use Rattle.macsec_script_parser.specs.Fields.{Field, Value, read_word, value_of_
 use Rattle.macsec_script_parser.specs.Fields.{salt, frame, pn, at_end, suite, tag_form, protection, switch, validation}
 use Rattle.macsec_script_parser.specs.Limits.{max_line_len}
 
--- what makes a line of the values of its words
+-- a function from the values of the words to the line
 abbrev pub Makes : List Field → Type 0
 Makes [] = Line
 Makes (field ∷ fields) = Value field → Makes fields
@@ -55,7 +55,7 @@ place_in_frame = number 0 (2 ^ 32 - 1)
 abbrev pub max_frame : Field
 max_frame = number min_max_frame max_frame_len
 
--- a key as its line says it
+-- a key, from the values of its line
 abbrev pub key_from : ℕ → Key → ℕ → Option Suite → ℕ → List ℕ → NewKey
 key_from = λ n bytes offset suite ssci salt.
     record { number = n; bytes = bytes; salt = salt; ssci = ssci; offset = offset; suite = suite }
@@ -76,8 +76,8 @@ option_kinds e =
     kind (codes "replay") (switch ∷ window ∷ []) (λ on window. tells e (by.Replay on window)) ∷
     kind (codes "tag") (tag_form ∷ []) (λ form. tells e (by.Tag form)) ∷ []
 
--- the lines of keys, the number of whose words says which of them are there: a key without a suite gets the endpoint's,
--- and an SSCI and a salt that are left out are zeros
+-- the lines of keys. The count of the words decides which are present. A key without a suite gets the suite of the
+-- endpoint; an SSCI and a salt that are left out are zero
 abbrev pub key_kinds : End → List Kind
 key_kinds e =
     kind (codes "key") (key_number ∷ key ∷ offset ∷ [])
@@ -90,7 +90,7 @@ key_kinds e =
     (λ n bytes offset suite ssci salt. tells e (by.Key (key_from n bytes offset (Some suite) ssci salt))) ∷
     kind (codes "retire") (key_number ∷ []) (λ n. tells e (by.Retire n)) ∷ []
 
--- the lines of transmit associations
+-- the lines of transmit SAs
 abbrev pub transmit_kinds : End → List Kind
 transmit_kinds e =
     kind (codes "txsa") (an ∷ key_number ∷ pn ∷ protection ∷ []) (λ an n pn conf. tells e (by.TxSa an n pn conf)) ∷
@@ -98,13 +98,13 @@ transmit_kinds e =
     kind (codes "txoff") (an ∷ []) (λ an. tells e (by.TxOff an)) ∷
     kind (codes "txdel") (an ∷ []) (λ an. tells e (by.TxDel an)) ∷ []
 
--- the lines of receive channels
+-- the lines of receive SCs
 abbrev pub channel_kinds : End → List Kind
 channel_kinds e =
     kind (codes "rxsc") (sci ∷ []) (λ sci. tells e (by.RxSc sci)) ∷
     kind (codes "rxscdel") (sci ∷ []) (λ sci. tells e (by.RxScDel sci)) ∷ []
 
--- the lines of receive associations; an SSCI that is left out is zero
+-- the lines of receive SAs; an SSCI that is left out is zero
 abbrev pub receive_kinds : End → List Kind
 receive_kinds e =
     kind (codes "rxsa") (sci ∷ an ∷ key_number ∷ pn ∷ []) (λ sci an n pn. tells e (by.RxSa sci an n 0 pn)) ∷
@@ -130,7 +130,7 @@ frame_kinds e =
 abbrev pub show_kinds : End → List Kind
 show_kinds e = kind (codes "counters") [] (line.Counters e) ∷ kind (codes "numbers") [] (line.Numbers e) ∷ []
 
--- the lines that begin with an end's letter
+-- the lines that begin with the letter of an end
 abbrev pub kinds_at : End → List Kind
 kinds_at e = operator_kinds e ++ (frame_kinds e ++ show_kinds e)
 
@@ -148,7 +148,7 @@ link_kinds =
     kind (codes "pad") (frame_number ∷ []) (λ n. line.Event (event.Pad n)) ∷
     kind (codes "inject") (frame ∷ []) (λ frame. line.Event (event.Inject frame)) ∷ []
 
--- the lines that begin with no end's letter
+-- the lines that do not begin with the letter of an end
 abbrev pub kinds : List Kind
 kinds = end_kinds ++ link_kinds
 
@@ -157,18 +157,18 @@ abbrev pub and_then : {X Y E : Type 0} → Result X E → (X → Result Y E) →
 and_then (Ok x) f = f x
 and_then (Err fault) f = Err fault
 
--- the words from left to right
+-- the words are read from left to right
 abbrev pub read_words : (fields : List Field) → Makes fields → List (List ℕ) → Result Line LineFault
 read_words [] makes words = Ok makes
 read_words (field ∷ fields) makes [] = Err Count
 read_words (field ∷ fields) makes (word ∷ words) = and_then (read_word field word) (λ value. read_words fields (makes value) words)
 
--- a line of the kind that has this number of words
+-- a line of the kind that has this many words
 abbrev pub read_kind : Option Kind → List (List ℕ) → Result Line LineFault
 read_kind None words = Err Count
 read_kind (Some kind) words = read_words kind.fields kind.makes words
 
--- the kinds of a keyword, of which there is one or more
+-- a line, from the kinds of its keyword; without any, the keyword is unknown
 abbrev pub read_as : List Kind → List (List ℕ) → Result Line LineFault
 read_as [] words = Err Word
 read_as (kind ∷ more) words = read_kind (find (λ kind. length kind.fields == length words) (kind ∷ more)) words
@@ -177,21 +177,21 @@ read_as (kind ∷ more) words = read_kind (find (λ kind. length kind.fields == 
 abbrev pub kinds_of : List Kind → List ℕ → List Kind
 kinds_of kinds keyword = filter (λ kind. bytes_eq kind.keyword keyword) kinds
 
--- a line by its keyword and the words after it
+-- a line, from its keyword and the words after it
 abbrev pub read_line : List Kind → List ℕ → List (List ℕ) → Result Line LineFault
 read_line kinds keyword words = read_as (kinds_of kinds keyword) words
 
--- a line that begins with an end's letter has its keyword after it
+-- after the letter of an end, the keyword is the second word
 abbrev pub read_at : Result End LineFault → List ℕ → List (List ℕ) → Result Line LineFault
 read_at (Ok e) first [] = Err Count
 read_at (Ok e) first (keyword ∷ words) = read_line (kinds_at e) keyword words
 read_at (Err fault) first words = read_line kinds first words
 
--- the configuration has no fault
+-- a configuration without a fault
 abbrev pub is_good : EndConfig → Bool
 is_good config = not (is_some (config_fault config))
 
--- an end's form fits its SCI, as MAX is in its range
+-- MAX is already in range, so the only possible fault is a tag form that does not fit the SCI
 abbrev pub is_fit : Line → Bool
 is_fit (line.End e config) = is_good config
 is_fit other = true
@@ -207,6 +207,6 @@ of_words ((letter ∷ letters) ∷ words) =
     if letter == 35 then Ok None
     else and_then (read_at (value_of_keyword ends (letter ∷ letters)) (letter ∷ letters) words) if_fit
 
--- what a line says, without its line feed
+-- the line that a text without its line feed makes
 abbrev pub line_of : List ℕ → Result (Option Line) LineFault
 line_of text = if nat_lt max_line_len (length text) then Err LineLong else of_words (words_of text)

@@ -1,7 +1,7 @@
 -- The limits of scripts.
 use Rattle.std.specs.Prelude.{ℕ}
 
--- the octets of a script, its lines, and the octets of a line without its line feed
+-- the most octets of a script, lines of a script, and octets of a line without its line feed
 abbrev pub max_script_len : ℕ
 max_script_len = 1048576
 

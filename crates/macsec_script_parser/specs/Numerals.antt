@@ -1,4 +1,4 @@
--- Words that stand for numbers and octets.
+-- Numbers and octets as words of a line.
 use Rattle.std.specs.Prelude.{ℕ, ◌+◌, ◌*◌, ◌-◌, ◌==◌, List, [], ◌∷◌, length, Bool, nat_le, ◌&&◌, if◌then◌else◌, unwrap_or, Result, Ok, Err}
 use Rattle.std.specs.List.{list_all}
 use Rattle.hex.specs.Hex.{decode_of, decode_sized, hex_digit_value, is_hex_digit}
@@ -6,12 +6,12 @@ use Rattle.hex.specs.declared.error.FromHexError.{FromHexError}
 use Rattle.macsec_script_parser.specs.declared.lines.LineFault.{LineFault}
 use Rattle.macsec_script_parser.specs.declared.lines.LineFault.TheVariants.{Hex, Number}
 
--- the number whose digits in the base follow those of n
+-- the number n followed by these digits, in this base
 abbrev pub number_after : ℕ → (ℕ → ℕ) → ℕ → List ℕ → ℕ
 number_after base value n [] = n
 number_after base value n (digit ∷ digits) = number_after base value (base * n + value digit) digits
 
--- one digit or more, and no more than the most
+-- at least one digit, and at most `most`
 abbrev pub is_numeral : (ℕ → Bool) → ℕ → List ℕ → Bool
 is_numeral is_digit most word = nat_le 1 (length word) && nat_le (length word) most && list_all is_digit word
 
@@ -39,7 +39,7 @@ abbrev pub or_hex : Result (List ℕ) FromHexError → Result (List ℕ) LineFau
 or_hex (Ok octets) = Ok octets
 or_hex (Err fault) = Err Hex
 
--- so many octets in hex
+-- n octets in hex
 abbrev pub octets_of : ℕ → List ℕ → Result (List ℕ) LineFault
 octets_of n word = or_hex (decode_sized word n)
 

@@ -1,4 +1,4 @@
--- What reading a word, a line or a script returns: what is defined, or that there is no memory.
+-- The results of parsing a word, a line or a script: as defined, or out of memory.
 use Rattle.std.specs.Prelude.{◌≡◌, ◌<◌, ℕ, List, length, Result, Ok, Err}
 use Rattle.macsec_script_parser.specs.declared.lines.LineFault.{LineFault}
 use Rattle.macsec_script_parser.specs.declared.lines.LineFault.TheVariants as line
@@ -7,13 +7,13 @@ use Rattle.macsec_script_parser.specs.declared.faults.ScriptFault.TheVariants.{S
 use Rattle.macsec_script_parser.specs.Limits.{max_script_len}
 use Rattle.macsec_script_parser.specs.Scripts.{NumberedLine}
 
--- what reading a word or a line returns is what the definition gives, or that there is no memory
+-- parsing a word or a line returns what is defined, or `Memory`
 abbrev pub Reads : {X : Type 0} → Result X LineFault → Result X LineFault → Type 0
 Reads meant (Ok x) = meant ≡ Ok x
 Reads meant (Err line.Memory) = Unit {0}
 Reads meant (Err fault) = meant ≡ Err fault
 
--- what parsing a script returns is what the definition gives, or that there is no memory
+-- parsing a script returns what is defined, or `Memory`; never `Read` or `Write`
 abbrev pub Parses : Result (List NumberedLine) ScriptFault → Result (List NumberedLine) ScriptFault → Type 0
 Parses meant (Ok lines) = meant ≡ Ok lines
 Parses meant (Err Memory) = Unit {0}
@@ -21,7 +21,7 @@ Parses meant (Err Read) = ⊥
 Parses meant (Err Write) = ⊥
 Parses meant (Err fault) = meant ≡ Err fault
 
--- why a reader's input was not taken whole
+-- why the input was not read completely
 abbrev pub IsInputFault : List ℕ → ScriptFault → Type 0
 IsInputFault input ScriptLong = max_script_len < length input
 IsInputFault input Memory = Unit {0}

@@ -1,4 +1,5 @@
--- A script, and the configuration of one end: the lines that are not skipped, with their numbers, or the first fault.
+-- A script, and the configuration of one end: each is the lines that are not skipped, with their numbers, or the first
+-- fault.
 use Rattle.std.specs.Prelude.{ℕ, ◌+◌, ◌-◌, ◌||◌, List, [], ◌∷◌, length, Bool, nat_lt, if◌then◌else◌, Option, Some, None, Result, Ok, Err}
 use Rattle.macsec_commands.specs.declared.config.EndConfig.{EndConfig}
 use Rattle.macsec_commands.specs.declared.event.End.TheVariants.{A, B}
@@ -29,7 +30,7 @@ abbrev pub b_config : Line → Option EndConfig
 b_config (line.End B config) = Some config
 b_config other = None
 
--- the fault of a script at the fault of its line n
+-- the fault of a script whose line n has this fault
 abbrev pub at_line : ℕ → LineFault → ScriptFault
 at_line n fault.Word = Word n
 at_line n fault.Count = Count n
@@ -43,8 +44,8 @@ abbrev pub result_at_line : {X : Type 0} → ℕ → Result X LineFault → Resu
 result_at_line n (Ok x) = Ok x
 result_at_line n (Err fault) = Err (at_line n fault)
 
--- what comes after a line that is in its place: in a script both ends, and then lines of another kind; in a
--- configuration end A, and then commands at A
+-- what must come after a line, if the line is in order. A script has the ends A and B, and then lines of other kinds; a
+-- configuration has end A, and then commands at A
 abbrev pub place_after : Place → Line → Option Place
 place_after EndA (line.End A config) = Some EndB
 place_after EndA other = None
@@ -57,7 +58,7 @@ place_after OnlyEnd other = None
 place_after Commands (line.Event (event.Command A command)) = Some Commands
 place_after Commands other = None
 
--- a script may end before its first line or after both ends, a configuration after its end; n is the last line
+-- a script can end before its first line or after both ends, a configuration after its `end` line; n is the last line
 abbrev pub at_script_end : Place → ℕ → Result (List NumberedLine) ScriptFault
 at_script_end EndA n = Ok []
 at_script_end EndB n = Err (Ends n)
@@ -65,18 +66,18 @@ at_script_end Rest n = Ok []
 at_script_end OnlyEnd n = Err (Ends 0)
 at_script_end Commands n = Ok []
 
--- the place after line n, or the fault of a line in a wrong place
+-- the place after line n, or the fault of a line that is out of order
 abbrev pub next_place : ℕ → Option Place → Result Place ScriptFault
 next_place n None = Err (Ends n)
 next_place n (Some place) = Ok place
 
--- a line, where it is not skipped, before the lines that follow it
+-- a line, unless it is skipped, and then the lines after it
 abbrev pub line_before : Place → ℕ → Option Line → (Place → Result (List NumberedLine) ScriptFault) → Result (List NumberedLine) ScriptFault
 line_before place n None more = more place
 line_before place n (Some said) more =
     and_then (next_place n (place_after place said)) (λ next. map_ok (λ lines. (n, said) ∷ lines) (more next))
 
--- the lines from number n on
+-- the lines from line n on
 abbrev pub lines_from : Place → ℕ → List (List ℕ) → Result (List NumberedLine) ScriptFault
 lines_from place n [] = at_script_end place (n - 1)
 lines_from place n (text ∷ more) =
@@ -86,7 +87,7 @@ lines_from place n (text ∷ more) =
 abbrev pub is_too_long : List ℕ → Bool
 is_too_long text = nat_lt max_script_len (length text) || nat_lt max_line_count (length (lines_of text))
 
--- the lines of a text, the first of them in this place
+-- the lines of a text whose first line has this place
 abbrev pub lines_or_fault : Place → List ℕ → Result (List NumberedLine) ScriptFault
 lines_or_fault first text = if is_too_long text then Err ScriptLong else lines_from first 1 (lines_of text)
 

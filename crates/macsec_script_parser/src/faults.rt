@@ -1,4 +1,4 @@
-//! What goes wrong in a script or in its run, as a line on standard error and as the program's status.
+//! The faults of a script or of its run: the line on standard error and the exit status of each.
 
 ghost use Rattle.std.specs.Prelude.{◌≡◌, OnOk};
 ghost use Rattle.std.specs.Io.KnownBytes.{Appends};
@@ -7,28 +7,28 @@ ghost use Rattle.macsec_script_parser.specs.Faults.{fault_line, fault_name, faul
 use std::io::{self, Write};
 use thiserror::Error;
 
-/// Why a script is not run to its end, or a configuration not read. The first six have the number of their line, from 1;
-/// `Ends` has 0 for a configuration of which all lines are skipped.
+/// Why a script is not run to its end, or a configuration not read. The first six have a line number, from 1. `Ends`
+/// has line 0 for a configuration whose lines are all skipped.
 #[derive(Clone, Copy, Debug, Error)]
 pub enum ScriptFault {
-    /// A line's keyword is unknown, or a word of it is none of those that can stand there.
+    /// The keyword of a line is unknown, or a word is not in the list of words that its position allows.
     #[error("line {0} has an unknown word")]
     Word(u32),
     /// A line has too few words or too many.
     #[error("line {0} has too few words or too many")]
     Count(u32),
-    /// A word is not hex text of as many octets as it must have.
+    /// A word is not hex text, or has the wrong number of octets.
     #[error("line {0} has a word that is not hex text of the right length")]
     Hex(u32),
-    /// A word is not a decimal number in its range.
+    /// A word is not a decimal number, or is out of range.
     #[error("line {0} has a word that is not a number in its range")]
     Number(u32),
-    /// A line is in a wrong place, since the first two lines are those of end A and of end B and no other is an
-    /// `end` line, or the tag form of an end does not fit its SCI; or the script ends before the line of end B, and
-    /// the number is its last line's, skipped or not.
+    /// A line is out of order, or the tag form of an end does not fit its SCI, or the script ends before the line of
+    /// end B. A script begins with the `end` lines of A and B, in this order, and has no other `end` line. If the
+    /// script ends too early, the number is the number of its last line, skipped or not.
     #[error("line {0} is in a wrong place, or its tag form does not fit its SCI")]
     Ends(u32),
-    /// A line has more than 20,000 octets, without its line feed.
+    /// A line has more than 20,000 octets, not counting its line feed.
     #[error("line {0} is too long")]
     LineLong(u32),
     /// The script has more than 1,048,576 octets or more than 65,536 lines.
@@ -46,7 +46,7 @@ pub enum ScriptFault {
 }
 
 impl ScriptFault {
-    /// Writes the one line of the fault.
+    /// Writes the fault as one line.
     pub fn tell<W: Write>(self, writer: &mut W) -> io::Result<()>
         ensures { OnOk result (Appends (W.contents writer.old) (W.contents writer.new) (fault_text self)) }
     {
@@ -71,7 +71,8 @@ impl ScriptFault {
         }
     }
 
-    /// The number of the line at fault, if the fault is a line's: from 1, or 0 for a configuration of skipped lines alone.
+    /// The number of the line at fault, from 1, or `None` for a fault without a line. It is 0 for a configuration whose
+    /// lines are all skipped.
     pub fn line(self) -> Option<u32>
         ensures { result ≡ fault_line self }
     {
@@ -89,7 +90,7 @@ impl ScriptFault {
         }
     }
 
-    /// The program's status: 2 if the script is at fault, else 1.
+    /// The exit status: 2 if the script is at fault, else 1.
     pub fn status(self) -> u8
         ensures { result ≡ fault_status self }
     {

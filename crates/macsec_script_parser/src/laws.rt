@@ -1,11 +1,11 @@
-//! A law of lines, of their definitions alone: the contract of a function with an empty body.
+//! A law of lines. It is about the definitions alone: the contract of an empty function.
 
 ghost use Rattle.std.specs.Prelude.{ℕ, List};
 ghost use Rattle.macsec_script_parser.specs.declared.script.Place.{Place};
 ghost use Rattle.macsec_script_parser.specs.Laws.{ParsedFit};
 ghost use Rattle.macsec_script_parser.specs.Scripts.{NumberedLine};
 
-/// Of each configuration in the lines of a text without a fault, an endpoint can be created.
+/// If a text has no fault, an endpoint can be created from each configuration in its lines.
 pub fn parsed_lines_fit()
     ensures { (first : Place) (text : List ℕ) (lines : List NumberedLine) → ParsedFit first text lines }
 {}

@@ -1,15 +1,16 @@
-//! The lines of a script of two endpoints and of the link between them: reads a line, a whole script, and the
+//! The language of scripts for two endpoints and the link between them: parses a line, a whole script, and the
 //! configuration of one end.
 //!
 //! Proved: `parse_line` and `parse_script` return the line, the lines with their numbers, or the first fault, as the
 //! table of the kinds of lines says (`specs/Kinds.antt`, `specs/Scripts.antt`), or `Memory`. `parse_config` does the
-//! same for the configuration of one end: the `end` line of A, and then commands at A, nothing else. The functions
-//! `name`, `line` and `status` of a `ScriptFault` are those of `specs/Faults.antt`; and if its `tell` returns `Ok`,
-//! what it wrote, to a writer whose octets a contract can name, is the one line of the fault. `read_text`, over a reader
-//! whose octets a contract can name, returns all of them, at most 1,048,576; `ScriptLong` only if there are more; or
-//! `Memory` or `Read`. A law: of each configuration in the lines of a text without a fault an endpoint can be created.
+//! same for the configuration of one end: the `end` line of A, then commands at A, and nothing else. The functions
+//! `name`, `line` and `status` of a `ScriptFault` return what `specs/Faults.antt` defines. If its `tell` returns `Ok`,
+//! what it wrote, to a writer whose octets a contract can name, is the one line of the fault. `read_text`, over a
+//! reader whose octets a contract can name, returns all of them, at most 1,048,576; or `ScriptLong`, only if there are
+//! more; or `Memory` or `Read`. A law: if a text has no fault, an endpoint can be created from each configuration in
+//! its lines.
 //!
-//! Proved, of the definitions: more than eighty worked lines, and ten configurations (`proofs/Examples.antt`).
+//! Proved of the definitions: more than eighty worked lines, and ten configurations (`proofs/Examples.antt`).
 #![tactic(auto)]
 
 mod faults;

@@ -1,4 +1,4 @@
-//! The lines of a script, each as what it says.
+//! Parses the lines of a script.
 
 ghost use Rattle.std.specs.Prelude.{◌≡◌, [], map, IfSome, IfNone};
 ghost use Rattle.macsec_script_parser.specs.Fields.{value_of_keyword, ends};
@@ -26,30 +26,29 @@ use showing::show_line;
 use std::alloc::Global;
 use transmit::transmit_line;
 
-/// What a line of a script says.
+/// A parsed line of a script.
 #[derive(Drop)]
 pub enum Line {
     /// The configuration of an end.
     End(End, EndConfig),
-    /// What happens at an end or on the link.
+    /// An event at an end or on the link.
     Event(Event),
-    /// The counters of an end are shown.
+    /// Show the counters of an end.
     Counters(End),
-    /// The packet numbers of an end are shown.
+    /// Show the packet numbers of an end.
     Numbers(End),
 }
 
-/// What is wrong with a line, which does not know its number. A `ScriptFault` is the same with the number of the line,
-/// or a fault of the whole script.
+/// A fault of a line, without its number. A `ScriptFault` adds the number, or is a fault of the whole script.
 #[derive(Clone, Copy, PartialEq, Eq)]
 pub enum LineFault {
-    /// Its keyword is unknown, or a word that should be one of a list is none of them.
+    /// Its keyword is unknown, or a word is not in the list of words that its position allows.
     Word,
     /// It has too few words or too many.
     Count,
-    /// A word is not hex text of as many octets as it must have.
+    /// A word is not hex text, or has the wrong number of octets.
     Hex,
-    /// A word is not a decimal number in its range.
+    /// A word is not a decimal number, or is out of range.
     Number,
     /// The tag form of an end does not fit its SCI.
     Ends,
@@ -59,12 +58,12 @@ pub enum LineFault {
     Memory,
 }
 
-/// The octets of the longest line.
+/// The most octets of a line, not counting its line feed.
 const MAX_LINE_LEN: usize = 20_000;
 
-/// A command at an end, from its keyword and the words after it; `None` if the keyword is none of those.
-// Keywords are compared as whole words, here and in each group: of a `match` over them, which goes by length and then
-// octet by octet, a proof costs two to seven times as much.
+/// Parses a command at an end: its keyword and the words after it. Returns `None` for any other keyword.
+// Keywords are compared as whole words, here and in each group. A `match` compares lengths and then single octets, and
+// its proof takes two to seven times as long.
 fn operator_line(at: End, keyword: &[u8], words: &[&[u8]]) -> Option<Result<Line, LineFault>>
     ensures some { IfSome result (λ line. line ≡ read_line (kinds_at at) keyword.now (map (λ w. w.now) words.now)) }
     ensures none { IfNone result (kinds_of (operator_kinds at) keyword.now ≡ []) }
@@ -87,7 +86,7 @@ fn operator_line(at: End, keyword: &[u8], words: &[&[u8]]) -> Option<Result<Line
     receive_line(at, keyword, words)
 }
 
-/// A line of an end, from its keyword and the words after it.
+/// Parses a line that begins with the letter of an end: its keyword and the words after it.
 fn line_at(alloc: Global, at: End, keyword: &[u8], words: &[&[u8]]) -> Result<Line, LineFault>
     ensures { Reads (read_line (kinds_at at) keyword.now (map (λ w. w.now) words.now)) result }
 {
@@ -103,7 +102,7 @@ fn line_at(alloc: Global, at: End, keyword: &[u8], words: &[&[u8]]) -> Result<Li
     }
 }
 
-/// A line of no end, from its keyword and the words after it.
+/// Parses a line that does not begin with the letter of an end: its keyword and the words after it.
 fn line_of_none(alloc: Global, keyword: &[u8], words: &[&[u8]]) -> Result<Line, LineFault>
     ensures { Reads (read_line kinds keyword.now (map (λ w. w.now) words.now)) result }
 {
@@ -116,7 +115,7 @@ fn line_of_none(alloc: Global, keyword: &[u8], words: &[&[u8]]) -> Result<Line, 
     }
 }
 
-/// A line, from its first word and the words after it.
+/// Parses a line: its first word and the words after it.
 fn line_from(alloc: Global, first: &[u8], words: &[&[u8]]) -> Result<Line, LineFault>
     ensures { Reads (read_at (value_of_keyword ends first.now) first.now (map (λ w. w.now) words.now)) result }
 {
@@ -129,7 +128,7 @@ fn line_from(alloc: Global, first: &[u8], words: &[&[u8]]) -> Result<Line, LineF
     line_at(alloc, at, keyword, words)
 }
 
-/// Does the tag form fit the SCI, if the line is that of an end?
+/// If this is an `end` line, does its tag form fit its SCI?
 fn is_fit(line: &Line) -> bool
     ensures { result ≡ is_fit line.now }
 {
@@ -139,7 +138,7 @@ fn is_fit(line: &Line) -> bool
     }
 }
 
-/// A line, from its words; `None` if it is skipped.
+/// Parses a line from its words. Returns `None` if it is skipped.
 fn line_of_words(alloc: Global, words: &[&[u8]]) -> Result<Option<Line>, LineFault>
     ensures { Reads (of_words (map (λ w. w.now) words.now)) result }
 {
@@ -156,9 +155,10 @@ fn line_of_words(alloc: Global, words: &[&[u8]]) -> Result<Option<Line>, LineFau
     Ok(Some(line))
 }
 
-/// What a line says, without its line feed, with its carriage return; `None` if it is skipped. Returns the first of
-/// its faults: `LineLong`; `Word` if the first word is unknown, or after an end's letter the second; `Count`; what is
-/// wrong with a word, from left to right; `Ends` if the tag form of an `end` line does not fit its SCI. Or `Memory`.
+/// Parses a line, given without its line feed but with its carriage return. Returns `None` if it is skipped, or its
+/// first fault in this order: `LineLong`; `Word` if the keyword is unknown (the first word, or the second after the
+/// letter of an end); `Count`; the first fault of a word, from left to right; `Ends` if the tag form of an `end` line
+/// does not fit its SCI. Returns `Memory` if memory runs out.
 pub fn parse_line(alloc: Global, text: &[u8]) -> Result<Option<Line>, LineFault>
     ensures { Reads (line_of text.now) result }
 {

@@ -1,5 +1,5 @@
-//! A script as its lines, those of the two ends and then the others; and the configuration of one end, as a script of
-//! its line and of commands at it.
+//! Parses a script: the `end` lines of A and B, then all other lines. Also parses the configuration of one end: its
+//! `end` line, then commands at it.
 
 ghost use Rattle.std.specs.Prelude.{◌≡◌, ◌≤◌, length, map, nat_lt};
 ghost use Rattle.macsec_script_parser.specs.Limits.{max_line_count, max_script_len};
@@ -13,29 +13,29 @@ use crate::words::lines;
 use macsec_commands::{End, Event};
 use std::alloc::Global;
 
-/// The octets of the longest script.
+/// The most octets of a script.
 pub const MAX_SCRIPT_LEN: usize = 1_048_576;
 
-/// The lines of the longest script.
+/// The most lines of a script.
 const MAX_LINE_COUNT: usize = 65_536;
 
-/// Which line of a script, or of the configuration of one end, comes next.
+/// The line that must come next in a script or in the configuration of one end.
 #[derive(Clone, Copy)]
 pub enum Place {
-    /// In a script, the line of end A.
+    /// In a script, the `end` line of A.
     EndA,
-    /// In a script, the line of end B.
+    /// In a script, the `end` line of B.
     EndB,
-    /// In a script, a line that is no `end` line.
+    /// In a script, any line except an `end` line.
     Rest,
-    /// In a configuration, the line of end A, its only end.
+    /// In a configuration, the `end` line of A, its only end.
     OnlyEnd,
     /// In a configuration, a command at that end.
     Commands,
 }
 
 impl Place {
-    /// The place after a line, or `None` for a line that can't come here.
+    /// The place after this line, or `None` if the line is out of order here.
     fn after(self, line: &Line) -> Option<Place>
         ensures { result ≡ place_after self line.now }
     {
@@ -49,7 +49,7 @@ impl Place {
     }
 }
 
-/// The place after the line of end A.
+/// The place after the `end` line of A, or `None` for any other line.
 fn after_end_a(line: &Line) -> Option<Place>
     ensures { result ≡ place_after Place.EndA line.now }
 {
@@ -59,7 +59,7 @@ fn after_end_a(line: &Line) -> Option<Place>
     }
 }
 
-/// The place after the line of end B.
+/// The place after the `end` line of B, or `None` for any other line.
 fn after_end_b(line: &Line) -> Option<Place>
     ensures { result ≡ place_after Place.EndB line.now }
 {
@@ -69,7 +69,7 @@ fn after_end_b(line: &Line) -> Option<Place>
     }
 }
 
-/// The place after a line other than those.
+/// The place after a line of the rest, or `None` for an `end` line.
 fn after_rest(line: &Line) -> Option<Place>
     ensures { result ≡ place_after Place.Rest line.now }
 {
@@ -79,7 +79,7 @@ fn after_rest(line: &Line) -> Option<Place>
     }
 }
 
-/// The place after the line of the only end.
+/// The place after the `end` line of the only end, or `None` for any other line.
 fn after_only_end(line: &Line) -> Option<Place>
     ensures { result ≡ place_after Place.OnlyEnd line.now }
 {
@@ -89,7 +89,7 @@ fn after_only_end(line: &Line) -> Option<Place>
     }
 }
 
-/// The place after a command at the only end.
+/// The place after a command at the only end, or `None` for any other line.
 fn after_command(line: &Line) -> Option<Place>
     ensures { result ≡ place_after Place.Commands line.now }
 {
@@ -99,7 +99,7 @@ fn after_command(line: &Line) -> Option<Place>
     }
 }
 
-/// The fault of a script that has this fault in its line `n`: of memory there is no line.
+/// The fault of a script whose line `n` has this fault. `Memory` has no line number.
 fn at_line(n: u32, fault: LineFault) -> ScriptFault
     ensures { result ≡ at_line n fault }
 {
@@ -114,7 +114,8 @@ fn at_line(n: u32, fault: LineFault) -> ScriptFault
     }
 }
 
-/// The lines that are not skipped, the first of them in this place, with their numbers from 1, or the first fault.
+/// Parses lines, with `first` for the place of the first. Returns the lines that are not skipped, with their numbers
+/// from 1, or the first fault.
 fn parse_lines(
     alloc: Global,
     first: Place,
@@ -147,15 +148,15 @@ fn parse_lines(
     }
 }
 
-/// Does a text have more octets than a script may have?
+/// Does a text have more octets than a script is allowed to have?
 fn has_too_many_octets(text: &[u8]) -> bool
     ensures { result ≡ nat_lt max_script_len (length text.now) }
 {
     text.len() > MAX_SCRIPT_LEN
 }
 
-/// The lines of a text that are not skipped, the first of them in this place, with their numbers from 1, or the first
-/// fault.
+/// Parses a text, with `first` for the place of its first line. Returns the lines that are not skipped, with their
+/// numbers from 1, or the first fault.
 fn parse_text(alloc: Global, first: Place, text: &[u8]) -> Result<Vec<(u32, Line)>, ScriptFault>
     ensures { Parses (lines_or_fault first text.now) (map_ok (λ lines. lines.items) result) }
 {
@@ -171,16 +172,16 @@ fn parse_text(alloc: Global, first: Place, text: &[u8]) -> Result<Vec<(u32, Line
     parse_lines(alloc, first, lines.as_slice())
 }
 
-/// The lines of a script that are not skipped, with their numbers from 1, or its first fault.
+/// Parses a script. Returns the lines that are not skipped, with their numbers from 1, or its first fault.
 pub fn parse_script(alloc: Global, script: &[u8]) -> Result<Vec<(u32, Line)>, ScriptFault>
     ensures { Parses (script_of script.now) (map_ok (λ lines. lines.items) result) }
 {
     parse_text(alloc, Place::EndA, script)
 }
 
-/// The lines of the configuration of one end that are not skipped, with their numbers from 1, or its first fault. The
-/// first is the `end` line of A, and the others are commands at A: `Ends` at the first line for which that is not so,
-/// and in line 0 if all lines are skipped. The other faults are those of a script.
+/// Parses the configuration of one end. Returns the lines that are not skipped, with their numbers from 1, or its first
+/// fault. The first line is the `end` line of A, and all others are commands at A. The fault is `Ends` at the first
+/// line that is not so, or `Ends` in line 0 if all lines are skipped. All other faults are the same as in a script.
 pub fn parse_config(alloc: Global, config: &[u8]) -> Result<Vec<(u32, Line)>, ScriptFault>
     ensures { Parses (config_of config.now) (map_ok (λ lines. lines.items) result) }
 {

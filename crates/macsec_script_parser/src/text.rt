@@ -1,4 +1,4 @@
-//! The text of a script, from a reader.
+//! Reads the text of a script.
 
 ghost use Rattle.std.specs.Prelude.{◌≡◌, ◌≤◌, length, IfSome, MatchResult};
 ghost use Rattle.macsec_script_parser.specs.Limits.{max_script_len};
@@ -9,7 +9,8 @@ use crate::script::MAX_SCRIPT_LEN;
 use std::alloc::Global;
 use std::io::Read;
 
-/// All that a reader has, at most `MAX_SCRIPT_LEN` octets. Returns `ScriptLong` if it has more, `Memory`, or `Read`.
+/// Reads everything that a reader has, at most `MAX_SCRIPT_LEN` octets. Returns `ScriptLong` if it has more, or
+/// `Memory`, or `Read`.
 pub fn read_text<R: Read>(alloc: Global, reader: &mut R) -> Result<Vec<u8>, ScriptFault>
     ensures { IfSome (R.remaining reader.old) (λ all. MatchResult result
         (λ text. (text.items ≡ all) × (length all ≤ max_script_len)) (λ fault. IsInputFault all fault)) }

@@ -1,4 +1,4 @@
-//! Lines as words, and words as numbers, octets and keywords.
+//! Splits a text into lines and words, and parses words as numbers, octets and keywords.
 
 ghost use Rattle.std.specs.Prelude.{◌≡◌, ◌==◌, ◌<◌, ◌-◌, ◌^◌, map, bytes_eq, IfSome, IfOk};
 ghost use Rattle.std.specs.List.{slice_split};
@@ -13,14 +13,14 @@ use hex::FromHexError;
 use macsec_commands::{An, End, Frame, Key, KeyNumber, Mode, Sci, Suite, TagForm};
 use std::alloc::{AllocError, Global};
 
-/// The pieces of a text between its line feeds.
+/// The parts of a text between its line feeds.
 fn pieces(alloc: Global, text: &[u8]) -> Result<Vec<&[u8]>, AllocError>
     ensures { IfOk result (λ pieces. map (λ piece. piece.now) pieces.items ≡ slice_split (λ octet. octet == 10) text.now) }
 {
     text.split(|octet| *octet == b'\n').collect(alloc)
 }
 
-/// The lines of a text, without their line feeds; nothing after the last line feed is no line.
+/// The lines of a text, without their line feeds. A line feed at the end of the text does not start another line.
 pub fn lines(alloc: Global, text: &[u8]) -> Result<Vec<&[u8]>, AllocError>
     ensures { IfOk result (λ lines. map (λ line. line.now) lines.items ≡ lines_of text.now) }
 {
@@ -54,7 +54,7 @@ pub fn words(alloc: Global, line: &[u8]) -> Result<Vec<&[u8]>, AllocError>
         .collect(alloc)
 }
 
-/// A number from `low` to `high` in 1 to 20 decimal digits.
+/// Parses a number from `low` to `high` in 1 to 20 decimal digits.
 pub fn decimal(low: u64, high: u64, word: &[u8]) -> Result<u64, LineFault>
     ensures { result ≡ decimal_in low high word.now }
 {
@@ -98,7 +98,7 @@ pub fn key_number(word: &[u8]) -> Result<KeyNumber, LineFault>
     }
 }
 
-/// The number of a link frame, or a place in one.
+/// The number of a link frame, or the offset of an octet in one.
 pub fn frame_number(word: &[u8]) -> Result<u32, LineFault>
     ensures { result ≡ decimal_in 0 (2 ^ 32 - 1) word.now }
 {
@@ -135,7 +135,7 @@ pub fn packet_number(word: &[u8]) -> Result<u64, LineFault>
     Ok(number)
 }
 
-/// The octets that hex digits stand for, a fixed number of them.
+/// A fixed number of octets in hex.
 pub fn fixed_octets<const N: usize>(word: &[u8]) -> Result<[u8; N], LineFault>
     ensures { result ≡ octets_of N word.now }
 {
@@ -199,7 +199,7 @@ pub fn frame(alloc: Global, word: &[u8]) -> Result<Frame, LineFault>
     }
 }
 
-/// Is it the word of these letters?
+/// Does the word have exactly these letters?
 pub fn is_word(word: &[u8], letters: &[u8]) -> bool
     ensures { result ≡ bytes_eq letters.now word.now }
 {
@@ -257,7 +257,7 @@ pub fn tag_form(word: &[u8]) -> Result<TagForm, LineFault>
     Err(LineFault::Word)
 }
 
-/// Are the data of a client frame encrypted too?
+/// `int` or `conf`: is the data of client frames encrypted as well?
 pub fn protection(word: &[u8]) -> Result<bool, LineFault>
     ensures { result ≡ value_of_keyword protections word.now }
 {
@@ -270,7 +270,7 @@ pub fn protection(word: &[u8]) -> Result<bool, LineFault>
     Err(LineFault::Word)
 }
 
-/// Is it on?
+/// `on` or `off`: is it on?
 pub fn switch(word: &[u8]) -> Result<bool, LineFault>
     ensures { result ≡ value_of_keyword switches word.now }
 {
@@ -283,7 +283,7 @@ pub fn switch(word: &[u8]) -> Result<bool, LineFault>
     Err(LineFault::Word)
 }
 
-/// The keyword of a mode of validation.
+/// The keyword of a validation mode.
 pub fn validation(word: &[u8]) -> Result<Mode, LineFault>
     ensures { result ≡ value_of_keyword modes word.now }
 {

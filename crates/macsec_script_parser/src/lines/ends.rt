@@ -8,7 +8,7 @@ use crate::words;
 use crate::words::{decimal, is_word};
 use macsec_commands::{EndConfig, MAX_FRAME_LEN, MIN_MAX_FRAME};
 
-/// An end's configuration, from the words after `end`.
+/// Parses the words after `end`: the configuration of an end.
 fn configured_end(words: &[&[u8]]) -> Result<Line, LineFault>
     ensures { result ≡ read_line kinds (codes "end") (map (λ w. w.now) words.now) }
 {
@@ -31,7 +31,7 @@ fn configured_end(words: &[&[u8]]) -> Result<Line, LineFault>
     ))
 }
 
-/// A line of an end's configuration, from its keyword and the words after it; `None` if the keyword is none of those.
+/// Parses a line of an end's configuration: its keyword and the words after it. Returns `None` for any other keyword.
 pub fn end_line(keyword: &[u8], words: &[&[u8]]) -> Option<Result<Line, LineFault>>
     ensures some { IfSome result (λ line. line ≡ read_line kinds keyword.now (map (λ w. w.now) words.now)) }
     ensures none { IfNone result (kinds_of end_kinds keyword.now ≡ []) }

@@ -10,7 +10,7 @@ use crate::words::{frame_number, is_word};
 use macsec_commands::{End, Event};
 use std::alloc::Global;
 
-/// A client frame, from the words after `send`.
+/// Parses the words after `send`: a client frame.
 fn send(alloc: Global, at: End, words: &[&[u8]]) -> Result<Line, LineFault>
     ensures { Reads (read_line (kinds_at at) (codes "send") (map (λ w. w.now) words.now)) result }
 {
@@ -20,7 +20,7 @@ fn send(alloc: Global, at: End, words: &[&[u8]]) -> Result<Line, LineFault>
     Ok(Line::Event(Event::Send(at, words::frame(alloc, octets)?)))
 }
 
-/// A client frame at the uncontrolled port, from the words after `sendu`.
+/// Parses the words after `sendu`: a client frame at the uncontrolled port.
 fn send_uncontrolled(alloc: Global, at: End, words: &[&[u8]]) -> Result<Line, LineFault>
     ensures { Reads (read_line (kinds_at at) (codes "sendu") (map (λ w. w.now) words.now)) result }
 {
@@ -30,7 +30,7 @@ fn send_uncontrolled(alloc: Global, at: End, words: &[&[u8]]) -> Result<Line, Li
     Ok(Line::Event(Event::SendUncontrolled(at, words::frame(alloc, octets)?)))
 }
 
-/// A link frame that arrives at the end, from the words after `deliver`.
+/// Parses the words after `deliver`: a link frame that arrives at the end.
 fn deliver(at: End, words: &[&[u8]]) -> Result<Line, LineFault>
     ensures { result ≡ read_line (kinds_at at) (codes "deliver") (map (λ w. w.now) words.now) }
 {
@@ -40,7 +40,7 @@ fn deliver(at: End, words: &[&[u8]]) -> Result<Line, LineFault>
     Ok(Line::Event(Event::Deliver(at, frame_number(n)?)))
 }
 
-/// A line of a frame, from its keyword and the words after it; `None` if the keyword is none of those.
+/// Parses a line of a frame: its keyword and the words after it. Returns `None` for any other keyword.
 pub fn frame_line(
     alloc: Global,
     at: End,

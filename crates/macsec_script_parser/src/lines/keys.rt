@@ -11,7 +11,7 @@ use crate::words;
 use crate::words::{decimal, is_word, key_number};
 use macsec_commands::{Command, End, Event, NewKey, Suite};
 
-/// The suite of a key, from its word.
+/// Parses the suite of a key.
 fn some_suite(word: &[u8]) -> Result<Option<Suite>, LineFault>
     ensures { result ≡ map_ok Some (value_of_keyword suites word.now) }
 {
@@ -19,7 +19,7 @@ fn some_suite(word: &[u8]) -> Result<Option<Suite>, LineFault>
     Ok(Some(suite))
 }
 
-/// The SSCI and the salt of a key, from their words.
+/// Parses the SSCI and the salt of a key.
 fn ssci_and_salt(ssci: &[u8], salt: &[u8]) -> Result<(u32, [u8; 12]), LineFault>
     ensures { result ≡ and_then (map_ok as_ssci (octets_of 4 ssci.now)) (λ ssci. map_ok (λ salt. (ssci, salt)) (octets_of 12 salt.now)) }
 {
@@ -28,8 +28,7 @@ fn ssci_and_salt(ssci: &[u8], salt: &[u8]) -> Result<(u32, [u8; 12]), LineFault>
     Ok((ssci, salt))
 }
 
-/// The installation of a key, from its first three words, and from what was read of the words after them: its suite, and
-/// its SSCI and salt.
+/// The line that installs a key, from its first three words and the parsed suite, SSCI and salt.
 fn installation(
     at: End,
     number: &[u8],
@@ -60,8 +59,8 @@ fn installation(
     )))
 }
 
-/// The installation of a key, from the words after `key`, whose number says what follows the offset: nothing, a suite,
-/// an SSCI and a salt, or all three. An SSCI and a salt that are left out are zeros.
+/// Parses the words after `key`, which installs a key. Their count decides what follows the offset: nothing, a suite,
+/// an SSCI and a salt, or all three. If they are left out, the SSCI and the salt are zero.
 fn new_key(at: End, words: &[&[u8]]) -> Result<Line, LineFault>
     ensures { result ≡ read_line (kinds_at at) (codes "key") (map (λ w. w.now) words.now) }
 {
@@ -85,7 +84,7 @@ fn new_key(at: End, words: &[&[u8]]) -> Result<Line, LineFault>
     }
 }
 
-/// The retirement of a key, from the words after `retire`.
+/// Parses the words after `retire`, which retires a key.
 fn retire(at: End, words: &[&[u8]]) -> Result<Line, LineFault>
     ensures { result ≡ read_line (kinds_at at) (codes "retire") (map (λ w. w.now) words.now) }
 {
@@ -95,7 +94,7 @@ fn retire(at: End, words: &[&[u8]]) -> Result<Line, LineFault>
     Ok(Line::Event(Event::Command(at, Command::Retire(key_number(number)?))))
 }
 
-/// A line of a key, from its keyword and the words after it; `None` if the keyword is none of those.
+/// Parses a line of a key: its keyword and the words after it. Returns `None` for any other keyword.
 pub fn key_line(at: End, keyword: &[u8], words: &[&[u8]]) -> Option<Result<Line, LineFault>>
     ensures some { IfSome result (λ line. line ≡ read_line (kinds_at at) keyword.now (map (λ w. w.now) words.now)) }
     ensures none { IfNone result (kinds_of (key_kinds at) keyword.now ≡ []) }

@@ -10,7 +10,7 @@ use crate::words::{frame_number, is_word};
 use macsec_commands::Event;
 use std::alloc::Global;
 
-/// A link frame with one octet set, from the words after `alter`.
+/// Parses the words after `alter`: a link frame with one octet set.
 fn alter(words: &[&[u8]]) -> Result<Line, LineFault>
     ensures { result ≡ read_line kinds (codes "alter") (map (λ w. w.now) words.now) }
 {
@@ -23,7 +23,7 @@ fn alter(words: &[&[u8]]) -> Result<Line, LineFault>
     Ok(Line::Event(Event::Alter(n, place, octet)))
 }
 
-/// A link frame with zeros up to 60 octets, from the words after `pad`.
+/// Parses the words after `pad`: a link frame with zeros up to 60 octets.
 fn pad(words: &[&[u8]]) -> Result<Line, LineFault>
     ensures { result ≡ read_line kinds (codes "pad") (map (λ w. w.now) words.now) }
 {
@@ -33,7 +33,7 @@ fn pad(words: &[&[u8]]) -> Result<Line, LineFault>
     Ok(Line::Event(Event::Pad(frame_number(n)?)))
 }
 
-/// A link frame of these octets, from the words after `inject`.
+/// Parses the words after `inject`: a link frame of these octets.
 fn inject(alloc: Global, words: &[&[u8]]) -> Result<Line, LineFault>
     ensures { Reads (read_line kinds (codes "inject") (map (λ w. w.now) words.now)) result }
 {
@@ -43,7 +43,7 @@ fn inject(alloc: Global, words: &[&[u8]]) -> Result<Line, LineFault>
     Ok(Line::Event(Event::Inject(words::frame(alloc, octets)?)))
 }
 
-/// A line of the link, from its keyword and the words after it; `None` if the keyword is none of those.
+/// Parses a line of the link: its keyword and the words after it. Returns `None` for any other keyword.
 pub fn link_line(alloc: Global, keyword: &[u8], words: &[&[u8]]) -> Option<Result<Line, LineFault>>
     ensures some { IfSome result (λ line. Reads (read_line kinds keyword.now (map (λ w. w.now) words.now)) line) }
     ensures none { IfNone result (kinds_of link_kinds keyword.now ≡ []) }

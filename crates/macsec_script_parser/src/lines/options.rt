@@ -8,7 +8,7 @@ use crate::words;
 use crate::words::{decimal, is_word};
 use macsec_commands::{Command, End, Event};
 
-/// Whether frames are protected, from the words after `protect`.
+/// Parses the words after `protect`: whether frames are protected.
 fn protect(at: End, words: &[&[u8]]) -> Result<Line, LineFault>
     ensures { result ≡ read_line (kinds_at at) (codes "protect") (map (λ w. w.now) words.now) }
 {
@@ -18,7 +18,7 @@ fn protect(at: End, words: &[&[u8]]) -> Result<Line, LineFault>
     Ok(Line::Event(Event::Command(at, Command::Protect(words::switch(on)?))))
 }
 
-/// How received frames are validated, from the words after `validate`.
+/// Parses the words after `validate`: how received frames are validated.
 fn validate(at: End, words: &[&[u8]]) -> Result<Line, LineFault>
     ensures { result ≡ read_line (kinds_at at) (codes "validate") (map (λ w. w.now) words.now) }
 {
@@ -28,7 +28,7 @@ fn validate(at: End, words: &[&[u8]]) -> Result<Line, LineFault>
     Ok(Line::Event(Event::Command(at, Command::Validate(words::validation(mode)?))))
 }
 
-/// Whether late frames are dropped, and the window, from the words after `replay`.
+/// Parses the words after `replay`: whether late frames are dropped, and the window.
 fn replay(at: End, words: &[&[u8]]) -> Result<Line, LineFault>
     ensures { result ≡ read_line (kinds_at at) (codes "replay") (map (λ w. w.now) words.now) }
 {
@@ -40,7 +40,7 @@ fn replay(at: End, words: &[&[u8]]) -> Result<Line, LineFault>
     Ok(Line::Event(Event::Command(at, Command::Replay { protect, window })))
 }
 
-/// The tag form, from the words after `tag`.
+/// Parses the words after `tag`: the tag form.
 fn tag(at: End, words: &[&[u8]]) -> Result<Line, LineFault>
     ensures { result ≡ read_line (kinds_at at) (codes "tag") (map (λ w. w.now) words.now) }
 {
@@ -50,8 +50,8 @@ fn tag(at: End, words: &[&[u8]]) -> Result<Line, LineFault>
     Ok(Line::Event(Event::Command(at, Command::Tag(words::tag_form(form)?))))
 }
 
-/// A line that sets whether frames are protected, or how they are validated, from its keyword and the words after it;
-/// `None` if the keyword is none of those.
+/// Parses a line that sets whether frames are protected, or how they are validated: its keyword and the words after it.
+/// Returns `None` for any other keyword.
 pub fn protection_line(at: End, keyword: &[u8], words: &[&[u8]]) -> Option<Result<Line, LineFault>>
     ensures some { IfSome result (λ line. line ≡ read_line (kinds_at at) keyword.now (map (λ w. w.now) words.now)) }
     ensures none { IfNone result (kinds_of (protection_kinds at) keyword.now ≡ []) }
@@ -65,7 +65,7 @@ pub fn protection_line(at: End, keyword: &[u8], words: &[&[u8]]) -> Option<Resul
     None
 }
 
-/// A line that sets another option, from its keyword and the words after it; `None` if the keyword is none of those.
+/// Parses a line that sets another option: its keyword and the words after it. Returns `None` for any other keyword.
 pub fn option_line(at: End, keyword: &[u8], words: &[&[u8]]) -> Option<Result<Line, LineFault>>
     ensures some { IfSome result (λ line. line ≡ read_line (kinds_at at) keyword.now (map (λ w. w.now) words.now)) }
     ensures none { IfNone result (kinds_of (option_kinds at) keyword.now ≡ []) }

@@ -1,4 +1,4 @@
-//! The lines of an end's receive channels and their associations.
+//! The lines of an end's receive SCs and their SAs.
 
 ghost use Rattle.std.specs.Prelude.{◌≡◌, [], map, codes, Ok, IfSome, IfNone};
 ghost use Rattle.macsec_commands.specs.declared.command.Command.TheVariants as by;
@@ -11,7 +11,7 @@ use crate::words;
 use crate::words::{association, is_word, key_number};
 use macsec_commands::{Command, End, Event};
 
-/// The creation of a receive channel, from the words after `rxsc`.
+/// Parses the words after `rxsc`, which creates a receive SC.
 fn rx_sc(at: End, words: &[&[u8]]) -> Result<Line, LineFault>
     ensures { result ≡ read_line (kinds_at at) (codes "rxsc") (map (λ w. w.now) words.now) }
 {
@@ -21,7 +21,7 @@ fn rx_sc(at: End, words: &[&[u8]]) -> Result<Line, LineFault>
     Ok(Line::Event(Event::Command(at, Command::RxSc(words::sci(sci)?))))
 }
 
-/// The deletion of a receive channel, from the words after `rxscdel`.
+/// Parses the words after `rxscdel`, which deletes a receive SC.
 fn rx_sc_del(at: End, words: &[&[u8]]) -> Result<Line, LineFault>
     ensures { result ≡ read_line (kinds_at at) (codes "rxscdel") (map (λ w. w.now) words.now) }
 {
@@ -31,7 +31,7 @@ fn rx_sc_del(at: End, words: &[&[u8]]) -> Result<Line, LineFault>
     Ok(Line::Event(Event::Command(at, Command::RxScDel(words::sci(sci)?))))
 }
 
-/// The creation of a receive association, from its first four words, and from what was read as the SSCI of its sender.
+/// The line that creates a receive SA, from its first four words and the parsed SSCI of its sender.
 fn association_with(
     at: End,
     sci: &[u8],
@@ -61,8 +61,8 @@ fn association_with(
     )))
 }
 
-/// The creation of a receive association, from the words after `rxsa`. The last one, the SSCI of its sender, can be
-/// left out and is zero then.
+/// Parses the words after `rxsa`, which creates a receive SA. The last word, the SSCI of its sender, is optional: zero
+/// if it is left out.
 fn rx_sa(at: End, words: &[&[u8]]) -> Result<Line, LineFault>
     ensures { result ≡ read_line (kinds_at at) (codes "rxsa") (map (λ w. w.now) words.now) }
 {
@@ -75,7 +75,7 @@ fn rx_sa(at: End, words: &[&[u8]]) -> Result<Line, LineFault>
     }
 }
 
-/// The enabling of a receive association, from the words after `rxon`.
+/// Parses the words after `rxon`, which enables a receive SA.
 fn rx_on(at: End, words: &[&[u8]]) -> Result<Line, LineFault>
     ensures { result ≡ read_line (kinds_at at) (codes "rxon") (map (λ w. w.now) words.now) }
 {
@@ -87,7 +87,7 @@ fn rx_on(at: End, words: &[&[u8]]) -> Result<Line, LineFault>
     Ok(Line::Event(Event::Command(at, Command::RxOn(sci, an))))
 }
 
-/// The disabling of a receive association, from the words after `rxoff`.
+/// Parses the words after `rxoff`, which disables a receive SA.
 fn rx_off(at: End, words: &[&[u8]]) -> Result<Line, LineFault>
     ensures { result ≡ read_line (kinds_at at) (codes "rxoff") (map (λ w. w.now) words.now) }
 {
@@ -99,7 +99,7 @@ fn rx_off(at: End, words: &[&[u8]]) -> Result<Line, LineFault>
     Ok(Line::Event(Event::Command(at, Command::RxOff(sci, an))))
 }
 
-/// The lowest acceptable packet number of a receive association, from the words after `rxlow`.
+/// Parses the words after `rxlow`: the lowest acceptable packet number of a receive SA.
 fn rx_low(at: End, words: &[&[u8]]) -> Result<Line, LineFault>
     ensures { result ≡ read_line (kinds_at at) (codes "rxlow") (map (λ w. w.now) words.now) }
 {
@@ -112,7 +112,7 @@ fn rx_low(at: End, words: &[&[u8]]) -> Result<Line, LineFault>
     Ok(Line::Event(Event::Command(at, Command::RxLow { sci, an, pn })))
 }
 
-/// The deletion of a receive association, from the words after `rxdel`.
+/// Parses the words after `rxdel`, which deletes a receive SA.
 fn rx_del(at: End, words: &[&[u8]]) -> Result<Line, LineFault>
     ensures { result ≡ read_line (kinds_at at) (codes "rxdel") (map (λ w. w.now) words.now) }
 {
@@ -124,7 +124,7 @@ fn rx_del(at: End, words: &[&[u8]]) -> Result<Line, LineFault>
     Ok(Line::Event(Event::Command(at, Command::RxDel(sci, an))))
 }
 
-/// A line of a receive channel, from its keyword and the words after it; `None` if the keyword is none of those.
+/// Parses a line of a receive SC: its keyword and the words after it. Returns `None` for any other keyword.
 pub fn channel_line(at: End, keyword: &[u8], words: &[&[u8]]) -> Option<Result<Line, LineFault>>
     ensures some { IfSome result (λ line. line ≡ read_line (kinds_at at) keyword.now (map (λ w. w.now) words.now)) }
     ensures none { IfNone result (kinds_of (channel_kinds at) keyword.now ≡ []) }
@@ -138,7 +138,7 @@ pub fn channel_line(at: End, keyword: &[u8], words: &[&[u8]]) -> Option<Result<L
     None
 }
 
-/// A line of a receive association, from its keyword and the words after it; `None` if the keyword is none of those.
+/// Parses a line of a receive SA: its keyword and the words after it. Returns `None` for any other keyword.
 pub fn receive_line(at: End, keyword: &[u8], words: &[&[u8]]) -> Option<Result<Line, LineFault>>
     ensures some { IfSome result (λ line. line ≡ read_line (kinds_at at) keyword.now (map (λ w. w.now) words.now)) }
     ensures none { IfNone result (kinds_of (receive_kinds at) keyword.now ≡ []) }

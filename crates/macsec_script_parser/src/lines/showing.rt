@@ -7,7 +7,7 @@ use crate::lines::{Line, LineFault};
 use crate::words::is_word;
 use macsec_commands::End;
 
-/// The showing of counters, from the words after `counters`.
+/// Parses the words after `counters`, which shows counters.
 fn counters(at: End, words: &[&[u8]]) -> Result<Line, LineFault>
     ensures { result ≡ read_line (kinds_at at) (codes "counters") (map (λ w. w.now) words.now) }
 {
@@ -17,7 +17,7 @@ fn counters(at: End, words: &[&[u8]]) -> Result<Line, LineFault>
     Ok(Line::Counters(at))
 }
 
-/// The showing of packet numbers, from the words after `numbers`.
+/// Parses the words after `numbers`, which shows packet numbers.
 fn numbers(at: End, words: &[&[u8]]) -> Result<Line, LineFault>
     ensures { result ≡ read_line (kinds_at at) (codes "numbers") (map (λ w. w.now) words.now) }
 {
@@ -27,7 +27,8 @@ fn numbers(at: End, words: &[&[u8]]) -> Result<Line, LineFault>
     Ok(Line::Numbers(at))
 }
 
-/// A line that shows something, from its keyword and the words after it; `None` if the keyword is none of those.
+/// Parses a line that shows counters or packet numbers: its keyword and the words after it. Returns `None` for any
+/// other keyword.
 pub fn show_line(at: End, keyword: &[u8], words: &[&[u8]]) -> Option<Result<Line, LineFault>>
     ensures some { IfSome result (λ line. line ≡ read_line (kinds_at at) keyword.now (map (λ w. w.now) words.now)) }
     ensures none { IfNone result (kinds_of (show_kinds at) keyword.now ≡ []) }

@@ -1,4 +1,4 @@
-//! The lines of an end's transmit associations.
+//! The lines of an end's transmit SAs.
 
 ghost use Rattle.std.specs.Prelude.{◌≡◌, [], map, codes, IfSome, IfNone};
 ghost use Rattle.macsec_script_parser.specs.Kinds.{read_line, kinds_at, kinds_of, transmit_kinds};
@@ -8,7 +8,7 @@ use crate::words;
 use crate::words::{association, is_word, key_number};
 use macsec_commands::{Command, End, Event};
 
-/// The creation of a transmit association, from the words after `txsa`.
+/// Parses the words after `txsa`, which creates a transmit SA.
 fn tx_sa(at: End, words: &[&[u8]]) -> Result<Line, LineFault>
     ensures { result ≡ read_line (kinds_at at) (codes "txsa") (map (λ w. w.now) words.now) }
 {
@@ -30,7 +30,7 @@ fn tx_sa(at: End, words: &[&[u8]]) -> Result<Line, LineFault>
     )))
 }
 
-/// The enabling of a transmit association, from the words after `txon`.
+/// Parses the words after `txon`, which enables a transmit SA.
 fn tx_on(at: End, words: &[&[u8]]) -> Result<Line, LineFault>
     ensures { result ≡ read_line (kinds_at at) (codes "txon") (map (λ w. w.now) words.now) }
 {
@@ -40,7 +40,7 @@ fn tx_on(at: End, words: &[&[u8]]) -> Result<Line, LineFault>
     Ok(Line::Event(Event::Command(at, Command::TxOn(association(an)?))))
 }
 
-/// The disabling of a transmit association, from the words after `txoff`.
+/// Parses the words after `txoff`, which disables a transmit SA.
 fn tx_off(at: End, words: &[&[u8]]) -> Result<Line, LineFault>
     ensures { result ≡ read_line (kinds_at at) (codes "txoff") (map (λ w. w.now) words.now) }
 {
@@ -50,7 +50,7 @@ fn tx_off(at: End, words: &[&[u8]]) -> Result<Line, LineFault>
     Ok(Line::Event(Event::Command(at, Command::TxOff(association(an)?))))
 }
 
-/// The deletion of a transmit association, from the words after `txdel`.
+/// Parses the words after `txdel`, which deletes a transmit SA.
 fn tx_del(at: End, words: &[&[u8]]) -> Result<Line, LineFault>
     ensures { result ≡ read_line (kinds_at at) (codes "txdel") (map (λ w. w.now) words.now) }
 {
@@ -60,7 +60,7 @@ fn tx_del(at: End, words: &[&[u8]]) -> Result<Line, LineFault>
     Ok(Line::Event(Event::Command(at, Command::TxDel(association(an)?))))
 }
 
-/// A line of a transmit association, from its keyword and the words after it; `None` if the keyword is none of those.
+/// Parses a line of a transmit SA: its keyword and the words after it. Returns `None` for any other keyword.
 pub fn transmit_line(at: End, keyword: &[u8], words: &[&[u8]]) -> Option<Result<Line, LineFault>>
     ensures some { IfSome result (λ line. line ≡ read_line (kinds_at at) keyword.now (map (λ w. w.now) words.now)) }
     ensures none { IfNone result (kinds_of (transmit_kinds at) keyword.now ≡ []) }

@@ -1,5 +1,5 @@
--- By these tactics alone: without these proofs the prover tries others before them, which takes longer, and on a
--- mutant it tries all.
+-- By these tactics alone. Without these proofs the prover tries others first, which takes longer, and on a mutant it
+-- tries all of them.
 use Rattle.std.proofs.Common.{arith}
 use Rattle.std.proofs.lemmas.Grind.{common_steps}
 use Rattle.macsec_script_parser.proofs.lines.line_from.Goals as goal

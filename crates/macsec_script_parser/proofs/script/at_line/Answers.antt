@@ -1,4 +1,4 @@
--- Each fault of a line is that fault of the script, at its number: by the definition, at the fault that it is.
+-- Each fault of a line is the same fault of the script, with the line number: by the definition, one case for each.
 use Rattle.std.proofs.Common.{ap, sym}
 use Rattle.macsec_script_parser.specs.Scripts.{at_line}
 use Rattle.macsec_script_parser.proofs.script.at_line.Goals as goal

@@ -1,4 +1,4 @@
--- By this alone: on a mutant the prover tries nothing else.
+-- By this proof alone, so that the prover tries nothing else on a mutant.
 use Rattle.std.proofs.Common.{refl}
 use Rattle.macsec_script_parser.proofs.script.has_too_many_octets.Goals as goal
 

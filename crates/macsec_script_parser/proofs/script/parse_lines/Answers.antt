@@ -1,5 +1,5 @@
--- Line after line: what was read before the index, and the place then, give what the whole text gives; a line at fault,
--- or in a wrong place, ends it there.
+-- By lines: the lines before the index, and the place reached, make the same result as the whole text. A faulty line,
+-- or one that is out of order, ends the parsing there.
 use Rattle.std.proofs.Common.{arith, sym, ◌∙◌, ap, not}
 use Rattle.std.proofs.lemmas.Grind.{common_steps}
 use Rattle.macsec_script_parser.proofs.LinesLeft.{on_after_skipped, on_after_line, stopped_unwanted, parses_fault}

@@ -1,4 +1,4 @@
--- By this alone: on a mutant the prover tries nothing else.
+-- By this proof alone, so that the prover tries nothing else on a mutant.
 use Rattle.macsec_script_parser.proofs.script.parse_script.Goals as goal
 
 pub returns : goal.returns

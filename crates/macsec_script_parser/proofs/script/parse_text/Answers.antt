@@ -1,4 +1,4 @@
--- A text that is not too long has its lines parsed, from the first place on.
+-- If a text is not too long, its lines are parsed from the first place on.
 use Rattle.std.proofs.Common.{arith, rules}
 use Rattle.std.proofs.lemmas.Grind.{common_steps}
 use Rattle.macsec_script_parser.proofs.script.parse_text.Goals as goal

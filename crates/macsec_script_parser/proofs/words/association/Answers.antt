@@ -1,4 +1,4 @@
--- By this tactic alone: without these proofs the prover tries others before it, which takes longer.
+-- By this tactic alone. Without these proofs the prover tries others first, which takes longer.
 use Rattle.std.proofs.Common.{arith}
 use Rattle.std.proofs.lemmas.Grind.{common_steps}
 use Rattle.macsec_script_parser.proofs.words.association.Goals as goal

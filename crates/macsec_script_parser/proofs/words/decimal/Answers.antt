@@ -1,5 +1,4 @@
--- Once the digits read so far are above the highest number, the whole word is; and a number below the lowest is out of
--- its range.
+-- If the digits read so far exceed the highest number, the whole word does. A number below the lowest is out of range.
 use Rattle.std.proofs.Common.{arith}
 use Rattle.std.proofs.lemmas.Grind.{common_steps}
 use Rattle.macsec_script_parser.proofs.Decimals.{too_high, stays_high}

@@ -1,4 +1,4 @@
--- The octet is the first of the one octet that is read.
+-- One octet is read, and it is the result.
 use Rattle.std.proofs.Common.{◌∙◌, ap, sym}
 use Rattle.macsec_script_parser.specs.Fields.{as_octet, map_ok}
 use Rattle.macsec_script_parser.proofs.words.octet.Goals as goal

@@ -1,4 +1,4 @@
--- By the word, in the order of the code: each test that failed is rewritten in the definition, which tests the same.
+-- One case for each word, in the order of the code. The definition makes the same tests; each failed one is rewritten.
 use Rattle.std.proofs.Common.{sym, ◌∙◌}
 use Rattle.macsec_script_parser.proofs.words.tag_form.Goals as goal
 

@@ -1,4 +1,4 @@
--- By the definition, at the fault that it is.
+-- By the definition, one case for each fault.
 use Rattle.std.proofs.Common.{ap, sym}
 use Rattle.macsec_script_parser.specs.Faults.{fault_line}
 use Rattle.macsec_script_parser.proofs.faults.ScriptFault.line.Goals as goal

@@ -1,4 +1,4 @@
--- The frame of its word, or what is wrong with the word.
+-- The line has the frame of its word, or the fault of the word.
 use Rattle.std.proofs.Common.{sym, ap, ◌∙◌, refl}
 use Rattle.std.specs.Prelude.{codes, Ok, Err}
 use Rattle.std.proofs.lemmas.Result.{err_from_is_err_and}

@@ -1,4 +1,4 @@
--- By the number of the words, each kind of key as it is read from the first three words and from those after them.
+-- One case for each count of words. Each kind of key is read from the first three words and the words after them.
 use Rattle.std.proofs.Common.{◌≡◌, ◌∙◌}
 use Rattle.std.specs.Prelude.{codes}
 use Rattle.macsec_script_parser.specs.Kinds.{kinds_at, read_line}

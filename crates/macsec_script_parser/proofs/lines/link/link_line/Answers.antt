@@ -1,4 +1,4 @@
--- By the keyword: each line is that of its kind in the table, and with another keyword none of these.
+-- For each keyword, the line is the one that its kind in the table makes. Any other keyword is not in this group.
 use Rattle.std.proofs.Common.{map, sym, ◌∙◌}
 use Rattle.std.specs.Prelude.{codes}
 use Rattle.macsec_script_parser.specs.Kinds.{kinds, read_line}

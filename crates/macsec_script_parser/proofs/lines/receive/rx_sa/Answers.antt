@@ -1,4 +1,4 @@
--- By the number of the words, each kind of association as it is read from the first four words and the SSCI.
+-- One case for each count of words. Each kind of receive SA is read from the first four words and the SSCI.
 use Rattle.std.proofs.Common.{◌≡◌}
 use Rattle.std.specs.Prelude.{codes}
 use Rattle.macsec_script_parser.specs.Kinds.{kinds_at, read_line}

@@ -1,4 +1,4 @@
--- Its word, read as its kind says.
+-- The word is read as the table says for this kind.
 use Rattle.std.proofs.Common.{sym, ap, ◌∙◌, refl}
 use Rattle.std.specs.Prelude.{Err}
 use Rattle.std.proofs.lemmas.Result.{err_from_is_err_and}

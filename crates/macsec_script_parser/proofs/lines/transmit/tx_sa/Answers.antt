@@ -1,4 +1,4 @@
--- Its words, read from left to right as its kind says.
+-- The words are read from left to right, as the table says for this kind.
 use Rattle.std.proofs.Common.{arith, sym, ap, ◌∙◌, refl}
 use Rattle.std.specs.Prelude.{Err}
 use Rattle.std.proofs.lemmas.Grind.{common_steps}
@@ -27,7 +27,7 @@ returns-in_err-next c =
     (taken _ (sym c.key_number.ensures ∙ c.in_ok-key.was)
     (failed _ (sym c.packet_number.ensures ∙ c.in_err-next.was))))
 
--- by a tactic, which cites no step: so a word that is read before its turn breaks the goal, and not a name
+-- by a tactic that names no step, so that a word read out of order breaks the goal and not a name
 pub returns-in_err-conf : goal.returns-in_err-conf
 returns-in_err-conf c = grind (arith, common_steps)
 
