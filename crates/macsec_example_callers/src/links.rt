@@ -1,0 +1,33 @@
+//! Runs two endpoints and the link between them, by events or by a script.
+
+ghost use Rattle.std.specs.Prelude.{OnOk};
+ghost use Rattle.macsec_script.specs.Promised.{IsPromised};
+
+use macsec_link::{EndConfig, Event, World, WorldFault};
+use macsec_script::{ScriptFault, run_script};
+use std::alloc::Global;
+
+/// Two endpoints and their link after these events, in order. Fails with the fault of a configuration, or with the first
+/// event that did not happen.
+pub fn world_after(
+    alloc: Global,
+    a: EndConfig,
+    b: EndConfig,
+    events: &[Event],
+) -> Result<World, WorldFault> {
+    let mut world = World::new(alloc, a, b)?;
+    for event in events {
+        world.step(event)?;
+    }
+    Ok(world)
+}
+
+/// What a script prints. The four promises hold of the run of its two ends.
+pub fn text_of_script(alloc: Global, script: &[u8]) -> Result<Vec<u8>, ScriptFault>
+    ensures promised { OnOk result (IsPromised script.now) }
+{
+    let mut reader = script;
+    let mut text = Vec::new(alloc);
+    run_script(alloc, &mut reader, &mut text)?;
+    Ok(text)
+}
