@@ -5,13 +5,18 @@ use Rattle.macsec_rx.specs.Verdicts.{verdict_name}
 use Rattle.macsec_secy.specs.declared.answers.DropReason.TheVariants.{NoSa, TooLong}
 use Rattle.macsec_secy.specs.declared.fault.FrameFault.{FrameFault}
 use Rattle.macsec_secy.specs.declared.fault.FrameFault.TheVariants.{Short, Long}
+use Rattle.macsec_secy.specs.FaultNumbers.{number_of_frame_fault}
 use Rattle.macsec_secy.specs.Step.{Output, done, refused, leaves, dropped_no_sa, dropped_too_long, received, fault}
 use Rattle.macsec_script_printer.specs.Outcomes.{drop_text}
 
+-- the name of a frame's fault
+abbrev pub frame_fault_name : FrameFault → List ℕ
+frame_fault_name Short = codes "Short"
+frame_fault_name Long = codes "Long"
+
 -- the number and the name of a frame's fault
 abbrev pub frame_fault_text : FrameFault → List ℕ
-frame_fault_text Short = codes "1 Short"
-frame_fault_text Long = codes "2 Long"
+frame_fault_text why = decimal (number_of_frame_fault why) ++ codes " " ++ frame_fault_name why
 
 -- the frame was captured only in part
 abbrev pub partial_line : ℕ → List ℕ

@@ -4,19 +4,18 @@ ghost use Rattle.std.specs.Prelude.{◌≡◌, OnOk, option_copied};
 ghost use Rattle.std.specs.Io.KnownBytes.{Appends};
 ghost use Rattle.macsec_secy.specs.Answers.{output_of_received, output_of_sent};
 ghost use Rattle.macsec_secy.specs.Step.{fault};
-ghost use Rattle.macsec_capture.specs.Lines.{frame_fault_text, frame_line, partial_line, verdict_line};
+ghost use Rattle.macsec_capture.specs.Lines.{frame_fault_name, frame_line, partial_line, verdict_line};
 
 use macsec_script_printer::drop_text;
 use macsec_secy::{FrameFault, Received, Sent, Verdict};
 use std::io::{self, Write};
 
-/// The number and the name of a frame's fault, as they are printed.
-fn frame_fault_text(fault: FrameFault) -> &'static str
-    ensures { result.now ≡ frame_fault_text fault }
+fn frame_fault_name(fault: FrameFault) -> &'static str
+    ensures { result.now ≡ frame_fault_name fault }
 {
     match fault {
-        FrameFault::Short => "1 Short",
-        FrameFault::Long => "2 Long",
+        FrameFault::Short => "Short",
+        FrameFault::Long => "Long",
     }
 }
 
@@ -27,12 +26,13 @@ pub(crate) fn write_partial<T: Write>(text: &mut T, k: u32) -> io::Result<()>
     writeln!(text, "record {k} partial")
 }
 
-/// Writes the line of a frame that has a fault.
+/// Writes the line of a frame that has a fault: the fault's number and its name.
 fn write_fault<T: Write>(text: &mut T, k: u32, why: FrameFault) -> io::Result<()>
     ensures { OnOk result (Appends (T.contents text.old) (T.contents text.new) (frame_line k (fault why))) }
 {
-    let name = frame_fault_text(why);
-    writeln!(text, "record {k} fault {name}")
+    let number = why.number();
+    let name = frame_fault_name(why);
+    writeln!(text, "record {k} fault {number} {name}")
 }
 
 /// Writes the line of a client frame: the length in octets of the frame that is sent for it, or why none is sent.
