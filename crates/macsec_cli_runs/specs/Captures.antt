@@ -14,13 +14,25 @@ capture_end (Err fault) text = Err fault
 capture_end (Ok done) (Err error) = Err (capture.Script script.Write)
 capture_end (Ok done) (Ok flushed) = Ok tt
 
--- the arguments are valid, and only one of the three files can't be opened
+-- the failure of the program for a fault of a run
+abbrev pub failure_of : CaptureFault → Failure
+failure_of (capture.Script fault) = Script fault
+failure_of (capture.Pcap fault) = Pcap fault
+
+-- the result of the program for the result of a run
+abbrev pub reported : Result (Unit {0}) CaptureFault → Result (Unit {0}) Failure
+reported (Ok done) = Ok tt
+reported (Err fault) = Err (failure_of fault)
+
+-- the program reports the result of a run
+abbrev pub Reports : Result (Unit {0}) Failure → (Result (Unit {0}) CaptureFault → Type 0) → Type 0
+Reports result Gives = (done : Result (Unit {0}) CaptureFault) × (result ≡ reported done) × Gives done
+
+-- one of the three files can't be opened, or the run has a fault
 abbrev pub CaptureFailsAs : CapturePaths → Failure → Type 0
-CaptureFailsAs paths Usage = ⊥
 CaptureFailsAs paths (CannotOpen path) =
     (path.now ≡ paths.config.now) ⊎ ((path.now ≡ paths.input.now) ⊎ (path.now ≡ paths.output.now))
-CaptureFailsAs paths (Script fault) = Unit {0}
-CaptureFailsAs paths (Pcap fault) = Unit {0}
+CaptureFailsAs paths failure = (fault : CaptureFault) × (failure ≡ failure_of fault)
 
 -- no line is printed if a file can't be opened, or if the configuration has a fault, can't be read or runs out of
 -- memory

@@ -3,7 +3,7 @@
 ghost use Rattle.std.specs.Prelude.{◌≡◌, IfSome, IfErr};
 ghost use Rattle.macsec_capture.specs.Captured.{captured};
 ghost use Rattle.macsec_capture.specs.Runs.{CaptureGives, LeavesBoth};
-ghost use Rattle.macsec_cli_runs.specs.Captures.{CaptureFailsAs, LeavesLines, capture_end};
+ghost use Rattle.macsec_cli_runs.specs.Captures.{CaptureFailsAs, LeavesLines, Reports, capture_end, failure_of, reported};
 
 use crate::failures::Failure;
 use macsec_capture::{CaptureFault, Direction, run_capture};
@@ -36,24 +36,44 @@ fn capture_end(done: Result<(), CaptureFault>, text: io::Result<()>) -> Result<(
     }
 }
 
+/// The failure of the program for a fault of a run.
+fn failure_of<'a>(fault: CaptureFault) -> Failure<'a>
+    ensures { result ≡ failure_of fault }
+{
+    match fault {
+        CaptureFault::Script(fault) => Failure::Script(fault),
+        CaptureFault::Pcap(fault) => Failure::Pcap(fault),
+    }
+}
+
+/// The result of the program for the result of a run.
+fn reported<'a>(done: Result<(), CaptureFault>) -> Result<(), Failure<'a>>
+    ensures { result ≡ reported done }
+{
+    match done {
+        Ok(()) => Ok(()),
+        Err(fault) => Err(failure_of(fault)),
+    }
+}
+
 /// Runs a capture like `run_capture`, which flushes the output, and then flushes the text.
-fn run_and_flush<C: Read, R: Read, W: Write, T: Write>(
+fn run_and_flush<'a, C: Read, R: Read, W: Write, T: Write>(
     alloc: Global,
     direction: Direction,
     config: &mut C,
     input: &mut R,
     output: &mut W,
     text: &mut T,
-) -> Result<(), CaptureFault>
-    ensures run { IfSome (C.remaining config.old) (λ config. IfSome (R.remaining input.old) (λ file.
+) -> Result<(), Failure<'a>>
+    ensures run { Reports result (λ done. IfSome (C.remaining config.old) (λ config. IfSome (R.remaining input.old) (λ file.
         CaptureGives (captured direction config file) (record { output = W.contents output.old; text = T.contents text.old })
-        (record { output = W.contents output.new; text = T.contents text.new }) result)) }
-    ensures unwritten { IfErr result (LeavesBoth (record { output = W.contents output.old; text = T.contents text.old })
-        (record { output = W.contents output.new; text = T.contents text.new })) }
+        (record { output = W.contents output.new; text = T.contents text.new }) done))) }
+    ensures unwritten { Reports result (λ done. IfErr done (LeavesBoth (record { output = W.contents output.old; text = T.contents text.old })
+        (record { output = W.contents output.new; text = T.contents text.new }))) }
 {
     let done = run_capture(alloc, direction, config, input, output, text);
     let flushed = text.flush();
-    capture_end(done, flushed)
+    reported(capture_end(done, flushed))
 }
 
 /// Runs a capture like `run_capture` over the files at these paths, with buffers, and flushes output and text. First
@@ -83,9 +103,5 @@ pub fn capture_named<'a, H: Files, T: Write>(
     ) else {
         return Err(Failure::Pcap(PcapFault::Memory));
     };
-    match run_and_flush(alloc, direction, &mut config, &mut input, &mut output, text) {
-        Ok(()) => Ok(()),
-        Err(CaptureFault::Script(fault)) => Err(Failure::Script(fault)),
-        Err(CaptureFault::Pcap(fault)) => Err(Failure::Pcap(fault)),
-    }
+    run_and_flush(alloc, direction, &mut config, &mut input, &mut output, text)
 }
