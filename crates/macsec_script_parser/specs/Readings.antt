@@ -27,3 +27,10 @@ IsInputFault input ScriptLong = max_script_len < length input
 IsInputFault input Memory = Unit {0}
 IsInputFault input Read = Unit {0}
 IsInputFault input other = ⊥
+
+-- why an input was not read completely, whatever it is
+abbrev pub IsReadFault : ScriptFault → Type 0
+IsReadFault ScriptLong = Unit {0}
+IsReadFault Memory = Unit {0}
+IsReadFault Read = Unit {0}
+IsReadFault other = ⊥

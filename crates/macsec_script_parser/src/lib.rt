@@ -5,10 +5,10 @@
 //! table of the kinds of lines says (`specs/Kinds.antt`, `specs/Scripts.antt`), or `Memory`. `parse_config` does the
 //! same for the configuration of one end: the `end` line of A, then commands at A, and nothing else. The functions
 //! `name`, `line` and `status` of a `ScriptFault` return what `specs/Faults.antt` defines. If its `tell` returns `Ok`,
-//! what it wrote, to a writer whose octets a contract can name, is the one line of the fault. `read_text`, over a
-//! reader whose octets a contract can name, returns all of them, at most 1,048,576; or `ScriptLong`, only if there are
-//! more; or `Memory` or `Read`. A law: if a text has no fault, an endpoint can be created from each configuration in
-//! its lines.
+//! what it wrote, to a writer whose octets a contract can name, is the one line of the fault. `read_text` returns at
+//! most 1,048,576 octets, or `ScriptLong`, `Memory` or `Read`. Over a reader whose octets a contract can name it
+//! returns all of them, and `ScriptLong` only if there are more. A law: if a text has no fault, an endpoint can be
+//! created from each configuration in its lines.
 //!
 //! Proved of the definitions: more than eighty worked lines, and ten configurations (`proofs/Examples.antt`).
 #![tactic(auto)]

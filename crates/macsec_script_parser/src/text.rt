@@ -2,7 +2,7 @@
 
 ghost use Rattle.std.specs.Prelude.{◌≡◌, ◌≤◌, length, IfSome, MatchResult};
 ghost use Rattle.macsec_script_parser.specs.Limits.{max_script_len};
-ghost use Rattle.macsec_script_parser.specs.Readings.{IsInputFault};
+ghost use Rattle.macsec_script_parser.specs.Readings.{IsInputFault, IsReadFault};
 
 use crate::faults::ScriptFault;
 use crate::script::MAX_SCRIPT_LEN;
@@ -12,8 +12,9 @@ use std::io::Read;
 /// Reads everything that a reader has, at most `MAX_SCRIPT_LEN` octets. Returns `ScriptLong` if it has more, or
 /// `Memory`, or `Read`.
 pub fn read_text<R: Read>(alloc: Global, reader: &mut R) -> Result<Vec<u8>, ScriptFault>
-    ensures { IfSome (R.remaining reader.old) (λ all. MatchResult result
+    ensures text { IfSome (R.remaining reader.old) (λ all. MatchResult result
         (λ text. (text.items ≡ all) × (length all ≤ max_script_len)) (λ fault. IsInputFault all fault)) }
+    ensures fits { MatchResult result (λ text. length text.items ≤ max_script_len) IsReadFault }
 {
     let mut text = Vec::new(alloc);
     let mut piece = [0u8; 4096];
