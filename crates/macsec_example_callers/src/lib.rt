@@ -4,7 +4,8 @@
 //! Proved, from the contracts of what they call: what is sealed and opened; the packet number and SCI of a frame; and
 //! that sending or receiving a frame is one step of the machine. The endpoints that `sender` and `receiver` create are
 //! in the machine's state after their commands, one step for each. The four promises hold of each script that
-//! `text_of_script` runs. The callers in `captures` and `world_after` have no clause: they are safe and end.
+//! `text_of_script` runs. The callers in `captures`, `world_after` and `text_of_reader` have no clause: they are safe
+//! and end.
 #![tactic(auto)]
 
 pub mod captures;

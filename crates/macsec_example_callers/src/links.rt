@@ -4,8 +4,9 @@ ghost use Rattle.std.specs.Prelude.{OnOk};
 ghost use Rattle.macsec_script.specs.Promised.{IsPromised};
 
 use macsec_link::{EndConfig, Event, World, WorldFault};
-use macsec_script::{ScriptFault, run_script};
+use macsec_script::{ScriptFault, run_script, run_text};
 use std::alloc::Global;
+use std::io::Read;
 
 /// Two endpoints and their link after these events, in order. Fails with the fault of a configuration, or with the first
 /// event that did not happen.
@@ -26,8 +27,14 @@ pub fn world_after(
 pub fn text_of_script(alloc: Global, script: &[u8]) -> Result<Vec<u8>, ScriptFault>
     ensures promised { OnOk result (IsPromised script.now) }
 {
-    let mut reader = script;
     let mut text = Vec::new(alloc);
-    run_script(alloc, &mut reader, &mut text)?;
+    run_text(alloc, &mut text, script)?;
+    Ok(text)
+}
+
+/// What the script that a reader has prints.
+pub fn text_of_reader<R: Read>(alloc: Global, reader: &mut R) -> Result<Vec<u8>, ScriptFault> {
+    let mut text = Vec::new(alloc);
+    run_script(alloc, reader, &mut text)?;
     Ok(text)
 }

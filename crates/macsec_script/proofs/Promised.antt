@@ -1,6 +1,6 @@
 -- The promises hold of a script's run if its lines were all carried out.
-use Rattle.std.proofs.Common.{◌≡◌, ℕ, List, length, sym, ◌∙◌, ap, subst}
-use Rattle.std.specs.Prelude.{◌≤◌, IfOk, IfSome, OnOk, Option, Some, None, Result, Ok, Err}
+use Rattle.std.proofs.Common.{◌≡◌, ℕ, List, length, sym, subst}
+use Rattle.std.specs.Prelude.{◌≤◌, IfOk, IfSome, OnOk, Option, Some, Result, Ok, Err}
 use Rattle.macsec_commands.specs.declared.config.EndConfig.{EndConfig}
 use Rattle.macsec_commands.specs.declared.event.Event.{Event}
 use Rattle.macsec_link.specs.World.{WorldState, new_world}
@@ -11,6 +11,7 @@ use Rattle.macsec_script_parser.specs.declared.faults.ScriptFault.{ScriptFault}
 use Rattle.macsec_script_parser.specs.Scripts.{NumberedLine, script_of}
 use Rattle.macsec_script.specs.Printed.{TwoEnds, two_ends}
 use Rattle.macsec_script.specs.Promised.{ArePromised, IsPromised, events_of}
+use Rattle.macsec_script.proofs.Unwritten.{carried_over}
 
 -- ---- the ends of a script
 
@@ -26,18 +27,17 @@ lines_promised law lines a b said w ends made sound (Ok done) stays =
     (law a b (events_of said) (subst (λ (v : WorldState). StaysSound v (events_of said)) made (stays sound)))
 lines_promised law lines a b said w ends made sound (Err fault) stays = tt
 
--- ---- the script that was read
+-- ---- the script
 
-promised_of : (known : Option (List ℕ)) (script : List ℕ) (lines : List NumberedLine) →
-    IfSome known (λ all. (script ≡ all) × (length all ≤ 1048576)) → script_of script ≡ Ok lines → ArePromised lines → IfSome known IsPromised
-promised_of None script lines read parsed hold = tt
-promised_of (Some all) script lines read parsed hold =
-    subst IsPromised read.0 (subst (λ (r : Result (List NumberedLine) ScriptFault). IfOk r ArePromised) (sym parsed) hold)
+-- the same over a slice of the lines
+pub text_promised : (script : List ℕ) (lines given : List NumberedLine) → script_of script ≡ Ok lines → given ≡ lines →
+    (answer : Result (Unit {0}) ScriptFault) → OnOk answer (ArePromised given) → OnOk answer (IsPromised script)
+text_promised script lines given parsed same (Ok done) hold =
+    subst (λ (r : Result (List NumberedLine) ScriptFault). IfOk r ArePromised) (sym parsed) (subst ArePromised same hold)
+text_promised script lines given parsed same (Err fault) hold = tt
 
--- the same over slices of the text and of the lines
-pub script_promised : (known : Option (List ℕ)) (text lent : List ℕ) (lines given : List NumberedLine) →
-    IfSome known (λ all. (text ≡ all) × (length all ≤ 1048576)) → lent ≡ text → script_of lent ≡ Ok lines → given ≡ lines →
-    (answer : Result (Unit {0}) ScriptFault) → OnOk answer (ArePromised given) → OnOk answer (IfSome known IsPromised)
-script_promised known text lent lines given read same parsed as_given (Ok done) hold =
-    promised_of known text lines read (ap script_of (sym same) ∙ parsed) (subst ArePromised as_given hold)
-script_promised known text lent lines given read same parsed as_given (Err fault) hold = tt
+-- the script that was read, if what the reader had is known
+pub promised_over : (known : Option (List ℕ)) (text lent : List ℕ) → IfSome known (λ all. (text ≡ all) × (length all ≤ 1048576)) → lent ≡ text →
+    (answer : Result (Unit {0}) ScriptFault) → OnOk answer (IsPromised lent) → OnOk answer (IfSome known IsPromised)
+promised_over known text lent read same (Ok done) hold = carried_over known text lent IsPromised read same hold
+promised_over known text lent read same (Err fault) hold = tt

@@ -31,7 +31,7 @@ at_fault script old new kept Write h = absurd h
 at_fault script old new kept f h = (printed_fault script f h, kept)
 
 -- a script that was parsed and printed
-pub after_parsing : (script : List ℕ) (lines : List NumberedLine) (old new : Option (List ℕ)) → script_of script ≡ Ok lines →
+after_parsing : (script : List ℕ) (lines : List NumberedLine) (old new : Option (List ℕ)) → script_of script ≡ Ok lines →
     (answer : Result (Unit {0}) ScriptFault) → Prints (text_of lines) old new answer → RunGives script old new answer
 after_parsing script lines old new parsed (Ok done) h = (text_of lines, ap (map_ok text_of) parsed, h)
 after_parsing script lines old new parsed (Err Memory) h =
@@ -39,28 +39,17 @@ after_parsing script lines old new parsed (Err Memory) h =
 after_parsing script lines old new parsed (Err Write) h = (text_of lines, ap (map_ok text_of) parsed)
 after_parsing script lines old new parsed (Err other) h = absurd h
 
--- the same, whether or not the reader's octets are known
-pub at_fault_read : (known : Option (List ℕ)) (text lent : List ℕ) (old new : Option (List ℕ)) →
-    IfSome known (λ all. (text ≡ all) × (length all ≤ 1048576)) → lent ≡ text → Keeps old new → (f : ScriptFault) →
-    Parses (script_of lent) (Err f) → IfSome known (λ script. RunGives script old new (Err f))
-at_fault_read None text lent old new read same kept f h = tt
-at_fault_read (Some all) text lent old new read same kept f h =
-    let P : List ℕ → Type 0 = λ script. RunGives script old new (Err f) in subst P (same ∙ read.0) (at_fault lent old new kept f h)
+-- the same over a slice of the lines
+pub after_running : (script : List ℕ) (lines given : List NumberedLine) (old new : Option (List ℕ)) → script_of script ≡ Ok lines → given ≡ lines →
+    (answer : Result (Unit {0}) ScriptFault) → Prints (text_of given) old new answer → RunGives script old new answer
+after_running script lines given old new parsed same answer h =
+    after_parsing script lines old new parsed answer (let P : List NumberedLine → Type 0 = λ l. Prints (text_of l) old new answer in subst P same h)
 
-pub after_reading : (known : Option (List ℕ)) (text : List ℕ) (lines : List NumberedLine) (old new : Option (List ℕ)) →
-    IfSome known (λ all. (text ≡ all) × (length all ≤ 1048576)) → script_of text ≡ Ok lines →
-    (answer : Result (Unit {0}) ScriptFault) → Prints (text_of lines) old new answer → IfSome known (λ script. RunGives script old new answer)
-after_reading None text lines old new read parsed answer h = tt
-after_reading (Some all) text lines old new read parsed answer h =
-    let P : List ℕ → Type 0 = λ script. RunGives script old new answer in subst P read.0 (after_parsing text lines old new parsed answer h)
-
--- the same over slices of the text and of the lines
-pub after_running : (known : Option (List ℕ)) (text lent : List ℕ) (lines given : List NumberedLine) (old new : Option (List ℕ)) →
-    IfSome known (λ all. (text ≡ all) × (length all ≤ 1048576)) → lent ≡ text → script_of lent ≡ Ok lines → given ≡ lines →
-    (answer : Result (Unit {0}) ScriptFault) → Prints (text_of given) old new answer → IfSome known (λ script. RunGives script old new answer)
-after_running known text lent lines given old new read same parsed value_of_keyword answer h =
-    after_reading known text lines old new read (ap script_of (sym same) ∙ parsed) answer
-    (let P : List NumberedLine → Type 0 = λ l. Prints (text_of l) old new answer in subst P value_of_keyword h)
+-- what holds of a text that was read holds of all that the reader had, if that is known
+pub carried_over : (known : Option (List ℕ)) (text lent : List ℕ) (Holds : List ℕ → Type 0) →
+    IfSome known (λ all. (text ≡ all) × (length all ≤ 1048576)) → lent ≡ text → Holds lent → IfSome known Holds
+carried_over None text lent Holds read same hold = tt
+carried_over (Some all) text lent Holds read same hold = subst Holds (same ∙ read.0) hold
 
 -- a text that did not change
 pub left_alone : (text : Option (List ℕ)) (f : ScriptFault) → LeavesText text text f

@@ -1,15 +1,18 @@
 //! Runs scripts: each has two endpoints and the link between them. Reads a script, and prints the results of its lines.
 //!
-//! Proved, of `run_script` over any reader and writer whose octets a contract can name (as a slice and a `Vec`):
-//! - `Ok`: what was written is what `printed_text` gives for all that the reader had (`specs/Printed.antt`), and the
-//!   four promises hold of the run of the script's two ends over the events of all its lines (`promised`).
+//! Proved, of `run_text` over a writer whose octets a contract can name (as a `Vec`):
+//! - `Ok`: what was written is what `printed_text` gives for the script (`specs/Printed.antt`).
 //! - A fault of the script: the script has that fault, at that line if the fault names one, and nothing was written.
-//!   For a script with a fault, `run_script` returns that fault, or `Memory` or `Read`.
-//! - `Read`: nothing was written. `Memory`: what was written is a prefix of what `printed_text` gives, possibly empty
-//!   or all of it. It is empty if the script has a fault. `Write`: no clause says how much was written.
+//!   For a script with a fault, `run_text` returns that fault or `Memory`.
+//! - `Memory`: what was written is a prefix of what `printed_text` gives, possibly empty or all of it. It is empty if
+//!   the script has a fault. `Write`: no clause says how much was written.
 //!
-//! Over any reader, and a writer whose octets a contract can name: with a fault other than `Memory` and `Write` nothing
-//! was written. The world refuses no configuration of a script without a fault, so `Memory` hides no such refusal.
+//! Over any writer: with `Ok`, the four promises hold of the run of the script's two ends over the events of all its
+//! lines (`promised`). `run_script` is `read_text`, then `run_text`. Of it the same is proved for all that the reader
+//! had, if a contract can name that (as of a slice). Over any reader: with a fault other than `Memory` and `Write`
+//! nothing was written.
+//!
+//! The world refuses no configuration of a script without a fault, so `Memory` hides no such refusal.
 //! Laws: each line is printed from the world after the events of the lines before it. A script without a fault has no
 //! lines, or begins with both ends. Worked scripts are in `proofs/Examples.antt`.
 #![tactic(auto)]
@@ -25,4 +28,4 @@ pub use macsec_script_parser::{
     Line, LineFault, ScriptFault, parse_config, parse_line, parse_script, read_text,
 };
 pub use macsec_script_printer::{Label, print_counters, print_numbers, print_outcome};
-pub use running::run_script;
+pub use running::{run_script, run_text};

@@ -1,4 +1,4 @@
-//! Runs a script from a reader, and prints to a writer.
+//! Runs a script, from a reader or that was read, and prints to a writer.
 
 ghost use Rattle.std.specs.Prelude.{◌≡◌, IfSome, IfErr, OnOk, None, option_copied, option_map};
 ghost use Rattle.macsec_link.specs.Sound.{IsSound};
@@ -19,8 +19,8 @@ use macsec_script_printer::{Label, print_counters, print_numbers, print_outcome,
 use std::alloc::Global;
 use std::io::{Read, Write};
 
-/// Runs a script: reads and parses all of it, and then carries out its lines and prints their results. Returns the
-/// script's first fault, having written nothing, or `Memory`, `Read` or `Write`.
+/// Runs a script: reads all of it by `read_text`, and runs it by `run_text`. Returns the script's first fault, having
+/// written nothing, or `Memory`, `Read` or `Write`.
 pub fn run_script<R: Read, W: Write>(
     alloc: Global,
     reader: &mut R,
@@ -28,14 +28,24 @@ pub fn run_script<R: Read, W: Write>(
 ) -> Result<(), ScriptFault>
     ensures run { IfSome (R.remaining reader.old) (λ script. RunGives script (W.contents writer.old) (W.contents writer.new) result) }
     ensures unwritten { IfErr result (λ fault. LeavesText (W.contents writer.old) (W.contents writer.new) fault) }
+    ensures promised { OnOk result (IfSome (R.remaining reader.old) IsPromised) }
+{
+    let text = read_text(alloc, reader)?;
+    run_text(alloc, writer, text.as_slice())
+}
+
+/// Runs a script that was read: parses all of it, and then carries out its lines and prints their results. Returns the
+/// script's first fault, having written nothing, or `Memory` or `Write`.
+pub fn run_text<W: Write>(alloc: Global, writer: &mut W, script: &[u8]) -> Result<(), ScriptFault>
+    ensures run { RunGives script.now (W.contents writer.old) (W.contents writer.new) result }
+    ensures unwritten { IfErr result (λ fault. LeavesText (W.contents writer.old) (W.contents writer.new) fault) }
     // The four promises hold of the run of the script's two ends over the events of its lines. The text shows the
     // worlds of that run (`laws::prints_of_worlds`).
-    ensures promised { OnOk result (IfSome (R.remaining reader.old) IsPromised) }
+    ensures promised { OnOk result (IsPromised script.now) }
 {
     // A law that the proof cites.
     parsed_lines_fit();
-    let text = read_text(alloc, reader)?;
-    let lines = parse_script(alloc, text.as_slice())?;
+    let lines = parse_script(alloc, script)?;
     print_script(alloc, writer, lines.as_slice())
 }
 
