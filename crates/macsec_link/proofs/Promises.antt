@@ -64,7 +64,7 @@ pub ivs_differ : EndpointLaws → (a b : EndConfig) (events : List Event) → Ar
 ivs_differ laws a b events sound k = repeats_no_iv a b (take k events) (trace_holds laws a b (take k events) (sound_up_to a b events sound k))
 
 pub seals_frames : EndpointLaws → Grammar → (a b : EndConfig) (events : List Event) → AreSound a b events → AtEachMoment SealsEachFrame a b events
-seals_frames laws grammar a b events sound k = seals_each_frame laws grammar a b (take k events) (stays_sound a b (take k events) (sound_up_to a b events sound k))
+seals_frames laws grammar a b events sound k = seals_each_frame laws grammar a b (take k events) (sound_up_to a b events sound k)
 
 pub marks_frames : EndpointLaws → Grammar → (a b : EndConfig) (events : List Event) → AreSound a b events → AtEachMoment MarksEachFrame a b events
 marks_frames laws grammar a b events sound k = marks_each_frame laws grammar a b (take k events) (stays_sound a b (take k events) (sound_up_to a b events sound k))

@@ -34,7 +34,7 @@ use Rattle.macsec_link.proofs.Members.{IsMember, contained}
 use Rattle.macsec_link.specs.Beginnings.{AreSound}
 use Rattle.macsec_link.proofs.Moments.{world_of_trace}
 use Rattle.macsec_link.proofs.Seals.{fits, sound_end}
-use Rattle.macsec_link_counterexamples.proofs.SentStands.{stands_on_link, stays_on_link}
+use Rattle.macsec_link.proofs.SentStands.{stands_on_link, stays_on_link}
 
 -- ---- what is opened of a frame that can be accepted
 

@@ -1,7 +1,6 @@
 pub mod Ivs
 pub mod Examples
 pub mod AcceptedExample
-pub mod SentStands
 pub mod GenuineInTime
 pub mod WorkedEnds
 pub mod IvPremises

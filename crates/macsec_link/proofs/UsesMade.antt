@@ -1,0 +1,107 @@
+-- What an SA seals for a client frame is the use of the cipher by the link frame that is made. The frame stays on the
+-- link, and the key in the end's table.
+use Rattle.std.proofs.Common.{◌≡◌, ℕ, zero, suc, ◌≤◌, List, [], ◌∷◌, length, take, refl, arith, sym, subst, ◌∙◌, Contains}
+use Rattle.std.specs.Prelude.{slice_get, Some, None}
+use Rattle.macsec_tag.specs.Frame.{in_a_row}
+use Rattle.macsec_suite.specs.KeyRows.{InstalledKey, row_noting, the_key}
+use Rattle.macsec_tx.specs.declared.TxRow.{TxRow}
+use Rattle.macsec_commands.specs.declared.config.EndConfig.{EndConfig}
+use Rattle.macsec_secy.specs.Kept.{IsLaterKey, KeyStaysIn}
+use Rattle.macsec_secy.specs.State.{State}
+use Rattle.macsec_secy.specs.Step.{sending_of}
+use Rattle.macsec_commands.specs.declared.event.End.{End}
+use Rattle.macsec_commands.specs.declared.event.Event.{Event}
+use Rattle.macsec_commands.specs.declared.event.Event.TheVariants.{Send}
+use Rattle.macsec_link.specs.World.{WorldState, new_world, end_of}
+use Rattle.macsec_link.specs.Faults.{fault_of}
+use Rattle.macsec_link.specs.Sound.{IsSound}
+use Rattle.macsec_link.specs.Beginnings.{AreSound, StaysSound}
+use Rattle.macsec_link.specs.Step.{world_after, world_at, world_step}
+use Rattle.macsec_link.specs.UniqueIvs.{IsUseFor, parts_made}
+use Rattle.macsec_link.proofs.EndpointLaws.{EndpointLaws}
+use Rattle.macsec_link.proofs.FreshIvs.{ends_stay}
+use Rattle.macsec_link.proofs.Seals.{fits, sound_end, state_after}
+use Rattle.macsec_link.proofs.SentStands.{makes_frame, stands_on_link, stays_on_link}
+use Rattle.macsec_link.proofs.Sends.{sent_at}
+
+-- ---- what holds after event k, and is kept by each step, holds at the end
+
+module _ (P : WorldState → Type 0) (keeps : (w : WorldState) (event : Event) → IsSound w → P w → P (world_step w event).1) where
+  kept_by_all : (w : WorldState) (events : List Event) → StaysSound w events → P w → P (world_after w events)
+  kept_by_all w [] sounds it = it
+  kept_by_all w (event ∷ events) sounds it = kept_by_all (world_step w event).1 events (λ n. sounds (suc n)) (keeps w event (sounds 0) it)
+
+  kept_after : (w : WorldState) (events : List Event) (k : ℕ) (event : Event) → StaysSound w events → slice_get events k ≡ Some event →
+      P (world_step (world_after w (take k events)) event).1 → P (world_after w events)
+  kept_after w [] zero event sounds there it = cc
+  kept_after w [] (suc k) event sounds there it = cc
+  kept_after w (x ∷ events) zero event sounds there it =
+      let same : event ≡ x = cc in
+      kept_by_all (world_step w x).1 events (λ n. sounds (suc n)) (subst (λ (y : Event). P (world_step w y).1) same it)
+  kept_after w (x ∷ events) (suc k) event sounds there it = kept_after (world_step w x).1 events k event (λ n. sounds (suc n)) there it
+
+-- ---- keys
+
+itself : (key : InstalledKey) → IsLaterKey key key
+itself key = record { number = refl; suite = refl; bytes = refl; salt = refl; ssci = refl; offset = refl; first_unused = omega arith }
+
+later_still : (x y z : InstalledKey) → IsLaterKey x y → IsLaterKey y z → IsLaterKey x z
+later_still x y z first second = record {
+  number = second.number ∙ first.number;
+  suite = second.suite ∙ first.suite;
+  bytes = second.bytes ∙ first.bytes;
+  salt = second.salt ∙ first.salt;
+  ssci = second.ssci ∙ first.ssci;
+  offset = second.offset ∙ first.offset;
+  first_unused = omega (arith, first.first_unused, second.first_unused);
+}
+
+key_kept : EndpointLaws → (e : End) (key : InstalledKey) (w : WorldState) (event : Event) → IsSound w →
+    KeyStaysIn (end_of w e).state.keys key → KeyStaysIn (end_of (world_step w event).1 e).state.keys key
+key_kept laws e key w event sound it =
+    let stay = (ends_stay laws w event sound e).keys it.later it.there in
+    record { later = stay.later; there = stay.there; is_later = later_still key it.later stay.later it.is_later stay.is_later }
+
+-- ---- the frame sent at event k
+
+pub is_use_for : EndpointLaws → (a b : EndConfig) (events : List Event) → AreSound a b events → (k : ℕ) (e : End) (frame : List ℕ) (row : TxRow) →
+    slice_get events k ≡ Some (Send e frame) → fault_of (world_at a b events k) (Send e frame) ≡ None →
+    (sending_of (end_of (world_at a b events k) e).state frame).by ≡ Some row →
+    IsUseFor a b events k (sent_at e (end_of (world_at a b events k) e).state frame row)
+is_use_for laws a b events sounds k e frame row there none by =
+    let w = world_at a b events k in
+    let s = (end_of w e).state in
+    let key = the_key s.keys row.key in
+    let noted = row_noting row.next key in
+    let sound = sound_end w (sounds k) e in
+    let good = fits w e frame none in
+    let it = laws.protects s frame row sound good by in
+    let n = length w.frames in
+    let octets = in_a_row (parts_made s row frame) in
+    let keys_now : KeyStaysIn (end_of (world_step w (Send e frame)).1 e).state.keys noted = record {
+      later = noted;
+      there = subst (λ (t : State). Contains t.keys noted) (sym (state_after w e frame none)) it.noted;
+      is_later = itself noted;
+    } in
+    let stays = kept_after (λ v. KeyStaysIn (end_of v e).state.keys noted) (key_kept laws e noted) (new_world a b) events k (Send e frame) sounds there keys_now in
+    let is_later = later_still key noted stays.later (noted_later s row it.unused) stays.is_later in
+    record {
+      event = there;
+      row = row;
+      by = by;
+      of_key = refl;
+      next = refl;
+      seal = refl;
+      link_frame = n;
+      made = makes_frame w e frame row none good by;
+      on_link = kept_after (λ v. slice_get v.frames n ≡ Some octets) (λ v event sound found. stays_on_link v (event ∷ []) n octets found) (new_world a b) events k (Send e frame)
+          sounds there (stands_on_link w e frame row none good by);
+      key = stays.later;
+      there = stays.there;
+      of_number = is_later.number ∙ ((laws.keys_apart s sound).found row.key it.there).number;
+      later = is_later;
+      used = omega (arith, stays.is_later.first_unused);
+    }
+  where
+    noted_later : (s : State) (row : TxRow) → (the_key s.keys row.key).first_unused ≤ row.next → IsLaterKey (the_key s.keys row.key) (row_noting row.next (the_key s.keys row.key))
+    noted_later s row unused = record { number = refl; suite = refl; bytes = refl; salt = refl; ssci = refl; offset = refl; first_unused = omega (arith, unused) }
