@@ -9,10 +9,9 @@ use Rattle.macsec_script_parser.specs.declared.faults.ScriptFault.{ScriptFault}
 use Rattle.macsec_script_parser.specs.declared.faults.ScriptFault.TheVariants as script
 use Rattle.macsec_pcap.specs.declared.fault.PcapFault.{PcapFault}
 use Rattle.macsec_pcap.specs.Captures.{CaptureFile}
-use Rattle.macsec_pcapng.specs.Captures.{captures_of}
 use Rattle.macsec_capture.specs.declared.Direction.{Direction}
 use Rattle.macsec_capture.specs.declared.fault.CaptureFault.TheVariants.{Script}
-use Rattle.macsec_capture.specs.Captured.{Captured, Part, captured, captured_after, captured_at, captured_by, commands_part, one_end}
+use Rattle.macsec_capture.specs.Captured.{Captured, Part, captured_after, captured_at, captured_by, captured_over, commands_part, one_end}
 use Rattle.macsec_capture.specs.Runs.{AtSome, CaptureGives, Grows, Written}
 use Rattle.macsec_capture.proofs.Stops.{at_last}
 
@@ -24,17 +23,18 @@ after_end : (old new : Option (List ℕ)) (direction : Direction) (ready : Part)
 after_end old new direction ready (Err fault) none adds = cc
 after_end old new direction ready (Ok file) none adds = at_last direction ready file (λ stop. Appends old new stop.output) adds
 
-at_end : (old new : Option (List ℕ)) (direction : Direction) (end : Option (EndConfig × List NumberedLine)) (file : List ℕ) → IsAtOutput old new (captured_at direction end file)
+at_end : (old new : Option (List ℕ)) (direction : Direction) (end : Option (EndConfig × List NumberedLine)) (file : Result CaptureFile PcapFault) → IsAtOutput old new (captured_at direction end file)
 at_end old new direction None file none adds = (record { output = []; text = [] }, (0, omega arith, refl), adds)
 at_end old new direction (Some (config, commands)) file none adds =
-    after_end old new direction (commands_part (start config) commands) (captures_of file) none adds
+    after_end old new direction (commands_part (start config) commands) file none adds
 
-by_end : (old new : Option (List ℕ)) (direction : Direction) (lines : Result (List NumberedLine) ScriptFault) (file : List ℕ) →
+by_end : (old new : Option (List ℕ)) (direction : Direction) (lines : Result (List NumberedLine) ScriptFault) (file : Result CaptureFile PcapFault) →
     IsAtOutput old new (captured_by direction lines file)
 by_end old new direction (Err fault) file none adds = cc
 by_end old new direction (Ok lines) file none adds = at_end old new direction (one_end lines) file none adds
 
 -- so the contract of a failing text holds once everything was written
-pub written_whole : (direction : Direction) (config file : List ℕ) (old new : Written) → (captured direction config file).fault ≡ None →
-    Grows old new (captured direction config file).output (captured direction config file).text → CaptureGives (captured direction config file) old new (Err (Script script.Write))
+pub written_whole : (direction : Direction) (config : List ℕ) (file : Result CaptureFile PcapFault) (old new : Written) → (captured_over direction config file).fault ≡ None →
+    Grows old new (captured_over direction config file).output (captured_over direction config file).text →
+    CaptureGives (captured_over direction config file) old new (Err (Script script.Write))
 written_whole direction config file old new none grows = by_end old.output new.output direction (config_of config) file none grows.output

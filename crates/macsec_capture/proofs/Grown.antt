@@ -1,14 +1,14 @@
 -- What successive writes append to the output and to the text.
 use Rattle.std.proofs.Common.{ℕ, List, [], ◌∷◌, ◌++◌}
 use Rattle.std.specs.Io.KnownBytes.{Keeps}
-use Rattle.std.specs.Prelude.{Err}
+use Rattle.std.specs.Prelude.{None, Result, Ok, Err}
 use Rattle.std.proofs.KnownBytes.{Appends-kept, Appends-nil, Appends-trans, Keeps-refl, Keeps-trans}
 use Rattle.macsec_script_parser.specs.declared.faults.ScriptFault.TheVariants as script
 use Rattle.macsec_pcap.specs.declared.fault.PcapFault.TheVariants.{Read, Write, Memory}
 use Rattle.macsec_capture.specs.declared.fault.CaptureFault.{CaptureFault}
 use Rattle.macsec_capture.specs.declared.fault.CaptureFault.TheVariants.{Script, Pcap}
 use Rattle.macsec_capture.specs.Captured.{Captured, Stop}
-use Rattle.macsec_capture.specs.Runs.{AtFirst, AtSome, CaptureGives, Grows, Stays, Written}
+use Rattle.macsec_capture.specs.Runs.{AtFirst, AtSome, CaptureGives, Grows, Stays, Written, known}
 use Rattle.macsec_capture.proofs.Cuts.{cut_kept, next_kept}
 
 pub Stays-same : (w : Written) → Stays w w
@@ -61,3 +61,18 @@ fault_kept whole old mid new kept (Pcap Read) gives = some_kept whole.stops _ _ 
 fault_kept whole old mid new kept (Pcap Write) gives =
     next_kept whole.stops _ _ (λ before after cut. cut_kept old mid new before after kept.output kept.text cut) gives
 fault_kept whole old mid new kept (Pcap fault) gives = (gives.0, Grows-kept old mid new whole.output whole.text kept gives.1)
+
+-- ---- an output whose octets are not known
+
+pub forgotten : (whole : Captured) (old new : Written) (answer : Result (Unit {0}) CaptureFault) → CaptureGives whole old new answer →
+    CaptureGives whole (known None old.text) (known None new.text) answer
+forgotten whole old new (Ok done) gives = (gives.0, record { output = tt; text = gives.1.text })
+forgotten whole old new (Err (Script script.Memory)) gives = record { output = tt; text = gives.text }
+forgotten whole old new (Err (Script script.Read)) gives = record { output = tt; text = gives.text }
+forgotten whole old new (Err (Script script.Write)) gives = (gives.0, gives.1, tt)
+forgotten whole old new (Err (Script fault)) gives = (gives.0, record { output = tt; text = gives.1.text })
+forgotten whole old new (Err (Pcap Memory)) gives = first_kept whole.stops _ _ (λ stop at. record { output = tt; text = at.text }) gives
+forgotten whole old new (Err (Pcap Read)) gives = (gives.0, gives.1, record { output = tt; text = gives.2.text })
+forgotten whole old new (Err (Pcap Write)) gives =
+    next_kept whole.stops _ _ (λ before after cut. (cut.0, (cut.1.0, cut.1.1, cut.1.2, tt))) gives
+forgotten whole old new (Err (Pcap fault)) gives = (gives.0, record { output = tt; text = gives.1.text })

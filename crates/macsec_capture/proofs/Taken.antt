@@ -1,5 +1,5 @@
 -- The loop over the records: what the first k write, by induction on k, and how the loop ends.
-use Rattle.std.proofs.Common.{◌≡◌, ℕ, ◌+◌, ◌<◌, List, [], ◌∷◌, ◌++◌, length, take, refl, sym, ap, subst, ◌∙◌, append_assoc, append-nil, arith, length-append}
+use Rattle.std.proofs.Common.{◌≡◌, ℕ, ◌+◌, ◌<◌, List, [], ◌∷◌, ◌++◌, length, take, inl, inr, refl, sym, ap, subst, ◌∙◌, append_assoc, append-nil, arith, length-append}
 use Rattle.std.specs.Prelude.{Option, Some, None, Ok, Err}
 use Rattle.std.proofs.lemmas.List.{take_at}
 use Rattle.std.specs.Io.KnownBytes.{Appends}
@@ -17,8 +17,7 @@ use Rattle.macsec_capture.specs.declared.Direction.{Direction}
 use Rattle.macsec_capture.specs.declared.fault.CaptureFault.{CaptureFault}
 use Rattle.macsec_capture.specs.declared.fault.CaptureFault.TheVariants.{Script, Pcap}
 use Rattle.macsec_capture.specs.Captured.{Part, and_after, nothing, record_part, records_part}
-use Rattle.macsec_pcapng.specs.Laws.{IsOfFormat}
-use Rattle.macsec_capture.specs.Runs.{Adds, CutsOutput, FailsIn, Grows, IsLateFault, RunsHeld, RunsRecords, Written, first_part, part_stop}
+use Rattle.macsec_capture.specs.Runs.{Adds, CutsOutput, EndsHeld, FailsIn, Grows, IsHeldBy, IsLateFault, RunsHeld, RunsRecords, Written, first_part, part_stop}
 use Rattle.macsec_capture.proofs.Cuts.{up_to_front}
 use Rattle.macsec_capture.proofs.Grown.{Grows-more, Grows-nothing}
 
@@ -50,35 +49,30 @@ part_more direction s k j (x ∷ xs) r same =
 
 -- ---- the records that were taken
 
--- what the first k records write was written, and the reader holds the rest
-pub record IsHeld (direction : Direction) (first : State) (capture : Capture) (left : Ahead) (old now : Written) (s : State) (k : ℕ) : Type 0 where
-  pub front : List CaptureRecord
-  pub rest : List CaptureRecord
-  pub all : capture.records ≡ front ++ rest
-  pub count : length front ≡ k
-  pub ahead : left ≡ holds (record { records = rest; fault = capture.fault })
-  pub adds : Adds (records_part direction first 0 front) old now s
+-- what the reader holds after the records that were taken, if that is known
+abbrev pub HoldsRest : Ahead → Ahead → List CaptureRecord → Type 0
+HoldsRest (holds capture) left front =
+    (rest : List CaptureRecord) × (capture.records ≡ front ++ rest) × (left ≡ holds (record { records = rest; fault = capture.fault }))
+HoldsRest untold left front = Unit {0}
+HoldsRest over left front = Unit {0}
+HoldsRest (failed fault) left front = Unit {0}
 
--- the same, if it is known what the reader has ahead of it
-abbrev pub AreTaken : Direction → State → Ahead → Ahead → Written → Written → State → ℕ → Type 0
-AreTaken direction first (holds capture) ahead old now s k = IsHeld direction first capture ahead old now s k
-AreTaken direction first untold ahead old now s k = Unit {0}
-AreTaken direction first over ahead old now s k = Unit {0}
-AreTaken direction first (failed fault) ahead old now s k = Unit {0}
+-- what the first k records write was written, and the reader holds the rest
+pub record AreTaken (direction : Direction) (first : State) (begins left : Ahead) (old now : Written) (s : State) (k : ℕ) : Type 0 where
+  pub front : List CaptureRecord
+  pub count : length front ≡ k
+  pub adds : Adds (records_part direction first 0 front) old now s
+  pub held : HoldsRest begins left front
+
+holds_all : (ahead : Ahead) → HoldsRest ahead ahead []
+holds_all (holds capture) = (capture.records, refl, refl)
+holds_all untold = tt
+holds_all over = tt
+holds_all (failed fault) = tt
 
 -- before the first record
 pub none_taken : (direction : Direction) (s : State) (ahead : Ahead) (w : Written) → AreTaken direction s ahead ahead w w s 0
-none_taken direction s (holds capture) w = record {
-  front = [];
-  rest = capture.records;
-  all = refl;
-  count = refl;
-  ahead = refl;
-  adds = record { grows = Grows-nothing w; state = refl };
-}
-none_taken direction s untold w = tt
-none_taken direction s over w = tt
-none_taken direction s (failed fault) w = tt
+none_taken direction s ahead w = record { front = []; count = refl; adds = record { grows = Grows-nothing w; state = refl }; held = holds_all ahead }
 
 -- ---- one more record
 
@@ -89,67 +83,39 @@ first_held [] None r same = cc
 first_held [] (Some fault) r same = cc
 first_held (first ∷ more) end r same = let is : first ≡ r = cc in (more, ap (λ x. x ∷ more) is)
 
--- the records before the one that was returned, that one, and the records after it
-record Next (direction : Direction) (first : State) (capture : Capture) (left : Ahead) (old now : Written) (s : State) (k : ℕ) (r : CaptureRecord) : Type 0 where
-  front : List CaptureRecord
-  more : List CaptureRecord
-  all : capture.records ≡ (front ++ r ∷ []) ++ more
-  count : length front ≡ k
-  ahead : left ≡ holds (record { records = r ∷ more; fault = capture.fault })
-  adds : Adds (records_part direction first 0 front) old now s
-
-next_held : (direction : Direction) (first : State) (capture : Capture) (ahead : Ahead) (old now : Written) (s : State) (k : ℕ) (r : CaptureRecord) →
-    IsHeld direction first capture ahead old now s k → Answers ahead (Ok (Some r)) → Next direction first capture ahead old now s k r
-next_held direction first capture ahead old now s k r held answer =
-    let answered : Ok (Some r) ≡ first_of (record { records = held.rest; fault = capture.fault }) = subst (λ a. Answers a (Ok (Some r))) held.ahead answer in
-    let found = first_held held.rest capture.fault r answered in record {
-      front = held.front;
-      more = found.0;
-      all = held.all ∙ ap (λ rs. held.front ++ rs) found.1 ∙ sym (append_assoc held.front (r ∷ []) found.0);
-      count = held.count;
-      ahead = held.ahead ∙ ap (λ rs. holds (record { records = rs; fault = capture.fault })) found.1;
-      adds = held.adds;
-    }
-
--- so k is below the number of records
-within_next : (direction : Direction) (first : State) (capture : Capture) (ahead : Ahead) (old now : Written) (s : State) (k : ℕ) (r : CaptureRecord) →
-    Next direction first capture ahead old now s k r → k < length capture.records
-within_next direction first capture ahead old now s k r at =
-    let long : length capture.records ≡ length (at.front ++ r ∷ []) + length at.more = ap length at.all ∙ length-append (at.front ++ r ∷ []) at.more in
-    omega (arith, long, length-append at.front (r ∷ []), at.count)
+rest_more : (begins ahead next : Ahead) (front : List CaptureRecord) (r : CaptureRecord) → HoldsRest begins ahead front → Answers ahead (Ok (Some r)) →
+    IsAhead (ahead_after ahead (Ok (Some r))) next → HoldsRest begins next (front ++ r ∷ [])
+rest_more (holds capture) ahead next front r (rest, all, is) answer left =
+    let answered : Ok (Some r) ≡ first_of (record { records = rest; fault = capture.fault }) = subst (λ a. Answers a (Ok (Some r))) is answer in
+    let found = first_held rest capture.fault r answered in (
+      found.0,
+      all ∙ ap (λ rs. front ++ rs) found.1 ∙ sym (append_assoc front (r ∷ []) found.0),
+      subst (λ a. IsAhead (ahead_after a (Ok (Some r))) next) (is ∙ ap (λ rs. holds (record { records = rs; fault = capture.fault })) found.1) left,
+    )
+rest_more untold ahead next front r held answer left = tt
+rest_more over ahead next front r held answer left = tt
+rest_more (failed fault) ahead next front r held answer left = tt
 
 -- the record's number is the number of records before it
 with_next : (direction : Direction) (first : State) (front : List CaptureRecord) (k : ℕ) (r : CaptureRecord) → length front ≡ k →
     records_part direction first 0 (front ++ r ∷ []) ≡ and_after (records_part direction first 0 front) (λ after. record_part direction after k r)
 with_next direction first front k r count = part_more direction first 0 k front r (omega (arith, count))
 
-held_more : (direction : Direction) (first : State) (capture : Capture) (ahead next : Ahead) (old now new : Written) (s after : State) (k : ℕ) (r : CaptureRecord) →
-    IsHeld direction first capture ahead old now s k → Answers ahead (Ok (Some r)) → IsAhead (ahead_after ahead (Ok (Some r))) next →
-    Adds (record_part direction s k r) now new after → IsHeld direction first capture next old new after (k + 1)
-held_more direction first capture ahead next old now new s after k r held answer left adds =
-    let at = next_held direction first capture ahead old now s k r held answer in
-    let part = records_part direction first 0 at.front in
-    let piece : Adds (record_part direction part.state k r) now new after = subst (λ v. Adds (record_part direction v k r) now new after) at.adds.state adds in
-    let last = record_part direction part.state k r in record {
-      front = at.front ++ r ∷ [];
-      rest = at.more;
-      all = at.all;
-      count = length-append at.front (r ∷ []) ∙ ap (λ n. n + 1) at.count;
-      ahead = subst (λ a. IsAhead (ahead_after a (Ok (Some r))) next) at.ahead left;
-      adds = subst (λ (p : Part). Adds p old new after) (sym (with_next direction first at.front k r at.count)) (record {
-        grows = Grows-more old now new part.output last.output part.text last.text at.adds.grows piece.grows;
-        state = piece.state;
-      });
-    }
-
 pub taken_more : (direction : Direction) (first : State) (begins ahead next : Ahead) (old now new : Written) (s after : State) (k : ℕ) (r : CaptureRecord) →
     AreTaken direction first begins ahead old now s k → Answers ahead (Ok (Some r)) → IsAhead (ahead_after ahead (Ok (Some r))) next →
     Adds (record_part direction s k r) now new after → AreTaken direction first begins next old new after (k + 1)
-taken_more direction first (holds capture) ahead next old now new s after k r taken answer left adds =
-    held_more direction first capture ahead next old now new s after k r taken answer left adds
-taken_more direction first untold ahead next old now new s after k r taken answer left adds = tt
-taken_more direction first over ahead next old now new s after k r taken answer left adds = tt
-taken_more direction first (failed fault) ahead next old now new s after k r taken answer left adds = tt
+taken_more direction first begins ahead next old now new s after k r taken answer left adds =
+    let part = records_part direction first 0 taken.front in
+    let piece : Adds (record_part direction part.state k r) now new after = subst (λ v. Adds (record_part direction v k r) now new after) taken.adds.state adds in
+    let last = record_part direction part.state k r in record {
+      front = taken.front ++ r ∷ [];
+      count = length-append taken.front (r ∷ []) ∙ ap (λ n. n + 1) taken.count;
+      adds = subst (λ (p : Part). Adds p old new after) (sym (with_next direction first taken.front k r taken.count)) (record {
+        grows = Grows-more old now new part.output last.output part.text last.text taken.adds.grows piece.grows;
+        state = piece.state;
+      });
+      held = rest_more begins ahead next taken.front r taken.held answer left;
+    }
 
 -- ---- the end
 
@@ -169,25 +135,24 @@ over_at_fault [] (Some other) fault same = (refl, cc)
 over_at_fault (first ∷ more) end fault same = cc
 
 -- all records were taken
-whole_at_end : (direction : Direction) (first : State) (capture : Capture) (ahead : Ahead) (old now : Written) (s : State) (k : ℕ) →
-    (held : IsHeld direction first capture ahead old now s k) → held.rest ≡ [] → Adds (records_part direction first 0 capture.records) old now s
-whole_at_end direction first capture ahead old now s k held none =
-    let all : capture.records ≡ held.front = held.all ∙ ap (λ rs. held.front ++ rs) none ∙ append-nil held.front in
-    subst (λ rs. Adds (records_part direction first 0 rs) old now s) (sym all) held.adds
+whole_at_end : (direction : Direction) (first : State) (records front rest : List CaptureRecord) (old now : Written) (s : State) →
+    records ≡ front ++ rest → rest ≡ [] → Adds (records_part direction first 0 front) old now s → Adds (records_part direction first 0 records) old now s
+whole_at_end direction first records front rest old now s all none adds =
+    let same : records ≡ front = all ∙ ap (λ rs. front ++ rs) none ∙ append-nil front in
+    subst (λ rs. Adds (records_part direction first 0 rs) old now s) (sym same) adds
 
-held_end : (direction : Direction) (first : State) (capture : Capture) (ahead : Ahead) (old now : Written) (s : State) (k taken : ℕ) →
-    IsHeld direction first capture ahead old now s k → Answers ahead (Ok None) → RunsHeld direction first capture taken old now s (Ok tt)
-held_end direction first capture ahead old now s k taken held answer =
-    let answered : Ok None ≡ first_of (record { records = held.rest; fault = capture.fault }) = subst (λ a. Answers a (Ok None)) held.ahead answer in
-    let ended = over_at_none held.rest capture.fault answered in
-    (ended.1, whole_at_end direction first capture ahead old now s k held ended.0)
-
-pub taken_end : (direction : Direction) (first : State) (begins ahead : Ahead) (old now : Written) (s : State) (k count : ℕ) →
+pub taken_end : (direction : Direction) (first : State) (begins ahead : Ahead) (old now : Written) (s : State) (k count : ℕ) → count ≡ k →
     AreTaken direction first begins ahead old now s k → Answers ahead (Ok None) → RunsRecords direction first begins count old now s (Ok tt)
-taken_end direction first (holds capture) ahead old now s k count taken answer = held_end direction first capture ahead old now s k count taken answer
-taken_end direction first untold ahead old now s k count taken answer = tt
-taken_end direction first over ahead old now s k count taken answer = tt
-taken_end direction first (failed fault) ahead old now s k count taken answer = tt
+taken_end direction first (holds capture) ahead old now s k count same taken answer =
+    let held = taken.held in
+    let ended = over_at_none held.0 capture.fault (subst (λ a. Answers a (Ok None)) held.2 answer) in
+    (capture, refl, (ended.1, whole_at_end direction first capture.records taken.front held.0 old now s held.1 ended.0 taken.adds))
+taken_end direction first untold ahead old now s k count same taken answer =
+    (record { records = taken.front; fault = None }, taken.count ∙ sym same, (refl, taken.adds))
+taken_end direction first over ahead old now s k count same taken answer =
+    (record { records = taken.front; fault = None }, taken.count ∙ sym same, (refl, taken.adds))
+taken_end direction first (failed fault) ahead old now s k count same taken answer =
+    (record { records = taken.front; fault = None }, taken.count ∙ sym same, (refl, taken.adds))
 
 -- ---- a stop
 
@@ -202,95 +167,154 @@ at_front direction s records front rest n P all count met =
 
 -- ---- a fault of the reader
 
-at_fault : (direction : Direction) (first : State) (capture : Capture) (ahead : Ahead) (old now : Written) (s : State) (k : ℕ) →
-    (held : IsHeld direction first capture ahead old now s k) → (fault : PcapFault) → Err fault ≡ first_of (record { records = held.rest; fault = capture.fault }) →
-    (capture.fault ≡ Some fault) × Adds (records_part direction first 0 capture.records) old now s
-at_fault direction first capture ahead old now s k held fault answer =
-    let ended = over_at_fault held.rest capture.fault fault answer in (ended.1, whole_at_end direction first capture ahead old now s k held ended.0)
+ended_by : (direction : Direction) (first : State) (capture : Capture) (front rest : List CaptureRecord) (old now : Written) (s : State) →
+    capture.records ≡ front ++ rest → Adds (records_part direction first 0 front) old now s → (fault : PcapFault) →
+    Err fault ≡ first_of (record { records = rest; fault = capture.fault }) → EndsHeld direction first capture old now s fault
+ended_by direction first capture front rest old now s all adds fault answer =
+    let ended = over_at_fault rest capture.fault fault answer in
+    (ended.1, whole_at_end direction first capture.records front rest old now s all ended.0 adds)
 
-unless_read : (direction : Direction) (first : State) (capture : Capture) (ahead : Ahead) (old now : Written) (s : State) (k taken : ℕ) → taken ≡ k →
-    (held : IsHeld direction first capture ahead old now s k) → (fault : PcapFault) →
-    UnlessRead (first_of (record { records = held.rest; fault = capture.fault })) (Err fault) → RunsHeld direction first capture taken old now s (Err (Pcap fault))
-unless_read direction first capture ahead old now s k taken same held Read answer =
-    let long : length capture.records ≡ length held.front + length held.rest = ap length held.all ∙ length-append held.front held.rest in (
-      omega (arith, long, held.count, same),
-      at_front direction first capture.records held.front held.rest taken (λ part. Grows old now part.output part.text) held.all (held.count ∙ sym same) held.adds.grows,
-    )
-unless_read direction first capture ahead old now s k taken same held Write answer =
-    λ format. absurd (subst IsOfFormat (at_fault direction first capture ahead old now s k held Write answer).0 format)
-unless_read direction first capture ahead old now s k taken same held Magic answer = at_fault direction first capture ahead old now s k held Magic answer
-unless_read direction first capture ahead old now s k taken same held Version answer = at_fault direction first capture ahead old now s k held Version answer
-unless_read direction first capture ahead old now s k taken same held LinkType answer = at_fault direction first capture ahead old now s k held LinkType answer
-unless_read direction first capture ahead old now s k taken same held CutHeader answer = at_fault direction first capture ahead old now s k held CutHeader answer
-unless_read direction first capture ahead old now s k taken same held CutRecord answer = at_fault direction first capture ahead old now s k held CutRecord answer
-unless_read direction first capture ahead old now s k taken same held RecordLength answer = at_fault direction first capture ahead old now s k held RecordLength answer
-unless_read direction first capture ahead old now s k taken same held Memory answer = at_fault direction first capture ahead old now s k held Memory answer
-unless_read direction first capture ahead old now s k taken same held RecordCount answer = at_fault direction first capture ahead old now s k held RecordCount answer
-unless_read direction first capture ahead old now s k taken same held BlockLength answer = at_fault direction first capture ahead old now s k held BlockLength answer
-unless_read direction first capture ahead old now s k taken same held NoInterface answer = at_fault direction first capture ahead old now s k held NoInterface answer
-unless_read direction first capture ahead old now s k taken same held InterfaceCount answer = at_fault direction first capture ahead old now s k held InterfaceCount answer
-unless_read direction first capture ahead old now s k taken same held Time answer = at_fault direction first capture ahead old now s k held Time answer
+-- a failed read, after these records; or the fault after all records
+at_fault : (direction : Direction) (first : State) (capture : Capture) (front rest : List CaptureRecord) (old now : Written) (s : State) (taken : ℕ) →
+    capture.records ≡ front ++ rest → length front ≡ taken → Adds (records_part direction first 0 front) old now s → (fault : PcapFault) →
+    UnlessRead (first_of (record { records = rest; fault = capture.fault })) (Err fault) → RunsHeld direction first capture taken old now s (Err (Pcap fault))
+at_fault direction first capture front rest old now s taken all count adds Read answer =
+    let long : length capture.records ≡ length front + length rest = ap length all ∙ length-append front rest in
+    (omega (arith, long, count), at_front direction first capture.records front rest taken (λ part. Grows old now part.output part.text) all count adds.grows)
+at_fault direction first capture front rest old now s taken all count adds Write answer = inr (ended_by direction first capture front rest old now s all adds Write answer)
+at_fault direction first capture front rest old now s taken all count adds Magic answer = ended_by direction first capture front rest old now s all adds Magic answer
+at_fault direction first capture front rest old now s taken all count adds Version answer = ended_by direction first capture front rest old now s all adds Version answer
+at_fault direction first capture front rest old now s taken all count adds LinkType answer = ended_by direction first capture front rest old now s all adds LinkType answer
+at_fault direction first capture front rest old now s taken all count adds CutHeader answer = ended_by direction first capture front rest old now s all adds CutHeader answer
+at_fault direction first capture front rest old now s taken all count adds CutRecord answer = ended_by direction first capture front rest old now s all adds CutRecord answer
+at_fault direction first capture front rest old now s taken all count adds RecordLength answer = ended_by direction first capture front rest old now s all adds RecordLength answer
+at_fault direction first capture front rest old now s taken all count adds Memory answer = ended_by direction first capture front rest old now s all adds Memory answer
+at_fault direction first capture front rest old now s taken all count adds RecordCount answer = ended_by direction first capture front rest old now s all adds RecordCount answer
+at_fault direction first capture front rest old now s taken all count adds BlockLength answer = ended_by direction first capture front rest old now s all adds BlockLength answer
+at_fault direction first capture front rest old now s taken all count adds NoInterface answer = ended_by direction first capture front rest old now s all adds NoInterface answer
+at_fault direction first capture front rest old now s taken all count adds InterfaceCount answer = ended_by direction first capture front rest old now s all adds InterfaceCount answer
+at_fault direction first capture front rest old now s taken all count adds Time answer = ended_by direction first capture front rest old now s all adds Time answer
+
+-- the answer of a reader that holds no more records, and has this fault after them
+as_answer : (fault : PcapFault) → UnlessRead (first_of (record { records = []; fault = Some fault })) (Err fault)
+as_answer Read = tt
+as_answer Write = refl
+as_answer Magic = refl
+as_answer Version = refl
+as_answer LinkType = refl
+as_answer CutHeader = refl
+as_answer CutRecord = refl
+as_answer RecordLength = refl
+as_answer Memory = refl
+as_answer RecordCount = refl
+as_answer BlockLength = refl
+as_answer NoInterface = refl
+as_answer InterfaceCount = refl
+as_answer Time = refl
+
+-- the same if it is not known what the reader holds
+at_some_fault : (direction : Direction) (first : State) (front : List CaptureRecord) (old now : Written) (s : State) (taken : ℕ) → length front ≡ taken →
+    Adds (records_part direction first 0 front) old now s → (fault : PcapFault) →
+    RunsHeld direction first (record { records = front; fault = Some fault }) taken old now s (Err (Pcap fault))
+at_some_fault direction first front old now s taken count adds fault =
+    at_fault direction first (record { records = front; fault = Some fault }) front [] old now s taken (sym (append-nil front)) count adds fault (as_answer fault)
 
 pub taken_fault : (direction : Direction) (first : State) (begins ahead : Ahead) (old now : Written) (s : State) (k count : ℕ) (fault : PcapFault) → count ≡ k →
     AreTaken direction first begins ahead old now s k → Answers ahead (Err fault) → RunsRecords direction first begins count old now s (Err (Pcap fault))
 taken_fault direction first (holds capture) ahead old now s k count fault same taken answer =
-    unless_read direction first capture ahead old now s k count same taken fault (subst (λ a. Answers a (Err fault)) taken.ahead answer)
-taken_fault direction first untold ahead old now s k count fault same taken answer = tt
-taken_fault direction first over ahead old now s k count fault same taken answer = tt
-taken_fault direction first (failed other) ahead old now s k count fault same taken answer = tt
+    let held = taken.held in (
+      capture,
+      refl,
+      at_fault direction first capture taken.front held.0 old now s count held.1 (taken.count ∙ sym same) taken.adds fault
+          (subst (λ a. Answers a (Err fault)) held.2 answer),
+    )
+taken_fault direction first untold ahead old now s k count fault same taken answer = (
+  record { records = taken.front; fault = Some fault },
+  taken.count ∙ sym same,
+  at_some_fault direction first taken.front old now s count (taken.count ∙ sym same) taken.adds fault,
+)
+taken_fault direction first over ahead old now s k count fault same taken answer = (
+  record { records = taken.front; fault = Some fault },
+  taken.count ∙ sym same,
+  at_some_fault direction first taken.front old now s count (taken.count ∙ sym same) taken.adds fault,
+)
+taken_fault direction first (failed other) ahead old now s k count fault same taken answer = (
+  record { records = taken.front; fault = Some fault },
+  taken.count ∙ sym same,
+  at_some_fault direction first taken.front old now s count (taken.count ∙ sym same) taken.adds fault,
+)
 
 -- ---- a writer that failed
+
+-- records that begin with these
+record Beginning (begins : Ahead) (front : List CaptureRecord) (n : ℕ) : Type 0 where
+  capture : Capture
+  rest : List CaptureRecord
+  all : capture.records ≡ front ++ rest
+  held : IsHeldBy begins n capture
+
+begin : (begins left : Ahead) (front : List CaptureRecord) (n : ℕ) → length front ≡ n → HoldsRest begins left front → Beginning begins front n
+begin (holds capture) left front n count held = record { capture = capture; rest = held.0; all = held.1; held = refl }
+begin untold left front n count held = record { capture = record { records = front; fault = None }; rest = []; all = sym (append-nil front); held = count }
+begin over left front n count held = record { capture = record { records = front; fault = None }; rest = []; all = sym (append-nil front); held = count }
+begin (failed fault) left front n count held = record { capture = record { records = front; fault = None }; rest = []; all = sym (append-nil front); held = count }
 
 -- the output's writer failed in a part
 abbrev Fails : Part → Written → Written → Type 0
 Fails part now new = Appends now.text new.text part.text × AppendsFront now.output new.output part.output
 
-held_write : (direction : Direction) (first : State) (capture : Capture) (ahead : Ahead) (old now new : Written) (s after : State) (k taken : ℕ)
-    (r : CaptureRecord) (fault : CaptureFault) → k + 1 ≡ taken → IsHeld direction first capture ahead old now s k → Answers ahead (Ok (Some r)) →
-    FailsIn (record_part direction s k r) now new fault →
+-- the record after k others is one of all
+within_all : (records front rest : List CaptureRecord) (r : CaptureRecord) (k : ℕ) → records ≡ (front ++ r ∷ []) ++ rest → length front ≡ k → k < length records
+within_all records front rest r k all count =
+    let long : length records ≡ length (front ++ r ∷ []) + length rest = ap length all ∙ length-append (front ++ r ∷ []) rest in
+    omega (arith, long, length-append front (r ∷ []), count)
+
+write_fails : (direction : Direction) (first : State) (capture : Capture) (front rest : List CaptureRecord) (old now new : Written) (s after : State) (k taken : ℕ)
+    (r : CaptureRecord) (fault : CaptureFault) → k + 1 ≡ taken → capture.records ≡ (front ++ r ∷ []) ++ rest → length front ≡ k →
+    Adds (records_part direction first 0 front) old now s → FailsIn (record_part direction s k r) now new fault →
     RunsHeld direction first capture taken old new after (Err fault)
-held_write direction first capture ahead old now new s after k taken r (Script fault) same held answer fails =
-    let at = next_held direction first capture ahead old now s k r held answer in (
-      fails.0,
-      (
-        k,
-        same,
-        within_next direction first capture ahead old now s k r at,
-        at_front direction first capture.records at.front (r ∷ at.more) k (λ part. Appends old.output new.output part.output)
-            (at.all ∙ append_assoc at.front (r ∷ []) at.more) at.count
-            (subst (λ o. Appends old.output o (records_part direction first 0 at.front).output) (sym fails.1) at.adds.grows.output),
-      ),
-    )
-held_write direction first capture ahead old now new s after k taken r (Pcap fault) same held answer fails =
-    let at = next_held direction first capture ahead old now s k r held answer in
-    let part = records_part direction first 0 at.front in
+write_fails direction first capture front rest old now new s after k taken r (Script fault) same all count adds fails = (
+  fails.0,
+  (
+    k,
+    same,
+    within_all capture.records front rest r k all count,
+    at_front direction first capture.records front (r ∷ rest) k (λ part. Appends old.output new.output part.output)
+        (all ∙ append_assoc front (r ∷ []) rest) count
+        (subst (λ o. Appends old.output o (records_part direction first 0 front).output) (sym fails.1) adds.grows.output),
+  ),
+)
+write_fails direction first capture front rest old now new s after k taken r (Pcap fault) same all count adds fails =
+    let part = records_part direction first 0 front in
     let last = record_part direction part.state k r in
-    let piece : Fails last now new = subst (λ v. Fails (record_part direction v k r) now new) at.adds.state (fails.1, fails.2) in
+    let piece : Fails last now new = subst (λ v. Fails (record_part direction v k r) now new) adds.state (fails.1, fails.2) in
     let cut : CutsOutput old new (part_stop part) (part_stop (and_after part (λ after. record_part direction after k r))) = (
-      Appends-trans old.text now.text new.text part.text last.text at.adds.grows.text piece.0,
-      up_to_front old.output now.output new.output part.output last.output at.adds.grows.output piece.1,
+      Appends-trans old.text now.text new.text part.text last.text adds.grows.text piece.0,
+      up_to_front old.output now.output new.output part.output last.output adds.grows.output piece.1,
     ) in
-    subst (λ f. RunsHeld direction first capture taken old new after (Err (Pcap f))) (sym fails.0) (λ format. (
+    subst (λ f. RunsHeld direction first capture taken old new after (Err (Pcap f))) (sym fails.0) (inl (
       k,
       same,
-      within_next direction first capture ahead old now s k r at,
-      at_front direction first capture.records at.front (r ∷ at.more) k
+      within_all capture.records front rest r k all count,
+      at_front direction first capture.records front (r ∷ rest) k
           (λ p. CutsOutput old new (part_stop p) (part_stop (first_part direction first capture.records (k + 1))))
-          (at.all ∙ append_assoc at.front (r ∷ []) at.more) at.count
-          (at_front direction first capture.records (at.front ++ r ∷ []) at.more (k + 1) (λ p. CutsOutput old new (part_stop part) (part_stop p)) at.all
-          (length-append at.front (r ∷ []) ∙ ap (λ n. n + 1) at.count)
-          (subst (λ (p : Part). CutsOutput old new (part_stop part) (part_stop p)) (sym (with_next direction first at.front k r at.count)) cut)),
+          (all ∙ append_assoc front (r ∷ []) rest) count
+          (at_front direction first capture.records (front ++ r ∷ []) rest (k + 1) (λ p. CutsOutput old new (part_stop part) (part_stop p)) all
+          (length-append front (r ∷ []) ∙ ap (λ n. n + 1) count)
+          (subst (λ (p : Part). CutsOutput old new (part_stop part) (part_stop p)) (sym (with_next direction first front k r count)) cut)),
     ))
 
-pub taken_write : (direction : Direction) (first : State) (begins ahead : Ahead) (old now new : Written) (s after : State) (k count : ℕ)
+pub taken_write : (direction : Direction) (first : State) (begins ahead next : Ahead) (old now new : Written) (s after : State) (k count : ℕ)
     (r : CaptureRecord) (fault : CaptureFault) → k + 1 ≡ count → AreTaken direction first begins ahead old now s k → Answers ahead (Ok (Some r)) →
-    FailsIn (record_part direction s k r) now new fault →
+    IsAhead (ahead_after ahead (Ok (Some r))) next → FailsIn (record_part direction s k r) now new fault →
     RunsRecords direction first begins count old new after (Err fault)
-taken_write direction first (holds capture) ahead old now new s after k count r fault same taken answer fails =
-    held_write direction first capture ahead old now new s after k count r fault same taken answer fails
-taken_write direction first untold ahead old now new s after k count r fault same taken answer fails = tt
-taken_write direction first over ahead old now new s after k count r fault same taken answer fails = tt
-taken_write direction first (failed other) ahead old now new s after k count r fault same taken answer fails = tt
+taken_write direction first begins ahead next old now new s after k count r fault same taken answer left fails =
+    let long : length (taken.front ++ r ∷ []) ≡ count = length-append taken.front (r ∷ []) ∙ ap (λ n. n + 1) taken.count ∙ same in
+    let all = begin begins next (taken.front ++ r ∷ []) count long (rest_more begins ahead next taken.front r taken.held answer left) in (
+      all.capture,
+      all.held,
+      write_fails direction first all.capture taken.front all.rest old now new s after k count r fault same all.all taken.count taken.adds fails,
+    )
 
 pub late : (part : Part) (now new : Written) (fault : CaptureFault) → FailsIn part now new fault → IsLateFault fault
 late part now new (Script fault) fails = fails.0

@@ -1,5 +1,5 @@
 -- A run over a whole file, composed of its parts: header, records, flush and counters.
-use Rattle.std.proofs.Common.{◌≡◌, ℕ, List, [], ◌++◌, length, map, refl, sym, ap, subst, ◌∙◌, append-nil, arith}
+use Rattle.std.proofs.Common.{◌≡◌, ℕ, List, [], ◌++◌, length, map, inl, inr, refl, sym, ap, subst, ◌∙◌, append-nil, arith}
 use Rattle.std.specs.Prelude.{Option, Some, None, Result, Ok, Err, IfErr, IfSome, option_map}
 use Rattle.std.specs.Io.{StartsWith}
 use Rattle.std.specs.Io.KnownBytes.{Appends, Keeps}
@@ -15,8 +15,9 @@ use Rattle.macsec_pcap.specs.declared.fault.PcapFault.{PcapFault}
 use Rattle.macsec_pcap.specs.declared.fault.PcapFault.TheVariants.{Magic, Version, LinkType, CutHeader, CutRecord, RecordLength, Read, Write, Memory}
 use Rattle.macsec_pcap.specs.declared.fault.PcapFault.TheVariants.{RecordCount, BlockLength, NoInterface, InterfaceCount, Time}
 use Rattle.macsec_pcap.specs.declared.form.Resolution.{Resolution}
+use Rattle.macsec_pcap.specs.declared.form.Resolution.TheVariants.{Micro}
 use Rattle.macsec_pcap.specs.Captures.{CaptureFile}
-use Rattle.macsec_pcap.specs.Reading.{Opens, Reading, opened}
+use Rattle.macsec_pcap.specs.Reading.{Ahead, holds, Opens, Reading, opened}
 use Rattle.macsec_pcap.specs.Writing.{AppendsFront}
 use Rattle.macsec_pcap.specs.Written.{header_octets}
 use Rattle.macsec_pcapng.specs.Captures.{captures_of}
@@ -26,7 +27,7 @@ use Rattle.macsec_capture.specs.declared.fault.CaptureFault.{CaptureFault}
 use Rattle.macsec_capture.specs.declared.fault.CaptureFault.TheVariants.{Script, Pcap}
 use Rattle.macsec_capture.specs.Captured.{Captured, Part, Stop, captured_after, captured_at, commands_part, last_lines, nothing, records_part, stops_of}
 use Rattle.macsec_capture.specs.Runs.{Adds, AtFirst, AtSome, CaptureGives, CutsOutput, Grows, InLast, IsLateFault, RunsHeld, RunsRecords, TakesFile}
-use Rattle.macsec_capture.specs.Runs.{Written, behind_header, first_part, flushed_end, known}
+use Rattle.macsec_capture.specs.Runs.{Written, as_read, as_read_fault, behind_header, first_part, flushed_end, known}
 use Rattle.macsec_capture.proofs.Cuts.{at_flush, at_header, at_record, cut_put, next_put, up_to_behind}
 use Rattle.macsec_capture.proofs.Grown.{Grows-kept, Grows-more, Grows-nothing, Kept, fault_kept}
 use Rattle.macsec_capture.proofs.Stops.{at_first, at_last, first_put, put_before, some_at_first, some_behind, some_put, stops_put}
@@ -52,29 +53,41 @@ all_but_fault direction s file old mid new after fault first ended =
     (ap (option_map Pcap) ended.0, subst (Grows old new (header ++ part.output)) lines grown)
 
 -- the input or the output ends the run
-held_fault : (direction : Direction) (s : State) (file : CaptureFile) (taken : ℕ) (old mid new : Written) (after : State) →
-    Grows old mid (header_octets file.resolution) [] → IsOfFormat file.capture.fault → (fault : PcapFault) →
-    RunsHeld direction s file.capture taken mid new after (Err (Pcap fault)) → CaptureGives (of_file direction s file) old new (Err (Pcap fault))
-held_fault direction s file taken old mid new after first format Read runs =
+file_fault : (direction : Direction) (s : State) (file : CaptureFile) (taken : ℕ) (old mid new : Written) (after : State) →
+    Grows old mid (header_octets file.resolution) [] → (fault : PcapFault) → RunsHeld direction s file.capture taken mid new after (Err (Pcap fault)) →
+    CaptureGives (of_file direction s file) old new (Err (as_read_fault (Pcap fault)))
+file_fault direction s file taken old mid new after first Read runs =
     some_behind direction (nothing s) file taken _ runs.0 (Grows-more old mid new (header_octets file.resolution) _ [] _ first runs.1)
-held_fault direction s file taken old mid new after first format Write runs =
-    let at = runs format in
+file_fault direction s file taken old mid new after first Memory runs =
+    at_last direction (nothing s) file (λ stop. Grows old new stop.output stop.text)
+    (Grows-more old mid new (header_octets file.resolution) _ [] _ first runs.1.grows)
+file_fault direction s file taken old mid new after first Write (inl at) =
     at_record direction (nothing s) file at.0 (CutsOutput old new) at.2 (
       Appends-trans old.text mid.text new.text [] _ first.text at.3.0,
       up_to_behind old.output mid.output new.output (header_octets file.resolution) _ _ first.output at.3.1,
     )
+file_fault direction s file taken old mid new after first Write (inr ended) =
+    let part = records_of_file direction s file in
+    let grown : Grows old new (header_octets file.resolution ++ part.output) part.text =
+    Grows-more old mid new (header_octets file.resolution) part.output [] part.text first ended.1.grows in
+    at_flush direction s file old new (length file.capture.records) refl grown.text grown.output
+file_fault direction s file taken old mid new after first Magic runs = all_but_fault direction s file old mid new after Magic first runs
+file_fault direction s file taken old mid new after first Version runs = all_but_fault direction s file old mid new after Version first runs
+file_fault direction s file taken old mid new after first LinkType runs = all_but_fault direction s file old mid new after LinkType first runs
+file_fault direction s file taken old mid new after first CutHeader runs = all_but_fault direction s file old mid new after CutHeader first runs
+file_fault direction s file taken old mid new after first CutRecord runs = all_but_fault direction s file old mid new after CutRecord first runs
+file_fault direction s file taken old mid new after first RecordLength runs = all_but_fault direction s file old mid new after RecordLength first runs
+file_fault direction s file taken old mid new after first RecordCount runs = all_but_fault direction s file old mid new after RecordCount first runs
+file_fault direction s file taken old mid new after first BlockLength runs = all_but_fault direction s file old mid new after BlockLength first runs
+file_fault direction s file taken old mid new after first NoInterface runs = all_but_fault direction s file old mid new after NoInterface first runs
+file_fault direction s file taken old mid new after first InterfaceCount runs = all_but_fault direction s file old mid new after InterfaceCount first runs
+file_fault direction s file taken old mid new after first Time runs = all_but_fault direction s file old mid new after Time first runs
+
+held_fault : (direction : Direction) (s : State) (file : CaptureFile) (taken : ℕ) (old mid new : Written) (after : State) →
+    Grows old mid (header_octets file.resolution) [] → IsOfFormat file.capture.fault → (fault : PcapFault) →
+    RunsHeld direction s file.capture taken mid new after (Err (Pcap fault)) → CaptureGives (of_file direction s file) old new (Err (Pcap fault))
 held_fault direction s file taken old mid new after first format Memory runs = absurd (subst IsOfFormat runs.0 format)
-held_fault direction s file taken old mid new after first format Magic runs = all_but_fault direction s file old mid new after Magic first runs
-held_fault direction s file taken old mid new after first format Version runs = all_but_fault direction s file old mid new after Version first runs
-held_fault direction s file taken old mid new after first format LinkType runs = all_but_fault direction s file old mid new after LinkType first runs
-held_fault direction s file taken old mid new after first format CutHeader runs = all_but_fault direction s file old mid new after CutHeader first runs
-held_fault direction s file taken old mid new after first format CutRecord runs = all_but_fault direction s file old mid new after CutRecord first runs
-held_fault direction s file taken old mid new after first format RecordLength runs = all_but_fault direction s file old mid new after RecordLength first runs
-held_fault direction s file taken old mid new after first format RecordCount runs = all_but_fault direction s file old mid new after RecordCount first runs
-held_fault direction s file taken old mid new after first format BlockLength runs = all_but_fault direction s file old mid new after BlockLength first runs
-held_fault direction s file taken old mid new after first format NoInterface runs = all_but_fault direction s file old mid new after NoInterface first runs
-held_fault direction s file taken old mid new after first format InterfaceCount runs = all_but_fault direction s file old mid new after InterfaceCount first runs
-held_fault direction s file taken old mid new after first format Time runs = all_but_fault direction s file old mid new after Time first runs
+held_fault direction s file taken old mid new after first format fault runs = file_fault direction s file taken old mid new after first fault runs
 
 held_script : (direction : Direction) (s : State) (file : CaptureFile) (taken : ℕ) (old mid new : Written) → Grows old mid (header_octets file.resolution) [] →
     (fault : ScriptFault) → fault ≡ script.Write → InLast file.capture.records taken (λ n. Appends mid.output new.output (first_part direction s file.capture.records n).output) →
@@ -84,16 +97,30 @@ held_script direction s file taken old mid new first fault is at =
     (some_behind direction (nothing s) file at.0 (λ stop. Appends old.output new.output stop.output) (omega (arith, at.2))
     (Appends-trans old.output mid.output new.output (header_octets file.resolution) _ first.output at.3))
 
+file_ended : (direction : Direction) (s : State) (file : CaptureFile) (old mid new : Written) (after : State) → Grows old mid (header_octets file.resolution) [] →
+    (file.capture.fault ≡ None) × Adds (records_of_file direction s file) mid new after → TakesFile direction s file old new after (Ok tt)
+file_ended direction s file old mid new after first runs =
+    let part = records_of_file direction s file in
+    (runs.0, record { grows = Grows-more old mid new (header_octets file.resolution) part.output [] part.text first runs.1.grows; state = runs.1.state })
+
 held_takes : (direction : Direction) (s : State) (file : CaptureFile) (taken : ℕ) (old mid new : Written) (after : State) (answer : Result (Unit {0}) CaptureFault) →
     Grows old mid (header_octets file.resolution) [] → IsOfFormat file.capture.fault → RunsHeld direction s file.capture taken mid new after answer →
     TakesFile direction s file old new after answer
-held_takes direction s file taken old mid new after (Ok done) first format runs =
-    let part = records_of_file direction s file in
-    (runs.0, record { grows = Grows-more old mid new (header_octets file.resolution) part.output [] part.text first runs.1.grows; state = runs.1.state })
+held_takes direction s file taken old mid new after (Ok done) first format runs = file_ended direction s file old mid new after first runs
 held_takes direction s file taken old mid new after (Err (Script fault)) first format runs =
     held_script direction s file taken old mid new first fault runs.0 runs.1
 held_takes direction s file taken old mid new after (Err (Pcap fault)) first format runs =
     held_fault direction s file taken old mid new after first format fault runs
+
+-- the same whatever the reader returned
+file_takes : (direction : Direction) (s : State) (file : CaptureFile) (taken : ℕ) (old mid new : Written) (after : State) (answer : Result (Unit {0}) CaptureFault) →
+    Grows old mid (header_octets file.resolution) [] → RunsHeld direction s file.capture taken mid new after answer →
+    TakesFile direction s file old new after (as_read answer)
+file_takes direction s file taken old mid new after (Ok done) first runs = file_ended direction s file old mid new after first runs
+file_takes direction s file taken old mid new after (Err (Script fault)) first runs =
+    held_script direction s file taken old mid new first fault runs.0 runs.1
+file_takes direction s file taken old mid new after (Err (Pcap fault)) first runs =
+    file_fault direction s file taken old mid new after first fault runs
 
 -- the reader was opened on this file: it has the header's unit of time, and holds the records
 pub taken_of_file : ((file : List ℕ) → FileIsOfFormat (captures_of file)) → (direction : Direction) (s : State) (reader : Reading) (unit : Resolution)
@@ -101,24 +128,54 @@ pub taken_of_file : ((file : List ℕ) → FileIsOfFormat (captures_of file)) �
     x ≡ n → unit ≡ reader.resolution → Appends o m (header_octets unit) → RunsRecords direction s reader.ahead taken (known m t) (known n u) after answer →
     (octets : List ℕ) (file : CaptureFile) → captures_of octets ≡ Ok file → reader ≡ opened file → TakesFile direction s file (known o t) (known x u) after answer
 taken_of_file law direction s reader unit taken o m n x t u after answer back same adds runs octets file read stands =
+    let held : RunsRecords direction s (holds file.capture) taken (known m t) (known n u) after answer =
+    subst (λ (r : Reading). RunsRecords direction s r.ahead taken (known m t) (known n u) after answer) stands runs in
     subst (λ held. TakesFile direction s file (known o t) (known held u) after answer) (sym back)
     (held_takes direction s file taken (known o t) (known m t) (known n u) after answer
     (record { output = subst (λ u. Appends o m (header_octets u)) (same ∙ ap (λ (r : Reading). r.resolution) stands) adds; text = Appends-nil t })
-    (subst FileIsOfFormat read (law octets)) (subst (λ (r : Reading). RunsRecords direction s r.ahead taken (known m t) (known n u) after answer) stands runs))
+    (subst FileIsOfFormat read (law octets))
+    (subst (λ c. RunsHeld direction s c taken (known m t) (known n u) after answer) held.1 held.2))
+
+-- any reader: it has some unit of time and some records
+pub taken_of_some : (direction : Direction) (s : State) (ahead : Ahead) (unit : Resolution) (taken : ℕ) (o m n x t u : Option (List ℕ)) (after : State)
+    (answer : Result (Unit {0}) CaptureFault) → x ≡ n → Appends o m (header_octets unit) →
+    RunsRecords direction s ahead taken (known m t) (known n u) after answer →
+    (file : CaptureFile) × TakesFile direction s file (known o t) (known x u) after (as_read answer)
+taken_of_some direction s ahead unit taken o m n x t u after answer back adds runs =
+    let file : CaptureFile = record { resolution = unit; capture = runs.0 } in (
+      file,
+      subst (λ held. TakesFile direction s file (known o t) (known held u) after (as_read answer)) (sym back)
+          (file_takes direction s file taken (known o t) (known m t) (known n u) after answer (record { output = adds; text = Appends-nil t }) runs.2),
+    )
 
 -- the header can't be written
+headless_file : (direction : Direction) (s : State) (file : CaptureFile) (o m t : Option (List ℕ)) (after : State) → AppendsFront o m (header_octets file.resolution) →
+    TakesFile direction s file (known o t) (known m t) after (Err (Pcap Write))
+headless_file direction s file o m t after header =
+    at_header direction (nothing s) file (CutsOutput (known o t) (known m t)) (
+      Appends-nil t,
+      (header.0, refl, subst (λ xs. StartsWith xs header.0) (sym (append-nil (header_octets file.resolution))) header.1, header.2),
+    )
+
 pub headless : (direction : Direction) (s : State) (reader : Reading) (unit : Resolution) (o m t : Option (List ℕ)) (fault : PcapFault) → fault ≡ Write →
     unit ≡ reader.resolution → AppendsFront o m (header_octets unit) →
     (octets : List ℕ) (file : CaptureFile) → captures_of octets ≡ Ok file → reader ≡ opened file →
     TakesFile direction s file (known o t) (known m t) s (Err (Pcap fault))
 headless direction s reader unit o m t fault is same cut octets file read stands =
-    let header : AppendsFront o m (header_octets file.resolution) =
-    subst (λ u. AppendsFront o m (header_octets u)) (same ∙ ap (λ (r : Reading). r.resolution) stands) cut in
     subst (λ f. TakesFile direction s file (known o t) (known m t) s (Err (Pcap f))) (sym is)
-    (at_header direction (nothing s) file (CutsOutput (known o t) (known m t)) (
-      Appends-nil t,
-      (header.0, refl, subst (λ xs. StartsWith xs header.0) (sym (append-nil (header_octets file.resolution))) header.1, header.2),
-    ))
+    (headless_file direction s file o m t s
+    (subst (λ u. AppendsFront o m (header_octets u)) (same ∙ ap (λ (r : Reading). r.resolution) stands) cut))
+
+abbrev no_records : Resolution → CaptureFile
+no_records unit = record { resolution = unit; capture = record { records = []; fault = None } }
+
+pub headless_some : (direction : Direction) (s : State) (unit : Resolution) (o m t : Option (List ℕ)) (fault : PcapFault) → fault ≡ Write →
+    AppendsFront o m (header_octets unit) → (file : CaptureFile) × TakesFile direction s file (known o t) (known m t) s (as_read (Err (Pcap fault)))
+headless_some direction s unit o m t fault is cut = (
+  no_records unit,
+  subst (λ f. TakesFile direction s (no_records unit) (known o t) (known m t) s (as_read (Err (Pcap f)))) (sym is)
+      (headless_file direction s (no_records unit) o m t s cut),
+)
 
 -- ---- the flush of the output, and the counters
 
@@ -146,6 +203,22 @@ pub flushed : {E : Type 0} (direction : Direction) (s : State) (reader : Reading
 flushed direction s reader o m n t u after keeps written ended takes octets file read stands =
     flushed_file direction s file (known o t) (known m u) (known n u) after (record { output = keeps; text = Keeps-refl u }) written ended
     (takes octets file read stands)
+
+flushed_as_read : {E : Type 0} (written : Result (Unit {0}) CaptureFault) (ended : Result (Unit {0}) E) →
+    flushed_end (as_read written) ended ≡ as_read (flushed_end written ended)
+flushed_as_read (Err fault) ended = refl
+flushed_as_read (Ok done) (Err error) = refl
+flushed_as_read (Ok done) (Ok flushed) = refl
+
+pub flushed_some : {E : Type 0} (direction : Direction) (s : State) (o m n t u : Option (List ℕ)) (after : State) → Keeps m n →
+    (written : Result (Unit {0}) CaptureFault) (ended : Result (Unit {0}) E) →
+    (file : CaptureFile) × TakesFile direction s file (known o t) (known m u) after (as_read written) →
+    (file : CaptureFile) × TakesFile direction s file (known o t) (known n u) after (as_read (flushed_end written ended))
+flushed_some direction s o m n t u after keeps written ended (file, takes) = (
+  file,
+  subst (λ answer. TakesFile direction s file (known o t) (known n u) after answer) (flushed_as_read written ended)
+      (flushed_file direction s file (known o t) (known m u) (known n u) after (record { output = keeps; text = Keeps-refl u }) (as_read written) ended takes),
+)
 
 -- the counters can't be printed
 pub uncounted : (direction : Direction) (s : State) (file : CaptureFile) (o n t u v : Option (List ℕ)) (after : State) (fault : ScriptFault) → fault ≡ script.Write →
@@ -208,6 +281,28 @@ pub unopened : ((file : List ℕ) → FileIsOfFormat (captures_of file)) → (di
     IfSome input (λ file. CaptureGives (captured_after direction (nothing s) (captures_of file)) w w (Err (Pcap fault)))
 unopened law direction s None w fault h = tt
 unopened law direction s (Some octets) w fault h = unopened_gives law direction s octets w fault h
+
+-- any reader
+unopened_over : (direction : Direction) (s : State) (w : Written) (fault : PcapFault) →
+    (file : Result CaptureFile PcapFault) × CaptureGives (captured_after direction (nothing s) file) w w (Err (as_read_fault (Pcap fault)))
+unopened_over direction s w Read = (Err Read, some_at_first direction (nothing s) (Err Read) (λ stop. Grows w w stop.output stop.text) (Grows-nothing w))
+unopened_over direction s w Memory = (Err Read, some_at_first direction (nothing s) (Err Read) (λ stop. Grows w w stop.output stop.text) (Grows-nothing w))
+unopened_over direction s w Write = (Ok (no_records Micro), headless_file direction s (no_records Micro) w.output w.output w.text s ([], refl, Appends-nil w.output))
+unopened_over direction s w Magic = (Err Magic, header_fault direction s (Err Magic) w Magic refl)
+unopened_over direction s w Version = (Err Version, header_fault direction s (Err Version) w Version refl)
+unopened_over direction s w LinkType = (Err LinkType, header_fault direction s (Err LinkType) w LinkType refl)
+unopened_over direction s w CutHeader = (Err CutHeader, header_fault direction s (Err CutHeader) w CutHeader refl)
+unopened_over direction s w CutRecord = (Err CutRecord, header_fault direction s (Err CutRecord) w CutRecord refl)
+unopened_over direction s w RecordLength = (Err RecordLength, header_fault direction s (Err RecordLength) w RecordLength refl)
+unopened_over direction s w RecordCount = (Err RecordCount, header_fault direction s (Err RecordCount) w RecordCount refl)
+unopened_over direction s w BlockLength = (Err BlockLength, header_fault direction s (Err BlockLength) w BlockLength refl)
+unopened_over direction s w NoInterface = (Err NoInterface, header_fault direction s (Err NoInterface) w NoInterface refl)
+unopened_over direction s w InterfaceCount = (Err InterfaceCount, header_fault direction s (Err InterfaceCount) w InterfaceCount refl)
+unopened_over direction s w Time = (Err Time, header_fault direction s (Err Time) w Time refl)
+
+pub unopened_some : (direction : Direction) (s : State) (w : Written) (fault : PcapFault) →
+    (file : Result CaptureFile PcapFault) × CaptureGives (captured_after direction (nothing s) file) w w (as_read (Err (Pcap fault)))
+unopened_some direction s w fault = unopened_over direction s w fault
 
 -- ---- a file that was opened
 
@@ -284,22 +379,59 @@ ready_gives direction ready s file old mid new is same prints answer late gives 
     (behind_gives ready.text (captured_after direction (nothing ready.state) file) old mid new same prints answer late
     (subst (λ v. CaptureGives (captured_after direction (nothing v) file) mid new answer) is gives))
 
+pub late_as_read : (answer : Result (Unit {0}) CaptureFault) → IfErr answer IsLateFault → IfErr (as_read answer) IsLateFault
+late_as_read (Ok done) late = tt
+late_as_read (Err (Script fault)) late = late
+late_as_read (Err (Pcap Memory)) late = tt
+late_as_read (Err (Pcap fault)) late = tt
+
+pub configured_over : (direction : Direction) (config : EndConfig) (commands : List NumberedLine) (first s : State) (file : Result CaptureFile PcapFault)
+    (o n t m u : Option (List ℕ)) (answer : Result (Unit {0}) CaptureFault) →
+    first ≡ start config → s ≡ (commands_part first commands).state → Appends t m (commands_part first commands).text → IfErr answer IsLateFault →
+    CaptureGives (captured_after direction (nothing s) file) (known o m) (known n u) answer →
+    CaptureGives (captured_at direction (Some (config, commands)) file) (known o t) (known n u) answer
+configured_over direction config commands first s file o n t m u answer created same adds late gives =
+    ready_gives direction (commands_part (start config) commands) s file (known o t) (known o m) (known n u)
+    (same ∙ ap (λ v. (commands_part v commands).state) created) refl (subst (λ v. Appends t m (commands_part v commands).text) created adds) answer late gives
+
 pub configured_gives : (direction : Direction) (config : EndConfig) (commands : List NumberedLine) (first s : State) (input o n t m u : Option (List ℕ))
     (answer : Result (Unit {0}) CaptureFault) →
     first ≡ start config → s ≡ (commands_part first commands).state → Appends t m (commands_part first commands).text → IfErr answer IsLateFault →
     IfSome input (λ file. CaptureGives (captured_after direction (nothing s) (captures_of file)) (known o m) (known n u) answer) →
-    IfSome input (λ file. CaptureGives (captured_at direction (Some (config, commands)) file) (known o t) (known n u) answer)
+    IfSome input (λ file. CaptureGives (captured_at direction (Some (config, commands)) (captures_of file)) (known o t) (known n u) answer)
 configured_gives direction config commands first s None o n t m u answer created same adds late gives = tt
 configured_gives direction config commands first s (Some file) o n t m u answer created same adds late gives =
-    ready_gives direction (commands_part (start config) commands) s (captures_of file) (known o t) (known o m) (known n u)
-    (same ∙ ap (λ v. (commands_part v commands).state) created) refl (subst (λ v. Appends t m (commands_part v commands).text) created adds) answer late gives
+    configured_over direction config commands first s (captures_of file) o n t m u answer created same adds late gives
+
+pub configured_some : (direction : Direction) (config : EndConfig) (commands : List NumberedLine) (first s : State) (o n t m u : Option (List ℕ))
+    (answer : Result (Unit {0}) CaptureFault) →
+    first ≡ start config → s ≡ (commands_part first commands).state → Appends t m (commands_part first commands).text → IfErr answer IsLateFault →
+    (file : Result CaptureFile PcapFault) × CaptureGives (captured_after direction (nothing s) file) (known o m) (known n u) (as_read answer) →
+    (file : Result CaptureFile PcapFault) × CaptureGives (captured_at direction (Some (config, commands)) file) (known o t) (known n u) (as_read answer)
+configured_some direction config commands first s o n t m u answer created same adds late (file, gives) = (
+  file,
+  configured_over direction config commands first s file o n t m u (as_read answer) created same adds (late_as_read answer late) gives,
+)
 
 -- the commands can't be printed
+unprinted_over : (direction : Direction) (config : EndConfig) (commands : List NumberedLine) (file : Result CaptureFile PcapFault) (o t u : Option (List ℕ)) →
+    CaptureGives (captured_at direction (Some (config, commands)) file) (known o t) (known o u) (Err (Script script.Write))
+unprinted_over direction config commands file o t u =
+    let ready = commands_part (start config) commands in
+    subst (λ stops. AtSome stops (λ stop. Appends o o stop.output)) (same_stops direction ready file)
+    (some_at_first direction ready file (λ stop. Appends o o stop.output) (Appends-nil o))
+
 pub unprinted : (direction : Direction) (config : EndConfig) (commands : List NumberedLine) (input o t u : Option (List ℕ)) (fault : ScriptFault) → fault ≡ script.Write →
-    IfSome input (λ file. CaptureGives (captured_at direction (Some (config, commands)) file) (known o t) (known o u) (Err (Script fault)))
+    IfSome input (λ file. CaptureGives (captured_at direction (Some (config, commands)) (captures_of file)) (known o t) (known o u) (Err (Script fault)))
 unprinted direction config commands None o t u fault is = tt
 unprinted direction config commands (Some file) o t u fault is =
-    let ready = commands_part (start config) commands in
-    subst (λ f. CaptureGives (captured_at direction (Some (config, commands)) file) (known o t) (known o u) (Err (Script f))) (sym is)
-    (subst (λ stops. AtSome stops (λ stop. Appends o o stop.output)) (same_stops direction ready (captures_of file))
-    (some_at_first direction ready (captures_of file) (λ stop. Appends o o stop.output) (Appends-nil o)))
+    subst (λ f. CaptureGives (captured_at direction (Some (config, commands)) (captures_of file)) (known o t) (known o u) (Err (Script f))) (sym is)
+    (unprinted_over direction config commands (captures_of file) o t u)
+
+pub unprinted_some : (direction : Direction) (config : EndConfig) (commands : List NumberedLine) (o t u : Option (List ℕ)) (fault : ScriptFault) → fault ≡ script.Write →
+    (file : Result CaptureFile PcapFault) × CaptureGives (captured_at direction (Some (config, commands)) file) (known o t) (known o u) (as_read (Err (Script fault)))
+unprinted_some direction config commands o t u fault is = (
+  Err Read,
+  subst (λ f. CaptureGives (captured_at direction (Some (config, commands)) (Err Read)) (known o t) (known o u) (as_read (Err (Script f)))) (sym is)
+      (unprinted_over direction config commands (Err Read) o t u),
+)

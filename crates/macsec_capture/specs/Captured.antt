@@ -163,15 +163,18 @@ captured_after direction ready (Ok file) =
     captured_file direction ready file (records_part direction ready.state 0 file.capture.records)
 
 -- every configuration without a fault has an end (`configs_have_an_end`)
-abbrev pub captured_at : Direction → Option (EndConfig × List NumberedLine) → List ℕ → Captured
+abbrev pub captured_at : Direction → Option (EndConfig × List NumberedLine) → Result CaptureFile PcapFault → Captured
 captured_at direction None file = record { output = []; text = []; fault = None; stops = record { output = []; text = [] } ∷ [] }
-captured_at direction (Some (config, commands)) file =
-    captured_after direction (commands_part (start config) commands) (captures_of file)
+captured_at direction (Some (config, commands)) file = captured_after direction (commands_part (start config) commands) file
 
-abbrev pub captured_by : Direction → Result (List NumberedLine) ScriptFault → List ℕ → Captured
+abbrev pub captured_by : Direction → Result (List NumberedLine) ScriptFault → Result CaptureFile PcapFault → Captured
 captured_by direction (Err fault) file = record { output = []; text = []; fault = Some (Script fault); stops = [] }
 captured_by direction (Ok lines) file = captured_at direction (one_end lines) file
 
--- a run in this direction, by this configuration, over this capture file
+-- a run in this direction, by this configuration, over this capture
+abbrev pub captured_over : Direction → List ℕ → Result CaptureFile PcapFault → Captured
+captured_over direction config file = captured_by direction (config_of config) file
+
+-- a run over the capture file of these octets
 abbrev pub captured : Direction → List ℕ → List ℕ → Captured
-captured direction config file = captured_by direction (config_of config) file
+captured direction config file = captured_over direction config (captures_of file)

@@ -1,22 +1,23 @@
 -- What the parts of a run return and write.
-use Rattle.std.specs.Prelude.{◌≡◌, ◌≤◌, ◌<◌, ◌+◌, ℕ, List, [], ◌∷◌, ◌++◌, Contains, length, slice_get, take, Option, Some, None, Result, Ok, Err}
+use Rattle.std.specs.Prelude.{◌≡◌, ◌≤◌, ◌<◌, ◌+◌, ◌⊎◌, IsOk, IfSome, ℕ, List, [], ◌∷◌, ◌++◌, Contains, length, slice_get, take, Option, Some, None, Result, Ok, Err}
 use Rattle.std.specs.Io.{StartsWith}
 use Rattle.std.specs.Io.KnownBytes.{Appends, Keeps}
 use Rattle.macsec_secy.specs.State.{State}
-use Rattle.macsec_script_parser.specs.declared.faults.ScriptFault.{ScriptFault}
 use Rattle.macsec_script_parser.specs.declared.faults.ScriptFault.TheVariants as script
-use Rattle.macsec_script_parser.specs.Scripts.{NumberedLine, config_of}
+use Rattle.macsec_script_parser.specs.Limits.{max_script_len}
+use Rattle.macsec_script_parser.specs.Readings.{IsReadFault}
+use Rattle.macsec_script_parser.specs.Scripts.{config_of}
+use Rattle.macsec_pcap.specs.declared.fault.PcapFault.{PcapFault}
 use Rattle.macsec_pcap.specs.declared.fault.PcapFault.TheVariants as pcap
 use Rattle.macsec_pcap.specs.Records.{CaptureRecord}
 use Rattle.macsec_pcap.specs.Captures.{Capture, CaptureFile}
-use Rattle.macsec_pcap.specs.Reading.{Ahead, over, failed, holds, untold}
+use Rattle.macsec_pcap.specs.Reading.{Ahead, holds}
 use Rattle.macsec_pcap.specs.Writing.{AppendsFront}
 use Rattle.macsec_pcap.specs.Written.{header_octets}
-use Rattle.macsec_pcapng.specs.Laws.{IsOfFormat}
 use Rattle.macsec_capture.specs.declared.Direction.{Direction}
 use Rattle.macsec_capture.specs.declared.fault.CaptureFault.{CaptureFault}
 use Rattle.macsec_capture.specs.declared.fault.CaptureFault.TheVariants.{Script, Pcap}
-use Rattle.macsec_capture.specs.Captured.{Captured, Part, Stop, captured_after, nothing, records_part}
+use Rattle.macsec_capture.specs.Captured.{Captured, Part, Stop, captured_after, captured_over, nothing, records_part}
 
 -- the octets of the output and of the text, where a contract can name them
 pub record Written : Type 0 where
@@ -77,10 +78,15 @@ part_stop part = record { output = part.output; text = part.text }
 abbrev pub InLast : List CaptureRecord → ℕ → (ℕ → Type 0) → Type 0
 InLast records taken Holds = (n : ℕ) × (n + 1 ≡ taken) × (n < length records) × Holds n
 
+-- the fault after the records that are held, and what all of these write
+abbrev pub EndsHeld : Direction → State → Capture → Written → Written → State → PcapFault → Type 0
+EndsHeld direction s held old new after fault = (held.fault ≡ Some fault) × Adds (records_part direction s 0 held.records) old new after
+
 -- a run over the records that the reader holds, after `taken` of them: it ends with the last one, or with the fault
 -- after it, unless a read or a write fails first. If a read fails, both writers have what the taken records write. A
--- write fails in the last record taken. If the text fails, the output has what comes before that record. If the output
--- fails, the text has that record's line, and the output all that comes before the record and at most what it adds
+-- write fails in the last record taken; no file has the fault `Write`. If the text fails, the output has what comes
+-- before that record. If the output fails, the text has that record's line, and the output all that comes before the
+-- record and at most what it adds
 abbrev pub RunsHeld : Direction → State → Capture → ℕ → Written → Written → State → Result (Unit {0}) CaptureFault → Type 0
 RunsHeld direction s held taken old new after (Ok done) =
     (held.fault ≡ None) × Adds (records_part direction s 0 held.records) old new after
@@ -90,25 +96,20 @@ RunsHeld direction s held taken old new after (Err (Script fault)) =
 RunsHeld direction s held taken old new after (Err (Pcap pcap.Read)) =
     (taken ≤ length held.records)
     × Grows old new (first_part direction s held.records taken).output (first_part direction s held.records taken).text
-RunsHeld direction s held taken old new after (Err (Pcap pcap.Write)) = IsOfFormat held.fault →
+RunsHeld direction s held taken old new after (Err (Pcap pcap.Write)) =
     InLast held.records taken (λ n. CutsOutput old new (part_stop (first_part direction s held.records n)) (part_stop (first_part direction s held.records (n + 1))))
-RunsHeld direction s held taken old new after (Err (Pcap fault)) =
-    (held.fault ≡ Some fault) × Adds (records_part direction s 0 held.records) old new after
+    ⊎ EndsHeld direction s held old new after pcap.Write
+RunsHeld direction s held taken old new after (Err (Pcap fault)) = EndsHeld direction s held old new after fault
 
--- the same for what the reader has ahead of it, if that is known
+-- what a reader holds. If its octets are not known, it is some capture, of as many records as the reader returned
+abbrev pub IsHeldBy : Ahead → ℕ → Capture → Type 0
+IsHeldBy (holds capture) taken held = held ≡ capture
+IsHeldBy other taken held = length held.records ≡ taken
+
+-- a run over the records of a reader, after `taken` of them
 abbrev pub RunsRecords : Direction → State → Ahead → ℕ → Written → Written → State → Result (Unit {0}) CaptureFault → Type 0
-RunsRecords direction s (holds held) taken old new after answer = RunsHeld direction s held taken old new after answer
-RunsRecords direction s untold taken old new after answer = Unit {0}
-RunsRecords direction s over taken old new after answer = Unit {0}
-RunsRecords direction s (failed fault) taken old new after answer = Unit {0}
-
--- reading a configuration returns its lines or its first fault, unless memory runs out or a read fails first
-abbrev pub ReadsConfig : List ℕ → Result (List NumberedLine) ScriptFault → Type 0
-ReadsConfig config (Ok lines) = config_of config ≡ Ok lines
-ReadsConfig config (Err script.Memory) = Unit {0}
-ReadsConfig config (Err script.Read) = Unit {0}
-ReadsConfig config (Err script.Write) = ⊥
-ReadsConfig config (Err fault) = config_of config ≡ Err fault
+RunsRecords direction s ahead taken old new after answer =
+    (held : Capture) × IsHeldBy ahead taken held × RunsHeld direction s held taken old new after answer
 
 -- `Holds` of the first stop of a list; of some stop (`AtSome`)
 abbrev pub AtFirst : List Stop → (Stop → Type 0) → Type 0
@@ -156,3 +157,50 @@ abbrev pub LeavesBoth : Written → Written → CaptureFault → Type 0
 LeavesBoth old new (Script script.Write) = Unit {0}
 LeavesBoth old new (Script fault) = Stays old new
 LeavesBoth old new (Pcap fault) = Unit {0}
+
+-- a fault of the configuration is the first fault of its octets. With any other result they have none, unless memory
+-- ran out
+abbrev pub JudgesConfig : List ℕ → Result (Unit {0}) CaptureFault → Type 0
+JudgesConfig config (Ok done) = IsOk (config_of config)
+JudgesConfig config (Err (Pcap fault)) = IsOk (config_of config)
+JudgesConfig config (Err (Script script.Write)) = IsOk (config_of config)
+JudgesConfig config (Err (Script script.Memory)) = Unit {0}
+JudgesConfig config (Err (Script script.Read)) = ⊥
+JudgesConfig config (Err (Script fault)) = config_of config ≡ Err fault
+
+-- after the configuration: memory ran out for the endpoint, or the fault is a late one
+abbrev pub IsAfterConfig : CaptureFault → Type 0
+IsAfterConfig (Script script.Memory) = Unit {0}
+IsAfterConfig fault = IsLateFault fault
+
+-- over a reader whose octets are not known, a run that is out of memory is at a stop, as if a read had failed
+abbrev pub as_read_fault : CaptureFault → CaptureFault
+as_read_fault (Pcap pcap.Memory) = Pcap pcap.Read
+as_read_fault fault = fault
+
+abbrev pub as_read : Result (Unit {0}) CaptureFault → Result (Unit {0}) CaptureFault
+as_read (Ok done) = Ok tt
+as_read (Err fault) = Err (as_read_fault fault)
+
+-- over any reader: the run is that over some capture, the one that the reader returned
+abbrev pub RunsOverSome : Direction → List ℕ → Written → Written → Result (Unit {0}) CaptureFault → Type 0
+RunsOverSome direction config old new answer =
+    (file : Result CaptureFile PcapFault) × CaptureGives (captured_over direction config file) old new (as_read answer)
+
+-- ---- a configuration that is read
+
+-- the configuration can't be read or is too long, or memory ran out, and nothing was written
+abbrev pub IsUnread : Written → Written → Result (Unit {0}) CaptureFault → Type 0
+IsUnread old new (Err (Script fault)) = IsReadFault fault × Stays old new
+IsUnread old new other = ⊥
+
+-- octets that a reader had: all of them, if they are known
+abbrev pub IsTextOf : Option (List ℕ) → List ℕ → Type 0
+IsTextOf reader text = (length text ≤ max_script_len) × IfSome reader (λ all. text ≡ all)
+
+-- over any readers: the configuration was not read. Or it had some octets, at most 1,048,576, and the run is one by
+-- these octets
+abbrev pub RunsSome : Direction → Option (List ℕ) → Written → Written → Result (Unit {0}) CaptureFault → Type 0
+RunsSome direction reader old new answer =
+    IsUnread old new answer
+    ⊎ ((config : List ℕ) × IsTextOf reader config × JudgesConfig config answer × RunsOverSome direction config old new answer)

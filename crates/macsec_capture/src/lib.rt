@@ -5,19 +5,19 @@
 //! it: the commands and then the frames go through the steps of the machine. A run has a stop after the commands, after
 //! the output's header, and after each record, without counters. A configuration with a fault has no stops.
 //!
-//! Proved, of `run_capture` over readers and writers whose octets a contract can name:
+//! Proved, of `run_capture` and `run_config`, over readers and writers whose octets a contract can name:
 //! - `Ok`: output and text are what `captured` gives, and it gives no fault.
-//! - A fault of the configuration: the configuration has that fault, at that line, and nothing was written.
+//! - A fault of the configuration: it has that fault, at that line, and nothing was written.
 //! - A fault of the input's format: the configuration has no fault, and the input has that one. Output and text have
 //!   what comes before it, without counters.
 //! - If `captured` gives a fault, the run returns it, unless `Memory`, `Read` or `Write` comes first.
 //! - `Script(Memory)`, `Script(Read)`: nothing was written. `Pcap(Memory)`: output and text are at the first stop.
 //!   `Pcap(Read)`: both are at the same stop. `Pcap(Write)`: the text is at a stop, and the output has all of the stop
-//!   before it and at most what this one has. `Script(Write)`: the output is at a stop. The contract of the private
-//!   `run_records` also says at which record a read or a write failed.
+//!   before it and at most what this one has. `Script(Write)`: the output is at a stop. `run_records`: at which record.
 //!
-//! Over any reader: with a fault in `Script` other than `Write` nothing was written. A configuration without a fault
-//! makes an endpoint, and no frame of an endpoint is too long for a record.
+//! Over any reader: `run_config` returns the first fault of its octets, or they have none. A run is one by some octets,
+//! at most 1,048,576, over some capture (`RunsSome`). With a fault in `Script` other than `Write` nothing was written. A
+//! configuration without a fault makes an endpoint, and no frame of an endpoint is too long for a record.
 #![tactic(auto)]
 
 mod commands;
@@ -28,7 +28,7 @@ mod records;
 mod running;
 
 pub use fault::CaptureFault;
-pub use running::run_capture;
+pub use running::{run_capture, run_config};
 
 /// What a run does with the frames of a capture.
 #[derive(Clone, Copy, PartialEq, Eq, Debug)]

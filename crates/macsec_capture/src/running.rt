@@ -1,16 +1,15 @@
 //! A run over a capture file: from the input to the output, by a configuration, with a line of text for each record.
 
-ghost use Rattle.std.specs.Prelude.{◌≡◌, ℕ, List, IfErr, IfOk, IfSome, None, Ok, Some};
+ghost use Rattle.std.specs.Prelude.{◌≡◌, ℕ, List, IfErr, IfSome, None, Ok, Result, Some};
 ghost use Rattle.macsec_commands.specs.Configs.{config_fault};
 ghost use Rattle.macsec_secy.specs.Sound.{IsSound};
-ghost use Rattle.macsec_script_parser.specs.Fields.{map_ok};
-ghost use Rattle.macsec_script_parser.specs.Laws.{AreFit};
+ghost use Rattle.macsec_pcap.specs.declared.fault.PcapFault.{PcapFault};
 ghost use Rattle.macsec_pcap.specs.Captures.{CaptureFile};
 ghost use Rattle.macsec_pcap.specs.Limits.{max_records};
 ghost use Rattle.macsec_pcap.specs.Reading.{opened};
 ghost use Rattle.macsec_pcapng.specs.Captures.{captures_of};
 ghost use Rattle.macsec_capture.specs.Captured.{captured, captured_after, captured_at, nothing};
-ghost use Rattle.macsec_capture.specs.Runs.{CaptureGives, IsLateFault, LeavesBoth, ReadsConfig, TakesFile, flushed_end};
+ghost use Rattle.macsec_capture.specs.Runs.{CaptureGives, IsAfterConfig, IsLateFault, JudgesConfig, LeavesBoth, RunsOverSome, RunsSome, TakesFile, as_read, flushed_end};
 
 use crate::commands::{endpoint_of, one_end, run_commands};
 use crate::records::run_records;
@@ -26,22 +25,8 @@ use macsec_secy::Secy;
 use std::alloc::Global;
 use std::io::{self, Read, Write};
 
-/// Runs an endpoint over a capture file. Reads and parses the whole configuration, carries out its commands and prints
-/// their outcomes. Then reads the header of the input, writes the output's header, and takes the records in order:
-/// prints a line for each, passes its frame through the endpoint in this direction, and writes what is sent or
-/// delivered, with the record's time. The line is printed before the frame is written. After the records the output is
-/// flushed, even if one of them failed; the text is not flushed. Last, prints the endpoint's counters.
-///
-/// Returns the first fault:
-/// - a fault of the configuration: nothing was written;
-/// - a fault of the input's format: all that comes before it was written;
-/// - `Memory`, `Read` or `Write`: in `Script` for the configuration and the text, in `Pcap` for the input and the
-///   output.
-///
-/// With a fault in `Pcap` there are no counters. A run has a stop after the commands, one after the output's header,
-/// and one after each record. With `Pcap(Memory)` and `Pcap(Read)` both writers are at the same stop. With
-/// `Pcap(Write)` the text is at a stop, and the output has all of the stop before it and maybe more of what this one
-/// has. With `Script(Write)` the output is at a stop.
+/// Runs an endpoint over a capture file. Reads the whole configuration, and does what `run_config` does with its octets.
+/// Returns its first fault; `Script(Read)` if the configuration can't be read, and then nothing was written.
 pub fn run_capture<C: Read, R: Read, W: Write, T: Write>(
     alloc: Global,
     direction: Direction,
@@ -53,25 +38,56 @@ pub fn run_capture<C: Read, R: Read, W: Write, T: Write>(
     ensures run { IfSome (C.remaining config.old) (λ config. IfSome (R.remaining input.old) (λ file.
         CaptureGives (captured direction config file) (record { output = W.contents output.old; text = T.contents text.old })
         (record { output = W.contents output.new; text = T.contents text.new }) result)) }
+    ensures some { RunsSome direction (C.remaining config.old) (record { output = W.contents output.old; text = T.contents text.old })
+        (record { output = W.contents output.new; text = T.contents text.new }) result }
     ensures unwritten { IfErr result (LeavesBoth (record { output = W.contents output.old; text = T.contents text.old })
         (record { output = W.contents output.new; text = T.contents text.new })) }
 {
-    let lines = read_config(alloc, config)?;
+    let config = read_text(alloc, config)?;
+    run_config(alloc, direction, config.as_slice(), input, output, text)
+}
+
+/// Runs an endpoint over a capture file, by the octets of a configuration. Parses the whole configuration, carries out
+/// its commands and prints their outcomes. Then reads the header of the input, writes the output's header, and takes
+/// the records in order: prints a line for each, passes its frame through the endpoint in this direction, and writes
+/// what is sent or delivered, with the record's time. The line is printed before the frame is written. After the
+/// records the output is flushed, even if one of them failed; the text is not flushed. Last, prints the endpoint's
+/// counters.
+///
+/// Returns the first fault:
+/// - a fault of the configuration: nothing was written;
+/// - a fault of the input's format: all that comes before it was written;
+/// - `Memory`, `Read` or `Write`: in `Script` for the configuration and the text, in `Pcap` for the input and the
+///   output.
+///
+/// With a fault in `Pcap` there are no counters. A run has a stop after the commands, one after the output's header,
+/// and one after each record. With `Pcap(Memory)` and `Pcap(Read)` both writers are at the same stop. With
+/// `Pcap(Write)` the text is at a stop, and the output has all of the stop before it and maybe more of what this one
+/// has. With `Script(Write)` the output is at a stop.
+pub fn run_config<R: Read, W: Write, T: Write>(
+    alloc: Global,
+    direction: Direction,
+    config: &[u8],
+    input: &mut R,
+    output: &mut W,
+    text: &mut T,
+) -> Result<(), CaptureFault>
+    ensures config { JudgesConfig config.now result }
+    ensures run { IfSome (R.remaining input.old) (λ file.
+        CaptureGives (captured direction config.now file) (record { output = W.contents output.old; text = T.contents text.old })
+        (record { output = W.contents output.new; text = T.contents text.new }) result) }
+    ensures some { RunsOverSome direction config.now (record { output = W.contents output.old; text = T.contents text.old })
+        (record { output = W.contents output.new; text = T.contents text.new }) result }
+    ensures unwritten { IfErr result (LeavesBoth (record { output = W.contents output.old; text = T.contents text.old })
+        (record { output = W.contents output.new; text = T.contents text.new })) }
+{
+    // A law that the proof cites.
+    parsed_lines_fit();
+    let lines = parse_config(alloc, config)?;
     let Some((end, commands)) = one_end(lines.as_slice()) else {
         return Ok(());
     };
     run_configured(alloc, direction, end, commands, input, output, text)
-}
-
-/// The lines of a configuration, or its first fault.
-fn read_config<C: Read>(alloc: Global, config: &mut C) -> Result<Vec<(u32, Line)>, ScriptFault>
-    ensures lines { IfSome (C.remaining config.old) (λ config. ReadsConfig config (map_ok (λ lines. lines.items) result)) }
-    ensures fit { IfOk result (λ lines. AreFit lines.items) }
-{
-    // A law that the proof cites.
-    parsed_lines_fit();
-    let text = read_text(alloc, config)?;
-    parse_config(alloc, text.as_slice())
 }
 
 /// Creates an endpoint of this configuration, carries out its commands, and runs it over a capture file.
@@ -86,8 +102,12 @@ fn run_configured<R: Read, W: Write, T: Write>(
 ) -> Result<(), CaptureFault>
     requires { config_fault end ≡ None }
     ensures run { IfSome (R.remaining input.old) (λ file.
-        CaptureGives (captured_at direction (Some (end, commands.now)) file) (record { output = W.contents output.old; text = T.contents text.old })
+        CaptureGives (captured_at direction (Some (end, commands.now)) (captures_of file)) (record { output = W.contents output.old; text = T.contents text.old })
         (record { output = W.contents output.new; text = T.contents text.new }) result) }
+    ensures some { (file : Result CaptureFile PcapFault) ×
+        CaptureGives (captured_at direction (Some (end, commands.now)) file) (record { output = W.contents output.old; text = T.contents text.old })
+        (record { output = W.contents output.new; text = T.contents text.new }) (as_read result) }
+    ensures fault { IfErr result IsAfterConfig }
     ensures unwritten { IfErr result (LeavesBoth (record { output = W.contents output.old; text = T.contents text.old })
         (record { output = W.contents output.new; text = T.contents text.new })) }
 {
@@ -109,6 +129,9 @@ fn run_file<R: Read, W: Write, T: Write>(
     ensures run { IfSome (R.remaining input.old) (λ file.
         CaptureGives (captured_after direction (nothing endpoint.old) (captures_of file)) (record { output = W.contents output.old; text = T.contents text.old })
         (record { output = W.contents output.new; text = T.contents text.new }) result) }
+    ensures some { (file : Result CaptureFile PcapFault) ×
+        CaptureGives (captured_after direction (nothing endpoint.old) file) (record { output = W.contents output.old; text = T.contents text.old })
+        (record { output = W.contents output.new; text = T.contents text.new }) (as_read result) }
     ensures fault { IfErr result IsLateFault }
 {
     // A law that the proof cites.
@@ -130,6 +153,9 @@ fn run_opened<R: Read, W: Write, T: Write>(
     ensures run { (octets : List ℕ) (file : CaptureFile) → captures_of octets ≡ Ok file → reader.old ≡ opened file →
         CaptureGives (captured_after direction (nothing endpoint.old) (Ok file)) (record { output = W.contents output.old; text = T.contents text.old })
         (record { output = W.contents output.new; text = T.contents text.new }) result }
+    ensures some { (file : CaptureFile) ×
+        CaptureGives (captured_after direction (nothing endpoint.old) (Ok file)) (record { output = W.contents output.old; text = T.contents text.old })
+        (record { output = W.contents output.new; text = T.contents text.new }) (as_read result) }
     ensures fault { IfErr result IsLateFault }
 {
     write_and_flush(direction, endpoint, reader, output, text)?;
@@ -150,6 +176,9 @@ fn write_and_flush<R: Read, W: Write, T: Write>(
     ensures run { (octets : List ℕ) (file : CaptureFile) → captures_of octets ≡ Ok file → reader.old ≡ opened file →
         TakesFile direction endpoint.old file (record { output = W.contents output.old; text = T.contents text.old })
         (record { output = W.contents output.new; text = T.contents text.new }) endpoint.new result }
+    ensures some { (file : CaptureFile) ×
+        TakesFile direction endpoint.old file (record { output = W.contents output.old; text = T.contents text.old })
+        (record { output = W.contents output.new; text = T.contents text.new }) endpoint.new (as_read result) }
     ensures fault { IfErr result IsLateFault }
 {
     let written = write_output(direction, endpoint, reader, output, text);
@@ -184,6 +213,9 @@ fn write_output<R: Read, W: Write, T: Write>(
     ensures run { (octets : List ℕ) (file : CaptureFile) → captures_of octets ≡ Ok file → reader.old ≡ opened file →
         TakesFile direction endpoint.old file (record { output = W.contents output.old; text = T.contents text.old })
         (record { output = W.contents output.new; text = T.contents text.new }) endpoint.new result }
+    ensures some { (file : CaptureFile) ×
+        TakesFile direction endpoint.old file (record { output = W.contents output.old; text = T.contents text.old })
+        (record { output = W.contents output.new; text = T.contents text.new }) endpoint.new (as_read result) }
     ensures fault { IfErr result IsLateFault }
 {
     // A law that the proof cites.

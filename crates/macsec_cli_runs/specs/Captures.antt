@@ -1,9 +1,12 @@
 -- How a run over the named files of a capture ends.
-use Rattle.std.specs.Prelude.{◌≡◌, ◌⊎◌, ℕ, List, Option, Result, Ok, Err}
+use Rattle.std.specs.Prelude.{◌≡◌, ◌⊎◌, ℕ, List, Option, None, Result, Ok, Err}
 use Rattle.std.specs.Io.KnownBytes.{Keeps}
 use Rattle.macsec_script_parser.specs.declared.faults.ScriptFault.TheVariants as script
+use Rattle.macsec_pcap.specs.declared.fault.PcapFault.TheVariants as pcap
+use Rattle.macsec_capture.specs.declared.Direction.{Direction}
 use Rattle.macsec_capture.specs.declared.fault.CaptureFault.{CaptureFault}
 use Rattle.macsec_capture.specs.declared.fault.CaptureFault.TheVariants as capture
+use Rattle.macsec_capture.specs.Runs.{RunsSome, known}
 use Rattle.macsec_cli_runs.specs.declared.captures.CapturePaths.{CapturePaths}
 use Rattle.macsec_cli_runs.specs.declared.failures.Failure.{Failure}
 use Rattle.macsec_cli_runs.specs.declared.failures.Failure.TheVariants.{Usage, CannotOpen, Script, Pcap}
@@ -42,3 +45,15 @@ LeavesLines old new (CannotOpen path) = Keeps old new
 LeavesLines old new (Script script.Write) = Unit {0}
 LeavesLines old new (Script fault) = Keeps old new
 LeavesLines old new (Pcap fault) = Unit {0}
+
+-- the run did not begin, and nothing was printed: a file can't be opened, or memory ran out
+abbrev pub EndsEarly : Option (List ℕ) → Option (List ℕ) → Result (Unit {0}) Failure → Type 0
+EndsEarly old new (Err (CannotOpen path)) = Keeps old new
+EndsEarly old new (Err (Pcap pcap.Memory)) = Keeps old new
+EndsEarly old new other = ⊥
+
+-- the run did not begin. Or it is a run by some octets of the configuration, at most 1,048,576, over some capture
+-- (`RunsSome`): it prints this text, and the program reports its result
+abbrev pub RunsFiles : Direction → Option (List ℕ) → Option (List ℕ) → Result (Unit {0}) Failure → Type 0
+RunsFiles direction old new result =
+    EndsEarly old new result ⊎ Reports result (RunsSome direction None (known None old) (known None new))

@@ -2,8 +2,8 @@
 
 ghost use Rattle.std.specs.Prelude.{◌≡◌, IfSome, IfErr};
 ghost use Rattle.macsec_capture.specs.Captured.{captured};
-ghost use Rattle.macsec_capture.specs.Runs.{CaptureGives, LeavesBoth};
-ghost use Rattle.macsec_cli_runs.specs.Captures.{CaptureFailsAs, LeavesLines, Reports, capture_end, failure_of, reported};
+ghost use Rattle.macsec_capture.specs.Runs.{CaptureGives, LeavesBoth, RunsSome};
+ghost use Rattle.macsec_cli_runs.specs.Captures.{CaptureFailsAs, LeavesLines, Reports, RunsFiles, capture_end, failure_of, reported};
 
 use crate::failures::Failure;
 use macsec_capture::{CaptureFault, Direction, run_capture};
@@ -68,6 +68,8 @@ fn run_and_flush<'a, C: Read, R: Read, W: Write, T: Write>(
     ensures run { Reports result (λ done. IfSome (C.remaining config.old) (λ config. IfSome (R.remaining input.old) (λ file.
         CaptureGives (captured direction config file) (record { output = W.contents output.old; text = T.contents text.old })
         (record { output = W.contents output.new; text = T.contents text.new }) done))) }
+    ensures some { Reports result (RunsSome direction (C.remaining config.old) (record { output = W.contents output.old; text = T.contents text.old })
+        (record { output = W.contents output.new; text = T.contents text.new })) }
     ensures unwritten { Reports result (λ done. IfErr done (LeavesBoth (record { output = W.contents output.old; text = T.contents text.old })
         (record { output = W.contents output.new; text = T.contents text.new }))) }
 {
@@ -85,6 +87,7 @@ pub fn capture_named<'a, H: Files, T: Write>(
     paths: CapturePaths<'a>,
     text: &mut T,
 ) -> Result<(), Failure<'a>>
+    ensures run { RunsFiles direction (T.contents text.old) (T.contents text.new) result }
     ensures failure { IfErr result (CaptureFailsAs paths.entry) }
     ensures unwritten { IfErr result (LeavesLines (T.contents text.old) (T.contents text.new)) }
 {

@@ -6,9 +6,10 @@
 //! passed, and then nothing was written. Neither `Usage` nor a fault of a capture file is returned. With a fault of the
 //! script other than `Memory` and `Write` nothing was written.
 //!
-//! Proved, of `capture_named`: `CannotOpen` has one of the three names, and then nothing was written to the text.
-//! `Usage` is never returned. With `Script(Memory)`, `Script(Read)` or a fault of the configuration nothing was written
-//! to the text. No clause speaks of the contents of files.
+//! Proved, of `capture_named`: `CannotOpen` has one of the three names, and then nothing was written to the text. Any
+//! other failure reports a fault of the run. With `Script(Memory)`, `Script(Read)` or a fault of the configuration
+//! nothing was written to the text. It returns and prints what a run by some octets, at most 1,048,576, over some
+//! capture gives (`RunsFiles`). No clause says that the files contain these.
 //!
 //! Proved: `tell` returns the exit status for a result. If it returns that the line was written, it wrote the line of
 //! the failure, or nothing if there is none, to a writer whose octets a contract can name. `failure_of_words` returns

@@ -1,11 +1,11 @@
 use Rattle.std.proofs.Common.{◌≡◌, ◌∙◌, ap, arith, refl, rules, subst}
 use Rattle.std.proofs.lemmas.Result.{err_from_is_err_and}
-use Rattle.std.specs.Prelude.{Ok, Some}
+use Rattle.std.specs.Prelude.{None, Ok, Some}
 use Rattle.macsec_pcap.specs.Answers.{answer_of}
 use Rattle.macsec_pcap.specs.Reading.{Answers, IsAfter}
 use Rattle.macsec_pcap.specs.Writing.{contents}
 use Rattle.macsec_capture.specs.Runs.{Written}
-use Rattle.macsec_capture.proofs.Taken.{none_taken, taken_more, taken_write}
+use Rattle.macsec_capture.proofs.Taken.{none_taken, taken_end, taken_fault, taken_more, taken_write}
 use Rattle.macsec_capture.proofs.records.run_records.Goals as goal
 
 pub loop-k-init : goal.loop-k-init
@@ -38,5 +38,23 @@ returns-in_err-run_record-clause-records g c =
       text = g.T.Write.contents c.run_record.new.text;
     } in
     rw (p.1, p.2)
-    (taken_write _ _ _ _ _ _ written _ _ _ _ _ _ (omega (arith, c.requires.places, c.loop-k.invariant.1, later.places)) c.loop-k.invariant.0
-    (subst (λ a. Answers c.loop-k.reader.ahead (answer_of a)) got c.next.ensures.answer) c.in_err-run_record.ensures.fault)
+    (taken_write _ _ _ _ _ _ _ written _ _ _ _ _ _ (omega (arith, c.requires.places, c.loop-k.invariant.1, later.places)) c.loop-k.invariant.0
+    (subst (λ a. Answers c.loop-k.reader.ahead (answer_of a)) got c.next.ensures.answer) later.ahead c.in_err-run_record.ensures.fault)
+
+pub returns-in_err-record-clause-records : goal.returns-in_err-record-clause-records
+returns-in_err-record-clause-records g c =
+    let p = err_from_is_err_and c.from_residual.result c.from_residual.ensures.1 in
+    let got = c.in_err-record.was in
+    let after : IsAfter c.loop-k.reader (answer_of c.next.result) c.next.follows.lender-at-none = search rules in
+    let later = subst (λ a. IsAfter c.loop-k.reader (answer_of a) c.next.follows.lender-at-none) got after in
+    rw (p.1, p.2)
+    (taken_fault _ _ _ _ _ _ _ c.loop-k.k _ _ (omega (arith, c.requires.places, c.loop-k.invariant.1, later.places)) c.loop-k.invariant.0
+    (subst (λ a. Answers c.loop-k.reader.ahead (answer_of a)) got c.next.ensures.answer))
+
+pub returns-in_default-clause-records : goal.returns-in_default-clause-records
+returns-in_default-clause-records g c =
+    let got : c.next.result ≡ Ok None = c.in_ok-record.was ∙ ap Ok c.in_default.is in
+    let after : IsAfter c.loop-k.reader (answer_of c.next.result) c.next.follows.lender-at-none = search rules in
+    let later = subst (λ a. IsAfter c.loop-k.reader (answer_of a) c.next.follows.lender-at-none) got after in
+    taken_end _ _ _ _ _ _ _ c.loop-k.k _ (omega (arith, c.requires.places, c.loop-k.invariant.1, later.places)) c.loop-k.invariant.0
+    (subst (λ a. Answers c.loop-k.reader.ahead (answer_of a)) got c.next.ensures.answer)

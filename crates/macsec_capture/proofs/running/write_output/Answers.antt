@@ -3,13 +3,18 @@ use Rattle.std.proofs.lemmas.Result.{err_from_is_err_and}
 use Rattle.std.specs.Io.KnownBytes.{Appends}
 use Rattle.macsec_pcap.specs.Writing.{contents, lent}
 use Rattle.macsec_pcap.specs.Written.{header_octets}
-use Rattle.macsec_capture.proofs.Whole.{headless, taken_of_file}
+use Rattle.macsec_capture.proofs.Whole.{headless, headless_some, taken_of_file, taken_of_some}
 use Rattle.macsec_capture.proofs.running.write_output.Goals as goal
 
 pub returns-in_err-write_header-clause-run : goal.returns-in_err-write_header-clause-run
 returns-in_err-write_header-clause-run g c =
     let p = err_from_is_err_and c.from_residual.result c.from_residual.ensures.1 in
     rw (p.1, p.2) (headless _ _ _ _ _ _ _ _ c.in_err-write_header.ensures.fault c.resolution.ensures c.in_err-write_header.ensures.cut)
+
+pub returns-in_err-write_header-clause-some : goal.returns-in_err-write_header-clause-some
+returns-in_err-write_header-clause-some g c =
+    let p = err_from_is_err_and c.from_residual.result c.from_residual.ensures.1 in
+    rw (p.1, p.2) (headless_some _ _ _ _ _ _ _ c.in_err-write_header.ensures.fault c.in_err-write_header.ensures.cut)
 
 pub returns-clause-run : goal.returns-clause-run
 returns-clause-run g c =
@@ -18,3 +23,11 @@ returns-clause-run g c =
     subst (λ held. Appends (g.W.Write.contents c.args.output.now) held (header_octets c.resolution.result)) (sym c.behind_header-writer.ensures.header)
     c.in_ok-write_header.ensures.whole in
     taken_of_file c.faults_are_of_format.ensures _ _ _ _ _ _ _ _ _ _ _ _ _ (ap g.W.Write.contents back) c.resolution.ensures header c.run_records.ensures.records
+
+pub returns-clause-some : goal.returns-clause-some
+returns-clause-some g c =
+    let back : c.output-1.given.0 ≡ (lent c.run_records.new.writer).now = search rules in
+    let header : Appends (g.W.Write.contents c.args.output.now) (contents g.W.Write.contents c.behind_header-writer.result) (header_octets c.resolution.result) =
+    subst (λ held. Appends (g.W.Write.contents c.args.output.now) held (header_octets c.resolution.result)) (sym c.behind_header-writer.ensures.header)
+    c.in_ok-write_header.ensures.whole in
+    taken_of_some _ _ _ _ _ _ _ _ _ _ _ _ _ (ap g.W.Write.contents back) header c.run_records.ensures.records
