@@ -28,6 +28,7 @@ mod records;
 mod running;
 
 pub use fault::CaptureFault;
+pub use records::run_records;
 pub use running::{run_capture, run_config};
 
 /// What a run does with the frames of a capture.

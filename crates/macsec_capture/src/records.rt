@@ -22,8 +22,15 @@ use macsec_secy::laws::lengths_of_frames;
 use macsec_secy::{FrameFault, Received, Secy, Sent};
 use std::io::{Read, Write};
 
-/// Takes the records of a file in order, up to its end or its fault.
-pub(crate) fn run_records<R: Read, W: Write, T: Write>(
+/// Runs an endpoint over the records of a capture, up to its end or its fault. For each record, in order, prints its
+/// line, passes its frame through the endpoint in this direction, and writes what is sent or delivered, with the
+/// record's time. The line is printed before the frame is written. The endpoint was created by `Secy::new`, the reader
+/// is at its first record, and the writer has not returned a fault.
+///
+/// Returns the first fault. If a read fails, the text and the output have what all records before it write. A write
+/// fails in the last record that was read: if that of its line fails, the output has what the records before it write;
+/// if that of its frame fails, also at most a prefix of this one.
+pub fn run_records<R: Read, W: Write, T: Write>(
     direction: Direction,
     endpoint: &mut Secy,
     reader: &mut CaptureReader<R>,

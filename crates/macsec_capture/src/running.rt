@@ -49,10 +49,8 @@ pub fn run_capture<C: Read, R: Read, W: Write, T: Write>(
 
 /// Runs an endpoint over a capture file, by the octets of a configuration. Parses the whole configuration, carries out
 /// its commands and prints their outcomes. Then reads the header of the input, writes the output's header, and takes
-/// the records in order: prints a line for each, passes its frame through the endpoint in this direction, and writes
-/// what is sent or delivered, with the record's time. The line is printed before the frame is written. After the
-/// records the output is flushed, even if one of them failed; the text is not flushed. Last, prints the endpoint's
-/// counters.
+/// the records in order, as `run_records` does. After the records the output is flushed, even if one of them failed;
+/// the text is not flushed. Last, prints the endpoint's counters.
 ///
 /// Returns the first fault:
 /// - a fault of the configuration: nothing was written;
