@@ -1,6 +1,8 @@
--- The promises hold of a script's run if its lines were all carried out.
-use Rattle.std.proofs.Common.{◌≡◌, ℕ, List, length, sym, subst}
-use Rattle.std.specs.Prelude.{◌≤◌, IfOk, IfSome, OnOk, Option, Some, Result, Ok, Err}
+-- The promises hold of a script's run if its lines were all carried out, and of the lines before the one at which
+-- memory runs out.
+use Rattle.std.proofs.Common.{◌≡◌, ◌∙◌, ℕ, suc, List, [], ◌∷◌, length, take, ap, refl, sym, subst}
+use Rattle.std.specs.Prelude.{◌≤◌, IfErr, IfOk, IfSome, OnOk, Option, Some, None, Result, Ok, Err}
+use Rattle.std.proofs.KnownBytes.{Appends-nil}
 use Rattle.macsec_commands.specs.declared.config.EndConfig.{EndConfig}
 use Rattle.macsec_commands.specs.declared.event.Event.{Event}
 use Rattle.macsec_link.specs.World.{WorldState, new_world}
@@ -8,9 +10,10 @@ use Rattle.macsec_link.specs.Sound.{IsSound}
 use Rattle.macsec_link.specs.Beginnings.{AreSound, StaysSound}
 use Rattle.macsec_link.specs.Promises.{KeepsPromises}
 use Rattle.macsec_script_parser.specs.declared.faults.ScriptFault.{ScriptFault}
-use Rattle.macsec_script_parser.specs.Scripts.{NumberedLine, script_of}
-use Rattle.macsec_script.specs.Printed.{TwoEnds, two_ends}
-use Rattle.macsec_script.specs.Promised.{ArePromised, IsPromised, events_of}
+use Rattle.macsec_script_parser.specs.declared.faults.ScriptFault.TheVariants.{Memory}
+use Rattle.macsec_script_parser.specs.Scripts.{NumberedLine, a_config, b_config, script_of}
+use Rattle.macsec_script.specs.Printed.{TwoEnds, text_from, text_of, text_of_run, two_ends, two_ends_of}
+use Rattle.macsec_script.specs.Promised.{ArePromised, ArePromisedUpTo, IsPromised, IsPromisedBefore, IsPromisedUpTo, StaysSoundUpTo, events_of}
 use Rattle.macsec_script.proofs.Unwritten.{carried_over}
 
 -- ---- the ends of a script
@@ -27,9 +30,85 @@ lines_promised law lines a b said w ends made sound (Ok done) stays =
     (law a b (events_of said) (subst (λ (v : WorldState). StaysSound v (events_of said)) made (stays sound)))
 lines_promised law lines a b said w ends made sound (Err fault) stays = tt
 
+-- ---- the lines before the one at which memory runs out
+
+-- nothing is written yet
+none_before : (lines : List NumberedLine) → ArePromisedUpTo lines []
+none_before lines = (0, refl, tt)
+
+pub none_written : (lines : List NumberedLine) (old : Option (List ℕ)) (f : ScriptFault) → IsPromisedBefore (ArePromisedUpTo lines) old old f
+none_written lines old Memory = ([], none_before lines, Appends-nil old)
+none_written lines old other = tt
+
+-- the ends of the first lines of a script
+ends_of : (lines : List NumberedLine) (a b : EndConfig) (said : List NumberedLine) (k : ℕ) → two_ends lines ≡ Some (a, b, said) →
+    two_ends (take (suc (suc k)) lines) ≡ Some (a, b, take k said)
+ends_of [] a b said k ends = cc
+ends_of (x ∷ []) a b said k ends = cc
+ends_of (x ∷ y ∷ more) a b said k ends = by_ends (a_config x.1) (b_config y.1) ends
+  where
+    by_ends : (p q : Option EndConfig) → two_ends_of p q more ≡ Some (a, b, said) → two_ends_of p q (take k more) ≡ Some (a, b, take k said)
+    by_ends (Some c) (Some d) is =
+        let same : (c, d, more) ≡ (a, b, said) = cc in
+        ap (λ (r : TwoEnds). Some (r.0, r.1, take k r.2)) same
+    by_ends (Some c) None is = cc
+    by_ends None q is = cc
+
+lines_up_to : SoundKeepPromises → (lines : List NumberedLine) (a b : EndConfig) (said : List NumberedLine) (w : WorldState) → two_ends lines ≡ Some (a, b, said) →
+    w ≡ new_world a b → IsSound w → (text : List ℕ) → StaysSoundUpTo w said text → ArePromisedUpTo lines text
+lines_up_to law lines a b said w ends made sound text it =
+    let n = suc (suc it.count) in
+    let run = ends_of lines a b said it.count ends in
+    let text_is : text_of (take n lines) ≡ text_from w (take it.count said) = ap text_of_run run ∙ ap (λ (v : WorldState). text_from v (take it.count said)) (sym made) in (
+      n,
+      it.written ∙ sym text_is,
+      subst (λ (r : Option TwoEnds). IfSome r (λ ends. KeepsPromises ends.0 ends.1 (events_of ends.2))) (sym run)
+          (law a b (events_of (take it.count said)) (subst (λ (v : WorldState). StaysSound v (events_of (take it.count said))) made (it.sounds sound))),
+    )
+
+before_one : (P Q : List ℕ → Type 0) (old new : Option (List ℕ)) → ((text : List ℕ) → P text → Q text) → (f : ScriptFault) →
+    IsPromisedBefore P old new f → IsPromisedBefore Q old new f
+before_one P Q old new goes Memory it = (it.0, goes it.0 it.1, it.2)
+before_one P Q old new goes other it = tt
+
+pub lines_before : SoundKeepPromises → (lines : List NumberedLine) (a b : EndConfig) (said : List NumberedLine) (w : WorldState) → two_ends lines ≡ Some (a, b, said) →
+    w ≡ new_world a b → IsSound w → (old new : Option (List ℕ)) (answer : Result (Unit {0}) ScriptFault) →
+    IfErr answer (λ f. IsPromisedBefore (StaysSoundUpTo w said) old new f) → IfErr answer (λ f. IsPromisedBefore (ArePromisedUpTo lines) old new f)
+lines_before law lines a b said w ends made sound old new (Ok done) it = tt
+lines_before law lines a b said w ends made sound old new (Err f) it =
+    before_one (StaysSoundUpTo w said) (ArePromisedUpTo lines) old new (lines_up_to law lines a b said w ends made sound) f it
+
 -- ---- the script
 
--- the same over a slice of the lines
+-- a script of which nothing is written yet
+none_of_script : (script : List ℕ) (answer : Result (List NumberedLine) ScriptFault) → IfOk answer (λ lines. ArePromisedUpTo lines [])
+none_of_script script (Ok lines) = none_before lines
+none_of_script script (Err fault) = tt
+
+pub nothing_before : (script : List ℕ) (old : Option (List ℕ)) (f : ScriptFault) → IsPromisedBefore (IsPromisedUpTo script) old old f
+nothing_before script old Memory = ([], none_of_script script (script_of script), Appends-nil old)
+nothing_before script old other = tt
+
+pub nothing_read : (known old : Option (List ℕ)) (f : ScriptFault) → IfSome known (λ script. IsPromisedBefore (IsPromisedUpTo script) old old f)
+nothing_read None old f = tt
+nothing_read (Some script) old f = nothing_before script old f
+
+pub text_before : (script : List ℕ) (lines given : List NumberedLine) → script_of script ≡ Ok lines → given ≡ lines → (old new : Option (List ℕ)) →
+    (answer : Result (Unit {0}) ScriptFault) → IfErr answer (λ f. IsPromisedBefore (ArePromisedUpTo given) old new f) →
+    IfErr answer (λ f. IsPromisedBefore (IsPromisedUpTo script) old new f)
+text_before script lines given parsed same old new (Ok done) it = tt
+text_before script lines given parsed same old new (Err f) it =
+    before_one (ArePromisedUpTo given) (IsPromisedUpTo script) old new
+    (λ text held. subst (λ (r : Result (List NumberedLine) ScriptFault). IfOk r (λ l. ArePromisedUpTo l text)) (sym parsed)
+    (subst (λ (l : List NumberedLine). ArePromisedUpTo l text) same held)) f it
+
+pub before_over : (known : Option (List ℕ)) (text lent : List ℕ) → IfSome known (λ all. (text ≡ all) × (length all ≤ 1048576)) → lent ≡ text →
+    (old new : Option (List ℕ)) (answer : Result (Unit {0}) ScriptFault) → IfErr answer (λ f. IsPromisedBefore (IsPromisedUpTo lent) old new f) →
+    IfErr answer (λ f. IfSome known (λ script. IsPromisedBefore (IsPromisedUpTo script) old new f))
+before_over known text lent read same old new (Ok done) it = tt
+before_over known text lent read same old new (Err f) it = carried_over known text lent (λ script. IsPromisedBefore (IsPromisedUpTo script) old new f) read same it
+
+-- the promises of its lines, over a slice of them
 pub text_promised : (script : List ℕ) (lines given : List NumberedLine) → script_of script ≡ Ok lines → given ≡ lines →
     (answer : Result (Unit {0}) ScriptFault) → OnOk answer (ArePromised given) → OnOk answer (IsPromised script)
 text_promised script lines given parsed same (Ok done) hold =

@@ -3,7 +3,7 @@ use Rattle.std.proofs.Common.{◌≡◌, ℕ, ◌+◌, ◌<◌, List, [], ◌∷
 use Rattle.std.proofs.lemmas.List.{drop_more, take_more, take-append-drop}
 use Rattle.std.specs.Prelude.{Option, Err}
 use Rattle.std.specs.Io.KnownBytes.{Appends}
-use Rattle.std.proofs.KnownBytes.{Appends-nil, Appends-trans}
+use Rattle.std.proofs.KnownBytes.{Appends-kept, Appends-nil, Appends-trans}
 use Rattle.macsec_commands.specs.declared.event.Event.{Event}
 use Rattle.macsec_link.specs.World.{WorldState}
 use Rattle.macsec_link.specs.Step.{world_after, world_step}
@@ -16,7 +16,7 @@ use Rattle.macsec_script_parser.specs.declared.faults.ScriptFault.TheVariants.{M
 use Rattle.macsec_script_parser.specs.Scripts.{NumberedLine}
 use Rattle.macsec_script_printer.specs.Printing.{Prints}
 use Rattle.macsec_script.specs.Printed.{line_step, text_from}
-use Rattle.macsec_script.specs.Promised.{event_of, events_of, text_after}
+use Rattle.macsec_script.specs.Promised.{IsPromisedBefore, LeavesAll, StaysSoundUpTo, event_of, events_of, text_after}
 use Rattle.macsec_script.proofs.TextOfWorlds.{events_with, text_of_worlds, text_with, world_with}
 
 -- ---- one more line
@@ -96,3 +96,11 @@ given_up start lines i entry old mid new w item within so_far Memory h =
     )
 given_up start lines i entry old mid new w item within so_far Write h = tt
 given_up start lines i entry old mid new w item within so_far other h = h
+
+-- memory runs out at a line: the text of the lines before it was written
+pub sound_before : (start : WorldState) (lines : List NumberedLine) (i : ℕ) (old mid new : Option (List ℕ)) (w : WorldState) →
+    CarriedOut start (take i lines) old mid w → (f : ScriptFault) → LeavesAll mid new f → IsPromisedBefore (StaysSoundUpTo start lines) old new f
+sound_before start lines i old mid new w so_far Memory kept =
+    let text = text_from start (take i lines) in
+    (text, record { count = i; written = refl; sounds = so_far.stays }, Appends-kept old mid new text so_far.written kept)
+sound_before start lines i old mid new w so_far other kept = tt

@@ -4,8 +4,9 @@
 //! - `Ok`: what was written is what `printed_text` gives for the script (`specs/Printed.antt`).
 //! - A fault of the script: the script has that fault, at that line if the fault names one, and nothing was written.
 //!   For a script with a fault, `run_text` returns that fault or `Memory`.
-//! - `Memory`: what was written is a prefix of what `printed_text` gives, possibly empty or all of it. It is empty if
-//!   the script has a fault. `Write`: no clause says how much was written.
+//! - `Memory`: what was written is all that the first lines print, perhaps no line or every one, and the four promises
+//!   hold of these lines (`promised_before`). Nothing was written if the script has a fault.
+//! - `Write`: no clause says how much was written.
 //!
 //! Over any writer: with `Ok`, the four promises hold of the run of the script's two ends over the events of all its
 //! lines (`promised`). `run_script` is `read_text`, then `run_text`. Of it the same is proved for all that the reader

@@ -7,7 +7,7 @@ ghost use Rattle.macsec_link.specs.Answers.{make_fault};
 ghost use Rattle.macsec_script_parser.specs.declared.lines.Line.TheVariants as line;
 ghost use Rattle.macsec_script_parser.specs.Scripts.{a_config, b_config};
 ghost use Rattle.macsec_script.specs.Printed.{two_ends, frame_made, line_step, text_from, text_of};
-ghost use Rattle.macsec_script.specs.Promised.{ArePromised, IsPromised, events_of};
+ghost use Rattle.macsec_script.specs.Promised.{ArePromised, ArePromisedUpTo, IsPromised, IsPromisedBefore, IsPromisedUpTo, LeavesAll, StaysSoundUpTo, events_of};
 ghost use Rattle.macsec_script.specs.Runs.{RunGives, LeavesText};
 ghost use Rattle.macsec_script_printer.specs.Printing.{Prints};
 
@@ -29,6 +29,8 @@ pub fn run_script<R: Read, W: Write>(
     ensures run { IfSome (R.remaining reader.old) (λ script. RunGives script (W.contents writer.old) (W.contents writer.new) result) }
     ensures unwritten { IfErr result (λ fault. LeavesText (W.contents writer.old) (W.contents writer.new) fault) }
     ensures promised { OnOk result (IfSome (R.remaining reader.old) IsPromised) }
+    ensures promised_before { IfErr result (λ fault. IfSome (R.remaining reader.old) (λ script.
+        IsPromisedBefore (IsPromisedUpTo script) (W.contents writer.old) (W.contents writer.new) fault)) }
 {
     let text = read_text(alloc, reader)?;
     run_text(alloc, writer, text.as_slice())
@@ -42,6 +44,8 @@ pub fn run_text<W: Write>(alloc: Global, writer: &mut W, script: &[u8]) -> Resul
     // The four promises hold of the run of the script's two ends over the events of its lines. The text shows the
     // worlds of that run (`laws::prints_of_worlds`).
     ensures promised { OnOk result (IsPromised script.now) }
+    // If memory runs out, what was written is all that the first lines print, and the same holds of these lines.
+    ensures promised_before { IfErr result (λ fault. IsPromisedBefore (IsPromisedUpTo script.now) (W.contents writer.old) (W.contents writer.new) fault) }
 {
     // A law that the proof cites.
     parsed_lines_fit();
@@ -58,6 +62,7 @@ fn print_script<W: Write>(
     requires { IfSome (two_ends lines.now) (λ run. make_fault run.0 run.1 ≡ None) }
     ensures text { Prints (text_of lines.now) (W.contents writer.old) (W.contents writer.new) result }
     ensures promised { OnOk result (ArePromised lines.now) }
+    ensures promised_before { IfErr result (λ fault. IsPromisedBefore (ArePromisedUpTo lines.now) (W.contents writer.old) (W.contents writer.new) fault) }
 {
     // A law that the proof cites.
     promises();
@@ -113,6 +118,7 @@ fn print_lines<W: Write>(
 ) -> Result<(), ScriptFault>
     ensures text { Prints (text_from world.old lines.now) (W.contents writer.old) (W.contents writer.new) result }
     ensures sound { OnOk result (IsSound world.old → StaysSound world.old (events_of lines.now)) }
+    ensures sound_before { IfErr result (λ fault. IsPromisedBefore (StaysSoundUpTo world.old lines.now) (W.contents writer.old) (W.contents writer.new) fault) }
 {
     // A law that the proof cites.
     worlds_are_sound();
@@ -132,6 +138,7 @@ fn print_line<W: Write>(
     line: &Line,
 ) -> Result<(), ScriptFault>
     ensures text { Prints (line_step world.old n line.now).0 (W.contents writer.old) (W.contents writer.new) result }
+    ensures unwritten { IfErr result (λ fault. LeavesAll (W.contents writer.old) (W.contents writer.new) fault) }
     ensures world { OnOk result (world.new ≡ (line_step world.old n line.now).1) }
     ensures sound { IsSound world.old → IsSound world.new }
 {

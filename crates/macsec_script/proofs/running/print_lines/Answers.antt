@@ -8,7 +8,7 @@ use Rattle.macsec_link.specs.Beginnings.{StaysSound}
 use Rattle.macsec_script_parser.specs.Scripts.{NumberedLine}
 use Rattle.macsec_script.specs.Printed.{text_from}
 use Rattle.macsec_script.specs.Promised.{events_of}
-use Rattle.macsec_script.proofs.Runs.{given_up, none_yet, one_more}
+use Rattle.macsec_script.proofs.Runs.{given_up, none_yet, one_more, sound_before}
 use Rattle.macsec_script.proofs.running.print_lines.Goals as goal
 
 pub loop-n-init : goal.loop-n-init
@@ -23,6 +23,11 @@ pub returns-in_err-print_line-clause-text : goal.returns-in_err-print_line-claus
 returns-in_err-print_line-clause-text g c =
     let p = err_from_is_err_and c.from_residual.result c.from_residual.ensures.1 in
     rw (p.1, p.2) (given_up c.args.world.now c.args.lines.now c.loop-n.n-index _ _ _ _ _ c.loop-n-item.is (omega arith) c.loop-n.invariant _ c.in_err-print_line.ensures.text)
+
+pub returns-in_err-print_line-clause-sound_before : goal.returns-in_err-print_line-clause-sound_before
+returns-in_err-print_line-clause-sound_before g c =
+    let p = err_from_is_err_and c.from_residual.result c.from_residual.ensures.1 in
+    rw (p.1, p.2) (sound_before c.args.world.now c.args.lines.now c.loop-n.n-index _ _ _ _ c.loop-n.invariant _ c.in_err-print_line.ensures.unwritten)
 
 pub returns-clause-text : goal.returns-clause-text
 returns-clause-text g c =

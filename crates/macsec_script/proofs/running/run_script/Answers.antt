@@ -1,5 +1,6 @@
 -- What `run_text` ensures of the text that was read holds of all that the reader had, if that is known.
-use Rattle.macsec_script.proofs.Promised.{promised_over}
+use Rattle.std.proofs.lemmas.Result.{err_from_is_err_and}
+use Rattle.macsec_script.proofs.Promised.{before_over, nothing_read, promised_over}
 use Rattle.macsec_script.proofs.Unwritten.{carried_over}
 use Rattle.macsec_script.proofs.running.run_script.Goals as goal
 
@@ -8,3 +9,12 @@ returns-clause-run g c = carried_over _ c.in_ok-text.text.items _ _ c.in_ok-text
 
 pub returns-clause-promised : goal.returns-clause-promised
 returns-clause-promised g c = promised_over _ c.in_ok-text.text.items _ c.in_ok-text.ensures.text c.as_slice.ensures.value c.run_text.result c.run_text.ensures.promised
+
+pub returns-clause-promised_before : goal.returns-clause-promised_before
+returns-clause-promised_before g c =
+    before_over _ c.in_ok-text.text.items _ c.in_ok-text.ensures.text c.as_slice.ensures.value _ _ c.run_text.result c.run_text.ensures.promised_before
+
+pub returns-in_err-text-clause-promised_before : goal.returns-in_err-text-clause-promised_before
+returns-in_err-text-clause-promised_before g c =
+    let p = err_from_is_err_and c.from_residual.result c.from_residual.ensures.1 in
+    rw p.1 (nothing_read _ _ _)
