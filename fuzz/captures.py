@@ -18,7 +18,7 @@ class PcapFault(Exception):
 
 def read_capture(file):
     """Whether the unit is a nanosecond, and the records: seconds, fraction, and the frame, or None if it is partial."""
-    if file[:4] == struct.pack(">I", SECTION):
+    if file[:4] == struct.pack(">I", SECTION) and len(file) >= 24:
         return True, read_packets(file, *read_first_block(file))
     order, is_nano = read_header(file)
     return is_nano, read_records(file, order)

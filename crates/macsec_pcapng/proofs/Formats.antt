@@ -56,5 +56,6 @@ header_format octets = chosen (nat_lt (length octets) header_length) (Err CutHea
 
 pub captures_format : (octets : List ℕ) → FileIsOfFormat (captures_of octets)
 captures_format octets =
-    picked FileIsOfFormat (is_section octets) (pcapng_of octets) (file_of octets)
-    (pcapng_format octets) (file_in_format (header_of octets) octets (header_format octets))
+    picked FileIsOfFormat (nat_lt (length octets) header_length) (Err CutHeader) _ tt
+    (picked FileIsOfFormat (is_section octets) (pcapng_of octets) (file_of octets)
+    (pcapng_format octets) (file_in_format (header_of octets) octets (header_format octets)))

@@ -17,8 +17,8 @@ use std::alloc::Global;
 use std::io::{Chain, Cursor, Read};
 use std::marker::Model;
 
-/// The number of octets that decide the format of a file.
-const FRONT_LEN: usize = 4;
+/// The fewest octets of a file in either format.
+const FRONT_LEN: usize = 24;
 
 /// A source whose first octets were read to find the format, followed by the rest. They are read a second time from the
 /// cursor.
@@ -52,7 +52,8 @@ impl<R: Read> Model for CaptureReader<R> {
 
 impl<R: Read + Drop> CaptureReader<R> {
     /// Reads the header of a file. The first four octets decide whether it is pcapng or pcap. Returns the first fault
-    /// of the header, `Read` if a read fails first, or `Memory`.
+    /// of the header, `Read` if a read fails first, or `Memory`. A file of fewer than 24 octets has the fault
+    /// `CutHeader`.
     pub fn new(alloc: Global, mut source: R) -> Result<CaptureReader<R>, PcapFault>
         ensures opened { IfSome (R.remaining source) (λ file. Opens (captures_of file) result) }
         ensures places { IfOk result (λ reader. reader.places ≡ max_records) }

@@ -14,10 +14,10 @@
 //! calls ends. Only `new` takes an allocator.
 //!
 //! `CaptureReader` reads files in either format. A file that begins with 0a 0d 0d 0a is pcapng; any other is read as
-//! pcap. The same is proved of it with the definition `captures_of` (`specs/Captures.antt`), which is `pcapng_of` for
-//! pcapng and `file_of` of `macsec_pcap` for pcap. Both readers share the contracts of `PcapReader` in `macsec_pcap`,
-//! and its definitions of a record, a fault and what a reader has still to return. The law
-//! `laws::faults_are_of_format`: no file has `Memory`, `Read` or `Write` for its fault.
+//! pcap; one of fewer than 24 octets is cut in its header. The same is proved of it with the definition `captures_of`
+//! (`specs/Captures.antt`), which is `pcapng_of` for pcapng and `file_of` of `macsec_pcap` for pcap. Both readers share
+//! the contracts of `PcapReader` in `macsec_pcap`, and its definitions of a record, a fault and what a reader has still
+//! to return. The law `laws::faults_are_of_format`: no file has `Memory`, `Read` or `Write` for its fault.
 #![tactic(auto)]
 
 mod blocks;

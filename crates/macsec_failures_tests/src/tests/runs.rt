@@ -22,9 +22,9 @@ enum Place {
 /// them fails, the run is at the stop after that many steps.
 type Device = (Place, &'static str, &'static str, &'static [(usize, usize)]);
 
-/// A read returns at most 16 octets, and the last one none. The first read of a capture file is of four octets. The
-/// header of a file is written by one call, a record by two, and a line of a script by one. In a line of a capture each
-/// piece (such as `3` and ` done`) and each octet in hex is one call.
+/// A read returns at most 16 octets, and the last one none. The header of a file is written by one call, a record by
+/// two, and a line of a script by one. In a line of a capture each piece (such as `3` and ` done`) and each octet in hex
+/// is one call.
 const OF_SCRIPT: [Device; 2] = [
     (Place::Script, "script", "Read", &[(13, 0)]),
     (Place::Text, "script", "Write", &[(4, 0)]),
@@ -36,7 +36,7 @@ const OF_PROTECTION: [Device; 4] = [
         Place::Input,
         "pcap",
         "Read",
-        &[(3, 1), (2, 2), (2, 3), (1, 4)],
+        &[(2, 1), (2, 2), (2, 3), (1, 4)],
     ),
     (Place::Output, "pcap", "Write", &[(1, 1), (2, 3), (2, 4)]),
     (
@@ -53,7 +53,7 @@ const OF_VALIDATION: [Device; 4] = [
         Place::Input,
         "pcap",
         "Read",
-        &[(3, 1), (4, 2), (4, 3), (1, 4)],
+        &[(2, 1), (4, 2), (4, 3), (1, 4)],
     ),
     (Place::Output, "pcap", "Write", &[(1, 1), (2, 3), (2, 4)]),
     (
