@@ -6,9 +6,9 @@ are blocks that the program skips.
 
 import struct
 
-SECTION, INTERFACE, SIMPLE, ENHANCED = 0x0A0D0D0A, 1, 3, 6
-# Obsolete packets, names, statistics, secrets and custom blocks; and types that are not assigned.
-OTHERS = (2, 4, 5, 10, 0x0BAD, 0x40000BAD, 0, 7, 0xFFFFFFFF)
+SECTION, INTERFACE, OBSOLETE, SIMPLE, ENHANCED = 0x0A0D0D0A, 1, 2, 3, 6
+# Names, statistics, secrets and custom blocks; and types that are not assigned.
+OTHERS = (4, 5, 10, 0x0BAD, 0x40000BAD, 0, 7, 0xFFFFFFFF)
 # Values of if_tsresol: powers of ten and of two, some of them with units finer than a nanosecond.
 RESOLUTIONS = (0, 3, 6, 6, 9, 9, 10, 12, 19, 20, 127, 0x80, 0x80 | 10, 0x80 | 20, 0x80 | 30, 0x80 | 63, 0x80 | 64, 0xFF)
 OFFSETS = (0, 1, -1, 1_700_000_000, -(2**31), 2**32 - 1, 2**63 - 1, -(2**63))
@@ -110,9 +110,13 @@ class Blocks:
         number = self.odd(40, (len(self.interfaces), 255, 256, 2**32 - 1), number)
         captured = self.odd(25, (len(frame) + 1, len(frame) + 8, 262_144, 262_145, max(0, len(frame) - 3)), len(frame))
         high, low = divmod(self.ticks(resolution, offset), 2**32)
-        fields = struct.pack(self.order + "IIIII", number, high, low, captured, max(0, whole))
+        kind, first = ENHANCED, struct.pack(self.order + "I", number)
+        if rng.randrange(5) == 0:
+            # The number of packets dropped before it is ignored.
+            kind, first = OBSOLETE, struct.pack(self.order + "HH", number % 2**16, rng.choice((0, 7, 65_535)))
+        fields = first + struct.pack(self.order + "IIII", high, low, captured, max(0, whole))
         options = rng.choice((b"", b"", option(self.order, 1, b"a comment"), b"\xff" * 8))
-        self.add(ENHANCED, fields + padded(frame) + options)
+        self.add(kind, fields + padded(frame) + options)
 
     def fits(self, size):
         """Can a simple packet have all of this number of octets?"""

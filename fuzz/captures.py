@@ -7,8 +7,10 @@ import struct
 
 MAX_RECORD, MAX_BODY, MAX_INTERFACES = 262_144, 262_164, 256
 # The types of the blocks that are not skipped, and their minimum lengths in octets; it is 12 for any other block.
-SECTION, INTERFACE, SIMPLE, ENHANCED = 0x0A0D0D0A, 1, 3, 6
-LEAST = {SECTION: 28, INTERFACE: 20, SIMPLE: 16, ENHANCED: 32}
+SECTION, INTERFACE, OBSOLETE, SIMPLE, ENHANCED = 0x0A0D0D0A, 1, 2, 3, 6
+LEAST = {SECTION: 28, INTERFACE: 20, OBSOLETE: 32, SIMPLE: 16, ENHANCED: 32}
+# The numbers before the octets of a packet: its interface, the halves of its time, and its two lengths.
+NUMBERS = {OBSOLETE: "HxxIIII", ENHANCED: "IIIII"}
 ORDERS = {b"\x1a\x2b\x3c\x4d": ">", b"\x4d\x3c\x2b\x1a": "<"}
 
 
@@ -120,8 +122,8 @@ def read_packets(file, order, place):
             if len(interfaces) == MAX_INTERFACES:
                 raise PcapFault("InterfaceCount")
             interfaces.append(interface)
-        elif kind == ENHANCED:
-            number, high, low, captured, original = struct.unpack_from(order + "IIIII", body)
+        elif kind in NUMBERS:
+            number, high, low, captured, original = struct.unpack_from(order + NUMBERS[kind], body)
             _, resolution, offset = interface_of(interfaces, number)
             yield packet(body, 20, captured, original, lambda: time_of(high << 32 | low, resolution, offset))
         elif kind == SIMPLE:

@@ -305,6 +305,11 @@ PLANTED = [
         "            pass\n        elif",
     ),
     (
+        "packets in obsolete blocks are skipped",
+        "elif kind in NUMBERS:",
+        "elif kind == ENHANCED:",
+    ),
+    (
         "times are in the unit of the first interface",
         "_, resolution, offset = interface_of(interfaces, number)",
         "_, resolution, offset = interface_of(interfaces, number) and interfaces[0][1:]",
@@ -456,7 +461,7 @@ BREAKING = [
     ),
 ]
 # How many mistakes there are, so that one that is missing is noticed.
-COUNT = 81
+COUNT = 82
 
 # No mistake: a text that takes its own place. The first inputs must not show it, nor see a promise broken.
 TEXT = "is_late = pn < sa.lowest"

@@ -63,8 +63,8 @@ fn compare(rt: &impl Abort, alloc: Global, rows: &[Row]) -> Result<(), Fail> {
     Ok(())
 }
 
-/// Files of one section and of several, with packets of both kinds, and blocks that are skipped.
-const FILES: [Row; 14] = [
+/// Files of one section and of several, with packets of all kinds, and blocks that are skipped.
+const FILES: [Row; 16] = [
     ("little", "end end"),
     ("little ethernet", "end end"),
     ("little ethernet packet packet", "told told end end"),
@@ -72,6 +72,17 @@ const FILES: [Row; 14] = [
     (
         "big 000000010000001c000100000004000000090001090000000000001c
          000000060000002800000000000000003b9aca020000000500000005010203040500000000000028",
+        "1.2:0102030405 end end",
+    ),
+    // Obsolete packet blocks: of the first interface; and after seven dropped packets of the second, at 1.000000002.
+    (
+        "little ethernet
+         02000000300000000000000000000000000000000e0000000e000000ffffffffffff0200000000010800000030000000 packet",
+        "told told end end",
+    ),
+    (
+        "big ethernet_big 000000010000001c000100000004000000090001090000000000001c
+         000000020000002800010007000000003b9aca020000000500000005010203040500000000000028",
         "1.2:0102030405 end end",
     ),
     // A second section in the other byte order: 1.000002, in microseconds.
@@ -282,7 +293,7 @@ fn either_format(rt: HostRuntime) -> Result<(), Fail> {
 }
 
 /// Each fault of the format.
-const FAULTS: [Row; 27] = [
+const FAULTS: [Row; 29] = [
     // In the first section header: the byte-order magic, the version, the length; and another block instead of it.
     (
         "0a0d0d0a1c0000004c3c2b1a01000000ffffffffffffffff1c000000",
@@ -328,6 +339,10 @@ const FAULTS: [Row; 27] = [
         "little ethernet 060000001c000000000000000000000000000000000000001c000000",
         "BlockLength BlockLength",
     ),
+    (
+        "little ethernet 020000001c000000000000000000000000000000000000001c000000",
+        "BlockLength BlockLength",
+    ),
     ("little 030000000c0000000c000000", "BlockLength BlockLength"),
     (
         "little 01000000100000000100000010000000",
@@ -366,7 +381,7 @@ const FAULTS: [Row; 27] = [
         "little 010000001c000000010000000000040002000500657468301c000000",
         "BlockLength BlockLength",
     ),
-    // No interface, for either kind of packet; an interface of the section before; one that is not Ethernet.
+    // No interface, for each kind of packet; an interface of the section before; one that is not Ethernet.
     ("little packet", "NoInterface NoInterface"),
     (
         "little 03000000200000000e000000ffffffffffff0200000000010800000020000000",
@@ -375,6 +390,11 @@ const FAULTS: [Row; 27] = [
     (
         "little ethernet
          06000000300000000100000000000000000000000e0000000e000000ffffffffffff0200000000010800000030000000",
+        "NoInterface NoInterface",
+    ),
+    (
+        "little ethernet
+         02000000300000000100000000000000000000000e0000000e000000ffffffffffff0200000000010800000030000000",
         "NoInterface NoInterface",
     ),
     ("little ethernet little packet", "NoInterface NoInterface"),

@@ -14,11 +14,11 @@ use Rattle.macsec_pcap.specs.Numbers.{number}
 use Rattle.macsec_pcap.specs.Records.{CaptureRecord}
 use Rattle.macsec_pcapng.specs.Limits.{max_blocks, max_options, room_length, max_interfaces}
 use Rattle.macsec_pcapng.specs.Blocks.{Begins, Block, block_at, block_of, block_with, enhanced_packet, interface_description, is_length, is_section}
-use Rattle.macsec_pcapng.specs.Blocks.{order_of_magic, section_header, section_in, section_in_order, simple_packet, total_length}
+use Rattle.macsec_pcapng.specs.Blocks.{obsolete_packet, order_of_magic, section_header, section_in, section_in_order, simple_packet, total_length}
 use Rattle.macsec_pcapng.specs.Files.{Takes, begun_by, capture_of, file_after, file_by, in_header, pcapng_of, taken_at, taken_by, taken_with, with_record}
 use Rattle.macsec_pcapng.specs.Interfaces.{after_option, behind_option, interface_of, is_ethernet, option_at, option_code, option_length, options_in}
 use Rattle.macsec_pcapng.specs.Interfaces.{plain_interface, value_length, with_option}
-use Rattle.macsec_pcapng.specs.Packets.{enhanced, enhanced_on, packet_at, packet_of, simple, simple_on, ticks, within_snap}
+use Rattle.macsec_pcapng.specs.Packets.{enhanced, enhanced_on, obsolete, packet_at, packet_of, simple, simple_on, ticks, within_snap}
 use Rattle.macsec_pcapng.specs.Section.{Section}
 use Rattle.macsec_pcapng.specs.Sections.{Leaves, is_version, leaves_packet, leaves_section, left_by, new_section, with_interface, with_one_more}
 use Rattle.macsec_pcapng.specs.Times.{time_of}
@@ -139,9 +139,12 @@ left_by_format section block =
     (chosen (block.kind == enhanced_packet) (leaves_packet section (enhanced section.interfaces block.order block.len block.front)) _
     (leaves_packet_format section (enhanced section.interfaces block.order block.len block.front)
     (enhanced_format (slice_get section.interfaces (number block.order 4 block.front)) block.order block.len block.front))
+    (chosen (block.kind == obsolete_packet) (leaves_packet section (obsolete section.interfaces block.order block.len block.front)) _
+    (leaves_packet_format section (obsolete section.interfaces block.order block.len block.front)
+    (enhanced_format (slice_get section.interfaces (number block.order 2 block.front)) block.order block.len block.front))
     (chosen (block.kind == simple_packet) (leaves_packet section (simple section.interfaces block.order block.len block.front)) _
     (leaves_packet_format section (simple section.interfaces block.order block.len block.front)
-    (simple_format (slice_get section.interfaces 0) block.order block.len block.front)) tt)))
+    (simple_format (slice_get section.interfaces 0) block.order block.len block.front)) tt))))
 
 -- ---- reading a block, and the content of a file
 

@@ -20,6 +20,10 @@ section_header = 0x0a0d0d0a
 abbrev pub interface_description : ℕ
 interface_description = 1
 
+-- Appendix A, Packet Block, which is obsolete
+abbrev pub obsolete_packet : ℕ
+obsolete_packet = 2
+
 -- 4.4 Simple Packet Block
 abbrev pub simple_packet : ℕ
 simple_packet = 3
@@ -33,6 +37,7 @@ abbrev pub least_length : ℕ → ℕ
 least_length kind =
     if kind == section_header then 28
     else if kind == interface_description then 20
+    else if kind == obsolete_packet then 32
     else if kind == simple_packet then 16
     else if kind == enhanced_packet then 32
     else 12

@@ -1,4 +1,4 @@
--- Packets (draft-ietf-opsawg-pcapng, 4.3 Enhanced Packet Block, 4.4 Simple Packet Block).
+-- Packets (draft-ietf-opsawg-pcapng, 4.3 Enhanced Packet Block, 4.4 Simple Packet Block, Appendix A Packet Block).
 use Rattle.std.specs.Prelude.{ℕ, ◌+◌, ◌*◌, ◌^◌, ◌==◌, List, take, drop, nat_lt, not, slice_get, if◌then◌else◌, Option, Some, None, Result, Ok, Err}
 use Rattle.macsec_pcap.specs.declared.fault.PcapFault.{PcapFault}
 use Rattle.macsec_pcap.specs.declared.fault.PcapFault.TheVariants.{LinkType, RecordLength, BlockLength, NoInterface, Time as time_fault}
@@ -39,6 +39,11 @@ enhanced_on (Some interface) order len front =
 
 abbrev pub enhanced : List Interface → Order → ℕ → List ℕ → Result Packet PcapFault
 enhanced interfaces order len front = enhanced_on (slice_get interfaces (number order 4 front)) order len front
+
+-- ---- a packet in an obsolete block: interface (2 octets), dropped packets (2), and from the time on as an enhanced packet
+
+abbrev pub obsolete : List Interface → Order → ℕ → List ℕ → Result Packet PcapFault
+obsolete interfaces order len front = enhanced_on (slice_get interfaces (number order 2 front)) order len front
 
 -- ---- a simple packet, of the first interface: original length (4 octets), the captured octets, and padding
 

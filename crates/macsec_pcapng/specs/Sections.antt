@@ -7,9 +7,9 @@ use Rattle.macsec_pcap.specs.Numbers.{number}
 use Rattle.macsec_pcapng.specs.declared.interfaces.Interface.{Interface}
 use Rattle.macsec_pcapng.specs.declared.packets.Packet.{Packet}
 use Rattle.macsec_pcapng.specs.Limits.{max_interfaces}
-use Rattle.macsec_pcapng.specs.Blocks.{Block, enhanced_packet, interface_description, section_header, simple_packet}
+use Rattle.macsec_pcapng.specs.Blocks.{Block, enhanced_packet, interface_description, obsolete_packet, section_header, simple_packet}
 use Rattle.macsec_pcapng.specs.Interfaces.{interface_of}
-use Rattle.macsec_pcapng.specs.Packets.{enhanced, simple}
+use Rattle.macsec_pcapng.specs.Packets.{enhanced, obsolete, simple}
 use Rattle.macsec_pcapng.specs.Section.{Section}
 
 -- the body of a section header: byte-order magic (4 octets), major and minor version (2 each), section length (8),
@@ -50,5 +50,6 @@ left_by section block =
     if block.kind == section_header then leaves_section (new_section block.order block.front)
     else if block.kind == interface_description then leaves_section (with_interface section (interface_of block.order block.len block.front))
     else if block.kind == enhanced_packet then leaves_packet section (enhanced section.interfaces block.order block.len block.front)
+    else if block.kind == obsolete_packet then leaves_packet section (obsolete section.interfaces block.order block.len block.front)
     else if block.kind == simple_packet then leaves_packet section (simple section.interfaces block.order block.len block.front)
     else Ok (section, None)

@@ -17,6 +17,9 @@ pub(crate) const SECTION_HEADER: u32 = 0x0a0d_0d0a;
 /// The type of an interface description (4.2).
 pub(crate) const INTERFACE_DESCRIPTION: u32 = 1;
 
+/// The type of a packet in an obsolete block (Appendix A).
+pub(crate) const OBSOLETE_PACKET: u32 = 2;
+
 /// The type of a simple packet (4.4).
 pub(crate) const SIMPLE_PACKET: u32 = 3;
 
@@ -48,7 +51,7 @@ fn least_length(kind: u32) -> u32
         SECTION_HEADER => 28,
         INTERFACE_DESCRIPTION => 20,
         SIMPLE_PACKET => 16,
-        ENHANCED_PACKET => 32,
+        ENHANCED_PACKET | OBSOLETE_PACKET => 32,
         _ => FRAME_LEN,
     }
 }

@@ -1,10 +1,10 @@
 //! The packets of a section.
 
-ghost use Rattle.std.specs.Prelude.{◌≡◌, ◌≤◌, ◌+◌, IfOk, drop, length};
+ghost use Rattle.std.specs.Prelude.{◌≡◌, ◌≤◌, ◌+◌, IfOk, drop, length, slice_get};
 ghost use Rattle.macsec_pcap.specs.Answers.{shown};
 ghost use Rattle.macsec_pcap.specs.Numbers.{number};
 ghost use Rattle.macsec_pcapng.specs.Blocks.{kept};
-ghost use Rattle.macsec_pcapng.specs.Packets.{enhanced, packet_of, record_in, simple, ticks, within_snap};
+ghost use Rattle.macsec_pcapng.specs.Packets.{enhanced, enhanced_on, obsolete, packet_of, record_in, simple, ticks, within_snap};
 
 use crate::interfaces::Interface;
 use crate::times::Time;
@@ -57,7 +57,37 @@ pub(crate) fn enhanced(
     ensures packet { result ≡ enhanced interfaces.now order len front.now }
     ensures fits { IfOk result (λ packet. packet.start + packet.captured ≤ kept len) }
 {
-    let Some(interface) = interfaces.get(order.u32(front) as usize) else {
+    numbered(interfaces, order.u32(front), order, len, front)
+}
+
+/// The packet of an obsolete packet block, whose interface has a number of two octets. Its body has `len` octets and
+/// begins with `front`.
+pub(crate) fn obsolete(
+    interfaces: &[Interface],
+    order: Order,
+    len: u32,
+    front: &[u8],
+) -> Result<Packet, PcapFault>
+    requires { 20 ≤ length front.now }
+    ensures packet { result ≡ obsolete interfaces.now order len front.now }
+    ensures fits { IfOk result (λ packet. packet.start + packet.captured ≤ kept len) }
+{
+    numbered(interfaces, u32::from(order.u16(front)), order, len, front)
+}
+
+/// The packet of an enhanced or an obsolete packet block, of the interface of this number.
+fn numbered(
+    interfaces: &[Interface],
+    number: u32,
+    order: Order,
+    len: u32,
+    front: &[u8],
+) -> Result<Packet, PcapFault>
+    requires { 20 ≤ length front.now }
+    ensures packet { result ≡ enhanced_on (slice_get interfaces.now number) order len front.now }
+    ensures fits { IfOk result (λ packet. packet.start + packet.captured ≤ kept len) }
+{
+    let Some(interface) = interfaces.get(number as usize) else {
         return Err(PcapFault::NoInterface);
     };
     if !interface.is_ethernet() {

@@ -6,9 +6,11 @@ ghost use Rattle.macsec_pcapng.specs.Blocks.{kept, least_length};
 ghost use Rattle.macsec_pcapng.specs.Interfaces.{interface_of};
 ghost use Rattle.macsec_pcapng.specs.Sections.{is_version, left_by, new_section, with_interface, with_one_more};
 
-use crate::blocks::{ENHANCED_PACKET, Head, INTERFACE_DESCRIPTION, SECTION_HEADER, SIMPLE_PACKET};
+use crate::blocks::{
+    ENHANCED_PACKET, Head, INTERFACE_DESCRIPTION, OBSOLETE_PACKET, SECTION_HEADER, SIMPLE_PACKET,
+};
 use crate::interfaces::{Interface, interface_of};
-use crate::packets::{Packet, enhanced, simple};
+use crate::packets::{Packet, enhanced, obsolete, simple};
 use arrayvec::ArrayVec;
 use macsec_pcap::{Order, PcapFault};
 use std::marker::Model;
@@ -68,6 +70,10 @@ impl Section {
                 Err(fault) => Err(fault),
             },
             ENHANCED_PACKET => match enhanced(self.interfaces.as_slice(), order, len, front) {
+                Ok(packet) => Ok(Some(packet)),
+                Err(fault) => Err(fault),
+            },
+            OBSOLETE_PACKET => match obsolete(self.interfaces.as_slice(), order, len, front) {
                 Ok(packet) => Ok(Some(packet)),
                 Err(fault) => Err(fault),
             },

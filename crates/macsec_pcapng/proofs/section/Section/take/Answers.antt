@@ -1,5 +1,5 @@
 -- The kept octets of a body are as many as its type of block needs. These proofs are here for speed.
-use Rattle.std.proofs.Common.{◌≡◌, ◌≤◌, ◌+◌, ℕ, arith}
+use Rattle.std.proofs.Common.{◌≡◌, ◌≤◌, ◌+◌, ℕ, arith, rules}
 use Rattle.std.proofs.lemmas.Bool.Decides.{nat_tests}
 use Rattle.macsec_pcapng.specs.Blocks.{kept}
 use Rattle.macsec_pcapng.proofs.section.Section.take.Goals as goal
@@ -22,7 +22,15 @@ enhanced-requires c =
     let least : 32 ≤ c.args.head.len + 12 = rw c.in-6.is at c.requires.least in
     at_least c.args.head.len _ 20 c.requires.front (omega (arith, least)) (omega arith)
 
+pub obsolete-requires : goal.obsolete-requires
+obsolete-requires c =
+    let least : 32 ≤ c.args.head.len + 12 = rw c.in-2.is at c.requires.least in
+    at_least c.args.head.len _ 20 c.requires.front (omega (arith, least)) (omega arith)
+
 pub simple-requires : goal.simple-requires
 simple-requires c =
     let least : 16 ≤ c.args.head.len + 12 = rw c.in-3.is at c.requires.least in
     at_least c.args.head.len _ 4 c.requires.front (omega (arith, least)) (omega arith)
+
+pub returns-after-obsolete-clause-left : goal.returns-after-obsolete-clause-left
+returns-after-obsolete-clause-left c = search rules

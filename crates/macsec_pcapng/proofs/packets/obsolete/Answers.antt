@@ -1,0 +1,10 @@
+-- By the number of the interface. This proof is here for speed.
+use Rattle.std.proofs.Common.{◌∙◌, ap}
+use Rattle.std.specs.Prelude.{slice_get}
+use Rattle.macsec_pcapng.specs.Packets.{enhanced_on}
+use Rattle.macsec_pcapng.proofs.packets.obsolete.Goals as goal
+
+pub returns-clause-packet : goal.returns-clause-packet
+returns-clause-packet c =
+    c.numbered.ensures.packet
+    ∙ ap (λ n. enhanced_on (slice_get c.args.interfaces.now n) c.args.order c.args.len c.args.front.now) (c.from.ensures ∙ c.u16.ensures)
