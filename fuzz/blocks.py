@@ -73,6 +73,9 @@ class Blocks:
         others = ((2, b"eth0"), (11, b"\0tcp"), (3, b""))
         options += [option(order, code, value) for code, value in others if rng.randrange(2)]
         rng.shuffle(options)
+        if rng.randrange(6) == 0 and any(it[:2] == struct.pack(order + "H", 9) for it in options):
+            # Of two equal options the first counts.
+            options.append(option(order, 9, bytes((rng.choice(RESOLUTIONS),))))
         if rng.randrange(2):
             # Nothing after the last option is read.
             options += [option(order, 0, b""), rng.choice((b"", option(order, 9, b"\x03"), b"\xff" * 4))]

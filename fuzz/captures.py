@@ -137,7 +137,8 @@ def read_interface(order, body):
     if len(body) > MAX_BODY:
         raise PcapFault("BlockLength")
     link, snap = struct.unpack_from(order + "HxxI", body)
-    resolution, offset, place = 6, 0, 8
+    resolution = offset = None
+    place = 8
     while len(body) - place >= 4:
         code, size = struct.unpack_from(order + "HH", body, place)
         if code == 0:
@@ -146,11 +147,11 @@ def read_interface(order, body):
         place += 4 + (size + 3) // 4 * 4
         if len(body) < place or size != {9: 1, 14: 8}.get(code, size):
             raise PcapFault("BlockLength")
-        if code == 9:
+        if code == 9 and resolution is None:
             resolution = value[0]
-        elif code == 14:
+        elif code == 14 and offset is None:
             (offset,) = struct.unpack(order + "q", value)
-    return link, snap, resolution, offset
+    return link, snap, 6 if resolution is None else resolution, offset or 0
 
 
 def interface_of(interfaces, number):

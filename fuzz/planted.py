@@ -320,6 +320,11 @@ PLANTED = [
         "10 ** (resolution - 128) if",
     ),
     (
+        "of two equal options the last one counts",
+        "if code == 9 and resolution is None:",
+        "if code == 9:",
+    ),
+    (
         "an offset has no sign",
         'order + "q"',
         'order + "Q"',
@@ -461,7 +466,7 @@ BREAKING = [
     ),
 ]
 # How many mistakes there are, so that one that is missing is noticed.
-COUNT = 82
+COUNT = 83
 
 # No mistake: a text that takes its own place. The first inputs must not show it, nor see a promise broken.
 TEXT = "is_late = pn < sa.lowest"

@@ -150,7 +150,7 @@ fn files(rt: HostRuntime) -> Result<(), Fail> {
 }
 
 /// Packets at 1,537 units on interfaces with many resolutions in one section; and the largest times.
-const RESOLUTIONS: [Row; 6] = [
+const RESOLUTIONS: [Row; 8] = [
     // Microseconds, thousandths, 1/1024 of a second (1.5009765625), seconds, and 10^-12 of a second (1.537 ns).
     (
         "little ethernet 010000001c000000010000000000040009000100030000001c000000
@@ -194,6 +194,16 @@ const RESOLUTIONS: [Row; 6] = [
          0600000020000000000000000000000040420f00000000000000000020000000
          060000002000000000000000000000003f420f00000000000000000020000000",
         "0.0: Time Time",
+    ),
+    // if_tsresol of nanoseconds and then of thousandths; if_tsoffset of 10 seconds and then of 20.
+    (
+        "little 010000002400000001000000000000000900010009000000090001000300000024000000
+         060000003000000000000000fe9c971700002a360e0000000e000000ffffffffffff0200000000010800000030000000",
+        "1700000000.0:ffffffffffff0200000000010800 end end",
+    ),
+    (
+        "little 010000002c00000001000000000004000e0008000a000000000000000e0008001400000000000000 2c000000 empty",
+        "10.0: end end",
     ),
     // An option with another code and with padding, before if_tsresol; and one after the last option, which is not
     // read.

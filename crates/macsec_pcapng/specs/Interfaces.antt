@@ -1,6 +1,7 @@
 -- The interfaces of a section (draft-ietf-opsawg-pcapng, 4.2 Interface Description Block): link type (2 octets),
 -- reserved (2), snap length (4), and options.
 use Rattle.std.specs.Prelude.{ℕ, zero, suc, ◌+◌, ◌/◌, ◌*◌, Bool, ◌==◌, List, length, take, drop, slice_index, nat_lt, if◌then◌else◌, Option, Some, None, Result, Ok, Err}
+use Rattle.std.specs.Option.{option_or}
 use Rattle.macsec_pcap.specs.declared.fault.PcapFault.{PcapFault}
 use Rattle.macsec_pcap.specs.declared.fault.PcapFault.TheVariants.{BlockLength}
 use Rattle.macsec_pcap.specs.declared.form.Order.{Order}
@@ -27,11 +28,12 @@ padded len = (len + 3) / 4 * 4
 abbrev pub option_length : Order → List ℕ → ℕ
 option_length order octets = 4 + padded (value_length order octets)
 
--- two options are read: if_tsresol (code 9, one octet) and if_tsoffset (code 14, eight octets); all others are ignored
+-- two options are read: if_tsresol (code 9, one octet) and if_tsoffset (code 14, eight octets). Of a repeated one the
+-- first counts. All others are ignored
 abbrev pub with_option : Order → Interface → ℕ → List ℕ → Result Interface PcapFault
 with_option order interface code value =
-    if code == 9 then (if length value == 1 then Ok (record interface { resolution = slice_index value 0 }) else Err BlockLength)
-    else if code == 14 then (if length value == 8 then Ok (record interface { offset = number order 8 value }) else Err BlockLength)
+    if code == 9 then (if length value == 1 then Ok (record interface { resolution = option_or interface.resolution (Some (slice_index value 0)) }) else Err BlockLength)
+    else if code == 14 then (if length value == 8 then Ok (record interface { offset = option_or interface.offset (Some (number order 8 value)) }) else Err BlockLength)
     else Ok interface
 
 abbrev pub behind_option : Result Interface PcapFault → ℕ → Result (Option (Interface × ℕ)) PcapFault
@@ -60,10 +62,10 @@ options_in order (suc n) octets interface =
 
 -- ---- the description
 
--- without options the unit of the times is the microsecond, and their offset is 0
+-- before its options are read
 abbrev pub plain_interface : Order → List ℕ → Interface
 plain_interface order front =
-    record { link_type = number order 2 front; snap_len = number order 4 (drop 4 front); resolution = 6; offset = 0 }
+    record { link_type = number order 2 front; snap_len = number order 4 (drop 4 front); resolution = None; offset = None }
 
 -- the interface that a body of `len` octets describes; the whole body is read, so it must not be longer than what is
 -- kept

@@ -1,6 +1,6 @@
 -- Times (draft-ietf-opsawg-pcapng, 4.2 and 4.3): a 64-bit number of units since the beginning of 1970. The interface's
 -- if_tsresol gives the unit, and its if_tsoffset is added in seconds.
-use Rattle.std.specs.Prelude.{ℕ, ◌+◌, ◌-◌, ◌*◌, ◌/◌, ◌%◌, ◌^◌, nat_lt, if◌then◌else◌, Option, Some, None}
+use Rattle.std.specs.Prelude.{ℕ, ◌+◌, ◌-◌, ◌*◌, ◌/◌, ◌%◌, ◌^◌, nat_lt, if◌then◌else◌, Option, Some, None, unwrap_or}
 use Rattle.macsec_pcapng.specs.declared.interfaces.Interface.{Interface}
 use Rattle.macsec_pcapng.specs.declared.times.Time.{Time}
 
@@ -28,6 +28,6 @@ time_in_range (Some seconds) nanoseconds =
 abbrev pub time_by : ℕ → ℕ → Option Time
 time_by nanoseconds offset = time_in_range (with_offset (nanoseconds / 1000000000) offset) (nanoseconds % 1000000000)
 
--- the time after `ticks` units of this interface
+-- the time after `ticks` units of this interface. Without these options the unit is the microsecond, and the offset is 0
 abbrev pub time_of : Interface → ℕ → Option Time
-time_of interface ticks = time_by (nanoseconds ticks interface.resolution) interface.offset
+time_of interface ticks = time_by (nanoseconds ticks (unwrap_or interface.resolution 6)) (unwrap_or interface.offset 0)

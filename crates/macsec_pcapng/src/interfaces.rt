@@ -19,9 +19,6 @@ const TIME_RESOLUTION: u16 = 9;
 /// The code of if_tsoffset, the offset of the times.
 const TIME_OFFSET: u16 = 14;
 
-/// The unit of the times of an interface without if_tsresol: microseconds.
-const MICROSECONDS: u8 = 6;
-
 /// The most options of an interface. No more fit into the kept octets of a body.
 const MAX_OPTIONS: u32 = 65_541;
 
@@ -32,10 +29,10 @@ pub(crate) struct Interface {
     pub(crate) link_type: u16,
     /// The most octets that are captured of a packet, or 0 for no limit.
     pub(crate) snap_len: u32,
-    /// The unit of its times, encoded as in if_tsresol.
-    pub(crate) resolution: u8,
-    /// The seconds to add to its times, as in if_tsoffset: in two's complement.
-    pub(crate) offset: u64,
+    /// Its if_tsresol: the encoded unit of its times.
+    pub(crate) resolution: Option<u8>,
+    /// Its if_tsoffset: the seconds to add to its times, in two's complement.
+    pub(crate) offset: Option<u64>,
 }
 
 impl Interface {
@@ -66,8 +63,8 @@ fn plain_interface(order: Order, front: &[u8]) -> Interface
     Interface {
         link_type: order.u16(front),
         snap_len: order.u32(&front[4..]),
-        resolution: MICROSECONDS,
-        offset: 0,
+        resolution: None,
+        offset: None,
     }
 }
 
@@ -136,7 +133,7 @@ fn padded(len: usize) -> usize
     (len + 3) / 4 * 4
 }
 
-/// The interface after the option with this code and value.
+/// The interface after the option with this code and value. Of a repeated option the first counts.
 fn with_option(
     order: Order,
     interface: Interface,
@@ -151,14 +148,14 @@ fn with_option(
             if value.len() != 1 {
                 return Err(PcapFault::BlockLength);
             }
-            described.resolution = value[0];
+            described.resolution = interface.resolution.or(Some(value[0]));
             Ok(described)
         }
         TIME_OFFSET => {
             if value.len() != 8 {
                 return Err(PcapFault::BlockLength);
             }
-            described.offset = order.u64(value);
+            described.offset = interface.offset.or(Some(order.u64(value)));
             Ok(described)
         }
         _ => Ok(interface),

@@ -8,6 +8,9 @@ use crate::interfaces::Interface;
 /// Nanoseconds per second.
 const NANOSECONDS: u128 = 1_000_000_000;
 
+/// The unit of the times of an interface without if_tsresol: microseconds.
+const MICROSECONDS: u8 = 6;
+
 /// The bit of if_tsresol that is set if the unit is a power of two.
 const POWER_OF_TWO: u8 = 0x80;
 
@@ -28,7 +31,8 @@ impl Interface {
     pub(crate) fn time(self, ticks: u64) -> Option<Time>
         ensures { result ≡ time_of self ticks }
     {
-        time_by(nanoseconds(ticks, self.resolution), self.offset)
+        let resolution = self.resolution.unwrap_or(MICROSECONDS);
+        time_by(nanoseconds(ticks, resolution), self.offset.unwrap_or(0))
     }
 }
 

@@ -1,5 +1,6 @@
 -- A separate equation for each number. This proof is here for speed.
 use Rattle.std.proofs.Common.{◌≡◌, ◌∙◌, ◌-◌, ℕ, List, ap, drop, length, take}
+use Rattle.std.specs.Prelude.{None}
 use Rattle.std.proofs.lemmas.List.{take_rest}
 use Rattle.macsec_pcap.specs.declared.form.Order.{Order}
 use Rattle.macsec_pcap.specs.Numbers.{number}
@@ -8,7 +9,7 @@ use Rattle.macsec_pcapng.specs.Interfaces.{plain_interface}
 use Rattle.macsec_pcapng.proofs.interfaces.plain_interface.Goals as goal
 
 abbrev plain : ℕ → ℕ → Interface
-plain kind snap = record { link_type = kind; snap_len = snap; resolution = 6; offset = 0 }
+plain kind snap = record { link_type = kind; snap_len = snap; resolution = None; offset = None }
 
 is_plain : (order : Order) (front : List ℕ) (kind snap : ℕ) → kind ≡ number order 2 front →
     snap ≡ number order 4 (take (length front - 4) (drop 4 front)) → plain kind snap ≡ plain_interface order front
