@@ -23,6 +23,17 @@ pub(crate) fn fetch<R: Read>(source: &mut R, room: &mut [u8]) -> Result<(), Pcap
 pub(crate) fn skip<R: Read>(source: &mut R, count: usize) -> Result<(), PcapFault>
     ensures { IfSome (R.remaining source.old) (λ octets. Skips count octets (R.remaining source.new) result) }
 {
+    // Most blocks have no octets to skip. A call of `skip_pieces` fills its array.
+    if count == 0 {
+        return Ok(());
+    }
+    skip_pieces(source, count)
+}
+
+/// Skips `count` octets, in pieces. Returns `CutRecord` if the file ends before that, or `Read` if a read fails.
+fn skip_pieces<R: Read>(source: &mut R, count: usize) -> Result<(), PcapFault>
+    ensures { IfSome (R.remaining source.old) (λ octets. Skips count octets (R.remaining source.new) result) }
+{
     let mut piece = [0; PIECE_LEN];
     let mut left = count;
     while left > 0 {

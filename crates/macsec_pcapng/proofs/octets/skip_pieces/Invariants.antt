@@ -1,6 +1,6 @@
 use Rattle.std.proofs.Common.{◌≤◌, ◌-◌}
 use Rattle.macsec_pcapng.proofs.TakenOctets.{IsPast}
-use Rattle.macsec_pcapng.proofs.octets.skip.Given as goal
+use Rattle.macsec_pcapng.proofs.octets.skip_pieces.Given as goal
 
 -- as many octets were skipped as the count has decreased by
 abbrev pub invariant-loop-left : goal.invariant-loop-left
