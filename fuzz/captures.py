@@ -6,6 +6,8 @@ Needs only the standard library.
 import struct
 
 MAX_RECORD, MAX_BODY, MAX_INTERFACES = 262_144, 262_164, 256
+# The link type of Ethernet.
+ETHERNET = 1
 # The types of the blocks that are not skipped, and their minimum lengths in octets; it is 12 for any other block.
 SECTION, INTERFACE, OBSOLETE, SIMPLE, ENHANCED = 0x0A0D0D0A, 1, 2, 3, 6
 LEAST = {SECTION: 28, INTERFACE: 20, OBSOLETE: 32, SIMPLE: 16, ENHANCED: 32}
@@ -19,7 +21,10 @@ class PcapFault(Exception):
 
 
 def read_capture(file):
-    """Whether the unit is a nanosecond, and the records: seconds, fraction, and the frame, or None if it is partial."""
+    """Whether the unit is a nanosecond, and the records: seconds, fraction, and the frame.
+
+    In place of the frame a partial record has None, and a packet that is not of Ethernet has its link type.
+    """
     if file[:4] == struct.pack(">I", SECTION) and len(file) >= 24:
         return True, read_packets(file, *read_first_block(file))
     order, is_nano = read_header(file)
@@ -38,7 +43,7 @@ def read_header(file):
         if magic in (0xA1B2C3D4, 0xA1B23C4D):
             if (major, minor) != (2, 4):
                 raise PcapFault("Version")
-            if struct.unpack_from(order + "I", file, 20) != (1,):
+            if struct.unpack_from(order + "I", file, 20) != (ETHERNET,):
                 raise PcapFault("LinkType")
             return order, magic == 0xA1B23C4D
     raise PcapFault("Magic")
@@ -111,7 +116,7 @@ def read_first_block(file):
 
 def read_packets(file, order, place):
     """The packets after the first section header, with times in nanoseconds."""
-    interfaces = []
+    interfaces, has_ethernet = [], False
     while place < len(file):
         order, kind, body, place = read_block(file, place, order)
         if kind == SECTION:
@@ -122,14 +127,21 @@ def read_packets(file, order, place):
             if len(interfaces) == MAX_INTERFACES:
                 raise PcapFault("InterfaceCount")
             interfaces.append(interface)
+            has_ethernet = has_ethernet or interface[0] == ETHERNET
         elif kind in NUMBERS:
             number, high, low, captured, original = struct.unpack_from(order + NUMBERS[kind], body)
-            _, resolution, offset = interface_of(interfaces, number)
-            yield packet(body, 20, captured, original, lambda: time_of(high << 32 | low, resolution, offset))
+            link, _, resolution, offset = interface_of(interfaces, number)
+            if link == ETHERNET:
+                yield packet(body, 20, captured, original, lambda: time_of(high << 32 | low, resolution, offset))
+            else:
+                yield other_packet(link, has_ethernet)
         elif kind == SIMPLE:
-            snap, *_ = interface_of(interfaces, 0)
+            link, snap, *_ = interface_of(interfaces, 0)
             (original,) = struct.unpack_from(order + "I", body)
-            yield packet(body, 4, min(original, snap or original), original, lambda: (0, 0))
+            if link == ETHERNET:
+                yield packet(body, 4, min(original, snap or original), original, lambda: (0, 0))
+            else:
+                yield other_packet(link, has_ethernet)
 
 
 def read_interface(order, body):
@@ -155,13 +167,17 @@ def read_interface(order, body):
 
 
 def interface_of(interfaces, number):
-    """Everything but the link type of a packet's interface, which must be Ethernet."""
+    """The interface of a packet."""
     if number >= len(interfaces):
         raise PcapFault("NoInterface")
-    link, *rest = interfaces[number]
-    if link != 1:
+    return interfaces[number]
+
+
+def other_packet(link, has_ethernet):
+    """The record of a packet of another link type, of which nothing else is read."""
+    if not has_ethernet:
         raise PcapFault("LinkType")
-    return rest
+    return 0, 0, link
 
 
 def packet(body, start, captured, original, time):

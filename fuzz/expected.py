@@ -630,6 +630,8 @@ def record_result(endpoint, direction, frame):
     """What is printed for a record, and the frame that is written or None."""
     if frame is None:
         return "partial", None
+    if isinstance(frame, int):
+        return f"linktype {frame}", None
     if len(frame) < MIN_FRAME:
         return "fault 1 Short", None
     if len(frame) > MAX_FRAME:

@@ -53,7 +53,7 @@ STATED = [
 # The outcome in a line of the text.
 OUTCOME = re.compile(
     rb"^(?:record )?\d+ "
-    rb"(refused \d+ \w+|fault \d \w+|dropped \w+|frame|link|partial|done|(?!InP|InO|OutP|OutO)[A-Z]\w+)\b",
+    rb"(refused \d+ \w+|fault \d \w+|dropped \w+|frame|link|partial|linktype|done|(?!InP|InO|OutP|OutO)[A-Z]\w+)\b",
     re.M,
 )
 # What 2,000 inputs of any seed meet, by its place in the report. Each is met by more than 20 of them on average.

@@ -305,14 +305,19 @@ PLANTED = [
         "            pass\n        elif",
     ),
     (
+        "a packet of another link type ends the run",
+        "    if not has_ethernet:\n",
+        "    if True:\n",
+    ),
+    (
         "packets in obsolete blocks are skipped",
         "elif kind in NUMBERS:",
         "elif kind == ENHANCED:",
     ),
     (
         "times are in the unit of the first interface",
-        "_, resolution, offset = interface_of(interfaces, number)",
-        "_, resolution, offset = interface_of(interfaces, number) and interfaces[0][1:]",
+        "link, _, resolution, offset = interface_of(interfaces, number)",
+        "link, _, resolution, offset = *interface_of(interfaces, number)[:2], *interfaces[0][2:]",
     ),
     (
         "a power of two is taken for one of ten",
@@ -466,7 +471,7 @@ BREAKING = [
     ),
 ]
 # How many mistakes there are, so that one that is missing is noticed.
-COUNT = 83
+COUNT = 84
 
 # No mistake: a text that takes its own place. The first inputs must not show it, nor see a promise broken.
 TEXT = "is_late = pn < sa.lowest"

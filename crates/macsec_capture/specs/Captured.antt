@@ -14,7 +14,7 @@ use Rattle.macsec_script_printer.specs.declared.counters.Label.TheVariants.{End}
 use Rattle.macsec_script_printer.specs.Counters.{counters_text}
 use Rattle.macsec_script_printer.specs.Outcomes.{outcome_text}
 use Rattle.macsec_pcap.specs.declared.fault.PcapFault.{PcapFault}
-use Rattle.macsec_pcap.specs.Records.{CaptureRecord}
+use Rattle.macsec_pcap.specs.Records.{CaptureRecord, Content, whole, partial, other_link}
 use Rattle.macsec_pcap.specs.Captures.{CaptureFile}
 use Rattle.macsec_pcap.specs.Written.{header_octets, record_octets}
 use Rattle.macsec_pcapng.specs.Captures.{captures_of}
@@ -22,7 +22,7 @@ use Rattle.macsec_capture.specs.declared.Direction.{Direction}
 use Rattle.macsec_capture.specs.declared.Direction.TheVariants.{Protect, Validate}
 use Rattle.macsec_capture.specs.declared.fault.CaptureFault.{CaptureFault}
 use Rattle.macsec_capture.specs.declared.fault.CaptureFault.TheVariants.{Script, Pcap}
-use Rattle.macsec_capture.specs.Lines.{frame_line, partial_line}
+use Rattle.macsec_capture.specs.Lines.{frame_line, link_type_line, partial_line}
 
 -- what a part of a run writes to the output and to the text, and the endpoint after it
 pub record Part : Type 0 where
@@ -90,13 +90,14 @@ frame_part k r answer = record {
   state = answer.1;
 }
 
--- record number k with this frame; a partial record does not reach the endpoint
-abbrev pub body_part : Direction → State → ℕ → CaptureRecord → Option (List ℕ) → Part
-body_part direction s k r None = record { output = []; text = partial_line k; state = s }
-body_part direction s k r (Some frame) = frame_part k r (step s (input_of direction frame))
+-- record number k with this content; only a whole frame reaches the endpoint
+abbrev pub body_part : Direction → State → ℕ → CaptureRecord → Content → Part
+body_part direction s k r partial = record { output = []; text = partial_line k; state = s }
+body_part direction s k r (other_link number) = record { output = []; text = link_type_line k number; state = s }
+body_part direction s k r (whole frame) = frame_part k r (step s (input_of direction frame))
 
 abbrev pub record_part : Direction → State → ℕ → CaptureRecord → Part
-record_part direction s k r = body_part direction s k r r.frame
+record_part direction s k r = body_part direction s k r r.content
 
 -- records from number k on
 abbrev pub records_part : Direction → State → ℕ → List CaptureRecord → Part

@@ -22,6 +22,10 @@ frame_fault_text why = decimal (number_of_frame_fault why) ++ codes " " ++ frame
 abbrev pub partial_line : ℕ → List ℕ
 partial_line k = codes "record " ++ decimal k ++ codes " partial\n"
 
+-- a packet of the other link type of this number
+abbrev pub link_type_line : ℕ → ℕ → List ℕ
+link_type_line k number = codes "record " ++ decimal k ++ codes " linktype " ++ decimal number ++ codes "\n"
+
 -- the verdict on a link frame, and the number of octets delivered, if a frame is
 abbrev pub verdict_line : ℕ → Verdict → Option (List ℕ) → List ℕ
 verdict_line k verdict None = codes "record " ++ decimal k ++ codes " " ++ verdict_name verdict ++ codes "\n"

@@ -4,7 +4,7 @@ ghost use Rattle.std.specs.Prelude.{◌≡◌, OnOk, option_copied};
 ghost use Rattle.std.specs.Io.KnownBytes.{Appends};
 ghost use Rattle.macsec_secy.specs.Answers.{output_of_received, output_of_sent};
 ghost use Rattle.macsec_secy.specs.Step.{fault};
-ghost use Rattle.macsec_capture.specs.Lines.{frame_fault_name, frame_line, partial_line, verdict_line};
+ghost use Rattle.macsec_capture.specs.Lines.{frame_fault_name, frame_line, link_type_line, partial_line, verdict_line};
 
 use macsec_script_printer::drop_text;
 use macsec_secy::{FrameFault, Received, Sent, Verdict};
@@ -24,6 +24,13 @@ pub(crate) fn write_partial<T: Write>(text: &mut T, k: u32) -> io::Result<()>
     ensures { OnOk result (Appends (T.contents text.old) (T.contents text.new) (partial_line k)) }
 {
     writeln!(text, "record {k} partial")
+}
+
+/// Writes the line of a packet of the other link type of this number.
+pub(crate) fn write_link_type<T: Write>(text: &mut T, k: u32, number: u16) -> io::Result<()>
+    ensures { OnOk result (Appends (T.contents text.old) (T.contents text.new) (link_type_line k number)) }
+{
+    writeln!(text, "record {k} linktype {number}")
 }
 
 /// Writes the line of a frame that has a fault: the fault's number and its name.

@@ -13,7 +13,7 @@ ghost use Rattle.macsec_capture.specs.declared.fault.CaptureFault.TheVariants.{P
 ghost use Rattle.macsec_capture.specs.Captured.{frame_of_output, frame_part, record_of_frame, record_part};
 ghost use Rattle.macsec_capture.specs.Runs.{FailsIn, IsLateFault, RunsRecords, known};
 
-use crate::lines::{write_partial, write_received, write_sent};
+use crate::lines::{write_link_type, write_partial, write_received, write_sent};
 use crate::{CaptureFault, Direction};
 use macsec_pcap::{Body, MAX_RECORDS, PcapWriter, Record};
 use macsec_pcapng::CaptureReader;
@@ -78,6 +78,10 @@ fn run_record<W: Write, T: Write>(
     match (record.body, direction) {
         (Body::Partial, _) => {
             write_fault(write_partial(text, k))?;
+            Ok(())
+        }
+        (Body::OtherLink(number), _) => {
+            write_fault(write_link_type(text, k, number))?;
             Ok(())
         }
         (Body::Whole(frame), Direction::Protect) => {

@@ -28,8 +28,7 @@ pub const RECORD: &str = "00000000000000000e0000000e000000ffffffffffff0200000000
 /// The header of a file in nanoseconds, little endian.
 const NANO: &str = "4d3cb2a1020004000000000000000000ffff000001000000";
 
-/// Blocks of a pcapng file, little endian: a section header, an interface, a packet of that client frame, and
-/// statistics.
+/// Blocks of a pcapng file, little endian: a section header, an interface, and a packet of that client frame.
 const SECTION: &str = "0a0d0d0a1c0000004d3c2b1a01000000ffffffffffffffff1c000000";
 
 const INTERFACE: &str = "0100000014000000010000000000040014000000";
@@ -37,6 +36,12 @@ const INTERFACE: &str = "0100000014000000010000000000040014000000";
 const PACKET: &str =
     "06000000300000000000000000000000000000000e0000000e000000ffffffffffff0200000000010800000030000000";
 
+/// An interface of link type 113, and an empty packet of it.
+const OTHER_INTERFACE: &str = "0100000014000000710000000000040014000000";
+
+const OTHER_PACKET: &str = "0600000020000000010000000000000000000000000000000000000020000000";
+
+/// Statistics of the first interface.
 const STATISTICS: &str = "050000001800000000000000000000000000000018000000";
 
 /// An endpoint that protects client frames for integrity, from packet number 1 on, and what its commands print.
@@ -124,7 +129,7 @@ fn outcome(alloc: Global, direction: Direction, config: &str, input: &[u8]) -> R
 }
 
 /// The runs of `captures`.
-const ROWS: [Row; 12] = [
+const ROWS: [Row; 13] = [
     (
         Direction::Protect,
         &[SENDER],
@@ -146,6 +151,26 @@ const ROWS: [Row; 12] = [
         &[
             SENDER_DONE,
             "record 0 link 46\nrecord 1 link 46\n",
+            COUNTERS_OF_TWO_SENT,
+        ],
+        "",
+    ),
+    // A packet of link type 113 between them has a number, and does not reach the endpoint.
+    (
+        Direction::Protect,
+        &[SENDER],
+        &[
+            SECTION,
+            INTERFACE,
+            OTHER_INTERFACE,
+            PACKET,
+            OTHER_PACKET,
+            PACKET,
+        ],
+        &[NANO, SENT_1, SENT_2],
+        &[
+            SENDER_DONE,
+            "record 0 link 46\nrecord 1 linktype 113\nrecord 2 link 46\n",
             COUNTERS_OF_TWO_SENT,
         ],
         "",

@@ -12,7 +12,7 @@ use Rattle.macsec_pcap.specs.declared.records.Head.{Head}
 use Rattle.macsec_pcap.specs.Limits.{max_records}
 use Rattle.macsec_pcap.specs.Numbers.{number}
 use Rattle.macsec_pcap.specs.Header.{header_of}
-use Rattle.macsec_pcap.specs.Records.{record_at}
+use Rattle.macsec_pcap.specs.Records.{record_at, whole, partial}
 use Rattle.macsec_pcap.specs.Captures.{Capture, begun_by, file_in, records_of}
 use Rattle.macsec_pcap.specs.Written.{header_octets, record_head, record_octets}
 use Rattle.macsec_pcap.specs.Answers.{head_of, record_in}
@@ -46,8 +46,8 @@ record_in-whole : (seconds fraction : ℕ) (frame rest : List ℕ) →
 record_in-whole seconds fraction frame rest =
     let same : nat_lt (length frame) (length frame) ≡ false = le-ltb (length frame) (length frame) (omega arith) in
     let taken : take (length frame) (frame ++ rest) ≡ frame = take_at frame rest (length frame) refl in
-    ap (λ b. record { seconds = seconds; fraction = fraction; frame = if b then None else Some (take (length frame) (frame ++ rest)) }) same
-    ∙ ap (λ xs. record { seconds = seconds; fraction = fraction; frame = Some xs }) taken
+    ap (λ b. record { seconds = seconds; fraction = fraction; content = if b then partial else whole (take (length frame) (frame ++ rest)) }) same
+    ∙ ap (λ xs. record { seconds = seconds; fraction = fraction; content = whole xs }) taken
 
 record_at-written : (r : WholeRecord) (rest : List ℕ) → CanBeWritten r → record_at Little (record_octets r.seconds r.fraction r.frame ++ rest) ≡ Ok (Some (as_read r, rest))
 record_at-written r rest can =

@@ -6,12 +6,12 @@ use Rattle.macsec_pcap.specs.declared.form.Form.{Form}
 use Rattle.macsec_pcap.specs.declared.form.Order.{Order}
 use Rattle.macsec_pcap.specs.declared.records.Record.{Record}
 use Rattle.macsec_pcap.specs.declared.records.Body.{Body}
-use Rattle.macsec_pcap.specs.declared.records.Body.TheVariants.{Whole, Partial}
+use Rattle.macsec_pcap.specs.declared.records.Body.TheVariants.{Whole, Partial, OtherLink}
 use Rattle.macsec_pcap.specs.declared.records.Head.{Head}
 use Rattle.macsec_pcap.specs.Limits.{header_length, max_record_length}
 use Rattle.macsec_pcap.specs.Numbers.{number}
 use Rattle.macsec_pcap.specs.Header.{header_of}
-use Rattle.macsec_pcap.specs.Records.{CaptureRecord, captured_length, original_length}
+use Rattle.macsec_pcap.specs.Records.{CaptureRecord, Content, whole, partial, other_link, captured_length, original_length}
 use Rattle.macsec_pcap.specs.Captures.{record_within}
 
 -- `meant` is returned, unless a read failed first
@@ -24,14 +24,14 @@ abbrev pub ReadsHeader : List ℕ → Option (List ℕ) → Result Form PcapFaul
 ReadsHeader file new (Ok form) = (header_of file ≡ Ok form) × (new ≡ Some (drop header_length file))
 ReadsHeader file new (Err fault) = UnlessRead (header_of file) (Err fault)
 
--- the frame of a record, if it is whole
-abbrev pub frame_of : Body → Option (List ℕ)
-frame_of (Whole frame) = Some frame.now
-frame_of Partial = None
+abbrev pub content_of : Body → Content
+content_of (Whole frame) = whole frame.now
+content_of Partial = partial
+content_of (OtherLink number) = other_link number
 
 -- a record that was returned, as a record of the definitions
 abbrev pub shown : Record → CaptureRecord
-shown r = record { seconds = r.seconds; fraction = r.fraction; frame = frame_of r.body }
+shown r = record { seconds = r.seconds; fraction = r.fraction; content = content_of r.body }
 
 -- a result of `next`, in the terms of the definitions
 abbrev pub answer_of : Result (Option Record) PcapFault → Result (Option CaptureRecord) PcapFault
@@ -53,7 +53,7 @@ abbrev pub record_in : Head → List ℕ → CaptureRecord
 record_in head room = record {
   seconds = head.seconds;
   fraction = head.fraction;
-  frame = if nat_lt head.captured head.original then None else Some (take head.captured room);
+  content = if nat_lt head.captured head.original then partial else whole (take head.captured room);
 }
 
 -- what a read of a record returns, and the octets that the source has left; the record's captured octets are at the

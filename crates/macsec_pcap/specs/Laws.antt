@@ -2,7 +2,7 @@
 use Rattle.std.specs.Prelude.{ℕ, ◌≡◌, ◌≤◌, ◌<◌, ◌^◌, List, [], ◌∷◌, ◌++◌, length, map, Some, None, Ok}
 use Rattle.macsec_pcap.specs.declared.form.Resolution.{Resolution}
 use Rattle.macsec_pcap.specs.Limits.{max_record_length, max_records}
-use Rattle.macsec_pcap.specs.Records.{CaptureRecord}
+use Rattle.macsec_pcap.specs.Records.{CaptureRecord, whole}
 use Rattle.macsec_pcap.specs.Captures.{file_of}
 use Rattle.macsec_pcap.specs.Written.{header_octets, record_octets}
 
@@ -29,7 +29,7 @@ written_records (r ∷ more) = record_octets r.seconds r.fraction r.frame ++ wri
 
 -- the record as it is read
 abbrev pub as_read : WholeRecord → CaptureRecord
-as_read r = record { seconds = r.seconds; fraction = r.fraction; frame = Some r.frame }
+as_read r = record { seconds = r.seconds; fraction = r.fraction; content = whole r.frame }
 
 -- a written file is read as the records that were written
 abbrev pub ReadAgain : Resolution → List WholeRecord → Type 0

@@ -7,11 +7,17 @@ use Rattle.macsec_pcap.specs.declared.form.Order.{Order}
 use Rattle.macsec_pcap.specs.Limits.{record_header_length, max_record_length}
 use Rattle.macsec_pcap.specs.Numbers.{number}
 
--- a record: its time, and its frame, or none if the record is partial
+-- what a record has: the whole frame, part of a frame, or a packet of the other link type of this number
+pub data Content : Type 0 where
+  whole : List ℕ → Content
+  partial : Content
+  other_link : ℕ → Content
+
+-- a record: its time, and what it has
 pub record CaptureRecord : Type 0 where
   pub seconds : ℕ
   pub fraction : ℕ
-  pub frame : Option (List ℕ)
+  pub content : Content
 
 -- the number of octets of the frame that were captured
 abbrev pub captured_length : Order → List ℕ → ℕ
@@ -30,8 +36,8 @@ abbrev pub record_of : Order → List ℕ → CaptureRecord
 record_of order octets = record {
   seconds = number order 4 octets;
   fraction = number order 4 (drop 4 octets);
-  frame = if nat_lt (captured_length order octets) (original_length order octets) then None
-      else Some (take (captured_length order octets) (drop record_header_length octets));
+  content = if nat_lt (captured_length order octets) (original_length order octets) then partial
+      else whole (take (captured_length order octets) (drop record_header_length octets));
 }
 
 -- what is at the beginning of octets: nothing, a record with the octets after it, or the first fault

@@ -36,6 +36,8 @@ pub enum Body<'a> {
     Whole(&'a [u8]),
     /// The frame was captured only in part.
     Partial,
+    /// No frame: a packet of the other link type of this number. `PcapReader` does not return it.
+    OtherLink(u16),
 }
 
 /// The numbers in a record before its captured octets.

@@ -64,7 +64,7 @@ fn compare(rt: &impl Abort, alloc: Global, rows: &[Row]) -> Result<(), Fail> {
 }
 
 /// Files of one section and of several, with packets of all kinds, and blocks that are skipped.
-const FILES: [Row; 16] = [
+const FILES: [Row; 20] = [
     ("little", "end end"),
     ("little ethernet", "end end"),
     ("little ethernet packet packet", "told told end end"),
@@ -137,10 +137,28 @@ const FILES: [Row; 16] = [
         "little 0100000014000000010000000800000014000000 03000000180000000e000000ffffffffffff020018000000",
         "0.0 partial end end",
     ),
-    // An interface that is not Ethernet, without packets.
+    // An interface that is not Ethernet, without packets; and with one, before a packet of Ethernet.
+    ("little ethernet cooked packet", "told end end"),
     (
-        "little ethernet 0100000014000000710000000000040014000000 packet",
-        "told end end",
+        "little ethernet cooked
+         06000000300000000100000000000000000000000e0000000e000000ffffffffffff0200000000010800000030000000 packet",
+        "0.0 linktype 113 told end end",
+    ),
+    // Of such a packet neither time nor lengths are read.
+    (
+        "little cooked ethernet
+         060000002000000000000000ffffffffffffffffffffffffffffffff20000000 packet",
+        "0.0 linktype 113 0.0 linktype 113 end end",
+    ),
+    // A simple packet of such an interface.
+    (
+        "little cooked ethernet 03000000200000000e000000ffffffffffff0200000000010800000020000000",
+        "0.0 linktype 113 end end",
+    ),
+    // A packet of another link type in a section without Ethernet, after a section with it.
+    (
+        "little ethernet big little cooked packet",
+        "0.0 linktype 113 end end",
     ),
 ];
 
@@ -303,7 +321,7 @@ fn either_format(rt: HostRuntime) -> Result<(), Fail> {
 }
 
 /// Each fault of the format.
-const FAULTS: [Row; 29] = [
+const FAULTS: [Row; 30] = [
     // In the first section header: the byte-order magic, the version, the length; and another block instead of it.
     (
         "0a0d0d0a1c0000004c3c2b1a01000000ffffffffffffffff1c000000",
@@ -391,7 +409,7 @@ const FAULTS: [Row; 29] = [
         "little 010000001c000000010000000000040002000500657468301c000000",
         "BlockLength BlockLength",
     ),
-    // No interface, for each kind of packet; an interface of the section before; one that is not Ethernet.
+    // No interface, for each kind of packet; an interface of the section before.
     ("little packet", "NoInterface NoInterface"),
     (
         "little 03000000200000000e000000ffffffffffff0200000000010800000020000000",
@@ -408,8 +426,10 @@ const FAULTS: [Row; 29] = [
         "NoInterface NoInterface",
     ),
     ("little ethernet little packet", "NoInterface NoInterface"),
+    // A packet of another link type before the first Ethernet interface; and a simple packet.
+    ("little cooked packet ethernet", "LinkType LinkType"),
     (
-        "little 0100000014000000710000000000040014000000 packet",
+        "little cooked 03000000200000000e000000ffffffffffff0200000000010800000020000000",
         "LinkType LinkType",
     ),
 ];
@@ -546,7 +566,7 @@ fn next_octets(reader: &mut PcapngReader<&[u8]>) -> Result<Option<(usize, Option
     match reader.next()? {
         Some(record) => match record.body {
             Body::Whole(frame) => Ok(Some((frame.len(), frame.last().copied()))),
-            Body::Partial => Ok(Some((0, None))),
+            Body::Partial | Body::OtherLink(_) => Ok(Some((0, None))),
         },
         None => Ok(None),
     }

@@ -8,7 +8,7 @@ use std::process::Abort;
 use std::test::Fail;
 
 /// Abbreviations for octets of a file, or for a reader's answers.
-const WORDS: [(&str, &str); 16] = [
+const WORDS: [(&str, &str); 17] = [
     // The header of a file in microseconds, little endian.
     ("micro", "d4c3b2a1020004000000000000000000ffff000001000000"),
     // The header of a file in nanoseconds, big endian.
@@ -33,6 +33,8 @@ const WORDS: [(&str, &str); 16] = [
     // An Ethernet interface without options, so in microseconds, with snap length 262,144; in both byte orders.
     ("ethernet", "0100000014000000010000000000040014000000"),
     ("ethernet_big", "0000000100000014000100000004000000000014"),
+    // An interface of link type 113, without options.
+    ("cooked", "0100000014000000710000000000040014000000"),
     // An interface up to the number of its resolution, and what follows it.
     ("resolution", "010000001c000000010000000000040009000100"),
     ("resolved", "0000001c000000"),
@@ -82,6 +84,7 @@ fn tell_record(alloc: Global, text: &mut String, record: Record<'_>) -> Result<(
             write!(text, " {seconds}.{fraction}:{frame}")?;
         }
         Body::Partial => write!(text, " {seconds}.{fraction} partial")?,
+        Body::OtherLink(number) => write!(text, " {seconds}.{fraction} linktype {number}")?,
     }
     Ok(())
 }

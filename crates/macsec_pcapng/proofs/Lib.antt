@@ -1,6 +1,7 @@
 pub mod TakenOctets
 pub mod TakenBlocks
 pub mod Options
+pub mod OtherPackets
 pub mod OneTaken
 pub mod Ahead
 pub mod Whole

@@ -1,6 +1,6 @@
 -- Reading a block and applying it to the section, and reading the first block of a file.
 use Rattle.std.proofs.Common.{◌≡◌, ◌≢◌, ℕ, ◌+◌, ◌-◌, ◌≤◌, List, take, drop, sym, ap, subst, ◌∙◌, arith}
-use Rattle.std.specs.Prelude.{Option, Some, None, IfSome, Result, Ok, Err, false, true, ◌==◌, nat_lt, if◌then◌else◌}
+use Rattle.std.specs.Prelude.{Option, Some, None, IfSome, Result, Ok, Err, false, true, ◌==◌, nat_lt, not, if◌then◌else◌}
 use Rattle.std.proofs.lemmas.Bool.Decides.{nat_tests}
 use Rattle.std.proofs.lemmas.List.{drop-take, take-take}
 use Rattle.macsec_pcap.specs.declared.fault.PcapFault.{PcapFault}
@@ -12,7 +12,7 @@ use Rattle.macsec_pcap.specs.Limits.{max_records}
 use Rattle.macsec_pcap.specs.Captures.{CaptureFile}
 use Rattle.macsec_pcap.specs.Reading.{Opens}
 use Rattle.macsec_pcap.specs.Answers.{UnlessRead}
-use Rattle.macsec_pcap.specs.Records.{CaptureRecord}
+use Rattle.macsec_pcap.specs.Records.{CaptureRecord, Content, whole, partial, other_link}
 use Rattle.macsec_pcapng.specs.declared.blocks.Head.{Head}
 use Rattle.macsec_pcapng.specs.declared.packets.Packet.{Packet}
 use Rattle.macsec_pcapng.specs.declared.taking.Taken.TheVariants.{End, Found, Skipped}
@@ -21,9 +21,17 @@ use Rattle.macsec_pcapng.specs.Limits.{max_blocks}
 use Rattle.macsec_pcapng.specs.Reading.{told}
 use Rattle.macsec_pcapng.specs.Blocks.{Begins, block_at, kept, section_header}
 use Rattle.macsec_pcapng.specs.Files.{capture_of, file_after, file_by, in_header, pcapng_of, taken_at, taken_by, taken_with}
+use Rattle.macsec_pcapng.specs.Interfaces.{ethernet}
 use Rattle.macsec_pcapng.specs.Packets.{record_in}
 use Rattle.macsec_pcapng.specs.Section.{Section}
 use Rattle.macsec_pcapng.specs.Sections.{left_by, new_section}
+
+-- what a packet with these octets has
+abbrev with_octets : Packet → List ℕ → Content
+with_octets packet octets =
+    if not (packet.link_type == ethernet) then other_link packet.link_type
+    else if nat_lt packet.captured packet.original then partial
+    else whole octets
 
 -- the octets of a packet are within the kept octets of the block's body
 record_in-take : (packet : Packet) (room : List ℕ) (n : ℕ) → packet.start + packet.captured ≤ n → record_in packet (take n room) ≡ record_in packet room
@@ -34,7 +42,7 @@ record_in-take packet room n fits =
     let same : take packet.captured (drop packet.start (take n room)) ≡ take packet.captured (drop packet.start room) =
     ap (λ k. take packet.captured (drop packet.start (take k room))) all ∙ ap (take packet.captured) (drop-take packet.start m room)
     ∙ take-take packet.captured m (drop packet.start room) few in
-    ap (λ xs. record { seconds = packet.seconds; fraction = packet.fraction; frame = if nat_lt packet.captured packet.original then None else Some xs }) same
+    ap (λ xs. record { seconds = packet.seconds; fraction = packet.fraction; content = with_octets packet xs }) same
 
 unless_read : (begins : Begins) (section : Section) (fault : PcapFault) → UnlessRead begins (Err fault) → UnlessRead (taken_by section begins) (Err fault)
 unless_read begins section Read h = tt
@@ -124,7 +132,7 @@ pub header_other : (old new last : Option (List ℕ)) (room : List ℕ) (head : 
 header_other None new last room head other taken = tt
 header_other (Some octets) new last room head other taken =
     let test : (head.kind == section_header) ≡ false = other_block head.kind other in
-    sym (ap file_by taken.1 ∙ ap (λ b. if b then file_after (new_section head.order (take (kept head.len) room)) taken.0 else Err Magic) test)
+    sym (ap file_by taken.1 ∙ ap (λ b. if b then file_after (new_section false head.order (take (kept head.len) room)) taken.0 else Err Magic) test)
 
 of_header : (octets rest : List ℕ) (new : Option (List ℕ)) (made answer : Result Section PcapFault) → pcapng_of octets ≡ file_after made rest → answer ≡ made → new ≡ Some rest →
     TakesHeader octets new answer
@@ -136,13 +144,13 @@ of_header octets rest new made (Err fault) is same left = file_fault (pcapng_of 
     file_fault meant fault same = sym same
 
 pub header_made : (old new : Option (List ℕ)) (room : List ℕ) (head : Head) (answer : Result Section PcapFault) → head.kind ≡ section_header →
-    answer ≡ new_section head.order (take (kept head.len) room) →
+    answer ≡ new_section false head.order (take (kept head.len) room) →
     IfSome old (λ octets. TakesBlock (block_at Big octets) new room (Ok (Some head))) → IfSome old (λ file. TakesHeader file new answer)
 header_made None new room head answer kind same taken = tt
 header_made (Some octets) new room head answer kind same taken =
     let test : (head.kind == section_header) ≡ true = same_block head.kind kind in
-    of_header octets taken.0 new (new_section head.order (take (kept head.len) room)) answer
-    (ap file_by taken.1 ∙ ap (λ b. if b then file_after (new_section head.order (take (kept head.len) room)) taken.0 else Err Magic) test) same taken.2
+    of_header octets taken.0 new (new_section false head.order (take (kept head.len) room)) answer
+    (ap file_by taken.1 ∙ ap (λ b. if b then file_after (new_section false head.order (take (kept head.len) room)) taken.0 else Err Magic) test) same taken.2
 
 -- ---- the reader at the first record
 

@@ -1,6 +1,6 @@
 -- The fault of a pcapng file is never `Memory`, `Read` or `Write`.
 use Rattle.std.proofs.Common.{ℕ, zero, suc, ◌+◌, ◌-◌, List, drop, take, length}
-use Rattle.std.specs.Prelude.{◌==◌, nat_lt, not, slice_get, Option, Some, None, Result, Ok, Err}
+use Rattle.std.specs.Prelude.{Bool, false, true, ◌==◌, nat_lt, not, slice_get, Option, Some, None, Result, Ok, Err}
 use Rattle.macsec_pcap.specs.declared.fault.PcapFault.{PcapFault}
 use Rattle.macsec_pcap.specs.declared.fault.PcapFault.TheVariants.{BlockLength, CutRecord, InterfaceCount, LinkType, Magic, RecordLength, Version}
 use Rattle.macsec_pcap.specs.declared.form.Order.{Order}
@@ -18,7 +18,7 @@ use Rattle.macsec_pcapng.specs.Blocks.{obsolete_packet, order_of_magic, section_
 use Rattle.macsec_pcapng.specs.Files.{Takes, begun_by, capture_of, file_after, file_by, in_header, pcapng_of, taken_at, taken_by, taken_with, with_record}
 use Rattle.macsec_pcapng.specs.Interfaces.{after_option, behind_option, interface_of, is_ethernet, option_at, option_code, option_length, options_in}
 use Rattle.macsec_pcapng.specs.Interfaces.{plain_interface, value_length, with_option}
-use Rattle.macsec_pcapng.specs.Packets.{enhanced, enhanced_on, obsolete, packet_at, packet_of, simple, simple_on, ticks, within_snap}
+use Rattle.macsec_pcapng.specs.Packets.{enhanced, enhanced_on, obsolete, other_packet, packet_at, packet_of, simple, simple_on, ticks, within_snap}
 use Rattle.macsec_pcapng.specs.Section.{Section}
 use Rattle.macsec_pcapng.specs.Sections.{Leaves, is_version, leaves_packet, leaves_section, left_by, new_section, with_interface, with_one_more}
 use Rattle.macsec_pcapng.specs.Times.{time_of}
@@ -54,8 +54,8 @@ block_at_format order octets =
 
 -- ---- what a block leaves
 
-new_section_format : (order : Order) (front : List ℕ) → FaultIsOfFormat (new_section order front)
-new_section_format order front = chosen (is_version order front) (Ok _) (Err Version) tt tt
+new_section_format : (has : Bool) (order : Order) (front : List ℕ) → FaultIsOfFormat (new_section has order front)
+new_section_format has order front = chosen (is_version order front) (Ok _) (Err Version) tt tt
 
 with_option_format : (order : Order) (interface : Interface) (code : ℕ) (value : List ℕ) → FaultIsOfFormat (with_option order interface code value)
 with_option_format order interface code value =
@@ -109,16 +109,20 @@ packet_of_format time len start captured original =
     chosen (nat_lt max_record_length captured) (Err RecordLength) _ tt
     (chosen (nat_lt len (start + captured)) (Err BlockLength) _ tt (packet_at_format time start captured original))
 
-enhanced_format : (interface : Option Interface) (order : Order) (len : ℕ) (front : List ℕ) → FaultIsOfFormat (enhanced_on interface order len front)
-enhanced_format None order len front = tt
-enhanced_format (Some interface) order len front =
-    chosen (not (is_ethernet interface)) (Err LinkType) _ tt
+other_format : (has : Bool) (link_type : ℕ) → FaultIsOfFormat (other_packet has link_type)
+other_format false link_type = tt
+other_format true link_type = tt
+
+enhanced_format : (has : Bool) (interface : Option Interface) (order : Order) (len : ℕ) (front : List ℕ) → FaultIsOfFormat (enhanced_on has interface order len front)
+enhanced_format has None order len front = tt
+enhanced_format has (Some interface) order len front =
+    chosen (not (is_ethernet interface)) (other_packet has interface.link_type) _ (other_format has interface.link_type)
     (packet_of_format (time_of interface (ticks order front)) len 20 (number order 4 (drop 12 front)) (number order 4 (drop 16 front)))
 
-simple_format : (interface : Option Interface) (order : Order) (len : ℕ) (front : List ℕ) → FaultIsOfFormat (simple_on interface order len front)
-simple_format None order len front = tt
-simple_format (Some interface) order len front =
-    chosen (not (is_ethernet interface)) (Err LinkType) _ tt
+simple_format : (has : Bool) (interface : Option Interface) (order : Order) (len : ℕ) (front : List ℕ) → FaultIsOfFormat (simple_on has interface order len front)
+simple_format has None order len front = tt
+simple_format has (Some interface) order len front =
+    chosen (not (is_ethernet interface)) (other_packet has interface.link_type) _ (other_format has interface.link_type)
     (packet_of_format (Some (record { seconds = 0; nanoseconds = 0 })) len 4 (within_snap interface.snap_len (number order 4 front)) (number order 4 front))
 
 leaves_section_format : (made : Result Section PcapFault) → FaultIsOfFormat made → FaultIsOfFormat (leaves_section made)
@@ -131,20 +135,21 @@ leaves_packet_format section (Ok packet) of_format = tt
 
 left_by_format : (section : Section) (block : Block) → FaultIsOfFormat (left_by section block)
 left_by_format section block =
-    let made = new_section block.order block.front in
+    let has = section.has_ethernet in
+    let made = new_section has block.order block.front in
     let described = interface_of block.order block.len block.front in
-    chosen (block.kind == section_header) (leaves_section made) _ (leaves_section_format made (new_section_format block.order block.front))
+    chosen (block.kind == section_header) (leaves_section made) _ (leaves_section_format made (new_section_format has block.order block.front))
     (chosen (block.kind == interface_description) (leaves_section (with_interface section described)) _
     (leaves_section_format (with_interface section described) (with_interface_format section described (interface_of_format block.order block.len block.front)))
-    (chosen (block.kind == enhanced_packet) (leaves_packet section (enhanced section.interfaces block.order block.len block.front)) _
-    (leaves_packet_format section (enhanced section.interfaces block.order block.len block.front)
-    (enhanced_format (slice_get section.interfaces (number block.order 4 block.front)) block.order block.len block.front))
-    (chosen (block.kind == obsolete_packet) (leaves_packet section (obsolete section.interfaces block.order block.len block.front)) _
-    (leaves_packet_format section (obsolete section.interfaces block.order block.len block.front)
-    (enhanced_format (slice_get section.interfaces (number block.order 2 block.front)) block.order block.len block.front))
-    (chosen (block.kind == simple_packet) (leaves_packet section (simple section.interfaces block.order block.len block.front)) _
-    (leaves_packet_format section (simple section.interfaces block.order block.len block.front)
-    (simple_format (slice_get section.interfaces 0) block.order block.len block.front)) tt))))
+    (chosen (block.kind == enhanced_packet) (leaves_packet section (enhanced has section.interfaces block.order block.len block.front)) _
+    (leaves_packet_format section (enhanced has section.interfaces block.order block.len block.front)
+    (enhanced_format has (slice_get section.interfaces (number block.order 4 block.front)) block.order block.len block.front))
+    (chosen (block.kind == obsolete_packet) (leaves_packet section (obsolete has section.interfaces block.order block.len block.front)) _
+    (leaves_packet_format section (obsolete has section.interfaces block.order block.len block.front)
+    (enhanced_format has (slice_get section.interfaces (number block.order 2 block.front)) block.order block.len block.front))
+    (chosen (block.kind == simple_packet) (leaves_packet section (simple has section.interfaces block.order block.len block.front)) _
+    (leaves_packet_format section (simple has section.interfaces block.order block.len block.front)
+    (simple_format has (slice_get section.interfaces 0) block.order block.len block.front)) tt))))
 
 -- ---- reading a block, and the content of a file
 
@@ -190,9 +195,9 @@ file_by_format : (begins : Begins) → FaultIsOfFormat begins → FileIsOfFormat
 file_by_format (Err fault) of_format = in_header_format fault of_format
 file_by_format (Ok None) of_format = tt
 file_by_format (Ok (Some (block, rest))) of_format =
-    let made = new_section block.order block.front in
+    let made = new_section false block.order block.front in
     picked FileIsOfFormat (block.kind == section_header) (file_after made rest) (Err Magic)
-    (file_after_format made rest (new_section_format block.order block.front)) tt
+    (file_after_format made rest (new_section_format false block.order block.front)) tt
 
 pub pcapng_format : (octets : List ℕ) → FileIsOfFormat (pcapng_of octets)
 pcapng_format octets = file_by_format (block_at Big octets) (block_at_format Big octets)

@@ -1,6 +1,6 @@
 -- The content of a pcapng file (draft-ietf-opsawg-pcapng, 3 General File Structure). A file is a list of blocks, and
 -- the first is a section header.
-use Rattle.std.specs.Prelude.{ℕ, zero, suc, ◌==◌, List, [], if◌then◌else◌, Option, Some, None, Result, Ok, Err}
+use Rattle.std.specs.Prelude.{ℕ, zero, suc, false, ◌==◌, List, [], if◌then◌else◌, Option, Some, None, Result, Ok, Err}
 use Rattle.macsec_pcap.specs.declared.fault.PcapFault.{PcapFault}
 use Rattle.macsec_pcap.specs.declared.fault.PcapFault.TheVariants.{Magic, CutHeader, CutRecord, RecordCount}
 use Rattle.macsec_pcap.specs.declared.form.Order.TheVariants.{Big}
@@ -72,7 +72,7 @@ abbrev pub file_by : Begins → Result CaptureFile PcapFault
 file_by (Err fault) = Err (in_header fault)
 file_by (Ok None) = Err CutHeader
 file_by (Ok (Some (block, rest))) =
-    if block.kind == section_header then file_after (new_section block.order block.front) rest else Err Magic
+    if block.kind == section_header then file_after (new_section false block.order block.front) rest else Err Magic
 
 -- the content of a pcapng file, with times in nanoseconds. A section header is read in the byte order of its magic, so
 -- `Big` matters only for a file whose first block is of another type, which has a fault in any case

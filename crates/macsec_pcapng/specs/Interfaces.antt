@@ -9,9 +9,12 @@ use Rattle.macsec_pcap.specs.Numbers.{number}
 use Rattle.macsec_pcapng.specs.declared.interfaces.Interface.{Interface}
 use Rattle.macsec_pcapng.specs.Limits.{max_options, room_length}
 
--- the link type is Ethernet
+-- the link type of Ethernet
+abbrev pub ethernet : ℕ
+ethernet = 1
+
 abbrev pub is_ethernet : Interface → Bool
-is_ethernet interface = interface.link_type == 1
+is_ethernet interface = interface.link_type == ethernet
 
 -- ---- options (3.5): a code (2 octets), the length of the value (2), and the value, padded to a multiple of four
 

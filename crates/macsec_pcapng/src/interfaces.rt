@@ -8,7 +8,7 @@ use crate::blocks::ROOM_LEN;
 use macsec_pcap::{Order, PcapFault};
 
 /// The link type of Ethernet.
-const ETHERNET: u16 = 1;
+pub(crate) const ETHERNET: u16 = 1;
 
 /// The code that ends the options, opt_endofopt.
 const END_OF_OPTIONS: u16 = 0;

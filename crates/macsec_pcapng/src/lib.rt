@@ -2,10 +2,11 @@
 //! reader of files in pcapng or pcap.
 //!
 //! The definition `pcapng_of` (`specs/Files.antt`) gives the content of every list of octets as a pcapng file: its
-//! records in order, whole or partial, with times in nanoseconds, and the fault of the format after them; or the first
-//! fault of its first section header. It builds on the definition of a block (`specs/Blocks.antt`), which is read in
-//! the byte order of its section, and on what each block leaves: a new section, one more interface, a packet, or
-//! nothing (`specs/Sections.antt`).
+//! records in order, whole, partial or of another link type, with times in nanoseconds, and the fault of the format
+//! after them; or the first fault of its first section header. It builds on the definition of a block
+//! (`specs/Blocks.antt`), which is read in the byte order of its section, and on what each block leaves: a new section,
+//! one more interface, a packet, or nothing (`specs/Sections.antt`). Of a packet of another link type only the link
+//! type is read, so its record has time 0.
 //!
 //! Proved, over a reader whose octets a contract can name: `PcapngReader::new` returns a reader at the first record of
 //! that file, or the fault of its header, or `Memory` or `Read`. Each `next` returns the next record, or, after the

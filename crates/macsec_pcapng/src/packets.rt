@@ -4,9 +4,9 @@ ghost use Rattle.std.specs.Prelude.{◌≡◌, ◌≤◌, ◌+◌, IfOk, drop, l
 ghost use Rattle.macsec_pcap.specs.Answers.{shown};
 ghost use Rattle.macsec_pcap.specs.Numbers.{number};
 ghost use Rattle.macsec_pcapng.specs.Blocks.{kept};
-ghost use Rattle.macsec_pcapng.specs.Packets.{enhanced, enhanced_on, obsolete, packet_of, record_in, simple, ticks, within_snap};
+ghost use Rattle.macsec_pcapng.specs.Packets.{enhanced, enhanced_on, obsolete, other_packet, packet_of, record_in, simple, ticks, within_snap, without_data};
 
-use crate::interfaces::Interface;
+use crate::interfaces::{ETHERNET, Interface};
 use crate::times::Time;
 use macsec_pcap::{Body, MAX_RECORD_LEN, Order, PcapFault, Record};
 
@@ -16,10 +16,11 @@ const ENHANCED_LEN: usize = 20;
 /// The octets before the data of a simple packet: the original length.
 const SIMPLE_LEN: usize = 4;
 
-/// A packet: its time, the offset of its data in the body of its block, and its captured and original lengths in
-/// octets.
+/// A packet: its link type, its time, the offset of its data in the body of its block, and its captured and original
+/// lengths in octets. If it is not of Ethernet, all but the link type are 0.
 #[derive(Clone, Copy)]
 pub(crate) struct Packet {
+    pub(crate) link_type: u16,
     pub(crate) seconds: u32,
     pub(crate) fraction: u32,
     pub(crate) start: usize,
@@ -28,12 +29,28 @@ pub(crate) struct Packet {
 }
 
 impl Packet {
+    /// A packet of a link type that is not Ethernet.
+    fn without_data(link_type: u16) -> Packet
+        ensures { result ≡ without_data link_type }
+    {
+        Packet {
+            link_type,
+            seconds: 0,
+            fraction: 0,
+            start: 0,
+            captured: 0,
+            original: 0,
+        }
+    }
+
     /// Its record. `room` begins with the body of its block.
     pub(crate) fn record(self, room: &[u8]) -> Record<'_>
         requires { self.start + self.captured ≤ length room.now }
         ensures { shown result ≡ record_in self room.now }
     {
-        let body = if self.captured < self.original {
+        let body = if self.link_type != ETHERNET {
+            Body::OtherLink(self.link_type)
+        } else if self.captured < self.original {
             Body::Partial
         } else {
             Body::Whole(&room[self.start..][..self.captured as usize])
@@ -46,37 +63,58 @@ impl Packet {
     }
 }
 
+/// A packet of an interface that is not Ethernet, or `LinkType` if the file has described no Ethernet interface yet.
+fn other_packet(has_ethernet: bool, link_type: u16) -> Result<Packet, PcapFault>
+    ensures { result ≡ other_packet has_ethernet link_type }
+{
+    if !has_ethernet {
+        return Err(PcapFault::LinkType);
+    }
+    Ok(Packet::without_data(link_type))
+}
+
 /// The packet of an enhanced packet block. Its body has `len` octets and begins with `front`.
 pub(crate) fn enhanced(
+    has_ethernet: bool,
     interfaces: &[Interface],
     order: Order,
     len: u32,
     front: &[u8],
 ) -> Result<Packet, PcapFault>
     requires { 20 ≤ length front.now }
-    ensures packet { result ≡ enhanced interfaces.now order len front.now }
+    ensures packet { result ≡ enhanced has_ethernet interfaces.now order len front.now }
     ensures fits { IfOk result (λ packet. packet.start + packet.captured ≤ kept len) }
 {
-    numbered(interfaces, order.u32(front), order, len, front)
+    numbered(
+        has_ethernet,
+        interfaces,
+        order.u32(front),
+        order,
+        len,
+        front,
+    )
 }
 
 /// The packet of an obsolete packet block, whose interface has a number of two octets. Its body has `len` octets and
 /// begins with `front`.
 pub(crate) fn obsolete(
+    has_ethernet: bool,
     interfaces: &[Interface],
     order: Order,
     len: u32,
     front: &[u8],
 ) -> Result<Packet, PcapFault>
     requires { 20 ≤ length front.now }
-    ensures packet { result ≡ obsolete interfaces.now order len front.now }
+    ensures packet { result ≡ obsolete has_ethernet interfaces.now order len front.now }
     ensures fits { IfOk result (λ packet. packet.start + packet.captured ≤ kept len) }
 {
-    numbered(interfaces, u32::from(order.u16(front)), order, len, front)
+    let number = u32::from(order.u16(front));
+    numbered(has_ethernet, interfaces, number, order, len, front)
 }
 
 /// The packet of an enhanced or an obsolete packet block, of the interface of this number.
 fn numbered(
+    has_ethernet: bool,
     interfaces: &[Interface],
     number: u32,
     order: Order,
@@ -84,14 +122,14 @@ fn numbered(
     front: &[u8],
 ) -> Result<Packet, PcapFault>
     requires { 20 ≤ length front.now }
-    ensures packet { result ≡ enhanced_on (slice_get interfaces.now number) order len front.now }
+    ensures packet { result ≡ enhanced_on has_ethernet (slice_get interfaces.now number) order len front.now }
     ensures fits { IfOk result (λ packet. packet.start + packet.captured ≤ kept len) }
 {
     let Some(interface) = interfaces.get(number as usize) else {
         return Err(PcapFault::NoInterface);
     };
     if !interface.is_ethernet() {
-        return Err(PcapFault::LinkType);
+        return other_packet(has_ethernet, interface.link_type);
     }
     let time = interface.time(ticks(order, front));
     let captured = captured_length(order, front);
@@ -118,20 +156,21 @@ fn ticks(order: Order, front: &[u8]) -> u64
 
 /// The packet of a simple packet block, at time 0. Its body has `len` octets and begins with `front`.
 pub(crate) fn simple(
+    has_ethernet: bool,
     interfaces: &[Interface],
     order: Order,
     len: u32,
     front: &[u8],
 ) -> Result<Packet, PcapFault>
     requires { 4 ≤ length front.now }
-    ensures packet { result ≡ simple interfaces.now order len front.now }
+    ensures packet { result ≡ simple has_ethernet interfaces.now order len front.now }
     ensures fits { IfOk result (λ packet. packet.start + packet.captured ≤ kept len) }
 {
     let Some(interface) = interfaces.first() else {
         return Err(PcapFault::NoInterface);
     };
     if !interface.is_ethernet() {
-        return Err(PcapFault::LinkType);
+        return other_packet(has_ethernet, interface.link_type);
     }
     let original = order.u32(front);
     let captured = within_snap(interface.snap_len, original);
@@ -177,6 +216,7 @@ fn packet_of(
         return Err(PcapFault::Time);
     };
     Ok(Packet {
+        link_type: ETHERNET,
         seconds: time.seconds,
         fraction: time.nanoseconds,
         start,

@@ -140,7 +140,7 @@ fn read_header<R: Read>(source: &mut R, room: &mut [u8]) -> Result<Section, Pcap
     if head.kind != SECTION_HEADER {
         return Err(PcapFault::Magic);
     }
-    Section::new(head.order, &room[..kept(head.len)])
+    Section::new(false, head.order, &room[..kept(head.len)])
 }
 
 /// The fault of a file whose first block has this fault. `CutRecord` becomes `CutHeader`.

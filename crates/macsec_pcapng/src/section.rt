@@ -15,11 +15,13 @@ use arrayvec::ArrayVec;
 use macsec_pcap::{Order, PcapFault};
 use std::marker::Model;
 
-/// A section, as far as it was read: the byte order of its numbers, and up to 256 interfaces.
+/// A section, as far as it was read: the byte order of its numbers, and up to 256 interfaces; and whether the file has
+/// described an Ethernet interface, in this section or before it.
 #[derive(Drop)]
 pub(crate) struct Section {
     order: Order,
     interfaces: ArrayVec<Interface, 256>,
+    has_ethernet: bool,
 }
 
 impl Model for Section {
@@ -27,14 +29,15 @@ impl Model for Section {
 
     ghost Value = { Section };
 
-    ghost view = { λ s. record { order = s.order; interfaces = s.interfaces.items } };
+    ghost view = { λ s. record { order = s.order; interfaces = s.interfaces.items; has_ethernet = s.has_ethernet } };
 }
 
 impl Section {
-    /// The new section of a header with this byte order. `front` has the first octets of its body.
-    pub(crate) fn new(order: Order, front: &[u8]) -> Result<Section, PcapFault>
+    /// The new section of a header with this byte order. `front` has the first octets of its body. `has_ethernet` tells
+    /// whether a section before it has an Ethernet interface.
+    pub(crate) fn new(has_ethernet: bool, order: Order, front: &[u8]) -> Result<Section, PcapFault>
         requires { 16 ≤ length front.now }
-        ensures { result ≡ new_section order front.now }
+        ensures { result ≡ new_section has_ethernet order front.now }
     {
         if !is_version(order, front) {
             return Err(PcapFault::Version);
@@ -42,6 +45,7 @@ impl Section {
         Ok(Section {
             order,
             interfaces: ArrayVec::new(),
+            has_ethernet,
         })
     }
 
@@ -60,6 +64,7 @@ impl Section {
         ensures fits { IfOk result (λ some. IfSome some (λ packet. packet.start + packet.captured ≤ kept head.len)) }
     {
         let (order, len) = (head.order, head.len);
+        let (has_ethernet, interfaces) = (self.has_ethernet, self.interfaces.as_slice());
         match head.kind {
             SECTION_HEADER => match self.begin(order, front) {
                 Ok(()) => Ok(None),
@@ -69,15 +74,15 @@ impl Section {
                 Ok(()) => Ok(None),
                 Err(fault) => Err(fault),
             },
-            ENHANCED_PACKET => match enhanced(self.interfaces.as_slice(), order, len, front) {
+            ENHANCED_PACKET => match enhanced(has_ethernet, interfaces, order, len, front) {
                 Ok(packet) => Ok(Some(packet)),
                 Err(fault) => Err(fault),
             },
-            OBSOLETE_PACKET => match obsolete(self.interfaces.as_slice(), order, len, front) {
+            OBSOLETE_PACKET => match obsolete(has_ethernet, interfaces, order, len, front) {
                 Ok(packet) => Ok(Some(packet)),
                 Err(fault) => Err(fault),
             },
-            SIMPLE_PACKET => match simple(self.interfaces.as_slice(), order, len, front) {
+            SIMPLE_PACKET => match simple(has_ethernet, interfaces, order, len, front) {
                 Ok(packet) => Ok(Some(packet)),
                 Err(fault) => Err(fault),
             },
@@ -88,9 +93,9 @@ impl Section {
     /// Starts a new section, from a header with this byte order. `front` has the first octets of its body.
     fn begin(&mut self, order: Order, front: &[u8]) -> Result<(), PcapFault>
         requires { 16 ≤ length front.now }
-        ensures { IsMade (new_section order front.now) self.new result }
+        ensures { IsMade (new_section self.old.has_ethernet order front.now) self.new result }
     {
-        match Section::new(order, front) {
+        match Section::new(self.has_ethernet, order, front) {
             Ok(section) => {
                 *self = section;
                 Ok(())
@@ -118,6 +123,7 @@ impl Section {
             return Err(PcapFault::InterfaceCount);
         }
         self.interfaces.push(interface);
+        self.has_ethernet = self.has_ethernet || interface.is_ethernet();
         Ok(())
     }
 }

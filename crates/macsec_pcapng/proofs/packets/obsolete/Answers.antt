@@ -7,4 +7,4 @@ use Rattle.macsec_pcapng.proofs.packets.obsolete.Goals as goal
 pub returns-clause-packet : goal.returns-clause-packet
 returns-clause-packet c =
     c.numbered.ensures.packet
-    ∙ ap (λ n. enhanced_on (slice_get c.args.interfaces.now n) c.args.order c.args.len c.args.front.now) (c.from.ensures ∙ c.u16.ensures)
+    ∙ ap (λ n. enhanced_on c.args.has_ethernet (slice_get c.args.interfaces.now n) c.args.order c.args.len c.args.front.now) (c.from-number.ensures ∙ c.u16.ensures)

@@ -1,4 +1,5 @@
 use Rattle.std.proofs.Common.{◌∙◌, ap, take}
+use Rattle.std.specs.Prelude.{false}
 use Rattle.macsec_pcapng.specs.Sections.{new_section}
 use Rattle.macsec_pcapng.proofs.OneTaken.{header_fault, header_made, header_none, header_other}
 use Rattle.macsec_pcapng.proofs.reader.read_header.Goals as goal
@@ -23,4 +24,4 @@ pub returns : goal.returns
 returns g c =
     let some = c.in-Ok-Some in
     header_made _ _ c.take_block.new.room some.head c.new.result c.if-head-ne-SECTION_HEADER.false
-    (c.new.ensures ∙ ap (λ n. new_section some.head.order (take n c.take_block.new.room)) c.kept.ensures.kept) (rw some.field-0-is at some.ensures.block)
+    (c.new.ensures ∙ ap (λ n. new_section false some.head.order (take n c.take_block.new.room)) c.kept.ensures.kept) (rw some.field-0-is at some.ensures.block)
