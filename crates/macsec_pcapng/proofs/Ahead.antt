@@ -12,10 +12,10 @@ use Rattle.macsec_pcapng.specs.declared.reader.Course.{Course}
 use Rattle.macsec_pcapng.specs.declared.reader.Course.TheVariants.{Going, Ended, Failed}
 use Rattle.macsec_pcapng.specs.declared.taking.Taken.TheVariants.{End, Found, Skipped}
 use Rattle.macsec_pcapng.specs.Section.{Section}
-use Rattle.macsec_pcapng.specs.Files.{Takes, begun_by, capture_of, ended, taken_at}
-use Rattle.macsec_pcapng.specs.Packets.{record_in}
+use Rattle.macsec_pcapng.specs.Files.{Takes, content_from, capture_of, ended, taken_at}
+use Rattle.macsec_pcapng.specs.Packets.{packet_record}
 use Rattle.macsec_pcapng.specs.Answers.{TakesOne, TakesPacket}
-use Rattle.macsec_pcapng.specs.Reading.{ahead_of, told}
+use Rattle.macsec_pcapng.specs.Reading.{ahead_in, content_ahead}
 
 -- ---- reading a block
 
@@ -30,12 +30,12 @@ goes_none blocks section (Some octets) = (octets, refl, λ places. refl)
 
 -- the content of octets, from their first block
 begins : (left : ℕ) (section : Section) (octets : List ℕ) (places : ℕ) → 0 < left →
-    capture_of left section places octets ≡ begun_by (taken_at section octets) places (λ next n rest. capture_of (left - 1) next n rest)
+    capture_of left section places octets ≡ content_from (taken_at section octets) places (λ next n rest. capture_of (left - 1) next n rest)
 unfolding capture_of
 begins zero section octets places some = absurd (omega (arith, some))
 begins (suc left) section octets places some =
     let same : suc left - 1 ≡ left = omega arith in
-    ap (λ l. begun_by (taken_at section octets) places (λ next n rest. capture_of l next n rest)) (sym same)
+    ap (λ l. content_from (taken_at section octets) places (λ next n rest. capture_of l next n rest)) (sym same)
 
 -- one more block was read, and it had no packet
 pub goes_on : (blocks left : ℕ) (section next last : Section) (old mid new : Option (List ℕ)) (room : List ℕ) → 0 < left → Goes blocks section old left next mid →
@@ -47,7 +47,7 @@ goes_on blocks left section next last (Some octets) mid new room some goes taken
       here.0,
       here.2,
       λ places. goes.2 places ∙ begins left next rest places some
-          ∙ ap (λ t. begun_by t places (λ n k xs. capture_of (left - 1) n k xs)) here.1,
+          ∙ ap (λ t. content_from t places (λ n k xs. capture_of (left - 1) n k xs)) here.1,
     )
 
 -- the file ended
@@ -58,7 +58,7 @@ goes_end blocks left after section next last (Some octets) mid new room some goe
     let rest = goes.0 in
     let here : TakesOne next rest last new room (Ok End) = subst (λ m. IfSome m (λ xs. TakesOne next xs last new room (Ok End))) goes.1 taken in
     λ places. goes.2 places ∙ begins left next rest places some
-    ∙ ap (λ t. begun_by t places (λ n k xs. capture_of (left - 1) n k xs)) here
+    ∙ ap (λ t. content_from t places (λ n k xs. capture_of (left - 1) n k xs)) here
 
 -- a packet was found
 pub goes_found : (blocks left : ℕ) (section next last : Section) (old mid new : Option (List ℕ)) (room : List ℕ) (packet : Packet) → 0 < left →
@@ -72,7 +72,7 @@ goes_found blocks left section next last (Some octets) mid new room packet some 
       here.0,
       here.2,
       λ places. goes.2 places ∙ begins left next rest places some
-          ∙ ap (λ t. begun_by t places (λ n k xs. capture_of (left - 1) n k xs)) here.1,
+          ∙ ap (λ t. content_from t places (λ n k xs. capture_of (left - 1) n k xs)) here.1,
     )
 
 -- a fault of the format, or of a read
@@ -90,7 +90,7 @@ goes_fault blocks left after section next last (Some octets) mid new room fault 
     let rest = goes.0 in
     let here : UnlessRead (taken_at next rest) (Err fault) = subst (λ m. IfSome m (λ xs. UnlessRead (taken_at next xs) (Err fault))) goes.1 taken in
     told_fault blocks after section last octets room new (taken_at next rest) fault here
-    (λ places same. goes.2 places ∙ begins left next rest places some ∙ ap (λ t. begun_by t places (λ n k xs. capture_of (left - 1) n k xs)) same)
+    (λ places same. goes.2 places ∙ begins left next rest places some ∙ ap (λ t. content_from t places (λ n k xs. capture_of (left - 1) n k xs)) same)
 
 over : (left : ℕ) (next : Section) (places : ℕ) (rest : List ℕ) → left ≡ 0 → capture_of left next places rest ≡ ended (Some RecordCount)
 unfolding capture_of
@@ -107,7 +107,7 @@ goes_over blocks left after section next last (Some octets) mid new room none go
 
 -- a reader in this state
 abbrev pub standing : Course → ℕ → Section → ℕ → Option (List ℕ) → Reading
-standing course blocks section places octets = record { resolution = Nano; places = places; ahead = ahead_of course blocks section places octets }
+standing course blocks section places octets = record { resolution = Nano; places = places; ahead = ahead_in course blocks section places octets }
 
 -- a call of `next` on a reader
 abbrev pub Steps : Reading → Result (Option CaptureRecord) PcapFault → Reading → Type 0
@@ -120,26 +120,26 @@ going : (now : Reading) (course : Course) (blocks : ℕ) (section : Section) (pl
 going now course blocks section places octets is same = ap (λ c. standing c blocks section places octets) (sym is) ∙ same
 
 fault_answers : (blocks left places : ℕ) (section last : Section) (old new : Option (List ℕ)) (room : List ℕ) (fault : PcapFault) →
-    IfSome old (λ octets. TakesPacket blocks section octets left last new room (Err fault)) → Answers (told blocks section places old) (Err fault)
+    IfSome old (λ octets. TakesPacket blocks section octets left last new room (Err fault)) → Answers (content_ahead blocks section places old) (Err fault)
 fault_answers blocks left places section last None new room fault taken = tt
 fault_answers blocks left places section last (Some octets) new room Read taken = tt
 fault_answers blocks left places section last (Some octets) new room fault taken = sym (ap first_of (taken places))
 
 end_answers : (blocks left places : ℕ) (section last : Section) (old new : Option (List ℕ)) (room : List ℕ) →
-    IfSome old (λ octets. TakesPacket blocks section octets left last new room (Ok None)) → Answers (told blocks section places old) (Ok None)
+    IfSome old (λ octets. TakesPacket blocks section octets left last new room (Ok None)) → Answers (content_ahead blocks section places old) (Ok None)
 end_answers blocks left places section last None new room taken = tt
 end_answers blocks left places section last (Some octets) new room taken = sym (ap first_of (taken places))
 
 -- the limit of records is reached
 full_answers : (blocks left places : ℕ) (section last : Section) (old new : Option (List ℕ)) (room : List ℕ) (packet : Packet) → places ≡ 0 →
-    IfSome old (λ octets. TakesPacket blocks section octets left last new room (Ok (Some packet))) → Answers (told blocks section places old) (Err RecordCount)
+    IfSome old (λ octets. TakesPacket blocks section octets left last new room (Ok (Some packet))) → Answers (content_ahead blocks section places old) (Err RecordCount)
 full_answers blocks left places section last None new room packet none taken = tt
 full_answers blocks left zero section last (Some octets) new room packet none taken = sym (ap first_of (taken.2 zero))
 full_answers blocks left (suc places) section last (Some octets) new room packet none taken = absurd (omega (arith, none))
 
 record_answers : (blocks left places : ℕ) (section last : Section) (old new : Option (List ℕ)) (room : List ℕ) (packet : Packet) (first : CaptureRecord) →
-    first ≡ record_in packet room → 1 ≤ places →
-    IfSome old (λ octets. TakesPacket blocks section octets left last new room (Ok (Some packet))) → Answers (told blocks section places old) (Ok (Some first))
+    first ≡ packet_record packet room → 1 ≤ places →
+    IfSome old (λ octets. TakesPacket blocks section octets left last new room (Ok (Some packet))) → Answers (content_ahead blocks section places old) (Ok (Some first))
 record_answers blocks left places section last None new room packet first same place taken = tt
 record_answers blocks left zero section last (Some octets) new room packet first same place taken = absurd (omega (arith, place))
 record_answers blocks left (suc places) section last (Some octets) new room packet first same place taken =
@@ -147,17 +147,17 @@ record_answers blocks left (suc places) section last (Some octets) new room pack
 
 record_ahead : (blocks left places : ℕ) (section last : Section) (old new : Option (List ℕ)) (room : List ℕ) (packet : Packet) (first : CaptureRecord) → 1 ≤ places →
     IfSome old (λ octets. TakesPacket blocks section octets left last new room (Ok (Some packet))) →
-    IsAhead (ahead_after (told blocks section places old) (Ok (Some first))) (told left last (places - 1) new)
+    IsAhead (ahead_after (content_ahead blocks section places old) (Ok (Some first))) (content_ahead left last (places - 1) new)
 record_ahead blocks left places section last None new room packet first place taken = tt
 record_ahead blocks left zero section last (Some octets) new room packet first place taken = absurd (omega (arith, place))
 record_ahead blocks left (suc places) section last (Some octets) new room packet first place taken =
     let less : suc places - 1 ≡ places = omega arith in
-    ap (told left last (suc places - 1)) taken.1 ∙ ap (λ n. holds (capture_of left last n taken.0)) less
+    ap (content_ahead left last (suc places - 1)) taken.1 ∙ ap (λ n. holds (capture_of left last n taken.0)) less
     ∙ ap (λ capture. past_first (holds capture)) (sym (taken.2 (suc places)))
 
 pub steps_record : (now : Reading) (course : Course) (blocks left places : ℕ) (section last : Section) (old new : Option (List ℕ)) (room : List ℕ)
     (packet : Packet) (first : CaptureRecord) →
-    course ≡ Going → standing course blocks section places old ≡ now → 1 ≤ places → first ≡ record_in packet room →
+    course ≡ Going → standing course blocks section places old ≡ now → 1 ≤ places → first ≡ packet_record packet room →
     IfSome old (λ octets. TakesPacket blocks section octets left last new room (Ok (Some packet))) →
     Steps now (Ok (Some first)) (standing course left last (places - 1) new)
 steps_record now course blocks left places section last old new room packet first is same place shown taken =

@@ -18,11 +18,11 @@ use Rattle.macsec_pcapng.specs.declared.packets.Packet.{Packet}
 use Rattle.macsec_pcapng.specs.declared.taking.Taken.TheVariants.{End, Found, Skipped}
 use Rattle.macsec_pcapng.specs.Answers.{IsLeft, TakesBlock, TakesHeader, TakesOne, block_by}
 use Rattle.macsec_pcapng.specs.Limits.{max_blocks}
-use Rattle.macsec_pcapng.specs.Reading.{told}
+use Rattle.macsec_pcapng.specs.Reading.{content_ahead}
 use Rattle.macsec_pcapng.specs.Blocks.{Begins, block_at, kept, section_header}
 use Rattle.macsec_pcapng.specs.Files.{capture_of, file_after, file_by, in_header, pcapng_of, taken_at, taken_by, taken_with}
 use Rattle.macsec_pcapng.specs.Interfaces.{ethernet}
-use Rattle.macsec_pcapng.specs.Packets.{record_in}
+use Rattle.macsec_pcapng.specs.Packets.{packet_record}
 use Rattle.macsec_pcapng.specs.Section.{Section}
 use Rattle.macsec_pcapng.specs.Sections.{left_by, new_section}
 
@@ -34,8 +34,8 @@ with_octets packet octets =
     else whole octets
 
 -- the octets of a packet are within the kept octets of the block's body
-record_in-take : (packet : Packet) (room : List ℕ) (n : ℕ) → packet.start + packet.captured ≤ n → record_in packet (take n room) ≡ record_in packet room
-record_in-take packet room n fits =
+packet_record-take : (packet : Packet) (room : List ℕ) (n : ℕ) → packet.start + packet.captured ≤ n → packet_record packet (take n room) ≡ packet_record packet room
+packet_record-take packet room n fits =
     let m = n - packet.start in
     let all : n ≡ packet.start + m = omega (arith, fits) in
     let few : packet.captured ≤ m = omega (arith, fits) in
@@ -92,7 +92,7 @@ one_found None new section next room head packet fits taken left = tt
 one_found (Some octets) new section next room head packet fits taken left = (
   taken.0,
   ap (taken_by section) taken.1 ∙ ap (λ l. taken_with l (take (kept head.len) room) taken.0) left
-      ∙ ap (λ r. Ok (Some (next, Some r, taken.0))) (record_in-take packet room (kept head.len) fits),
+      ∙ ap (λ r. Ok (Some (next, Some r, taken.0))) (packet_record-take packet room (kept head.len) fits),
   taken.2,
 )
 
@@ -155,12 +155,12 @@ header_made (Some octets) new room head answer kind same taken =
 -- ---- the reader at the first record
 
 pub opens : (old new : Option (List ℕ)) (section : Section) → IfSome old (λ file. TakesHeader file new (Ok section)) →
-    IfSome old (λ file. Opens (pcapng_of file) (Ok (record { resolution = Nano; places = max_records; ahead = told max_blocks section max_records new })))
+    IfSome old (λ file. Opens (pcapng_of file) (Ok (record { resolution = Nano; places = max_records; ahead = content_ahead max_blocks section max_records new })))
 opens None new section taken = tt
 opens (Some file) new section taken = (
   record { resolution = Nano; capture = capture_of max_blocks section max_records taken.0 },
   taken.1,
-  ap (λ octets. record { resolution = Nano; places = max_records; ahead = told max_blocks section max_records octets }) taken.2,
+  ap (λ octets. record { resolution = Nano; places = max_records; ahead = content_ahead max_blocks section max_records octets }) taken.2,
 )
 
 -- a fault of the header

@@ -15,12 +15,12 @@ use Rattle.macsec_pcap.specs.Records.{CaptureRecord}
 use Rattle.macsec_pcapng.specs.Limits.{max_blocks, max_options, room_length, max_interfaces}
 use Rattle.macsec_pcapng.specs.Blocks.{Begins, Block, block_at, block_of, block_with, enhanced_packet, interface_description, is_length, is_section}
 use Rattle.macsec_pcapng.specs.Blocks.{obsolete_packet, order_of_magic, section_header, section_in, section_in_order, simple_packet, total_length}
-use Rattle.macsec_pcapng.specs.Files.{Takes, begun_by, capture_of, file_after, file_by, in_header, pcapng_of, taken_at, taken_by, taken_with, with_record}
+use Rattle.macsec_pcapng.specs.Files.{Takes, content_from, capture_of, file_after, file_by, in_header, pcapng_of, taken_at, taken_by, taken_with, with_record}
 use Rattle.macsec_pcapng.specs.Interfaces.{after_option, behind_option, interface_of, is_ethernet, option_at, option_code, option_length, options_in}
 use Rattle.macsec_pcapng.specs.Interfaces.{plain_interface, value_length, with_option}
 use Rattle.macsec_pcapng.specs.Packets.{enhanced, enhanced_on, obsolete, other_packet, packet_at, packet_of, simple, simple_on, ticks, within_snap}
 use Rattle.macsec_pcapng.specs.Section.{Section}
-use Rattle.macsec_pcapng.specs.Sections.{Leaves, is_version, leaves_packet, leaves_section, left_by, new_section, with_interface, with_one_more}
+use Rattle.macsec_pcapng.specs.Sections.{Leaves, is_known_version, leaves_packet, leaves_section, left_by, new_section, with_interface, with_one_more}
 use Rattle.macsec_pcapng.specs.Times.{time_of}
 use Rattle.macsec_pcapng.specs.Laws.{FileIsOfFormat, IsOfFormat}
 use Rattle.macsec_pcapng.proofs.OfFormat.{FaultIsOfFormat, chosen, picked}
@@ -55,7 +55,7 @@ block_at_format order octets =
 -- ---- what a block leaves
 
 new_section_format : (has : Bool) (order : Order) (front : List ℕ) → FaultIsOfFormat (new_section has order front)
-new_section_format has order front = chosen (is_version order front) (Ok _) (Err Version) tt tt
+new_section_format has order front = chosen (is_known_version order front) (Ok _) (Err Version) tt tt
 
 with_option_format : (order : Order) (interface : Interface) (code : ℕ) (value : List ℕ) → FaultIsOfFormat (with_option order interface code value)
 with_option_format order interface code value =
@@ -168,7 +168,7 @@ with_record_format zero first more rest = tt
 with_record_format (suc places) first more rest = rest places
 
 begun_format : (taken : Takes) (places : ℕ) (more : Section → ℕ → List ℕ → Capture) → FaultIsOfFormat taken →
-    ((section : Section) (left : ℕ) (rest : List ℕ) → IsOfFormat (more section left rest).fault) → IsOfFormat (begun_by taken places more).fault
+    ((section : Section) (left : ℕ) (rest : List ℕ) → IsOfFormat (more section left rest).fault) → IsOfFormat (content_from taken places more).fault
 begun_format (Err fault) places more first rest = first
 begun_format (Ok None) places more first rest = tt
 begun_format (Ok (Some (section, None, octets))) places more first rest = rest section places octets

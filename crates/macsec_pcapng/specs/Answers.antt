@@ -12,7 +12,7 @@ use Rattle.macsec_pcapng.specs.declared.taking.Taken.TheVariants.{End, Skipped, 
 use Rattle.macsec_pcapng.specs.Limits.{room_length}
 use Rattle.macsec_pcapng.specs.Blocks.{Begins, Block, kept}
 use Rattle.macsec_pcapng.specs.Files.{capture_of, ended, file_after, pcapng_of, taken_at, with_record}
-use Rattle.macsec_pcapng.specs.Packets.{record_in}
+use Rattle.macsec_pcapng.specs.Packets.{packet_record}
 use Rattle.macsec_pcapng.specs.Section.{Section}
 use Rattle.macsec_pcapng.specs.Sections.{Leaves}
 
@@ -73,14 +73,14 @@ TakesOne section octets next new room (Ok End) = taken_at section octets ≡ Ok 
 TakesOne section octets next new room (Ok Skipped) =
     (rest : List ℕ) × (taken_at section octets ≡ Ok (Some (next, None, rest))) × (new ≡ Some rest)
 TakesOne section octets next new room (Ok (Found packet)) =
-    (rest : List ℕ) × (taken_at section octets ≡ Ok (Some (next, Some (record_in packet room), rest))) × (new ≡ Some rest)
+    (rest : List ℕ) × (taken_at section octets ≡ Ok (Some (next, Some (packet_record packet room), rest))) × (new ≡ Some rest)
 TakesOne section octets next new room (Err fault) = UnlessRead (taken_at section octets) (Err fault)
 
 -- reading up to the next packet; `blocks` more blocks could be read before, `left` after
 abbrev pub TakesPacket : ℕ → Section → List ℕ → ℕ → Section → Option (List ℕ) → List ℕ → Result (Option Packet) PcapFault → Type 0
 TakesPacket blocks section octets left next new room (Ok (Some packet)) =
     (rest : List ℕ) × (new ≡ Some rest)
-    × ((places : ℕ) → capture_of blocks section places octets ≡ with_record places (record_in packet room) (λ n. capture_of left next n rest))
+    × ((places : ℕ) → capture_of blocks section places octets ≡ with_record places (packet_record packet room) (λ n. capture_of left next n rest))
 TakesPacket blocks section octets left next new room (Ok None) =
     (places : ℕ) → capture_of blocks section places octets ≡ ended None
 TakesPacket blocks section octets left next new room (Err Read) = Unit {0}

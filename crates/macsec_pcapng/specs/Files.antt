@@ -10,7 +10,7 @@ use Rattle.macsec_pcap.specs.Records.{CaptureRecord}
 use Rattle.macsec_pcap.specs.Captures.{Capture, CaptureFile, followed_by}
 use Rattle.macsec_pcapng.specs.Limits.{max_blocks}
 use Rattle.macsec_pcapng.specs.Blocks.{Begins, block_at, section_header}
-use Rattle.macsec_pcapng.specs.Packets.{record_in}
+use Rattle.macsec_pcapng.specs.Packets.{packet_record}
 use Rattle.macsec_pcapng.specs.Section.{Section}
 use Rattle.macsec_pcapng.specs.Sections.{Leaves, left_by, new_section}
 
@@ -22,7 +22,7 @@ Takes = Result (Option (Section × Option CaptureRecord × List ℕ)) PcapFault
 abbrev pub taken_with : Leaves → List ℕ → List ℕ → Takes
 taken_with (Err fault) front rest = Err fault
 taken_with (Ok (section, None)) front rest = Ok (Some (section, None, rest))
-taken_with (Ok (section, Some packet)) front rest = Ok (Some (section, Some (record_in packet front), rest))
+taken_with (Ok (section, Some packet)) front rest = Ok (Some (section, Some (packet_record packet front), rest))
 
 abbrev pub taken_by : Section → Begins → Takes
 taken_by section (Err fault) = Err fault
@@ -42,18 +42,18 @@ with_record zero first more = ended (Some RecordCount)
 with_record (suc places) first more = followed_by first (more places)
 
 -- the content of octets, from their first block and the content of the octets after it
-abbrev pub begun_by : Takes → ℕ → (Section → ℕ → List ℕ → Capture) → Capture
-begun_by (Err fault) places more = ended (Some fault)
-begun_by (Ok None) places more = ended None
-begun_by (Ok (Some (section, None, rest))) places more = more section places rest
-begun_by (Ok (Some (section, Some first, rest))) places more = with_record places first (λ left. more section left rest)
+abbrev pub content_from : Takes → ℕ → (Section → ℕ → List ℕ → Capture) → Capture
+content_from (Err fault) places more = ended (Some fault)
+content_from (Ok None) places more = ended None
+content_from (Ok (Some (section, None, rest))) places more = more section places rest
+content_from (Ok (Some (section, Some first, rest))) places more = with_record places first (λ left. more section left rest)
 
 -- the content of octets within a section. The fault is `RecordCount` after `blocks` blocks, or at a record after
 -- `places` records
 unfoldable pub capture_of : ℕ → Section → ℕ → List ℕ → Capture
 capture_of zero section places octets = ended (Some RecordCount)
 capture_of (suc blocks) section places octets =
-    begun_by (taken_at section octets) places (λ next left rest. capture_of blocks next left rest)
+    content_from (taken_at section octets) places (λ next left rest. capture_of blocks next left rest)
 
 -- ---- the file
 

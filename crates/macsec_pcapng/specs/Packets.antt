@@ -87,5 +87,5 @@ content_in packet front =
     else if nat_lt packet.captured packet.original then partial
     else whole (take packet.captured (drop packet.start front))
 
-abbrev pub record_in : Packet → List ℕ → CaptureRecord
-record_in packet front = record { seconds = packet.seconds; fraction = packet.fraction; content = content_in packet front }
+abbrev pub packet_record : Packet → List ℕ → CaptureRecord
+packet_record packet front = record { seconds = packet.seconds; fraction = packet.fraction; content = content_in packet front }

@@ -7,11 +7,11 @@ use Rattle.macsec_pcapng.specs.Section.{Section}
 use Rattle.macsec_pcapng.specs.Files.{capture_of}
 
 -- the content of the remaining octets, if a contract can name them
-abbrev pub told : ℕ → Section → ℕ → Option (List ℕ) → Ahead
-told blocks section places None = untold
-told blocks section places (Some octets) = holds (capture_of blocks section places octets)
+abbrev pub content_ahead : ℕ → Section → ℕ → Option (List ℕ) → Ahead
+content_ahead blocks section places None = untold
+content_ahead blocks section places (Some octets) = holds (capture_of blocks section places octets)
 
-abbrev pub ahead_of : Course → ℕ → Section → ℕ → Option (List ℕ) → Ahead
-ahead_of Going blocks section places octets = told blocks section places octets
-ahead_of Ended blocks section places octets = over
-ahead_of (Failed fault) blocks section places octets = failed fault
+abbrev pub ahead_in : Course → ℕ → Section → ℕ → Option (List ℕ) → Ahead
+ahead_in Going blocks section places octets = content_ahead blocks section places octets
+ahead_in Ended blocks section places octets = over
+ahead_in (Failed fault) blocks section places octets = failed fault

@@ -14,14 +14,14 @@ use Rattle.macsec_pcapng.specs.Section.{Section}
 
 -- the body of a section header: byte-order magic (4 octets), major and minor version (2 each), section length (8),
 -- options. The version is 1.0, or 1.2, which some programs write instead
-abbrev pub is_version : Order → List ℕ → Bool
-is_version order front =
+abbrev pub is_known_version : Order → List ℕ → Bool
+is_known_version order front =
     (number order 2 (drop 4 front) == 1) && ((number order 2 (drop 6 front) == 0) || (number order 2 (drop 6 front) == 2))
 
 -- a section begins without interfaces. `has_ethernet` is true if a section before it has an Ethernet interface
 abbrev pub new_section : Bool → Order → List ℕ → Result Section PcapFault
 new_section has_ethernet order front =
-    if is_version order front then Ok (record { order = order; interfaces = []; has_ethernet = has_ethernet }) else Err Version
+    if is_known_version order front then Ok (record { order = order; interfaces = []; has_ethernet = has_ethernet }) else Err Version
 
 -- a section with one more interface
 abbrev pub with_one_more : Section → Interface → Result Section PcapFault

@@ -4,7 +4,7 @@ ghost use Rattle.std.specs.Prelude.{◌≡◌, ◌≤◌, ◌+◌, IfOk, drop, l
 ghost use Rattle.macsec_pcap.specs.Answers.{shown};
 ghost use Rattle.macsec_pcap.specs.Numbers.{number};
 ghost use Rattle.macsec_pcapng.specs.Blocks.{kept};
-ghost use Rattle.macsec_pcapng.specs.Packets.{enhanced, enhanced_on, obsolete, other_packet, packet_of, record_in, simple, ticks, within_snap, without_data};
+ghost use Rattle.macsec_pcapng.specs.Packets.{enhanced, enhanced_on, obsolete, other_packet, packet_of, packet_record, simple, ticks, within_snap, without_data};
 
 use crate::interfaces::{ETHERNET, Interface};
 use crate::times::Time;
@@ -46,7 +46,7 @@ impl Packet {
     /// Its record. `room` begins with the body of its block.
     pub(crate) fn record(self, room: &[u8]) -> Record<'_>
         requires { self.start + self.captured ≤ length room.now }
-        ensures { shown result ≡ record_in self room.now }
+        ensures { shown result ≡ packet_record self room.now }
     {
         let body = if self.link_type != ETHERNET {
             Body::OtherLink(self.link_type)

@@ -53,9 +53,9 @@ impl<R: Read> Model for PcapngReader<R> {
 
     ghost Value = { Reading };
 
-    ghost use Rattle.macsec_pcapng.specs.Reading.{ahead_of};
+    ghost use Rattle.macsec_pcapng.specs.Reading.{ahead_in};
 
-    ghost view = { λ r. record { resolution = Nano; places = r.places; ahead = ahead_of r.course r.blocks r.section r.places (R.remaining r.source) } };
+    ghost view = { λ r. record { resolution = Nano; places = r.places; ahead = ahead_in r.course r.blocks r.section r.places (R.remaining r.source) } };
 
     ghost invariant = { λ r. length r.room.items ≡ 262164 };
 }

@@ -4,7 +4,7 @@ ghost use Rattle.std.specs.Prelude.{◌≡◌, ◌≤◌, ◌+◌, IfOk, IfSome,
 ghost use Rattle.macsec_pcapng.specs.Answers.{IsLeft, IsMade, block_by};
 ghost use Rattle.macsec_pcapng.specs.Blocks.{kept, least_length};
 ghost use Rattle.macsec_pcapng.specs.Interfaces.{interface_of};
-ghost use Rattle.macsec_pcapng.specs.Sections.{is_version, left_by, new_section, with_interface, with_one_more};
+ghost use Rattle.macsec_pcapng.specs.Sections.{is_known_version, left_by, new_section, with_interface, with_one_more};
 
 use crate::blocks::{
     ENHANCED_PACKET, Head, INTERFACE_DESCRIPTION, OBSOLETE_PACKET, SECTION_HEADER, SIMPLE_PACKET,
@@ -39,7 +39,7 @@ impl Section {
         requires { 16 ≤ length front.now }
         ensures { result ≡ new_section has_ethernet order front.now }
     {
-        if !is_version(order, front) {
+        if !is_known_version(order, front) {
             return Err(PcapFault::Version);
         }
         Ok(Section {
@@ -129,9 +129,9 @@ impl Section {
 }
 
 /// Is the version 1.0, or 1.2, which some programs write instead?
-fn is_version(order: Order, front: &[u8]) -> bool
+fn is_known_version(order: Order, front: &[u8]) -> bool
     requires { 16 ≤ length front.now }
-    ensures { result ≡ is_version order front.now }
+    ensures { result ≡ is_known_version order front.now }
 {
     let minor = order.u16(&front[6..]);
     order.u16(&front[4..]) == 1 && (minor == 0 || minor == 2)

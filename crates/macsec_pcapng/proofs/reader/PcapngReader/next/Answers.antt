@@ -1,7 +1,7 @@
 use Rattle.std.proofs.Common.{◌≡◌, ◌≤◌, ◌+◌, ◌∙◌, ap, arith, length, refl}
 use Rattle.std.proofs.lemmas.List.{take_at}
 use Rattle.macsec_pcap.specs.Answers.{shown}
-use Rattle.macsec_pcapng.specs.Packets.{record_in}
+use Rattle.macsec_pcapng.specs.Packets.{packet_record}
 use Rattle.macsec_pcapng.proofs.Ahead.{steps_end, steps_ended, steps_failed, steps_fault, steps_full, steps_record}
 use Rattle.macsec_pcapng.proofs.reader.PcapngReader.next.Goals as goal
 
@@ -57,7 +57,7 @@ returns-else-self-eq0 g c =
     let new = c.take_packet.new in
     let place : 1 ≤ s.places = omega (arith, c.if-self-eq0.false) in
     let len : length new.room ≡ s.room.len = omega arith in
-    let same = c.record.ensures ∙ ap (record_in some.packet) (c.as_slice.ensures.value ∙ take_at new.room _ s.room.len len) in
+    let same = c.record.ensures ∙ ap (packet_record some.packet) (c.as_slice.ensures.value ∙ take_at new.room _ s.room.len len) in
     let steps = steps_record c.args.self.now s.course s.blocks new.blocks s.places s.section new.section (octets s.source) (octets new.source)
     new.room some.packet (shown c.record.result) c.in-Going.is c.self.view_is place same (rw some.field-0-is at some.ensures.taken) in
     ((refl, λ x. tt, steps.0), record { after = tt; answer = steps.1 })
