@@ -154,20 +154,20 @@ static uint32_t key(macsec_endpoint *e, char **w) {
     key.number = (uint16_t)number(w[4]);
     key.length = (uint8_t)number(w[5]);
     key.offset = (uint8_t)number(w[6]);
-    return macsec_key(e, &key);
+    return macsec_install_key(e, &key);
 }
 
 static uint32_t options(macsec_endpoint *e) {
-    macsec_options_shown shown = { 7, 7, 7, false, false };
-    uint32_t status = macsec_options(e, &shown);
+    macsec_options shown = { 7, 7, 7, false, false };
+    uint32_t status = macsec_get_options(e, &shown);
     print_number(shown.window);
     printf(" %u %u %d %d", (unsigned)shown.mode, (unsigned)shown.form, shown.protect, shown.replay);
     return status;
 }
 
 static uint32_t counters(macsec_endpoint *e) {
-    macsec_counters_shown c = { 7, 7, 7, 7, 7, 7, 7, 7, 7, 7, 7 };
-    uint32_t status = macsec_counters(e, &c);
+    macsec_counters c = { 7, 7, 7, 7, 7, 7, 7, 7, 7, 7, 7 };
+    uint32_t status = macsec_get_counters(e, &c);
     const uint64_t all[] = { c.in_pkts_untagged,    c.in_pkts_no_tag,      c.in_pkts_bad_tag,     c.in_pkts_reserved,
                              c.in_pkts_no_sa,       c.in_pkts_no_sa_error, c.in_octets_validated, c.in_octets_decrypted,
                              c.out_pkts_untagged,   c.out_pkts_too_long,   c.out_pkts_no_sa };
@@ -177,8 +177,8 @@ static uint32_t counters(macsec_endpoint *e) {
 }
 
 static uint32_t tx_counters(macsec_endpoint *e) {
-    macsec_tx_counters_shown c = { 7, 7, 7, 7 };
-    uint32_t status = macsec_tx_counters(e, &c);
+    macsec_tx_counters c = { 7, 7, 7, 7 };
+    uint32_t status = macsec_get_tx_counters(e, &c);
     print_number(c.out_pkts_protected);
     print_number(c.out_pkts_encrypted);
     print_number(c.out_octets_protected);
@@ -188,16 +188,16 @@ static uint32_t tx_counters(macsec_endpoint *e) {
 
 /* The counters of a channel, of its SA with this AN, or of its deleted SAs. */
 static uint32_t rx_counters(macsec_endpoint *e, const char *name, char **w) {
-    macsec_rx_counters_shown c = { 7, 7, 7, 7, 7, 7 };
+    macsec_rx_counters c = { 7, 7, 7, 7, 7, 7 };
     uint8_t sci[8];
     uint32_t status;
     octets(w[0], sci, sizeof sci);
-    if (strcmp(name, "rx_counters") == 0)
-        status = macsec_rx_counters(e, sci, &c);
-    else if (strcmp(name, "rx_removed") == 0)
-        status = macsec_rx_removed(e, sci, &c);
+    if (strcmp(name, "get_rx_counters") == 0)
+        status = macsec_get_rx_counters(e, sci, &c);
+    else if (strcmp(name, "get_removed_counters") == 0)
+        status = macsec_get_removed_counters(e, sci, &c);
     else
-        status = macsec_rx_sa_counters(e, sci, (uint8_t)number(w[1]), &c);
+        status = macsec_get_rx_sa_counters(e, sci, (uint8_t)number(w[1]), &c);
     print_number(c.in_pkts_ok);
     print_number(c.in_pkts_unchecked);
     print_number(c.in_pkts_delayed);
@@ -209,24 +209,24 @@ static uint32_t rx_counters(macsec_endpoint *e, const char *name, char **w) {
 
 static uint32_t rx_channel(macsec_endpoint *e, size_t place) {
     uint8_t sci[8] = { 7, 7, 7, 7, 7, 7, 7, 7 };
-    uint32_t status = macsec_rx_channel(e, place, sci);
+    uint32_t status = macsec_get_rx_sc(e, place, sci);
     print_octets(sci, sizeof sci);
     return status;
 }
 
 static uint32_t tx_row(macsec_endpoint *e, uint8_t an) {
-    macsec_tx_row_shown row = { 7, 7, 7, false, false };
-    uint32_t status = macsec_tx_row(e, an, &row);
+    macsec_tx_sa row = { 7, 7, 7, false, false };
+    uint32_t status = macsec_get_tx_sa(e, an, &row);
     print_halves(row.next_high, row.next);
     printf(" %u %d %d", (unsigned)row.key, row.conf, row.on);
     return status;
 }
 
 static uint32_t rx_row(macsec_endpoint *e, char **w) {
-    macsec_rx_row_shown row = { 7, 7, 7, 7, 7, 7, false };
+    macsec_rx_sa row = { 7, 7, 7, 7, 7, 7, false };
     uint8_t sci[8];
     octets(w[0], sci, sizeof sci);
-    uint32_t status = macsec_rx_row(e, sci, (uint8_t)number(w[1]), &row);
+    uint32_t status = macsec_get_rx_sa(e, sci, (uint8_t)number(w[1]), &row);
     print_halves(row.next_high, row.next);
     print_halves(row.lowest_high, row.lowest);
     printf(" %u %u %d", (unsigned)row.ssci, (unsigned)row.key, row.on);
@@ -238,45 +238,45 @@ static uint32_t rx_command(macsec_endpoint *e, const char *name, char **w, int c
     uint8_t sci[8];
     uint8_t an = count > 1 ? (uint8_t)number(w[1]) : 0;
     octets(w[0], sci, sizeof sci);
-    if (strcmp(name, "rx_sc") == 0)
-        return macsec_rx_sc(e, sci);
-    if (strcmp(name, "rx_sc_del") == 0)
-        return macsec_rx_sc_del(e, sci);
-    if (strcmp(name, "rx_on") == 0)
-        return macsec_rx_on(e, sci, an);
-    if (strcmp(name, "rx_off") == 0)
-        return macsec_rx_off(e, sci, an);
-    if (strcmp(name, "rx_del") == 0)
-        return macsec_rx_del(e, sci, an);
-    if (strcmp(name, "rx_low") == 0)
-        return macsec_rx_low(e, sci, an, number(w[2]));
-    if (strcmp(name, "rx_sa") != 0)
+    if (strcmp(name, "add_rx_sc") == 0)
+        return macsec_add_rx_sc(e, sci);
+    if (strcmp(name, "delete_rx_sc") == 0)
+        return macsec_delete_rx_sc(e, sci);
+    if (strcmp(name, "enable_rx_sa") == 0)
+        return macsec_enable_rx_sa(e, sci, an);
+    if (strcmp(name, "disable_rx_sa") == 0)
+        return macsec_disable_rx_sa(e, sci, an);
+    if (strcmp(name, "delete_rx_sa") == 0)
+        return macsec_delete_rx_sa(e, sci, an);
+    if (strcmp(name, "set_lowest_pn") == 0)
+        return macsec_set_lowest_pn(e, sci, an, number(w[2]));
+    if (strcmp(name, "add_rx_sa") != 0)
         fail("no such call");
-    return macsec_rx_sa(e, sci, an, (uint16_t)number(w[2]), (uint32_t)number(w[3]), number(w[4]));
+    return macsec_add_rx_sa(e, sci, an, (uint16_t)number(w[2]), (uint32_t)number(w[3]), number(w[4]));
 }
 
 /* A command whose first argument, if any, is a number. */
 static uint32_t command(macsec_endpoint *e, const char *name, char **w) {
     uint64_t n = number(w[0]);
-    if (strcmp(name, "protect") == 0)
-        return macsec_protect(e, n != 0);
-    if (strcmp(name, "validate") == 0)
-        return macsec_validate(e, (uint32_t)n);
-    if (strcmp(name, "replay") == 0)
-        return macsec_replay(e, n != 0, number(w[1]));
-    if (strcmp(name, "tag") == 0)
-        return macsec_tag(e, (uint32_t)n);
-    if (strcmp(name, "retire") == 0)
-        return macsec_retire(e, (uint16_t)n);
-    if (strcmp(name, "tx_on") == 0)
-        return macsec_tx_on(e, (uint8_t)n);
-    if (strcmp(name, "tx_off") == 0)
-        return macsec_tx_off(e, (uint8_t)n);
-    if (strcmp(name, "tx_del") == 0)
-        return macsec_tx_del(e, (uint8_t)n);
-    if (strcmp(name, "tx_sa") != 0)
+    if (strcmp(name, "set_protect") == 0)
+        return macsec_set_protect(e, n != 0);
+    if (strcmp(name, "set_validation") == 0)
+        return macsec_set_validation(e, (uint32_t)n);
+    if (strcmp(name, "set_replay") == 0)
+        return macsec_set_replay(e, n != 0, number(w[1]));
+    if (strcmp(name, "set_tag_form") == 0)
+        return macsec_set_tag_form(e, (uint32_t)n);
+    if (strcmp(name, "retire_key") == 0)
+        return macsec_retire_key(e, (uint16_t)n);
+    if (strcmp(name, "enable_tx_sa") == 0)
+        return macsec_enable_tx_sa(e, (uint8_t)n);
+    if (strcmp(name, "disable_tx_sa") == 0)
+        return macsec_disable_tx_sa(e, (uint8_t)n);
+    if (strcmp(name, "delete_tx_sa") == 0)
+        return macsec_delete_tx_sa(e, (uint8_t)n);
+    if (strcmp(name, "add_tx_sa") != 0)
         fail("no such call");
-    return macsec_tx_sa(e, (uint8_t)n, (uint16_t)number(w[1]), number(w[2]), number(w[3]) != 0);
+    return macsec_add_tx_sa(e, (uint8_t)n, (uint16_t)number(w[1]), number(w[2]), number(w[3]) != 0);
 }
 
 static uint32_t call(macsec_endpoint *e, const char *name, char **w, int count) {
@@ -296,23 +296,24 @@ static uint32_t call(macsec_endpoint *e, const char *name, char **w, int count) 
         return receive(e, w[0]);
     if (strcmp(name, "send_uncontrolled") == 0)
         return send_uncontrolled(e, w[0]);
-    if (strcmp(name, "key") == 0)
+    if (strcmp(name, "install_key") == 0)
         return key(e, w);
-    if (strcmp(name, "options") == 0)
+    if (strcmp(name, "get_options") == 0)
         return options(e);
-    if (strcmp(name, "counters") == 0)
+    if (strcmp(name, "get_counters") == 0)
         return counters(e);
-    if (strcmp(name, "tx_counters") == 0)
+    if (strcmp(name, "get_tx_counters") == 0)
         return tx_counters(e);
-    if (strcmp(name, "rx_channel") == 0)
+    if (strcmp(name, "get_rx_sc") == 0)
         return rx_channel(e, (size_t)number(w[0]));
-    if (strcmp(name, "tx_row") == 0)
+    if (strcmp(name, "get_tx_sa") == 0)
         return tx_row(e, (uint8_t)number(w[0]));
-    if (strcmp(name, "rx_row") == 0)
+    if (strcmp(name, "get_rx_sa") == 0)
         return rx_row(e, w);
-    if (strcmp(name, "rx_counters") == 0 || strcmp(name, "rx_sa_counters") == 0 || strcmp(name, "rx_removed") == 0)
+    if (strcmp(name, "get_rx_counters") == 0 || strcmp(name, "get_rx_sa_counters") == 0 ||
+        strcmp(name, "get_removed_counters") == 0)
         return rx_counters(e, name, w);
-    if (strncmp(name, "rx_", 3) == 0)
+    if (strstr(name, "_rx_") != NULL || strcmp(name, "set_lowest_pn") == 0)
         return rx_command(e, name, w, count);
     return command(e, name, w);
 }

@@ -8,7 +8,8 @@
 It needs Python 3.9 or later and its standard library alone. The calls go to three handles: with endpoints, without one,
 and freed. Numbers, lengths and frames are of all kinds, also those that nothing has. Statuses, suites, forms, modes,
 fates and verdicts are compared by the names that include/macsec.h gives them, and at the end each of these names must
-have been met at least once (but MACSEC_NEW_MEMORY). Call number N of a seed, which is any text, is the same on every machine.
+have been met at least once (but MACSEC_E_MEMORY). Call number N of a seed, which is any text, is the same on every
+machine.
 """
 
 import argparse
@@ -86,24 +87,24 @@ def below(count, number, status):
 
 
 def an_of(number):
-    return below(CONSTANTS["AN_COUNT"], number, "NO_SUCH_AN")
+    return below(CONSTANTS["AN_COUNT"], number, "E_NO_SUCH_AN")
 
 
 def key_number_of(number):
-    return below(CONSTANTS["KEY_COUNT"], number, "NO_SUCH_KEY_NUMBER")
+    return below(CONSTANTS["KEY_COUNT"], number, "E_NO_SUCH_KEY_NUMBER")
 
 
 def framed(frame):
     if len(frame) < FRAME_MIN:
-        raise Status("FRAME_SHORT")
+        raise Status("E_FRAME_SHORT")
     if len(frame) > FRAME_MAX:
-        raise Status("FRAME_LONG")
+        raise Status("E_FRAME_LONG")
     return frame
 
 
 # The statuses of the faults of a configuration.
-FAULTS = {it: "LINE_" + it.upper() for it in ("Word", "Count", "Hex", "Number", "Ends")}
-FAULTS |= {"LineLong": "LINE_LONG", "ScriptLong": "CONFIG_LONG"}
+FAULTS = {it: "E_LINE_" + it.upper() for it in ("Word", "Count", "Hex", "Number", "Ends")}
+FAULTS |= {"LineLong": "E_LINE_LONG", "ScriptLong": "E_CONFIG_LONG"}
 
 
 def parsed(text, told):
@@ -136,13 +137,13 @@ class Model:
         status = "OK"
         try:
             if name not in ("new", "configure", "free") and self.ends[handle] is None:
-                raise Status("EMPTY")
+                raise Status("E_EMPTY")
             shown = getattr(self, "call_" + name)(handle, *words) or ""
         except Status as it:
             status, *told = it.args
             shown = told[0] if told else shown
         except expected.Refused as it:
-            status = constant_name(str(it))
+            status = "E_" + constant_name(str(it))
         self.met[status] += 1
         return f"{name}{shown} : {CONSTANTS[status]}"
 
@@ -150,12 +151,12 @@ class Model:
 
     def call_new(self, handle, sci, suite, form, max_frame):
         if self.ends[handle] is not None:
-            raise Status("TAKEN")
-        suite, form = named(SUITES, suite, "NO_SUCH_SUITE"), named(FORMS, form, "NO_SUCH_FORM")
+            raise Status("E_TAKEN")
+        suite, form = named(SUITES, suite, "E_NO_SUCH_SUITE"), named(FORMS, form, "E_NO_SUCH_FORM")
         if not 64 <= max_frame <= FRAME_MAX:
-            raise Status("NEW_MAX_FRAME")
+            raise Status("E_NEW_MAX_FRAME")
         if not expected.form_fits(form, sci):
-            raise Status("NEW_SCI_FORM")
+            raise Status("E_NEW_SCI_FORM")
         self.ends[handle] = Endpoint(suite, sci, max_frame, form)
 
     def unshown_configure(self):
@@ -163,14 +164,14 @@ class Model:
 
     def call_configure(self, handle, text):
         if self.ends[handle] is not None:
-            raise Status("TAKEN")
+            raise Status("E_TAKEN")
         (_, _, _, (_, suite, sci, max_frame, form)), *commands = parsed(text, lambda line: f" {line or 0}")
         made = Endpoint(suite, sci, max_frame, form)
         for line, keyword, _, values in commands:
             try:
                 made.command(keyword, values)
             except expected.Refused as it:
-                raise Status(constant_name(str(it)), f" {line}") from None
+                raise Status("E_" + constant_name(str(it)), f" {line}") from None
         self.ends[handle] = made
         return " 0"
 
@@ -213,60 +214,60 @@ class Model:
     def command(self, handle, keyword, *values):
         self.ends[handle].command(keyword, values)
 
-    def call_protect(self, handle, on):
+    def call_set_protect(self, handle, on):
         self.command(handle, "protect", flag(on))
 
-    def call_validate(self, handle, mode):
-        self.command(handle, "validate", named(MODES, mode, "NO_SUCH_MODE"))
+    def call_set_validation(self, handle, mode):
+        self.command(handle, "validate", named(MODES, mode, "E_NO_SUCH_MODE"))
 
-    def call_replay(self, handle, on, window):
+    def call_set_replay(self, handle, on, window):
         self.command(handle, "replay", flag(on), window)
 
-    def call_tag(self, handle, form):
-        self.command(handle, "tag", named(FORMS, form, "NO_SUCH_FORM"))
+    def call_set_tag_form(self, handle, form):
+        self.command(handle, "tag", named(FORMS, form, "E_NO_SUCH_FORM"))
 
-    def call_key(self, handle, octets, salt, ssci, suite, number, length, offset):
+    def call_install_key(self, handle, octets, salt, ssci, suite, number, length, offset):
         end = self.ends[handle]
-        suite = end.suite if suite == CONSTANTS["SUITE_DEFAULT"] else named(SUITES, suite, "NO_SUCH_SUITE")
+        suite = end.suite if suite == CONSTANTS["SUITE_DEFAULT"] else named(SUITES, suite, "E_NO_SUCH_SUITE")
         number = key_number_of(number)
         if length not in (16, 32):
-            raise Status("NO_SUCH_KEY_OCTETS")
+            raise Status("E_NO_SUCH_KEY_OCTETS")
         self.command(handle, "key", number, octets[:length], offset, suite, struct.pack(">I", ssci), salt)
 
-    def call_retire(self, handle, key):
+    def call_retire_key(self, handle, key):
         self.command(handle, "retire", key_number_of(key))
 
-    def call_tx_sa(self, handle, an, key, pn, conf):
+    def call_add_tx_sa(self, handle, an, key, pn, conf):
         self.command(handle, "txsa", an_of(an), key_number_of(key), pn, "conf" if conf else "int")
 
-    def call_tx_on(self, handle, an):
+    def call_enable_tx_sa(self, handle, an):
         self.command(handle, "txon", an_of(an))
 
-    def call_tx_off(self, handle, an):
+    def call_disable_tx_sa(self, handle, an):
         self.command(handle, "txoff", an_of(an))
 
-    def call_tx_del(self, handle, an):
+    def call_delete_tx_sa(self, handle, an):
         self.command(handle, "txdel", an_of(an))
 
-    def call_rx_sc(self, handle, sci):
+    def call_add_rx_sc(self, handle, sci):
         self.command(handle, "rxsc", sci)
 
-    def call_rx_sc_del(self, handle, sci):
+    def call_delete_rx_sc(self, handle, sci):
         self.command(handle, "rxscdel", sci)
 
-    def call_rx_sa(self, handle, sci, an, key, ssci, pn):
+    def call_add_rx_sa(self, handle, sci, an, key, ssci, pn):
         self.command(handle, "rxsa", sci, an_of(an), key_number_of(key), pn, struct.pack(">I", ssci))
 
-    def call_rx_on(self, handle, sci, an):
+    def call_enable_rx_sa(self, handle, sci, an):
         self.command(handle, "rxon", sci, an_of(an))
 
-    def call_rx_off(self, handle, sci, an):
+    def call_disable_rx_sa(self, handle, sci, an):
         self.command(handle, "rxoff", sci, an_of(an))
 
-    def call_rx_low(self, handle, sci, an, pn):
+    def call_set_lowest_pn(self, handle, sci, an, pn):
         self.command(handle, "rxlow", sci, an_of(an), pn)
 
-    def call_rx_del(self, handle, sci, an):
+    def call_delete_rx_sa(self, handle, sci, an):
         self.command(handle, "rxdel", sci, an_of(an))
 
     def call_command_line(self, handle, line):
@@ -277,76 +278,76 @@ class Model:
 
     # What an endpoint shows. The program sets all that it has room for to 7 before the call.
 
-    def unshown_options(self):
+    def unshown_get_options(self):
         return " 7 7 7 0 0"
 
-    def call_options(self, handle):
+    def call_get_options(self, handle):
         end = self.ends[handle]
         mode, form = CONSTANTS["MODE_" + end.mode.upper()], CONSTANTS["FORM_" + end.form.upper()]
         self.met.update(["MODE_" + end.mode.upper(), "FORM_" + end.form.upper()])
         return f" {end.window} {mode} {form} {int(end.protects)} {int(end.replay)}"
 
-    def unshown_counters(self):
+    def unshown_get_counters(self):
         return " 7" * len(ALL_COUNTERS)
 
-    def call_counters(self, handle):
+    def call_get_counters(self, handle):
         return "".join(f" {self.ends[handle].counters[it]}" for it in ALL_COUNTERS)
 
-    def unshown_tx_counters(self):
+    def unshown_get_tx_counters(self):
         return " 7" * len(TX_COUNTERS)
 
-    def call_tx_counters(self, handle):
+    def call_get_tx_counters(self, handle):
         return "".join(f" {self.ends[handle].counters[it]}" for it in TX_COUNTERS)
 
-    def unshown_rx_counters(self):
+    def unshown_get_rx_counters(self):
         return " 7" * len(expected.RX_COUNTERS)
 
-    unshown_rx_sa_counters = unshown_rx_removed = unshown_rx_counters
+    unshown_get_rx_sa_counters = unshown_get_removed_counters = unshown_get_rx_counters
 
     def channel(self, handle, sci):
         found = self.ends[handle].channel(sci)
         if found is None:
-            raise Status("NONE")
+            raise Status("E_NOT_FOUND")
         return found
 
     def rx_sa(self, handle, sci, an):
         an = an_of(an)
         sas = self.channel(handle, sci).sas
         if an not in sas:
-            raise Status("NONE")
+            raise Status("E_NOT_FOUND")
         return sas[an]
 
-    def call_rx_counters(self, handle, sci):
+    def call_get_rx_counters(self, handle, sci):
         return "".join(f" {it}" for it in self.channel(handle, sci).counters.values())
 
-    def call_rx_sa_counters(self, handle, sci, an):
+    def call_get_rx_sa_counters(self, handle, sci, an):
         return "".join(f" {it}" for it in self.rx_sa(handle, sci, an).counters.values())
 
-    def call_rx_removed(self, handle, sci):
+    def call_get_removed_counters(self, handle, sci):
         return "".join(f" {it}" for it in self.channel(handle, sci).removed.values())
 
-    def unshown_rx_channel(self):
+    def unshown_get_rx_sc(self):
         return " " + "07" * 8
 
-    def call_rx_channel(self, handle, place):
+    def call_get_rx_sc(self, handle, place):
         if place >= len(self.ends[handle].channels):
-            raise Status("NONE")
+            raise Status("E_NOT_FOUND")
         return f" {self.ends[handle].channels[place].sci.hex()}"
 
-    def unshown_tx_row(self):
+    def unshown_get_tx_sa(self):
         return f" 7{7:016x} 7 0 0"
 
-    def call_tx_row(self, handle, an):
+    def call_get_tx_sa(self, handle, an):
         an = an_of(an)
         if an not in self.ends[handle].tx:
-            raise Status("NONE")
+            raise Status("E_NOT_FOUND")
         sa = self.ends[handle].tx[an]
         return f" {sa.next:017x} {sa.key} {int(sa.conf)} {int(sa.on)}"
 
-    def unshown_rx_row(self):
+    def unshown_get_rx_sa(self):
         return f" 7{7:016x} 7{7:016x} 7 7 0"
 
-    def call_rx_row(self, handle, sci, an):
+    def call_get_rx_sa(self, handle, sci, an):
         sa = self.rx_sa(handle, sci, an)
         ssci = int.from_bytes(sa.ssci, "big")
         return f" {sa.next:017x} {sa.lowest:017x} {ssci} {sa.key} {int(sa.on)}"
@@ -491,34 +492,35 @@ class Calls:
             "send": lambda: (pick((0, 0, 0, 0, 0, 1, 2)), self.client_frame()),
             "send_uncontrolled": lambda: (h(), self.client_frame()),
             "receive": lambda: (pick((1, 1, 1, 1, 1, 0, 2)), self.link_frame()),
-            "protect": lambda: (h(), pick((0, 1, 1))),
-            "validate": lambda: (h(), pick((0, 1, 1, 2, 2, 2, 3, 2**32 - 1))),
-            "replay": lambda: (h(), pick((0, 1, 1)), pick(self.WINDOWS)),
-            "tag": lambda: (h(), pick((0, 1, 2, 3, 4, 2**32 - 1))),
-            "key": self.key,
-            "retire": lambda: (h(), pick(self.NUMBERS)),
-            "tx_sa": lambda: (h(), self.an(), pick(self.NUMBERS), pick(self.PNS), pick((0, 1))),
-            "rx_sc": lambda: (h(), self.sci()),
-            "rx_sc_del": lambda: (h(), self.sci()),
-            "rx_sa": lambda: (h(), self.sci(), self.an(), pick(self.NUMBERS), pick(self.SSCIS), pick(self.PNS)),
-            "rx_low": lambda: (h(), self.sci(), self.an(), pick(self.PNS)),
-            "rx_channel": lambda: (h(), pick((0, 0, 1, 2, 63, 64, 2**64 - 1))),
+            "set_protect": lambda: (h(), pick((0, 1, 1))),
+            "set_validation": lambda: (h(), pick((0, 1, 1, 2, 2, 2, 3, 2**32 - 1))),
+            "set_replay": lambda: (h(), pick((0, 1, 1)), pick(self.WINDOWS)),
+            "set_tag_form": lambda: (h(), pick((0, 1, 2, 3, 4, 2**32 - 1))),
+            "install_key": self.key,
+            "retire_key": lambda: (h(), pick(self.NUMBERS)),
+            "add_tx_sa": lambda: (h(), self.an(), pick(self.NUMBERS), pick(self.PNS), pick((0, 1))),
+            "add_rx_sc": lambda: (h(), self.sci()),
+            "delete_rx_sc": lambda: (h(), self.sci()),
+            "add_rx_sa": lambda: (h(), self.sci(), self.an(), pick(self.NUMBERS), pick(self.SSCIS), pick(self.PNS)),
+            "set_lowest_pn": lambda: (h(), self.sci(), self.an(), pick(self.PNS)),
+            "get_rx_sc": lambda: (h(), pick((0, 0, 1, 2, 63, 64, 2**64 - 1))),
         }
         if name in makers:
             return makers[name]()
-        if name in ("options", "counters", "tx_counters"):
+        if name in ("get_options", "get_counters", "get_tx_counters"):
             return (h(),)
-        if name in ("rx_counters", "rx_removed"):
+        if name in ("get_rx_counters", "get_removed_counters"):
             return h(), self.sci()
-        return (h(), self.an()) if name.startswith("tx_") else (h(), self.sci(), self.an())
+        return (h(), self.an()) if name.endswith("_tx_sa") else (h(), self.sci(), self.an())
 
     # Each call, and how often.
     WEIGHTS = {
-        "send": 200, "receive": 300, "send_uncontrolled": 5, "new": 12, "configure": 12, "free": 2, "protect": 4,
-        "validate": 8, "replay": 8, "tag": 8, "key": 25, "retire": 6, "tx_sa": 20, "tx_on": 20, "tx_off": 2,
-        "tx_del": 2, "rx_sc": 10, "rx_sc_del": 2, "rx_sa": 30, "rx_on": 25, "rx_off": 2, "rx_low": 10, "rx_del": 3,
-        "command_line": 60, "options": 8, "counters": 20, "tx_counters": 10, "rx_counters": 15, "rx_sa_counters": 15,
-        "rx_removed": 10, "rx_channel": 6, "tx_row": 10, "rx_row": 15,
+        "send": 200, "receive": 300, "send_uncontrolled": 5, "new": 12, "configure": 12, "free": 2, "set_protect": 4,
+        "set_validation": 8, "set_replay": 8, "set_tag_form": 8, "install_key": 25, "retire_key": 6, "add_tx_sa": 20,
+        "enable_tx_sa": 20, "disable_tx_sa": 2, "delete_tx_sa": 2, "add_rx_sc": 10, "delete_rx_sc": 2, "add_rx_sa": 30,
+        "enable_rx_sa": 25, "disable_rx_sa": 2, "set_lowest_pn": 10, "delete_rx_sa": 3, "command_line": 60,
+        "get_options": 8, "get_counters": 20, "get_tx_counters": 10, "get_rx_counters": 15, "get_rx_sa_counters": 15,
+        "get_removed_counters": 10, "get_rx_sc": 6, "get_tx_sa": 10, "get_rx_sa": 15,
     }  # fmt: skip
 
     def paired(self):
@@ -530,17 +532,17 @@ class Calls:
         yield "free", (1,)
         yield "new", (1, self.pick([it for it in self.SCIS if it != sender]), suite, 1, 1518)
         yield "new", (0, sender, suite, 1, 1518)
-        yield "key", (0, *key(1))
-        yield "tx_del", (0, an)
-        yield "tx_sa", (0, an, suite, pn, self.random.randrange(2))
-        yield "tx_on", (0, an)
-        yield "protect", (0, 1)
-        yield "key", (1, *key(2))
-        yield "rx_sc", (1, sender)
-        yield "rx_sa", (1, sender, an, suite, 1, pn)
-        yield "rx_on", (1, sender, an)
-        yield "replay", (1, self.pick((0, 1)), self.pick((0, 2)))
-        yield "validate", (1, self.pick((0, 1, 2, 2, 2)))
+        yield "install_key", (0, *key(1))
+        yield "delete_tx_sa", (0, an)
+        yield "add_tx_sa", (0, an, suite, pn, self.random.randrange(2))
+        yield "enable_tx_sa", (0, an)
+        yield "set_protect", (0, 1)
+        yield "install_key", (1, *key(2))
+        yield "add_rx_sc", (1, sender)
+        yield "add_rx_sa", (1, sender, an, suite, 1, pn)
+        yield "enable_rx_sa", (1, sender, an)
+        yield "set_replay", (1, self.pick((0, 1)), self.pick((0, 2)))
+        yield "set_validation", (1, self.pick((0, 1, 2, 2, 2)))
 
     def paired_by_texts(self):
         """The same of two configurations."""
@@ -563,8 +565,8 @@ class Calls:
         yield "free", (2,)
         yield "new", (2, self.SCIS[0], 1, 0, 1518)
         for it in range(CONSTANTS["RX_CHANNEL_COUNT"] + 1):
-            yield "rx_sc", (2, bytes([6, 0, 0, 0, 0, it, 0, 1]))
-        yield "rx_channel", (2, CONSTANTS["RX_CHANNEL_COUNT"] - 1)
+            yield "add_rx_sc", (2, bytes([6, 0, 0, 0, 0, it, 0, 1]))
+        yield "get_rx_sc", (2, CONSTANTS["RX_CHANNEL_COUNT"] - 1)
 
     def rarely_refused(self):
         """What random calls seldom come to."""
@@ -572,37 +574,37 @@ class Calls:
         key = lambda number, octets, suite: (2, self.keys[octets], self.SALT, 1, suite, number, 16, 0)
         yield "free", (2,)
         yield "new", (2, other, 1, CONSTANTS["FORM_ES"], 1518)
-        yield "options", (2,)
+        yield "get_options", (2,)
         yield "free", (2,)
         yield "new", (2, own, 1, CONSTANTS["FORM_ES"], 1518)
         yield "new", (2, own, 1, CONSTANTS["FORM_SCB"], 64)
-        yield "options", (2,)
-        yield "tag", (2, CONSTANTS["FORM_ES"])
-        yield "key", key(0, 0, CONSTANTS["SUITE_DEFAULT"])
-        yield "key", key(1, 0, CONSTANTS["SUITE_DEFAULT"])
-        yield "key", key(3, 3, CONSTANTS["SUITE_GCM_AES_XPN_128"])
-        yield "rx_sc", (2, other)
-        yield "rx_sa", (2, other, 0, 3, 1, 1)
-        yield "rx_sa", (2, other, 0, 0, 0, 9)
-        yield "rx_sa", (2, other, 0, 0, 0, 9)
-        yield "rx_low", (2, other, 0, 8)
-        yield "rx_low", (2, other, 0, 2**32)
-        yield "tx_sa", (2, 0, 0, 2**32 - 1, 1)
-        yield "tx_on", (2, 0)
+        yield "get_options", (2,)
+        yield "set_tag_form", (2, CONSTANTS["FORM_ES"])
+        yield "install_key", key(0, 0, CONSTANTS["SUITE_DEFAULT"])
+        yield "install_key", key(1, 0, CONSTANTS["SUITE_DEFAULT"])
+        yield "install_key", key(3, 3, CONSTANTS["SUITE_GCM_AES_XPN_128"])
+        yield "add_rx_sc", (2, other)
+        yield "add_rx_sa", (2, other, 0, 3, 1, 1)
+        yield "add_rx_sa", (2, other, 0, 0, 0, 9)
+        yield "add_rx_sa", (2, other, 0, 0, 0, 9)
+        yield "set_lowest_pn", (2, other, 0, 8)
+        yield "set_lowest_pn", (2, other, 0, 2**32)
+        yield "add_tx_sa", (2, 0, 0, 2**32 - 1, 1)
+        yield "enable_tx_sa", (2, 0)
         yield "send", (2, bytes(34))
         yield "send", (2, bytes(14))
-        yield "tx_on", (2, 0)
-        yield "tx_row", (2, 0)
+        yield "enable_tx_sa", (2, 0)
+        yield "get_tx_sa", (2, 0)
         yield "send_uncontrolled", (2, bytes(CONSTANTS["FRAME_MAX"] + 1))
-        yield "tx_del", (2, 0)
-        yield "tx_sa", (2, 0, 0, 1, 1)
-        yield "rx_on", (2, other, 0)
-        yield "validate", (2, CONSTANTS["MODE_CHECK"])
+        yield "delete_tx_sa", (2, 0)
+        yield "add_tx_sa", (2, 0, 0, 1, 1)
+        yield "enable_rx_sa", (2, other, 0)
+        yield "set_validation", (2, CONSTANTS["MODE_CHECK"])
         # A tagged frame with E and C clear, and an ICV of zeros.
         yield "receive", (2, bytes(12) + bytes.fromhex("88e5200000000009") + other + bytes(64))
-        yield "rx_del", (2, other, 0)
-        yield "retire", (2, 0)
-        yield "tx_sa", (2, 0, 0, 1, 1)
+        yield "delete_rx_sa", (2, other, 0)
+        yield "retire_key", (2, 0)
+        yield "add_tx_sa", (2, 0, 0, 1, 1)
         yield "free", (2,)
         yield "configure", (2, b"\n" * 65_537)
         yield "configure", (2, b"#" * 20_001)
@@ -617,53 +619,53 @@ class Calls:
         yield "free", (2,)
         yield "new", (2, own, 5, CONSTANTS["FORM_AUTO"], 1518)
         yield "new", (2, own, 1, CONSTANTS["FORM_AUTO"], 1518)
-        yield "validate", (2, CONSTANTS["MODE_DISABLED"])
-        yield "options", (2,)
-        yield "key", key(0, 16, 31)
-        yield "key", key(0, 17, 0)
-        yield "key", key(0, 32, 0)
-        yield "key", key(0, 16, 0)
-        yield "key", key(0, 16, 0)
-        yield "rx_sc", (2, own)
-        yield "rx_sc", (2, other)
-        yield "rx_sc", (2, other)
-        yield "rx_sa", (2, other, 0, 1, 0, 9)
-        yield "rx_sa", (2, other, 0, 0, 0, 9)
+        yield "set_validation", (2, CONSTANTS["MODE_DISABLED"])
+        yield "get_options", (2,)
+        yield "install_key", key(0, 16, 31)
+        yield "install_key", key(0, 17, 0)
+        yield "install_key", key(0, 32, 0)
+        yield "install_key", key(0, 16, 0)
+        yield "install_key", key(0, 16, 0)
+        yield "add_rx_sc", (2, own)
+        yield "add_rx_sc", (2, other)
+        yield "add_rx_sc", (2, other)
+        yield "add_rx_sa", (2, other, 0, 1, 0, 9)
+        yield "add_rx_sa", (2, other, 0, 0, 0, 9)
         yield "receive", (2, tagged(0x20))
-        yield "rx_on", (2, other, 0)
+        yield "enable_rx_sa", (2, other, 0)
         yield "receive", (2, tagged(0x20))
         yield "receive", (2, tagged(0x20, 8))
-        yield "replay", (2, 0, 0)
+        yield "set_replay", (2, 0, 0)
         yield "receive", (2, tagged(0x20, 8))
         yield "receive", (2, tagged(0x28))
         yield "receive", (2, tagged(0x2C))
         yield "receive", (2, tagged(0xA0))
         yield "receive", (2, bytes(60))
-        yield "validate", (2, CONSTANTS["MODE_CHECK"])
-        yield "options", (2,)
-        yield "validate", (2, CONSTANTS["MODE_STRICT"] + 1)
-        yield "validate", (2, CONSTANTS["MODE_STRICT"])
+        yield "set_validation", (2, CONSTANTS["MODE_CHECK"])
+        yield "get_options", (2,)
+        yield "set_validation", (2, CONSTANTS["MODE_STRICT"] + 1)
+        yield "set_validation", (2, CONSTANTS["MODE_STRICT"])
         yield "receive", (2, bytes(60))
-        yield "rx_off", (2, other, 0)
+        yield "disable_rx_sa", (2, other, 0)
         yield "receive", (2, tagged(0x20))
-        yield "rx_del", (2, other, 0)
-        yield "rx_sc_del", (2, other)
-        yield "rx_sc_del", (2, other)
-        yield "tag", (2, CONSTANTS["FORM_SCB"] + 1)
-        yield "tag", (2, CONSTANTS["FORM_ES"])
-        yield "replay", (2, 1, 2**32)
-        yield "tx_on", (2, 0)
-        yield "tx_sa", (2, 4, 0, 1, 0)
-        yield "tx_sa", (2, 0, 4096, 1, 0)
-        yield "tx_sa", (2, 0, 0, 1, 0)
-        yield "tx_sa", (2, 1, 0, 1, 0)
-        yield "retire", (2, 0)
-        yield "tx_off", (2, 0)
+        yield "delete_rx_sa", (2, other, 0)
+        yield "delete_rx_sc", (2, other)
+        yield "delete_rx_sc", (2, other)
+        yield "set_tag_form", (2, CONSTANTS["FORM_SCB"] + 1)
+        yield "set_tag_form", (2, CONSTANTS["FORM_ES"])
+        yield "set_replay", (2, 1, 2**32)
+        yield "enable_tx_sa", (2, 0)
+        yield "add_tx_sa", (2, 4, 0, 1, 0)
+        yield "add_tx_sa", (2, 0, 4096, 1, 0)
+        yield "add_tx_sa", (2, 0, 0, 1, 0)
+        yield "add_tx_sa", (2, 1, 0, 1, 0)
+        yield "retire_key", (2, 0)
+        yield "disable_tx_sa", (2, 0)
         yield "send", (2, bytes(60))
         yield "send", (2, bytes(13))
-        yield "protect", (2, 0)
+        yield "set_protect", (2, 0)
         yield "send", (2, bytes(60))
-        yield "rx_channel", (2, 0)
+        yield "get_rx_sc", (2, 0)
         for line in (b"A rxsc 0g", b"A rxsc", b"A rxon 0000000000000001 4", b"A frob", b"B txon 0", b"#" * 20_001):
             yield "command_line", (2, line)
 
@@ -689,7 +691,7 @@ class Calls:
 
     def meet(self, name, words):
         """Notes the suites that a call names."""
-        place = {"new": 2, "key": 4}.get(name)
+        place = {"new": 2, "install_key": 4}.get(name)
         for it, value in CONSTANTS.items():
             if place and it.startswith("SUITE_") and value == words[place]:
                 self.model.met[it] += 1
@@ -715,7 +717,7 @@ def main():
     print(f"{len(answers)} calls of seed {asked.seed}: each was answered as expected")
     print("calls: " + ", ".join(f"{name} {count}" for name, count in sorted(lines.items())))
     print("met: " + ", ".join(f"{name} {count}" for name, count in sorted(calls.model.met.items())))
-    others = re.compile("FATE_NONE|VERDICT_NONE|NEW_MEMORY|FRAME_M..|.*_COUNT")
+    others = re.compile("FATE_NONE|VERDICT_NONE|E_MEMORY|FRAME_M..|.*_COUNT")
     unmet = [it for it in CONSTANTS if not calls.model.met[it] and not others.fullmatch(it)]
     missing = [it for it in Calls.WEIGHTS if it not in lines]
     if asked.calls >= asked.met_from and (unmet or missing):

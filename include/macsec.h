@@ -13,7 +13,7 @@
  *     macsec_config config = { { 0x12, 0x15, 0x35, 0x24, 0xc0, 0x89, 0x5e, 0x81 },
  *                              MACSEC_SUITE_GCM_AES_128, MACSEC_FORM_SCI, 1546 };
  *     if (macsec_new(&a, &config) != MACSEC_OK) ...
- *     macsec_key(&a, &sak); macsec_tx_sa(&a, 0, sak.number, 1, true); macsec_tx_on(&a, 0);
+ *     macsec_install_key(&a, &sak); macsec_add_tx_sa(&a, 0, sak.number, 1, true); macsec_enable_tx_sa(&a, 0);
  *
  *     macsec_sent sent;
  *     if (macsec_send(&a, frame, length, &sent) == MACSEC_OK && sent.length != 0)
@@ -28,11 +28,11 @@
  *            nothing.
  * NUMBERS    Integers are in host byte order. SCIs, keys and salts are octets in the order in which the standard
  *            writes them: an SCI is the six octets of a MAC address and two of a port number.
- * STATUS     Each call except macsec_free returns a status: MACSEC_OK, or why nothing was done. In the second case
- *            nothing has changed, and the caller's output structs are unchanged, except that a macsec_sent, a
- *            macsec_received and the line of macsec_configure are always filled in. The handle is tested first
- *            (MACSEC_EMPTY, MACSEC_TAKEN), then the arguments (MACSEC_NO_SUCH_..), then the rest. If several statuses
- *            of arguments apply, or several refusals of a command, the call returns the lowest.
+ * STATUS     Each call except macsec_free returns a status: MACSEC_OK, or why nothing was done (MACSEC_E_..). In the
+ *            second case nothing has changed, and the caller's output structs are unchanged, except that a macsec_sent,
+ *            a macsec_received and the line of macsec_configure are always filled in. The handle is tested first
+ *            (MACSEC_E_EMPTY, MACSEC_E_TAKEN), then the arguments (MACSEC_E_NO_SUCH_..), then the rest. If several
+ *            statuses of arguments apply, or several refusals of a command, the call returns the lowest.
  * MEMORY     macsec_new allocates four blocks by malloc, 17.6 MB in all: two for 4,096 keys, one for a frame, one for
  *            the rest. macsec_free frees them. macsec_configure allocates the same. macsec_configure and
  *            macsec_command_line also allocate while they read their text, and free that before they return. No other
@@ -42,7 +42,7 @@
  * HANDLES    A handle is the caller's memory, initialized with MACSEC_ENDPOINT_INIT (all zero). Do not copy, move or
  *            write it while it holds an endpoint. A handle that was never used, or that was freed, holds none: then
  *            macsec_free does nothing, and every other call except macsec_new and macsec_configure returns
- *            MACSEC_EMPTY.
+ *            MACSEC_E_EMPTY.
  * OWNERSHIP  The library keeps no pointer that a call was given. The frame that macsec_send or macsec_receive returns
  *            is in the endpoint's buffer, or is (a part of) the caller's own frame. Read it before the next call with
  *            that handle, and while the caller's frame is unchanged. Do not write to it, and copy it before you give
@@ -87,47 +87,47 @@ extern "C" {
 /* Statuses. 1 to 20 are the refusals of commands. */
 enum {
     MACSEC_OK = 0,
-    MACSEC_KEY_LENGTH = 1,          /* the key has another length than its suite's keys */
-    MACSEC_OFFSET = 2,              /* the suite's keys have no such confidentiality offset */
-    MACSEC_KEY_NUMBER_USED = 3,     /* a key of this number was installed before, retired or not */
-    MACSEC_KEY_REPEATED = 4,        /* a key of these octets was installed before, retired or not */
-    MACSEC_NO_KEY = 5,              /* there is no such key */
-    MACSEC_KEY_RETIRED = 6,         /* the key is retired */
-    MACSEC_KEY_IN_USE = 7,          /* an association uses the key */
-    MACSEC_OWN_SCI = 8,             /* the SCI is the endpoint's own */
-    MACSEC_SC_TAKEN = 9,            /* there is such a channel */
-    MACSEC_SC_FULL = 10,            /* there are as many channels as there can be */
-    MACSEC_NO_SC = 11,              /* there is no such channel */
-    MACSEC_AN_TAKEN = 12,           /* there is such an association */
-    MACSEC_NO_SA = 13,              /* there is no such association */
-    MACSEC_PN_RANGE = 14,           /* the packet number is not from 1 to the last */
-    MACSEC_PN_LOWER = 15,           /* the packet number is below the lowest acceptable one */
-    MACSEC_PN_FLOOR = 16,           /* the packet number is below the key's first unused one */
-    MACSEC_SSCI_OWN = 17,           /* packet numbers are extended, and the SSCI is the key's own */
-    MACSEC_WINDOW = 18,             /* the replay window is too wide */
-    MACSEC_SCI_FORM = 19,           /* the tag form does not fit the endpoint's SCI */
-    MACSEC_EXHAUSTED = 20,          /* the association has no packet number left */
-    MACSEC_EMPTY = 32,              /* the handle holds no endpoint */
-    MACSEC_TAKEN = 33,              /* the handle holds an endpoint already */
-    MACSEC_NO_SUCH_SUITE = 34,      /* the number names no cipher suite */
-    MACSEC_NO_SUCH_FORM = 35,       /* the number names no tag form */
-    MACSEC_NO_SUCH_MODE = 36,       /* the number names no mode of validation */
-    MACSEC_NO_SUCH_AN = 37,         /* the association number is above 3 */
-    MACSEC_NO_SUCH_KEY_NUMBER = 38, /* the key number is above 4,095 */
-    MACSEC_NO_SUCH_KEY_OCTETS = 39, /* no key has so many octets: they have 16 or 32 */
-    MACSEC_NONE = 40,               /* there is no such channel or association to show */
-    MACSEC_NEW_MEMORY = 41,         /* out of memory, for an endpoint or for the words of a text */
-    MACSEC_NEW_MAX_FRAME = 42,      /* the configuration's largest frame is not 64 to 9,248 octets */
-    MACSEC_NEW_SCI_FORM = 43,       /* the configuration's tag form does not fit its SCI */
-    MACSEC_FRAME_SHORT = 44,        /* the frame has fewer than 14 octets */
-    MACSEC_FRAME_LONG = 45,         /* the frame has more than 9,248 octets */
-    MACSEC_LINE_WORD = 46,          /* the line's keyword is unknown, or an argument is none that is allowed there */
-    MACSEC_LINE_COUNT = 47,         /* the line has too few words or too many */
-    MACSEC_LINE_HEX = 48,           /* a word of the line is not hex text of as many octets as it must have */
-    MACSEC_LINE_NUMBER = 49,        /* a word of the line is not a decimal number in its range */
-    MACSEC_LINE_ENDS = 50,          /* the line is in a wrong place, or its tag form does not fit its SCI */
-    MACSEC_LINE_LONG = 51,          /* the line has more than 20,000 octets */
-    MACSEC_CONFIG_LONG = 52         /* the configuration has more than 1,048,576 octets or 65,536 lines */
+    MACSEC_E_KEY_LENGTH = 1,          /* the key has another length than its suite's keys */
+    MACSEC_E_OFFSET = 2,              /* the suite's keys have no such confidentiality offset */
+    MACSEC_E_KEY_NUMBER_USED = 3,     /* a key of this number was installed before, retired or not */
+    MACSEC_E_KEY_REPEATED = 4,        /* a key of these octets was installed before, retired or not */
+    MACSEC_E_NO_KEY = 5,              /* there is no such key */
+    MACSEC_E_KEY_RETIRED = 6,         /* the key is retired */
+    MACSEC_E_KEY_IN_USE = 7,          /* an association uses the key */
+    MACSEC_E_OWN_SCI = 8,             /* the SCI is the endpoint's own */
+    MACSEC_E_SC_TAKEN = 9,            /* there is such a channel */
+    MACSEC_E_SC_FULL = 10,            /* there are as many channels as there can be */
+    MACSEC_E_NO_SC = 11,              /* there is no such channel */
+    MACSEC_E_AN_TAKEN = 12,           /* there is such an association */
+    MACSEC_E_NO_SA = 13,              /* there is no such association */
+    MACSEC_E_PN_RANGE = 14,           /* the packet number is not from 1 to the last */
+    MACSEC_E_PN_LOWER = 15,           /* the packet number is below the lowest acceptable one */
+    MACSEC_E_PN_FLOOR = 16,           /* the packet number is below the key's first unused one */
+    MACSEC_E_SSCI_OWN = 17,           /* packet numbers are extended, and the SSCI is the key's own */
+    MACSEC_E_WINDOW = 18,             /* the replay window is too wide */
+    MACSEC_E_SCI_FORM = 19,           /* the tag form does not fit the endpoint's SCI */
+    MACSEC_E_EXHAUSTED = 20,          /* the association has no packet number left */
+    MACSEC_E_EMPTY = 32,              /* the handle holds no endpoint */
+    MACSEC_E_TAKEN = 33,              /* the handle holds an endpoint already */
+    MACSEC_E_NO_SUCH_SUITE = 34,      /* the number names no cipher suite */
+    MACSEC_E_NO_SUCH_FORM = 35,       /* the number names no tag form */
+    MACSEC_E_NO_SUCH_MODE = 36,       /* the number names no mode of validation */
+    MACSEC_E_NO_SUCH_AN = 37,         /* the association number is above 3 */
+    MACSEC_E_NO_SUCH_KEY_NUMBER = 38, /* the key number is above 4,095 */
+    MACSEC_E_NO_SUCH_KEY_OCTETS = 39, /* no key has so many octets: they have 16 or 32 */
+    MACSEC_E_NOT_FOUND = 40,          /* there is no such channel or association to show */
+    MACSEC_E_MEMORY = 41,             /* out of memory, for an endpoint or for the words of a text */
+    MACSEC_E_NEW_MAX_FRAME = 42,      /* the configuration's largest frame is not 64 to 9,248 octets */
+    MACSEC_E_NEW_SCI_FORM = 43,       /* the configuration's tag form does not fit its SCI */
+    MACSEC_E_FRAME_SHORT = 44,        /* the frame has fewer than 14 octets */
+    MACSEC_E_FRAME_LONG = 45,         /* the frame has more than 9,248 octets */
+    MACSEC_E_LINE_WORD = 46,          /* the line's keyword is unknown, or an argument is not allowed there */
+    MACSEC_E_LINE_COUNT = 47,         /* the line has too few words or too many */
+    MACSEC_E_LINE_HEX = 48,           /* a word of the line is not hex text of as many octets as it must have */
+    MACSEC_E_LINE_NUMBER = 49,        /* a word of the line is not a decimal number in its range */
+    MACSEC_E_LINE_ENDS = 50,          /* the line is in a wrong place, or its tag form does not fit its SCI */
+    MACSEC_E_LINE_LONG = 51,          /* the line has more than 20,000 octets */
+    MACSEC_E_CONFIG_LONG = 52         /* the configuration has more than 1,048,576 octets or 65,536 lines */
 };
 
 /* Cipher suites (clause 14). Only a key can have the default: the suite of the endpoint's configuration. */
@@ -231,16 +231,16 @@ typedef struct macsec_received {
 #define MACSEC_SENT_INIT { (const uint8_t *)"", 0, 0, 0, 0 }
 #define MACSEC_RECEIVED_INIT { (const uint8_t *)"", 0, 0, 0, { 0 }, 0, false, false }
 
-typedef struct macsec_options_shown {
+typedef struct macsec_options {
     uint64_t window; /* the replay window, in packet numbers */
     uint32_t mode;   /* MACSEC_MODE_.. */
     uint32_t form;   /* MACSEC_FORM_.. */
     bool protect;    /* are client frames protected? */
     bool replay;     /* are late frames dropped? */
-} macsec_options_shown;
+} macsec_options;
 
 /* The endpoint's counters. All counters count modulo 2^64. */
-typedef struct macsec_counters_shown {
+typedef struct macsec_counters {
     uint64_t in_pkts_untagged;
     uint64_t in_pkts_no_tag;
     uint64_t in_pkts_bad_tag;
@@ -252,38 +252,38 @@ typedef struct macsec_counters_shown {
     uint64_t out_pkts_untagged;
     uint64_t out_pkts_too_long;
     uint64_t out_pkts_no_sa;
-} macsec_counters_shown;
+} macsec_counters;
 
 /* The transmit channel's counters. */
-typedef struct macsec_tx_counters_shown {
+typedef struct macsec_tx_counters {
     uint64_t out_pkts_protected;
     uint64_t out_pkts_encrypted;
     uint64_t out_octets_protected;
     uint64_t out_octets_encrypted;
-} macsec_tx_counters_shown;
+} macsec_tx_counters;
 
 /* The counters of a receive channel, of one of its SAs, or of its deleted SAs together. */
-typedef struct macsec_rx_counters_shown {
+typedef struct macsec_rx_counters {
     uint64_t in_pkts_ok;
     uint64_t in_pkts_unchecked;
     uint64_t in_pkts_delayed;
     uint64_t in_pkts_late;
     uint64_t in_pkts_invalid;
     uint64_t in_pkts_not_valid;
-} macsec_rx_counters_shown;
+} macsec_rx_counters;
 
 /* A transmit association. Its next packet number is `next`, and 2^64 more if `next_high` is 1: it is one past the
  * last if the association is exhausted. */
-typedef struct macsec_tx_row_shown {
+typedef struct macsec_tx_sa {
     uint64_t next;
     uint64_t next_high;
     uint16_t key;
     bool conf; /* does it encrypt? */
     bool on;   /* is it enabled? */
-} macsec_tx_row_shown;
+} macsec_tx_sa;
 
 /* A receive association, with its packet numbers in the same form. */
-typedef struct macsec_rx_row_shown {
+typedef struct macsec_rx_sa {
     uint64_t next; /* past each that was accepted */
     uint64_t next_high;
     uint64_t lowest; /* the lowest acceptable packet number */
@@ -291,21 +291,21 @@ typedef struct macsec_rx_row_shown {
     uint32_t ssci; /* the sender's */
     uint16_t key;
     bool on;
-} macsec_rx_row_shown;
+} macsec_rx_sa;
 
 /* ---- Creation and end ---- */
 
 /* Creates an endpoint of a configuration in a handle that holds none. It has no keys and no associations, its
- * counters are 0, it protects, validates strictly, and drops late frames with a replay window of 0. MACSEC_TAKEN,
- * MACSEC_NO_SUCH_SUITE, MACSEC_NO_SUCH_FORM, MACSEC_NEW_MAX_FRAME, MACSEC_NEW_SCI_FORM, MACSEC_NEW_MEMORY: the
+ * counters are 0, it protects, validates strictly, and drops late frames with a replay window of 0. MACSEC_E_TAKEN,
+ * MACSEC_E_NO_SUCH_SUITE, MACSEC_E_NO_SUCH_FORM, MACSEC_E_NEW_MAX_FRAME, MACSEC_E_NEW_SCI_FORM, MACSEC_E_MEMORY: the
  * first of them that applies, in this order. */
 uint32_t macsec_new(macsec_endpoint *e, const macsec_config *config);
 
 /* Creates the endpoint of a configuration's text in a handle that holds none, and carries out the text's commands. The
  * lines are those of docs/SCRIPT.md for one end: `end A SUITE SCI MAX FORM`, and then commands at A, each as its line
  * says and the lines in their order; blank lines and those whose first word begins with # are skipped. All of it is
- * done, or nothing has changed: MACSEC_TAKEN; the first fault of the text, MACSEC_LINE_.. or MACSEC_CONFIG_LONG; of a
- * text without a fault, the refusal of the first command that is refused. Or MACSEC_NEW_MEMORY. `line` is always
+ * done, or nothing has changed: MACSEC_E_TAKEN; the first fault of the text, MACSEC_E_LINE_.. or MACSEC_E_CONFIG_LONG;
+ * of a text without a fault, the refusal of the first command that is refused. Or MACSEC_E_MEMORY. `line` is always
  * written: the number of the line that is at fault or refused, from 1; else, and if every line is skipped, 0. Each
  * endpoint begins at the packet number of its `txsa`: the same text given twice protects two frames with one IV. */
 uint32_t macsec_configure(macsec_endpoint *e, const uint8_t *text, size_t length, uint32_t *line);
@@ -321,7 +321,7 @@ uint32_t macsec_send_raw(macsec_endpoint *e, const uint8_t *frame, size_t length
 uint32_t macsec_receive_raw(macsec_endpoint *e, const uint8_t *frame, size_t length, macsec_received *out);
 
 /* What becomes of a client frame of the controlled port (10.5). `out` need not be initialized. Returns out->status:
- * MACSEC_FRAME_SHORT, MACSEC_FRAME_LONG. */
+ * MACSEC_E_FRAME_SHORT, MACSEC_E_FRAME_LONG. */
 static inline uint32_t macsec_send(macsec_endpoint *e, const uint8_t *frame, size_t length, macsec_sent *out) {
     const macsec_sent none = MACSEC_SENT_INIT;
     *out = none;
@@ -329,11 +329,11 @@ static inline uint32_t macsec_send(macsec_endpoint *e, const uint8_t *frame, siz
 }
 
 /* A client frame of the uncontrolled port: if the status is MACSEC_OK, it is to be transmitted as it is. Nothing
- * counts it. MACSEC_FRAME_SHORT, MACSEC_FRAME_LONG. */
+ * counts it. MACSEC_E_FRAME_SHORT, MACSEC_E_FRAME_LONG. */
 uint32_t macsec_send_uncontrolled(macsec_endpoint *e, const uint8_t *frame, size_t length);
 
 /* What becomes of a frame from the link, from any source, forged ones too (10.6). `out` need not be initialized.
- * Returns out->status: MACSEC_FRAME_SHORT, MACSEC_FRAME_LONG. */
+ * Returns out->status: MACSEC_E_FRAME_SHORT, MACSEC_E_FRAME_LONG. */
 static inline uint32_t macsec_receive(macsec_endpoint *e, const uint8_t *frame, size_t length, macsec_received *out) {
     const macsec_received none = MACSEC_RECEIVED_INIT;
     *out = none;
@@ -343,64 +343,64 @@ static inline uint32_t macsec_receive(macsec_endpoint *e, const uint8_t *frame, 
 /* ---- Commands (10.7): each is carried out, or refused and then nothing has changed ---- */
 
 /* Protect client frames, or send them as they are. */
-uint32_t macsec_protect(macsec_endpoint *e, bool on);
+uint32_t macsec_set_protect(macsec_endpoint *e, bool on);
 /* Validate received frames in this mode. */
-uint32_t macsec_validate(macsec_endpoint *e, uint32_t mode);
-/* Drop late frames or not, and set the replay window, in packet numbers. MACSEC_WINDOW if it is above 2^32 - 1, or,
+uint32_t macsec_set_validation(macsec_endpoint *e, uint32_t mode);
+/* Drop late frames or not, and set the replay window, in packet numbers. MACSEC_E_WINDOW if it is above 2^32 - 1, or,
  * beside a key of extended packet numbers that is not retired, above 2^30 - 1. */
-uint32_t macsec_replay(macsec_endpoint *e, bool protect, uint64_t window);
+uint32_t macsec_set_replay(macsec_endpoint *e, bool protect, uint64_t window);
 /* Set the tag form. */
-uint32_t macsec_tag(macsec_endpoint *e, uint32_t form);
+uint32_t macsec_set_tag_form(macsec_endpoint *e, uint32_t form);
 
 /* Install a key. Its number and its octets can never be used again by this endpoint. Another endpoint, or the next run
- * of the program, knows nothing of it: see macsec_tx_sa. */
-uint32_t macsec_key(macsec_endpoint *e, const macsec_sak *key);
+ * of the program, knows nothing of it: see macsec_add_tx_sa. */
+uint32_t macsec_install_key(macsec_endpoint *e, const macsec_sak *key);
 /* Retire a key that no association uses: no new association may use it. */
-uint32_t macsec_retire(macsec_endpoint *e, uint16_t key);
+uint32_t macsec_retire_key(macsec_endpoint *e, uint16_t key);
 
 /* Create a transmit association (an: 0 to 3), disabled, whose first packet number is `next`; it encrypts if `conf`,
  * and else protects integrity only. Packet numbers are forgotten when the endpoint is freed or the process ends: with
  * a key that was used before, `next` must be above all numbers used under it, else IVs repeat, which breaks GCM. */
-uint32_t macsec_tx_sa(macsec_endpoint *e, uint8_t an, uint16_t key, uint64_t next, bool conf);
+uint32_t macsec_add_tx_sa(macsec_endpoint *e, uint8_t an, uint16_t key, uint64_t next, bool conf);
 /* Enable it, and disable every other one; disable it; delete it. */
-uint32_t macsec_tx_on(macsec_endpoint *e, uint8_t an);
-uint32_t macsec_tx_off(macsec_endpoint *e, uint8_t an);
-uint32_t macsec_tx_del(macsec_endpoint *e, uint8_t an);
+uint32_t macsec_enable_tx_sa(macsec_endpoint *e, uint8_t an);
+uint32_t macsec_disable_tx_sa(macsec_endpoint *e, uint8_t an);
+uint32_t macsec_delete_tx_sa(macsec_endpoint *e, uint8_t an);
 
 /* Create a receive channel, of another endpoint's SCI; delete it with its associations and counters. */
-uint32_t macsec_rx_sc(macsec_endpoint *e, const uint8_t sci[8]);
-uint32_t macsec_rx_sc_del(macsec_endpoint *e, const uint8_t sci[8]);
+uint32_t macsec_add_rx_sc(macsec_endpoint *e, const uint8_t sci[8]);
+uint32_t macsec_delete_rx_sc(macsec_endpoint *e, const uint8_t sci[8]);
 /* Create a receive association, disabled, whose lowest acceptable packet number is `lowest`. `ssci` is the
  * sender's, if packet numbers are extended; else it is not used. */
-uint32_t macsec_rx_sa(macsec_endpoint *e, const uint8_t sci[8], uint8_t an, uint16_t key, uint32_t ssci,
+uint32_t macsec_add_rx_sa(macsec_endpoint *e, const uint8_t sci[8], uint8_t an, uint16_t key, uint32_t ssci,
                       uint64_t lowest);
 /* Enable it; disable it; raise its lowest acceptable packet number; delete it. */
-uint32_t macsec_rx_on(macsec_endpoint *e, const uint8_t sci[8], uint8_t an);
-uint32_t macsec_rx_off(macsec_endpoint *e, const uint8_t sci[8], uint8_t an);
-uint32_t macsec_rx_low(macsec_endpoint *e, const uint8_t sci[8], uint8_t an, uint64_t pn);
-uint32_t macsec_rx_del(macsec_endpoint *e, const uint8_t sci[8], uint8_t an);
+uint32_t macsec_enable_rx_sa(macsec_endpoint *e, const uint8_t sci[8], uint8_t an);
+uint32_t macsec_disable_rx_sa(macsec_endpoint *e, const uint8_t sci[8], uint8_t an);
+uint32_t macsec_set_lowest_pn(macsec_endpoint *e, const uint8_t sci[8], uint8_t an, uint64_t pn);
+uint32_t macsec_delete_rx_sa(macsec_endpoint *e, const uint8_t sci[8], uint8_t an);
 
-/* Any of these, as a line says it: `A txon 0` is macsec_tx_on(e, 0). The line is text without its line feed; a blank
- * one and one whose first word begins with # do nothing. The first that applies: MACSEC_LINE_LONG, MACSEC_LINE_WORD,
- * MACSEC_LINE_COUNT, what is wrong with a word, from left to right, MACSEC_LINE_ENDS for a line that is no command at
- * A, or the refusal of the command. Or MACSEC_NEW_MEMORY. */
+/* Any of these, as a line says it: `A txon 0` is macsec_enable_tx_sa(e, 0). The line is text without its line feed; a
+ * blank one and one whose first word begins with # do nothing. The first that applies: MACSEC_E_LINE_LONG,
+ * MACSEC_E_LINE_WORD, MACSEC_E_LINE_COUNT, what is wrong with a word, from left to right, MACSEC_E_LINE_ENDS for a line
+ * that is no command at A, or the refusal of the command. Or MACSEC_E_MEMORY. */
 uint32_t macsec_command_line(macsec_endpoint *e, const uint8_t *text, size_t length);
 
-/* ---- What an endpoint shows; nothing changes. MACSEC_NONE if there is no such channel or association ---- */
+/* ---- What an endpoint shows; nothing changes. MACSEC_E_NOT_FOUND if there is no such channel or association ---- */
 
-uint32_t macsec_options(macsec_endpoint *e, macsec_options_shown *out);
-uint32_t macsec_counters(macsec_endpoint *e, macsec_counters_shown *out);
-uint32_t macsec_tx_counters(macsec_endpoint *e, macsec_tx_counters_shown *out);
+uint32_t macsec_get_options(macsec_endpoint *e, macsec_options *out);
+uint32_t macsec_get_counters(macsec_endpoint *e, macsec_counters *out);
+uint32_t macsec_get_tx_counters(macsec_endpoint *e, macsec_tx_counters *out);
 /* A receive channel's counters. Each is, modulo 2^64, the sum of its SAs' and of its deleted SAs' counters. */
-uint32_t macsec_rx_counters(macsec_endpoint *e, const uint8_t sci[8], macsec_rx_counters_shown *out);
+uint32_t macsec_get_rx_counters(macsec_endpoint *e, const uint8_t sci[8], macsec_rx_counters *out);
 /* Of one of its associations, since the creation of that. */
-uint32_t macsec_rx_sa_counters(macsec_endpoint *e, const uint8_t sci[8], uint8_t an, macsec_rx_counters_shown *out);
+uint32_t macsec_get_rx_sa_counters(macsec_endpoint *e, const uint8_t sci[8], uint8_t an, macsec_rx_counters *out);
 /* What its deleted associations had counted, together. */
-uint32_t macsec_rx_removed(macsec_endpoint *e, const uint8_t sci[8], macsec_rx_counters_shown *out);
+uint32_t macsec_get_removed_counters(macsec_endpoint *e, const uint8_t sci[8], macsec_rx_counters *out);
 /* The SCI of the receive channel at this place in the order of creation, 0 to 63. */
-uint32_t macsec_rx_channel(macsec_endpoint *e, size_t place, uint8_t sci[8]);
-uint32_t macsec_tx_row(macsec_endpoint *e, uint8_t an, macsec_tx_row_shown *out);
-uint32_t macsec_rx_row(macsec_endpoint *e, const uint8_t sci[8], uint8_t an, macsec_rx_row_shown *out);
+uint32_t macsec_get_rx_sc(macsec_endpoint *e, size_t place, uint8_t sci[8]);
+uint32_t macsec_get_tx_sa(macsec_endpoint *e, uint8_t an, macsec_tx_sa *out);
+uint32_t macsec_get_rx_sa(macsec_endpoint *e, const uint8_t sci[8], uint8_t an, macsec_rx_sa *out);
 
 #ifdef __cplusplus
 }

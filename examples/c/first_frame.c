@@ -32,16 +32,18 @@ static void print(const char *what, const uint8_t *frame, size_t length) {
 static int make_sender(macsec_endpoint *e, const macsec_sak *key) {
     macsec_config config = { { 0 }, MACSEC_SUITE_GCM_AES_128, MACSEC_FORM_SCI, 1518 };
     memcpy(config.sci, sci_a, sizeof sci_a);
-    return failed("new", macsec_new(e, &config)) || failed("key", macsec_key(e, key)) ||
-           failed("tx_sa", macsec_tx_sa(e, AN, key->number, FIRST_PN, false)) || failed("tx_on", macsec_tx_on(e, AN));
+    return failed("new", macsec_new(e, &config)) || failed("install_key", macsec_install_key(e, key)) ||
+           failed("add_tx_sa", macsec_add_tx_sa(e, AN, key->number, FIRST_PN, false)) ||
+           failed("enable_tx_sa", macsec_enable_tx_sa(e, AN));
 }
 
 /* Creates an endpoint that receives what the other one sends. */
 static int make_receiver(macsec_endpoint *e, const macsec_sak *key) {
     macsec_config config = { { 0, 0, 0, 0, 0, 0, 0, 2 }, MACSEC_SUITE_GCM_AES_128, MACSEC_FORM_AUTO, 1518 };
-    return failed("new", macsec_new(e, &config)) || failed("key", macsec_key(e, key)) ||
-           failed("rx_sc", macsec_rx_sc(e, sci_a)) || failed("rx_sa", macsec_rx_sa(e, sci_a, AN, key->number, 0, FIRST_PN)) ||
-           failed("rx_on", macsec_rx_on(e, sci_a, AN));
+    return failed("new", macsec_new(e, &config)) || failed("install_key", macsec_install_key(e, key)) ||
+           failed("add_rx_sc", macsec_add_rx_sc(e, sci_a)) ||
+           failed("add_rx_sa", macsec_add_rx_sa(e, sci_a, AN, key->number, 0, FIRST_PN)) ||
+           failed("enable_rx_sa", macsec_enable_rx_sa(e, sci_a, AN));
 }
 
 int main(void) {

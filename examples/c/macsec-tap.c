@@ -149,11 +149,11 @@ static void from_link(macsec_endpoint *e, int tap, int link) {
 }
 
 static void print_counters(macsec_endpoint *e) {
-    macsec_counters_shown all;
-    macsec_tx_counters_shown tx;
+    macsec_counters all;
+    macsec_tx_counters tx;
     uint8_t sci[8];
-    macsec_counters(e, &all);
-    macsec_tx_counters(e, &tx);
+    macsec_get_counters(e, &all);
+    macsec_get_tx_counters(e, &tx);
     printf("OutPktsUntagged %" PRIu64 " OutPktsTooLong %" PRIu64 " OutPktsNoSA %" PRIu64 " OutPktsProtected %" PRIu64
            " OutPktsEncrypted %" PRIu64 "\n",
            all.out_pkts_untagged, all.out_pkts_too_long, all.out_pkts_no_sa, tx.out_pkts_protected,
@@ -161,9 +161,9 @@ static void print_counters(macsec_endpoint *e) {
     printf("InPktsUntagged %" PRIu64 " InPktsNoTag %" PRIu64 " InPktsBadTag %" PRIu64 " InPktsNoSA %" PRIu64
            " InPktsNoSAError %" PRIu64 "\n",
            all.in_pkts_untagged, all.in_pkts_no_tag, all.in_pkts_bad_tag, all.in_pkts_no_sa, all.in_pkts_no_sa_error);
-    for (size_t at = 0; macsec_rx_channel(e, at, sci) == MACSEC_OK; at++) {
-        macsec_rx_counters_shown rx;
-        macsec_rx_counters(e, sci, &rx);
+    for (size_t at = 0; macsec_get_rx_sc(e, at, sci) == MACSEC_OK; at++) {
+        macsec_rx_counters rx;
+        macsec_get_rx_counters(e, sci, &rx);
         for (size_t i = 0; i < sizeof sci; i++)
             printf("%02x", sci[i]);
         printf(" InPktsOK %" PRIu64 " InPktsUnchecked %" PRIu64 " InPktsDelayed %" PRIu64 " InPktsLate %" PRIu64

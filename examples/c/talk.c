@@ -29,13 +29,13 @@ static void make_end(macsec_endpoint *e, int own) {
         memset(key.salt, 0x20 + it, sizeof key.salt);
         key.ssci = (uint32_t)own + 1;
         key.number = (uint16_t)it;
-        must("key", macsec_key(e, &key));
+        must("install_key", macsec_install_key(e, &key));
     }
-    must("tx_sa", macsec_tx_sa(e, 0, (uint16_t)own, 1, true));
-    must("tx_on", macsec_tx_on(e, 0));
-    must("rx_sc", macsec_rx_sc(e, scis[other]));
-    must("rx_sa", macsec_rx_sa(e, scis[other], 0, (uint16_t)other, (uint32_t)other + 1, 1));
-    must("rx_on", macsec_rx_on(e, scis[other], 0));
+    must("add_tx_sa", macsec_add_tx_sa(e, 0, (uint16_t)own, 1, true));
+    must("enable_tx_sa", macsec_enable_tx_sa(e, 0));
+    must("add_rx_sc", macsec_add_rx_sc(e, scis[other]));
+    must("add_rx_sa", macsec_add_rx_sa(e, scis[other], 0, (uint16_t)other, (uint32_t)other + 1, 1));
+    must("enable_rx_sa", macsec_enable_rx_sa(e, scis[other], 0));
 }
 
 /* Sends a text in a frame, and copies the link frame, which is borrowed only until the next call with this handle. */
@@ -61,24 +61,24 @@ static void hear(const char *who, macsec_endpoint *e, const uint8_t *link, size_
 }
 
 static void count(const char *who, macsec_endpoint *e, const uint8_t *sci) {
-    macsec_counters_shown all;
-    macsec_tx_counters_shown tx;
-    macsec_rx_counters_shown rx, of_sa, removed;
-    must("counters", macsec_counters(e, &all));
-    must("tx_counters", macsec_tx_counters(e, &tx));
-    must("rx_counters", macsec_rx_counters(e, sci, &rx));
+    macsec_counters all;
+    macsec_tx_counters tx;
+    macsec_rx_counters rx, of_sa, removed;
+    must("get_counters", macsec_get_counters(e, &all));
+    must("get_tx_counters", macsec_get_tx_counters(e, &tx));
+    must("get_rx_counters", macsec_get_rx_counters(e, sci, &rx));
     printf("%s: OutPktsEncrypted %" PRIu64 ", InPktsNoTag %" PRIu64 ", InOctetsDecrypted %" PRIu64 "\n", who,
            tx.out_pkts_encrypted, all.in_pkts_no_tag, all.in_octets_decrypted);
     printf("%s: InPktsOK %" PRIu64 ", InPktsNotValid %" PRIu64 "\n", who, rx.in_pkts_ok, rx.in_pkts_not_valid);
-    if (macsec_rx_sa_counters(e, sci, 0, &of_sa) == MACSEC_OK)
+    if (macsec_get_rx_sa_counters(e, sci, 0, &of_sa) == MACSEC_OK)
         printf("%s: association 0: InPktsOK %" PRIu64 "\n", who, of_sa.in_pkts_ok);
-    must("rx_removed", macsec_rx_removed(e, sci, &removed));
+    must("get_removed_counters", macsec_get_removed_counters(e, sci, &removed));
     printf("%s: removed: InPktsOK %" PRIu64 "\n", who, removed.in_pkts_ok);
 }
 
 int main(void) {
     macsec_endpoint ends[2] = { MACSEC_ENDPOINT_INIT, MACSEC_ENDPOINT_INIT };
-    macsec_tx_row_shown row;
+    macsec_tx_sa row;
     uint8_t link[128];
     size_t length;
     make_end(&ends[0], 0);
@@ -97,15 +97,16 @@ int main(void) {
     hear("a, untagged", &ends[0], link, length);
     hear("a, short", &ends[0], link, 13);
 
-    must("tx_row", macsec_tx_row(&ends[0], 0, &row));
+    must("get_tx_sa", macsec_get_tx_sa(&ends[0], 0, &row));
     printf("a: next packet number %" PRIu64 "\n", row.next);
     count("a", &ends[0], scis[1]);
     count("b", &ends[1], scis[0]);
-    must("rx_del", macsec_rx_del(&ends[1], scis[0], 0));
+    must("delete_rx_sa", macsec_delete_rx_sa(&ends[1], scis[0], 0));
     count("b, without the association", &ends[1], scis[0]);
 
     /* Refused commands, and a handle without an endpoint. */
-    printf("b: tx_on of 4: %u, of 3: %u\n", (unsigned)macsec_tx_on(&ends[1], 4), (unsigned)macsec_tx_on(&ends[1], 3));
+    printf("b: enable_tx_sa of 4: %u, of 3: %u\n", (unsigned)macsec_enable_tx_sa(&ends[1], 4),
+           (unsigned)macsec_enable_tx_sa(&ends[1], 3));
     macsec_free(&ends[0]);
     macsec_free(&ends[0]);
     hear("a, freed", &ends[0], link, length);

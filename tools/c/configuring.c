@@ -66,20 +66,20 @@ static uint32_t commanded(macsec_endpoint *e, const char *line) {
 
 /* Does the handle hold no endpoint? */
 static bool is_empty(macsec_endpoint *e) {
-    return macsec_protect(e, true) == MACSEC_EMPTY;
+    return macsec_set_protect(e, true) == MACSEC_E_EMPTY;
 }
 
 /* Line 2 with its allocations refused, from each of them on: nothing has changed. */
 static void line_without_memory(macsec_endpoint *e) {
     unsigned as_it_was = 0, count;
-    macsec_tx_row_shown row;
+    macsec_tx_sa row;
     commanded(e, lines[2]);
     count = asked;
-    macsec_tx_on(e, 0);
+    macsec_enable_tx_sa(e, 0);
     for (refused = 1; refused <= count; refused++) {
         uint32_t status = commanded(e, lines[2]);
-        macsec_tx_row(e, 0, &row);
-        as_it_was += status == MACSEC_NEW_MEMORY && row.on;
+        macsec_get_tx_sa(e, 0, &row);
+        as_it_was += status == MACSEC_E_MEMORY && row.on;
     }
     refused = 0;
     printf("line 2 without memory: met %d, wrong %u\n", count > 0, count - as_it_was);
@@ -93,7 +93,7 @@ static void text_without_memory(macsec_endpoint *e) {
     count = asked;
     macsec_free(e);
     for (refused = 1; refused <= count; refused++)
-        without += configured(e, texts[3], &line) == MACSEC_NEW_MEMORY && line == 0 && is_empty(e);
+        without += configured(e, texts[3], &line) == MACSEC_E_MEMORY && line == 0 && is_empty(e);
     refused = 0;
     printf("text 3 without memory: met %d, wrong %u\n", count > 4, count - without);
 }
@@ -119,8 +119,8 @@ int main(void) {
     printf("fate %u, octets %u\n", (unsigned)sent.fate, (unsigned)sent.length);
     for (size_t i = 0; i < sizeof lines / sizeof lines[0]; i++) {
         uint32_t status = commanded(&e, lines[i]);
-        macsec_tx_row_shown row;
-        macsec_tx_row(&e, 0, &row);
+        macsec_tx_sa row;
+        macsec_get_tx_sa(&e, 0, &row);
         printf("line %u: status %u, on %d\n", (unsigned)i, (unsigned)status, row.on);
     }
 

@@ -45,34 +45,34 @@ static uint32_t created(macsec_endpoint *e, uint32_t suite, uint32_t form, uint3
     return macsec_new(e, &config);
 }
 
-/* Calls of each kind on a handle without an endpoint: how many of them answer MACSEC_EMPTY. */
+/* Calls of each kind on a handle without an endpoint: how many of them answer MACSEC_E_EMPTY. */
 static unsigned empty_answers(macsec_endpoint *e) {
     uint8_t frame[14] = { 0 };
     macsec_sent sent;
     macsec_received received;
     macsec_sak key = { { 0 }, { 0 }, 0, 99, 65535, 99, 99 };
-    macsec_options_shown options;
-    macsec_counters_shown counters;
-    macsec_rx_counters_shown rx;
-    macsec_tx_row_shown row;
+    macsec_options options;
+    macsec_counters counters;
+    macsec_rx_counters rx;
+    macsec_tx_sa row;
     /* Also with arguments that name nothing: the handle is tested first. */
     const uint32_t statuses[] = { macsec_send(e, frame, sizeof frame, &sent),
                                   macsec_send(e, frame, 0, &sent),
                                   macsec_receive(e, frame, sizeof frame, &received),
                                   macsec_send_uncontrolled(e, frame, 0),
-                                  macsec_protect(e, true),
-                                  macsec_validate(e, 99),
-                                  macsec_key(e, &key),
-                                  macsec_tx_on(e, 99),
-                                  macsec_rx_sc(e, own_sci),
-                                  macsec_options(e, &options),
-                                  macsec_counters(e, &counters),
-                                  macsec_rx_removed(e, own_sci, &rx),
-                                  macsec_rx_sa_counters(e, own_sci, 99, &rx),
-                                  macsec_tx_row(e, 99, &row) };
+                                  macsec_set_protect(e, true),
+                                  macsec_set_validation(e, 99),
+                                  macsec_install_key(e, &key),
+                                  macsec_enable_tx_sa(e, 99),
+                                  macsec_add_rx_sc(e, own_sci),
+                                  macsec_get_options(e, &options),
+                                  macsec_get_counters(e, &counters),
+                                  macsec_get_removed_counters(e, own_sci, &rx),
+                                  macsec_get_rx_sa_counters(e, own_sci, 99, &rx),
+                                  macsec_get_tx_sa(e, 99, &row) };
     unsigned count = 0;
     for (size_t i = 0; i < sizeof statuses / sizeof statuses[0]; i++)
-        count += statuses[i] == MACSEC_EMPTY;
+        count += statuses[i] == MACSEC_E_EMPTY;
     return sent.length == 0 && received.length == 0 && !received.delivered ? count : 0;
 }
 
@@ -99,7 +99,7 @@ int main(void) {
     }
     printf("again: %u\n", (unsigned)created(&e, 99, 99, 0));
     asked = 0;
-    printf("protect: %u\n", (unsigned)macsec_protect(&e, false));
+    printf("set_protect: %u\n", (unsigned)macsec_set_protect(&e, false));
     macsec_free(&e);
     printf("freed: empty %u, asked for memory %u times, holds %d blocks\n", empty_answers(&e), asked, held);
     macsec_free(&e);

@@ -31,7 +31,7 @@ pub(crate) fn carry_out(e: &mut Endpoint, command: Result<Command, ArgumentFault
 
 /// Protect client frames, or send them unchanged.
 #[unsafe(no_mangle)]
-pub extern "C" fn macsec_protect(e: &mut Endpoint, on: bool) -> u32
+pub extern "C" fn macsec_set_protect(e: &mut Endpoint, on: bool) -> u32
     ensures { (result, e.new.state) ≡ commanded e.old.state (Ok (by.Protect on)) }
 {
     carry_out(e, Ok(Command::Protect(on)))
@@ -39,7 +39,7 @@ pub extern "C" fn macsec_protect(e: &mut Endpoint, on: bool) -> u32
 
 /// Validate received frames in the mode of this number.
 #[unsafe(no_mangle)]
-pub extern "C" fn macsec_validate(e: &mut Endpoint, mode: u32) -> u32
+pub extern "C" fn macsec_set_validation(e: &mut Endpoint, mode: u32) -> u32
     ensures { (result, e.new.state) ≡ commanded e.old.state (naming by.Validate (mode_of mode)) }
 {
     carry_out(e, mode_of(mode).map(|mode| Command::Validate(mode)))
@@ -47,7 +47,7 @@ pub extern "C" fn macsec_validate(e: &mut Endpoint, mode: u32) -> u32
 
 /// Turn replay protection on or off, and set the replay window. If it is on, late frames are dropped.
 #[unsafe(no_mangle)]
-pub extern "C" fn macsec_replay(e: &mut Endpoint, protect: bool, window: u64) -> u32
+pub extern "C" fn macsec_set_replay(e: &mut Endpoint, protect: bool, window: u64) -> u32
     ensures { (result, e.new.state) ≡ commanded e.old.state (Ok (by.Replay protect window)) }
 {
     carry_out(e, Ok(Command::Replay { protect, window }))
@@ -55,7 +55,7 @@ pub extern "C" fn macsec_replay(e: &mut Endpoint, protect: bool, window: u64) ->
 
 /// Set the tag form of this number.
 #[unsafe(no_mangle)]
-pub extern "C" fn macsec_tag(e: &mut Endpoint, form: u32) -> u32
+pub extern "C" fn macsec_set_tag_form(e: &mut Endpoint, form: u32) -> u32
     ensures { (result, e.new.state) ≡ commanded e.old.state (naming by.Tag (form_of form)) }
 {
     carry_out(e, form_of(form).map(|form| Command::Tag(form)))
@@ -93,7 +93,7 @@ fn new_key_of(key: &Sak) -> Result<NewKey, ArgumentFault>
 
 /// Install a key.
 #[unsafe(no_mangle)]
-pub extern "C" fn macsec_key(e: &mut Endpoint, key: &Sak) -> u32
+pub extern "C" fn macsec_install_key(e: &mut Endpoint, key: &Sak) -> u32
     ensures { (result, e.new.state) ≡ commanded e.old.state (naming by.Key (new_key_of key.now)) }
 {
     carry_out(e, new_key_of(key).map(|key| Command::Key(key)))
@@ -101,7 +101,7 @@ pub extern "C" fn macsec_key(e: &mut Endpoint, key: &Sak) -> u32
 
 /// Retire the key of this number: no new SA may use it.
 #[unsafe(no_mangle)]
-pub extern "C" fn macsec_retire(e: &mut Endpoint, key: u16) -> u32
+pub extern "C" fn macsec_retire_key(e: &mut Endpoint, key: u16) -> u32
     ensures { (result, e.new.state) ≡ commanded e.old.state (naming by.Retire (key_number_of key)) }
 {
     carry_out(e, key_number_of(key).map(|key| Command::Retire(key)))
@@ -123,7 +123,7 @@ fn tx_sa_of(an: u8, key: u16, next: u64, conf: bool) -> Result<Command, Argument
 
 /// Create a transmit SA, disabled, whose first packet number is `next`. It encrypts if `conf` is true.
 #[unsafe(no_mangle)]
-pub extern "C" fn macsec_tx_sa(e: &mut Endpoint, an: u8, key: u16, next: u64, conf: bool) -> u32
+pub extern "C" fn macsec_add_tx_sa(e: &mut Endpoint, an: u8, key: u16, next: u64, conf: bool) -> u32
     ensures { (result, e.new.state) ≡ commanded e.old.state (naming_both (λ n k. by.TxSa n k next conf) (an_of an) (key_number_of key)) }
 {
     carry_out(e, tx_sa_of(an, key, next, conf))
@@ -131,7 +131,7 @@ pub extern "C" fn macsec_tx_sa(e: &mut Endpoint, an: u8, key: u16, next: u64, co
 
 /// Enable this transmit SA, and disable every other one.
 #[unsafe(no_mangle)]
-pub extern "C" fn macsec_tx_on(e: &mut Endpoint, an: u8) -> u32
+pub extern "C" fn macsec_enable_tx_sa(e: &mut Endpoint, an: u8) -> u32
     ensures { (result, e.new.state) ≡ commanded e.old.state (naming by.TxOn (an_of an)) }
 {
     carry_out(e, an_of(an).map(|an| Command::TxOn(an)))
@@ -139,7 +139,7 @@ pub extern "C" fn macsec_tx_on(e: &mut Endpoint, an: u8) -> u32
 
 /// Disable this transmit SA.
 #[unsafe(no_mangle)]
-pub extern "C" fn macsec_tx_off(e: &mut Endpoint, an: u8) -> u32
+pub extern "C" fn macsec_disable_tx_sa(e: &mut Endpoint, an: u8) -> u32
     ensures { (result, e.new.state) ≡ commanded e.old.state (naming by.TxOff (an_of an)) }
 {
     carry_out(e, an_of(an).map(|an| Command::TxOff(an)))
@@ -147,7 +147,7 @@ pub extern "C" fn macsec_tx_off(e: &mut Endpoint, an: u8) -> u32
 
 /// Delete this transmit SA.
 #[unsafe(no_mangle)]
-pub extern "C" fn macsec_tx_del(e: &mut Endpoint, an: u8) -> u32
+pub extern "C" fn macsec_delete_tx_sa(e: &mut Endpoint, an: u8) -> u32
     ensures { (result, e.new.state) ≡ commanded e.old.state (naming by.TxDel (an_of an)) }
 {
     carry_out(e, an_of(an).map(|an| Command::TxDel(an)))
@@ -155,7 +155,7 @@ pub extern "C" fn macsec_tx_del(e: &mut Endpoint, an: u8) -> u32
 
 /// Create a receive SC, the last in the order of the channels.
 #[unsafe(no_mangle)]
-pub extern "C" fn macsec_rx_sc(e: &mut Endpoint, sci: &[u8; 8]) -> u32
+pub extern "C" fn macsec_add_rx_sc(e: &mut Endpoint, sci: &[u8; 8]) -> u32
     ensures { (result, e.new.state) ≡ commanded e.old.state (Ok (by.RxSc (sci_of sci.now))) }
 {
     carry_out(e, Ok(Command::RxSc(Sci(*sci))))
@@ -163,7 +163,7 @@ pub extern "C" fn macsec_rx_sc(e: &mut Endpoint, sci: &[u8; 8]) -> u32
 
 /// Delete this receive SC, its SAs and its counters.
 #[unsafe(no_mangle)]
-pub extern "C" fn macsec_rx_sc_del(e: &mut Endpoint, sci: &[u8; 8]) -> u32
+pub extern "C" fn macsec_delete_rx_sc(e: &mut Endpoint, sci: &[u8; 8]) -> u32
     ensures { (result, e.new.state) ≡ commanded e.old.state (Ok (by.RxScDel (sci_of sci.now))) }
 {
     carry_out(e, Ok(Command::RxScDel(Sci(*sci))))
@@ -186,7 +186,7 @@ fn rx_sa_of(sci: Sci, an: u8, key: u16, ssci: u32, lowest: u64) -> Result<Comman
 
 /// Create a receive SA, disabled, whose lowest acceptable packet number is `lowest`.
 #[unsafe(no_mangle)]
-pub extern "C" fn macsec_rx_sa(
+pub extern "C" fn macsec_add_rx_sa(
     e: &mut Endpoint,
     sci: &[u8; 8],
     an: u8,
@@ -201,7 +201,7 @@ pub extern "C" fn macsec_rx_sa(
 
 /// Enable this receive SA.
 #[unsafe(no_mangle)]
-pub extern "C" fn macsec_rx_on(e: &mut Endpoint, sci: &[u8; 8], an: u8) -> u32
+pub extern "C" fn macsec_enable_rx_sa(e: &mut Endpoint, sci: &[u8; 8], an: u8) -> u32
     ensures { (result, e.new.state) ≡ commanded e.old.state (naming (by.RxOn (sci_of sci.now)) (an_of an)) }
 {
     let sci = Sci(*sci);
@@ -210,7 +210,7 @@ pub extern "C" fn macsec_rx_on(e: &mut Endpoint, sci: &[u8; 8], an: u8) -> u32
 
 /// Disable this receive SA.
 #[unsafe(no_mangle)]
-pub extern "C" fn macsec_rx_off(e: &mut Endpoint, sci: &[u8; 8], an: u8) -> u32
+pub extern "C" fn macsec_disable_rx_sa(e: &mut Endpoint, sci: &[u8; 8], an: u8) -> u32
     ensures { (result, e.new.state) ≡ commanded e.old.state (naming (by.RxOff (sci_of sci.now)) (an_of an)) }
 {
     let sci = Sci(*sci);
@@ -219,7 +219,7 @@ pub extern "C" fn macsec_rx_off(e: &mut Endpoint, sci: &[u8; 8], an: u8) -> u32
 
 /// Raise the lowest acceptable packet number of this receive SA.
 #[unsafe(no_mangle)]
-pub extern "C" fn macsec_rx_low(e: &mut Endpoint, sci: &[u8; 8], an: u8, pn: u64) -> u32
+pub extern "C" fn macsec_set_lowest_pn(e: &mut Endpoint, sci: &[u8; 8], an: u8, pn: u64) -> u32
     ensures { (result, e.new.state) ≡ commanded e.old.state (naming (λ n. by.RxLow (sci_of sci.now) n pn) (an_of an)) }
 {
     let sci = Sci(*sci);
@@ -228,7 +228,7 @@ pub extern "C" fn macsec_rx_low(e: &mut Endpoint, sci: &[u8; 8], an: u8, pn: u64
 
 /// Delete this receive SA.
 #[unsafe(no_mangle)]
-pub extern "C" fn macsec_rx_del(e: &mut Endpoint, sci: &[u8; 8], an: u8) -> u32
+pub extern "C" fn macsec_delete_rx_sa(e: &mut Endpoint, sci: &[u8; 8], an: u8) -> u32
     ensures { (result, e.new.state) ≡ commanded e.old.state (naming (by.RxDel (sci_of sci.now)) (an_of an)) }
 {
     let sci = Sci(*sci);

@@ -204,7 +204,7 @@ fn rx_row_shown(row: RxRow) -> RxRowShown
 
 /// Shows the options.
 #[unsafe(no_mangle)]
-pub extern "C" fn macsec_options(e: &mut Endpoint, out: &mut OptionsShown) -> u32
+pub extern "C" fn macsec_get_options(e: &mut Endpoint, out: &mut OptionsShown) -> u32
     ensures status { result ≡ status_of_found e.old.state (λ s. Some s.options) }
     ensures same { e.new.state ≡ e.old.state }
     ensures shown { IfSome e.old.state (λ s. out.new ≡ options_shown s.options) }
@@ -218,7 +218,7 @@ pub extern "C" fn macsec_options(e: &mut Endpoint, out: &mut OptionsShown) -> u3
 
 /// Shows the endpoint's counters.
 #[unsafe(no_mangle)]
-pub extern "C" fn macsec_counters(e: &mut Endpoint, out: &mut CountersShown) -> u32
+pub extern "C" fn macsec_get_counters(e: &mut Endpoint, out: &mut CountersShown) -> u32
     ensures status { result ≡ status_of_found e.old.state (λ s. Some s.counters) }
     ensures same { e.new.state ≡ e.old.state }
     ensures shown { IfSome e.old.state (λ s. out.new ≡ counters_shown s.counters) }
@@ -232,7 +232,7 @@ pub extern "C" fn macsec_counters(e: &mut Endpoint, out: &mut CountersShown) -> 
 
 /// Shows the counters of the transmit SC.
 #[unsafe(no_mangle)]
-pub extern "C" fn macsec_tx_counters(e: &mut Endpoint, out: &mut TxCountersShown) -> u32
+pub extern "C" fn macsec_get_tx_counters(e: &mut Endpoint, out: &mut TxCountersShown) -> u32
     ensures status { result ≡ status_of_found e.old.state (λ s. Some s.tx_counters) }
     ensures same { e.new.state ≡ e.old.state }
     ensures shown { IfSome e.old.state (λ s. out.new ≡ tx_counters_shown s.tx_counters) }
@@ -246,7 +246,7 @@ pub extern "C" fn macsec_tx_counters(e: &mut Endpoint, out: &mut TxCountersShown
 
 /// Shows the counters of the receive SC with this SCI.
 #[unsafe(no_mangle)]
-pub extern "C" fn macsec_rx_counters(
+pub extern "C" fn macsec_get_rx_counters(
     e: &mut Endpoint,
     sci: &[u8; 8],
     out: &mut RxCountersShown,
@@ -269,7 +269,7 @@ pub extern "C" fn macsec_rx_counters(
 
 /// Shows the counters of the receive SA with this SCI and AN.
 #[unsafe(no_mangle)]
-pub extern "C" fn macsec_rx_sa_counters(
+pub extern "C" fn macsec_get_rx_sa_counters(
     e: &mut Endpoint,
     sci: &[u8; 8],
     an: u8,
@@ -297,7 +297,7 @@ pub extern "C" fn macsec_rx_sa_counters(
 
 /// Shows the counts of the deleted SAs of the receive SC with this SCI.
 #[unsafe(no_mangle)]
-pub extern "C" fn macsec_rx_removed(
+pub extern "C" fn macsec_get_removed_counters(
     e: &mut Endpoint,
     sci: &[u8; 8],
     out: &mut RxCountersShown,
@@ -320,7 +320,7 @@ pub extern "C" fn macsec_rx_removed(
 
 /// Shows the SCI of the receive SC at this index in the order of creation, from 0.
 #[unsafe(no_mangle)]
-pub extern "C" fn macsec_rx_channel(e: &mut Endpoint, place: usize, out: &mut [u8; 8]) -> u32
+pub extern "C" fn macsec_get_rx_sc(e: &mut Endpoint, place: usize, out: &mut [u8; 8]) -> u32
     ensures status { result ≡ status_of_found e.old.state (λ s. slice_get s.rx.scis place) }
     ensures same { e.new.state ≡ e.old.state }
     ensures shown { IfSome (found e.old.state (λ s. slice_get s.rx.scis place)) (λ sci. sci_of out.new ≡ sci) }
@@ -340,7 +340,7 @@ pub extern "C" fn macsec_rx_channel(e: &mut Endpoint, place: usize, out: &mut [u
 
 /// Shows the transmit SA with this AN.
 #[unsafe(no_mangle)]
-pub extern "C" fn macsec_tx_row(e: &mut Endpoint, an: u8, out: &mut TxRowShown) -> u32
+pub extern "C" fn macsec_get_tx_sa(e: &mut Endpoint, an: u8, out: &mut TxRowShown) -> u32
     ensures status { result ≡ status_of_an e.old.state (an_of an) (λ s n. tx_row s.tx n) }
     ensures same { e.new.state ≡ e.old.state }
     ensures shown { IfSome (found_at e.old.state (an_of an) (λ s n. tx_row s.tx n)) (λ row. out.new ≡ tx_row_shown row) }
@@ -363,7 +363,7 @@ pub extern "C" fn macsec_tx_row(e: &mut Endpoint, an: u8, out: &mut TxRowShown) 
 
 /// Shows the receive SA with this SCI and AN.
 #[unsafe(no_mangle)]
-pub extern "C" fn macsec_rx_row(
+pub extern "C" fn macsec_get_rx_sa(
     e: &mut Endpoint,
     sci: &[u8; 8],
     an: u8,

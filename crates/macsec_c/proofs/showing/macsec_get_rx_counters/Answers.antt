@@ -1,6 +1,6 @@
 -- By search. These proofs are here so that a wrong body is refused quickly.
 use Rattle.std.proofs.Common.{rules}
-use Rattle.macsec_c.proofs.showing.macsec_rx_counters.Goals as goal
+use Rattle.macsec_c.proofs.showing.macsec_get_rx_counters.Goals as goal
 
 pub returns-in-Some-clause-status : goal.returns-in-Some-clause-status
 returns-in-Some-clause-status c = search rules steps 300000
