@@ -717,7 +717,7 @@ def main():
     print(f"{len(answers)} calls of seed {asked.seed}: each was answered as expected")
     print("calls: " + ", ".join(f"{name} {count}" for name, count in sorted(lines.items())))
     print("met: " + ", ".join(f"{name} {count}" for name, count in sorted(calls.model.met.items())))
-    others = re.compile("FATE_NONE|VERDICT_NONE|E_MEMORY|FRAME_M..|.*_COUNT")
+    others = re.compile("FATE_NONE|VERDICT_NONE|E_MEMORY|FRAME_M..|VERSION_NUMBER|.*_COUNT")
     unmet = [it for it in CONSTANTS if not calls.model.met[it] and not others.fullmatch(it)]
     missing = [it for it in Calls.WEIGHTS if it not in lines]
     if asked.calls >= asked.met_from and (unmet or missing):

@@ -71,8 +71,10 @@
 extern "C" {
 #endif
 
-/* The version of the library, as the pkg-config file has it. */
+/* The version of this header, as text, as the pkg-config file has it, and as a number: 1,000,000 times its first number,
+ * plus 1,000 times its second, plus its third. macsec_version() returns the number of the library that is linked. */
 #define MACSEC_VERSION "0.9.0"
+#define MACSEC_VERSION_NUMBER 9000
 
 /* The fewest and the most octets of a frame that is given to an endpoint. */
 #define MACSEC_FRAME_MIN 14
@@ -401,6 +403,100 @@ uint32_t macsec_get_removed_counters(macsec_endpoint *e, const uint8_t sci[8], m
 uint32_t macsec_get_rx_sc(macsec_endpoint *e, size_t place, uint8_t sci[8]);
 uint32_t macsec_get_tx_sa(macsec_endpoint *e, uint8_t an, macsec_tx_sa *out);
 uint32_t macsec_get_rx_sa(macsec_endpoint *e, const uint8_t sci[8], uint8_t an, macsec_rx_sa *out);
+
+/* ---- Names, as the program `macsec` prints them; "unknown" for a number without a meaning ---- */
+
+static inline const char *macsec_status_name(uint32_t status) {
+    switch (status) {
+        case MACSEC_OK: return "OK";
+        case MACSEC_E_KEY_LENGTH: return "KeyLength";
+        case MACSEC_E_OFFSET: return "Offset";
+        case MACSEC_E_KEY_NUMBER_USED: return "KeyNumberUsed";
+        case MACSEC_E_KEY_REPEATED: return "KeyRepeated";
+        case MACSEC_E_NO_KEY: return "NoKey";
+        case MACSEC_E_KEY_RETIRED: return "KeyRetired";
+        case MACSEC_E_KEY_IN_USE: return "KeyInUse";
+        case MACSEC_E_OWN_SCI: return "OwnSci";
+        case MACSEC_E_SC_TAKEN: return "ScTaken";
+        case MACSEC_E_SC_FULL: return "ScFull";
+        case MACSEC_E_NO_SC: return "NoSc";
+        case MACSEC_E_AN_TAKEN: return "AnTaken";
+        case MACSEC_E_NO_SA: return "NoSa";
+        case MACSEC_E_PN_RANGE: return "PnRange";
+        case MACSEC_E_PN_LOWER: return "PnLower";
+        case MACSEC_E_PN_FLOOR: return "PnFloor";
+        case MACSEC_E_SSCI_OWN: return "SsciOwn";
+        case MACSEC_E_WINDOW: return "Window";
+        case MACSEC_E_SCI_FORM: return "SciForm";
+        case MACSEC_E_EXHAUSTED: return "Exhausted";
+        case MACSEC_E_EMPTY: return "Empty";
+        case MACSEC_E_TAKEN: return "Taken";
+        case MACSEC_E_NO_SUCH_SUITE: return "NoSuchSuite";
+        case MACSEC_E_NO_SUCH_FORM: return "NoSuchForm";
+        case MACSEC_E_NO_SUCH_MODE: return "NoSuchMode";
+        case MACSEC_E_NO_SUCH_AN: return "NoSuchAn";
+        case MACSEC_E_NO_SUCH_KEY_NUMBER: return "NoSuchKeyNumber";
+        case MACSEC_E_NO_SUCH_KEY_OCTETS: return "NoSuchKeyOctets";
+        case MACSEC_E_NOT_FOUND: return "NotFound";
+        case MACSEC_E_MEMORY: return "Memory";
+        case MACSEC_E_NEW_MAX_FRAME: return "NewMaxFrame";
+        case MACSEC_E_NEW_SCI_FORM: return "NewSciForm";
+        case MACSEC_E_FRAME_SHORT: return "Short";
+        case MACSEC_E_FRAME_LONG: return "Long";
+        case MACSEC_E_LINE_WORD: return "Word";
+        case MACSEC_E_LINE_COUNT: return "Count";
+        case MACSEC_E_LINE_HEX: return "Hex";
+        case MACSEC_E_LINE_NUMBER: return "Number";
+        case MACSEC_E_LINE_ENDS: return "Ends";
+        case MACSEC_E_LINE_LONG: return "LineLong";
+        case MACSEC_E_CONFIG_LONG: return "ScriptLong";
+        default: return "unknown";
+    }
+}
+
+static inline const char *macsec_verdict_name(uint32_t verdict) {
+    switch (verdict) {
+        case MACSEC_VERDICT_NONE: return "None";
+        case MACSEC_VERDICT_UNTAGGED: return "Untagged";
+        case MACSEC_VERDICT_NO_TAG: return "NoTag";
+        case MACSEC_VERDICT_BAD_TAG: return "BadTag";
+        case MACSEC_VERDICT_RESERVED: return "Reserved";
+        case MACSEC_VERDICT_NO_SA_ERROR: return "NoSAError";
+        case MACSEC_VERDICT_NO_SA: return "NoSA";
+        case MACSEC_VERDICT_LATE: return "Late";
+        case MACSEC_VERDICT_NOT_VALID: return "NotValid";
+        case MACSEC_VERDICT_UNCHECKED: return "Unchecked";
+        case MACSEC_VERDICT_DELAYED: return "Delayed";
+        case MACSEC_VERDICT_INVALID: return "Invalid";
+        case MACSEC_VERDICT_OK: return "OK";
+        default: return "unknown";
+    }
+}
+
+static inline const char *macsec_fate_name(uint32_t fate) {
+    switch (fate) {
+        case MACSEC_FATE_NONE: return "None";
+        case MACSEC_FATE_PROTECTED: return "Protected";
+        case MACSEC_FATE_PLAIN: return "Plain";
+        case MACSEC_FATE_NO_SA: return "NoSA";
+        case MACSEC_FATE_TOO_LONG: return "TooLong";
+        default: return "unknown";
+    }
+}
+
+static inline const char *macsec_suite_name(uint32_t suite) {
+    switch (suite) {
+        case MACSEC_SUITE_DEFAULT: return "default";
+        case MACSEC_SUITE_GCM_AES_128: return "gcm128";
+        case MACSEC_SUITE_GCM_AES_256: return "gcm256";
+        case MACSEC_SUITE_GCM_AES_XPN_128: return "xpn128";
+        case MACSEC_SUITE_GCM_AES_XPN_256: return "xpn256";
+        default: return "unknown";
+    }
+}
+
+/* The number of the library's version, as MACSEC_VERSION_NUMBER is the header's. */
+uint32_t macsec_version(void);
 
 #ifdef __cplusplus
 }

@@ -17,7 +17,7 @@ static const uint64_t FIRST_PN = 0xb2c28465;
 
 static int failed(const char *what, uint32_t status) {
     if (status != MACSEC_OK)
-        fprintf(stderr, "%s: status %u\n", what, (unsigned)status);
+        fprintf(stderr, "%s: %s\n", what, macsec_status_name(status));
     return status != MACSEC_OK;
 }
 

@@ -44,7 +44,7 @@ static void fail(const char *what) {
 /* ---- CONFIG and REKEY ---- */
 
 static void refuse(const char *name, uint32_t line, uint32_t status) {
-    fprintf(stderr, "%s: line %u: status %u\n", name, (unsigned)line, (unsigned)status);
+    fprintf(stderr, "%s: line %u: %s\n", name, (unsigned)line, macsec_status_name(status));
     exit(2);
 }
 

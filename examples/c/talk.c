@@ -11,7 +11,7 @@ static const uint8_t scis[2][8] = { { 2, 0, 0, 0, 0, 1, 0, 1 }, { 2, 0, 0, 0, 0,
 /* The example ends if a call returns a status that it does not expect. */
 static void must(const char *what, uint32_t status) {
     if (status != MACSEC_OK) {
-        fprintf(stderr, "%s: status %u\n", what, (unsigned)status);
+        fprintf(stderr, "%s: %s\n", what, macsec_status_name(status));
         exit(1);
     }
 }
@@ -52,7 +52,7 @@ static size_t say(macsec_endpoint *e, const char *text, uint8_t *link) {
 static void hear(const char *who, macsec_endpoint *e, const uint8_t *link, size_t length) {
     macsec_received got;
     uint32_t status = macsec_receive(e, link, length, &got);
-    printf("%s: status %u, verdict %u", who, (unsigned)status, (unsigned)got.verdict);
+    printf("%s: status %s, verdict %s", who, macsec_status_name(status), macsec_verdict_name(got.verdict));
     if (got.has_sa)
         printf(", association %u", (unsigned)got.an);
     if (got.delivered)
@@ -105,8 +105,8 @@ int main(void) {
     count("b, without the association", &ends[1], scis[0]);
 
     /* Refused commands, and a handle without an endpoint. */
-    printf("b: enable_tx_sa of 4: %u, of 3: %u\n", (unsigned)macsec_enable_tx_sa(&ends[1], 4),
-           (unsigned)macsec_enable_tx_sa(&ends[1], 3));
+    printf("b: enable_tx_sa of 4: %s, of 3: %s\n", macsec_status_name(macsec_enable_tx_sa(&ends[1], 4)),
+           macsec_status_name(macsec_enable_tx_sa(&ends[1], 3)));
     macsec_free(&ends[0]);
     macsec_free(&ends[0]);
     hear("a, freed", &ends[0], link, length);

@@ -23,3 +23,4 @@ mod loose;
 mod receiving;
 mod sending;
 mod showing;
+mod version;

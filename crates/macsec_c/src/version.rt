@@ -1,0 +1,15 @@
+//! The version of the library.
+
+ghost use Rattle.std.specs.Prelude.{◌≡◌};
+ghost use Rattle.macsec_c.specs.Version.{version};
+
+/// Version 0.9.0 as a number.
+const VERSION: u32 = 9_000;
+
+/// The version as a number: 1,000,000 times its first number, plus 1,000 times its second, plus its third.
+#[unsafe(no_mangle)]
+pub extern "C" fn macsec_version() -> u32
+    ensures { result ≡ version }
+{
+    VERSION
+}
