@@ -70,6 +70,20 @@ static void *room_of(size_t size) {
     return room;
 }
 
+/* What every reserved member has before a call. */
+#define SEVENS { 7, 7, 7, 7, 7, 7, 7, 7, 7, 7 }
+static const uint64_t sevens[] = SEVENS;
+
+/* The reserved members of an answer are zeros if it is filled in; else they are as they were. */
+static void check_reserved(uint32_t status, const uint64_t *reserved, size_t count) {
+    for (size_t i = 0; i < count; i++) {
+        if (reserved[i] != (status == MACSEC_OK ? 0 : sevens[i]))
+            fail("a reserved member has another value");
+    }
+}
+
+#define RESERVED_OF(answer) (answer).reserved, sizeof(answer).reserved / sizeof(answer).reserved[0]
+
 /* Prints a number of 128 bits, given as two halves. */
 static void print_halves(uint64_t high, uint64_t low) {
     printf(" %llx%016llx", (unsigned long long)high, (unsigned long long)low);
@@ -83,6 +97,7 @@ static uint32_t send(macsec_endpoint *e, const char *word) {
     uint32_t status = macsec_send(e, frame, length, sent);
     if (sent->status != status)
         fail("macsec_send returns another status than it shows");
+    check_reserved(MACSEC_OK, RESERVED_OF(*sent));
     printf(" %u %u", (unsigned)sent->fate, (unsigned)sent->key);
     print_octets(sent->frame, sent->length);
     free(sent);
@@ -98,6 +113,7 @@ static uint32_t receive(macsec_endpoint *e, const char *word) {
     uint32_t status = macsec_receive(e, frame, length, received);
     if (received->status != status)
         fail("macsec_receive returns another status than it shows");
+    check_reserved(MACSEC_OK, RESERVED_OF(*received));
     printf(" %u %d", (unsigned)received->verdict, received->has_sa);
     print_octets(received->sci, sizeof received->sci);
     printf(" %u %d", (unsigned)received->an, received->delivered);
@@ -158,16 +174,18 @@ static uint32_t key(macsec_endpoint *e, char **w) {
 }
 
 static uint32_t options(macsec_endpoint *e) {
-    macsec_options shown = { 7, 7, 7, false, false };
+    macsec_options shown = { 7, 7, 7, false, false, { 7, 7, 7, 7, 7 } };
     uint32_t status = macsec_get_options(e, &shown);
+    check_reserved(status, RESERVED_OF(shown));
     print_number(shown.window);
     printf(" %u %u %d %d", (unsigned)shown.mode, (unsigned)shown.form, shown.protect, shown.replay);
     return status;
 }
 
 static uint32_t counters(macsec_endpoint *e) {
-    macsec_counters c = { 7, 7, 7, 7, 7, 7, 7, 7, 7, 7, 7 };
+    macsec_counters c = { 7, 7, 7, 7, 7, 7, 7, 7, 7, 7, 7, { 7, 7, 7, 7, 7 } };
     uint32_t status = macsec_get_counters(e, &c);
+    check_reserved(status, RESERVED_OF(c));
     const uint64_t all[] = { c.in_pkts_untagged,    c.in_pkts_no_tag,      c.in_pkts_bad_tag,     c.in_pkts_reserved,
                              c.in_pkts_no_sa,       c.in_pkts_no_sa_error, c.in_octets_validated, c.in_octets_decrypted,
                              c.out_pkts_untagged,   c.out_pkts_too_long,   c.out_pkts_no_sa };
@@ -177,8 +195,9 @@ static uint32_t counters(macsec_endpoint *e) {
 }
 
 static uint32_t tx_counters(macsec_endpoint *e) {
-    macsec_tx_counters c = { 7, 7, 7, 7 };
+    macsec_tx_counters c = { 7, 7, 7, 7, { 7, 7, 7, 7 } };
     uint32_t status = macsec_get_tx_counters(e, &c);
+    check_reserved(status, RESERVED_OF(c));
     print_number(c.out_pkts_protected);
     print_number(c.out_pkts_encrypted);
     print_number(c.out_octets_protected);
@@ -188,7 +207,7 @@ static uint32_t tx_counters(macsec_endpoint *e) {
 
 /* The counters of a channel, of its SA with this AN, or of its deleted SAs. */
 static uint32_t rx_counters(macsec_endpoint *e, const char *name, char **w) {
-    macsec_rx_counters c = { 7, 7, 7, 7, 7, 7 };
+    macsec_rx_counters c = { 7, 7, 7, 7, 7, 7, SEVENS };
     uint8_t sci[8];
     uint32_t status;
     octets(w[0], sci, sizeof sci);
@@ -198,6 +217,7 @@ static uint32_t rx_counters(macsec_endpoint *e, const char *name, char **w) {
         status = macsec_get_removed_counters(e, sci, &c);
     else
         status = macsec_get_rx_sa_counters(e, sci, (uint8_t)number(w[1]), &c);
+    check_reserved(status, RESERVED_OF(c));
     print_number(c.in_pkts_ok);
     print_number(c.in_pkts_unchecked);
     print_number(c.in_pkts_delayed);
@@ -215,18 +235,20 @@ static uint32_t rx_channel(macsec_endpoint *e, size_t place) {
 }
 
 static uint32_t tx_row(macsec_endpoint *e, uint8_t an) {
-    macsec_tx_sa row = { 7, 7, 7, false, false };
+    macsec_tx_sa row = { 7, 7, 7, false, false, { 7, 7, 7, 7, 7 } };
     uint32_t status = macsec_get_tx_sa(e, an, &row);
+    check_reserved(status, RESERVED_OF(row));
     print_halves(row.next_high, row.next);
     printf(" %u %d %d", (unsigned)row.key, row.conf, row.on);
     return status;
 }
 
 static uint32_t rx_row(macsec_endpoint *e, char **w) {
-    macsec_rx_sa row = { 7, 7, 7, 7, 7, 7, false };
+    macsec_rx_sa row = { 7, 7, 7, 7, 7, 7, false, { 7, 7, 7 } };
     uint8_t sci[8];
     octets(w[0], sci, sizeof sci);
     uint32_t status = macsec_get_rx_sa(e, sci, (uint8_t)number(w[1]), &row);
+    check_reserved(status, RESERVED_OF(row));
     print_halves(row.next_high, row.next);
     print_halves(row.lowest_high, row.lowest);
     printf(" %u %u %d", (unsigned)row.ssci, (unsigned)row.key, row.on);

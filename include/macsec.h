@@ -49,6 +49,9 @@
  *            it to a call with that handle.
  * POINTERS   No pointer may be null, not even that of a frame or a text of length 0. The handle, the frame and the
  *            output structs must not overlap.
+ * GROWTH     In every version 1 each struct has the same size, and each member the same place. What a later library
+ *            shows more goes into the `reserved` members of the structs that calls fill in; these are 0 where a library
+ *            has nothing to show. So a program that was built over one library of version 1 runs over every later one.
  * THREADS    Use a handle in one call at a time. Synchronize when you pass it from one thread to another, with a lock
  *            or the thread's start or join. Different handles are independent. Make no call from a signal handler,
  *            and no call that allocates or frees memory in the forked child of a process with threads.
@@ -215,6 +218,7 @@ typedef struct macsec_sent {
     uint32_t status;
     uint32_t fate; /* MACSEC_FATE_.. */
     uint16_t key;  /* the number of the key, of a frame that is sent protected; else 0 */
+    uint64_t reserved[4];
 } macsec_sent;
 
 /* What becomes of a link frame. Of the uncontrolled port nothing is shown: there the frame is delivered as it came. */
@@ -227,11 +231,12 @@ typedef struct macsec_received {
     uint8_t an;       /* and its number; else both are 0 */
     bool has_sa;
     bool delivered;
+    uint64_t reserved[3];
 } macsec_received;
 
 /* Answers that name no frame. */
-#define MACSEC_SENT_INIT { (const uint8_t *)"", 0, 0, 0, 0 }
-#define MACSEC_RECEIVED_INIT { (const uint8_t *)"", 0, 0, 0, { 0 }, 0, false, false }
+#define MACSEC_SENT_INIT { (const uint8_t *)"", 0, 0, 0, 0, { 0 } }
+#define MACSEC_RECEIVED_INIT { (const uint8_t *)"", 0, 0, 0, { 0 }, 0, false, false, { 0 } }
 
 typedef struct macsec_options {
     uint64_t window; /* the replay window, in packet numbers */
@@ -239,6 +244,7 @@ typedef struct macsec_options {
     uint32_t form;   /* MACSEC_FORM_.. */
     bool protect;    /* are client frames protected? */
     bool replay;     /* are late frames dropped? */
+    uint64_t reserved[5];
 } macsec_options;
 
 /* The endpoint's counters. All counters count modulo 2^64. */
@@ -254,6 +260,7 @@ typedef struct macsec_counters {
     uint64_t out_pkts_untagged;
     uint64_t out_pkts_too_long;
     uint64_t out_pkts_no_sa;
+    uint64_t reserved[5];
 } macsec_counters;
 
 /* The transmit channel's counters. */
@@ -262,6 +269,7 @@ typedef struct macsec_tx_counters {
     uint64_t out_pkts_encrypted;
     uint64_t out_octets_protected;
     uint64_t out_octets_encrypted;
+    uint64_t reserved[4];
 } macsec_tx_counters;
 
 /* The counters of a receive channel, of one of its SAs, or of its deleted SAs together. */
@@ -272,6 +280,7 @@ typedef struct macsec_rx_counters {
     uint64_t in_pkts_late;
     uint64_t in_pkts_invalid;
     uint64_t in_pkts_not_valid;
+    uint64_t reserved[10];
 } macsec_rx_counters;
 
 /* A transmit association. Its next packet number is `next`, and 2^64 more if `next_high` is 1: it is one past the
@@ -282,6 +291,7 @@ typedef struct macsec_tx_sa {
     uint16_t key;
     bool conf; /* does it encrypt? */
     bool on;   /* is it enabled? */
+    uint64_t reserved[5];
 } macsec_tx_sa;
 
 /* A receive association, with its packet numbers in the same form. */
@@ -293,6 +303,7 @@ typedef struct macsec_rx_sa {
     uint32_t ssci; /* the sender's */
     uint16_t key;
     bool on;
+    uint64_t reserved[3];
 } macsec_rx_sa;
 
 /* ---- Creation and end ---- */

@@ -1,5 +1,5 @@
 -- The result of sending a client frame, as C sees it.
-use Rattle.std.specs.Prelude.{ℕ, List, [], Option, Some, None}
+use Rattle.std.specs.Prelude.{ℕ, List, [], replicate, Option, Some, None}
 use Rattle.macsec_secy.specs.State.{State}
 use Rattle.macsec_secy.specs.Step.{Output, done, refused, leaves, dropped_no_sa, dropped_too_long, received, fault, client_frame, step}
 use Rattle.macsec_c.specs.declared.sending.Sent.{Sent}
@@ -10,17 +10,18 @@ pub record SentParts : Type 0 where
   pub fate : ℕ
   pub key : ℕ
   pub frame : List ℕ
+  pub reserved : List ℕ
 
 abbrev pub parts_of_sent : Sent → SentParts
-parts_of_sent s = record { status = s.status; fate = s.fate; key = s.key; frame = s.frame.now }
+parts_of_sent s = record { status = s.status; fate = s.fate; key = s.key; frame = s.frame.now; reserved = s.reserved }
 
 -- nothing is sent, with this status and for this reason
 abbrev pub unsent : ℕ → ℕ → SentParts
-unsent status fate = record { status = status; fate = fate; key = 0; frame = [] }
+unsent status fate = record { status = status; fate = fate; key = 0; frame = []; reserved = replicate 4 0 }
 
 -- this frame is sent
 abbrev pub sent_as : List ℕ → ℕ → ℕ → SentParts
-sent_as frame fate key = record { status = done_status; fate = fate; key = key; frame = frame }
+sent_as frame fate key = record { status = done_status; fate = fate; key = key; frame = frame; reserved = replicate 4 0 }
 
 -- protected under a key, or unchanged
 abbrev pub leaving_parts : List ℕ → Option ℕ → SentParts

@@ -1,5 +1,5 @@
 -- What the readers show, as C sees it.
-use Rattle.std.specs.Prelude.{ℕ, ◌/◌, ◌%◌, ◌^◌, Option, Some, None, Ok, Err}
+use Rattle.std.specs.Prelude.{ℕ, replicate, ◌/◌, ◌%◌, ◌^◌, Option, Some, None, Ok, Err}
 use Rattle.macsec_commands.specs.declared.form.TagForm.{TagForm}
 use Rattle.macsec_commands.specs.declared.form.TagForm.TheVariants as form
 use Rattle.macsec_tx.specs.declared.TxRow.{TxRow}
@@ -61,8 +61,9 @@ low_half n = n % 2 ^ 64
 abbrev pub high_half : ℕ → ℕ
 high_half n = n / 2 ^ 64
 
+-- of each struct the reserved members are 0
 abbrev pub options_shown : Options → OptionsShown
-options_shown o = record { window = o.window; mode = number_of_mode o.mode; form = number_of_form o.form; protect = o.protect; replay = o.replay }
+options_shown o = record { window = o.window; mode = number_of_mode o.mode; form = number_of_form o.form; protect = o.protect; replay = o.replay; reserved = replicate 5 0 }
 
 abbrev pub counters_shown : Counters → CountersShown
 counters_shown c = record {
@@ -77,6 +78,7 @@ counters_shown c = record {
   out_pkts_untagged = c.out_pkts_untagged;
   out_pkts_too_long = c.out_pkts_too_long;
   out_pkts_no_sa = c.out_pkts_no_sa;
+  reserved = replicate 5 0;
 }
 
 abbrev pub tx_counters_shown : TxCounters → TxCountersShown
@@ -85,6 +87,7 @@ tx_counters_shown c = record {
   out_pkts_encrypted = c.out_pkts_encrypted;
   out_octets_protected = c.out_octets_protected;
   out_octets_encrypted = c.out_octets_encrypted;
+  reserved = replicate 4 0;
 }
 
 abbrev pub rx_counters_shown : RxCounters → RxCountersShown
@@ -95,10 +98,11 @@ rx_counters_shown c = record {
   in_pkts_late = c.in_pkts_late;
   in_pkts_invalid = c.in_pkts_invalid;
   in_pkts_not_valid = c.in_pkts_not_valid;
+  reserved = replicate 10 0;
 }
 
 abbrev pub tx_row_shown : TxRow → TxRowShown
-tx_row_shown row = record { next = low_half row.next; next_high = high_half row.next; key = row.key; conf = row.conf; on = row.on }
+tx_row_shown row = record { next = low_half row.next; next_high = high_half row.next; key = row.key; conf = row.conf; on = row.on; reserved = replicate 5 0 }
 
 abbrev pub rx_row_shown : RxRow → RxRowShown
 rx_row_shown row = record {
@@ -109,4 +113,5 @@ rx_row_shown row = record {
   ssci = row.ssci;
   key = row.key;
   on = row.on;
+  reserved = replicate 3 0;
 }

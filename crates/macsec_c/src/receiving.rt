@@ -26,6 +26,8 @@ pub struct Received<'a> {
     pub has_sa: bool,
     /// Whether a frame is delivered.
     pub delivered: bool,
+    /// Zeros.
+    pub reserved: [u64; 3],
 }
 
 /// The SA of a frame as C sees it: whether there is one, the SCI of its SC, and its AN.
@@ -64,6 +66,7 @@ fn unreceived<'a>(frame: &'a [u8], status: u32) -> Received<'a>
         an: 0,
         has_sa: false,
         delivered: false,
+        reserved: [0; 3],
     }
 }
 
@@ -87,6 +90,7 @@ fn reception<'a>(e: &'a mut Endpoint, frame: &'a [u8]) -> Received<'a>
                 an,
                 has_sa,
                 delivered,
+                reserved: [0; 3],
             }
         }
         Err(fault) => unreceived(frame, status_of_frame_fault(fault)),

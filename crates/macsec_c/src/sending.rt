@@ -27,6 +27,8 @@ pub struct Sent<'a> {
     pub fate: u32,
     /// The number of the key that protects it, or 0.
     pub key: u16,
+    /// Zeros.
+    pub reserved: [u64; 4],
 }
 
 /// The result for a frame that is sent.
@@ -38,6 +40,7 @@ fn sent_as<'a>(frame: &'a [u8], fate: u32, key: u16) -> Sent<'a>
         status: DONE,
         fate,
         key,
+        reserved: [0; 4],
     }
 }
 
@@ -50,6 +53,7 @@ fn unsent<'a>(frame: &'a [u8], status: u32, fate: u32) -> Sent<'a>
         status,
         fate,
         key: 0,
+        reserved: [0; 4],
     }
 }
 

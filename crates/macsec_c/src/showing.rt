@@ -13,6 +13,8 @@ use crate::endpoint::Endpoint;
 use macsec_c_numbers::{DONE, EMPTY, NONE, an_of};
 use macsec_secy::{Counters, Mode, Options, RxCounters, RxRow, Sci, TagForm, TxCounters, TxRow};
 
+// The reserved members are 0: a later library may show more there, to callers that know it.
+
 /// The options.
 #[repr(C)]
 #[derive(Drop)]
@@ -22,6 +24,7 @@ pub struct OptionsShown {
     pub form: u32,
     pub protect: bool,
     pub replay: bool,
+    pub reserved: [u64; 5],
 }
 
 /// The endpoint's counters, modulo 2^64.
@@ -39,6 +42,7 @@ pub struct CountersShown {
     pub out_pkts_untagged: u64,
     pub out_pkts_too_long: u64,
     pub out_pkts_no_sa: u64,
+    pub reserved: [u64; 5],
 }
 
 /// The counters of the transmit SC, modulo 2^64.
@@ -49,6 +53,7 @@ pub struct TxCountersShown {
     pub out_pkts_encrypted: u64,
     pub out_octets_protected: u64,
     pub out_octets_encrypted: u64,
+    pub reserved: [u64; 4],
 }
 
 /// The counters of a receive SC or SA, modulo 2^64.
@@ -61,6 +66,7 @@ pub struct RxCountersShown {
     pub in_pkts_late: u64,
     pub in_pkts_invalid: u64,
     pub in_pkts_not_valid: u64,
+    pub reserved: [u64; 10],
 }
 
 /// A transmit SA. Its next packet number is `next`, plus 2^64 if `next_high` is 1.
@@ -72,6 +78,7 @@ pub struct TxRowShown {
     pub key: u16,
     pub conf: bool,
     pub on: bool,
+    pub reserved: [u64; 5],
 }
 
 /// A receive SA. Its next packet number is `next`, plus 2^64 if `next_high` is 1. The same holds of `lowest`.
@@ -85,6 +92,7 @@ pub struct RxRowShown {
     pub ssci: u32,
     pub key: u16,
     pub on: bool,
+    pub reserved: [u64; 3],
 }
 
 fn number_of_mode(mode: Mode) -> u32
@@ -131,6 +139,7 @@ fn options_shown(options: Options) -> OptionsShown
         form: number_of_form(options.form),
         protect: options.protect,
         replay: options.replay,
+        reserved: [0; 5],
     }
 }
 
@@ -149,6 +158,7 @@ fn counters_shown(counters: Counters) -> CountersShown
         out_pkts_untagged: counters.out_pkts_untagged,
         out_pkts_too_long: counters.out_pkts_too_long,
         out_pkts_no_sa: counters.out_pkts_no_sa,
+        reserved: [0; 5],
     }
 }
 
@@ -160,6 +170,7 @@ fn tx_counters_shown(counters: TxCounters) -> TxCountersShown
         out_pkts_encrypted: counters.out_pkts_encrypted,
         out_octets_protected: counters.out_octets_protected,
         out_octets_encrypted: counters.out_octets_encrypted,
+        reserved: [0; 4],
     }
 }
 
@@ -173,6 +184,7 @@ fn rx_counters_shown(counters: RxCounters) -> RxCountersShown
         in_pkts_late: counters.in_pkts_late,
         in_pkts_invalid: counters.in_pkts_invalid,
         in_pkts_not_valid: counters.in_pkts_not_valid,
+        reserved: [0; 10],
     }
 }
 
@@ -185,6 +197,7 @@ fn tx_row_shown(row: TxRow) -> TxRowShown
         key: row.key.number(),
         conf: row.conf,
         on: row.on,
+        reserved: [0; 5],
     }
 }
 
@@ -199,6 +212,7 @@ fn rx_row_shown(row: RxRow) -> RxRowShown
         ssci: row.ssci,
         key: row.key.number(),
         on: row.on,
+        reserved: [0; 3],
     }
 }
 
