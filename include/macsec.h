@@ -7,7 +7,8 @@
  * reads no clock, and keeps no state outside its endpoints.
  *
  * An endpoint's packet numbers are lost when it is freed. Give the next endpoint new keys, or start it above every
- * packet number that was used under its key. Otherwise IVs repeat, which breaks GCM.
+ * packet number that was used under its key. After a fork, or when a snapshot of a machine is restored or copied, only
+ * one of the copies may send. Otherwise IVs repeat, which breaks GCM.
  *
  *     macsec_endpoint a = MACSEC_ENDPOINT_INIT;
  *     macsec_config config = { { 0x12, 0x15, 0x35, 0x24, 0xc0, 0x89, 0x5e, 0x81 },
@@ -28,17 +29,21 @@
  *            nothing.
  * NUMBERS    Integers are in host byte order. SCIs, keys and salts are octets in the order in which the standard
  *            writes them: an SCI is the six octets of a MAC address and two of a port number.
- * STATUS     Each call except macsec_free returns a status: MACSEC_OK, or why nothing was done (MACSEC_E_..). In the
- *            second case nothing has changed, and the caller's output structs are unchanged, except that a macsec_sent,
- *            a macsec_received and the line of macsec_configure are always filled in. The handle is tested first
- *            (MACSEC_E_EMPTY, MACSEC_E_TAKEN), then the arguments (MACSEC_E_NO_SUCH_..), then the rest. If several
- *            statuses of arguments apply, or several refusals of a command, the call returns the lowest.
+ * STATUS     Each call with a handle, except macsec_free, returns a status: MACSEC_OK, or why nothing was done
+ *            (MACSEC_E_..). In the second case nothing has changed, and the caller's output structs are unchanged,
+ *            except that a macsec_sent, a macsec_received and the line of macsec_configure are always filled in. The
+ *            handle is tested first (MACSEC_E_EMPTY, MACSEC_E_TAKEN), then the arguments (MACSEC_E_NO_SUCH_..), then
+ *            the rest. If several statuses of arguments apply, or several refusals of a command, the call returns the
+ *            lowest.
  * MEMORY     macsec_new allocates four blocks by malloc, 17.6 MB in all: two for 4,096 keys, one for a frame, one for
  *            the rest. macsec_free frees them. macsec_configure allocates the same. macsec_configure and
  *            macsec_command_line also allocate while they read their text, and free that before they return. No other
- *            call allocates, so no other call runs out of memory. The memory is not wiped: keys may stay in it. Give
- *            each call 64 KB of stack: macsec_new took 59 KB on x86-64 and macsec_configure 56, the others a fraction
- *            of that (measured, not proved).
+ *            call allocates, so no other call runs out of memory. malloc and realloc must align a block to each power
+ *            of two up to 16 that divides its size, as all C libraries do. The memory is not wiped: keys may stay in
+ *            it, and on the stack. Give each call 96 KB of stack: macsec_new took 59 KB on x86-64 and macsec_configure
+ *            56, the others a fraction of that (measured, not proved).
+ * PROCESSOR  An x86-64 processor with SSSE3 (every x86-64-v2 has it). The library does not test for it: on another one
+ *            the process ends with SIGILL.
  * HANDLES    A handle is the caller's memory, initialized with MACSEC_ENDPOINT_INIT (all zero). Do not copy, move or
  *            write it while it holds an endpoint. A handle that was never used, or that was freed, holds none: then
  *            macsec_free does nothing, and every other call except macsec_new and macsec_configure returns
@@ -47,21 +52,28 @@
  *            is in the endpoint's buffer, or is (a part of) the caller's own frame. Read it before the next call with
  *            that handle, and while the caller's frame is unchanged. Do not write to it, and copy it before you give
  *            it to a call with that handle.
- * POINTERS   No pointer may be null, not even that of a frame or a text of length 0. The handle, the frame and the
- *            output structs must not overlap.
+ * POINTERS   A null handle may be given to macsec_free, which then does nothing, and a null frame or text of length 0
+ *            to every call that takes one. No other pointer may be null. The handle, the frame and the output structs
+ *            must not overlap. Nothing may write to the frame during the call: copy a frame first that is in memory
+ *            which another process, a guest or a device can write.
  * GROWTH     In every version 1 each struct has the same size, and each member the same place. What a later library
  *            shows more goes into the `reserved` members of the structs that calls fill in; these are 0 where a library
  *            has nothing to show. So a program that was built over one library of version 1 runs over every later one.
  * THREADS    Use a handle in one call at a time. Synchronize when you pass it from one thread to another, with a lock
  *            or the thread's start or join. Different handles are independent. Make no call from a signal handler,
  *            and no call that allocates or frees memory in the forked child of a process with threads.
+ * RAW CALLS  A call whose name ends in _raw is the library's part of the inline function without _raw, for languages
+ *            that can't call inline functions. No pointer of it may be null, and what `out` of macsec_send_raw and
+ *            macsec_receive_raw leads to must be an answer that names no frame, as MACSEC_SENT_INIT and
+ *            MACSEC_RECEIVED_INIT are.
  *
  * Proved with Rattle: each call creates an endpoint, takes it out of its handle, is one step of the written machine
  * (crates/macsec_secy/specs/Step.antt), or reads its state, for the arguments that C gave; or it takes the steps that
  * the lines of a text say. Each call reads and writes only what it was given, and returns. Measured or tested, not
  * proved: sizes and stack, that macsec_free frees each block, that only the three calls named above allocate, and that
- * a call which returns nothing leaves the output structs unchanged. Not proved: this header, which a script compares
- * with the library's source; C's side of what it says; malloc; the compilers. No call takes constant time.
+ * a call which returns nothing leaves the output structs unchanged. Not proved: this header and its inline functions,
+ * which a script compares with the library's source; C's side of what it says; malloc; the compilers. No call takes
+ * constant time.
  */
 #ifndef MACSEC_H
 #define MACSEC_H
@@ -74,8 +86,8 @@
 extern "C" {
 #endif
 
-/* The version of this header, as text, as the pkg-config file has it, and as a number: 1,000,000 times its first number,
- * plus 1,000 times its second, plus its third. macsec_version() returns the number of the library that is linked. */
+/* The version of this header as text, as the pkg-config file has it, and as a number: 1,000,000 times its first
+ * number, plus 1,000 times its second, plus its third. macsec_version() returns the number of the library that is linked. */
 #define MACSEC_VERSION "0.9.0"
 #define MACSEC_VERSION_NUMBER 9000
 
@@ -314,6 +326,12 @@ typedef struct macsec_rx_sa {
  * first of them that applies, in this order. */
 uint32_t macsec_new(macsec_endpoint *e, const macsec_config *config);
 
+/* A pointer that is not null, for as many octets. */
+static inline const uint8_t *macsec_octets(const uint8_t *octets, size_t length) {
+    return length == 0 ? (const uint8_t *)"" : octets;
+}
+
+uint32_t macsec_configure_raw(macsec_endpoint *e, const uint8_t *text, size_t length, uint32_t *line);
 /* Creates the endpoint of a configuration's text in a handle that holds none, and carries out the text's commands. The
  * lines are those of docs/SCRIPT.md for one end: `end A SUITE SCI MAX FORM`, and then commands at A, each as its line
  * says and the lines in their order; blank lines and those whose first word begins with # are skipped. All of it is
@@ -321,36 +339,43 @@ uint32_t macsec_new(macsec_endpoint *e, const macsec_config *config);
  * of a text without a fault, the refusal of the first command that is refused. Or MACSEC_E_MEMORY. `line` is always
  * written: the number of the line that is at fault or refused, from 1; else, and if every line is skipped, 0. Each
  * endpoint begins at the packet number of its `txsa`: the same text given twice protects two frames with one IV. */
-uint32_t macsec_configure(macsec_endpoint *e, const uint8_t *text, size_t length, uint32_t *line);
+static inline uint32_t macsec_configure(macsec_endpoint *e, const uint8_t *text, size_t length, uint32_t *line) {
+    return macsec_configure_raw(e, macsec_octets(text, length), length, line);
+}
 
-/* Frees the endpoint of a handle, which holds none then. A handle that holds none stays as it is. */
-void macsec_free(macsec_endpoint *e);
+/* Frees the endpoint of a handle, which holds none then. A handle that holds none stays as it is, and a null pointer is
+ * no error. */
+void macsec_free_raw(macsec_endpoint *e);
+static inline void macsec_free(macsec_endpoint *e) {
+    if (e != NULL)
+        macsec_free_raw(e);
+}
 
 /* ---- Frames ---- */
 
-/* The library's part of macsec_send and macsec_receive: what `out` leads to must be an answer that names no frame,
- * as MACSEC_SENT_INIT and MACSEC_RECEIVED_INIT are. For languages that can't call inline functions. */
 uint32_t macsec_send_raw(macsec_endpoint *e, const uint8_t *frame, size_t length, macsec_sent *out);
-uint32_t macsec_receive_raw(macsec_endpoint *e, const uint8_t *frame, size_t length, macsec_received *out);
-
 /* What becomes of a client frame of the controlled port (10.5). `out` need not be initialized. Returns out->status:
  * MACSEC_E_FRAME_SHORT, MACSEC_E_FRAME_LONG. */
 static inline uint32_t macsec_send(macsec_endpoint *e, const uint8_t *frame, size_t length, macsec_sent *out) {
     const macsec_sent none = MACSEC_SENT_INIT;
     *out = none;
-    return macsec_send_raw(e, frame, length, out);
+    return macsec_send_raw(e, macsec_octets(frame, length), length, out);
 }
 
+uint32_t macsec_send_uncontrolled_raw(macsec_endpoint *e, const uint8_t *frame, size_t length);
 /* A client frame of the uncontrolled port: if the status is MACSEC_OK, it is to be transmitted as it is. Nothing
  * counts it. MACSEC_E_FRAME_SHORT, MACSEC_E_FRAME_LONG. */
-uint32_t macsec_send_uncontrolled(macsec_endpoint *e, const uint8_t *frame, size_t length);
+static inline uint32_t macsec_send_uncontrolled(macsec_endpoint *e, const uint8_t *frame, size_t length) {
+    return macsec_send_uncontrolled_raw(e, macsec_octets(frame, length), length);
+}
 
+uint32_t macsec_receive_raw(macsec_endpoint *e, const uint8_t *frame, size_t length, macsec_received *out);
 /* What becomes of a frame from the link, from any source, forged ones too (10.6). `out` need not be initialized.
  * Returns out->status: MACSEC_E_FRAME_SHORT, MACSEC_E_FRAME_LONG. */
 static inline uint32_t macsec_receive(macsec_endpoint *e, const uint8_t *frame, size_t length, macsec_received *out) {
     const macsec_received none = MACSEC_RECEIVED_INIT;
     *out = none;
-    return macsec_receive_raw(e, frame, length, out);
+    return macsec_receive_raw(e, macsec_octets(frame, length), length, out);
 }
 
 /* ---- Commands (10.7): each is carried out, or refused and then nothing has changed ---- */
@@ -365,8 +390,9 @@ uint32_t macsec_set_replay(macsec_endpoint *e, bool protect, uint64_t window);
 /* Set the tag form. */
 uint32_t macsec_set_tag_form(macsec_endpoint *e, uint32_t form);
 
-/* Install a key. Its number and its octets can never be used again by this endpoint. Another endpoint, or the next run
- * of the program, knows nothing of it: see macsec_add_tx_sa. */
+/* Install a key. Its number and its octets can never be used again by this endpoint, also when the key is retired: it
+ * takes 4,096 keys in its life, and then another endpoint has to take over (docs/C.md). Another endpoint, or the next
+ * run of the program, knows nothing of the key: see macsec_add_tx_sa. */
 uint32_t macsec_install_key(macsec_endpoint *e, const macsec_sak *key);
 /* Retire a key that no association uses: no new association may use it. */
 uint32_t macsec_retire_key(macsec_endpoint *e, uint16_t key);
@@ -393,11 +419,14 @@ uint32_t macsec_disable_rx_sa(macsec_endpoint *e, const uint8_t sci[8], uint8_t 
 uint32_t macsec_set_lowest_pn(macsec_endpoint *e, const uint8_t sci[8], uint8_t an, uint64_t pn);
 uint32_t macsec_delete_rx_sa(macsec_endpoint *e, const uint8_t sci[8], uint8_t an);
 
+uint32_t macsec_command_line_raw(macsec_endpoint *e, const uint8_t *text, size_t length);
 /* Any of these, as a line says it: `A txon 0` is macsec_enable_tx_sa(e, 0). The line is text without its line feed; a
  * blank one and one whose first word begins with # do nothing. The first that applies: MACSEC_E_LINE_LONG,
  * MACSEC_E_LINE_WORD, MACSEC_E_LINE_COUNT, what is wrong with a word, from left to right, MACSEC_E_LINE_ENDS for a line
  * that is no command at A, or the refusal of the command. Or MACSEC_E_MEMORY. */
-uint32_t macsec_command_line(macsec_endpoint *e, const uint8_t *text, size_t length);
+static inline uint32_t macsec_command_line(macsec_endpoint *e, const uint8_t *text, size_t length) {
+    return macsec_command_line_raw(e, macsec_octets(text, length), length);
+}
 
 /* ---- What an endpoint shows; nothing changes. MACSEC_E_NOT_FOUND if there is no such channel or association ---- */
 

@@ -76,6 +76,21 @@ static unsigned empty_answers(macsec_endpoint *e) {
     return sent.length == 0 && received.length == 0 && !received.delivered ? count : 0;
 }
 
+/* Null pointers, where they are allowed. */
+static void null_pointers(macsec_endpoint *made) {
+    macsec_endpoint none = MACSEC_ENDPOINT_INIT;
+    macsec_sent sent;
+    macsec_received received;
+    uint32_t line;
+    macsec_free(NULL);
+    printf("null: %s", macsec_status_name(macsec_send(made, NULL, 0, &sent)));
+    printf(" %s", macsec_status_name(macsec_receive(made, NULL, 0, &received)));
+    printf(" %s", macsec_status_name(macsec_send_uncontrolled(made, NULL, 0)));
+    printf(" %s", macsec_status_name(macsec_command_line(made, NULL, 0)));
+    printf(" %s", macsec_status_name(macsec_configure(&none, NULL, 0, &line)));
+    printf(", line %u, octets %u %u\n", (unsigned)line, (unsigned)sent.length, (unsigned)received.length);
+}
+
 int main(void) {
     const uint32_t suite = MACSEC_SUITE_GCM_AES_128, form = MACSEC_FORM_SCI;
     macsec_endpoint e = MACSEC_ENDPOINT_INIT;
@@ -101,6 +116,7 @@ int main(void) {
             return 1;
     }
     printf("again: %u\n", (unsigned)created(&e, 99, 99, 0));
+    null_pointers(&e);
     asked = 0;
     printf("set_protect: %u\n", (unsigned)macsec_set_protect(&e, false));
     macsec_free(&e);

@@ -143,9 +143,10 @@ fn configured(alloc: Global, text: &[u8]) -> Result<Box<Secy, Global>, ConfigFau
 }
 
 /// Creates the endpoint of a configuration in a handle without one, and carries out the configuration's commands. If
-/// the text has a fault or a command is refused, the handle still holds no endpoint.
+/// the text has a fault or a command is refused, the handle still holds no endpoint. `macsec_configure` of the header
+/// calls this with a text that is not null.
 #[unsafe(no_mangle)]
-pub extern "C" fn macsec_configure(
+pub extern "C" fn macsec_configure_raw(
     alloc: Global,
     e: &mut Endpoint,
     text: &[u8],
@@ -182,9 +183,10 @@ fn line_command(alloc: Global, text: &[u8]) -> Result<Option<Command>, LineFault
     }
 }
 
-/// Carries out the command of a line at end A, or refuses it and changes nothing.
+/// Carries out the command of a line at end A, or refuses it and changes nothing. `macsec_command_line` of the header
+/// calls this with a text that is not null.
 #[unsafe(no_mangle)]
-pub extern "C" fn macsec_command_line(alloc: Global, e: &mut Endpoint, text: &[u8]) -> u32
+pub extern "C" fn macsec_command_line_raw(alloc: Global, e: &mut Endpoint, text: &[u8]) -> u32
     ensures { CommandsLine e.old.state text.now result e.new.state }
 {
     if !e.is_made() {

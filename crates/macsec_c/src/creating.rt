@@ -70,9 +70,10 @@ pub extern "C" fn macsec_new(alloc: Global, e: &mut Endpoint, config: &Config) -
     }
 }
 
-/// Frees the endpoint of a handle, if it holds one. Afterwards the handle holds none.
+/// Frees the endpoint of a handle, if it holds one. Afterwards the handle holds none. `macsec_free` of the header calls
+/// this, unless its handle is null.
 #[unsafe(no_mangle)]
-pub extern "C" fn macsec_free(alloc: Global, e: &mut Endpoint)
+pub extern "C" fn macsec_free_raw(alloc: Global, e: &mut Endpoint)
     ensures { e.new.state ≡ None }
 {
     if e.is_made() {

@@ -97,7 +97,8 @@ fn reception<'a>(e: &'a mut Endpoint, frame: &'a [u8]) -> Received<'a>
     }
 }
 
-/// Receives a link frame. `macsec_receive` of the header calls this with a result that names no frame.
+/// Receives a link frame. `macsec_receive` of the header calls this with a result that names no frame, and a frame that
+/// is not null.
 #[unsafe(no_mangle)]
 pub extern "C" fn macsec_receive_raw<'a>(
     e: &'a mut Endpoint,

@@ -80,7 +80,7 @@ fn fate_of<'a>(e: &'a mut Endpoint, frame: &'a [u8]) -> Sent<'a>
 }
 
 /// Transmits a client frame of the controlled port. `macsec_send` of the header calls this with a result that names no
-/// frame.
+/// frame, and a frame that is not null.
 #[unsafe(no_mangle)]
 pub extern "C" fn macsec_send_raw<'a>(
     e: &'a mut Endpoint,
@@ -95,9 +95,10 @@ pub extern "C" fn macsec_send_raw<'a>(
     out.status
 }
 
-/// Transmits a client frame of the uncontrolled port unchanged.
+/// Transmits a client frame of the uncontrolled port unchanged. `macsec_send_uncontrolled` of the header calls this with
+/// a frame that is not null.
 #[unsafe(no_mangle)]
-pub extern "C" fn macsec_send_uncontrolled(e: &mut Endpoint, frame: &[u8]) -> u32
+pub extern "C" fn macsec_send_uncontrolled_raw(e: &mut Endpoint, frame: &[u8]) -> u32
     ensures status { result ≡ status_held e.old.state (uncontrolled_frame frame.now) }
     ensures after { e.new.state ≡ after_input e.old.state (uncontrolled_frame frame.now) }
 {

@@ -1,7 +1,7 @@
 use Rattle.std.proofs.Common.{rules}
 use Rattle.std.specs.Prelude.{Err}
 use Rattle.macsec_script_parser.specs.declared.lines.LineFault.TheVariants.{Memory}
-use Rattle.macsec_c.proofs.configuring.macsec_command_line.Goals as goal
+use Rattle.macsec_c.proofs.configuring.macsec_command_line_raw.Goals as goal
 
 -- without an endpoint nothing is read
 pub returns-then-not-is_made : goal.returns-then-not-is_made
