@@ -4,9 +4,10 @@
 # make               proves and builds the program, build/macsec; with CPU=x86-64-v3 build/macsec-x86-64-v3, for
 #                    processors with vectors of 256 bits
 # make run           does the same, and runs it on the tour
-# make lib           proves and builds the library for C, build/libmacsec.a, of the header include/macsec.h
+# make lib           proves and builds the library for C of the header include/macsec.h: build/libmacsec.a and
+#                    build/libmacsec.so.1; with CPU=x86-64-v3 also those of build/glibc-hwcaps/x86-64-v3
 # make kept          proves the program's libraries and keeps the work where rt takes it, before a crate is changed
-# make install       copies the program, its manual pages, the library for C, its header and its pkg-config file to
+# make install       copies the program, its manual pages, the libraries for C, their header and pkg-config file to
 #                    PREFIX, /usr/local by default, under DESTDIR
 # make check         the gate
 # make edits         checks that each must-fail edit still applies, and that docs/MISTAKES.md lists it
@@ -33,6 +34,7 @@ SEED := 1
 PREFIX ?= /usr/local
 CPU ?= x86-64-v2
 BUILT := build/macsec$(if $(filter x86-64-v3,$(CPU)),-x86-64-v3)
+HWCAPS := glibc-hwcaps/x86-64-v3
 
 .PHONY: all try test run lib kept install check edits pictures reference pages bench fuzz moves failures stored-runs \
     controls peer kept-frames c-programs lanes-used toolchain clean
@@ -51,7 +53,7 @@ test: toolchain
 run: build/macsec
 	@build/macsec run - < crates/macsec_examples/data/tour.macsec
 
-lib: build/libmacsec.a
+lib: build/libmacsec.a $(if $(filter x86-64-v3,$(CPU)),build/$(HWCAPS)/libmacsec.a)
 
 kept: toolchain
 	@tools/prove kept
@@ -63,7 +65,10 @@ install: build/macsec build/libmacsec.a
 	install -m 644 man/macsec.1 "$(DESTDIR)$(PREFIX)/share/man/man1/macsec.1"
 	install -m 644 man/macsec.5 "$(DESTDIR)$(PREFIX)/share/man/man5/macsec.5"
 	install -m 644 include/macsec.h "$(DESTDIR)$(PREFIX)/include/macsec.h"
-	install -m 644 build/libmacsec.a "$(DESTDIR)$(PREFIX)/lib/libmacsec.a"
+	install -m 644 build/libmacsec.a build/libmacsec.so.1 "$(DESTDIR)$(PREFIX)/lib"
+	ln -sfn libmacsec.so.1 "$(DESTDIR)$(PREFIX)/lib/libmacsec.so"
+	if [ -f build/$(HWCAPS)/libmacsec.so.1 ]; then \
+	    install -D -m 644 -t "$(DESTDIR)$(PREFIX)/lib/$(HWCAPS)" build/$(HWCAPS)/libmacsec.so.1; fi
 	sed 's|@PREFIX@|$(PREFIX)|; s|@VERSION@|'"$$(cat VERSION)"'|' include/macsec.pc.in \
 	    > "$(DESTDIR)$(PREFIX)/lib/pkgconfig/macsec.pc"
 
@@ -124,10 +129,15 @@ build/macsec-x86-64-v3 build/macsec-rattle build/macsec-failures: $(SOURCES) | t
 	@tools/prove $(notdir $@)
 
 # The library for C, with what it must be linked with.
-build/libmacsec.a: $(SOURCES) tools/merged-library | toolchain
+build/libmacsec.a: $(SOURCES) tools/merged-library tools/libmacsec.map | toolchain
 	@echo "proving and building build/libmacsec.a: from nothing many minutes, with a line for each crate" >&2
 	@tools/prove libmacsec_c.a
 	tools/merged-library build/libmacsec_c.a $@
+
+# The same for processors with vectors of 256 bits, where the loader looks for it first.
+build/$(HWCAPS)/libmacsec.a: build/libmacsec.a
+	@tools/prove libmacsec_c-x86-64-v3.a
+	tools/merged-library build/libmacsec_c-x86-64-v3.a $@
 
 toolchain:
 ifeq ($(RT),)

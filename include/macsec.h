@@ -87,7 +87,7 @@ extern "C" {
 #endif
 
 /* The version of this header as text, as the pkg-config file has it, and as a number: 1,000,000 times its first
- * number, plus 1,000 times its second, plus its third. macsec_version() returns the number of the library that is linked. */
+ * number, plus 1,000 times its second, plus its third. macsec_version() returns the number of the library. */
 #define MACSEC_VERSION "0.9.0"
 #define MACSEC_VERSION_NUMBER 9000
 
