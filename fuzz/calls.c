@@ -1,17 +1,23 @@
 /* Makes the calls of macsec.h that the lines of standard input name, and prints each answer. fuzz/calls.py runs it.
  *
  * A line is the name of a call without macsec_, the number of a handle, and the other arguments: numbers in decimal,
- * octets in hex, and - for no octets. Each frame is in a block of exactly its length, and each answer in a block of its
- * own, so that valgrind detects reads and writes outside them. A line in any other form ends the program. */
+ * octets in hex, and - for no octets. A line in any other form ends the program. All that a call is given to read is in
+ * pages that can't be written meanwhile, and it ends, or begins, where a page follows that can't be read; so do the
+ * structs that a call fills in. Linked so that the library's calls of malloc, realloc and free come here first, the
+ * program ends at a call that takes or gives back other blocks than the header says; with -DUNCOUNTED it doesn't look. */
+#define _DEFAULT_SOURCE
 #include "macsec.h"
 #include <errno.h>
 #include <stdio.h>
 #include <stdlib.h>
 #include <string.h>
+#include <sys/mman.h>
+#include <unistd.h>
 
-enum { HANDLES = 4, MOST_WORDS = 12, LONGEST_LINE = 262144 };
+enum { HANDLES = 4, MOST_WORDS = 12, LONGEST_LINE = 262144, MOST_ROOMS = 4 };
 
 static macsec_endpoint handles[HANDLES];
+static bool made[HANDLES]; /* whether they hold an endpoint */
 static char line[LONGEST_LINE];
 
 static void fail(const char *why) {
@@ -63,12 +69,108 @@ static void print_number(uint64_t value) {
     printf(" %llu", (unsigned long long)value);
 }
 
+/* ---- Memory between pages that can't be read ---- */
+
+struct room {
+    uint8_t *pages, *at;
+    size_t length, size;
+};
+
+static struct room rooms[MOST_ROOMS];
+static unsigned room_count, line_count;
+
+/* Returns so much memory. In every other line it begins at the page that can't be read, else it ends there. */
 static void *room_of(size_t size) {
-    void *room = malloc(size == 0 ? 1 : size);
-    if (room == NULL)
+    size_t page = (size_t)sysconf(_SC_PAGESIZE), inside = (size + page - 1) / page * page;
+    struct room *it = &rooms[room_count++];
+    if (room_count > MOST_ROOMS)
+        fail("too many rooms");
+    it->length = inside + 2 * page;
+    it->size = size;
+    it->pages = mmap(NULL, it->length, PROT_NONE, MAP_PRIVATE | MAP_ANONYMOUS, -1, 0);
+    if (it->pages == MAP_FAILED || (inside != 0 && mprotect(it->pages + page, inside, PROT_READ | PROT_WRITE) != 0))
         fail("out of memory");
+    it->at = it->pages + page + (line_count % 2 ? 0 : inside - size);
+    return it->at;
+}
+
+/* Lets nobody write to the last memory that was asked for. */
+static void seal(void) {
+    size_t page = (size_t)sysconf(_SC_PAGESIZE);
+    struct room *it = &rooms[room_count - 1];
+    if (it->length > 2 * page && mprotect(it->pages + page, it->length - 2 * page, PROT_READ) != 0)
+        fail("memory can't be sealed");
+}
+
+static void leave_rooms(void) {
+    while (room_count > 0) {
+        room_count--;
+        munmap(rooms[room_count].pages, rooms[room_count].length);
+    }
+}
+
+/* The octets of a word, which nobody can write. */
+static const uint8_t *sealed(const char *word, size_t *length) {
+    uint8_t *room = room_of(*length = length_of(word));
+    *length = octets(word, room, *length);
+    seal();
     return room;
 }
+
+static const uint8_t *sealed_sci(const char *word) {
+    size_t length;
+    const uint8_t *sci = sealed(word, &length);
+    if (length != 8)
+        fail("an SCI has another length");
+    return sci;
+}
+
+/* ---- Blocks of the library ---- */
+
+static unsigned asked; /* how often the library asked for a block in this call, and how many blocks it got more */
+static int held;
+
+#ifndef UNCOUNTED
+void *__real_malloc(size_t size);
+void *__wrap_malloc(size_t size);
+void *__real_realloc(void *block, size_t size);
+void *__wrap_realloc(void *block, size_t size);
+void __real_free(void *block);
+void __wrap_free(void *block);
+
+void *__wrap_malloc(size_t size) {
+    asked++;
+    held++;
+    return __real_malloc(size);
+}
+
+void *__wrap_realloc(void *block, size_t size) {
+    asked++;
+    held += block == NULL;
+    return __real_realloc(block, size);
+}
+
+void __wrap_free(void *block) {
+    held -= block != NULL;
+    __real_free(block);
+}
+
+/* An endpoint has four blocks. Only the calls that make one, and a line, ask for blocks. */
+static void check_blocks(const char *name, bool held_before, bool holds) {
+    int expected = 4 * ((int)holds - (int)held_before);
+    bool may_ask = strcmp(name, "configure") == 0 || strcmp(name, "command_line") == 0;
+    if (held != expected)
+        fail("the library holds another number of blocks");
+    if (!may_ask && asked != (expected > 0 ? 4u : 0u))
+        fail("the library asked for another number of blocks");
+}
+#else
+static void check_blocks(const char *name, bool held_before, bool holds) {
+    (void)name, (void)held_before, (void)holds;
+}
+#endif
+
+/* ---- The calls ---- */
 
 /* What every reserved member has before a call. */
 #define SEVENS { 7, 7, 7, 7, 7, 7, 7, 7, 7, 7 }
@@ -90,26 +192,22 @@ static void print_halves(uint64_t high, uint64_t low) {
 }
 
 static uint32_t send(macsec_endpoint *e, const char *word) {
-    size_t length = length_of(word);
-    uint8_t *frame = room_of(length);
+    size_t length;
+    const uint8_t *frame = sealed(word, &length);
     macsec_sent *sent = room_of(sizeof *sent);
-    length = octets(word, frame, length);
     uint32_t status = macsec_send(e, frame, length, sent);
     if (sent->status != status)
         fail("macsec_send returns another status than it shows");
     check_reserved(MACSEC_OK, RESERVED_OF(*sent));
     printf(" %u %u", (unsigned)sent->fate, (unsigned)sent->key);
     print_octets(sent->frame, sent->length);
-    free(sent);
-    free(frame);
     return status;
 }
 
 static uint32_t receive(macsec_endpoint *e, const char *word) {
-    size_t length = length_of(word);
-    uint8_t *frame = room_of(length);
+    size_t length;
+    const uint8_t *frame = sealed(word, &length);
     macsec_received *received = room_of(sizeof *received);
-    length = octets(word, frame, length);
     uint32_t status = macsec_receive(e, frame, length, received);
     if (received->status != status)
         fail("macsec_receive returns another status than it shows");
@@ -118,148 +216,151 @@ static uint32_t receive(macsec_endpoint *e, const char *word) {
     print_octets(received->sci, sizeof received->sci);
     printf(" %u %d", (unsigned)received->an, received->delivered);
     print_octets(received->frame, received->length);
-    free(received);
-    free(frame);
     return status;
 }
 
 static uint32_t send_uncontrolled(macsec_endpoint *e, const char *word) {
-    size_t length = length_of(word);
-    uint8_t *frame = room_of(length);
-    length = octets(word, frame, length);
-    uint32_t status = macsec_send_uncontrolled(e, frame, length);
-    free(frame);
-    return status;
+    size_t length;
+    const uint8_t *frame = sealed(word, &length);
+    return macsec_send_uncontrolled(e, frame, length);
 }
 
 static uint32_t new_endpoint(macsec_endpoint *e, char **w) {
-    macsec_config config;
-    octets(w[0], config.sci, sizeof config.sci);
-    config.suite = (uint32_t)number(w[1]);
-    config.form = (uint32_t)number(w[2]);
-    config.max_frame = (uint32_t)number(w[3]);
-    return macsec_new(e, &config);
+    macsec_config *config = room_of(sizeof *config);
+    octets(w[0], config->sci, sizeof config->sci);
+    config->suite = (uint32_t)number(w[1]);
+    config->form = (uint32_t)number(w[2]);
+    config->max_frame = (uint32_t)number(w[3]);
+    seal();
+    return macsec_new(e, config);
 }
 
 static uint32_t configure(macsec_endpoint *e, const char *word) {
-    size_t length = length_of(word);
-    uint8_t *text = room_of(length);
-    uint32_t line = 7;
-    length = octets(word, text, length);
-    uint32_t status = macsec_configure(e, text, length, &line);
-    print_number(line);
-    free(text);
+    size_t length;
+    const uint8_t *text = sealed(word, &length);
+    uint32_t *at = room_of(sizeof *at);
+    *at = 7;
+    uint32_t status = macsec_configure(e, text, length, at);
+    print_number(*at);
     return status;
 }
 
 static uint32_t command_line(macsec_endpoint *e, const char *word) {
-    size_t length = length_of(word);
-    uint8_t *text = room_of(length);
-    length = octets(word, text, length);
-    uint32_t status = macsec_command_line(e, text, length);
-    free(text);
-    return status;
+    size_t length;
+    const uint8_t *text = sealed(word, &length);
+    return macsec_command_line(e, text, length);
 }
 
 static uint32_t key(macsec_endpoint *e, char **w) {
-    macsec_sak key;
-    octets(w[0], key.bytes, sizeof key.bytes);
-    octets(w[1], key.salt, sizeof key.salt);
-    key.ssci = (uint32_t)number(w[2]);
-    key.suite = (uint32_t)number(w[3]);
-    key.number = (uint16_t)number(w[4]);
-    key.length = (uint8_t)number(w[5]);
-    key.offset = (uint8_t)number(w[6]);
-    return macsec_install_key(e, &key);
+    macsec_sak *key = room_of(sizeof *key);
+    octets(w[0], key->bytes, sizeof key->bytes);
+    octets(w[1], key->salt, sizeof key->salt);
+    key->ssci = (uint32_t)number(w[2]);
+    key->suite = (uint32_t)number(w[3]);
+    key->number = (uint16_t)number(w[4]);
+    key->length = (uint8_t)number(w[5]);
+    key->offset = (uint8_t)number(w[6]);
+    seal();
+    return macsec_install_key(e, key);
 }
 
 static uint32_t options(macsec_endpoint *e) {
-    macsec_options shown = { 7, 7, 7, false, false, { 7, 7, 7, 7, 7 } };
-    uint32_t status = macsec_get_options(e, &shown);
-    check_reserved(status, RESERVED_OF(shown));
-    print_number(shown.window);
-    printf(" %u %u %d %d", (unsigned)shown.mode, (unsigned)shown.form, shown.protect, shown.replay);
+    const macsec_options before = { 7, 7, 7, false, false, { 7, 7, 7, 7, 7 } };
+    macsec_options *shown = room_of(sizeof *shown);
+    *shown = before;
+    uint32_t status = macsec_get_options(e, shown);
+    check_reserved(status, RESERVED_OF(*shown));
+    print_number(shown->window);
+    printf(" %u %u %d %d", (unsigned)shown->mode, (unsigned)shown->form, shown->protect, shown->replay);
     return status;
 }
 
 static uint32_t counters(macsec_endpoint *e) {
-    macsec_counters c = { 7, 7, 7, 7, 7, 7, 7, 7, 7, 7, 7, { 7, 7, 7, 7, 7 } };
-    uint32_t status = macsec_get_counters(e, &c);
-    check_reserved(status, RESERVED_OF(c));
-    const uint64_t all[] = { c.in_pkts_untagged,    c.in_pkts_no_tag,      c.in_pkts_bad_tag,     c.in_pkts_reserved,
-                             c.in_pkts_no_sa,       c.in_pkts_no_sa_error, c.in_octets_validated, c.in_octets_decrypted,
-                             c.out_pkts_untagged,   c.out_pkts_too_long,   c.out_pkts_no_sa };
+    const macsec_counters before = { 7, 7, 7, 7, 7, 7, 7, 7, 7, 7, 7, { 7, 7, 7, 7, 7 } };
+    macsec_counters *c = room_of(sizeof *c);
+    *c = before;
+    uint32_t status = macsec_get_counters(e, c);
+    check_reserved(status, RESERVED_OF(*c));
+    const uint64_t all[] = { c->in_pkts_untagged,    c->in_pkts_no_tag,      c->in_pkts_bad_tag,     c->in_pkts_reserved,
+                             c->in_pkts_no_sa,       c->in_pkts_no_sa_error, c->in_octets_validated, c->in_octets_decrypted,
+                             c->out_pkts_untagged,   c->out_pkts_too_long,   c->out_pkts_no_sa };
     for (size_t i = 0; i < sizeof all / sizeof all[0]; i++)
         print_number(all[i]);
     return status;
 }
 
 static uint32_t tx_counters(macsec_endpoint *e) {
-    macsec_tx_counters c = { 7, 7, 7, 7, { 7, 7, 7, 7 } };
-    uint32_t status = macsec_get_tx_counters(e, &c);
-    check_reserved(status, RESERVED_OF(c));
-    print_number(c.out_pkts_protected);
-    print_number(c.out_pkts_encrypted);
-    print_number(c.out_octets_protected);
-    print_number(c.out_octets_encrypted);
+    const macsec_tx_counters before = { 7, 7, 7, 7, { 7, 7, 7, 7 } };
+    macsec_tx_counters *c = room_of(sizeof *c);
+    *c = before;
+    uint32_t status = macsec_get_tx_counters(e, c);
+    check_reserved(status, RESERVED_OF(*c));
+    print_number(c->out_pkts_protected);
+    print_number(c->out_pkts_encrypted);
+    print_number(c->out_octets_protected);
+    print_number(c->out_octets_encrypted);
     return status;
 }
 
 /* The counters of a channel, of its SA with this AN, or of its deleted SAs. */
 static uint32_t rx_counters(macsec_endpoint *e, const char *name, char **w) {
-    macsec_rx_counters c = { 7, 7, 7, 7, 7, 7, SEVENS };
-    uint8_t sci[8];
+    const macsec_rx_counters before = { 7, 7, 7, 7, 7, 7, SEVENS };
+    macsec_rx_counters *c = room_of(sizeof *c);
+    *c = before;
+    const uint8_t *sci = sealed_sci(w[0]);
     uint32_t status;
-    octets(w[0], sci, sizeof sci);
     if (strcmp(name, "get_rx_counters") == 0)
-        status = macsec_get_rx_counters(e, sci, &c);
+        status = macsec_get_rx_counters(e, sci, c);
     else if (strcmp(name, "get_removed_counters") == 0)
-        status = macsec_get_removed_counters(e, sci, &c);
+        status = macsec_get_removed_counters(e, sci, c);
     else
-        status = macsec_get_rx_sa_counters(e, sci, (uint8_t)number(w[1]), &c);
-    check_reserved(status, RESERVED_OF(c));
-    print_number(c.in_pkts_ok);
-    print_number(c.in_pkts_unchecked);
-    print_number(c.in_pkts_delayed);
-    print_number(c.in_pkts_late);
-    print_number(c.in_pkts_invalid);
-    print_number(c.in_pkts_not_valid);
+        status = macsec_get_rx_sa_counters(e, sci, (uint8_t)number(w[1]), c);
+    check_reserved(status, RESERVED_OF(*c));
+    print_number(c->in_pkts_ok);
+    print_number(c->in_pkts_unchecked);
+    print_number(c->in_pkts_delayed);
+    print_number(c->in_pkts_late);
+    print_number(c->in_pkts_invalid);
+    print_number(c->in_pkts_not_valid);
     return status;
 }
 
-static uint32_t rx_channel(macsec_endpoint *e, size_t place) {
-    uint8_t sci[8] = { 7, 7, 7, 7, 7, 7, 7, 7 };
+static uint32_t rx_sc(macsec_endpoint *e, size_t place) {
+    uint8_t *sci = room_of(8);
+    memset(sci, 7, 8);
     uint32_t status = macsec_get_rx_sc(e, place, sci);
-    print_octets(sci, sizeof sci);
+    print_octets(sci, 8);
     return status;
 }
 
-static uint32_t tx_row(macsec_endpoint *e, uint8_t an) {
-    macsec_tx_sa row = { 7, 7, 7, false, false, { 7, 7, 7, 7, 7 } };
-    uint32_t status = macsec_get_tx_sa(e, an, &row);
-    check_reserved(status, RESERVED_OF(row));
-    print_halves(row.next_high, row.next);
-    printf(" %u %d %d", (unsigned)row.key, row.conf, row.on);
+static uint32_t tx_sa(macsec_endpoint *e, uint8_t an) {
+    const macsec_tx_sa before = { 7, 7, 7, false, false, { 7, 7, 7, 7, 7 } };
+    macsec_tx_sa *row = room_of(sizeof *row);
+    *row = before;
+    uint32_t status = macsec_get_tx_sa(e, an, row);
+    check_reserved(status, RESERVED_OF(*row));
+    print_halves(row->next_high, row->next);
+    printf(" %u %d %d", (unsigned)row->key, row->conf, row->on);
     return status;
 }
 
-static uint32_t rx_row(macsec_endpoint *e, char **w) {
-    macsec_rx_sa row = { 7, 7, 7, 7, 7, 7, false, { 7, 7, 7 } };
-    uint8_t sci[8];
-    octets(w[0], sci, sizeof sci);
-    uint32_t status = macsec_get_rx_sa(e, sci, (uint8_t)number(w[1]), &row);
-    check_reserved(status, RESERVED_OF(row));
-    print_halves(row.next_high, row.next);
-    print_halves(row.lowest_high, row.lowest);
-    printf(" %u %u %d", (unsigned)row.ssci, (unsigned)row.key, row.on);
+static uint32_t rx_sa(macsec_endpoint *e, char **w) {
+    const macsec_rx_sa before = { 7, 7, 7, 7, 7, 7, false, { 7, 7, 7 } };
+    macsec_rx_sa *row = room_of(sizeof *row);
+    *row = before;
+    const uint8_t *sci = sealed_sci(w[0]);
+    uint32_t status = macsec_get_rx_sa(e, sci, (uint8_t)number(w[1]), row);
+    check_reserved(status, RESERVED_OF(*row));
+    print_halves(row->next_high, row->next);
+    print_halves(row->lowest_high, row->lowest);
+    printf(" %u %u %d", (unsigned)row->ssci, (unsigned)row->key, row->on);
     return status;
 }
 
 /* A command whose first argument is an SCI. */
 static uint32_t rx_command(macsec_endpoint *e, const char *name, char **w, int count) {
-    uint8_t sci[8];
+    const uint8_t *sci = sealed_sci(w[0]);
     uint8_t an = count > 1 ? (uint8_t)number(w[1]) : 0;
-    octets(w[0], sci, sizeof sci);
     if (strcmp(name, "add_rx_sc") == 0)
         return macsec_add_rx_sc(e, sci);
     if (strcmp(name, "delete_rx_sc") == 0)
@@ -327,11 +428,11 @@ static uint32_t call(macsec_endpoint *e, const char *name, char **w, int count) 
     if (strcmp(name, "get_tx_counters") == 0)
         return tx_counters(e);
     if (strcmp(name, "get_rx_sc") == 0)
-        return rx_channel(e, (size_t)number(w[0]));
+        return rx_sc(e, (size_t)number(w[0]));
     if (strcmp(name, "get_tx_sa") == 0)
-        return tx_row(e, (uint8_t)number(w[0]));
+        return tx_sa(e, (uint8_t)number(w[0]));
     if (strcmp(name, "get_rx_sa") == 0)
-        return rx_row(e, w);
+        return rx_sa(e, w);
     if (strcmp(name, "get_rx_counters") == 0 || strcmp(name, "get_rx_sa_counters") == 0 ||
         strcmp(name, "get_removed_counters") == 0)
         return rx_counters(e, name, w);
@@ -340,8 +441,23 @@ static uint32_t call(macsec_endpoint *e, const char *name, char **w, int count) 
     return command(e, name, w);
 }
 
+/* Makes the call of a line, and checks the blocks that it takes and gives back. */
+static uint32_t checked(unsigned handle, const char *name, char **w, int count) {
+    bool before = made[handle], makes = strcmp(name, "new") == 0 || strcmp(name, "configure") == 0;
+    asked = 0;
+    held = 0;
+    uint32_t status = call(&handles[handle], name, w, count);
+    if (makes && status == MACSEC_OK)
+        made[handle] = true;
+    if (strcmp(name, "free") == 0)
+        made[handle] = false;
+    check_blocks(name, before, made[handle]);
+    leave_rooms();
+    return status;
+}
+
 int main(void) {
-    while (fgets(line, sizeof line, stdin) != NULL) {
+    for (; fgets(line, sizeof line, stdin) != NULL; line_count++) {
         char *words[MOST_WORDS] = { NULL }, *rest = line;
         int count = 0;
         for (char *word; count < MOST_WORDS && (word = strtok(rest, " \n")) != NULL; rest = NULL)
@@ -349,7 +465,7 @@ int main(void) {
         if (count < 2 || number(words[1]) >= HANDLES)
             fail("a line names no call of a handle");
         printf("%s", words[0]);
-        printf(" : %u\n", (unsigned)call(&handles[number(words[1])], words[0], words + 2, count - 2));
+        printf(" : %u\n", (unsigned)checked((unsigned)number(words[1]), words[0], words + 2, count - 2));
     }
     for (int i = 0; i < HANDLES; i++)
         macsec_free(&handles[i]);

@@ -4,6 +4,7 @@
     python3 fuzz/calls.py                          100,000 calls, by build/c/calls
     python3 fuzz/calls.py --calls 5000 --seed 7    fewer, and others
     python3 fuzz/calls.py --program valgrind --error-exitcode=9 build/c/calls
+    python3 fuzz/calls.py --also build/c/calls-shared    the same calls by two programs
 
 It needs Python 3.9 or later and its standard library alone. The calls go to three handles: with endpoints, without one,
 and freed. Numbers, lengths and frames are of all kinds, also those that nothing has. Statuses, suites, forms, modes,
@@ -697,24 +698,31 @@ class Calls:
                 self.model.met[it] += 1
 
 
+def compare(program, seed, lines, answers):
+    """Has a program make the calls of these lines, and compares its answers. Ends at the first that differs."""
+    ran = subprocess.run(program, input="".join(f"{it}\n" for it in lines), stdout=subprocess.PIPE, text=True)
+    given = ran.stdout.splitlines()
+    for number, (line, answer, gave) in enumerate(zip(lines, answers, [*given, *[None] * len(lines)])):
+        if answer != gave:
+            sys.exit(f"call {number} of seed {seed}: {line}\n  expected {answer}\n  answered {gave}")
+    if ran.returncode or len(given) != len(lines):
+        sys.exit(f"the program ended with status {ran.returncode} after {len(given)} answers to {len(lines)} calls")
+
+
 def main():
     parser = argparse.ArgumentParser(description=__doc__, formatter_class=argparse.RawDescriptionHelpFormatter)
     parser.add_argument("--calls", type=int, default=100_000)
     parser.add_argument("--seed", default="1")
     parser.add_argument("--met-from", type=int, default=5_000, help="how many calls must meet everything (5,000)")
+    parser.add_argument("--also", action="append", default=[], help="a program that makes the same calls")
     parser.add_argument("--program", nargs=argparse.REMAINDER, default=[str(ROOT / "build/c/calls")])
     asked = parser.parse_args()
     calls = Calls(asked.seed)
     lines, answers = zip(*calls.all(asked.calls))
-    ran = subprocess.run(asked.program, input="".join(f"{it}\n" for it in lines), stdout=subprocess.PIPE, text=True)
-    given = ran.stdout.splitlines()
-    for number, (line, answer, gave) in enumerate(zip(lines, answers, [*given, *[None] * len(lines)])):
-        if answer != gave:
-            sys.exit(f"call {number} of seed {asked.seed}: {line}\n  expected {answer}\n  answered {gave}")
-    if ran.returncode or len(given) != len(lines):
-        sys.exit(f"the program ended with status {ran.returncode} after {len(given)} answers to {len(lines)} calls")
+    for program in (asked.program, *([it] for it in asked.also)):
+        compare(program, asked.seed, lines, answers)
+        print(f"{len(answers)} calls of seed {asked.seed}: each was answered as expected by {program[-1]}")
     lines = collections.Counter(line.split()[0] for line in lines)
-    print(f"{len(answers)} calls of seed {asked.seed}: each was answered as expected")
     print("calls: " + ", ".join(f"{name} {count}" for name, count in sorted(lines.items())))
     print("met: " + ", ".join(f"{name} {count}" for name, count in sorted(calls.model.met.items())))
     others = re.compile("FATE_NONE|VERDICT_NONE|E_MEMORY|FRAME_M..|VERSION_NUMBER|.*_COUNT")
