@@ -9,6 +9,7 @@
 # make kept          proves the program's libraries and keeps the work where rt takes it, before a crate is changed
 # make install       copies the program, its manual pages, the libraries for C, their header and pkg-config file to
 #                    PREFIX, /usr/local by default, under DESTDIR
+# make dist          makes build/dist: macsec-VERSION.tar.gz and the Debian packages macsec, libmacsec1, libmacsec-dev
 # make check         the gate
 # make edits         checks that each must-fail edit still applies, and that docs/MISTAKES.md lists it
 # make pictures      draws docs/pictures again, from crates.txt and docs/PERFORMANCE.md
@@ -36,7 +37,7 @@ CPU ?= x86-64-v2
 BUILT := build/macsec$(if $(filter x86-64-v3,$(CPU)),-x86-64-v3)
 HWCAPS := glibc-hwcaps/x86-64-v3
 
-.PHONY: all try test run lib kept install check edits pictures reference pages bench fuzz moves failures stored-runs \
+.PHONY: all try test run lib kept install dist check edits pictures reference pages bench fuzz moves failures stored-runs \
     controls peer kept-frames c-programs lanes-used toolchain clean
 
 all: $(BUILT)
@@ -64,6 +65,7 @@ install: build/macsec build/libmacsec.a
 	install -m 755 build/macsec "$(DESTDIR)$(PREFIX)/bin/macsec"
 	install -m 644 man/macsec.1 "$(DESTDIR)$(PREFIX)/share/man/man1/macsec.1"
 	install -m 644 man/macsec.5 "$(DESTDIR)$(PREFIX)/share/man/man5/macsec.5"
+	install -D -m 644 tools/completion.bash "$(DESTDIR)$(PREFIX)/share/bash-completion/completions/macsec"
 	install -m 644 include/macsec.h "$(DESTDIR)$(PREFIX)/include/macsec.h"
 	install -m 644 build/libmacsec.a build/libmacsec.so.1 "$(DESTDIR)$(PREFIX)/lib"
 	ln -sfn libmacsec.so.1 "$(DESTDIR)$(PREFIX)/lib/libmacsec.so"
@@ -71,6 +73,9 @@ install: build/macsec build/libmacsec.a
 	    install -D -m 644 -t "$(DESTDIR)$(PREFIX)/lib/$(HWCAPS)" build/$(HWCAPS)/libmacsec.so.1; fi
 	sed 's|@PREFIX@|$(PREFIX)|; s|@VERSION@|'"$$(cat VERSION)"'|' include/macsec.pc.in \
 	    > "$(DESTDIR)$(PREFIX)/lib/pkgconfig/macsec.pc"
+
+dist: build/macsec build/libmacsec.a build/$(HWCAPS)/libmacsec.a
+	tools/dist
 
 check: toolchain
 	@tools/check
