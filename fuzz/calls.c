@@ -264,7 +264,7 @@ static uint32_t key(macsec_endpoint *e, char **w) {
     return macsec_install_key(e, key);
 }
 
-static uint32_t options(macsec_endpoint *e) {
+static uint32_t options(const macsec_endpoint *e) {
     const macsec_options before = { 7, 7, 7, false, false, { 7, 7, 7, 7, 7 } };
     macsec_options *shown = room_of(sizeof *shown);
     *shown = before;
@@ -275,7 +275,7 @@ static uint32_t options(macsec_endpoint *e) {
     return status;
 }
 
-static uint32_t counters(macsec_endpoint *e) {
+static uint32_t counters(const macsec_endpoint *e) {
     const macsec_counters before = { 7, 7, 7, 7, 7, 7, 7, 7, 7, 7, 7, { 7, 7, 7, 7, 7 } };
     macsec_counters *c = room_of(sizeof *c);
     *c = before;
@@ -289,7 +289,7 @@ static uint32_t counters(macsec_endpoint *e) {
     return status;
 }
 
-static uint32_t tx_counters(macsec_endpoint *e) {
+static uint32_t tx_counters(const macsec_endpoint *e) {
     const macsec_tx_counters before = { 7, 7, 7, 7, { 7, 7, 7, 7 } };
     macsec_tx_counters *c = room_of(sizeof *c);
     *c = before;
@@ -303,7 +303,7 @@ static uint32_t tx_counters(macsec_endpoint *e) {
 }
 
 /* The counters of a channel, of its SA with this AN, or of its deleted SAs. */
-static uint32_t rx_counters(macsec_endpoint *e, const char *name, char **w) {
+static uint32_t rx_counters(const macsec_endpoint *e, const char *name, char **w) {
     const macsec_rx_counters before = { 7, 7, 7, 7, 7, 7, SEVENS };
     macsec_rx_counters *c = room_of(sizeof *c);
     *c = before;
@@ -325,7 +325,7 @@ static uint32_t rx_counters(macsec_endpoint *e, const char *name, char **w) {
     return status;
 }
 
-static uint32_t rx_sc(macsec_endpoint *e, size_t place) {
+static uint32_t rx_sc(const macsec_endpoint *e, size_t place) {
     uint8_t *sci = room_of(8);
     memset(sci, 7, 8);
     uint32_t status = macsec_get_rx_sc(e, place, sci);
@@ -333,7 +333,7 @@ static uint32_t rx_sc(macsec_endpoint *e, size_t place) {
     return status;
 }
 
-static uint32_t tx_sa(macsec_endpoint *e, uint8_t an) {
+static uint32_t tx_sa(const macsec_endpoint *e, uint8_t an) {
     const macsec_tx_sa before = { 7, 7, 7, false, false, { 7, 7, 7, 7, 7 } };
     macsec_tx_sa *row = room_of(sizeof *row);
     *row = before;
@@ -344,7 +344,7 @@ static uint32_t tx_sa(macsec_endpoint *e, uint8_t an) {
     return status;
 }
 
-static uint32_t rx_sa(macsec_endpoint *e, char **w) {
+static uint32_t rx_sa(const macsec_endpoint *e, char **w) {
     const macsec_rx_sa before = { 7, 7, 7, 7, 7, 7, false, { 7, 7, 7 } };
     macsec_rx_sa *row = room_of(sizeof *row);
     *row = before;

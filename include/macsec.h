@@ -59,9 +59,10 @@
  * GROWTH     In every version 1 each struct has the same size, and each member the same place. What a later library
  *            shows more goes into the `reserved` members of the structs that calls fill in; these are 0 where a library
  *            has nothing to show. So a program that was built over one library of version 1 runs over every later one.
- * THREADS    Use a handle in one call at a time. Synchronize when you pass it from one thread to another, with a lock
- *            or the thread's start or join. Different handles are independent. Make no call from a signal handler,
- *            and no call that allocates or frees memory in the forked child of a process with threads.
+ * THREADS    Use a handle in one call at a time, also in a call that takes it as const and changes nothing. Synchronize
+ *            when you pass it from one thread to another, with a lock or the thread's start or join. Different handles
+ *            are independent. Make no call from a signal handler, and no call that allocates or frees memory in the
+ *            forked child of a process with threads.
  * RAW CALLS  A call whose name ends in _raw is the library's part of the inline function without _raw, for languages
  *            that can't call inline functions. No pointer of it may be null, and what `out` of macsec_send_raw and
  *            macsec_receive_raw leads to must be an answer that names no frame, as MACSEC_SENT_INIT and
@@ -430,19 +431,19 @@ static inline uint32_t macsec_command_line(macsec_endpoint *e, const uint8_t *te
 
 /* ---- What an endpoint shows; nothing changes. MACSEC_E_NOT_FOUND if there is no such channel or association ---- */
 
-uint32_t macsec_get_options(macsec_endpoint *e, macsec_options *out);
-uint32_t macsec_get_counters(macsec_endpoint *e, macsec_counters *out);
-uint32_t macsec_get_tx_counters(macsec_endpoint *e, macsec_tx_counters *out);
+uint32_t macsec_get_options(const macsec_endpoint *e, macsec_options *out);
+uint32_t macsec_get_counters(const macsec_endpoint *e, macsec_counters *out);
+uint32_t macsec_get_tx_counters(const macsec_endpoint *e, macsec_tx_counters *out);
 /* A receive channel's counters. Each is, modulo 2^64, the sum of its SAs' and of its deleted SAs' counters. */
-uint32_t macsec_get_rx_counters(macsec_endpoint *e, const uint8_t sci[8], macsec_rx_counters *out);
+uint32_t macsec_get_rx_counters(const macsec_endpoint *e, const uint8_t sci[8], macsec_rx_counters *out);
 /* Of one of its associations, since the creation of that. */
-uint32_t macsec_get_rx_sa_counters(macsec_endpoint *e, const uint8_t sci[8], uint8_t an, macsec_rx_counters *out);
+uint32_t macsec_get_rx_sa_counters(const macsec_endpoint *e, const uint8_t sci[8], uint8_t an, macsec_rx_counters *out);
 /* What its deleted associations had counted, together. */
-uint32_t macsec_get_removed_counters(macsec_endpoint *e, const uint8_t sci[8], macsec_rx_counters *out);
+uint32_t macsec_get_removed_counters(const macsec_endpoint *e, const uint8_t sci[8], macsec_rx_counters *out);
 /* The SCI of the receive channel at this place in the order of creation, 0 to 63. */
-uint32_t macsec_get_rx_sc(macsec_endpoint *e, size_t place, uint8_t sci[8]);
-uint32_t macsec_get_tx_sa(macsec_endpoint *e, uint8_t an, macsec_tx_sa *out);
-uint32_t macsec_get_rx_sa(macsec_endpoint *e, const uint8_t sci[8], uint8_t an, macsec_rx_sa *out);
+uint32_t macsec_get_rx_sc(const macsec_endpoint *e, size_t place, uint8_t sci[8]);
+uint32_t macsec_get_tx_sa(const macsec_endpoint *e, uint8_t an, macsec_tx_sa *out);
+uint32_t macsec_get_rx_sa(const macsec_endpoint *e, const uint8_t sci[8], uint8_t an, macsec_rx_sa *out);
 
 /* ---- Names, as the program `macsec` prints them; "unknown" for a number without a meaning ---- */
 

@@ -148,7 +148,7 @@ static void from_link(macsec_endpoint *e, int tap, int link) {
         perror("tap");
 }
 
-static void print_counters(macsec_endpoint *e) {
+static void print_counters(const macsec_endpoint *e) {
     macsec_counters all;
     macsec_tx_counters tx;
     uint8_t sci[8];

@@ -60,7 +60,7 @@ static void hear(const char *who, macsec_endpoint *e, const uint8_t *link, size_
     printf("\n");
 }
 
-static void count(const char *who, macsec_endpoint *e, const uint8_t *sci) {
+static void count(const char *who, const macsec_endpoint *e, const uint8_t *sci) {
     macsec_counters all;
     macsec_tx_counters tx;
     macsec_rx_counters rx, of_sa, removed;
