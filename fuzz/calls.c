@@ -275,6 +275,14 @@ static uint32_t options(const macsec_endpoint *e) {
     return status;
 }
 
+static uint32_t keys_left(const macsec_endpoint *e) {
+    uint32_t *left = room_of(sizeof *left);
+    *left = 7;
+    uint32_t status = macsec_keys_left(e, left);
+    print_number(*left);
+    return status;
+}
+
 static uint32_t counters(const macsec_endpoint *e) {
     const macsec_counters before = { 7, 7, 7, 7, 7, 7, 7, 7, 7, 7, 7, { 7, 7, 7, 7, 7 } };
     macsec_counters *c = room_of(sizeof *c);
@@ -423,6 +431,8 @@ static uint32_t call(macsec_endpoint *e, const char *name, char **w, int count) 
         return key(e, w);
     if (strcmp(name, "get_options") == 0)
         return options(e);
+    if (strcmp(name, "keys_left") == 0)
+        return keys_left(e);
     if (strcmp(name, "get_counters") == 0)
         return counters(e);
     if (strcmp(name, "get_tx_counters") == 0)

@@ -288,6 +288,12 @@ class Model:
         self.met.update(["MODE_" + end.mode.upper(), "FORM_" + end.form.upper()])
         return f" {end.window} {mode} {form} {int(end.protects)} {int(end.replay)}"
 
+    def unshown_keys_left(self):
+        return " 7"
+
+    def call_keys_left(self, handle):
+        return f" {CONSTANTS['KEY_COUNT'] - len(self.ends[handle].keys)}"
+
     def unshown_get_counters(self):
         return " 7" * len(ALL_COUNTERS)
 
@@ -508,7 +514,7 @@ class Calls:
         }
         if name in makers:
             return makers[name]()
-        if name in ("get_options", "get_counters", "get_tx_counters"):
+        if name in ("get_options", "keys_left", "get_counters", "get_tx_counters"):
             return (h(),)
         if name in ("get_rx_counters", "get_removed_counters"):
             return h(), self.sci()
@@ -520,7 +526,7 @@ class Calls:
         "set_validation": 8, "set_replay": 8, "set_tag_form": 8, "install_key": 25, "retire_key": 6, "add_tx_sa": 20,
         "enable_tx_sa": 20, "disable_tx_sa": 2, "delete_tx_sa": 2, "add_rx_sc": 10, "delete_rx_sc": 2, "add_rx_sa": 30,
         "enable_rx_sa": 25, "disable_rx_sa": 2, "set_lowest_pn": 10, "delete_rx_sa": 3, "command_line": 60,
-        "get_options": 8, "get_counters": 20, "get_tx_counters": 10, "get_rx_counters": 15, "get_rx_sa_counters": 15,
+        "get_options": 8, "keys_left": 8, "get_counters": 20, "get_tx_counters": 10, "get_rx_counters": 15, "get_rx_sa_counters": 15,
         "get_removed_counters": 10, "get_rx_sc": 6, "get_tx_sa": 10, "get_rx_sa": 15,
     }  # fmt: skip
 

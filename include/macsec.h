@@ -392,8 +392,8 @@ uint32_t macsec_set_replay(macsec_endpoint *e, bool protect, uint64_t window);
 uint32_t macsec_set_tag_form(macsec_endpoint *e, uint32_t form);
 
 /* Install a key. Its number and its octets can never be used again by this endpoint, also when the key is retired: it
- * takes 4,096 keys in its life, and then another endpoint has to take over (docs/C.md). Another endpoint, or the next
- * run of the program, knows nothing of the key: see macsec_add_tx_sa. */
+ * takes 4,096 keys in its life (macsec_keys_left), and then another endpoint has to take over (docs/C.md). Another
+ * endpoint, or the next run of the program, knows nothing of the key: see macsec_add_tx_sa. */
 uint32_t macsec_install_key(macsec_endpoint *e, const macsec_sak *key);
 /* Retire a key that no association uses: no new association may use it. */
 uint32_t macsec_retire_key(macsec_endpoint *e, uint16_t key);
@@ -434,6 +434,8 @@ static inline uint32_t macsec_command_line(macsec_endpoint *e, const uint8_t *te
 uint32_t macsec_get_options(const macsec_endpoint *e, macsec_options *out);
 uint32_t macsec_get_counters(const macsec_endpoint *e, macsec_counters *out);
 uint32_t macsec_get_tx_counters(const macsec_endpoint *e, macsec_tx_counters *out);
+/* How many keys it can still take in its life: 4,096 less the number of keys that were installed, retired or not. */
+uint32_t macsec_keys_left(const macsec_endpoint *e, uint32_t *out);
 /* A receive channel's counters. Each is, modulo 2^64, the sum of its SAs' and of its deleted SAs' counters. */
 uint32_t macsec_get_rx_counters(const macsec_endpoint *e, const uint8_t sci[8], macsec_rx_counters *out);
 /* Of one of its associations, since the creation of that. */

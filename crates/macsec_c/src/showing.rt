@@ -1,6 +1,7 @@
 //! The readers of an endpoint's state.
 
-ghost use Rattle.std.specs.Prelude.{◌≡◌, Some, IfSome, slice_get};
+ghost use Rattle.std.specs.Prelude.{◌≡◌, ◌+◌, Some, IfSome, length, slice_get};
+ghost use Rattle.macsec_suite.specs.KeyNumbers.{max_key_count};
 ghost use Rattle.macsec_tx.specs.Transmit.{tx_row};
 ghost use Rattle.macsec_rx.specs.Channels.{rx_row};
 ghost use Rattle.macsec_secy.specs.Answers.{rx_counters_of, rx_removed_of, rx_sa_counters_of};
@@ -255,6 +256,20 @@ pub extern "C" fn macsec_get_tx_counters(e: &mut Endpoint, out: &mut TxCountersS
         return EMPTY;
     }
     *out = tx_counters_shown(e.secy().tx_counters());
+    DONE
+}
+
+/// Shows how many keys the endpoint can still take in its life: 4,096 less the number that were installed.
+#[unsafe(no_mangle)]
+pub extern "C" fn macsec_keys_left(e: &mut Endpoint, out: &mut u32) -> u32
+    ensures status { result ≡ status_of_found e.old.state (λ s. Some s.keys) }
+    ensures same { e.new.state ≡ e.old.state }
+    ensures shown { IfSome e.old.state (λ s. out.new + length s.keys ≡ max_key_count) }
+{
+    if !e.is_made() {
+        return EMPTY;
+    }
+    *out = u32::from(e.secy().keys_left());
     DONE
 }
 

@@ -1,6 +1,7 @@
 //! The calls that read the state of an endpoint.
 
-ghost use Rattle.std.specs.Prelude.{◌≡◌, ◌≤◌, is_some, length, slice_get};
+ghost use Rattle.std.specs.Prelude.{◌≡◌, ◌+◌, ◌≤◌, is_some, length, slice_get};
+ghost use Rattle.macsec_suite.specs.KeyNumbers.{max_key_count};
 ghost use Rattle.macsec_tx.specs.Transmit.{tx_row};
 ghost use Rattle.macsec_rx.specs.Channels.{rx_row};
 ghost use Rattle.macsec_rx.specs.Limits.{max_channel_count};
@@ -33,6 +34,13 @@ impl Secy {
         ensures { result ≡ self.now.tx_counters }
     {
         self.tx_counters
+    }
+
+    /// How many keys can still be installed: 4,096 less the number of keys that were installed, retired or not.
+    pub fn keys_left(&self) -> u16
+        ensures { result + length self.now.keys ≡ max_key_count }
+    {
+        self.keys.keys_left()
     }
 
     /// The transmit SA (secure association) with this number, if it exists.

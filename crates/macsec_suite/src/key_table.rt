@@ -1,10 +1,10 @@
 //! The table of an endpoint's keys (IEEE 802.1AE, 10.7).
 
-ghost use Rattle.std.specs.Prelude.{◌≡◌, [], ◌∷◌, ◌++◌, length, slice_get, IfOk, OnOk, OnErr, IsSome, IfSome, MatchOption, option_map, Some, None};
+ghost use Rattle.std.specs.Prelude.{◌≡◌, ◌+◌, [], ◌∷◌, ◌++◌, length, slice_get, IfOk, OnOk, OnErr, IsSome, IfSome, MatchOption, option_map, Some, None};
 ghost use Rattle.std.specs.List.{list_any};
 ghost use Rattle.macsec_aes.specs.Keys.{key_bytes};
 ghost use Rattle.macsec_gcm.specs.Octets.{same_octets};
-ghost use Rattle.macsec_suite.specs.KeyRows.{AreKeyRows, is_extended, key_row, keys_noting, keys_retiring, keys_with, suite_of, the_key, widest_beside};
+ghost use Rattle.macsec_suite.specs.KeyRows.{AreKeyRows, is_extended, key_row, keys_noting, keys_retiring, keys_with, max_key_count, suite_of, the_key, widest_beside};
 ghost use Rattle.macsec_suite.specs.KeyTables.{HasOwnKey, first_unused_of, row_shown, stored_row};
 ghost use Rattle.macsec_suite.specs.Suites.{key_length};
 ghost use Rattle.macsec_suite.specs.Refusals.{first_refusal, install_refusals, is_repeated, refusal_of, retire_refusals};
@@ -155,6 +155,13 @@ impl KeyTable {
         } else {
             WIDEST_SHORT_WINDOW
         }
+    }
+
+    /// How many keys can still be installed: 4,096 less the number of keys that were installed, retired or not.
+    pub fn keys_left(&self) -> u16
+        ensures { result + length self.now ≡ max_key_count }
+    {
+        MAX_KEY_COUNT - self.rows.len() as u16
     }
 
     /// Whether a key that is not retired has extended packet numbers.

@@ -1,0 +1,6 @@
+-- By search. This proof is here so that a wrong body is refused quickly.
+use Rattle.std.proofs.Common.{rules}
+use Rattle.macsec_c.proofs.showing.macsec_keys_left.Goals as goal
+
+pub returns-clause-shown : goal.returns-clause-shown
+returns-clause-shown c = search rules steps 300000
