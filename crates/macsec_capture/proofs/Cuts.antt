@@ -12,7 +12,7 @@ use Rattle.std.proofs.lemmas.Option.{slice_get-get_or, slice_get-map}
 use Rattle.macsec_secy.specs.State.{State}
 use Rattle.macsec_pcap.specs.Captures.{CaptureFile}
 use Rattle.macsec_pcap.specs.Records.{CaptureRecord}
-use Rattle.macsec_pcap.specs.Writing.{AppendsFront}
+use Rattle.macsec_writes.specs.Fronts.{AppendsFront}
 use Rattle.macsec_pcap.specs.Written.{header_octets}
 use Rattle.macsec_capture.specs.declared.Direction.{Direction}
 use Rattle.macsec_capture.specs.Captured.{Part, Stop, first_stop, nothing, record_part, records_part, stop_behind, stops_of}

@@ -11,7 +11,7 @@ use Rattle.macsec_pcap.specs.declared.fault.PcapFault.TheVariants.{RecordCount, 
 use Rattle.macsec_pcap.specs.Records.{CaptureRecord}
 use Rattle.macsec_pcap.specs.Captures.{Capture}
 use Rattle.macsec_pcap.specs.Answers.{UnlessRead}
-use Rattle.macsec_pcap.specs.Writing.{AppendsFront}
+use Rattle.macsec_writes.specs.Fronts.{AppendsFront}
 use Rattle.macsec_pcap.specs.Reading.{Ahead, over, failed, holds, untold, Answers, IsAhead, ahead_after, first_of}
 use Rattle.macsec_capture.specs.declared.Direction.{Direction}
 use Rattle.macsec_capture.specs.declared.fault.CaptureFault.{CaptureFault}

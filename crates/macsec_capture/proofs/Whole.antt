@@ -18,7 +18,7 @@ use Rattle.macsec_pcap.specs.declared.form.Resolution.{Resolution}
 use Rattle.macsec_pcap.specs.declared.form.Resolution.TheVariants.{Micro}
 use Rattle.macsec_pcap.specs.Captures.{CaptureFile}
 use Rattle.macsec_pcap.specs.Reading.{Ahead, holds, Opens, Reading, opened}
-use Rattle.macsec_pcap.specs.Writing.{AppendsFront}
+use Rattle.macsec_writes.specs.Fronts.{AppendsFront}
 use Rattle.macsec_pcap.specs.Written.{header_octets}
 use Rattle.macsec_pcapng.specs.Captures.{captures_of}
 use Rattle.macsec_pcapng.specs.Laws.{FileIsOfFormat, IsOfFormat}

@@ -12,7 +12,7 @@ use Rattle.macsec_pcap.specs.declared.fault.PcapFault.TheVariants as pcap
 use Rattle.macsec_pcap.specs.Records.{CaptureRecord}
 use Rattle.macsec_pcap.specs.Captures.{Capture, CaptureFile}
 use Rattle.macsec_pcap.specs.Reading.{Ahead, holds}
-use Rattle.macsec_pcap.specs.Writing.{AppendsFront}
+use Rattle.macsec_writes.specs.Fronts.{AppendsFront}
 use Rattle.macsec_pcap.specs.Written.{header_octets}
 use Rattle.macsec_capture.specs.declared.Direction.{Direction}
 use Rattle.macsec_capture.specs.declared.fault.CaptureFault.{CaptureFault}

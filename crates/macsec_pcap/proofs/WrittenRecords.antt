@@ -1,53 +1,15 @@
--- Octets that are written in several pieces, and records that are written in two: head and frame.
-use Rattle.std.proofs.Common.{◌≡◌, ℕ, ◌-◌, ◌≤◌, List, [], ◌++◌, length, take, drop, refl, sym, ap, subst, ◌∙◌, append_assoc, append-nil, take-append-drop}
+-- Records that are written in two pieces: head and frame.
+use Rattle.std.proofs.Common.{◌≡◌, ℕ, ◌≤◌, List, ◌++◌, length, drop, refl, sym, ap, subst, ◌∙◌, append_assoc}
 use Rattle.std.specs.Prelude.{Option, Result, Ok, Err, IfErr, OnErr, OnOk}
-use Rattle.std.specs.Io.KnownBytes.{Appends, Keeps}
-use Rattle.std.proofs.KnownBytes.{Appends-kept, Appends-trans, starts_with_rest}
+use Rattle.std.specs.Io.KnownBytes.{Appends}
+use Rattle.std.proofs.KnownBytes.{Appends-trans, starts_with_rest}
 use Rattle.std.proofs.Transfers.{starts_with_of_append}
-use Rattle.std.proofs.lemmas.List.{take_rest}
+use Rattle.macsec_writes.specs.Fronts.{AppendsFront}
 use Rattle.macsec_pcap.specs.declared.fault.PcapFault.{PcapFault}
 use Rattle.macsec_pcap.specs.declared.fault.PcapFault.TheVariants.{Write}
 use Rattle.macsec_pcap.specs.Limits.{max_record_length}
 use Rattle.macsec_pcap.specs.Written.{record_head}
-use Rattle.macsec_pcap.specs.Writing.{AppendsFront, WritesRecord}
-
--- ---- octets whose rest is still to come
-
-pub record IsOnTheWay (old now : Option (List ℕ)) (octets rest : List ℕ) : Type 0 where
-  pub front : List ℕ
-  pub whole : octets ≡ front ++ rest
-  pub adds : Appends old now front
-
-pub none_written : (old : Option (List ℕ)) (octets : List ℕ) → Appends old old [] → IsOnTheWay old old octets octets
-none_written old octets adds = record { front = []; whole = refl; adds = adds }
-
--- a write of n octets
-pub more_written : (old now new : Option (List ℕ)) (octets rest : List ℕ) (n : ℕ) → IsOnTheWay old now octets rest → Appends now new (take n rest) →
-    IsOnTheWay old new octets (take (length rest - n) (drop n rest))
-more_written old now new octets rest n way adds = record {
-  front = way.front ++ take n rest;
-  whole =
-      way.whole ∙ ap (λ l. way.front ++ l) (sym (take-append-drop n rest)) ∙ sym (append_assoc way.front (take n rest) (drop n rest))
-      ∙ ap (λ l. (way.front ++ take n rest) ++ l) (sym (take_rest rest n));
-  adds = Appends-trans old now new way.front (take n rest) way.adds adds;
-}
-
--- a write of no octet
-pub still_written : (old now new : Option (List ℕ)) (octets rest : List ℕ) → IsOnTheWay old now octets rest → Keeps now new → IsOnTheWay old new octets rest
-still_written old now new octets rest way keeps = record {
-  front = way.front;
-  whole = way.whole;
-  adds = Appends-kept old now new way.front way.adds keeps;
-}
-
-pub all_written : (old now : Option (List ℕ)) (octets rest : List ℕ) → IsOnTheWay old now octets rest → rest ≡ [] → Appends old now octets
-all_written old now octets rest way none =
-    subst (Appends old now) (sym (way.whole ∙ ap (λ l. way.front ++ l) none ∙ append-nil way.front)) way.adds
-
-pub front_written : (old now : Option (List ℕ)) (octets rest : List ℕ) → IsOnTheWay old now octets rest → AppendsFront old now octets
-front_written old now octets rest way = (way.front, starts_with_of_append octets way.front rest way.whole, way.adds)
-
--- ---- records
+use Rattle.macsec_pcap.specs.Writing.{WritesRecord}
 
 -- all of the first piece, and a prefix of the second
 front_behind : (old mid new : Option (List ℕ)) (first second : List ℕ) → Appends old mid first → AppendsFront mid new second → AppendsFront old new (first ++ second)

@@ -1,8 +1,8 @@
 -- What the calls of a writer return and write.
 use Rattle.std.specs.Prelude.{ℕ, ◌≡◌, ◌≤◌, ◌<◌, List, length, Option, Some, None, Result, Ok, Err}
 use Rattle.std.specs.Borrow.{MutBor}
-use Rattle.std.specs.Io.{StartsWith}
 use Rattle.std.specs.Io.KnownBytes.{Appends, Keeps}
+use Rattle.macsec_writes.specs.Fronts.{AppendsFront}
 use Rattle.macsec_pcap.specs.declared.fault.PcapFault.{PcapFault}
 use Rattle.macsec_pcap.specs.declared.fault.PcapFault.TheVariants.{RecordLength, Write}
 use Rattle.macsec_pcap.specs.declared.writer.PcapWriter.{PcapWriter}
@@ -20,10 +20,6 @@ lent writer = writer.destination
 -- the octets in the destination, if they are known
 abbrev pub contents : {W : Type 0} → (W → Option (List ℕ)) → PcapWriter W → Option (List ℕ)
 contents held writer = held (lent writer).now
-
--- a prefix of these octets was appended: none, some or all
-abbrev pub AppendsFront : Option (List ℕ) → Option (List ℕ) → List ℕ → Type 0
-AppendsFront old new octets = (front : List ℕ) × StartsWith octets front × Appends old new front
 
 -- what a write of a record returns and writes: of a record that is too long nothing, and if a write fails a prefix
 abbrev pub WritesRecord : Option (List ℕ) → Option (List ℕ) → ℕ → ℕ → List ℕ → Result (Unit {0}) PcapFault → Type 0

@@ -3,7 +3,8 @@
 ghost use Rattle.std.specs.Prelude.{◌≡◌, IfErr, IfOk, None, OnErr, OnOk};
 ghost use Rattle.std.specs.Result.{result_err};
 ghost use Rattle.std.specs.Io.KnownBytes.{Appends};
-ghost use Rattle.macsec_pcap.specs.Writing.{AppendsFront, Writes, WritesRecord, contents, fault_of, lent};
+ghost use Rattle.macsec_writes.specs.Fronts.{AppendsFront};
+ghost use Rattle.macsec_pcap.specs.Writing.{Writes, WritesRecord, contents, fault_of, lent};
 ghost use Rattle.macsec_pcap.specs.Written.{header_octets, record_head};
 
 use crate::PcapFault;
@@ -11,7 +12,8 @@ use crate::form::Resolution;
 use crate::header::{ETHERNET, HEADER_LEN, VERSION};
 use crate::records::{MAX_RECORD_LEN, RECORD_HEADER_LEN};
 use byteorder::{ByteOrder, LittleEndian};
-use std::io::{ErrorKind, Write};
+use macsec_writes::write_octets;
+use std::io::Write;
 
 /// The snapshot length of a written file.
 const SNAPSHOT_LEN: u32 = 65_535;
@@ -75,7 +77,7 @@ pub fn write_header<W: Write>(destination: &mut W, resolution: Resolution) -> Re
     ensures fault { IfErr result (λ fault. fault ≡ PcapFault.Write) }
     ensures cut { OnErr result (AppendsFront (W.contents destination.old) (W.contents destination.new) (header_octets resolution)) }
 {
-    write_octets(destination, &header(resolution))
+    write_piece(destination, &header(resolution))
 }
 
 /// Writes a record, if its frame isn't too long.
@@ -91,30 +93,20 @@ fn write_record<W: Write>(
         return Err(PcapFault::RecordLength);
     }
     let head = record_head(seconds, fraction, frame.len() as u32);
-    write_octets(destination, &head)?;
-    write_octets(destination, frame)
+    write_piece(destination, &head)?;
+    write_piece(destination, frame)
 }
 
-/// Writes these octets. Returns `Write` if a write fails, and then at most a prefix of them was written. A write that
-/// is interrupted is tried again.
-fn write_octets<W: Write>(destination: &mut W, octets: &[u8]) -> Result<(), PcapFault>
+/// Writes these octets. Returns `Write` if a write fails, and then at most a prefix of them was written.
+fn write_piece<W: Write>(destination: &mut W, octets: &[u8]) -> Result<(), PcapFault>
     ensures whole { OnOk result (Appends (W.contents destination.old) (W.contents destination.new) octets.now) }
     ensures fault { IfErr result (λ fault. fault ≡ PcapFault.Write) }
     ensures cut { OnErr result (AppendsFront (W.contents destination.old) (W.contents destination.new) octets.now) }
 {
-    let mut rest = octets;
-    for _ in 0..u64::MAX {
-        if rest.is_empty() {
-            return Ok(());
-        }
-        match destination.write(rest) {
-            Ok(0) => return Err(PcapFault::Write),
-            Ok(count) => rest = &rest[count..],
-            Err(error) if error.kind() == ErrorKind::Interrupted => {}
-            Err(_) => return Err(PcapFault::Write),
-        }
+    match write_octets(destination, octets) {
+        Ok(()) => Ok(()),
+        Err(_) => Err(PcapFault::Write),
     }
-    Err(PcapFault::Write)
 }
 
 /// The header of a file with times in this unit.

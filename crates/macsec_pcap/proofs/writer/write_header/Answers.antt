@@ -2,7 +2,7 @@
 use Rattle.macsec_pcap.proofs.writer.write_header.Goals as goal
 
 pub returns-clause-whole : goal.returns-clause-whole
-returns-clause-whole g c = rw c.header.ensures at c.write_octets.ensures.whole
+returns-clause-whole g c = rw c.header.ensures at c.write_piece.ensures.whole
 
 pub returns-clause-cut : goal.returns-clause-cut
-returns-clause-cut g c = rw c.header.ensures at c.write_octets.ensures.cut
+returns-clause-cut g c = rw c.header.ensures at c.write_piece.ensures.cut

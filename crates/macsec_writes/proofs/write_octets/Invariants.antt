@@ -1,5 +1,5 @@
-use Rattle.macsec_pcap.proofs.WrittenRecords.{IsOnTheWay}
-use Rattle.macsec_pcap.proofs.writer.write_octets.Given as goal
+use Rattle.macsec_writes.proofs.OnTheWay.{IsOnTheWay}
+use Rattle.macsec_writes.proofs.write_octets.Given as goal
 
 -- the octets before the rest were written
 abbrev pub invariant-loop : goal.invariant-loop
