@@ -1,8 +1,9 @@
 -- The contract of a script's run still holds after its text is flushed, and of some text if the reader's is not known.
-use Rattle.std.proofs.Common.{◌≡◌, ◌≤◌, inr, ℕ, List, length, sym, subst}
+use Rattle.std.proofs.Common.{◌≡◌, ◌≤◌, inr, ℕ, List, [], append-nil, length, sym, subst}
 use Rattle.std.specs.Prelude.{IfErr, MatchResult, OnOk, Option, Result, Ok, Err}
 use Rattle.std.specs.Io.KnownBytes.{Keeps}
 use Rattle.std.proofs.KnownBytes.{Appends-kept, Keeps-trans}
+use Rattle.std.proofs.Transfers.{starts_with_of_append}
 use Rattle.macsec_script_parser.specs.declared.faults.ScriptFault.{ScriptFault}
 use Rattle.macsec_script_parser.specs.declared.faults.ScriptFault.TheVariants.{Memory, Read, Write}
 use Rattle.macsec_script.specs.Promised.{IsPromised}
@@ -19,14 +20,16 @@ Ends done flush answer = MatchResult done (λ _. MatchResult flush (λ _. answer
 fault_kept : (script : List ℕ) (old mid new : Option (List ℕ)) → Keeps mid new → (fault : ScriptFault) → RunGives script old mid (Err fault) → RunGives script old new (Err fault)
 fault_kept script old mid new keeps Memory gives = (gives.0, gives.1, Appends-kept old mid new gives.0 gives.2 keeps)
 fault_kept script old mid new keeps Read gives = Keeps-trans old mid new gives keeps
-fault_kept script old mid new keeps Write gives = gives
+fault_kept script old mid new keeps Write (whole, is, (front, begins, adds)) = (whole, is, (front, begins, Appends-kept old mid new front adds keeps))
 fault_kept script old mid new keeps other gives = (gives.0, Keeps-trans old mid new gives.1 keeps)
 
 pub flushed_text : {E : Type 0} (script : List ℕ) (old mid new : Option (List ℕ)) → Keeps mid new → (done : Done) (flush : Result (Unit {0}) E) (answer : Done) →
     Ends done flush answer → RunGives script old mid done → RunGives script old new answer
 flushed_text script old mid new keeps (Ok done) (Ok flush) answer is gives =
     subst (RunGives script old new) (sym is) (gives.0, gives.1, Appends-kept old mid new gives.0 gives.2 keeps)
-flushed_text script old mid new keeps (Ok done) (Err error) answer is gives = subst (RunGives script old new) (sym is) (gives.0, gives.1)
+flushed_text script old mid new keeps (Ok done) (Err error) answer is (text, printed, adds) =
+    subst (RunGives script old new) (sym is)
+    (text, printed, (text, starts_with_of_append text text [] (sym (append-nil text)), Appends-kept old mid new text adds keeps))
 flushed_text script old mid new keeps (Err fault) flush answer is gives =
     subst (RunGives script old new) (sym is) (fault_kept script old mid new keeps fault gives)
 

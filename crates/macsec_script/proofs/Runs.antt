@@ -1,9 +1,11 @@
 -- The loop over the lines of a script: what was written, and the world after them.
 use Rattle.std.proofs.Common.{◌≡◌, ℕ, ◌+◌, ◌<◌, List, [], ◌∷◌, ◌++◌, take, drop, get_or, length, refl, sym, ◌∙◌, ap, subst, append_assoc, append-nil}
 use Rattle.std.proofs.lemmas.List.{drop_more, take_more, take-append-drop}
-use Rattle.std.specs.Prelude.{Option, Err}
+use Rattle.std.specs.Prelude.{MatchResult, OnErr, OnOk, Option, Result, Ok, Err}
 use Rattle.std.specs.Io.KnownBytes.{Appends}
-use Rattle.std.proofs.KnownBytes.{Appends-kept, Appends-nil, Appends-trans}
+use Rattle.std.proofs.KnownBytes.{Appends-kept, Appends-nil, Appends-trans, starts_with_rest}
+use Rattle.std.proofs.Transfers.{starts_with_of_append}
+use Rattle.macsec_writes.specs.Fronts.{AppendsFront}
 use Rattle.macsec_commands.specs.declared.event.Event.{Event}
 use Rattle.macsec_link.specs.World.{WorldState}
 use Rattle.macsec_link.specs.Step.{world_after, world_step}
@@ -14,9 +16,9 @@ use Rattle.macsec_script_parser.specs.declared.lines.Line.TheVariants as line
 use Rattle.macsec_script_parser.specs.declared.faults.ScriptFault.{ScriptFault}
 use Rattle.macsec_script_parser.specs.declared.faults.ScriptFault.TheVariants.{Memory, Write}
 use Rattle.macsec_script_parser.specs.Scripts.{NumberedLine}
-use Rattle.macsec_script_printer.specs.Printing.{Prints}
 use Rattle.macsec_script.specs.Printed.{line_step, text_from}
 use Rattle.macsec_script.specs.Promised.{IsPromisedBefore, LeavesAll, StaysSoundUpTo, event_of, events_of, text_after}
+use Rattle.macsec_script.specs.Runs.{WritesText}
 use Rattle.macsec_script.proofs.TextOfWorlds.{events_with, text_of_worlds, text_with, world_with}
 
 -- ---- one more line
@@ -77,24 +79,32 @@ lines_at : (lines : List NumberedLine) (i : ℕ) (entry : NumberedLine) → entr
 lines_at lines i entry item within =
     sym (take-append-drop i lines) ∙ ap (λ rest. take i lines ++ rest) (drop_more lines i entry within ∙ ap (λ e. e ∷ drop (i + 1) lines) (sym item))
 
+-- the lines before it were printed, and a prefix of its own text
+cut_at : (start : WorldState) (lines : List NumberedLine) (i : ℕ) (entry : NumberedLine) (old mid new : Option (List ℕ)) (w : WorldState) →
+    entry ≡ get_or lines i entry → i < length lines → CarriedOut start (take i lines) old mid w →
+    AppendsFront mid new (line_step w entry.0 entry.1).0 → AppendsFront old new (text_from start lines)
+cut_at start lines i entry old mid new w item within so_far (front, begins, adds) =
+    let before = text_from start (take i lines) in
+    let after = text_from (world_after start (events_of (take i lines ++ entry ∷ []))) (drop (i + 1) lines) in
+    let piece = (line_step w entry.0 entry.1).0 in
+    let rest = drop (length front) piece in
+    let piece_is : text_after start (take i lines) entry ≡ front ++ rest =
+    ap (λ v. (line_step v entry.0 entry.1).0) (sym so_far.world) ∙ starts_with_rest piece front begins in
+    let whole_is : text_from start lines ≡ (before ++ front) ++ (rest ++ after) =
+    ap (text_from start) (lines_at lines i entry item within)
+    ∙ text_of_worlds start (take i lines) entry (drop (i + 1) lines)
+    ∙ ap (λ p. before ++ (p ++ after)) piece_is
+    ∙ ap (λ more. before ++ more) (append_assoc front rest after) ∙ sym (append_assoc before front (rest ++ after)) in (
+      before ++ front,
+      starts_with_of_append (text_from start lines) (before ++ front) (rest ++ after) whole_is,
+      Appends-trans old mid new before front so_far.written adds,
+    )
+
 pub given_up : (start : WorldState) (lines : List NumberedLine) (i : ℕ) (entry : NumberedLine) (old mid new : Option (List ℕ)) (w : WorldState) →
     entry ≡ get_or lines i entry → i < length lines → CarriedOut start (take i lines) old mid w →
-    (f : ScriptFault) → Prints (line_step w entry.0 entry.1).0 mid new (Err f) → Prints (text_from start lines) old new (Err f)
-given_up start lines i entry old mid new w item within so_far Memory h =
-    let front = text_from start (take i lines) in
-    let after = text_from (world_after start (events_of (take i lines ++ entry ∷ []))) (drop (i + 1) lines) in
-    let piece_is : text_after start (take i lines) entry ≡ h.0 ++ h.1.0 = ap (λ v. (line_step v entry.0 entry.1).0) (sym so_far.world) ∙ h.1.1 in (
-      front ++ h.0,
-      (
-        h.1.0 ++ after,
-        ap (text_from start) (lines_at lines i entry item within)
-            ∙ text_of_worlds start (take i lines) entry (drop (i + 1) lines)
-            ∙ ap (λ piece. front ++ (piece ++ after)) piece_is
-            ∙ ap (λ more. front ++ more) (append_assoc h.0 h.1.0 after) ∙ sym (append_assoc front h.0 (h.1.0 ++ after)),
-      ),
-      Appends-trans old mid new front h.0 so_far.written h.2,
-    )
-given_up start lines i entry old mid new w item within so_far Write h = tt
+    (f : ScriptFault) → WritesText (line_step w entry.0 entry.1).0 mid new (Err f) → WritesText (text_from start lines) old new (Err f)
+given_up start lines i entry old mid new w item within so_far Memory h = cut_at start lines i entry old mid new w item within so_far h
+given_up start lines i entry old mid new w item within so_far Write h = cut_at start lines i entry old mid new w item within so_far h
 given_up start lines i entry old mid new w item within so_far other h = h
 
 -- memory runs out at a line: the text of the lines before it was written
@@ -104,3 +114,16 @@ sound_before start lines i old mid new w so_far Memory kept =
     let text = text_from start (take i lines) in
     (text, record { count = i; written = refl; sounds = so_far.stays }, Appends-kept old mid new text so_far.written kept)
 sound_before start lines i old mid new w so_far other kept = tt
+
+-- ---- printing a line
+
+-- nothing was written
+pub none_written : (text : Option (List ℕ)) (whole : List ℕ) → AppendsFront text text whole
+none_written text whole = ([], refl, Appends-nil text)
+
+-- what was written of a line's text
+pub line_written : {E : Type 0} (whole room : List ℕ) (old new : Option (List ℕ)) (written : Result (Unit {0}) E) (answer : Result (Unit {0}) ScriptFault) →
+    room ≡ whole → OnOk written (Appends old new room) → OnErr written (AppendsFront old new room) →
+    MatchResult written (λ _. answer ≡ Ok tt) (λ _. answer ≡ Err Write) → WritesText whole old new answer
+line_written whole room old new (Ok done) answer same adds front is = subst (WritesText whole old new) (sym is) (subst (Appends old new) same adds)
+line_written whole room old new (Err error) answer same adds front is = subst (WritesText whole old new) (sym is) (subst (AppendsFront old new) same front)

@@ -1,16 +1,15 @@
 -- What a run returns if it printed nothing, and if it printed the lines.
-use Rattle.std.proofs.Common.{◌≡◌, ℕ, List, [], refl, sym, ◌∙◌, ap, subst}
+use Rattle.std.proofs.Common.{◌≡◌, ℕ, List, [], drop, refl, sym, ◌∙◌, ap, subst}
 use Rattle.std.specs.Prelude.{Option, Some, None, Result, Ok, Err, IfSome, IfErr, ◌≤◌, length}
 use Rattle.std.specs.Io.KnownBytes.{Keeps}
-use Rattle.std.proofs.KnownBytes.{Appends-nil, Appends-kept, Keeps-refl}
+use Rattle.std.proofs.KnownBytes.{Appends-nil, Appends-kept, Keeps-refl, starts_with_rest}
 use Rattle.macsec_script_parser.specs.declared.faults.ScriptFault.{ScriptFault}
 use Rattle.macsec_script_parser.specs.declared.faults.ScriptFault.TheVariants.{Memory, Read, Write}
 use Rattle.macsec_script_parser.specs.Fields.{map_ok}
 use Rattle.macsec_script_parser.specs.Scripts.{NumberedLine, script_of}
 use Rattle.macsec_script.specs.Printed.{printed_text, text_of}
-use Rattle.macsec_script.specs.Runs.{IsBegun, LeavesText, RunGives}
+use Rattle.macsec_script.specs.Runs.{IsBegun, LeavesText, RunGives, WritesText}
 use Rattle.macsec_script_parser.specs.Readings.{Parses}
-use Rattle.macsec_script_printer.specs.Printing.{Prints}
 
 -- the empty text is a prefix of every text
 pub begun_by_nothing : (answer : Result (List ℕ) ScriptFault) → IsBegun answer []
@@ -32,18 +31,22 @@ at_fault script old new kept f h = (printed_fault script f h, kept)
 
 -- a script that was parsed and printed
 after_parsing : (script : List ℕ) (lines : List NumberedLine) (old new : Option (List ℕ)) → script_of script ≡ Ok lines →
-    (answer : Result (Unit {0}) ScriptFault) → Prints (text_of lines) old new answer → RunGives script old new answer
+    (answer : Result (Unit {0}) ScriptFault) → WritesText (text_of lines) old new answer → RunGives script old new answer
 after_parsing script lines old new parsed (Ok done) h = (text_of lines, ap (map_ok text_of) parsed, h)
-after_parsing script lines old new parsed (Err Memory) h =
-    (h.0, let P : Result (List ℕ) ScriptFault → Type 0 = λ answer. IsBegun answer h.0 in subst P (sym (ap (map_ok text_of) parsed)) h.1, h.2)
-after_parsing script lines old new parsed (Err Write) h = (text_of lines, ap (map_ok text_of) parsed)
+after_parsing script lines old new parsed (Err Memory) (front, begins, adds) = (
+  front,
+  let P : Result (List ℕ) ScriptFault → Type 0 = λ answer. IsBegun answer front in
+      subst P (sym (ap (map_ok text_of) parsed)) (drop (length front) (text_of lines), starts_with_rest (text_of lines) front begins),
+  adds,
+)
+after_parsing script lines old new parsed (Err Write) h = (text_of lines, ap (map_ok text_of) parsed, h)
 after_parsing script lines old new parsed (Err other) h = absurd h
 
 -- the same over a slice of the lines
 pub after_running : (script : List ℕ) (lines given : List NumberedLine) (old new : Option (List ℕ)) → script_of script ≡ Ok lines → given ≡ lines →
-    (answer : Result (Unit {0}) ScriptFault) → Prints (text_of given) old new answer → RunGives script old new answer
+    (answer : Result (Unit {0}) ScriptFault) → WritesText (text_of given) old new answer → RunGives script old new answer
 after_running script lines given old new parsed same answer h =
-    after_parsing script lines old new parsed answer (let P : List NumberedLine → Type 0 = λ l. Prints (text_of l) old new answer in subst P same h)
+    after_parsing script lines old new parsed answer (let P : List NumberedLine → Type 0 = λ l. WritesText (text_of l) old new answer in subst P same h)
 
 -- what holds of a text that was read holds of all that the reader had, if that is known
 pub carried_over : (known : Option (List ℕ)) (text lent : List ℕ) (Holds : List ℕ → Type 0) →
@@ -59,7 +62,7 @@ left_alone text other = Keeps-refl text
 
 -- printing fails only if memory runs out or a write fails
 pub only_written : (whole : List ℕ) (old new : Option (List ℕ)) (answer : Result (Unit {0}) ScriptFault) →
-    Prints whole old new answer → IfErr answer (λ f. LeavesText old new f)
+    WritesText whole old new answer → IfErr answer (λ f. LeavesText old new f)
 only_written whole old new (Ok done) h = tt
 only_written whole old new (Err Memory) h = tt
 only_written whole old new (Err Write) h = tt

@@ -8,7 +8,7 @@ ghost use Rattle.macsec_script_parser.specs.declared.lines.Line.TheVariants as l
 ghost use Rattle.macsec_script_parser.specs.Scripts.{a_config, b_config};
 ghost use Rattle.macsec_script.specs.Printed.{two_ends, frame_made, line_step, text_from, text_of};
 ghost use Rattle.macsec_script.specs.Promised.{ArePromised, ArePromisedUpTo, IsPromised, IsPromisedBefore, IsPromisedUpTo, LeavesAll, StaysSoundUpTo, events_of};
-ghost use Rattle.macsec_script.specs.Runs.{RunGives, LeavesText};
+ghost use Rattle.macsec_script.specs.Runs.{LeavesText, RunGives, WritesText};
 ghost use Rattle.macsec_script_printer.specs.Printing.{Prints};
 
 use macsec_link::laws::{promises, worlds_are_sound};
@@ -16,6 +16,7 @@ use macsec_link::{End, EndConfig, Event, Outcome, World, WorldFault};
 use macsec_script_parser::laws::parsed_lines_fit;
 use macsec_script_parser::{Line, ScriptFault, parse_script, read_text};
 use macsec_script_printer::{Label, print_counters, print_numbers, print_outcome, write_fault};
+use macsec_writes::write_octets;
 use std::alloc::Global;
 use std::io::{Read, Write};
 
@@ -60,7 +61,7 @@ fn print_script<W: Write>(
     lines: &[(u32, Line)],
 ) -> Result<(), ScriptFault>
     requires { IfSome (two_ends lines.now) (λ run. make_fault run.0 run.1 ≡ None) }
-    ensures text { Prints (text_of lines.now) (W.contents writer.old) (W.contents writer.new) result }
+    ensures text { WritesText (text_of lines.now) (W.contents writer.old) (W.contents writer.new) result }
     ensures promised { OnOk result (ArePromised lines.now) }
     ensures promised_before { IfErr result (λ fault. IsPromisedBefore (ArePromisedUpTo lines.now) (W.contents writer.old) (W.contents writer.new) fault) }
 {
@@ -116,7 +117,7 @@ fn print_lines<W: Write>(
     writer: &mut W,
     lines: &[(u32, Line)],
 ) -> Result<(), ScriptFault>
-    ensures text { Prints (text_from world.old lines.now) (W.contents writer.old) (W.contents writer.new) result }
+    ensures text { WritesText (text_from world.old lines.now) (W.contents writer.old) (W.contents writer.new) result }
     ensures sound { OnOk result (IsSound world.old → StaysSound world.old (events_of lines.now)) }
     ensures sound_before { IfErr result (λ fault. IsPromisedBefore (StaysSoundUpTo world.old lines.now) (W.contents writer.old) (W.contents writer.new) fault) }
 {
@@ -129,7 +130,7 @@ fn print_lines<W: Write>(
     Ok(())
 }
 
-/// Carries out one line, and prints its result. Its text is composed in `room`, and then written by one call.
+/// Carries out one line, and prints its result. Its text is composed in `room` and then written.
 fn print_line<W: Write>(
     room: &mut Vec<u8>,
     world: &mut World,
@@ -137,7 +138,7 @@ fn print_line<W: Write>(
     n: u32,
     line: &Line,
 ) -> Result<(), ScriptFault>
-    ensures text { Prints (line_step world.old n line.now).0 (W.contents writer.old) (W.contents writer.new) result }
+    ensures text { WritesText (line_step world.old n line.now).0 (W.contents writer.old) (W.contents writer.new) result }
     ensures unwritten { IfErr result (λ fault. LeavesAll (W.contents writer.old) (W.contents writer.new) fault) }
     ensures world { OnOk result (world.new ≡ (line_step world.old n line.now).1) }
     ensures sound { IsSound world.old → IsSound world.new }
@@ -146,7 +147,8 @@ fn print_line<W: Write>(
     if show(world, room, n, line).is_err() {
         return Err(ScriptFault::Memory);
     }
-    write_fault(writer.write_all(room.as_slice()))
+    let written = write_octets(writer, room.as_slice());
+    write_fault(written)
 }
 
 /// Carries out one line, and writes its result.

@@ -1,0 +1,12 @@
+-- Of a line whose text could not be composed nothing was written, and of any other what was written of its text.
+use Rattle.std.proofs.Common.{rules}
+use Rattle.macsec_script.proofs.Runs.{line_written, none_written}
+use Rattle.macsec_script.proofs.running.print_line.Goals as goal
+
+pub returns-then-is_err-clause-text : goal.returns-then-is_err-clause-text
+returns-then-is_err-clause-text g c = none_written _ _
+
+pub returns-clause-text : goal.returns-clause-text
+returns-clause-text g c =
+    line_written _ _ _ _ c.write_octets-written.result c.write_fault.result (search rules) c.write_octets-written.ensures.whole
+    c.write_octets-written.ensures.cut c.write_fault.ensures
