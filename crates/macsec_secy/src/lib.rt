@@ -22,6 +22,7 @@ ghost use Rattle.std.specs.Prelude.{◌≡◌, IfOk};
 ghost use Rattle.std.specs.Borrow.{sem};
 ghost use Rattle.macsec_secy.specs.Step.{client_frame, frame_fault, link_frame, operator_command, step, uncontrolled_frame};
 ghost use Rattle.macsec_secy.specs.Answers.{MakesEndpoint, output_of_command, output_of_frame, output_of_received, output_of_sent};
+ghost use Rattle.macsec_secy.specs.Laws.{number_of_row, number_used};
 ghost use Rattle.macsec_secy.specs.Rests.{RestsAs};
 ghost use Rattle.macsec_secy.specs.Sound.{IsSound};
 ghost use Rattle.macsec_secy.specs.Sums.{AddsFrames};
@@ -239,6 +240,18 @@ impl Secy {
                 Ok(Sent::Dropped(DropReason::TooLong))
             }
         }
+    }
+
+    /// The association by which `send` would protect this client frame, with the packet number that it would use. `None`
+    /// if it would use none. Nothing changes.
+    pub fn next_row(&self, frame: &[u8]) -> Option<TxRow>
+        ensures { number_of_row result ≡ number_used self.now (client_frame frame.now) }
+    {
+        if self.frame_fault(frame).is_some() {
+            return None;
+        }
+        let options = self.tx_options();
+        self.tx.next_row(&self.keys, &options, frame)
     }
 
     /// Transmits a client frame of 14 to 9,248 octets from the uncontrolled port, unchanged. No counter counts it, and

@@ -2,7 +2,7 @@
 
 ghost use Rattle.std.specs.Prelude.{◌≡◌, ◌+◌, ◌≤◌, is_some, length, slice_get};
 ghost use Rattle.macsec_suite.specs.KeyNumbers.{max_key_count};
-ghost use Rattle.macsec_tx.specs.Transmit.{tx_row};
+ghost use Rattle.macsec_tx.specs.Transmit.{row_on, tx_row};
 ghost use Rattle.macsec_rx.specs.Channels.{rx_row};
 ghost use Rattle.macsec_rx.specs.Limits.{max_channel_count};
 ghost use Rattle.macsec_rx.specs.Commands.{has_rx};
@@ -48,6 +48,13 @@ impl Secy {
         ensures { result ≡ tx_row self.now.tx an }
     {
         self.tx.row(an)
+    }
+
+    /// The enabled transmit SA, if there is one.
+    pub fn tx_row_on(&self) -> Option<TxRow>
+        ensures { result ≡ row_on self.now.tx }
+    {
+        self.tx.row_on()
     }
 
     /// The counters of the receive SC with this SCI, if it exists. Each is, modulo 2^64, the sum of that counter over

@@ -60,6 +60,40 @@ impl TxChannel {
     }
 }
 
+impl TxChannel {
+    /// The association by which `next_frame` would protect a client frame, if it would; nothing changes.
+    pub fn next_row(&self, keys: &KeyTable, options: &TxOptions, frame: &[u8]) -> Option<TxRow>
+        requires keys_there { HaveKeys keys.now self.now }
+        requires frame_long { min_frame_len ≤ length frame.now }
+        requires frame_short { length frame.now ≤ max_frame_len }
+        ensures { result ≡ (sending options.now keys.now self.now frame.now).by }
+    {
+        if !options.protect {
+            return None;
+        }
+        let Some(row) = self.row_on() else {
+            return None;
+        };
+        let key = keys.key(row.key).unwrap();
+        let Some(pn) = number_of_frame(key, &row) else {
+            return None;
+        };
+        let tag = tag_of(options, &row, pn, frame);
+        if is_too_long(options, &tag, frame) {
+            return None;
+        }
+        Some(row)
+    }
+}
+
+/// Whether the client frame with this SecTAG and the ICV would be too long.
+fn is_too_long(options: &TxOptions, tag: &SecTag, frame: &[u8]) -> bool
+    requires { length frame.now ≤ max_frame_len }
+    ensures { result ≡ nat_lt options.now.max_frame (length frame.now + octets_added tag.now) }
+{
+    frame.len() + tag.length() + ICV_LENGTH > options.max_frame as usize
+}
+
 /// How the frame is sent if protection is off.
 fn plain(options: &TxOptions, frame: &[u8]) -> TxResult
     ensures { result ≡ (if nat_lt options.now.max_frame (length frame.now) then TxResult.TooLong else TxResult.Plain) }
@@ -91,7 +125,7 @@ fn frame_under(
 {
     let key = keys.key(row.key).unwrap();
     let tag = tag_of(options, row, pn, frame);
-    if frame.len() + tag.length() + ICV_LENGTH > options.max_frame as usize {
+    if is_too_long(options, &tag, frame) {
         return TxResult::TooLong;
     }
     let iv = iv_of_frame(options, key, pn);
