@@ -1,0 +1,142 @@
+-- What is delivered is above all that the journal had saved.
+use Rattle.std.proofs.Common.{◌≡◌, ℕ, ◌+◌, ◌<◌, ◌≤◌, Bool, true, false, List, [], ◌∷◌, length, suc, refl, ap, sym, ◌∙◌, subst, arith, All}
+use Rattle.std.specs.Prelude.{◌^◌, ◌||◌, max, not, if◌then◌else◌, unwrap_or, Option, Some}
+use Rattle.std.proofs.lemmas.Bool.{eq-eqb}
+use Rattle.macsec_gcm.specs.Octets.{same_octets}
+use Rattle.macsec_tag.specs.declared.identifiers.Sci.{Sci}
+use Rattle.std.proofs.lemmas.List.{take_all}
+use Rattle.std.proofs.lemmas.List.Elements.{All-cons, All-contains, All-head, All-nil, All-tail, All-weaker}
+use Rattle.macsec_rx.specs.declared.RxRow.{RxRow}
+use Rattle.macsec_rx.specs.Channels.{is_at, rx_row}
+use Rattle.macsec_rx.specs.Rows.{AreRxRows}
+use Rattle.macsec_secy.specs.Delivers.{DeliversFrom}
+use Rattle.macsec_secy.specs.declared.fault.FrameFault.{FrameFault}
+use Rattle.macsec_secy.specs.Kept.{IsAbove as IsAboveAt, RxRowStays, RxRowsAreApart}
+use Rattle.macsec_secy.specs.Step.{Input, Output, link_frame, received_output, step, unless_fault}
+use Rattle.macsec_secy.specs.Reception.{judgement_of, state_after_receiving}
+use Rattle.macsec_secy.specs.Sound.{IsSound}
+use Rattle.macsec_secy.specs.State.{State}
+use Rattle.macsec_reserve.specs.declared.reservation.Reservation.{Reservation}
+use Rattle.macsec_reserve.specs.Journal.{highest, reservations}
+use Rattle.macsec_reserve.specs.Keeping.{Keeping, KeepingInput, KeepingOutput, dropped_no_reservation, endpoint_input, now_durable, is_below_floor, keeping_after, keeping_step, may_go, with_step}
+use Rattle.macsec_reserve.specs.Histories.{Run, opening, reported}
+use Rattle.macsec_reserve.specs.Replay.{DeliversAbove, KeepsAssociation, NeverDeliversAgain, SavesAccepted, row_name, saved_for}
+use Rattle.macsec_reserve.proofs.EndpointLaws.{Laws}
+use Rattle.macsec_reserve.proofs.Steps.{by_tests}
+use Rattle.macsec_reserve.proofs.FloorsKept.{IsAbove, all_found, before_stays_after, keeps_floors}
+
+abbrev pub RowsStay : Type 0
+RowsStay = (s : State) (input : Input) (sci : Sci) (an n : ℕ) → RxRowStays s input sci an n
+
+pub delivers_above : Laws → ((s : State) → IsSound s → RxRowsAreApart s.rx.rows) → ((s : State) (frame : List ℕ) (row : RxRow) (delivered : List ℕ) → DeliversFrom s frame row delivered) →
+    (run : Run) (inputs : List KeepingInput) (frame : List ℕ) (row : RxRow) (delivered : List ℕ) → DeliversAbove run inputs frame row delivered
+delivers_above laws apart delivers run inputs frame row delivered sound replay is_row is_delivered =
+    let k = keeping_after (opening run) inputs in
+    let s = k.secy in
+    let sound' : IsSound s = subst (λ (is : List KeepingInput). IsSound (keeping_after (opening run) is).secy) (take_all (length inputs) inputs (omega arith)) (sound (length inputs)) in
+    let it = delivers s frame row delivered sound' is_row is_delivered in
+    let above = keeps_floors laws apart inputs (opening run) refl sound (All-nil (IsAbove (opening run).before (opening run).secy.keys)) in
+    let own : IsAbove k.before s.keys row = all_found (IsAbove k.before s.keys) (λ r. is_at row.sci row.an r) s.rx.rows row above it.at_place in
+    let saved : highest (reservations run.journal) (row_name s row) < row.lowest = subst (λ (before : List Reservation). IsAbove before s.keys row) (before_stays_after inputs (opening run)) own in
+    omega (arith, saved, it.on_time replay)
+
+found_bound : (scis : List Sci) (rows : List RxRow) (sci : Sci) (an : ℕ) (row : RxRow) → AreRxRows scis rows → rx_row rows sci an ≡ Some row → row.next ≤ 2 ^ 64
+found_bound scis [] sci an row are found = cc
+found_bound scis (x ∷ xs) sci an row are found = by_test (is_at sci an x) (found_bound scis xs sci an row are.2) found
+  where
+    by_test : (b : Bool) → (rx_row xs sci an ≡ Some row → row.next ≤ 2 ^ 64) → (if b then Some x else rx_row xs sci an) ≡ Some row → row.next ≤ 2 ^ 64
+    by_test true later found' = let one : x ≡ row = cc in subst (λ (r : RxRow). r.next ≤ 2 ^ 64) one are.0.next
+    by_test false later found' = later found'
+
+-- what is saved covers what was accepted
+pub saves_accepted : (s : State) (sci : Sci) (an : ℕ) (row : RxRow) (n : ℕ) → SavesAccepted s sci an row n
+saves_accepted s sci an row n sound window found below =
+    let within : row.next ≤ row.lowest + s.options.window =
+    all_found (λ (r : RxRow). r.next ≤ r.lowest + s.options.window) (λ r. is_at sci an r) s.rx.rows row sound.agrees.within_window found in
+    let most : row.next ≤ 2 ^ 64 = found_bound s.rx.scis s.rx.rows sci an row sound.rx.rows found in
+    omega (arith, within, window, below, most)
+
+-- ---- until the association is deleted
+
+above_by_tests : (below go : Bool) (k : Keeping) (answer : Output × State) (sci : Sci) (an n : ℕ) → IsAboveAt k.secy.rx.rows sci an n → IsAboveAt answer.1.rx.rows sci an n →
+    IsAboveAt (by_tests below go k answer).1.secy.rx.rows sci an n
+above_by_tests true go k answer sci an n now then' = now
+above_by_tests false true k answer sci an n now then' = then'
+above_by_tests false false k answer sci an n now then' = now
+
+above_step : RowsStay → (k : Keeping) (input : KeepingInput) (sci : Sci) (an n : ℕ) → KeepsAssociation sci an input → IsAboveAt k.secy.rx.rows sci an n →
+    IsAboveAt (keeping_step k input).1.secy.rx.rows sci an n
+above_step stay k (now_durable r) sci an n keeps above = above
+above_step stay k (endpoint_input input) sci an n keeps above =
+    above_by_tests (is_below_floor k input) (may_go k input) k (step k.secy input) sci an n above (stay k.secy input sci an n keeps above)
+
+above_on : RowsStay → (inputs : List KeepingInput) (k : Keeping) (sci : Sci) (an n : ℕ) → All (KeepsAssociation sci an) inputs → IsAboveAt k.secy.rx.rows sci an n →
+    IsAboveAt (keeping_after k inputs).secy.rx.rows sci an n
+above_on stay [] k sci an n keeps above = above
+above_on stay (input ∷ inputs) k sci an n keeps above =
+    above_on stay inputs (keeping_step k input).1 sci an n (All-tail (KeepsAssociation sci an) input inputs keeps)
+    (above_step stay k input sci an n (All-head (KeepsAssociation sci an) input inputs keeps) above)
+
+-- ---- two runs
+
+-- a link frame uses no packet number
+link_step : (k : Keeping) (frame : List ℕ) → keeping_step k (endpoint_input (link_frame frame)) ≡ with_step k (step k.secy (link_frame frame))
+link_step k frame = by_keeping k.keeps
+  where
+    by_keeping : (keeps : Bool) →
+        (if not keeps || true then with_step k (step k.secy (link_frame frame)) else (dropped_no_reservation, k)) ≡ with_step k (step k.secy (link_frame frame))
+    by_keeping true = refl
+    by_keeping false = refl
+
+same_octets-refl : (xs : List ℕ) → same_octets xs xs ≡ true
+same_octets-refl [] = refl
+same_octets-refl (x ∷ xs) = rw (eq-eqb x x refl, same_octets-refl xs) refl
+
+-- what a list has it reserves
+has_highest : (rs : List Reservation) → All (λ x. x.last ≤ highest rs x.name) rs
+has_highest [] = All-nil (λ (x : Reservation). x.last ≤ 0)
+has_highest (y ∷ ys) =
+    let P : Reservation → Type 0 = λ x. x.last ≤ highest (y ∷ ys) x.name in
+    All-cons P y ys (own (same_octets y.name y.name) (same_octets-refl y.name))
+    (All-weaker (λ (x : Reservation). x.last ≤ highest ys x.name) P (λ x less. later x (same_octets y.name x.name) less) ys (has_highest ys))
+  where
+    own : (b : Bool) → b ≡ true → y.last ≤ (if b then max y.last (highest ys y.name) else highest ys y.name)
+    own true is = omega arith
+    own false is = cc
+
+    later : (x : Reservation) (b : Bool) → x.last ≤ highest ys x.name → x.last ≤ (if b then max y.last (highest ys x.name) else highest ys x.name)
+    later x true less = omega (arith, less)
+    later x false less = less
+
+pub never_delivers_again : Laws → ((s : State) → IsSound s → RxRowsAreApart s.rx.rows) → RowsStay → ((s : State) (frame : List ℕ) (row : RxRow) (delivered : List ℕ) → DeliversFrom s frame row delivered) →
+    (run later : Run) (name : List ℕ) (n : ℕ) → NeverDeliversAgain run later name n
+never_delivers_again laws apart stay delivers run later name n saved durable inputs frame row delivered sound replay is_row is_delivered is_name =
+    let k = keeping_after (opening run) saved.before in
+    let it = delivers k.secy saved.frame saved.from saved.accepted.delivered (saved.sound 0) saved.accepted.row saved.accepted.gives in
+    let stepped : IsAboveAt (step k.secy (link_frame saved.frame)).1.rx.rows saved.from.sci saved.from.an (n + 1) =
+    subst (λ (m : ℕ). IsAboveAt (step k.secy (link_frame saved.frame)).1.rx.rows saved.from.sci saved.from.an (m + 1)) saved.number
+    (subst (λ (f : Option FrameFault). IsAboveAt
+    (unless_fault f k.secy (received_output saved.frame (judgement_of k.secy saved.frame), state_after_receiving k.secy saved.frame (judgement_of k.secy saved.frame))).1.rx.rows
+    saved.from.sci saved.from.an ((judgement_of k.secy saved.frame).number + 1)) (sym saved.accepted.fits) (it.accepted saved.accepted.step)) in
+    let first : IsAboveAt (keeping_step k (endpoint_input (link_frame saved.frame))).1.secy.rx.rows saved.from.sci saved.from.an (n + 1) =
+    subst (λ (a : KeepingOutput × Keeping). IsAboveAt a.1.secy.rx.rows saved.from.sci saved.from.an (n + 1)) (sym (link_step k saved.frame)) stepped in
+    let then' = above_on stay saved.then_on (keeping_step k (endpoint_input (link_frame saved.frame))).1 saved.from.sci saved.from.an (n + 1) saved.keeps first in
+    let at_last : IsAboveAt saved.last.secy.rx.rows saved.from.sci saved.from.an (n + 1) =
+    subst (λ (k' : Keeping). IsAboveAt k'.secy.rx.rows saved.from.sci saved.from.an (n + 1)) (sym saved.last_is) then' in
+    let one : at_last.row ≡ saved.row = ap (λ (r : Option RxRow). unwrap_or r saved.row) (sym at_last.there ∙ saved.there) in
+    let next : n + 1 ≤ saved.row.next = subst (λ (r : RxRow). n + 1 ≤ r.next) one at_last.above in
+    let last_sound : IsSound saved.last.secy = subst (λ (k' : Keeping). IsSound k'.secy) (sym saved.last_is)
+    (subst (λ (is : List KeepingInput). IsSound (keeping_after (keeping_step k (endpoint_input (link_frame saved.frame))).1 is).secy) (take_all (length saved.then_on) saved.then_on (omega arith))
+    (saved.sound (suc (length saved.then_on)))) in
+    let covered : n ≤ (saved_for saved.last.secy saved.row).last =
+    saves_accepted saved.last.secy saved.from.sci saved.from.an saved.row n last_sound saved.window saved.there (omega (arith, next)) in
+    let granted : (saved_for saved.last.secy saved.row).last ≤ highest (reported run) (row_name saved.last.secy saved.row) =
+    All-contains (λ (x : Reservation). x.last ≤ highest (reported run) x.name) (reported run) (saved_for saved.last.secy saved.row)
+    (has_highest (reported run)) saved.durable in
+    let kept = durable (row_name saved.last.secy saved.row) in
+    let s = (keeping_after (opening later) inputs).secy in
+    let above : highest (reservations later.journal) (row_name s row) < (judgement_of s frame).number =
+    delivers_above laws apart delivers later inputs frame row delivered sound replay is_row is_delivered in
+    let above' : highest (reservations later.journal) (row_name saved.last.secy saved.row) < (judgement_of s frame).number =
+    subst (λ (m : List ℕ). highest (reservations later.journal) m < (judgement_of s frame).number) (is_name ∙ sym saved.name_is) above in
+    omega (arith, covered, granted, kept, above')

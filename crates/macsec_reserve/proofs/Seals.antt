@@ -1,0 +1,160 @@
+-- Where each use of the cipher comes from: a key of the run's end, and a packet number that no earlier run may have
+-- used, which is reserved.
+use Rattle.std.proofs.Common.{◌≡◌, ℕ, ◌<◌, ◌≤◌, Bool, true, false, List, [], ◌∷◌, refl, ap, sym, subst, ◌∙◌, arith, All, Contains}
+use Rattle.std.specs.Prelude.{◌||◌, not, nat_lt, nat_le, if◌then◌else◌, Option, Some, None}
+use Rattle.std.specs.List.{list_any}
+use Rattle.std.proofs.lemmas.Bool.{and_parts, leb-true, ltb-true}
+use Rattle.std.proofs.lemmas.List.Elements.{All-cons, All-nil}
+use Rattle.macsec_tag.specs.declared.identifiers.Sci.{Sci}
+use Rattle.macsec_suite.specs.CipherUses.{CipherUse}
+use Rattle.macsec_suite.specs.declared.suite.Suite.{Suite}
+use Rattle.macsec_suite.specs.KeyRows.{InstalledKey, row_noting, the_key}
+use Rattle.macsec_suite.specs.Suites.{iv_of, last_of}
+use Rattle.macsec_tx.specs.declared.TxRow.{TxRow}
+use Rattle.macsec_tx.specs.Transmit.{use_sent}
+use Rattle.macsec_commands.specs.declared.config.EndConfig.{EndConfig}
+use Rattle.macsec_secy.specs.declared.fault.FrameFault.{FrameFault}
+use Rattle.macsec_secy.specs.Kept.{KeysStay}
+use Rattle.macsec_secy.specs.Laws.{UsedNumber, number_unless_fault, number_used}
+use Rattle.macsec_secy.specs.Sound.{IsSound}
+use Rattle.macsec_secy.specs.State.{State, tx_options}
+use Rattle.macsec_secy.specs.Step.{operator_command, client_frame, uncontrolled_frame, link_frame, frame_fault, sending_of, step}
+use Rattle.macsec_reserve.specs.Journal.{highest, sending_name}
+use Rattle.macsec_reserve.specs.Keeping.{Keeping, KeepingInput, endpoint_input, now_durable, dropped_no_reservation, keeping_step, key_name, may_go, may_use, with_step}
+use Rattle.macsec_reserve.specs.Histories.{newly_sealed, sealed_by, sealed_if}
+use Rattle.macsec_reserve.proofs.EndpointLaws.{Laws}
+use Rattle.macsec_reserve.proofs.Steps.{before_stays}
+
+-- from a moment of a run to a later one: a use of the cipher between them, by a key as it is at the later one
+pub record IsUse (k later : Keeping) (x : CipherUse) : Type 0 where
+  pub number : ℕ
+  pub key : InstalledKey
+  pub there : Contains later.secy.keys key
+  pub bytes : x.key ≡ key.bytes
+  pub most : number ≤ last_of key.suite
+  pub iv : x.iv ≡ iv_of key.suite later.secy.config.sci key.ssci key.salt number
+  -- no earlier run may have used the number, and this run has reserved it
+  pub above : highest k.before (sending_name x.key) < number
+  pub within : number ≤ highest later.granted (sending_name x.key)
+  -- nor was it used in this run under a key of these octets
+  pub unused : (old : InstalledKey) → Contains k.secy.keys old → x.key ≡ old.bytes → old.first_unused ≤ number
+
+-- it was used at the first step, after which the keys have noted it
+pub record IsNewUse (k after later : Keeping) (x : CipherUse) : Type 0 where
+  pub is_use : IsUse k later x
+  pub key : InstalledKey
+  pub there : Contains after.secy.keys key
+  pub bytes : x.key ≡ key.bytes
+  pub noted : is_use.number < key.first_unused
+
+iv_again : (suite suite' : Suite) (sci sci' : Sci) (ssci ssci' : ℕ) (salt salt' : List ℕ) (n : ℕ) → suite' ≡ suite → sci' ≡ sci → ssci' ≡ ssci → salt' ≡ salt →
+    iv_of suite sci ssci salt n ≡ iv_of suite' sci' ssci' salt' n
+iv_again suite suite' sci sci' ssci ssci' salt salt' n a b c d =
+    ap (λ x. iv_of x sci ssci salt n) (sym a)
+    ∙ ap (λ x. iv_of suite' x ssci salt n) (sym b)
+    ∙ ap (λ x. iv_of suite' sci' x salt n) (sym c)
+    ∙ ap (λ x. iv_of suite' sci' ssci' x n) (sym d)
+
+-- a use after a step, seen from before the step
+pub use_earlier : (k : Keeping) (input : KeepingInput) (later : Keeping) → KeysStay k.secy (keeping_step k input).1.secy → (x : CipherUse) →
+    IsUse (keeping_step k input).1 later x → IsUse k later x
+use_earlier k input later stay x it = record {
+  number = it.number;
+  key = it.key;
+  there = it.there;
+  bytes = it.bytes;
+  most = it.most;
+  iv = it.iv;
+  above = subst (λ before. highest before (sending_name x.key) < it.number) (before_stays k input) it.above;
+  within = it.within;
+  unused = λ old there bytes.
+      let then' = stay.keys old there in
+      let at_least : then'.later.first_unused ≤ it.number = it.unused then'.later then'.there (bytes ∙ sym then'.is_later.bytes) in
+      omega (arith, at_least, then'.is_later.first_unused);
+}
+
+-- ---- a client frame
+
+-- a number that may be used
+only_one : (keeps b : Bool) → keeps ≡ true → not keeps || not (not b || false) ≡ true → b ≡ true
+only_one true true is go = refl
+only_one true false is go = cc
+only_one false b is go = cc
+
+may_be_used : (k : Keeping) (frame : List ℕ) (row : TxRow) → k.keeps ≡ true → frame_fault frame ≡ None → (sending_of k.secy frame).by ≡ Some row →
+    may_go k (client_frame frame) ≡ true → may_use k (row.key, row.next) ≡ true
+may_be_used k frame row keeps fits by go =
+    let uses : number_used k.secy (client_frame frame) ≡ (row.key, row.next) ∷ [] =
+    ap (λ f. number_unless_fault f (sending_of k.secy frame).by) fits ∙ ap (λ b. number_unless_fault None b) by in
+    only_one k.keeps (may_use k (row.key, row.next)) keeps (subst (λ (us : List UsedNumber). not k.keeps || not (list_any (λ u. not (may_use k u)) us) ≡ true) uses go)
+
+new_use : Laws → (k : Keeping) (frame : List ℕ) (row : TxRow) (later : Keeping) → k.keeps ≡ true → IsSound k.secy → frame_fault frame ≡ None → (sending_of k.secy frame).by ≡ Some row →
+    may_go k (client_frame frame) ≡ true →
+    KeysStay (keeping_step k (endpoint_input (client_frame frame))).1.secy later.secy →
+    ((name : List ℕ) → highest k.granted name ≤ highest later.granted name) →
+    IsNewUse k (keeping_step k (endpoint_input (client_frame frame))).1 later (use_sent (tx_options k.secy) (the_key k.secy.keys row.key) row frame)
+new_use laws k frame row later keeps sound fits by go stay grow =
+    let s = k.secy in
+    let key = the_key s.keys row.key in
+    let after = (step s (client_frame frame)).1 in
+    let it = laws.protects s frame row sound fits by in
+    let same : (keeping_step k (endpoint_input (client_frame frame))).1.secy ≡ after =
+    ap (λ (b : Bool). (if b then with_step k (step s (client_frame frame)) else (dropped_no_reservation, k)).1.secy) go in
+    let noted : Contains (keeping_step k (endpoint_input (client_frame frame))).1.secy.keys (row_noting row.next key) =
+    subst (λ (t : State). Contains t.keys (row_noting row.next key)) (sym same) it.noted in
+    let then' = stay.keys (row_noting row.next key) noted in
+    let tests = and_parts (nat_lt (highest k.before (key_name s.keys row.key)) row.next) (nat_le row.next (highest k.granted (key_name s.keys row.key)))
+    (may_be_used k frame row keeps fits by go) in
+    let config : later.secy.config ≡ s.config = stay.config ∙ ap (λ (t : State). t.config) same ∙ (laws.keys_stay s (client_frame frame) sound).config in
+    let there : Contains s.keys key = ((laws.keys_apart s sound).found row.key it.there).there in
+    record {
+      is_use = record {
+        number = row.next;
+        key = then'.later;
+        there = then'.there;
+        bytes = sym then'.is_later.bytes;
+        most = subst (λ (u : Suite). row.next ≤ last_of u) (sym then'.is_later.suite) it.most;
+        iv = iv_again key.suite then'.later.suite s.config.sci later.secy.config.sci key.ssci then'.later.ssci key.salt then'.later.salt row.next
+            then'.is_later.suite (ap (λ (c : EndConfig). c.sci) config) then'.is_later.ssci then'.is_later.salt;
+        above = ltb-true (highest k.before (key_name s.keys row.key)) row.next tests.0;
+        within = let now : row.next ≤ highest k.granted (key_name s.keys row.key) = leb-true row.next (highest k.granted (key_name s.keys row.key)) tests.1 in
+            omega (arith, now, grow (key_name s.keys row.key));
+        unused = λ old here bytes.
+            let one : key ≡ old = (laws.keys_apart s sound).by_bytes key old there here bytes in
+            subst (λ (o : InstalledKey). o.first_unused ≤ row.next) one it.unused;
+      };
+      key = row_noting row.next key;
+      there = noted;
+      bytes = refl;
+      noted = omega arith;
+    }
+
+-- ---- every input
+
+frame_uses : Laws → (k : Keeping) (frame : List ℕ) (later : Keeping) → k.keeps ≡ true → IsSound k.secy →
+    KeysStay (keeping_step k (endpoint_input (client_frame frame))).1.secy later.secy →
+    ((name : List ℕ) → highest k.granted name ≤ highest later.granted name) →
+    (fault : Option FrameFault) → frame_fault frame ≡ fault → (by : Option TxRow) → (sending_of k.secy frame).by ≡ by →
+    (go : Bool) → may_go k (client_frame frame) ≡ go →
+    All (IsNewUse k (keeping_step k (endpoint_input (client_frame frame))).1 later) (sealed_if go (sealed_by k.secy frame fault by))
+frame_uses laws k frame later keeps sound stay grow fault fits by sent false go = All-nil (IsNewUse k (keeping_step k (endpoint_input (client_frame frame))).1 later)
+frame_uses laws k frame later keeps sound stay grow (Some f) fits by sent true go = All-nil (IsNewUse k (keeping_step k (endpoint_input (client_frame frame))).1 later)
+frame_uses laws k frame later keeps sound stay grow None fits None sent true go = All-nil (IsNewUse k (keeping_step k (endpoint_input (client_frame frame))).1 later)
+frame_uses laws k frame later keeps sound stay grow None fits (Some row) sent true go =
+    let P : CipherUse → Type 0 = IsNewUse k (keeping_step k (endpoint_input (client_frame frame))).1 later in
+    All-cons P (use_sent (tx_options k.secy) (the_key k.secy.keys row.key) row frame) [] (new_use laws k frame row later keeps sound fits sent go stay grow) (All-nil P)
+
+none_if : (P : CipherUse → Type 0) (go : Bool) → All P (sealed_if go [])
+none_if P true = All-nil P
+none_if P false = All-nil P
+
+-- what a step seals, up to a later moment of the run
+pub new_uses : Laws → (k : Keeping) (input : KeepingInput) (later : Keeping) → k.keeps ≡ true → IsSound k.secy →
+    KeysStay (keeping_step k input).1.secy later.secy → ((name : List ℕ) → highest k.granted name ≤ highest later.granted name) →
+    All (IsNewUse k (keeping_step k input).1 later) (newly_sealed k input)
+new_uses laws k (now_durable r) later keeps sound stay grow = All-nil (IsNewUse k (keeping_step k (now_durable r)).1 later)
+new_uses laws k (endpoint_input (operator_command c)) later keeps sound stay grow = none_if (IsNewUse k (keeping_step k (endpoint_input (operator_command c))).1 later) (may_go k (operator_command c))
+new_uses laws k (endpoint_input (client_frame frame)) later keeps sound stay grow =
+    frame_uses laws k frame later keeps sound stay grow (frame_fault frame) refl (sending_of k.secy frame).by refl (may_go k (client_frame frame)) refl
+new_uses laws k (endpoint_input (uncontrolled_frame frame)) later keeps sound stay grow = none_if (IsNewUse k (keeping_step k (endpoint_input (uncontrolled_frame frame))).1 later) (may_go k (uncontrolled_frame frame))
+new_uses laws k (endpoint_input (link_frame frame)) later keeps sound stay grow = none_if (IsNewUse k (keeping_step k (endpoint_input (link_frame frame))).1 later) (may_go k (link_frame frame))

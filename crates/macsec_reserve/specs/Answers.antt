@@ -1,0 +1,31 @@
+-- What the calls of a keeping endpoint return, as outputs.
+use Rattle.std.specs.Prelude.{◌≡◌, ℕ, List, true, false, None, Result, Ok, Err}
+use Rattle.macsec_commands.specs.Configs.{config_fault}
+use Rattle.macsec_commands.specs.declared.config.EndConfig.{EndConfig}
+use Rattle.macsec_secy.specs.declared.fault.FrameFault.{FrameFault}
+use Rattle.macsec_secy.specs.Answers.{MakesEndpoint, output_of_sent}
+use Rattle.macsec_reserve.specs.declared.keeper.KeptSent.{KeptSent}
+use Rattle.macsec_reserve.specs.declared.keeper.KeptSent.TheVariants.{Sent, NoReservation}
+use Rattle.macsec_reserve.specs.declared.keeper.OpenFault.{OpenFault}
+use Rattle.macsec_reserve.specs.declared.keeper.OpenFault.TheVariants.{Endpoint, NotJournal, Memory}
+use Rattle.macsec_reserve.specs.Journal.{is_journal}
+use Rattle.macsec_commands.specs.declared.fault.NewFault.{NewFault}
+use Rattle.macsec_reserve.specs.Keeping.{Keeping, alone, opened, KeepingOutput, dropped_no_reservation, endpoint_output}
+
+-- of `send`
+abbrev pub output_of_kept : Result KeptSent FrameFault → KeepingOutput
+output_of_kept (Ok (Sent sent)) = endpoint_output (output_of_sent (Ok sent))
+output_of_kept (Ok NoReservation) = dropped_no_reservation
+output_of_kept (Err f) = endpoint_output (output_of_sent (Err f))
+
+-- of `open`: a file that is no journal, or no endpoint, or out of memory, or the keeping endpoint as it is opened
+abbrev pub MakesKeeper : EndConfig → List ℕ → Result Keeping OpenFault → Type 0
+MakesKeeper config journal (Ok k) = (is_journal journal ≡ true) × (k ≡ opened config journal)
+MakesKeeper config journal (Err NotJournal) = is_journal journal ≡ false
+MakesKeeper config journal (Err (Endpoint f)) = (is_journal journal ≡ true) × MakesEndpoint config (Err f)
+MakesKeeper config journal (Err Memory) = is_journal journal ≡ true
+
+-- of `new`: no endpoint, or one without a journal
+abbrev pub MakesAlone : EndConfig → Result Keeping NewFault → Type 0
+MakesAlone config (Ok k) = (config_fault config ≡ None) × (k ≡ alone config)
+MakesAlone config (Err f) = MakesEndpoint config (Err f)

@@ -1,0 +1,41 @@
+-- What a crash leaves of a journal: each record that was durable, at its place, and around it any octets at all.
+use Rattle.std.specs.Prelude.{◌≡◌, ◌<◌, ◌≤◌, ◌%◌, ◌^◌, ℕ, List, [], ◌∷◌, ◌++◌, length}
+use Rattle.std.specs.List.{All}
+use Rattle.macsec_reserve.specs.declared.reservation.Reservation.{Reservation}
+use Rattle.macsec_reserve.specs.Journal.{highest, record_length, record_of, reservations}
+use Rattle.macsec_reserve.specs.Histories.{KeepsDurable, Run, reported}
+
+-- a name has 32 octets, and a packet number 64 bits
+pub record IsReservation (r : Reservation) : Type 0 where
+  pub name : length r.name ≡ 32
+  pub last : r.last < 2 ^ 64
+
+-- the records of a list, one after another
+abbrev pub records_of : List Reservation → List ℕ
+records_of [] = []
+records_of (r ∷ rs) = record_of r ++ records_of rs
+
+-- records that were written behind whole records are read, and so is all that was there, whatever is behind them
+abbrev pub ReadsWritten : List ℕ → List Reservation → List ℕ → Type 0
+ReadsWritten journal rs behind =
+    All IsReservation rs → length journal % record_length ≡ 0 →
+    (name : List ℕ) → (highest (reservations journal) name ≤ highest (reservations (journal ++ records_of rs ++ behind)) name)
+    × (highest rs name ≤ highest (reservations (journal ++ records_of rs ++ behind)) name)
+
+-- ---- histories
+
+-- the record of a reservation stands in a journal, behind whole records; other octets may be any
+pub record StandsIn (journal : List ℕ) (r : Reservation) : Type 0 where
+  pub is : IsReservation r
+  pub kept : List ℕ
+  pub whole : length kept % record_length ≡ 0
+  pub behind : List ℕ
+  pub octets : journal ≡ kept ++ record_of r ++ behind
+
+-- each record that a run was told to be durable stands in what a later run reads
+abbrev pub LeavesRecords : Run → Run → Type 0
+LeavesRecords run later = All (StandsIn later.journal) (reported run)
+
+-- then the later run reads what they reserve
+abbrev pub LeavesDurable : Run → Run → Type 0
+LeavesDurable run later = LeavesRecords run later → KeepsDurable run later

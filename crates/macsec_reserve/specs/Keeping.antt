@@ -1,0 +1,110 @@
+-- A keeping endpoint: the endpoint of the machine, with what earlier runs may have used and with what this run has
+-- reserved. Without a journal it keeps nothing, and is the machine.
+use Rattle.std.specs.Prelude.{ℕ, ◌+◌, ◌-◌, ◌/◌, ◌^◌, min, option_map, List, [], ◌∷◌, ◌++◌, nat_lt, nat_le, not, ◌&&◌, ◌||◌, Bool, true, false, if◌then◌else◌, Option, Some, None}
+use Rattle.std.specs.List.{list_any}
+use Rattle.macsec_suite.specs.KeyRows.{InstalledKey, the_key}
+use Rattle.macsec_suite.specs.declared.refusal.Refusal.TheVariants.{PnFloor}
+use Rattle.macsec_commands.specs.declared.command.Command.{Command}
+use Rattle.macsec_commands.specs.declared.command.Command.TheVariants.{TxSa, RxSa}
+use Rattle.macsec_commands.specs.declared.config.EndConfig.{EndConfig}
+use Rattle.macsec_tx.specs.declared.TxRow.{TxRow}
+use Rattle.macsec_secy.specs.State.{State, start}
+use Rattle.macsec_secy.specs.Laws.{UsedNumber, number_used}
+use Rattle.macsec_secy.specs.Step.{Input, operator_command, Output, refused, step}
+use Rattle.macsec_reserve.specs.declared.reservation.Reservation.{Reservation}
+use Rattle.macsec_reserve.specs.Journal.{highest, receiving_name, reservations, sending_name}
+
+-- the endpoint; whether it has a journal; what the journal reserved when the run began; and what was reported durable
+-- since
+pub record Keeping : Type 0 where
+  pub secy : State
+  pub keeps : Bool
+  pub before : List Reservation
+  pub granted : List Reservation
+
+-- as it is opened beside a journal: nothing is reserved
+abbrev pub opened : EndConfig → List ℕ → Keeping
+opened config journal = record { secy = start config; keeps = true; before = reservations journal; granted = [] }
+
+-- as it is made without a journal
+abbrev pub alone : EndConfig → Keeping
+alone config = record { secy = start config; keeps = false; before = []; granted = [] }
+
+-- the name of the key of this number for sending
+abbrev pub key_name : List InstalledKey → ℕ → List ℕ
+key_name keys key = sending_name (the_key keys key).bytes
+
+-- ---- what may be done
+
+-- a packet number may be used under a key if no earlier run may have used it, and if this run has reserved it
+abbrev pub may_use : Keeping → UsedNumber → Bool
+may_use k u = let name = key_name k.secy.keys u.0 in nat_lt (highest k.before name) u.1 && nat_le u.1 (highest k.granted name)
+
+-- an input that uses packet numbers, by the machine, may use them all
+abbrev pub uses_reserved : Keeping → Input → Bool
+uses_reserved k input = not (list_any (λ u. not (may_use k u)) (number_used k.secy input))
+
+-- without a journal any may be used
+abbrev pub may_go : Keeping → Input → Bool
+may_go k input = not k.keeps || uses_reserved k input
+
+-- the first packet number of an association to be, and the name under which it counts
+abbrev pub begins_at : State → Command → Option (List ℕ × ℕ)
+begins_at s (TxSa an key next conf) = Some (key_name s.keys key, next)
+begins_at s (RxSa sci an key ssci lowest) = Some (receiving_name (key_name s.keys key) sci an, lowest)
+begins_at s c = None
+
+-- an earlier run may have used the number, from 1 on
+abbrev pub was_reserved : List Reservation → Option (List ℕ × ℕ) → Bool
+was_reserved before None = false
+was_reserved before (Some it) = nat_lt 0 it.1 && nat_le it.1 (highest before it.0)
+
+-- a command that begins at a number which an earlier run may have used
+abbrev pub is_below_floor : Keeping → Input → Bool
+is_below_floor k (operator_command c) = k.keeps && was_reserved k.before (begins_at k.secy c)
+is_below_floor k input = false
+
+-- ---- steps
+
+-- an input of the machine, or the report that a reservation is durable
+pub data KeepingInput : Type 0 where
+  endpoint_input : Input → KeepingInput
+  now_durable : Reservation → KeepingInput
+
+pub data KeepingOutput : Type 0 where
+  endpoint_output : Output → KeepingOutput
+  dropped_no_reservation : KeepingOutput
+  noted : KeepingOutput
+
+abbrev pub with_step : Keeping → Output × State → KeepingOutput × Keeping
+with_step k answer = (endpoint_output answer.0, record k { secy = answer.1 })
+
+-- as the machine, except that no association begins at a number that an earlier run may have used, and that no packet
+-- number is used which is not reserved; in both cases nothing changes
+abbrev pub keeping_step : Keeping → KeepingInput → KeepingOutput × Keeping
+keeping_step k (now_durable r) = (noted, record k { granted = k.granted ++ r ∷ [] })
+keeping_step k (endpoint_input input) =
+    if is_below_floor k input then (endpoint_output (refused PnFloor), k)
+    else if may_go k input then with_step k (step k.secy input)
+    else (dropped_no_reservation, k)
+
+-- after a list of inputs
+abbrev pub keeping_after : Keeping → List KeepingInput → Keeping
+keeping_after k [] = k
+keeping_after k (input ∷ inputs) = keeping_after (keeping_step k input).1 inputs
+
+-- ---- what to reserve next
+
+-- the last number to reserve, where fewer than half of `amount` numbers are left: `amount` behind the next one, up to the
+-- last of 64 bits
+abbrev pub wanted_last : ℕ → ℕ → ℕ → Option ℕ
+wanted_last reserved next amount =
+    if nat_le (2 ^ 64) next then None
+    else if nat_le (min (next + amount / 2) (2 ^ 64 - 1)) reserved then None
+    else Some (min (next + amount) (2 ^ 64 - 1))
+
+-- of a transmit association
+abbrev pub wanted_for : Keeping → ℕ → TxRow → Option Reservation
+wanted_for k amount row =
+    let name = key_name k.secy.keys row.key in
+    option_map (λ last. record { name = name; last = last }) (wanted_last (highest k.granted name) row.next amount)

@@ -1,0 +1,81 @@
+-- The second promise: what was accepted before a saved number is not delivered again by a later run that drops late
+-- frames.
+use Rattle.std.specs.Prelude.{◌≡◌, ◌<◌, ◌≤◌, ◌-◌, ◌^◌, ◌==◌, ℕ, List, ◌∷◌, min, Some, None, true, false, Contains}
+use Rattle.std.specs.List.{All}
+use Rattle.macsec_tag.specs.declared.identifiers.Sci.{Sci}
+use Rattle.macsec_rx.specs.declared.RxRow.{RxRow}
+use Rattle.macsec_rx.specs.Channels.{rx_row}
+use Rattle.macsec_secy.specs.Kept.{is_deleting}
+use Rattle.macsec_secy.specs.Step.{frame_fault, link_frame}
+use Rattle.macsec_secy.specs.Sound.{IsSound}
+use Rattle.macsec_secy.specs.Reception.{judgement_of}
+use Rattle.macsec_secy.specs.State.{State}
+use Rattle.macsec_reserve.specs.declared.reservation.Reservation.{Reservation}
+use Rattle.macsec_reserve.specs.Journal.{highest, receiving_name, reservations}
+use Rattle.macsec_reserve.specs.Histories.{KeepsDurable, Run, StaysSound, opening, reported}
+use Rattle.macsec_reserve.specs.Keeping.{Keeping, KeepingInput, endpoint_input, now_durable, keeping_after, keeping_step, key_name}
+
+-- the name under which the numbers of a receive association are saved
+abbrev pub row_name : State → RxRow → List ℕ
+row_name s row = receiving_name (key_name s.keys row.key) row.sci row.an
+
+-- what is to be saved of it: below its lowest acceptable packet number nothing is accepted
+abbrev pub saved_for : State → RxRow → Reservation
+saved_for s row = record { name = row_name s row; last = min (row.lowest - 1) (2 ^ 64 - 1) }
+
+-- while the replay window is 0 that covers each packet number which the association has accepted: its next one is above
+-- them
+abbrev pub SavesAccepted : State → Sci → ℕ → RxRow → ℕ → Type 0
+SavesAccepted s sci an row n =
+    IsSound s → s.options.window ≡ 0 → rx_row s.rx.rows sci an ≡ Some row → n < row.next → n ≤ (saved_for s row).last
+
+-- at the end of these inputs the endpoint drops late frames, and delivers this frame from this association: then its
+-- packet number is above all that the journal had saved for the association when the run began
+abbrev pub DeliversAbove : Run → List KeepingInput → List ℕ → RxRow → List ℕ → Type 0
+DeliversAbove run inputs frame row delivered =
+    let s = (keeping_after (opening run) inputs).secy in
+    StaysSound (opening run) inputs → s.options.replay ≡ true → (judgement_of s frame).row ≡ Some row → (judgement_of s frame).delivered ≡ Some delivered →
+    highest (reservations run.journal) (row_name s row) < (judgement_of s frame).number
+
+-- ---- over two runs
+
+-- a frame is accepted from an association: step 13 decides, and it is delivered
+pub record IsAccepted (s : State) (frame : List ℕ) (from : RxRow) : Type 0 where
+  pub fits : frame_fault frame ≡ None
+  pub row : (judgement_of s frame).row ≡ Some from
+  pub delivered : List ℕ
+  pub gives : (judgement_of s frame).delivered ≡ Some delivered
+  pub step : ((judgement_of s frame).step == 13) ≡ true
+
+-- the input does not delete the association of this channel and of this number
+abbrev pub KeepsAssociation : Sci → ℕ → KeepingInput → Type 0
+KeepsAssociation sci an (endpoint_input input) = is_deleting sci an input ≡ false
+KeepsAssociation sci an (now_durable r) = Unit {0}
+
+-- a run accepted a frame of this packet number; then, before the association was deleted and at a moment at which the
+-- replay window was 0, what is to be saved of it was taken, under this name, and in the end it was durable
+pub record HasSaved (run : Run) (name : List ℕ) (n : ℕ) : Type 0 where
+  pub before : List KeepingInput
+  pub frame : List ℕ
+  pub from : RxRow
+  pub accepted : IsAccepted (keeping_after (opening run) before).secy frame from
+  pub number : (judgement_of (keeping_after (opening run) before).secy frame).number ≡ n
+  pub then_on : List KeepingInput
+  pub keeps : All (KeepsAssociation from.sci from.an) then_on
+  pub sound : StaysSound (keeping_after (opening run) before) (endpoint_input (link_frame frame) ∷ then_on)
+  pub last : Keeping
+  pub last_is : last ≡ keeping_after (keeping_step (keeping_after (opening run) before) (endpoint_input (link_frame frame))).1 then_on
+  pub window : last.secy.options.window ≡ 0
+  pub row : RxRow
+  pub there : rx_row last.secy.rx.rows from.sci from.an ≡ Some row
+  pub name_is : row_name last.secy row ≡ name
+  pub durable : Contains (reported run) (saved_for last.secy row)
+
+-- then no later run that drops late frames delivers a frame of that packet number, or of a lower one, from an association
+-- of that name: one of the same key octets, SCI and number
+abbrev pub NeverDeliversAgain : Run → Run → List ℕ → ℕ → Type 0
+NeverDeliversAgain run later name n =
+    HasSaved run name n → KeepsDurable run later → (inputs : List KeepingInput) (frame : List ℕ) (row : RxRow) (delivered : List ℕ) →
+    let s = (keeping_after (opening later) inputs).secy in
+    StaysSound (opening later) inputs → s.options.replay ≡ true → (judgement_of s frame).row ≡ Some row → (judgement_of s frame).delivered ≡ Some delivered →
+    row_name s row ≡ name → n < (judgement_of s frame).number

@@ -1,0 +1,358 @@
+//! The keeping endpoint.
+
+ghost use Rattle.std.specs.Prelude.{◌≡◌, ◌<◌, ◌&&◌, option_and_then, option_map, Some, ◌-◌, ◌^◌, min, IfOk, OnErr, OnOk, nat_lt, nat_le, vec_capacity, vec_len};
+ghost use Rattle.std.specs.Borrow.{sem};
+ghost use Rattle.macsec_aes.specs.Keys.{key_bytes};
+ghost use Rattle.macsec_tx.specs.Transmit.{tx_row};
+ghost use Rattle.macsec_rx.specs.Channels.{rx_row};
+ghost use Rattle.macsec_secy.specs.Answers.{output_of_command, output_of_frame, output_of_received};
+ghost use Rattle.macsec_secy.specs.Sound.{IsSound};
+ghost use Rattle.macsec_secy.specs.Step.{client_frame, link_frame, operator_command, uncontrolled_frame};
+ghost use Rattle.macsec_reserve.specs.Answers.{MakesAlone, MakesKeeper, output_of_kept};
+ghost use Rattle.macsec_reserve.specs.Journal.{highest, sending_name};
+ghost use Rattle.macsec_reserve.specs.Keeping.{begins_at, endpoint_input, endpoint_output, is_below_floor, keeping_step, may_go, now_durable, uses_reserved, wanted_for, wanted_last, was_reserved};
+ghost use Rattle.macsec_reserve.specs.Names.{name_or_none, name_row, names_after};
+ghost use Rattle.macsec_reserve.specs.Replay.{saved_for};
+ghost use Rattle.macsec_reserve.specs.Rests.{RestsAs};
+
+use crate::{Reservation, highest, is_journal, receiving_name, reservations, sending_name};
+use macsec_aes::Key;
+use macsec_secy::{
+    An, Command, EndConfig, FrameFault, KeyNumber, NewFault, Received, Refusal, RxRow, Sci, Secy,
+    Sent, TxRow,
+};
+use std::alloc::{AllocError, Global};
+use std::marker::Model;
+
+/// A key of the endpoint, by its name for sending.
+#[derive(Clone, Copy, PartialEq, Eq, Debug)]
+pub struct NamedKey {
+    /// Its number.
+    pub number: KeyNumber,
+    /// Its name.
+    pub name: [u8; 32],
+}
+
+/// An endpoint that uses a packet number only if it has reserved it; without a journal it uses any, as `Secy`.
+#[derive(Drop)]
+pub struct Keeper {
+    secy: Secy,
+    /// Has it a journal?
+    keeps: bool,
+    /// What the journal reserved when the run began.
+    before: Vec<Reservation>,
+    /// What was reported durable since.
+    granted: Vec<Reservation>,
+    /// The names of the endpoint's keys, in the order of their installation.
+    names: Vec<NamedKey>,
+}
+
+impl Model for Keeper {
+    ghost use Rattle.macsec_reserve.specs.Keeping.{Keeping};
+    ghost use Rattle.macsec_reserve.specs.Names.{IsKept};
+
+    ghost Value = { Keeping };
+
+    ghost view = { λ k. record { secy = k.secy; keeps = k.keeps; before = k.before.items; granted = k.granted.items } };
+
+    // The names are those of the endpoint's keys, and it is sound.
+    ghost invariant = { λ k. IsKept k.secy k.names.items };
+}
+
+/// What becomes of a client frame.
+pub enum KeptSent<'a> {
+    /// What the endpoint made of it.
+    Sent(Sent<'a>),
+    /// It is dropped: its packet number is not reserved. Nothing changes.
+    NoReservation,
+}
+
+/// Why no keeping endpoint is made.
+#[derive(Clone, Copy, PartialEq, Eq, Debug)]
+pub enum OpenFault {
+    /// There is no such endpoint.
+    Endpoint(NewFault),
+    /// The file is no journal, or one of another version.
+    NotJournal,
+    /// Out of memory.
+    Memory,
+}
+
+impl Keeper {
+    /// An endpoint of this configuration without a journal. Nothing remembers which packet numbers it uses.
+    pub fn new(alloc: Global, config: EndConfig) -> Result<Keeper, NewFault>
+        ensures result { MakesAlone config result }
+        ensures sound { IfOk result (λ k. IsSound k.secy) }
+    {
+        let secy = match Secy::new(alloc, config) {
+            Ok(secy) => secy,
+            Err(fault) => return Err(fault),
+        };
+        Ok(Keeper {
+            secy,
+            keeps: false,
+            before: Vec::new(alloc),
+            granted: Vec::new(alloc),
+            names: Vec::new(alloc),
+        })
+    }
+
+    /// An endpoint of this configuration, beside a journal with these octets.
+    pub fn open(alloc: Global, config: EndConfig, journal: &[u8]) -> Result<Keeper, OpenFault>
+        ensures result { MakesKeeper config journal.now result }
+        ensures sound { IfOk result (λ k. IsSound k.secy) }
+    {
+        if !is_journal(journal) {
+            return Err(OpenFault::NotJournal);
+        }
+        let secy = match Secy::new(alloc, config) {
+            Ok(secy) => secy,
+            Err(fault) => return Err(OpenFault::Endpoint(fault)),
+        };
+        let Ok(before) = reservations(alloc, journal) else {
+            return Err(OpenFault::Memory);
+        };
+        Ok(Keeper {
+            secy,
+            keeps: true,
+            before,
+            granted: Vec::new(alloc),
+            names: Vec::new(alloc),
+        })
+    }
+
+    /// The reservation that the transmit association of this number needs next, if fewer than half of `amount` packet
+    /// numbers are left to it.
+    pub fn wanted(&self, an: An, amount: u64) -> Option<Reservation>
+        ensures { result ≡ option_and_then (wanted_for self.now amount) (tx_row self.now.secy.tx an) }
+    {
+        match self.secy.tx_row(an) {
+            None => None,
+            Some(row) => self.wanted_for(row, amount),
+        }
+    }
+
+    /// The reservation that a transmit association needs next, if it needs one.
+    fn wanted_for(&self, row: TxRow, amount: u64) -> Option<Reservation>
+        ensures { result ≡ wanted_for self.now amount row }
+    {
+        let name = name_of(self.names.as_slice(), row.key);
+        let reserved = highest(self.granted.as_slice(), &name);
+        match wanted_last(reserved, row.next, amount) {
+            None => None,
+            Some(last) => Some(Reservation { name, last }),
+        }
+    }
+
+    /// What is to be saved of the receive association of this channel and of this number, if there is one: once its record
+    /// is durable, no later run creates the association at a packet number that is too low.
+    pub fn to_save(&self, sci: Sci, an: An) -> Option<Reservation>
+        ensures { result ≡ option_map (saved_for self.now.secy) (rx_row self.now.secy.rx.rows sci an) }
+    {
+        match self.secy.rx_row(sci, an) {
+            None => None,
+            Some(row) => self.saved_for(row),
+        }
+    }
+
+    /// What is to be saved of a receive association.
+    fn saved_for(&self, row: RxRow) -> Option<Reservation>
+        ensures { result ≡ Some (saved_for self.now.secy row) }
+    {
+        let key = name_of(self.names.as_slice(), row.key);
+        let name = receiving_name(&key, row.sci, row.an);
+        let last = up_to(row.lowest);
+        Some(Reservation { name, last })
+    }
+
+    /// Transmits a client frame, as `Secy::send`, if it uses no packet number that is not reserved.
+    pub fn send<'a>(&'a mut self, frame: &'a [u8]) -> Result<KeptSent<'a>, FrameFault>
+        ensures* after { sem 𝓛 (RestsAs self.entry (keeping_step self.old (endpoint_input (client_frame frame.now))).1) }
+        ensures output { output_of_kept result ≡ (keeping_step self.old (endpoint_input (client_frame frame.now))).0 }
+        ensures sound { IsSound (keeping_step self.old (endpoint_input (client_frame frame.now))).1.secy }
+    {
+        if !self.may_go(frame) {
+            return Ok(KeptSent::NoReservation);
+        }
+        match self.secy.send(frame) {
+            Ok(sent) => Ok(KeptSent::Sent(sent)),
+            Err(fault) => Err(fault),
+        }
+    }
+
+    /// Transmits a client frame of the uncontrolled port, as `Secy::send_uncontrolled`.
+    pub fn send_uncontrolled<'a>(&self, frame: &'a [u8]) -> Result<&'a [u8], FrameFault>
+        ensures output { endpoint_output (output_of_frame result) ≡ (keeping_step self.now (endpoint_input (uncontrolled_frame frame.now))).0 }
+        ensures after { (keeping_step self.now (endpoint_input (uncontrolled_frame frame.now))).1 ≡ self.now }
+    {
+        self.secy.send_uncontrolled(frame)
+    }
+
+    /// Receives a link frame, as `Secy::receive`.
+    pub fn receive<'a>(&'a mut self, frame: &'a [u8]) -> Result<Received<'a>, FrameFault>
+        ensures* after { sem 𝓛 (RestsAs self.entry (keeping_step self.old (endpoint_input (link_frame frame.now))).1) }
+        ensures output { endpoint_output (output_of_received result) ≡ (keeping_step self.old (endpoint_input (link_frame frame.now))).0 }
+        ensures sound { IsSound (keeping_step self.old (endpoint_input (link_frame frame.now))).1.secy }
+    {
+        self.secy.receive(frame)
+    }
+
+    /// Notes that a reservation is durable: its record is on stable storage, where every later run will read it. If it is
+    /// out of memory nothing changes.
+    pub fn now_durable(&mut self, reservation: &Reservation) -> Result<(), AllocError>
+        ensures after { OnOk result (self.new ≡ (keeping_step self.old (now_durable reservation.now)).1) }
+        ensures unchanged { OnErr result (self.new ≡ self.old) }
+        ensures sound { IsSound self.new.secy }
+    {
+        self.granted.push(*reservation)?;
+        Ok(())
+    }
+
+    /// Carries out a management command, as `Secy::command`, if no association is to begin at a packet number that an
+    /// earlier run may have used; else it is refused with `PnFloor`, before any other refusal. If it is out of memory
+    /// nothing changes.
+    pub fn command(&mut self, command: &Command) -> Result<Result<(), Refusal>, AllocError>
+        ensures output { IfOk result (λ answer. endpoint_output (output_of_command answer) ≡ (keeping_step self.old (endpoint_input (operator_command command.now))).0) }
+        ensures after { IfOk result (λ answer. self.new ≡ (keeping_step self.old (endpoint_input (operator_command command.now))).1) }
+        ensures unchanged { OnErr result (self.new ≡ self.old) }
+        ensures sound { IsSound self.new.secy }
+    {
+        if self.is_below_floor(command) {
+            return Ok(Err(Refusal::PnFloor));
+        }
+        self.names.reserve(1)?;
+        match self.secy.command(command) {
+            Ok(()) => {
+                note_key(&mut self.names, command);
+                Ok(Ok(()))
+            }
+            Err(refusal) => Ok(Err(refusal)),
+        }
+    }
+
+    /// Is an association to begin at a packet number that an earlier run may have used, and is there a journal?
+    fn is_below_floor(&self, command: &Command) -> bool
+        ensures { result ≡ is_below_floor self.now (operator_command command.now) }
+    {
+        self.keeps && self.begins_reserved(command)
+    }
+
+    /// Is an association to begin at a packet number that the journal reserved when the run began?
+    fn begins_reserved(&self, command: &Command) -> bool
+        ensures { result ≡ was_reserved self.now.before (begins_at self.now.secy command.now) }
+    {
+        match *command {
+            Command::TxSa { key, next, .. } => {
+                let name = name_of(self.names.as_slice(), key);
+                was_reserved(self.before.as_slice(), &name, next)
+            }
+            Command::RxSa {
+                sci,
+                an,
+                key,
+                lowest,
+                ..
+            } => {
+                let name = receiving_name(&name_of(self.names.as_slice(), key), sci, an);
+                was_reserved(self.before.as_slice(), &name, lowest)
+            }
+            _ => false,
+        }
+    }
+
+    /// Would this client frame use only a packet number that is reserved, or is there no journal?
+    fn may_go(&self, frame: &[u8]) -> bool
+        ensures { result ≡ may_go self.now (client_frame frame.now) }
+    {
+        !self.keeps || self.uses_reserved(frame)
+    }
+
+    /// Would this client frame use only a packet number that is reserved?
+    fn uses_reserved(&self, frame: &[u8]) -> bool
+        ensures { result ≡ uses_reserved self.now (client_frame frame.now) }
+    {
+        match self.secy.next_row(frame) {
+            None => true,
+            Some(row) => {
+                let name = name_of(self.names.as_slice(), row.key);
+                may_use(
+                    self.before.as_slice(),
+                    self.granted.as_slice(),
+                    &name,
+                    row.next,
+                )
+            }
+        }
+    }
+}
+
+/// The name of the key of this number, or that of no octets.
+fn name_of(names: &[NamedKey], key: KeyNumber) -> [u8; 32]
+    ensures { result ≡ name_or_none (name_row names.now key) }
+{
+    for named in names {
+        if named.number == key {
+            return named.name;
+        }
+    }
+    sending_name(&[])
+}
+
+/// Was this packet number not used by an earlier run, and is it reserved?
+fn may_use(before: &[Reservation], granted: &[Reservation], name: &[u8; 32], number: u128) -> bool
+    ensures { result ≡ (nat_lt (highest before.now name.now) number && nat_le number (highest granted.now name.now)) }
+{
+    u128::from(highest(before, name)) < number && number <= u128::from(highest(granted, name))
+}
+
+/// May an earlier run have used this packet number? None has used 0.
+fn was_reserved(before: &[Reservation], name: &[u8; 32], number: u64) -> bool
+    ensures { result ≡ (nat_lt 0 number && nat_le number (highest before.now name.now)) }
+{
+    0 < number && number <= highest(before, name)
+}
+
+/// The name of a key for sending.
+fn name_of_key(key: Key) -> [u8; 32]
+    ensures { result ≡ sending_name (key_bytes key) }
+{
+    match key {
+        Key::K128(bytes) => sending_name(bytes.as_slice()),
+        Key::K256(bytes) => sending_name(bytes.as_slice()),
+    }
+}
+
+/// Notes the name of the key that a command has installed, if it is such a command.
+fn note_key(names: &mut Vec<NamedKey>, command: &Command)
+    requires { vec_len names.old < vec_capacity names.old }
+    ensures { names.new.items ≡ names_after names.old.items command.now }
+{
+    if let Command::Key(key) = *command {
+        let number = key.number;
+        let name = name_of_key(key.bytes);
+        names.push(NamedKey { number, name }).unwrap();
+    }
+}
+
+/// The last packet number to reserve, if fewer than half of `amount` are left.
+fn wanted_last(reserved: u64, next: u128, amount: u64) -> Option<u64>
+    ensures { result ≡ wanted_last reserved next amount }
+{
+    let Ok(next) = u64::try_from(next) else {
+        return None;
+    };
+    if next.saturating_add(amount / 2) <= reserved {
+        return None;
+    }
+    Some(next.saturating_add(amount))
+}
+
+/// The number before a packet number, of 64 bits.
+fn up_to(lowest: u128) -> u64
+    ensures { result ≡ min (lowest - 1) (2 ^ 64 - 1) }
+{
+    match u64::try_from(lowest.saturating_sub(1)) {
+        Ok(last) => last,
+        Err(_) => u64::MAX,
+    }
+}
