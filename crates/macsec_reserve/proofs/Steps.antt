@@ -7,9 +7,10 @@ use Rattle.macsec_secy.specs.Sound.{IsSound}
 use Rattle.macsec_secy.specs.State.{State}
 use Rattle.macsec_secy.specs.Step.{Output, refused, step}
 use Rattle.macsec_reserve.specs.Journal.{highest}
-use Rattle.macsec_reserve.specs.Keeping.{Keeping, KeepingInput, KeepingOutput, endpoint_input, endpoint_output, now_durable, dropped_no_reservation, is_below_floor, may_go, keeping_after, keeping_step, with_step}
+use Rattle.macsec_reserve.specs.Keeping.{Keeping, KeepingInput, KeepingOutput, endpoint_input, endpoint_output, now_durable, dropped_no_reservation, for_each_key, is_below_floor, may_go, keeping_after, keeping_step, with_step}
 use Rattle.macsec_reserve.specs.Histories.{reported_in}
 use Rattle.macsec_reserve.proofs.EndpointLaws.{Laws}
+use Rattle.macsec_reserve.proofs.Entries.{for_each_key_reserves, raised_reserves}
 use Rattle.macsec_reserve.proofs.HighestOf.{highest-append}
 
 -- ---- keys
@@ -77,7 +78,9 @@ granted_by_tests false true k answer name = omega arith
 granted_by_tests false false k answer name = omega arith
 
 pub granted_grows : (k : Keeping) (input : KeepingInput) (name : List ℕ) → highest k.granted name ≤ highest (keeping_step k input).1.granted name
-granted_grows k (now_durable r) name = omega (arith, highest-append k.granted (r ∷ []) name)
+granted_grows k (now_durable r) name =
+    let raised = raised_reserves r (for_each_key k.granted k.secy.keys) name in
+    omega (arith, raised.0, for_each_key_reserves k.granted k.secy.keys name)
 granted_grows k (endpoint_input input) name = granted_by_tests (is_below_floor k input) (may_go k input) k (step k.secy input) name
 
 -- what is reserved was reserved before, or reported since
@@ -89,7 +92,14 @@ same_by_tests false false k answer name = refl
 pub granted_reported : (inputs : List KeepingInput) (k : Keeping) (name : List ℕ) → highest (keeping_after k inputs).granted name ≤ max (highest k.granted name) (highest (reported_in inputs) name)
 granted_reported [] k name = omega arith
 granted_reported (now_durable r ∷ inputs) k name =
-    omega (arith, granted_reported inputs (keeping_step k (now_durable r)).1 name, highest-append k.granted (r ∷ []) name, highest-append (r ∷ []) (reported_in inputs) name)
+    let raised = raised_reserves r (for_each_key k.granted k.secy.keys) name in
+    omega (
+      arith,
+      granted_reported inputs (keeping_step k (now_durable r)).1 name,
+      raised.1,
+      for_each_key_reserves k.granted k.secy.keys name,
+      highest-append (r ∷ []) (reported_in inputs) name,
+    )
 granted_reported (endpoint_input input ∷ inputs) k name =
     omega (arith, granted_reported inputs (keeping_step k (endpoint_input input)).1 name, same_by_tests (is_below_floor k input) (may_go k input) k (step k.secy input) name)
 

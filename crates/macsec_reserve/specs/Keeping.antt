@@ -1,6 +1,6 @@
 -- A keeping endpoint: the endpoint of the machine, with what earlier runs may have used and with what this run has
 -- reserved. Without a journal it keeps nothing, and is the machine.
-use Rattle.std.specs.Prelude.{ℕ, ◌+◌, ◌-◌, ◌/◌, ◌^◌, min, option_map, List, [], ◌∷◌, ◌++◌, nat_lt, nat_le, not, ◌&&◌, ◌||◌, Bool, true, false, if◌then◌else◌, Option, Some, None}
+use Rattle.std.specs.Prelude.{ℕ, ◌+◌, ◌-◌, ◌/◌, ◌^◌, min, max, option_map, List, [], ◌∷◌, ◌++◌, map, drop, length, nat_lt, nat_le, not, ◌&&◌, ◌||◌, Bool, true, false, if◌then◌else◌, Option, Some, None}
 use Rattle.std.specs.List.{list_any}
 use Rattle.macsec_suite.specs.KeyRows.{InstalledKey, the_key}
 use Rattle.macsec_suite.specs.declared.refusal.Refusal.TheVariants.{PnFloor}
@@ -11,11 +11,12 @@ use Rattle.macsec_tx.specs.declared.TxRow.{TxRow}
 use Rattle.macsec_secy.specs.State.{State, start}
 use Rattle.macsec_secy.specs.Laws.{UsedNumber, number_used}
 use Rattle.macsec_secy.specs.Step.{Input, operator_command, Output, refused, step}
+use Rattle.macsec_gcm.specs.Octets.{same_octets}
 use Rattle.macsec_reserve.specs.declared.reservation.Reservation.{Reservation}
 use Rattle.macsec_reserve.specs.Journal.{highest, receiving_name, reservations, sending_name}
 
 -- the endpoint; whether it has a journal; what the journal reserved when the run began; and what was reported durable
--- since
+-- since, one entry for each key
 pub record Keeping : Type 0 where
   pub secy : State
   pub keeps : Bool
@@ -33,6 +34,20 @@ alone config = record { secy = start config; keeps = false; before = []; granted
 -- the name of the key of this number for sending
 abbrev pub key_name : List InstalledKey → ℕ → List ℕ
 key_name keys key = sending_name (the_key keys key).bytes
+
+-- ---- what was reported durable
+
+-- the entry of a key for which nothing was
+abbrev pub nothing_yet : InstalledKey → Reservation
+nothing_yet key = record { name = sending_name key.bytes; last = 0 }
+
+-- an entry for each key, in the order of installation
+abbrev pub for_each_key : List Reservation → List InstalledKey → List Reservation
+for_each_key granted keys = granted ++ map nothing_yet (drop (length granted) keys)
+
+-- a report raises the entry of its name
+abbrev pub raised_by : Reservation → Reservation → Reservation
+raised_by r entry = if same_octets entry.name r.name then record entry { last = max entry.last r.last } else entry
 
 -- ---- what may be done
 
@@ -82,7 +97,7 @@ with_step k answer = (endpoint_output answer.0, record k { secy = answer.1 })
 -- as the machine, except that no association begins at a number that an earlier run may have used, and that no packet
 -- number is used which is not reserved; in both cases nothing changes
 abbrev pub keeping_step : Keeping → KeepingInput → KeepingOutput × Keeping
-keeping_step k (now_durable r) = (noted, record k { granted = k.granted ++ r ∷ [] })
+keeping_step k (now_durable r) = (noted, record k { granted = map (raised_by r) (for_each_key k.granted k.secy.keys) })
 keeping_step k (endpoint_input input) =
     if is_below_floor k input then (endpoint_output (refused PnFloor), k)
     else if may_go k input then with_step k (step k.secy input)

@@ -1,6 +1,6 @@
 //! The keeping endpoint.
 
-ghost use Rattle.std.specs.Prelude.{◌≡◌, ◌<◌, ◌&&◌, option_and_then, option_map, Some, ◌-◌, ◌^◌, min, IfOk, OnErr, OnOk, nat_lt, nat_le, vec_capacity, vec_len};
+ghost use Rattle.std.specs.Prelude.{◌≡◌, ◌≤◌, ◌+◌, ◌++◌, ◌&&◌, drop, length, map, option_and_then, option_map, Some, ◌-◌, ◌^◌, min, IfOk, nat_lt, nat_le, vec_capacity, vec_len};
 ghost use Rattle.std.specs.Borrow.{sem};
 ghost use Rattle.macsec_aes.specs.Keys.{key_bytes};
 ghost use Rattle.macsec_tx.specs.Transmit.{tx_row};
@@ -10,8 +10,8 @@ ghost use Rattle.macsec_secy.specs.Sound.{IsSound};
 ghost use Rattle.macsec_secy.specs.Step.{client_frame, link_frame, operator_command, uncontrolled_frame};
 ghost use Rattle.macsec_reserve.specs.Answers.{MakesAlone, MakesKeeper, output_of_kept};
 ghost use Rattle.macsec_reserve.specs.Journal.{highest, sending_name};
-ghost use Rattle.macsec_reserve.specs.Keeping.{begins_at, endpoint_input, endpoint_output, is_below_floor, keeping_step, may_go, now_durable, uses_reserved, wanted_for, wanted_last, was_reserved};
-ghost use Rattle.macsec_reserve.specs.Names.{name_or_none, name_row, names_after};
+ghost use Rattle.macsec_reserve.specs.Keeping.{begins_at, endpoint_input, endpoint_output, is_below_floor, keeping_step, may_go, now_durable, raised_by, uses_reserved, wanted_for, wanted_last, was_reserved};
+ghost use Rattle.macsec_reserve.specs.Names.{entry_of, name_or_none, name_row, names_after};
 ghost use Rattle.macsec_reserve.specs.Replay.{saved_for};
 ghost use Rattle.macsec_reserve.specs.Rests.{RestsAs};
 
@@ -21,8 +21,11 @@ use macsec_secy::{
     An, Command, EndConfig, FrameFault, KeyNumber, NewFault, Received, Refusal, RxRow, Sci, Secy,
     Sent, TxRow,
 };
-use std::alloc::{AllocError, Global};
+use std::alloc::Global;
 use std::marker::Model;
+
+/// How many keys an endpoint can have.
+const KEY_COUNT: usize = 4096;
 
 /// A key of the endpoint, by its name for sending.
 #[derive(Clone, Copy, PartialEq, Eq, Debug)]
@@ -41,7 +44,7 @@ pub struct Keeper {
     keeps: bool,
     /// What the journal reserved when the run began.
     before: Vec<Reservation>,
-    /// What was reported durable since.
+    /// What was reported durable since, an entry for each key that was installed before the last report.
     granted: Vec<Reservation>,
     /// The names of the endpoint's keys, in the order of their installation.
     names: Vec<NamedKey>,
@@ -50,13 +53,14 @@ pub struct Keeper {
 impl Model for Keeper {
     ghost use Rattle.macsec_reserve.specs.Keeping.{Keeping};
     ghost use Rattle.macsec_reserve.specs.Names.{IsKept};
+    ghost use Rattle.std.specs.Prelude.{vec_capacity};
 
     ghost Value = { Keeping };
 
     ghost view = { λ k. record { secy = k.secy; keeps = k.keeps; before = k.before.items; granted = k.granted.items } };
 
-    // The names are those of the endpoint's keys, and it is sound.
-    ghost invariant = { λ k. IsKept k.secy k.names.items };
+    // The names are those of the endpoint's keys, it is sound, and there is room for all keys that it can have.
+    ghost invariant = { λ k. IsKept k.secy k.names.items (vec_capacity k.names) (vec_capacity k.granted) };
 }
 
 /// What becomes of a client frame.
@@ -88,12 +92,18 @@ impl Keeper {
             Ok(secy) => secy,
             Err(fault) => return Err(fault),
         };
+        let Ok(granted) = Vec::with_capacity(alloc, KEY_COUNT) else {
+            return Err(NewFault::Memory);
+        };
+        let Ok(names) = Vec::with_capacity(alloc, KEY_COUNT) else {
+            return Err(NewFault::Memory);
+        };
         Ok(Keeper {
             secy,
             keeps: false,
             before: Vec::new(alloc),
-            granted: Vec::new(alloc),
-            names: Vec::new(alloc),
+            granted,
+            names,
         })
     }
 
@@ -112,12 +122,18 @@ impl Keeper {
         let Ok(before) = reservations(alloc, journal) else {
             return Err(OpenFault::Memory);
         };
+        let Ok(granted) = Vec::with_capacity(alloc, KEY_COUNT) else {
+            return Err(OpenFault::Memory);
+        };
+        let Ok(names) = Vec::with_capacity(alloc, KEY_COUNT) else {
+            return Err(OpenFault::Memory);
+        };
         Ok(Keeper {
             secy,
             keeps: true,
             before,
-            granted: Vec::new(alloc),
-            names: Vec::new(alloc),
+            granted,
+            names,
         })
     }
 
@@ -197,36 +213,32 @@ impl Keeper {
         self.secy.receive(frame)
     }
 
-    /// Notes that a reservation is durable: its record is on stable storage, where every later run will read it. If it is
-    /// out of memory nothing changes.
-    pub fn now_durable(&mut self, reservation: &Reservation) -> Result<(), AllocError>
-        ensures after { OnOk result (self.new ≡ (keeping_step self.old (now_durable reservation.now)).1) }
-        ensures unchanged { OnErr result (self.new ≡ self.old) }
+    /// Notes that a reservation is durable: its record is on stable storage, where every later run will read it. One for
+    /// a name of no key reserves nothing in this run.
+    pub fn now_durable(&mut self, reservation: &Reservation)
+        ensures after { self.new ≡ (keeping_step self.old (now_durable reservation.now)).1 }
         ensures sound { IsSound self.new.secy }
     {
-        self.granted.push(*reservation)?;
-        Ok(())
+        add_entries(&mut self.granted, self.names.as_slice());
+        raise(self.granted.as_mut_slice(), reservation);
     }
 
     /// Carries out a management command, as `Secy::command`, if no association is to begin at a packet number that an
-    /// earlier run may have used; else it is refused with `PnFloor`, before any other refusal. If it is out of memory
-    /// nothing changes.
-    pub fn command(&mut self, command: &Command) -> Result<Result<(), Refusal>, AllocError>
-        ensures output { IfOk result (λ answer. endpoint_output (output_of_command answer) ≡ (keeping_step self.old (endpoint_input (operator_command command.now))).0) }
-        ensures after { IfOk result (λ answer. self.new ≡ (keeping_step self.old (endpoint_input (operator_command command.now))).1) }
-        ensures unchanged { OnErr result (self.new ≡ self.old) }
+    /// earlier run may have used; else it is refused with `PnFloor`, before any other refusal.
+    pub fn command(&mut self, command: &Command) -> Result<(), Refusal>
+        ensures output { endpoint_output (output_of_command result) ≡ (keeping_step self.old (endpoint_input (operator_command command.now))).0 }
+        ensures after { self.new ≡ (keeping_step self.old (endpoint_input (operator_command command.now))).1 }
         ensures sound { IsSound self.new.secy }
     {
         if self.is_below_floor(command) {
-            return Ok(Err(Refusal::PnFloor));
+            return Err(Refusal::PnFloor);
         }
-        self.names.reserve(1)?;
         match self.secy.command(command) {
             Ok(()) => {
                 note_key(&mut self.names, command);
-                Ok(Ok(()))
+                Ok(())
             }
-            Err(refusal) => Ok(Err(refusal)),
+            Err(refusal) => Err(refusal),
         }
     }
 
@@ -324,13 +336,60 @@ fn name_of_key(key: Key) -> [u8; 32]
 
 /// Notes the name of the key that a command has installed, if it is such a command.
 fn note_key(names: &mut Vec<NamedKey>, command: &Command)
-    requires { vec_len names.old < vec_capacity names.old }
-    ensures { names.new.items ≡ names_after names.old.items command.now }
+    requires { length (names_after names.old.items command.now) ≤ vec_capacity names.old }
+    ensures items { names.new.items ≡ names_after names.old.items command.now }
+    ensures room { vec_capacity names.old ≤ vec_capacity names.new }
 {
     if let Command::Key(key) = *command {
         let number = key.number;
         let name = name_of_key(key.bytes);
         names.push(NamedKey { number, name }).unwrap();
+    }
+}
+
+/// Gives an entry to each key that has none yet.
+fn add_entries(granted: &mut Vec<Reservation>, names: &[NamedKey])
+    requires { length names.now ≤ vec_capacity granted.old }
+    ensures items { granted.new.items ≡ granted.old.items ++ map entry_of (drop (length granted.old.items) names.now) }
+    ensures room { vec_capacity granted.old ≤ vec_capacity granted.new }
+{
+    let count = granted.len();
+    if count < names.len() {
+        append_entries(granted, &names[count..]);
+    }
+}
+
+/// Appends an entry for each of these names.
+fn append_entries(granted: &mut Vec<Reservation>, names: &[NamedKey])
+    requires { vec_len granted.old + length names.now ≤ vec_capacity granted.old }
+    ensures items { granted.new.items ≡ granted.old.items ++ map entry_of names.now }
+    ensures room { vec_capacity granted.old ≤ vec_capacity granted.new }
+{
+    for named in names {
+        let name = named.name;
+        granted.push(Reservation { name, last: 0 }).unwrap();
+    }
+}
+
+/// Raises the entry of a reservation's name to its number.
+fn raise(entries: &mut [Reservation], by: &Reservation)
+    ensures { entries.new ≡ map (raised_by by.now) entries.old }
+{
+    for reserved in entries.iter_mut() {
+        *reserved = raised_by(*reserved, by);
+    }
+}
+
+/// An entry, raised if a reservation has its name.
+fn raised_by(entry: Reservation, by: &Reservation) -> Reservation
+    ensures { result ≡ raised_by by.now entry }
+{
+    if entry.name == by.name {
+        let name = entry.name;
+        let last = entry.last.max(by.last);
+        Reservation { name, last }
+    } else {
+        entry
     }
 }
 

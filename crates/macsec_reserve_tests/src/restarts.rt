@@ -32,11 +32,8 @@ fn key(rt: &impl Abort) -> NewKey {
     }
 }
 
-fn refusal(rt: &impl Abort, keeper: &mut Keeper, command: &Command) -> Option<Refusal> {
-    match keeper.command(command) {
-        Ok(answer) => answer.err(),
-        Err(_) => panic!(rt; "out of memory"),
-    }
+fn refusal(keeper: &mut Keeper, command: &Command) -> Option<Refusal> {
+    keeper.command(command).err()
 }
 
 /// The packet number in a protected frame's SecTAG.
@@ -65,7 +62,7 @@ fn write(rt: &impl Abort, journal: &mut Vec<u8>, keeper: &mut Keeper, an: An) {
         journal.extend_from_slice(HEADER).expect(rt, "memory");
     }
     wanted.append_to(journal).expect(rt, "memory");
-    keeper.now_durable(&wanted).expect(rt, "memory");
+    keeper.now_durable(&wanted);
 }
 
 /// Creates the association at 0, which is out of range, at what the journal reserved, and behind that.
@@ -87,12 +84,9 @@ fn starts_behind(rt: &impl Abort, keeper: &mut Keeper, an: An, floor: u64) {
             next,
             conf: true,
         };
-        assert!(rt;
-            refusal(rt, keeper, &command) == wanted,
-            "{next} of {floor}"
-        );
+        assert!(rt; refusal(keeper, &command) == wanted, "{next} of {floor}");
     }
-    assert!(rt; refusal(rt, keeper, &Command::TxOn(an)).is_none());
+    assert!(rt; refusal(keeper, &Command::TxOn(an)).is_none());
 }
 
 #[test]
@@ -106,7 +100,7 @@ fn numbers_rise_over_all_runs(rt: HostRuntime) -> Result<(), Fail> {
             Ok(keeper) => keeper,
             Err(_) => panic!(rt; "no endpoint"),
         };
-        assert!(rt; refusal(&rt, &mut keeper, &Command::Key(key(&rt))).is_none());
+        assert!(rt; refusal(&mut keeper, &Command::Key(key(&rt))).is_none());
         let before = reservations(alloc, &journal)?;
         let floor = highest(before.as_slice(), &sending_name(&OCTETS));
         assert!(rt; u64::from(last) <= floor, "run {run}");
@@ -157,7 +151,7 @@ fn without_a_journal_sends_at_once(rt: HostRuntime) -> Result<(), Fail> {
         conf: true,
     };
     for command in [Command::Key(key(&rt)), association, Command::TxOn(an)] {
-        assert!(rt; refusal(&rt, &mut keeper, &command).is_none());
+        assert!(rt; refusal(&mut keeper, &command).is_none());
     }
     for number in [5, 6, 7] {
         assert!(rt; sent(&rt, &mut keeper) == Some(number));

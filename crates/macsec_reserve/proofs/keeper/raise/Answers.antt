@@ -1,0 +1,11 @@
+use Rattle.std.proofs.Common.{arith}
+use Rattle.std.proofs.lemmas.List.{get_or_default}
+use Rattle.std.proofs.lemmas.List.Edits.{map_over_more}
+use Rattle.macsec_reserve.specs.Keeping.{raised_by}
+use Rattle.macsec_reserve.proofs.keeper.raise.Goals as goal
+
+pub loop-reserved-preserved : goal.loop-reserved-preserved
+loop-reserved-preserved c =
+    rw c.raised_by.ensures
+    (map_over_more (raised_by c.args.by.now) c.args.entries.now c.loop-reserved.entries c.loop-reserved.reserved-index _ (omega arith) c.loop-reserved.invariant
+    (get_or_default c.loop-reserved.entries c.loop-reserved.reserved-index _ _ (omega arith)))

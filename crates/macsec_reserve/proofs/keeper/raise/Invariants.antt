@@ -1,0 +1,7 @@
+use Rattle.std.proofs.Common.{◌≡◌, ◌++◌, map, take, drop}
+use Rattle.macsec_reserve.specs.Keeping.{raised_by}
+use Rattle.macsec_reserve.proofs.keeper.raise.Given as goal
+
+-- the entries before the index are raised, and the others are unchanged
+abbrev pub invariant-loop-reserved : goal.invariant-loop-reserved
+invariant-loop-reserved l = l.entries ≡ map (raised_by l.by) (take l.reserved-index l.initial.entries) ++ drop l.reserved-index l.initial.entries
