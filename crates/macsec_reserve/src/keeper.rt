@@ -1,6 +1,6 @@
 //! The keeping endpoint.
 
-ghost use Rattle.std.specs.Prelude.{◌≡◌, ◌≤◌, ◌+◌, ◌++◌, ◌&&◌, drop, length, map, option_and_then, option_map, Some, ◌-◌, ◌^◌, min, IfOk, nat_lt, nat_le, vec_capacity, vec_len};
+ghost use Rattle.std.specs.Prelude.{◌≡◌, ◌≤◌, ◌+◌, ◌++◌, ◌==◌, ◌&&◌, List, ℕ, true, drop, length, map, option_and_then, option_map, Some, ◌-◌, ◌^◌, min, IfOk, nat_lt, nat_le, vec_capacity, vec_len};
 ghost use Rattle.std.specs.Borrow.{sem};
 ghost use Rattle.macsec_aes.specs.Keys.{key_bytes};
 ghost use Rattle.macsec_tx.specs.Transmit.{tx_row};
@@ -11,7 +11,7 @@ ghost use Rattle.macsec_secy.specs.Step.{client_frame, link_frame, operator_comm
 ghost use Rattle.macsec_reserve.specs.Answers.{MakesAlone, MakesKeeper, output_of_kept};
 ghost use Rattle.macsec_reserve.specs.Journal.{highest, sending_name};
 ghost use Rattle.macsec_reserve.specs.Keeping.{begins_at, endpoint_input, endpoint_output, is_below_floor, keeping_step, may_go, now_durable, raised_by, uses_reserved, wanted_for, wanted_last, was_reserved};
-ghost use Rattle.macsec_reserve.specs.Names.{entry_of, name_or_none, name_row, names_after};
+ghost use Rattle.macsec_reserve.specs.Names.{IsAtHand, entry_of, name_or_none, name_row, names_after};
 ghost use Rattle.macsec_reserve.specs.Replay.{saved_for};
 ghost use Rattle.macsec_reserve.specs.Rests.{RestsAs};
 
@@ -36,6 +36,17 @@ pub struct NamedKey {
     pub name: [u8; 32],
 }
 
+/// What is reserved for a key.
+#[derive(Clone, Copy)]
+struct AtHand {
+    /// The key's number.
+    key: KeyNumber,
+    /// The last packet number that an earlier run may have used.
+    before: u64,
+    /// The last packet number that was reported durable.
+    granted: u64,
+}
+
 /// An endpoint that uses a packet number only if it has reserved it; without a journal it uses any, as `Secy`.
 #[derive(Drop)]
 pub struct Keeper {
@@ -48,11 +59,13 @@ pub struct Keeper {
     granted: Vec<Reservation>,
     /// The names of the endpoint's keys, in the order of their installation.
     names: Vec<NamedKey>,
+    /// What is reserved for the key of the enabled association, so that a frame pays one comparison.
+    at_hand: Option<AtHand>,
 }
 
 impl Model for Keeper {
     ghost use Rattle.macsec_reserve.specs.Keeping.{Keeping};
-    ghost use Rattle.macsec_reserve.specs.Names.{IsKept};
+    ghost use Rattle.macsec_reserve.specs.Names.{IsAtHand, IsKept};
     ghost use Rattle.std.specs.Prelude.{vec_capacity};
 
     ghost Value = { Keeping };
@@ -60,7 +73,8 @@ impl Model for Keeper {
     ghost view = { λ k. record { secy = k.secy; keeps = k.keeps; before = k.before.items; granted = k.granted.items } };
 
     // The names are those of the endpoint's keys, it is sound, and there is room for all keys that it can have.
-    ghost invariant = { λ k. IsKept k.secy k.names.items (vec_capacity k.names) (vec_capacity k.granted) };
+    ghost invariant = { λ k. IsKept k.secy k.names.items (vec_capacity k.names) (vec_capacity k.granted)
+        × IsAtHand k.names.items k.before.items k.granted.items k.at_hand };
 }
 
 /// What becomes of a client frame.
@@ -104,6 +118,7 @@ impl Keeper {
             before: Vec::new(alloc),
             granted,
             names,
+            at_hand: None,
         })
     }
 
@@ -134,6 +149,7 @@ impl Keeper {
             before,
             granted,
             names,
+            at_hand: None,
         })
     }
 
@@ -219,8 +235,10 @@ impl Keeper {
         ensures after { self.new ≡ (keeping_step self.old (now_durable reservation.now)).1 }
         ensures sound { IsSound self.new.secy }
     {
+        self.at_hand = None;
         add_entries(&mut self.granted, self.names.as_slice());
         raise(self.granted.as_mut_slice(), reservation);
+        self.take_at_hand();
     }
 
     /// Carries out a management command, as `Secy::command`, if no association is to begin at a packet number that an
@@ -235,7 +253,9 @@ impl Keeper {
         }
         match self.secy.command(command) {
             Ok(()) => {
+                self.at_hand = None;
                 note_key(&mut self.names, command);
+                self.take_at_hand();
                 Ok(())
             }
             Err(refusal) => Err(refusal),
@@ -272,11 +292,39 @@ impl Keeper {
         }
     }
 
+    /// Takes what is reserved for the key of the enabled association at hand.
+    fn take_at_hand(&mut self)
+        ensures { self.new ≡ self.old }
+    {
+        self.at_hand = match self.secy.tx_row_on() {
+            None => None,
+            Some(row) => Some(reserved_for(
+                self.names.as_slice(),
+                self.before.as_slice(),
+                self.granted.as_slice(),
+                row.key,
+            )),
+        };
+    }
+
+    /// Is the next packet number of the enabled association known to be reserved?
+    fn is_at_hand(&self) -> bool
+        ensures { (frame : List ℕ) → result ≡ true → uses_reserved self.now (client_frame frame) ≡ true }
+    {
+        let Some(at) = self.at_hand else {
+            return false;
+        };
+        let Some(row) = self.secy.tx_row_on() else {
+            return false;
+        };
+        is_reserved(at, row)
+    }
+
     /// Would this client frame use only a packet number that is reserved, or is there no journal?
     fn may_go(&self, frame: &[u8]) -> bool
         ensures { result ≡ may_go self.now (client_frame frame.now) }
     {
-        !self.keeps || self.uses_reserved(frame)
+        !self.keeps || self.is_at_hand() || self.uses_reserved(frame)
     }
 
     /// Would this client frame use only a packet number that is reserved?
@@ -296,6 +344,32 @@ impl Keeper {
             }
         }
     }
+}
+
+/// What is reserved for a key.
+fn reserved_for(
+    names: &[NamedKey],
+    before: &[Reservation],
+    granted: &[Reservation],
+    key: KeyNumber,
+) -> AtHand
+    ensures { IsAtHand names.now before.now granted.now (Some result) }
+{
+    let name = name_of(names, key);
+    let before = highest(before, &name);
+    let granted = highest(granted, &name);
+    AtHand {
+        key,
+        before,
+        granted,
+    }
+}
+
+/// Is the next packet number of an association reserved, by what is at hand?
+fn is_reserved(at: AtHand, row: TxRow) -> bool
+    ensures { result ≡ (row.key == at.key && (nat_lt at.before row.next && nat_le row.next at.granted)) }
+{
+    row.key == at.key && (u128::from(at.before) < row.next && row.next <= u128::from(at.granted))
 }
 
 /// The name of the key of this number, or that of no octets.

@@ -11,7 +11,7 @@ use Rattle.macsec_reserve.proofs.keeper.Keeper.now_durable.Goals as goal
 pub add_entries-requires : goal.add_entries-requires
 add_entries-requires c =
     let count : length c.as_slice.result.now ≡ length c.self.inside.names.items = ap length c.as_slice.ensures.value in
-    let fit = names_fit c.self.inside.secy.keys c.self.inside.names.items (vec_capacity c.self.inside.granted) c.self.invariant.sound.keys c.self.invariant.names c.self.invariant.granted_room in
+    let fit = names_fit c.self.inside.secy.keys c.self.inside.names.items (vec_capacity c.self.inside.granted) c.self.invariant.0.sound.keys c.self.invariant.0.names c.self.invariant.0.granted_room in
     omega (arith, count, fit)
 
 pub returns-clause-after : goal.returns-clause-after
@@ -22,8 +22,9 @@ returns-clause-after c =
     c.raise.ensures
     ∙ ap (λ rs. map (raised_by r) rs) (c.as_mut_slice.ensures.value ∙ c.add_entries.ensures.items
     ∙ ap (λ ns. k.granted ++ map entry_of (drop (length k.granted) ns)) c.as_slice.ensures.value
-    ∙ entries_of_names k.granted k.secy.keys c.self.inside.names.items c.self.invariant.names) in
+    ∙ entries_of_names k.granted k.secy.keys c.self.inside.names.items c.self.invariant.0.names) in
     let count : length c.raise.new.entries ≡ length c.as_mut_slice.result.now = ap length c.raise.ensures ∙ length-map c.as_mut_slice.result.now (raised_by r) in
     let whole = with_items_is c.add_entries.new.granted c.raise.new.entries (omega (arith, count, c.as_mut_slice.ensures.len)) in
-    ap (λ rs. record k { granted = rs }) (whole ∙ entries)
+    c.take_at_hand.ensures
+    ∙ ap (λ rs. record k { granted = rs }) (whole ∙ entries)
     ∙ ap (λ (k' : Keeping). record k' { granted = map (raised_by r) (for_each_key k'.granted k'.secy.keys) }) c.self.view_is
