@@ -17,3 +17,10 @@ IfMade Plain holds = Unit {0}
 IfMade (Made len key) holds = holds
 IfMade NoSa holds = Unit {0}
 IfMade TooLong holds = Unit {0}
+
+-- if no protected frame was made, this holds
+abbrev pub IfUnmade : TxResult → Type 0 → Type 0
+IfUnmade Plain holds = holds
+IfUnmade (Made len key) holds = Unit {0}
+IfUnmade NoSa holds = holds
+IfUnmade TooLong holds = holds

@@ -11,7 +11,7 @@ ghost use Rattle.macsec_tx.specs.Tags.{es_sent, is_own, scb_sent, sci_sent, sl_o
 ghost use Rattle.macsec_tx.specs.Transmit.{keys_after, octets_added, parts_under, rows_after, sending, sending_by, tag_sent};
 ghost use Rattle.macsec_tx.specs.Commands.{HaveKeys};
 ghost use Rattle.macsec_tx.specs.Rows.{AreTxRows};
-ghost use Rattle.macsec_tx.specs.Answers.{IfMade, ShowsLeaving};
+ghost use Rattle.macsec_tx.specs.Answers.{IfMade, IfUnmade, ShowsLeaving};
 
 use crate::{TagForm, TxChannel, TxOptions, TxResult, TxRow};
 use macsec_pn::TxNumbers;
@@ -21,8 +21,8 @@ use macsec_tag::{ADDRESSES_LENGTH, ICV_LENGTH, Sci, SecTag, write_tag};
 
 impl TxChannel {
     /// Decides how a client frame of `MIN_FRAME_LEN` to `MAX_FRAME_LEN` octets is sent. A protected frame is written to
-    /// the start of `out`, which has `MAX_FRAME_LEN` octets or more. The key of each SA must be in the table.
-    /// `max_frame` is at most `MAX_FRAME_LEN`.
+    /// the start of `out`, which has `MAX_FRAME_LEN` octets or more. If there is none, `out` is unchanged. The key of
+    /// each SA must be in the table. `max_frame` is at most `MAX_FRAME_LEN`.
     pub fn next_frame(
         &mut self,
         keys: &mut KeyTable,
@@ -38,6 +38,7 @@ impl TxChannel {
         ensures leaving { ShowsLeaving result out.new (sending options.now keys.old self.old frame.now).leaving }
         ensures associations { self.new ≡ rows_after self.old (sending options.now keys.old self.old frame.now).by }
         ensures keys { keys.new ≡ keys_after keys.old (sending options.now keys.old self.old frame.now).by }
+        ensures kept { IfUnmade result (out.new ≡ out.old) }
         ensures rows { IfMade result (AreTxRows self.new) }
         ensures key_rows { IfMade result (AreKeyRows keys.new) }
     {
@@ -122,6 +123,7 @@ fn frame_under(
     requires limit { options.now.max_frame ≤ max_frame_len }
     requires room { max_frame_len ≤ length out.old }
     ensures leaving { ShowsLeaving result out.new (sending_by options.now keys.now frame.now (Some row.now)).leaving }
+    ensures kept { IfUnmade result (out.new ≡ out.old) }
 {
     let key = keys.key(row.key).unwrap();
     let tag = tag_of(options, row, pn, frame);
