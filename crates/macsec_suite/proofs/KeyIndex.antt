@@ -156,7 +156,7 @@ number_found (first ∷ rows) n row there = by_test (first.number == n) (key_row
     by_test false r is e rest = rest e
 
 -- the index that was found is one of a key
-place_within : (keys : List StoredKey) (row : Option InstalledKey) (i : ℕ) → IsSome row → row ≡ slice_get (map stored_row keys) i → i < length keys
+pub place_within : (keys : List StoredKey) (row : Option InstalledKey) (i : ℕ) → IsSome row → row ≡ slice_get (map stored_row keys) i → i < length keys
 place_within keys None i some finds = cc
 place_within keys (Some row) i some finds = omega (arith, slice_get_within (map stored_row keys) i row (sym finds), length-map keys stored_row)
 

@@ -7,7 +7,7 @@ use Rattle.std.proofs.lemmas.List.Elements.{All-push}
 use Rattle.std.proofs.lemmas.Map.Steps.{length-le_from_distinct_below}
 use Rattle.std.proofs.lemmas.Bool.{ne_eqb, eqb-false}
 use Rattle.std.proofs.lemmas.Bool.Decides.{eqb_tells}
-use Rattle.macsec_suite.specs.KeyRows.{AreKeyRows, InstalledKey, IsKeyRow, at_number, is_extended, key_row}
+use Rattle.macsec_suite.specs.KeyRows.{AreKeyRows, InstalledKey, IsKeyRow, at_number, key_row}
 use Rattle.macsec_suite.specs.KeyNumbers.{max_key_count}
 use Rattle.macsec_suite.specs.Refusals.{is_repeated}
 use Rattle.macsec_gcm.specs.Octets.{same_octets}
@@ -123,8 +123,3 @@ AreStoredKeys-push keys new h free new_is own = (
 pub is_repeated-map : (keys : List StoredKey) (bytes : List ℕ) → is_repeated (map stored_row keys) bytes ≡ list_any (λ key. same_octets (stored_row key).bytes bytes) keys
 is_repeated-map [] bytes = refl
 is_repeated-map (key ∷ keys) bytes = ap (λ rest. same_octets (stored_row key).bytes bytes || rest) (is_repeated-map keys bytes)
-
--- whether a key has extended packet numbers, computed from the stored keys
-pub has_extended-map : (keys : List StoredKey) → list_any is_extended (map stored_row keys) ≡ list_any (λ key. is_extended (stored_row key)) keys
-has_extended-map [] = refl
-has_extended-map (key ∷ keys) = ap (λ rest. is_extended (stored_row key) || rest) (has_extended-map keys)

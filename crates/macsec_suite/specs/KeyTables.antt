@@ -1,11 +1,11 @@
 -- Stored keys as rows of the table, and the index of the rows.
-use Rattle.std.specs.Prelude.{◌≡◌, ℕ, ◌<◌, List, length, slice_get, slice_index, Some}
+use Rattle.std.specs.Prelude.{◌≡◌, ℕ, ◌<◌, List, filter, length, slice_get, slice_index, Some}
 use Rattle.macsec_aes.specs.Keys.{key_bytes}
 use Rattle.macsec_suite.specs.declared.key_row.KeyRow.{KeyRow}
 use Rattle.macsec_suite.specs.declared.key_table.StoredKey.{StoredKey}
 use Rattle.macsec_suite.specs.KeyNumbers.{max_key_count}
 use Rattle.macsec_suite.specs.Keys.{prepared_from}
-use Rattle.macsec_suite.specs.KeyRows.{InstalledKey, key_row}
+use Rattle.macsec_suite.specs.KeyRows.{InstalledKey, is_extended, key_row}
 
 abbrev pub row_shown : KeyRow → ℕ → InstalledKey
 row_shown row first_unused = record {
@@ -29,6 +29,10 @@ first_unused_of row = row.first_unused
 abbrev pub HasOwnKey : KeyRow → Type 0
 HasOwnKey row = (row.suite_key ≡ prepared_from row.suite_key.suite row.key.bytes row.key.offset)
     × (row.key.suite ≡ Some row.suite_key.suite)
+
+-- how many keys have extended packet numbers and are not retired
+abbrev pub extended_count : List InstalledKey → ℕ
+extended_count rows = length (filter is_extended rows)
 
 -- the index: the entry of each key number is the index of its row, or an index past every possible row if there is none
 pub record IsIndex (places : List ℕ) (rows : List InstalledKey) : Type 0 where

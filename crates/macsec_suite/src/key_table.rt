@@ -1,11 +1,11 @@
 //! The table of an endpoint's keys (IEEE 802.1AE, 10.7).
 
-ghost use Rattle.std.specs.Prelude.{◌≡◌, ◌+◌, [], ◌∷◌, ◌++◌, length, slice_get, IfOk, OnOk, OnErr, IsSome, IfSome, MatchOption, option_map, Some, None};
+ghost use Rattle.std.specs.Prelude.{◌≡◌, ◌≤◌, ◌+◌, [], ◌∷◌, ◌++◌, length, slice_get, IfOk, OnOk, OnErr, IsSome, IfSome, MatchOption, option_map, Some, None};
 ghost use Rattle.std.specs.List.{list_any};
 ghost use Rattle.macsec_aes.specs.Keys.{key_bytes};
 ghost use Rattle.macsec_gcm.specs.Octets.{same_octets};
 ghost use Rattle.macsec_suite.specs.KeyRows.{AreKeyRows, is_extended, key_row, keys_noting, keys_retiring, keys_with, max_key_count, suite_of, the_key, widest_beside};
-ghost use Rattle.macsec_suite.specs.KeyTables.{HasOwnKey, first_unused_of, row_shown, stored_row};
+ghost use Rattle.macsec_suite.specs.KeyTables.{HasOwnKey, extended_count, first_unused_of, row_shown, stored_row};
 ghost use Rattle.macsec_suite.specs.Suites.{key_length};
 ghost use Rattle.macsec_suite.specs.Refusals.{first_refusal, install_refusals, is_repeated, refusal_of, retire_refusals};
 
@@ -36,23 +36,26 @@ pub struct KeyTable {
     rows: Vec<StoredKey>,
     /// For each key number, the index of its row.
     places: Vec<u16>,
+    /// How many keys have extended packet numbers and are not retired.
+    extended: u16,
 }
 
 impl Model for KeyTable {
-    ghost use Rattle.std.specs.Prelude.{◌≤◌, List, map, vec_capacity};
+    ghost use Rattle.std.specs.Prelude.{◌≡◌, ◌≤◌, List, map, vec_capacity};
     ghost use Rattle.std.specs.List.{All};
     ghost use Rattle.macsec_suite.specs.KeyNumbers.{max_key_count};
     ghost use Rattle.macsec_suite.specs.KeyRows.{AreKeyRows, InstalledKey};
-    ghost use Rattle.macsec_suite.specs.KeyTables.{HasOwnKey, IsIndex, stored_row};
+    ghost use Rattle.macsec_suite.specs.KeyTables.{HasOwnKey, IsIndex, extended_count, stored_row};
 
     ghost Value = { List InstalledKey };
 
     ghost view = { λ t. map stored_row t.rows.items };
 
     // There is space for every key that an endpoint can have. Key numbers are distinct, each key is prepared from its
-    // own bytes, and the index finds each key by its number.
+    // own bytes, the index finds each key by its number, and the count is that of the rows.
     ghost invariant = { λ t. (max_key_count ≤ vec_capacity t.rows) × AreKeyRows (map stored_row t.rows.items)
-        × All (λ s. HasOwnKey s.row) t.rows.items × IsIndex t.places.items (map stored_row t.rows.items) };
+        × All (λ s. HasOwnKey s.row) t.rows.items × IsIndex t.places.items (map stored_row t.rows.items)
+        × (t.extended ≡ extended_count (map stored_row t.rows.items)) };
 }
 
 impl KeyTable {
@@ -63,6 +66,7 @@ impl KeyTable {
         Ok(KeyTable {
             rows: Vec::with_capacity(alloc, PLACE_COUNT)?,
             places: vec![in alloc; NO_PLACE; PLACE_COUNT]?,
+            extended: 0,
         })
     }
 
@@ -123,6 +127,7 @@ impl KeyTable {
         }
         let place = self.place_of(number);
         let stored = &mut self.rows[place];
+        self.extended -= stored.extended_count();
         stored.row.retired = true;
         Ok(())
     }
@@ -168,10 +173,7 @@ impl KeyTable {
     fn has_extended(&self) -> bool
         ensures { result ≡ list_any is_extended self.now }
     {
-        self.rows
-            .as_slice()
-            .iter()
-            .any(|stored| stored.is_extended())
+        self.extended != 0
     }
 
     /// Records that the packet number `pn` was used under a key, which must be in the table. The first unused number
@@ -220,12 +222,12 @@ impl KeyTable {
         ensures rows { AreKeyRows self.new }
     {
         self.places[added.number()] = self.rows.len() as u16;
-        self.rows
-            .push(StoredKey {
-                row: added,
-                first_unused: 1,
-            })
-            .unwrap();
+        let stored = StoredKey {
+            row: added,
+            first_unused: 1,
+        };
+        self.extended += stored.extended_count();
+        self.rows.push(stored).unwrap();
     }
 }
 
@@ -235,6 +237,14 @@ impl StoredKey {
         ensures { result ≡ is_extended (stored_row self.now) }
     {
         self.row.suite_key.suite().is_xpn() && !self.row.retired
+    }
+
+    /// 1 if the key has extended packet numbers and is not retired, otherwise 0.
+    fn extended_count(&self) -> u16
+        ensures count { result ≡ extended_count (stored_row self.now ∷ []) }
+        ensures most { result ≤ 1 }
+    {
+        if self.is_extended() { 1 } else { 0 }
     }
 
     fn has_bytes(&self, bytes: Key) -> bool

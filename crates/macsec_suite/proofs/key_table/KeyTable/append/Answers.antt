@@ -1,6 +1,6 @@
 -- There is space for the new key, and it gets its entry in the index. The rows are the old ones and its own. Proved
 -- from the lemmas in `KeyLemmas` and `KeyIndex` on appending a key with a new number.
-use Rattle.std.proofs.Common.{◌≡◌, ◌<◌, ◌∷◌, [], ◌++◌, map, length, refl, subst, sym, ap, ◌∙◌, arith, rules}
+use Rattle.std.proofs.Common.{◌≡◌, ◌+◌, ◌<◌, ◌∷◌, [], ◌++◌, map, length, refl, subst, sym, ap, ◌∙◌, arith, rules}
 use Rattle.std.specs.Prelude.{None}
 use Rattle.std.proofs.Math.ListN.{set}
 use Rattle.std.proofs.lemmas.List.{map-append, length-map}
@@ -10,12 +10,25 @@ use Rattle.macsec_suite.proofs.KeyLemmas.{has_room, AreStoredKeys, AreStoredKeys
 use Rattle.macsec_suite.proofs.KeyIndex.{IsIndex-push}
 use Rattle.macsec_suite.specs.KeyNumbers.{max_key_count}
 use Rattle.macsec_suite.specs.KeyRows.{IsKeyRow, key_row}
-use Rattle.macsec_suite.specs.KeyTables.{IsIndex, stored_row}
+use Rattle.macsec_suite.specs.KeyTables.{IsIndex, extended_count, stored_row}
+use Rattle.macsec_suite.proofs.KeyCount.{extended_count-le, extended_count-push}
 use Rattle.macsec_suite.proofs.key_table.KeyTable.append.Goals as goal
 
 pub overflow_cast-len : goal.overflow_cast-len
 overflow_cast-len c =
     omega (arith, has_room c.self.inside.rows.items c.args.added.key.number c.self.invariant.1 (rw c.self.view_is c.requires.free) (omega arith))
+
+pub overflow_add-self : goal.overflow_add-self
+overflow_add-self c =
+    let keys = c.self.inside.rows.items in
+    omega (
+      arith,
+      has_room keys c.args.added.key.number c.self.invariant.1 (rw c.self.view_is c.requires.free) (omega arith),
+      c.self.invariant.4,
+      extended_count-le (map stored_row keys),
+      length-map keys stored_row,
+      c.extended_count.ensures.most,
+    )
 
 pub unwrap-requires : goal.unwrap-requires
 unwrap-requires c =
@@ -45,7 +58,9 @@ invariant_of-self c =
     let same : rows ++ stored_row new ∷ [] ≡ map stored_row c.push.new.self.items = sym (map-append stored_row keys (new ∷ [])) ∙ ap (map stored_row) items in
     let places : index ≡ set c.self.inside.places.items c.number.result c.len.result =
     rw c.number.ensures.value (ap (set c.self.inside.places.items c.args.added.key.number) (omega (arith, length-map keys stored_row))) in
-    (omega arith, kept.0, kept.1, subst (λ p. IsIndex p (map stored_row c.push.new.self.items)) places (subst (IsIndex index) same found))
+    let counted : c.self.inside.extended + c.extended_count.result ≡ extended_count (map stored_row c.push.new.self.items) =
+    rw (c.self.invariant.4, c.extended_count.ensures.count) (sym (extended_count-push rows (stored_row new)) ∙ ap extended_count same) in
+    (omega arith, kept.0, kept.1, subst (λ p. IsIndex p (map stored_row c.push.new.self.items)) places (subst (IsIndex index) same found), counted)
 
 pub returns-clause-rows : goal.returns-clause-rows
 returns-clause-rows c = (invariant_of-self c).1

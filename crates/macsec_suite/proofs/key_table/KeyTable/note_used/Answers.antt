@@ -1,9 +1,12 @@
 -- The one row of the key's number records the packet number, and the table's invariant is kept. Proved from
 -- `IsChanged-set` of `KeyIndex`.
-use Rattle.std.proofs.Common.{◌+◌, refl, ap, ◌∙◌, arith}
+use Rattle.std.proofs.Common.{◌≡◌, ◌+◌, ◌<◌, length, map, refl, ap, ◌∙◌, arith}
 use Rattle.std.proofs.Math.ListN.{set}
-use Rattle.macsec_suite.specs.KeyRows.{keys_noting, row_noting}
-use Rattle.macsec_suite.proofs.KeyIndex.{IsChanged, IsChanged-set}
+use Rattle.macsec_suite.specs.declared.key_table.StoredKey.{StoredKey}
+use Rattle.macsec_suite.specs.KeyRows.{key_row, keys_noting, row_noting}
+use Rattle.macsec_suite.specs.KeyTables.{extended_count, stored_row}
+use Rattle.macsec_suite.proofs.KeyCount.{extended_count-same, extended_count-set}
+use Rattle.macsec_suite.proofs.KeyIndex.{IsChanged, IsChanged-set, place_within}
 use Rattle.macsec_suite.proofs.key_table.KeyTable.note_used.Goals as goal
 
 is_changed : (c : goal.After-self-1) → IsChanged (row_noting c.args.pn) c.args.number c.self.inside.places.items c.self.inside.rows.items
@@ -16,8 +19,21 @@ is_changed c =
     c.args.number place c.self.inside.places.items keys c.index_mut-stored.result.now _ (c.self.invariant.1, c.self.invariant.2) c.self.invariant.3
     (rw c.self.view_is c.place_of-place.ensures) (rw c.self.view_is c.requires) c.index_mut-stored.ensures.value (rw c.from.ensures refl) (λ own. own)
 
+-- the count of keys with extended packet numbers is the same
+same_count : (c : goal.After-self-1) → extended_count (map stored_row (set c.self.inside.rows.items c.place_of-place.result (record { row = c.index_mut-stored.result.now.row; first_unused = c.from.result + 1 })))
+    ≡ extended_count (map stored_row c.self.inside.rows.items)
+same_count c =
+    let keys = c.self.inside.rows.items in
+    let place = c.place_of-place.result in
+    let old = c.index_mut-stored.result.now in
+    let new : StoredKey = record { row = old.row; first_unused = c.from.result + 1 } in
+    let within : place < length keys = place_within keys (key_row (map stored_row keys) c.args.number) place (rw c.self.view_is c.requires) (rw c.self.view_is c.place_of-place.ensures) in
+    omega (arith, extended_count-set keys place old new within c.index_mut-stored.ensures.value, extended_count-same (stored_row old) (stored_row new) refl)
+
 pub invariant_of-self : goal.invariant_of-self
-invariant_of-self c = let changed = is_changed c in (c.self.invariant.0, changed.are.0, changed.are.1, changed.index)
+invariant_of-self c =
+    let changed = is_changed c in
+    (c.self.invariant.0, changed.are.0, changed.are.1, changed.index, omega (arith, same_count c, c.self.invariant.4))
 
 pub returns-clause-noted : goal.returns-clause-noted
 returns-clause-noted c = (is_changed c).rows ∙ ap (λ rows. keys_noting rows c.args.number c.args.pn) c.self.view_is

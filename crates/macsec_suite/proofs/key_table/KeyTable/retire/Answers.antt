@@ -1,11 +1,13 @@
 -- The one row of the key's number is retired, and the table's invariant is kept. Proved from `IsChanged-set` of
 -- `KeyIndex`.
-use Rattle.std.proofs.Common.{true, refl, ap, ◌∙◌}
+use Rattle.std.proofs.Common.{◌<◌, length, map, true, refl, ap, arith, ◌∙◌}
 use Rattle.std.specs.Prelude.{IsSome}
 use Rattle.std.proofs.Math.ListN.{set}
 use Rattle.macsec_suite.specs.declared.key_table.StoredKey.{StoredKey}
 use Rattle.macsec_suite.specs.KeyRows.{key_row, keys_retiring, retired_row}
-use Rattle.macsec_suite.proofs.KeyIndex.{IsChanged, IsChanged-set}
+use Rattle.macsec_suite.specs.KeyTables.{stored_row}
+use Rattle.macsec_suite.proofs.KeyCount.{extended_count-retiring}
+use Rattle.macsec_suite.proofs.KeyIndex.{IsChanged, IsChanged-set, place_within}
 use Rattle.macsec_suite.proofs.key_table.KeyTable.retire.Goals as goal
 
 -- a stored key, retired
@@ -22,8 +24,25 @@ is_changed c =
     (c.self.invariant.1, c.self.invariant.2) c.self.invariant.3
     (rw c.self.view_is c.place_of-place.ensures) (rw c.self.view_is some) c.index_mut-stored.ensures.value refl (λ own. own)
 
+pub overflow_sub-self : goal.overflow_sub-self
+overflow_sub-self c =
+    let keys = c.self.inside.rows.items in
+    let place = c.place_of-place.result in
+    let old = c.index_mut-stored.result.now in
+    let some : IsSome (key_row c.args.self.now c.args.number) = rw c.in-Some.ensures.row refl in
+    let within : place < length keys = place_within keys (key_row (map stored_row keys) c.args.number) place (rw c.self.view_is some) (rw c.self.view_is c.place_of-place.ensures) in
+    omega (arith, extended_count-retiring keys place old (retired old) within c.index_mut-stored.ensures.value refl, c.self.invariant.4, c.extended_count.ensures.count)
+
 pub invariant_of-self : goal.invariant_of-self
-invariant_of-self c = let changed = is_changed c in (c.self.invariant.0, changed.are.0, changed.are.1, changed.index)
+invariant_of-self c =
+    let changed = is_changed c in
+    let keys = c.self.inside.rows.items in
+    let place = c.place_of-place.result in
+    let old = c.index_mut-stored.result.now in
+    let some : IsSome (key_row c.args.self.now c.args.number) = rw c.in-Some.ensures.row refl in
+    let within : place < length keys = place_within keys (key_row (map stored_row keys) c.args.number) place (rw c.self.view_is some) (rw c.self.view_is c.place_of-place.ensures) in
+    let count = extended_count-retiring keys place old (retired old) within c.index_mut-stored.ensures.value refl in
+    (c.self.invariant.0, changed.are.0, changed.are.1, changed.index, omega (arith, count, c.self.invariant.4, c.extended_count.ensures.count))
 
 pub returns-clause-done : goal.returns-clause-done
 returns-clause-done c = (is_changed c).rows ∙ ap (λ rows. keys_retiring rows c.args.number) c.self.view_is
