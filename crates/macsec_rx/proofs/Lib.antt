@@ -1,4 +1,5 @@
 pub mod Opened
+pub mod Pieces
 pub mod Placed
 pub mod Recovered
 pub mod Room

@@ -2,6 +2,7 @@
 use Rattle.std.specs.Prelude.{◌≡◌, ℕ, suc, ◌+◌, ◌*◌, ◌<◌, ◌≤◌, List, [], ◌∷◌, length, true, if◌then◌else◌, slice_get, slice_index}
 use Rattle.macsec_tag.specs.declared.identifiers.Sci.{Sci}
 use Rattle.macsec_rx.specs.declared.RxRow.{RxRow}
+use Rattle.macsec_rx.specs.declared.channels.Found.{Found}
 use Rattle.macsec_rx.specs.Limits.{max_association_count, max_row_count}
 use Rattle.macsec_rx.specs.Channels.{rx_row, same_sci}
 use Rattle.macsec_rx.specs.Commands.{has_channel}
@@ -22,3 +23,7 @@ pub record IsIndex (scis : List Sci) (rows : List RxRow) (places : List ℕ) : T
   pub finds : (sci : Sci) (an : ℕ) → has_channel scis sci ≡ true → an < max_association_count → rx_row rows sci an ≡ slice_get rows (slice_index places (slot scis sci an))
   pub within : (n : ℕ) → n < max_row_count → slice_index places n < max_row_count → slice_index places n < length rows
   pub free : (n : ℕ) → n < max_row_count → 4 * length scis ≤ n → slice_index places n ≡ max_row_count
+
+-- the SA that was found, without its positions
+abbrev pub row_of_found : Found → RxRow
+row_of_found found = found.row

@@ -3,6 +3,7 @@
 ghost use Rattle.std.specs.Prelude.{◌≡◌, [], ◌∷◌, ◌++◌, length, true, map, slice_get, slice_set, false, IfOk, IfSome, IsSomeAnd, MatchOption, None, OnErr, OnOk, Some, option_map};
 ghost use Rattle.macsec_suite.specs.Refusals.{first_refusal, refusal_of};
 ghost use Rattle.macsec_rx.specs.Channels.{is_at, no_channels, rx_row, with_rx};
+ghost use Rattle.macsec_rx.specs.Index.{row_of_found};
 ghost use Rattle.macsec_rx.specs.Rows.{AreChannels, IsRxRow};
 ghost use Rattle.macsec_commands.specs.Scis.{IsSci};
 ghost use Rattle.macsec_rx.specs.Judge.{in_use, only_channel, port_of, row_accepting, rows_accepting, sci_of};
@@ -22,6 +23,16 @@ pub const MAX_CHANNEL_COUNT: usize = 64;
 
 /// The number of receive SAs that an endpoint can have: one for each SC and association number.
 pub const MAX_ROW_COUNT: usize = MAX_CHANNEL_COUNT * ASSOCIATION_COUNT;
+
+/// An SA that was found.
+#[derive(Clone, Copy)]
+pub(crate) struct Found {
+    /// The position of its SC, in the order of creation.
+    pub(crate) channel: usize,
+    /// Its position among the SAs.
+    pub(crate) place: usize,
+    pub(crate) row: RxRow,
+}
 
 /// The receive SCs: up to 64, with up to four SAs each. Contracts see them as the list of SCIs and the list of SAs,
 /// each in the order of creation.
@@ -72,21 +83,27 @@ impl RxChannels {
     pub fn row(&self, sci: Sci, an: An) -> Option<RxRow>
         ensures { result ≡ rx_row self.now.rows sci an }
     {
-        let (_, row) = self.found(sci, an)?;
-        Some(row)
+        let found = self.found(sci, an)?;
+        Some(found.row)
     }
 
-    /// The SA with this SCI and association number, with its index.
-    fn found(&self, sci: Sci, an: An) -> Option<(usize, RxRow)>
-        ensures row { MatchOption result (rx_row self.now.rows sci an ≡ None) (λ f. rx_row self.now.rows sci an ≡ Some f.1) }
-        ensures place { IfSome result (λ f. slice_get self.now.rows f.0 ≡ Some f.1) }
+    /// The SA with this SCI and association number, with its positions.
+    #[inline(always)]
+    fn found(&self, sci: Sci, an: An) -> Option<Found>
+        ensures row { MatchOption result (rx_row self.now.rows sci an ≡ None) (λ f. rx_row self.now.rows sci an ≡ Some f.row) }
+        ensures place { IfSome result (λ f. slice_get self.now.rows f.place ≡ Some f.row) }
+        ensures channel { IfSome result (λ f. slice_get self.now.scis f.channel ≡ Some f.row.sci) }
         ensures channels { AreChannels self.now }
     {
         let rows = self.rows.as_slice();
         let channel = channel_place(self.scis.as_slice(), sci)?;
         let place = usize::from(self.places[slot(channel, an)]);
         let row = rows.get(place)?;
-        Some((place, *row))
+        Some(Found {
+            channel,
+            place,
+            row: *row,
+        })
     }
 
     /// Whether an SA uses the key.
@@ -305,36 +322,32 @@ impl RxChannels {
         }
     }
 
-    /// The SA of a received frame, with its index: the one with its SCI and association number, if it is enabled.
-    pub(crate) fn in_use(&self, mpdu: &Mpdu<'_>) -> Option<(usize, RxRow)>
-        ensures row { option_map (λ f. f.1) result ≡ in_use self.now.rows mpdu.now.tag.an (sci_of self.now.scis mpdu.now) }
-        ensures place { IfSome result (λ f. slice_get self.now.rows f.0 ≡ Some f.1) }
+    /// The SA of a received frame, with its positions: the one with its SCI and association number, if it is enabled.
+    pub(crate) fn in_use(&self, mpdu: &Mpdu<'_>) -> Option<Found>
+        ensures row { option_map row_of_found result ≡ in_use self.now.rows mpdu.now.tag.an (sci_of self.now.scis mpdu.now) }
+        ensures place { IfSome result (λ f. slice_get self.now.rows f.place ≡ Some f.row) }
+        ensures channel { IfSome result (λ f. slice_get self.now.scis f.channel ≡ Some f.row.sci) }
         ensures channels { AreChannels self.now }
     {
         // Shows the prover the invariant of the channels at each return. The compiler deletes the line.
         let _ = &self.scis;
         let sci = self.sci_of(mpdu)?;
-        let (place, row) = self.found(sci, mpdu.tag().an())?;
-        if row.on { Some((place, row)) } else { None }
+        let found = self.found(sci, mpdu.tag().an())?;
+        if found.row.on { Some(found) } else { None }
     }
 
-    /// Records that a frame of the SA `found` (with its index) was accepted with the packet number `number`. Does
-    /// nothing if there is no SA or no number. `window` is the replay window.
-    pub(crate) fn accept_at(
-        &mut self,
-        found: &Option<(usize, RxRow)>,
-        number: Option<u64>,
-        window: u64,
-    )
-        requires { IfSome found.now (λ f. slice_get self.old.rows f.0 ≡ Some f.1) }
-        ensures accepted { self.new ≡ record self.old { rows = rows_accepting window number (option_map (λ f. f.1) found.now) self.old.rows } }
+    /// Records that a frame of the SA `found` was accepted with the packet number `number`. Does nothing if there is no
+    /// SA or no number. `window` is the replay window.
+    pub(crate) fn accept_at(&mut self, found: &Option<Found>, number: Option<u64>, window: u64)
+        requires { IfSome found.now (λ f. slice_get self.old.rows f.place ≡ Some f.row) }
+        ensures accepted { self.new ≡ record self.old { rows = rows_accepting window number (option_map row_of_found found.now) self.old.rows } }
         ensures channels { AreChannels self.new }
     {
         // For the prover, as in `rx_sc`.
         let _ = &self.scis;
-        if let Some((place, row)) = found {
+        if let Some(found) = found {
             if let Some(number) = number {
-                self.accept(*place, row, number, window);
+                self.accept(found.place, &found.row, number, window);
             }
         }
     }
@@ -387,7 +400,7 @@ impl RxChannels {
             return Err(Refusal::NoSc);
         }
         match self.found(sci, an) {
-            Some(found) => Ok(found),
+            Some(found) => Ok((found.place, found.row)),
             None => Err(Refusal::NoSa),
         }
     }

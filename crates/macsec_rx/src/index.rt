@@ -15,6 +15,9 @@ use macsec_tag::{ASSOCIATION_COUNT, An, Sci};
 /// The index entry of an SA that does not exist. No row has this index.
 const NO_PLACE: u16 = MAX_ROW_COUNT as u16;
 
+/// The number of SCs in a piece of the search for an SCI.
+const PIECE_LENGTH: usize = 8;
+
 /// The index without SAs.
 pub(crate) fn empty_index() -> [u16; MAX_ROW_COUNT]
     ensures { (scis : List Sci) → IsIndex scis [] result }
@@ -47,8 +50,29 @@ pub(crate) fn slot(channel: usize, an: An) -> usize
     ASSOCIATION_COUNT * channel + usize::from(an.number())
 }
 
-/// The position of the SC with this SCI.
+/// The position of the SC with this SCI. The search begins with whole pieces. Their fixed length lets the compiler
+/// compare their SCIs without a loop.
+#[inline(always)]
 pub(crate) fn channel_place(scis: &[Sci], sci: Sci) -> Option<usize>
+    ensures there { is_some result ≡ has_channel scis.now sci }
+    ensures place { IfSome result (λ place. place ≡ channel_place scis.now sci) }
+    ensures within { IfSome result (λ place. place < length scis.now) }
+{
+    let pieces = scis.len() / PIECE_LENGTH;
+    for number in 0..pieces {
+        let start = PIECE_LENGTH * number;
+        if let Some(place) = place_in(&scis[start..start + PIECE_LENGTH], sci) {
+            return Some(start + place);
+        }
+    }
+    let start = PIECE_LENGTH * pieces;
+    let place = place_in(&scis[start..], sci)?;
+    Some(start + place)
+}
+
+/// The position of the SC with this SCI among these SCs.
+#[inline(always)]
+fn place_in(scis: &[Sci], sci: Sci) -> Option<usize>
     ensures there { is_some result ≡ has_channel scis.now sci }
     ensures place { IfSome result (λ place. place ≡ channel_place scis.now sci) }
     ensures within { IfSome result (λ place. place < length scis.now) }
@@ -63,7 +87,7 @@ pub(crate) fn channel_place(scis: &[Sci], sci: Sci) -> Option<usize>
 
 /// Whether two SCIs are equal. They are compared as 64-bit numbers, in one step, because the SCI of each frame is
 /// compared with that of each SC.
-pub fn same_sci(s: Sci, t: Sci) -> bool
+fn same_sci(s: Sci, t: Sci) -> bool
     ensures { result ≡ same_sci s t }
 {
     number_of(s) == number_of(t)

@@ -1,6 +1,6 @@
 //! The verdict on a tagged frame (IEEE 802.1AE, 10.6).
 
-ghost use Rattle.std.specs.Prelude.{◌≡◌, ◌≤◌, ◌+◌, ◌&&◌, ℕ, List, IfNone, IfSome, IsSome, None, Some, length, option_map};
+ghost use Rattle.std.specs.Prelude.{◌≡◌, ◌≤◌, ◌+◌, ◌&&◌, ℕ, List, IfNone, IfSome, IsSome, None, Some, length, option_map, slice_get};
 ghost use Rattle.macsec_gcm.specs.Gcm.{max_plaintext_len};
 ghost use Rattle.macsec_suite.specs.KeyRows.{InstalledKey, key_row};
 ghost use Rattle.macsec_pn.specs.Numbers.{is_late};
@@ -11,17 +11,19 @@ ghost use Rattle.macsec_rx.specs.Limits.{unpadded_length};
 ghost use Rattle.macsec_rx.specs.Channels.{with_rx};
 ghost use Rattle.macsec_rx.specs.Commands.{HaveRxKeys};
 ghost use Rattle.macsec_rx.specs.Judge.{is_bad_number, is_disabled, is_strict, judge_number, judge_opened, judge_row, judge_tagged};
-ghost use Rattle.macsec_rx.specs.Judge.{judge_tagged_row, judge_validated, number_of_frame, octets_at, rows_after};
+ghost use Rattle.macsec_rx.specs.Judge.{judge_tagged_row, judge_validated, number_of_frame, octets_at, place_of, rows_after};
 ghost use Rattle.macsec_rx.specs.Delivered.{IsInPlace, LeavesReceived, frame_with, opened_under};
 ghost use Rattle.macsec_rx.specs.Rows.{AreChannels};
 ghost use Rattle.macsec_rx.specs.Judged.{ShowsJudgement, ShowsOutcome};
+ghost use Rattle.macsec_rx.specs.Index.{row_of_found};
 
+use crate::channels::Found;
 use crate::delivering::{deliver_bare, deliver_opened};
 use crate::{Judged, Mode, RxChannels, RxOptions, RxRow, Verdict};
 use macsec_suite::{KeyRow, KeyTable, Suite, iv_of};
 use macsec_tag::Mpdu;
 
-/// A verdict, and the packet number that is accepted with it, if any.
+/// A verdict, and the packet number that is accepted with it, if any. `judge` adds the position of the SC.
 #[derive(Clone, Copy)]
 pub struct Outcome {
     judged: Judged,
@@ -31,12 +33,13 @@ pub struct Outcome {
 impl Outcome {
     /// A verdict without an SA.
     fn without_row(verdict: Verdict, delivered: Option<(usize, usize)>) -> Outcome
-        ensures { result ≡ record { judged = record { verdict = verdict; row = None; delivered = delivered }; accepted = None } }
+        ensures { result ≡ record { judged = record { verdict = verdict; row = None; channel = 0; delivered = delivered }; accepted = None } }
     {
         Outcome {
             judged: Judged {
                 verdict,
                 row: None,
+                channel: 0,
                 delivered,
             },
             accepted: None,
@@ -50,12 +53,13 @@ impl Outcome {
         delivered: Option<(usize, usize)>,
         accepted: Option<u64>,
     ) -> Outcome
-        ensures { result ≡ record { judged = record { verdict = verdict; row = Some (row.now.sci, row.now.an); delivered = delivered }; accepted = accepted } }
+        ensures { result ≡ record { judged = record { verdict = verdict; row = Some (row.now.sci, row.now.an); channel = 0; delivered = delivered }; accepted = accepted } }
     {
         Outcome {
             judged: Judged {
                 verdict,
                 row: Some((row.sci, row.an)),
+                channel: 0,
                 delivered,
             },
             accepted,
@@ -81,6 +85,7 @@ impl RxChannels {
         ensures judged { ShowsJudgement result out.new (judge_tagged options.now keys.now self.old mpdu.now) }
         ensures place { IsInPlace result.delivered mpdu.now }
         ensures undelivered { IfNone result.delivered (LeavesReceived out.old out.new mpdu.now) }
+        ensures channel { IfSome result.row (λ at. slice_get self.old.scis result.channel ≡ Some at.0) }
         ensures numbers { self.new ≡ record self.old { rows = rows_after options.now.window (judge_tagged options.now keys.now self.old mpdu.now) self.old.rows } }
         ensures channels { AreChannels self.new }
     {
@@ -88,17 +93,30 @@ impl RxChannels {
         let row = row_of(&found);
         let outcome = judge_tagged_row(keys, options, &row, mpdu, out);
         self.accept_at(&found, outcome.accepted, options.window);
-        outcome.judged
+        Judged {
+            channel: channel_of(&found),
+            ..outcome.judged
+        }
     }
 }
 
-/// The SA that was found, without its index.
-fn row_of(found: &Option<(usize, RxRow)>) -> Option<RxRow>
-    ensures { result ≡ option_map (λ f. f.1) found.now }
+/// The SA that was found, without its positions.
+fn row_of(found: &Option<Found>) -> Option<RxRow>
+    ensures { result ≡ option_map row_of_found found.now }
 {
     match found {
-        Some((_, row)) => Some(*row),
+        Some(found) => Some(found.row),
         None => None,
+    }
+}
+
+/// The position of the SC of the SA that was found, otherwise 0.
+fn channel_of(found: &Option<Found>) -> usize
+    ensures { IfSome found.now (λ f. result ≡ f.channel) }
+{
+    match found {
+        Some(found) => found.channel,
+        None => 0,
     }
 }
 
@@ -152,6 +170,7 @@ fn judge_tagged_row(
     requires room { max_frame_len ≤ length out.old }
     ensures outcome { ShowsOutcome result out.new (judge_tagged_row options.now keys.now mpdu.now row.now) }
     ensures row { IfSome result.accepted (λ n. (judge_tagged_row options.now keys.now mpdu.now row.now).row ≡ row.now) }
+    ensures found { IfSome result.judged.row (λ at. option_map place_of row.now ≡ Some at) }
     ensures place { IsInPlace result.judged.delivered mpdu.now }
     ensures undelivered { IfNone result.judged.delivered (LeavesReceived out.old out.new mpdu.now) }
 {
@@ -175,6 +194,7 @@ fn judge_row(
     requires room { max_frame_len ≤ length out.old }
     ensures outcome { ShowsOutcome result out.new (judge_row options.now keys.now mpdu.now row.now) }
     ensures row { IfSome result.accepted (λ n. (judge_row options.now keys.now mpdu.now row.now).row ≡ row.now) }
+    ensures found { IfSome result.judged.row (λ at. option_map place_of row.now ≡ Some at) }
     ensures place { IsInPlace result.judged.delivered mpdu.now }
     ensures undelivered { IfNone result.judged.delivered (LeavesReceived out.old out.new mpdu.now) }
 {
@@ -189,6 +209,7 @@ fn judge_unknown(options: &RxOptions, mpdu: &Mpdu<'_>, out: &mut [u8]) -> Outcom
     requires room { unpadded_length mpdu.now ≤ length out.old }
     ensures outcome { (keys : List InstalledKey) → ShowsOutcome result out.new (judge_row options.now keys mpdu.now None) }
     ensures row { result.accepted ≡ None }
+    ensures found { result.judged.row ≡ None }
     ensures place { IsInPlace result.judged.delivered mpdu.now }
     ensures undelivered { IfNone result.judged.delivered (out.new ≡ out.old) }
 {
@@ -211,6 +232,7 @@ fn judge_known(
     requires room { max_frame_len ≤ length out.old }
     ensures outcome { ShowsOutcome result out.new (judge_row options.now keys.now mpdu.now (Some row.now)) }
     ensures row { IfSome result.accepted (λ n. (judge_row options.now keys.now mpdu.now (Some row.now)).row ≡ Some row.now) }
+    ensures found { result.judged.row ≡ Some (place_of row.now) }
     ensures place { IsInPlace result.judged.delivered mpdu.now }
     ensures undelivered { IfNone result.judged.delivered (LeavesReceived out.old out.new mpdu.now) }
 {
@@ -249,6 +271,7 @@ fn judge_number(
     requires room { max_frame_len ≤ length out.old }
     ensures outcome { (first_unused : ℕ) → ShowsOutcome result out.new (judge_number options.now (row_shown key.now first_unused) row.now mpdu.now (Some number)) }
     ensures row { (first_unused : ℕ) → IfSome result.accepted (λ n. (judge_number options.now (row_shown key.now first_unused) row.now mpdu.now (Some number)).row ≡ Some row.now) }
+    ensures found { result.judged.row ≡ Some (place_of row.now) }
     ensures place { IsInPlace result.judged.delivered mpdu.now }
     ensures undelivered { IfNone result.judged.delivered (LeavesReceived out.old out.new mpdu.now) }
 {
@@ -284,6 +307,7 @@ fn judge_validated(
     requires room { max_frame_len ≤ length out.old }
     ensures outcome { (first_unused : ℕ) → ShowsOutcome result out.new (judge_validated options.now (row_shown key.now first_unused) row.now number mpdu.now) }
     ensures row { (first_unused : ℕ) → IfSome result.accepted (λ n. (judge_validated options.now (row_shown key.now first_unused) row.now number mpdu.now).row ≡ Some row.now) }
+    ensures found { result.judged.row ≡ Some (place_of row.now) }
     ensures place { IsInPlace result.judged.delivered mpdu.now }
     ensures undelivered { IfNone result.judged.delivered (LeavesReceived out.old out.new mpdu.now) }
 {
@@ -333,6 +357,7 @@ fn judge_invalid(options: &RxOptions, row: &RxRow, mpdu: &Mpdu<'_>, out: &mut [u
     requires room { unpadded_length mpdu.now ≤ length out.old }
     ensures outcome { (key : InstalledKey) (number : ℕ) → ShowsOutcome result out.new (judge_opened options.now key row.now number mpdu.now None) }
     ensures accepted { result.accepted ≡ None }
+    ensures found { result.judged.row ≡ Some (place_of row.now) }
     ensures place { IsInPlace result.judged.delivered mpdu.now }
     ensures undelivered { IfNone result.judged.delivered (out.new ≡ out.old) }
 {

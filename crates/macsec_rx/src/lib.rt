@@ -26,7 +26,6 @@ mod index;
 mod judging;
 
 pub use channels::{MAX_CHANNEL_COUNT, MAX_ROW_COUNT, RxChannels};
-pub use index::same_sci;
 pub use macsec_commands::Mode;
 use macsec_pn::RxNumbers;
 use macsec_suite::KeyNumber;
@@ -152,6 +151,8 @@ pub struct Judged {
     pub verdict: Verdict,
     /// The SA of the frame, if the verdict depends on one: its SCI and association number.
     pub row: Option<(Sci, An)>,
+    /// The position of the SC of `row`, in the order of creation. Without a `row` it means nothing.
+    pub channel: usize,
     /// The position and length, in octets, of the delivered frame in the caller's slice.
     pub delivered: Option<(usize, usize)>,
 }

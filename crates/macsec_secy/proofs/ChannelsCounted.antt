@@ -11,7 +11,7 @@ use Rattle.macsec_rx.specs.Judge.{Judgement}
 use Rattle.macsec_secy.specs.declared.counters.ChannelCounters.{ChannelCounters}
 use Rattle.macsec_secy.specs.Counting.{at_channel, count_in_channel}
 use Rattle.macsec_secy.specs.Reception.{counted_at_row, is_counted_by_channel, rx_packet_counted}
-use Rattle.macsec_secy.specs.Verdicts.{at_first, counted_at_place}
+use Rattle.macsec_secy.specs.Verdicts.{counted_at_place}
 use Rattle.macsec_secy.specs.Sound.{sci_of_counters}
 use Rattle.macsec_secy.proofs.KeysKept.{field_kept}
 use Rattle.macsec_secy.proofs.Lent.{left_in_place}
@@ -42,17 +42,9 @@ without_counters sci (row ∷ rows) = by_test (not (same_sci row.sci sci)) (with
     by_test true later = ap (λ ss. row.sci ∷ ss) later
     by_test false later = later
 
-length-at_first : (change : ChannelCounters → ChannelCounters) (sci : Sci) (rows : List ChannelCounters) → length (at_first change sci rows) ≡ length rows
-length-at_first change sci [] = refl
-length-at_first change sci (row ∷ rows) = by_test (same_sci row.sci sci) (length-at_first change sci rows)
-  where
-    by_test : (b : Bool) → length (at_first change sci rows) ≡ length rows → length (if b then change row ∷ rows else row ∷ at_first change sci rows) ≡ suc (length rows)
-    by_test true later = refl
-    by_test false later = ap suc later
-
 length_kept : (verdict : Verdict) (place : Option (Sci × ℕ)) (rows : List ChannelCounters) → length (counted_at_place verdict place rows) ≡ length rows
 length_kept verdict None rows = refl
-length_kept verdict (Some place) rows = length-at_first (count_in_channel verdict place.1) place.0 rows
+length_kept verdict (Some place) rows = length-map rows (at_channel (count_in_channel verdict place.1) place.0)
 
 -- the SCs after one of them was changed through a borrowed slice
 pub changed_again : (old lent new : List ChannelCounters) (change : ChannelCounters → ChannelCounters) (sci : Sci) → lent ≡ old → new ≡ map (at_channel change sci) lent →

@@ -1,7 +1,6 @@
 pub mod KeysKept
 pub mod RxKeysKept
 pub mod Lent
-pub mod FirstChannel
 pub mod AddedCounters
 pub mod JudgedRow
 pub mod ChannelsCounted
@@ -10,6 +9,7 @@ pub mod SentFrames
 pub mod TaggedFrames
 pub mod Limits
 pub mod Sums
+pub mod ChannelAt
 pub mod CountersKept
 pub mod AssociationsKept
 pub mod AssociationsShown

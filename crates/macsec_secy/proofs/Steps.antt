@@ -15,25 +15,17 @@ use Rattle.macsec_rx.specs.Channels.{Channels, same_sci}
 use Rattle.macsec_rx.specs.Judge.{Judgement, at_row, bare_frame, is_disabled, is_strict, judge_number, judge_opened, judge_row, judge_tagged}
 use Rattle.macsec_rx.specs.Judge.{judge_tagged_row, number_of_frame, opened_frame, place_of, plaintext_of, without_row}
 use Rattle.macsec_secy.specs.declared.counters.Counters.{Counters}
-use Rattle.macsec_rx.specs.Rows.{AreScis}
 use Rattle.macsec_secy.specs.declared.counters.RxCounters.{RxCounters}
 use Rattle.macsec_secy.specs.declared.counters.ChannelCounters.{ChannelCounters}
 use Rattle.macsec_secy.specs.Counting.{at_channel, count_in_channel, count_packet, count_verdict, counters_at}
 use Rattle.macsec_secy.specs.Reception.{packet_counted, rx_packet_counted}
-use Rattle.macsec_secy.specs.Sound.{sci_of_counters}
-use Rattle.macsec_secy.specs.Verdicts.{at_first, counted_at_place, is_opened}
-use Rattle.macsec_secy.proofs.FirstChannel.{at_first-distinct}
+use Rattle.macsec_secy.specs.Verdicts.{counted_at_place, is_opened}
 
 -- the verdict and the mode of validation determine which counters the frame raises
 pub record Tells (mode : Mode) (j : Judgement) : Type 0 where
   pub packet : (c : Counters) → packet_counted j c ≡ count_packet j.verdict c
-  pub channel : (rows : List ChannelCounters) → AreScis (map sci_of_counters rows) → rx_packet_counted j rows ≡ counted_at_place j.verdict (option_map place_of j.row) rows
+  pub channel : (rows : List ChannelCounters) → rx_packet_counted j rows ≡ counted_at_place j.verdict (option_map place_of j.row) rows
   pub opened : nat_le 11 j.step ≡ is_opened mode j.verdict
-
--- the SA and its SC count the frame
-by_channel : (verdict : Verdict) (row : RxRow) (rows : List ChannelCounters) → AreScis (map sci_of_counters rows) →
-    map (at_channel (count_in_channel verdict row.an) row.sci) rows ≡ at_first (count_in_channel verdict row.an) row.sci rows
-by_channel verdict row rows distinct = at_first-distinct (count_in_channel verdict row.an) row.sci rows distinct
 
 -- no SC and no SA counts a frame with the verdict BadTag
 bad_tag_uncounted : (an : ℕ) (row : ChannelCounters) → row ≡ count_in_channel BadTag an row
@@ -45,13 +37,13 @@ bad_tag_uncounted an row =
     by_counters None = refl
     by_counters (Some c) = refl
 
-bad_tag_counted_elsewhere : (sci : Sci) (an : ℕ) (rows : List ChannelCounters) → rows ≡ at_first (count_in_channel BadTag an) sci rows
+bad_tag_counted_elsewhere : (sci : Sci) (an : ℕ) (rows : List ChannelCounters) → rows ≡ map (at_channel (count_in_channel BadTag an) sci) rows
 bad_tag_counted_elsewhere sci an [] = refl
 bad_tag_counted_elsewhere sci an (row ∷ rows) = by_test (same_sci row.sci sci) (bad_tag_counted_elsewhere sci an rows)
   where
-    by_test : (test : Bool) → rows ≡ at_first (count_in_channel BadTag an) sci rows →
-        row ∷ rows ≡ (if test then count_in_channel BadTag an row ∷ rows else row ∷ at_first (count_in_channel BadTag an) sci rows)
-    by_test true later = ap (λ r. r ∷ rows) (bad_tag_uncounted an row)
+    by_test : (test : Bool) → rows ≡ map (at_channel (count_in_channel BadTag an) sci) rows →
+        row ∷ rows ≡ (if test then count_in_channel BadTag an row else row) ∷ map (at_channel (count_in_channel BadTag an) sci) rows
+    by_test true later = ap (λ r. r ∷ rows) (bad_tag_uncounted an row) ∙ ap (λ rs. count_in_channel BadTag an row ∷ rs) later
     by_test false later = ap (λ rs. row ∷ rs) later
 
 tells_opened : (options : RxOptions) (key : InstalledKey) (row : RxRow) (number : ℕ) (p : MpduParts) (o : Option (List ℕ)) → is_disabled options.mode ≡ false →
@@ -60,23 +52,23 @@ tells_opened options key row number p None validates = by_test (p.tag.c || is_st
   where
     by_test : (test : Bool) →
         Tells options.mode (if test then at_row row number 11 NotValid None else at_row row number 12 Invalid (Some (bare_frame p)))
-    by_test true = record { packet = λ c. refl; channel = by_channel NotValid row; opened = ap (λ b. not b) (sym validates) }
-    by_test false = record { packet = λ c. refl; channel = by_channel Invalid row; opened = refl }
+    by_test true = record { packet = λ c. refl; channel = λ rows. refl; opened = ap (λ b. not b) (sym validates) }
+    by_test false = record { packet = λ c. refl; channel = λ rows. refl; opened = refl }
 tells_opened options key row number p (Some plaintext) validates = by_test (is_late row.lowest number)
   where
     by_test : (test : Bool) → Tells options.mode (at_row row number 13 (if test then Delayed else Passed) (Some (opened_frame key p plaintext)))
-    by_test true = record { packet = λ c. refl; channel = by_channel Delayed row; opened = ap (λ b. not b) (sym validates) }
-    by_test false = record { packet = λ c. refl; channel = by_channel Passed row; opened = refl }
+    by_test true = record { packet = λ c. refl; channel = λ rows. refl; opened = ap (λ b. not b) (sym validates) }
+    by_test false = record { packet = λ c. refl; channel = λ rows. refl; opened = refl }
 
 tells_number : (options : RxOptions) (key : InstalledKey) (row : RxRow) (p : MpduParts) (number : Option ℕ) →
     Tells options.mode (judge_number options key row p number)
-tells_number options key row p None = record { packet = λ c. refl; channel = λ rows distinct. bad_tag_counted_elsewhere row.sci row.an rows; opened = refl }
+tells_number options key row p None = record { packet = λ c. refl; channel = bad_tag_counted_elsewhere row.sci row.an; opened = refl }
 tells_number options key row p (Some number) =
     by_tests (options.replay && is_late row.lowest number) (is_disabled options.mode) p.tag.c refl
   where
     unchecked : (late : Bool) → is_disabled options.mode ≡ true → Tells options.mode (at_row row number 10 (if late then Delayed else Unchecked) (Some (bare_frame p)))
-    unchecked true disabled = record { packet = λ c. refl; channel = by_channel Delayed row; opened = ap (λ b. not b) (sym disabled) }
-    unchecked false disabled = record { packet = λ c. refl; channel = by_channel Unchecked row; opened = refl }
+    unchecked true disabled = record { packet = λ c. refl; channel = λ rows. refl; opened = ap (λ b. not b) (sym disabled) }
+    unchecked false disabled = record { packet = λ c. refl; channel = λ rows. refl; opened = refl }
 
     by_tests : (late disabled c : Bool) → is_disabled options.mode ≡ disabled → Tells options.mode (
         if late then at_row row number 8 Late None
@@ -84,8 +76,8 @@ tells_number options key row p (Some number) =
         else if disabled
         then at_row row number 10 (if is_late row.lowest number then Delayed else Unchecked) (Some (bare_frame p))
         else judge_opened options key row number p (plaintext_of key row number p))
-    by_tests true disabled c same = record { packet = λ n. refl; channel = by_channel Late row; opened = refl }
-    by_tests false true true same = record { packet = λ n. refl; channel = by_channel NotValid row; opened = ap (λ b. not b) (sym same) }
+    by_tests true disabled c same = record { packet = λ n. refl; channel = λ rows. refl; opened = refl }
+    by_tests false true true same = record { packet = λ n. refl; channel = λ rows. refl; opened = ap (λ b. not b) (sym same) }
     by_tests false true false same = unchecked (is_late row.lowest number) same
     by_tests false false c same = tells_opened options key row number p (plaintext_of key row number p) same
 
@@ -93,8 +85,8 @@ tells_row : (options : RxOptions) (keys : List InstalledKey) (p : MpduParts) (ro
 tells_row options keys p None = by_test (is_strict options.mode || p.tag.c)
   where
     by_test : (test : Bool) → Tells options.mode (if test then without_row 5 NoSaError None else without_row 6 NoSa (Some (bare_frame p)))
-    by_test true = record { packet = λ c. refl; channel = λ rows distinct. refl; opened = refl }
-    by_test false = record { packet = λ c. refl; channel = λ rows distinct. refl; opened = refl }
+    by_test true = record { packet = λ c. refl; channel = λ rows. refl; opened = refl }
+    by_test false = record { packet = λ c. refl; channel = λ rows. refl; opened = refl }
 tells_row options keys p (Some row) =
     tells_number options (the_key keys row.key) row p (number_of_frame (the_key keys row.key).suite row.lowest p.tag.pn)
 
@@ -102,7 +94,7 @@ tells_tagged_row : (options : RxOptions) (keys : List InstalledKey) (p : MpduPar
 tells_tagged_row options keys p row = by_test (p.tag.e && not p.tag.c)
   where
     by_test : (reserved : Bool) → Tells options.mode (if reserved then without_row 4 Reserved None else judge_row options keys p row)
-    by_test true = record { packet = λ c. refl; channel = λ rows distinct. refl; opened = refl }
+    by_test true = record { packet = λ c. refl; channel = λ rows. refl; opened = refl }
     by_test false = tells_row options keys p row
 
 pub tells_tagged : (options : RxOptions) (keys : List InstalledKey) (channels : Channels) (p : MpduParts) → Tells options.mode (judge_tagged options keys channels p)

@@ -1,14 +1,13 @@
 -- What the verdict and the mode of validation show about the step that decided.
-use Rattle.std.specs.Prelude.{ℕ, List, [], ◌∷◌, Bool, true, false, not, if◌then◌else◌, Option, Some, None}
+use Rattle.std.specs.Prelude.{ℕ, List, map, Bool, true, false, not, if◌then◌else◌, Option, Some, None}
 use Rattle.macsec_tag.specs.declared.identifiers.Sci.{Sci}
 use Rattle.macsec_commands.specs.declared.mode.Mode.{Mode}
 use Rattle.macsec_rx.specs.declared.Verdict.{Verdict}
 use Rattle.macsec_rx.specs.declared.Verdict.TheVariants.{Untagged, NoTag, BadTag, Reserved, NoSa, NoSaError, Late, NotValid, Unchecked, Delayed, Invalid, Passed}
-use Rattle.macsec_rx.specs.Channels.{same_sci}
 use Rattle.macsec_rx.specs.Judge.{is_disabled, is_strict}
 use Rattle.macsec_secy.specs.declared.counters.Counters.{Counters}
 use Rattle.macsec_secy.specs.declared.counters.ChannelCounters.{ChannelCounters}
-use Rattle.macsec_secy.specs.Counting.{count_in_channel, count_octets_received, count_packet}
+use Rattle.macsec_secy.specs.Counting.{at_channel, count_in_channel, count_octets_received, count_packet}
 
 -- the cipher was applied
 abbrev pub is_opened : Mode → Verdict → Bool
@@ -30,15 +29,10 @@ abbrev pub counted_by : Mode → Verdict → Bool → ℕ → Counters → Count
 counted_by mode verdict e octets c =
     if is_opened mode verdict then count_octets_received e octets (count_packet verdict c) else count_packet verdict c
 
--- changes the first SC with this SCI; no two SCs have the same SCI
-abbrev pub at_first : (ChannelCounters → ChannelCounters) → Sci → List ChannelCounters → List ChannelCounters
-at_first change sci [] = []
-at_first change sci (row ∷ rows) = if same_sci row.sci sci then change row ∷ rows else row ∷ at_first change sci rows
-
 -- the counters of the receive SCs after a tagged frame for this SA, if it has one
 abbrev pub counted_at_place : Verdict → Option (Sci × ℕ) → List ChannelCounters → List ChannelCounters
 counted_at_place verdict None rows = rows
-counted_at_place verdict (Some place) rows = at_first (count_in_channel verdict place.1) place.0 rows
+counted_at_place verdict (Some place) rows = map (at_channel (count_in_channel verdict place.1) place.0) rows
 
 -- the verdict on an untagged frame
 abbrev pub verdict_on_untagged : Mode → Verdict

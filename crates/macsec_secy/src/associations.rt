@@ -1,12 +1,14 @@
 //! The counters of receive SCs (secure channels) and of their SAs (secure associations; IEEE 802.1AE, 10.7).
 
-ghost use Rattle.std.specs.Prelude.{◌≡◌, map};
+ghost use Rattle.std.specs.Prelude.{◌≡◌, map, slice_get, IfSome, Some};
+ghost use Rattle.macsec_rx.specs.Rows.{AreScis};
 ghost use Rattle.macsec_secy.specs.State.{no_rx_counters};
 ghost use Rattle.macsec_secy.specs.Counting.{added, at_channel, count_in_channel, count_verdict, new_channel_counters, with_association, without_association};
-ghost use Rattle.macsec_secy.specs.Verdicts.{at_first, counted_at_place};
+ghost use Rattle.macsec_secy.specs.Sound.{sci_of_counters};
+ghost use Rattle.macsec_secy.specs.Verdicts.{counted_at_place};
 
 use crate::{An, ChannelCounters, RxCounters, Sci, Verdict};
-use macsec_rx::same_sci;
+use macsec_rx::Judged;
 use macsec_tag::ASSOCIATION_COUNT;
 
 impl RxCounters {
@@ -118,23 +120,14 @@ pub(crate) fn remove_association(rows: &mut [ChannelCounters], sci: Sci, an: An)
     }
 }
 
-/// Counts a frame at the SC with this SCI and at its SA with this number. No other counters change.
-fn count_at(rows: &mut [ChannelCounters], verdict: Verdict, sci: Sci, an: An)
-    ensures { rows.new ≡ at_first (count_in_channel verdict an) sci rows.old }
+/// Counts a frame at its SA and at that SA's SC, whose position is in `judged`, if it has an SA. No other counters
+/// change.
+pub(crate) fn count_at_row(rows: &mut [ChannelCounters], judged: &Judged)
+    requires distinct { AreScis (map sci_of_counters rows.old) }
+    requires place { IfSome judged.now.row (λ at. slice_get (map sci_of_counters rows.old) judged.now.channel ≡ Some at.0) }
+    ensures { rows.new ≡ counted_at_place judged.now.verdict judged.now.row rows.old }
 {
-    for row in rows.iter_mut() {
-        if same_sci(row.sci, sci) {
-            row.count(verdict, an);
-            return;
-        }
-    }
-}
-
-/// Counts a frame at its SA and at that SA's SC, if it has an SA.
-pub(crate) fn count_at_row(rows: &mut [ChannelCounters], verdict: Verdict, row: Option<(Sci, An)>)
-    ensures { rows.new ≡ counted_at_place verdict row rows.old }
-{
-    if let Some((sci, an)) = row {
-        count_at(rows, verdict, sci, an);
+    if let Some((_, an)) = judged.row {
+        rows[judged.channel].count(judged.verdict, an);
     }
 }

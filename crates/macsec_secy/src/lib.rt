@@ -307,7 +307,7 @@ impl Secy {
                 let octets = mpdu.secure_data().len() as u64;
                 self.counters
                     .count_tagged(options.mode, judged.verdict, mpdu.tag().e(), octets);
-                count_at_row(self.rx_counters.as_mut_slice(), judged.verdict, judged.row);
+                count_at_row(self.rx_counters.as_mut_slice(), &judged);
                 Ok(Received {
                     verdict: judged.verdict,
                     row: sci_and_number(judged.row),

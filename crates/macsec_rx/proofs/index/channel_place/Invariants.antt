@@ -1,11 +1,11 @@
-use Rattle.std.proofs.Common.{◌≡◌, ◌+◌, drop}
+use Rattle.std.proofs.Common.{◌≡◌, ◌+◌, ◌*◌, drop}
 use Rattle.macsec_rx.specs.Commands.{has_channel}
 use Rattle.macsec_rx.specs.Index.{channel_place}
 use Rattle.macsec_rx.proofs.index.channel_place.Given as goal
 
--- no SC before the index has the SCI
-abbrev pub invariant-loop-place : goal.invariant-loop-place
-invariant-loop-place l = record {
-  there : has_channel l.scis l.sci ≡ has_channel (drop l.place l.scis) l.sci;
-  place : channel_place l.scis l.sci ≡ l.place + channel_place (drop l.place l.scis) l.sci;
+-- no SC before the piece has the SCI
+abbrev pub invariant-loop-number : goal.invariant-loop-number
+invariant-loop-number l = record {
+  there : has_channel l.scis l.sci ≡ has_channel (drop (8 * l.number) l.scis) l.sci;
+  place : channel_place l.scis l.sci ≡ 8 * l.number + channel_place (drop (8 * l.number) l.scis) l.sci;
 }

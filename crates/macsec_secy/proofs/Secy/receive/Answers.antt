@@ -1,7 +1,7 @@
 -- A link frame, one arm for each reading: the state is the one after the step and is sound, and the result is the
 -- step's output. The clause on the sum of the counters is a law of the machine (`FramesCounted`).
 use Rattle.std.proofs.Common.{◌≡◌, ◌∙◌, ℕ, List, ap, length, map, refl, rules, subst, sym}
-use Rattle.std.specs.Prelude.{None, option_map}
+use Rattle.std.specs.Prelude.{IfSome, None, Some, option_map, slice_get}
 use Rattle.macsec_tag.specs.Table.{reading, tagged}
 use Rattle.macsec_rx.specs.Judge.{judge_tagged, octets_at, place_of}
 use Rattle.macsec_secy.specs.contracts.Secy.{the_view}
@@ -26,6 +26,15 @@ sound_after before now frame same sound tables = subst (λ s. IsSound (step s (l
 sum_after : (before now : State) (frame : List ℕ) → before ≡ now → IsSound before → AddsFrames now (link_frame frame)
 sum_after before now frame same sound = subst (λ s. AddsFrames s (link_frame frame)) same (link_frame_adds before frame sound)
 
+pub count_at_row-requires-clause-distinct : goal.count_at_row-requires-clause-distinct
+count_at_row-requires-clause-distinct c =
+    subst (λ rows. AreScis (map sci_of_counters rows)) (sym c.as_mut_slice-in-Tagged.ensures.value) (rw c.self.invariant.sound.channels c.self.invariant.sound.rx.scis)
+
+pub count_at_row-requires-clause-place : goal.count_at_row-requires-clause-place
+count_at_row-requires-clause-place c =
+    subst (λ scis. IfSome c.judge-judged.result.row (λ at. slice_get scis c.judge-judged.result.channel ≡ Some at.0))
+    (sym c.self.invariant.sound.channels ∙ ap (map sci_of_counters) (sym c.as_mut_slice-in-Tagged.ensures.value)) c.judge-judged.ensures.channel
+
 pub invariant_of-self-in-Tagged : goal.invariant_of-self-in-Tagged
 invariant_of-self-in-Tagged c =
     let s = c.self in
@@ -36,10 +45,9 @@ invariant_of-self-in-Tagged c =
     let counters : c.count_tagged.new.self ≡ after = rw (c.count_tagged.ensures, c.e.ensures, c.tag.ensures, c.secure_data.ensures) (refl {a = after}) in
     let counted = counted_again s.inside.rx_counters.items c.as_mut_slice-in-Tagged.result.now c.count_at_row.new.rows c.judge-judged.result.verdict c.judge-judged.result.row
     c.as_mut_slice-in-Tagged.ensures.value c.count_at_row.ensures in
-    let distinct : AreScis (map sci_of_counters s.inside.rx_counters.items) = rw s.invariant.sound.channels s.invariant.sound.rx.scis in
     let judged = c.judge-judged in
     let options = c.rx_options-options.ensures in
-    let left = left_by_parts (the_view s.inside) c.args.frame.now c.in-Tagged.mpdu reads fits distinct c.rx_options-options.result
+    let left = left_by_parts (the_view s.inside) c.args.frame.now c.in-Tagged.mpdu reads fits c.rx_options-options.result
     judged.result.verdict judged.result.row judged.new.self c.count_tagged.new.self _ options shows.verdict shows.row judged.ensures.numbers counters counted in
     let tables = subst TablesHold left (record { keys = s.invariant.sound.keys; tx = s.invariant.sound.tx; rx = c.judge-judged.ensures.channels }) in
     record { sound = subst IsSound (sym left) (after_link_frame (the_view s.inside) c.args.frame.now tables s.invariant.sound); room = s.invariant.room }
@@ -72,9 +80,8 @@ returns-in-Tagged c =
     let counters : c.count_tagged.new.self ≡ after = rw (c.count_tagged.ensures, c.e.ensures, c.tag.ensures, c.secure_data.ensures) (refl {a = after}) in
     let counted = counted_again s.inside.rx_counters.items c.as_mut_slice-in-Tagged.result.now c.count_at_row.new.rows c.judge-judged.result.verdict c.judge-judged.result.row
     c.as_mut_slice-in-Tagged.ensures.value c.count_at_row.ensures in
-    let distinct : AreScis (map sci_of_counters s.inside.rx_counters.items) = rw s.invariant.sound.channels s.invariant.sound.rx.scis in
     let judged = c.judge-judged in
-    let left = left_by_parts (the_view s.inside) c.args.frame.now c.in-Tagged.mpdu reads fits distinct c.rx_options-options.result
+    let left = left_by_parts (the_view s.inside) c.args.frame.now c.in-Tagged.mpdu reads fits c.rx_options-options.result
     judged.result.verdict judged.result.row judged.new.self c.count_tagged.new.self _ options shows.verdict shows.row judged.ensures.numbers counters counted in
     let tables = subst TablesHold left (record { keys = s.invariant.sound.keys; tx = s.invariant.sound.tx; rx = c.judge-judged.ensures.channels }) in (
       (refl, λ x. tt, left ∙ ap (λ t. (step t (link_frame c.args.frame.now)).1) s.view_is),

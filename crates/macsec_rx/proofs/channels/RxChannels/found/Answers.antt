@@ -4,7 +4,9 @@ use Rattle.std.specs.Prelude.{None, Some, slice_get}
 use Rattle.std.proofs.lemmas.Option.{slice_get_read, slice_get_past}
 use Rattle.macsec_rx.specs.Channels.{rx_row}
 use Rattle.macsec_rx.specs.Commands.{has_channel}
-use Rattle.macsec_rx.proofs.RowIndex.{rx_row-indexed, rx_row-no_channel}
+use Rattle.macsec_rx.specs.Index.{channel_place}
+use Rattle.macsec_rx.proofs.Pieces.{slice_get-channel_place}
+use Rattle.macsec_rx.proofs.RowIndex.{is_found, place_found, rx_row-indexed, rx_row-no_channel}
 use Rattle.macsec_rx.proofs.channels.RxChannels.found.Goals as goal
 
 pub returns-in_err-channel-clause-row : goal.returns-in_err-channel-clause-row
@@ -46,3 +48,12 @@ pub returns-clause-place : goal.returns-clause-place
 returns-clause-place c =
     ap (λ v. slice_get v.rows c.from-place.result) (sym c.self.view_is) ∙
     slice_get_read c.self.inside.rows.items _ c.from-place.result c.in_ok-row.row.now refl (grind arith) (rw c.as_slice-rows.ensures.value at c.in_ok-row.ensures.lookup.1)
+
+pub returns-clause-channel : goal.returns-clause-channel
+returns-clause-channel c =
+    let scis = c.self.inside.scis.items in
+    let there : has_channel scis c.args.sci ≡ true = rw (sym c.as_slice.ensures.value) (sym c.in_ok-channel.ensures.there) in
+    let channel : c.in_ok-channel.channel ≡ channel_place scis c.args.sci = rw (sym c.as_slice.ensures.value) c.in_ok-channel.ensures.place in
+    let row = c.in_ok-row.row.now in
+    let at = place_found c.args.sci c.args.an row (is_found c.args.self.now.rows c.args.sci c.args.an row (returns-clause-row c)) in
+    ap (λ v. slice_get v.scis c.in_ok-channel.channel) (sym c.self.view_is) ∙ ap (slice_get scis) channel ∙ slice_get-channel_place scis c.args.sci there ∙ ap Some (sym at.0)
