@@ -1,12 +1,11 @@
 -- The logs of what is sent, with their capacity, and an end after it sent.
-use Rattle.std.proofs.Common.{◌≡◌, ◌∙◌, ℕ, zero, suc, ◌+◌, Bool, true, false, cond, List, [], ◌∷◌, ◌++◌, ap, arith, get_or, length, map, refl, set, subst, sym}
-use Rattle.std.specs.Prelude.{◌==◌, nat_lt, not, option_map, position, Option, Some, None, Result, Ok, Err, OnErr, OnOk}
-use Rattle.std.specs.List.{position_or_len}
+use Rattle.std.proofs.Common.{◌≡◌, ◌∙◌, ℕ, zero, suc, ◌<◌, true, false, List, [], ◌∷◌, ◌++◌, ap, arith, get_or, length, map, refl, set, subst, sym}
+use Rattle.std.specs.Prelude.{◌==◌, Option, Some, None, Result, Ok, Err, OnErr, OnOk}
 use Rattle.std.proofs.Math.Seq.{map-set_same}
-use Rattle.std.proofs.lemmas.Bool.{le-ltb, lt-ltb, ltb-false, ltb-true}
+use Rattle.std.proofs.lemmas.Bool.{eqb-false, eqb-true, ne_eqb}
 use Rattle.macsec_secy.specs.State.{State}
 use Rattle.macsec_secy.specs.Step.{Output, client_frame, dropped_no_sa, dropped_too_long, leaves, step}
-use Rattle.macsec_link_logs.specs.Kept.{KeptSentLog, sent_log_of}
+use Rattle.macsec_link_logs.specs.Kept.{AreOfKeys, HasNone, IsFound, IsPlace, KeptSentLog, sent_log_of}
 use Rattle.macsec_secy.specs.declared.answers.DropReason.{DropReason}
 use Rattle.macsec_secy.specs.declared.answers.DropReason.TheVariants.{NoSa, TooLong}
 use Rattle.macsec_secy.specs.Answers.{drop_output}
@@ -16,54 +15,52 @@ use Rattle.macsec_link_logs.specs.Logs.{SentLogs, log_sending, logs_sending, sen
 
 -- ---- the log of a key
 
--- the log at this index is the first one of the key with this number
-abbrev pub IsPlace : ℕ → List KeptSentLog → ℕ → Type 0
-IsPlace key [] place = ⊥
-IsPlace key (k ∷ logs) zero = (k.log.key == key) ≡ true
-IsPlace key (k ∷ logs) (suc place) = ((k.log.key == key) ≡ false) × IsPlace key logs place
-
--- the key with this number has no log
-abbrev pub HasNone : ℕ → List KeptSentLog → Type 0
-HasNone key [] = Unit {0}
-HasNone key (k ∷ logs) = ((k.log.key == key) ≡ false) × HasNone key logs
-
-abbrev pub IsFound : ℕ → List KeptSentLog → Option ℕ → Type 0
-IsFound key logs None = HasNone key logs
-IsFound key logs (Some place) = IsPlace key logs place
-
--- the index that a search finds, with a log added in front
-abbrev behind : Bool → Option ℕ → Option ℕ
-behind true later = Some zero
-behind false later = option_map suc later
-
-position-cons : (test : KeptSentLog → Bool) (k : KeptSentLog) (logs : List KeptSentLog) → position test (k ∷ logs) ≡ behind (test k) (position test logs)
-position-cons test k logs = by_test (test k) (position_or_len test logs)
-  where
-    by_order : (n : ℕ) (b : Bool) → nat_lt n (length logs) ≡ b → cond (nat_lt (1 + n) (length (k ∷ logs))) (Some (1 + n)) None ≡ option_map suc (cond b (Some n) None)
-    by_order n true is = ap (λ b. cond b (Some (1 + n)) None) (lt-ltb (1 + n) (length (k ∷ logs)) (omega (arith, ltb-true n (length logs) is))) ∙ ap Some (omega arith)
-    by_order n false is = ap (λ b. cond b (Some (1 + n)) None) (le-ltb (1 + n) (length (k ∷ logs)) (omega (arith, ltb-false n (length logs) is)))
-
-    by_test : (b : Bool) (n : ℕ) →
-        cond (nat_lt (cond (not b) (1 + n) 0) (length (k ∷ logs))) (Some (cond (not b) (1 + n) 0)) None ≡ behind b (cond (nat_lt n (length logs)) (Some n) None)
-    by_test true n = ap (λ b. cond b (Some 0) None) (lt-ltb 0 (length (k ∷ logs)) (omega arith))
-    by_test false n = by_order n (nat_lt n (length logs)) refl
-
-searched : (key : ℕ) (logs : List KeptSentLog) → IsFound key logs (position (λ (k : KeptSentLog). k.log.key == key) logs)
-searched key [] = tt
-searched key (k ∷ logs) =
-    subst (IsFound key (k ∷ logs)) (sym (position-cons (λ (x : KeptSentLog). x.log.key == key) k logs))
-    (by_test (k.log.key == key) refl (position (λ (x : KeptSentLog). x.log.key == key) logs) (searched key logs))
-  where
-    by_test : (b : Bool) → (k.log.key == key) ≡ b → (later : Option ℕ) → IsFound key logs later → IsFound key (k ∷ logs) (behind b later)
-    by_test true is later it = is
-    by_test false is None it = (is, it)
-    by_test false is (Some place) it = (is, it)
-
 -- the search, over equal logs
-pub found : (key : ℕ) (logs seen : List KeptSentLog) → seen ≡ logs → (answer o : Option ℕ) →
-    answer ≡ position (λ (k : KeptSentLog). k.log.key == key) seen → answer ≡ o → IsFound key logs o
-found key logs seen same answer o is it =
-    subst (IsFound key logs) (ap (position (λ (k : KeptSentLog). k.log.key == key)) (sym same) ∙ sym is ∙ it) (searched key logs)
+pub found : (key : ℕ) (logs seen : List KeptSentLog) → seen ≡ logs → (answer o : Option ℕ) → IsFound key seen answer → answer ≡ o → IsFound key logs o
+found key logs seen same answer o it is = subst (λ l. IsFound key l o) same (subst (IsFound key seen) is it)
+
+-- another log has another key
+other_key : (key : ℕ) (logs : List KeptSentLog) (place : ℕ) (d : KeptSentLog) → HasNone key logs → place < length logs → ((get_or logs place d).log.key == key) ≡ false
+other_key key [] place d none within = absurd (omega (arith, within))
+other_key key (k ∷ logs) zero d none within = none.0
+other_key key (k ∷ logs) (suc place) d none within = other_key key logs place d none.1 (omega (arith, within))
+
+-- a log of the key is the first one
+pub place_is : (key : ℕ) (logs : List KeptSentLog) (place : ℕ) (d : KeptSentLog) → AreOfKeys logs → place < length logs → ((get_or logs place d).log.key == key) ≡ true →
+    IsPlace key logs place
+place_is key [] place d are within it = absurd (omega (arith, within))
+place_is key (k ∷ logs) zero d are within it = it
+place_is key (k ∷ logs) (suc place) d are within it =
+    let small : place < length logs = omega (arith, within) in
+    let differs = other_key k.log.key logs place d are.0 small in
+    let same : (get_or logs place d).log.key ≡ key = eqb-true (get_or logs place d).log.key key it in
+    let apart : (k.log.key == key) ≡ false = ne_eqb k.log.key key (λ e. eqb-false (get_or logs place d).log.key k.log.key differs (same ∙ sym e)) in
+    (apart, place_is key logs place d are.1 small it)
+
+HasNone-push : (key : ℕ) (logs : List KeptSentLog) (new : KeptSentLog) → HasNone key logs → (new.log.key == key) ≡ false → HasNone key (logs ++ new ∷ [])
+HasNone-push key [] new none other = (other, tt)
+HasNone-push key (k ∷ logs) new none other = (none.0, HasNone-push key logs new none.1 other)
+
+-- a log of a key that had none is appended
+pub AreOfKeys-push : (logs : List KeptSentLog) (new : KeptSentLog) → AreOfKeys logs → HasNone new.log.key logs → AreOfKeys (logs ++ new ∷ [])
+AreOfKeys-push [] new are none = (tt, tt)
+AreOfKeys-push (k ∷ logs) new are none =
+    let other : (new.log.key == k.log.key) ≡ false = ne_eqb new.log.key k.log.key (λ e. eqb-false k.log.key new.log.key none.0 (sym e)) in
+    (HasNone-push k.log.key logs new are.0 other, AreOfKeys-push logs new are.1 none.1)
+
+HasNone-set : (key : ℕ) (logs : List KeptSentLog) (place : ℕ) (old new : KeptSentLog) → old ≡ get_or logs place old → new.log.key ≡ old.log.key → HasNone key logs →
+    HasNone key (set logs place new)
+HasNone-set key [] place old new is same none = none
+HasNone-set key (k ∷ logs) zero old new is same none = (ap (λ n. n == key) (same ∙ ap (λ (x : KeptSentLog). x.log.key) is) ∙ none.0, none.1)
+HasNone-set key (k ∷ logs) (suc place) old new is same none = (none.0, HasNone-set key logs place old new is same none.1)
+
+-- a log is replaced by one of the same key
+pub AreOfKeys-set : (logs : List KeptSentLog) (place : ℕ) (old new : KeptSentLog) → old ≡ get_or logs place old → new.log.key ≡ old.log.key → AreOfKeys logs →
+    AreOfKeys (set logs place new)
+AreOfKeys-set [] place old new is same are = are
+AreOfKeys-set (k ∷ logs) zero old new is same are =
+    (subst (λ key. HasNone key logs) (sym (same ∙ ap (λ (x : KeptSentLog). x.log.key) is)) are.0, are.1)
+AreOfKeys-set (k ∷ logs) (suc place) old new is same are = (HasNone-set k.log.key logs place old new is same are.0, AreOfKeys-set logs place old new is same are.1)
 
 pub sent_at : (key : ℕ) (logs : List KeptSentLog) (place : ℕ) (d : KeptSentLog) → IsPlace key logs place → (get_or logs place d).log.frames ≡ sent_under (map sent_log_of logs) key
 sent_at key [] place d it = absurd it

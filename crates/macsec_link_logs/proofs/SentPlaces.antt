@@ -1,5 +1,5 @@
--- Capacity in the logs of what is sent: a protected frame is sent under the key of an existing transmit SA, and
--- capacity is reserved for each of these keys.
+-- Capacity in the logs of what is sent: a protected frame is sent under the key of the enabled transmit SA, and capacity
+-- is reserved for it.
 use Rattle.std.proofs.Common.{◌≡◌, ◌∙◌, ℕ, zero, suc, ◌+◌, ◌<◌, ◌≤◌, Bool, true, false, List, [], ◌∷◌, ap, arith, get_or, length, refl, set, subst, sym}
 use Rattle.std.specs.Prelude.{◌==◌, if◌then◌else◌, nat_lt, Option, Some, None, IfSome}
 use Rattle.std.proofs.lemmas.Bool.{eq-eqb, eqb-true}
@@ -12,9 +12,8 @@ use Rattle.macsec_tx.specs.Transmit.{Leaving, plain, protected, no_sa, too_long,
 use Rattle.macsec_secy.specs.Sound.{IsSound}
 use Rattle.macsec_secy.specs.State.{State, tx_options}
 use Rattle.macsec_secy.specs.Step.{Output, client_frame, frame_fault, leaves, sending_of, sent_output, state_after_sending, step, unless_fault}
-use Rattle.macsec_link_logs.specs.Kept.{HasPlace, HavePlaces, KeptSentLog, KeptSentLogs, sent_log_of, spare_under}
+use Rattle.macsec_link_logs.specs.Kept.{HasNone, HasPlace, HavePlaces, IsPlace, KeptSentLog, KeptSentLogs, sent_log_of, spare_under}
 use Rattle.macsec_link_logs.specs.Logs.{SentLog}
-use Rattle.macsec_link_logs.proofs.SentLogs.{HasNone, IsPlace}
 
 -- ---- capacity for one more frame
 
@@ -74,24 +73,25 @@ place_anew key kept now same has none =
 
 -- ---- the SA that sends
 
--- an existing SA, found by its number
+-- an enabled SA, found by its number
 pub record IsThere (rows : List TxRow) (row : TxRow) : Type 0 where
   pub an : row.an < 4
   pub there : tx_row rows row.an ≡ Some row
+  pub on : row.on ≡ true
 
 -- the enabled SA is found by its number
 on_is_there : (rows : List TxRow) → AreTxRows rows → IfSome (row_on rows) (IsThere rows)
 on_is_there [] are = tt
-on_is_there (first ∷ rows) are = by_on first.on (row_on rows) (on_is_there rows are.2)
+on_is_there (first ∷ rows) are = by_on first.on refl (row_on rows) (on_is_there rows are.2)
   where
     by_number : (row : TxRow) → tx_row rows row.an ≡ Some row → (b : Bool) → (first.an == row.an) ≡ b → (if b then Some first else tx_row rows row.an) ≡ Some row
     by_number row later true same = absurd (let none : Some row ≡ None = sym later ∙ ap (tx_row rows) (sym (eqb-true first.an row.an same)) ∙ are.1 in cc)
     by_number row later false differs = later
 
-    by_on : (b : Bool) (o : Option TxRow) → IfSome o (IsThere rows) → IfSome (if b then Some first else o) (IsThere (first ∷ rows))
-    by_on true o later = record { an = are.0.an; there = rw (eq-eqb first.an first.an refl) refl }
-    by_on false None later = tt
-    by_on false (Some row) later = record { an = later.an; there = by_number row later.there (first.an == row.an) refl }
+    by_on : (b : Bool) → first.on ≡ b → (o : Option TxRow) → IfSome o (IsThere rows) → IfSome (if b then Some first else o) (IsThere (first ∷ rows))
+    by_on true on o later = record { an = are.0.an; there = rw (eq-eqb first.an first.an refl) refl; on = on }
+    by_on false off None later = tt
+    by_on false off (Some row) later = record { an = later.an; there = by_number row later.there (first.an == row.an) refl; on = later.on }
 
 -- there is capacity under the key that protects the frame
 abbrev HasPlaceFor : KeptSentLogs → Leaving → Type 0
@@ -115,7 +115,7 @@ module _ (kept : KeptSentLogs) where
       made = record { leaving = protected row.key (protected_frame options (the_key keys row.key) row frame); by = Some row }
 
       place : HasPlace kept row.key
-      place = subst (λ (o : Option TxRow). IfSome o (λ r. HasPlace kept r.key)) there.there (have row.an there.an)
+      place = subst (λ (o : Option TxRow). IfSome o (λ r. r.on ≡ true → HasPlace kept r.key)) there.there (have row.an there.an) there.on
 
       by_tests : (used long : Bool) → HasPlaceFor kept (if used then not_protected no_sa else if long then not_protected too_long else made).leaving
       by_tests true long = tt

@@ -1,8 +1,8 @@
 //! The frames that an end's clients sent under each key.
 
-ghost use Rattle.std.specs.Prelude.{◌≡◌, ◌<◌, ◌≤◌, ◌==◌, ℕ, [], OnOk, option_map, position};
+ghost use Rattle.std.specs.Prelude.{◌≡◌, ◌<◌, ◌≤◌, ◌==◌, ℕ, [], true, length, IfSome, OnOk, Some};
 ghost use Rattle.macsec_tx.specs.Transmit.{tx_row};
-ghost use Rattle.macsec_link_logs.specs.Kept.{HasPlace, HavePlaces, frames_kept, sent_logs_of};
+ghost use Rattle.macsec_link_logs.specs.Kept.{AreOfKeys, HasPlace, HavePlaces, IsFound, frames_kept, sent_logs_of};
 ghost use Rattle.macsec_link_logs.specs.Logs.{log_sending, logs_sending, sent_under};
 
 use macsec_secy::{An, Secy};
@@ -64,21 +64,31 @@ impl SentFrames {
     }
 }
 
-/// The index of the log of the key with this number, if it exists.
+/// The index of the log of the key with this number, if it exists. The search begins at the last log, because an
+/// endpoint mostly sends under its newest key.
 fn place_of(logs: &[SentFrames], key: u16) -> Option<usize>
-    ensures { result ≡ position (λ k. k.log.key == key) logs.now }
+    requires { AreOfKeys logs.now }
+    ensures found { IsFound key logs.now result }
+    ensures within { IfSome result (λ place. place < length logs.now) }
 {
-    logs.iter().position(|log| log.is_under(key))
+    let mut place = logs.len();
+    while place > 0 {
+        place -= 1;
+        if logs[place].is_under(key) {
+            return Some(place);
+        }
+    }
+    None
 }
 
-/// The number of the key of the transmit SA with this number, if the SA exists.
-fn tx_key(secy: &Secy, number: u8) -> Option<u16>
+/// The number of the key of the transmit SA with this number, if the SA exists and is enabled.
+fn key_in_use(secy: &Secy, number: u8) -> Option<u16>
     requires there { number < 4 }
-    ensures { result ≡ option_map (λ row. row.key) (tx_row secy.now.tx number) }
+    ensures { IfSome (tx_row secy.now.tx number) (λ row. row.on ≡ true → result ≡ Some row.key) }
 {
     let an = An::new(number)?;
     let row = secy.tx_row(an)?;
-    Some(row.key.number())
+    if row.on { Some(row.key.number()) } else { None }
 }
 
 /// A log for each key under which a frame was sent, in the order of first use; and reserved capacity for the first
@@ -91,7 +101,7 @@ pub(crate) struct SentLogs {
 
 impl Model for SentLogs {
     ghost use Rattle.std.specs.Prelude.{◌≡◌, ◌-◌, [], min, vec_capacity, vec_len};
-    ghost use Rattle.macsec_link_logs.specs.Kept.{KeptSentLogs};
+    ghost use Rattle.macsec_link_logs.specs.Kept.{AreOfKeys, KeptSentLogs};
 
     ghost Value = { KeptSentLogs };
 
@@ -100,8 +110,8 @@ impl Model for SentLogs {
       spare = min (vec_capacity s.logs - vec_len s.logs) (vec_capacity s.next - vec_len s.next);
     } };
 
-    // The next log has no frame yet.
-    ghost invariant = { λ s. s.next.items ≡ [] };
+    // The next log has no frame yet, and no two logs belong to the same key.
+    ghost invariant = { λ s. (s.next.items ≡ []) × AreOfKeys s.logs.items };
 }
 
 impl SentLogs {
@@ -140,13 +150,13 @@ impl SentLogs {
         }
     }
 
-    /// Reserves capacity for one more frame under the key of each transmit SA.
+    /// Reserves capacity for one more frame under the key of the enabled transmit SA.
     pub(crate) fn reserve_places(&mut self, secy: &Secy) -> Result<(), AllocError>
         ensures same { sent_logs_of self.new ≡ sent_logs_of self.old }
         ensures places { OnOk result (HavePlaces secy.now.tx self.new) }
     {
         for number in 0..AN_COUNT {
-            if let Some(key) = tx_key(secy, number) {
+            if let Some(key) = key_in_use(secy, number) {
                 self.reserve_under(key)?;
             }
         }

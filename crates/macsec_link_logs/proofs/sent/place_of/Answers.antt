@@ -1,11 +1,14 @@
-use Rattle.std.proofs.Common.{rules}
+-- No log from the index on has the key. The log that has it is the only one. Proved from the lemmas in `SentLogs`.
+use Rattle.std.proofs.Common.{◌∙◌, ◌-◌, ap, arith, sym}
 use Rattle.std.specs.Prelude.{◌==◌}
-use Rattle.std.proofs.lemmas.Iterator.{YieldsList-from_slice}
-use Rattle.std.proofs.lemmas.Iterator.Search.{position_from_yields_List}
 use Rattle.macsec_link_logs.specs.Kept.{KeptSentLog}
+use Rattle.macsec_link_logs.proofs.SentLogs.{place_is}
 use Rattle.macsec_link_logs.proofs.sent.place_of.Goals as goal
 
-pub returns : goal.returns
-returns c =
-    position_from_yields_List (λ (k : KeptSentLog). k.log.key == c.args.key) _ _ _ c.position.ensures.ran
-    (YieldsList-from_slice c.args.logs.now (cc)) (λ x b q called. search rules)
+pub returns-then-is_under-clause-found : goal.returns-then-is_under-clause-found
+returns-then-is_under-clause-found c =
+    place_is c.args.key c.args.logs.now (c.loop-place.place - 1) c.index-logs-place.result c.requires (omega (arith, c.loop-place.invariant.within, c.loop-place-test.true))
+    (ap (λ (k : KeptSentLog). k.log.key == c.args.key) (sym c.index-logs-place.is) ∙ sym c.is_under.ensures ∙ c.if-is_under.true)
+
+pub loop-place-smaller : goal.loop-place-smaller
+loop-place-smaller c = omega (arith, c.loop-place-test.true)

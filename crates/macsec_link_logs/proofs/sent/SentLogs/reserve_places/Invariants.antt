@@ -1,10 +1,10 @@
-use Rattle.std.proofs.Common.{◌≡◌, ℕ, ◌<◌}
+use Rattle.std.proofs.Common.{◌≡◌, ℕ, ◌<◌, true}
 use Rattle.std.specs.Prelude.{IfSome}
 use Rattle.macsec_tx.specs.Transmit.{tx_row}
 use Rattle.macsec_link_logs.specs.Kept.{HasPlace, sent_logs_of}
 use Rattle.macsec_link_logs.proofs.sent.SentLogs.reserve_places.Given as goal
 
--- no frame of a log changes, and there is capacity under the key of each SA that the loop has visited
+-- no frame of a log changes, and there is capacity under the key of each enabled SA that the loop has visited
 abbrev pub invariant-loop-number : goal.invariant-loop-number
 invariant-loop-number l =
-    (sent_logs_of l.self ≡ sent_logs_of l.initial.self) × ((an : ℕ) → an < l.number → IfSome (tx_row l.secy.tx an) (λ row. HasPlace l.self row.key))
+    (sent_logs_of l.self ≡ sent_logs_of l.initial.self) × ((an : ℕ) → an < l.number → IfSome (tx_row l.secy.tx an) (λ row. row.on ≡ true → HasPlace l.self row.key))

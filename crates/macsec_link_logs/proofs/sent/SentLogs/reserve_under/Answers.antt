@@ -3,10 +3,16 @@
 use Rattle.std.proofs.Common.{◌∙◌, ◌≤◌, List, ap, arith, subst, sym}
 use Rattle.std.specs.Prelude.{Some, None}
 use Rattle.macsec_link_logs.specs.contracts.sent.SentLogs.{the_view}
-use Rattle.macsec_link_logs.specs.Kept.{HasPlace, KeptSentLog, KeptSentLogs, sent_logs_of, spare_under}
-use Rattle.macsec_link_logs.proofs.SentLogs.{HasNone, found, on_ok, same_logs}
+use Rattle.macsec_link_logs.specs.Kept.{HasNone, HasPlace, KeptSentLog, KeptSentLogs, sent_logs_of, spare_under}
+use Rattle.macsec_link_logs.specs.Logs.{SentLog}
+use Rattle.macsec_link_logs.proofs.SentLogs.{AreOfKeys-set, found, on_ok, same_logs}
 use Rattle.macsec_link_logs.proofs.SentPlaces.{spare_made, spare_more, spare_nowhere, spare_stays}
 use Rattle.macsec_link_logs.proofs.sent.SentLogs.reserve_under.Goals as goal
+
+pub invariant_of-self : goal.invariant_of-self
+invariant_of-self c =
+    let same = ap (λ (log : SentLog). log.key) c.reserve_place.ensures.same in
+    (c.self.invariant.0, AreOfKeys-set c.self.inside.logs.items c.in-Some.place c.index_mut.result.now c.reserve_place.new.self c.index_mut.ensures.value same c.self.invariant.1)
 
 pub returns-in-Some-clause-same : goal.returns-in-Some-clause-same
 returns-in-Some-clause-same c =
@@ -17,7 +23,7 @@ returns-in-Some-clause-same c =
 
 pub returns-in-Some-clause-place : goal.returns-in-Some-clause-place
 returns-in-Some-clause-place c =
-    let place = found c.args.key c.self.inside.logs.items c.as_slice.result.now c.as_slice.ensures.value c.place_of.result (Some c.in-Some.place) c.place_of.ensures c.in-Some.is in
+    let place = found c.args.key c.self.inside.logs.items c.as_slice.result.now c.as_slice.ensures.value c.place_of.result (Some c.in-Some.place) c.place_of.ensures.found c.in-Some.is in
     let logs = c.self.inside.logs.items in
     let log = c.index_mut.result.now in
     let new = c.reserve_place.new.self in
@@ -36,7 +42,7 @@ returns-in-Some-clause-others c = λ k has.
 
 pub returns-in_ok-reserve-in-None-clause-place : goal.returns-in_ok-reserve-in-None-clause-place
 returns-in_ok-reserve-in-None-clause-place c =
-    let none = found c.args.key c.self.inside.logs.items c.as_slice.result.now c.as_slice.ensures.value c.place_of.result None c.place_of.ensures c.in-None.is in
+    let none = found c.args.key c.self.inside.logs.items c.as_slice.result.now c.as_slice.ensures.value c.place_of.result None c.place_of.ensures.found c.in-None.is in
     let after = the_view (record { logs = c.reserve.new.self; next = c.reserve-in-None.new.self }) in
     on_ok c.reserve-in-None.result
     (λ ok.
