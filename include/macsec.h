@@ -70,11 +70,11 @@
  *
  * Proved with Rattle: each call creates an endpoint, takes it out of its handle, is one step of the written machine
  * (crates/macsec_secy/specs/Step.antt), or reads its state, for the arguments that C gave; or it takes the steps that
- * the lines of a text say. Each call reads and writes only what it was given, and returns. Measured or tested, not
- * proved: sizes and stack, that macsec_free frees each block, that only the three calls named above allocate, and that
- * a call which returns nothing leaves the output structs unchanged. Not proved: this header and its inline functions,
- * which a script compares with the library's source; C's side of what it says; malloc; the compilers. No call takes
- * constant time.
+ * the lines of a text say. Each call reads and writes only what it was given, and returns. A reader that finds nothing
+ * leaves its output struct unchanged. Measured or tested, not proved: sizes and stack, that macsec_free frees each
+ * block, and that only the three calls named above allocate. Not proved: this header and its inline functions, which a
+ * script compares with the library's source; C's side of what it says; malloc; the compilers. No call takes constant
+ * time.
  */
 #ifndef MACSEC_H
 #define MACSEC_H

@@ -1,6 +1,6 @@
 //! The readers of an endpoint's state.
 
-ghost use Rattle.std.specs.Prelude.{◌≡◌, ◌+◌, Some, IfSome, length, slice_get};
+ghost use Rattle.std.specs.Prelude.{◌≡◌, ◌+◌, Some, IfNone, IfSome, length, slice_get};
 ghost use Rattle.macsec_suite.specs.KeyNumbers.{max_key_count};
 ghost use Rattle.macsec_tx.specs.Transmit.{tx_row};
 ghost use Rattle.macsec_rx.specs.Channels.{rx_row};
@@ -223,6 +223,7 @@ pub extern "C" fn macsec_get_options(e: &mut Endpoint, out: &mut OptionsShown) -
     ensures status { result ≡ status_of_found e.old.state (λ s. Some s.options) }
     ensures same { e.new.state ≡ e.old.state }
     ensures shown { IfSome e.old.state (λ s. out.new ≡ options_shown s.options) }
+    ensures kept { IfNone e.old.state (out.new ≡ out.old) }
 {
     if !e.is_made() {
         return EMPTY;
@@ -237,6 +238,7 @@ pub extern "C" fn macsec_get_counters(e: &mut Endpoint, out: &mut CountersShown)
     ensures status { result ≡ status_of_found e.old.state (λ s. Some s.counters) }
     ensures same { e.new.state ≡ e.old.state }
     ensures shown { IfSome e.old.state (λ s. out.new ≡ counters_shown s.counters) }
+    ensures kept { IfNone e.old.state (out.new ≡ out.old) }
 {
     if !e.is_made() {
         return EMPTY;
@@ -251,6 +253,7 @@ pub extern "C" fn macsec_get_tx_counters(e: &mut Endpoint, out: &mut TxCountersS
     ensures status { result ≡ status_of_found e.old.state (λ s. Some s.tx_counters) }
     ensures same { e.new.state ≡ e.old.state }
     ensures shown { IfSome e.old.state (λ s. out.new ≡ tx_counters_shown s.tx_counters) }
+    ensures kept { IfNone e.old.state (out.new ≡ out.old) }
 {
     if !e.is_made() {
         return EMPTY;
@@ -265,6 +268,7 @@ pub extern "C" fn macsec_keys_left(e: &mut Endpoint, out: &mut u32) -> u32
     ensures status { result ≡ status_of_found e.old.state (λ s. Some s.keys) }
     ensures same { e.new.state ≡ e.old.state }
     ensures shown { IfSome e.old.state (λ s. out.new + length s.keys ≡ max_key_count) }
+    ensures kept { IfNone e.old.state (out.new ≡ out.old) }
 {
     if !e.is_made() {
         return EMPTY;
@@ -283,6 +287,7 @@ pub extern "C" fn macsec_get_rx_counters(
     ensures status { result ≡ status_of_found e.old.state (λ s. rx_counters_of s.rx_counters (sci_of sci.now)) }
     ensures same { e.new.state ≡ e.old.state }
     ensures shown { IfSome (found e.old.state (λ s. rx_counters_of s.rx_counters (sci_of sci.now))) (λ c. out.new ≡ rx_counters_shown c) }
+    ensures kept { IfNone (found e.old.state (λ s. rx_counters_of s.rx_counters (sci_of sci.now))) (out.new ≡ out.old) }
 {
     if !e.is_made() {
         return EMPTY;
@@ -307,6 +312,7 @@ pub extern "C" fn macsec_get_rx_sa_counters(
     ensures status { result ≡ status_of_an e.old.state (an_of an) (λ s n. rx_sa_counters_of s.rx_counters (sci_of sci.now) n) }
     ensures same { e.new.state ≡ e.old.state }
     ensures shown { IfSome (found_at e.old.state (an_of an) (λ s n. rx_sa_counters_of s.rx_counters (sci_of sci.now) n)) (λ c. out.new ≡ rx_counters_shown c) }
+    ensures kept { IfNone (found_at e.old.state (an_of an) (λ s n. rx_sa_counters_of s.rx_counters (sci_of sci.now) n)) (out.new ≡ out.old) }
 {
     if !e.is_made() {
         return EMPTY;
@@ -334,6 +340,7 @@ pub extern "C" fn macsec_get_removed_counters(
     ensures status { result ≡ status_of_found e.old.state (λ s. rx_removed_of s.rx_counters (sci_of sci.now)) }
     ensures same { e.new.state ≡ e.old.state }
     ensures shown { IfSome (found e.old.state (λ s. rx_removed_of s.rx_counters (sci_of sci.now))) (λ c. out.new ≡ rx_counters_shown c) }
+    ensures kept { IfNone (found e.old.state (λ s. rx_removed_of s.rx_counters (sci_of sci.now))) (out.new ≡ out.old) }
 {
     if !e.is_made() {
         return EMPTY;
@@ -353,6 +360,7 @@ pub extern "C" fn macsec_get_rx_sc(e: &mut Endpoint, place: usize, out: &mut [u8
     ensures status { result ≡ status_of_found e.old.state (λ s. slice_get s.rx.scis place) }
     ensures same { e.new.state ≡ e.old.state }
     ensures shown { IfSome (found e.old.state (λ s. slice_get s.rx.scis place)) (λ sci. sci_of out.new ≡ sci) }
+    ensures kept { IfNone (found e.old.state (λ s. slice_get s.rx.scis place)) (out.new ≡ out.old) }
 {
     if !e.is_made() {
         return EMPTY;
@@ -373,6 +381,7 @@ pub extern "C" fn macsec_get_tx_sa(e: &mut Endpoint, an: u8, out: &mut TxRowShow
     ensures status { result ≡ status_of_an e.old.state (an_of an) (λ s n. tx_row s.tx n) }
     ensures same { e.new.state ≡ e.old.state }
     ensures shown { IfSome (found_at e.old.state (an_of an) (λ s n. tx_row s.tx n)) (λ row. out.new ≡ tx_row_shown row) }
+    ensures kept { IfNone (found_at e.old.state (an_of an) (λ s n. tx_row s.tx n)) (out.new ≡ out.old) }
 {
     if !e.is_made() {
         return EMPTY;
@@ -401,6 +410,7 @@ pub extern "C" fn macsec_get_rx_sa(
     ensures status { result ≡ status_of_an e.old.state (an_of an) (λ s n. rx_row s.rx.rows (sci_of sci.now) n) }
     ensures same { e.new.state ≡ e.old.state }
     ensures shown { IfSome (found_at e.old.state (an_of an) (λ s n. rx_row s.rx.rows (sci_of sci.now) n)) (λ row. out.new ≡ rx_row_shown row) }
+    ensures kept { IfNone (found_at e.old.state (an_of an) (λ s n. rx_row s.rx.rows (sci_of sci.now) n)) (out.new ≡ out.old) }
 {
     if !e.is_made() {
         return EMPTY;
