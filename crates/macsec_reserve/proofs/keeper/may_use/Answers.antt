@@ -1,0 +1,5 @@
+use Rattle.std.proofs.Common.{rules}
+use Rattle.macsec_reserve.proofs.keeper.may_use.Goals as goal
+
+pub returns-then-from-number : goal.returns-then-from-number
+returns-then-from-number c = search rules
