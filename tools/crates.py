@@ -1,6 +1,7 @@
 """The crates of crates.txt, their files, and the kit of the command `rt`: what the tools that build the project share."""
 
 import functools
+import hashlib
 import os
 import re
 import shutil
@@ -73,6 +74,17 @@ def kit_id() -> str:
     """What identifies the kit: its version and logic, not where it is installed."""
     with open(f"{KIT}/KIT-ID", encoding="utf-8") as it:
         return it.read()
+
+
+@functools.cache
+def sum_of(name: str, is_of_here: bool = True) -> str:
+    """A hash of everything that a library is made from: with where this checkout and the kit are, or without."""
+    below_it = [sum_of(it, is_of_here) for it in own(name)]
+    made = hashlib.sha256(repr([kit_id(), *[KIT] * is_of_here, CRATES[name], *below_it]).encode())
+    for path in files(name):
+        with open(path, "rb") as it:
+            made.update(repr((path if is_of_here else os.path.relpath(path, ROOT), it.read())).encode())
+    return made.hexdigest()
 
 
 def libraries_folder() -> str:
