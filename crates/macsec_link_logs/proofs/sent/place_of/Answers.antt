@@ -1,5 +1,5 @@
 -- No log from the index on has the key. The log that has it is the only one. Proved from the lemmas in `SentLogs`.
-use Rattle.std.proofs.Common.{◌∙◌, ◌-◌, ap, arith, sym}
+use Rattle.std.proofs.Common.{◌∙◌, ◌-◌, ap, arith, rules, sym}
 use Rattle.std.specs.Prelude.{◌==◌}
 use Rattle.macsec_link_logs.specs.Kept.{KeptSentLog}
 use Rattle.macsec_link_logs.proofs.SentLogs.{place_is}
@@ -12,3 +12,6 @@ returns-then-is_under-clause-found c =
 
 pub loop-place-smaller : goal.loop-place-smaller
 loop-place-smaller c = omega (arith, c.loop-place-test.true)
+
+pub returns-clause-found : goal.returns-clause-found
+returns-clause-found c = search rules
