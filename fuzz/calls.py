@@ -706,8 +706,9 @@ class Calls:
 
 def compare(program, seed, lines, answers):
     """Has a program make the calls of these lines, and compares its answers. Ends at the first that differs."""
-    ran = subprocess.run(program, input="".join(f"{it}\n" for it in lines), stdout=subprocess.PIPE, text=True)
-    given = ran.stdout.splitlines()
+    ran = subprocess.run(program, input="".join(f"{it}\n" for it in lines).encode(), stdout=subprocess.PIPE)
+    # Each answer ends with a newline; `splitlines` would also end one at a vertical tab.
+    given = ran.stdout.decode(errors="replace").removesuffix("\n").split("\n")
     for number, (line, answer, gave) in enumerate(zip(lines, answers, [*given, *[None] * len(lines)])):
         if answer != gave:
             sys.exit(f"call {number} of seed {seed}: {line}\n  expected {answer}\n  answered {gave}")
