@@ -33,7 +33,7 @@ differs laws run later sound sound' agree durable x first y second bytes iv =
     (agree first.key second.key first.there second.there (sym first.bytes ∙ bytes ∙ second.bytes))
     first.number second.number first.most second.most less (sym first.iv ∙ iv ∙ second.iv)
 
--- a use of one run, and those of all later ones
+-- a use of one run, and the uses of all later ones
 differs_from_all : Laws → (run : Run) → IsSoundRun run → (x : CipherUse) → IsUse (opening run) (closing run) x → (later : List Run) →
     All IsSoundRun later → All (AgreeOnKeys run) later → All (KeepsDurable run) later → All (HasOtherIv x) (sealed_in_all later)
 differs_from_all laws run sound x first [] sounds agree durable = All-nil (HasOtherIv x)

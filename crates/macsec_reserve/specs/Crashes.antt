@@ -15,7 +15,7 @@ abbrev pub records_of : List Reservation → List ℕ
 records_of [] = []
 records_of (r ∷ rs) = record_of r ++ records_of rs
 
--- records that were written behind whole records are read, and so is all that was there, whatever is behind them
+-- records that were appended to whole records are read, and so is everything before them, whatever octets follow
 abbrev pub ReadsWritten : List ℕ → List Reservation → List ℕ → Type 0
 ReadsWritten journal rs behind =
     All IsReservation rs → length journal % record_length ≡ 0 →
@@ -24,7 +24,7 @@ ReadsWritten journal rs behind =
 
 -- ---- histories
 
--- the record of a reservation stands in a journal, behind whole records; other octets may be any
+-- a journal has the record of a reservation, after whole records; its other octets are arbitrary
 pub record StandsIn (journal : List ℕ) (r : Reservation) : Type 0 where
   pub is : IsReservation r
   pub kept : List ℕ
@@ -32,7 +32,7 @@ pub record StandsIn (journal : List ℕ) (r : Reservation) : Type 0 where
   pub behind : List ℕ
   pub octets : journal ≡ kept ++ record_of r ++ behind
 
--- each record that a run was told to be durable stands in what a later run reads
+-- a later run reads each record that was reported durable to a run
 abbrev pub LeavesRecords : Run → Run → Type 0
 LeavesRecords run later = All (StandsIn later.journal) (reported run)
 

@@ -1,4 +1,4 @@
--- A history: the runs of programs one after another, each of which reads the journal when it begins.
+-- A history: the runs of programs, one after another. Each reads the journal when it begins.
 use Rattle.std.specs.Prelude.{◌≡◌, ◌≤◌, ℕ, Bool, false, List, [], ◌∷◌, ◌++◌, take, Option, Some, None, Contains, true}
 use Rattle.std.specs.List.{All, AllPairs}
 use Rattle.macsec_suite.specs.CipherUses.{CipherUse}
@@ -27,7 +27,7 @@ opening run = opened run.config run.journal
 abbrev pub closing : Run → Keeping
 closing run = keeping_after (opening run) run.inputs
 
--- the reservations that a run was told to be durable
+-- the reservations that were reported durable to a run
 abbrev pub reported_in : List KeepingInput → List Reservation
 reported_in [] = []
 reported_in (now_durable r ∷ inputs) = r ∷ reported_in inputs
@@ -49,7 +49,7 @@ sealed s (client_frame frame) = sealed_by s frame (frame_fault frame) (sending_o
 sealed s (uncontrolled_frame frame) = []
 sealed s (link_frame frame) = []
 
--- those of a keeping endpoint: none where nothing changes
+-- the uses that a keeping endpoint seals: none where nothing changes
 abbrev pub sealed_if : Bool → List CipherUse → List CipherUse
 sealed_if false uses = []
 sealed_if true uses = uses
@@ -81,7 +81,7 @@ abbrev pub AgreeOnKeys : Run → Run → Type 0
 AgreeOnKeys run later =
     (x y : InstalledKey) → Contains (closing run).secy.keys x → Contains (closing later).secy.keys y → x.bytes ≡ y.bytes → AgreeOnKey x y
 
--- the journal that a later run reads has what the run was told to be durable: a crash may leave what it likes beside it
+-- the journal that a later run reads has what was reported durable to the run; a crash may add any octets to it
 abbrev pub KeepsDurable : Run → Run → Type 0
 KeepsDurable run later = (name : List ℕ) → highest (reported run) name ≤ highest (reservations later.journal) name
 
@@ -89,7 +89,7 @@ KeepsDurable run later = (name : List ℕ) → highest (reported run) name ≤ h
 abbrev pub StaysSound : Keeping → List KeepingInput → Type 0
 StaysSound k inputs = (n : ℕ) → IsSound (keeping_after k (take n inputs)).secy
 
--- the runs are sound, agree on their keys, and each reads what those before it were told to be durable
+-- the runs are sound and agree on their keys, and each reads what was reported durable to the runs before it
 pub record IsHistory (runs : List Run) : Type 0 where
   pub sound : All (λ run. StaysSound (opening run) run.inputs) runs
   pub agree : AllPairs AgreeOnKeys runs

@@ -110,7 +110,7 @@ keeping_after k (input ∷ inputs) = keeping_after (keeping_step k input).1 inpu
 
 -- ---- what to reserve next
 
--- the last number to reserve, where fewer than half of `amount` numbers are left: `amount` behind the next one, up to the
+-- the last number to reserve, if fewer than half of `amount` numbers are left: `amount` after the next one, at most the
 -- last of 64 bits
 abbrev pub wanted_last : ℕ → ℕ → ℕ → Option ℕ
 wanted_last reserved next amount =

@@ -72,7 +72,7 @@ impl Model for Keeper {
 
     ghost view = { λ k. record { secy = k.secy; keeps = k.keeps; before = k.before.items; granted = k.granted.items } };
 
-    // The names are those of the endpoint's keys, it is sound, and there is room for all keys that it can have.
+    // The endpoint's keys have these names, it is sound, and there is capacity for all keys that it can have.
     ghost invariant = { λ k. IsKept k.secy k.names.items (vec_capacity k.names) (vec_capacity k.granted)
         × IsAtHand k.names.items k.before.items k.granted.items k.at_hand };
 }
@@ -372,7 +372,7 @@ fn is_reserved(at: AtHand, row: TxRow) -> bool
     row.key == at.key && (u128::from(at.before) < row.next && row.next <= u128::from(at.granted))
 }
 
-/// The name of the key of this number, or that of no octets.
+/// The name of the key of this number, or the name of no octets.
 fn name_of(names: &[NamedKey], key: KeyNumber) -> [u8; 32]
     ensures { result ≡ name_or_none (name_row names.now key) }
 {

@@ -17,8 +17,8 @@ use macsec_secy::laws::{delivers_in_time, keys_stay, protects_frames, rx_rows_st
 use macsec_suite::laws::equal_ivs;
 
 /// Over all runs of a history, whatever the moment at which each ended, no two frames are sealed with the same key octets
-/// and the same IV: if what each run was told to be durable is read by every later run, and also if its records stand in
-/// what each later run reads, with any octets around them.
+/// and the same IV. Premise: every later run reads what was reported durable to a run (`durable`), or it reads the records
+/// of it, with any octets around them (`crashes`).
 pub fn repeats_no_iv()
     ensures durable { (runs : List Run) → RepeatsNoIv runs }
     ensures crashes { (runs : List Run) → RepeatsNoIvAfterCrashes runs }
@@ -29,8 +29,8 @@ pub fn repeats_no_iv()
     protects_frames();
 }
 
-/// Records that are written behind whole records are read by every later run, and so is all that was there before them,
-/// whatever octets a crash leaves behind.
+/// Every later run reads records that were appended to whole records, and everything before them, whatever octets a crash
+/// leaves after them.
 pub fn reads_written()
     ensures { (journal : List ℕ) (rs : List Reservation) (behind : List ℕ) → ReadsWritten journal rs behind }
 {}

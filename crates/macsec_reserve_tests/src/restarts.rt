@@ -44,7 +44,7 @@ fn number_in(frame: &[u8]) -> Option<u32> {
     Some(u32::from_be_bytes([frame[16], frame[17], frame[18], frame[19]]))
 }
 
-/// The packet number of a frame that is sent, or `None` if it is dropped for want of a reservation.
+/// The packet number of a frame that is sent, or `None` if it is dropped because it has no reservation.
 fn sent(rt: &impl Abort, keeper: &mut Keeper) -> Option<u32> {
     let frame = [0; 60];
     match keeper.send(&frame) {
@@ -54,7 +54,7 @@ fn sent(rt: &impl Abort, keeper: &mut Keeper) -> Option<u32> {
     }
 }
 
-/// Writes a record behind the whole records of the journal.
+/// Writes a record after the whole records of the journal.
 fn write(rt: &impl Abort, journal: &mut Vec<u8>, keeper: &mut Keeper, an: An) {
     let wanted = keeper.wanted(an, AMOUNT).expect(rt, "a reservation");
     journal.truncate(journal.len() / RECORD_LENGTH * RECORD_LENGTH);
@@ -65,7 +65,7 @@ fn write(rt: &impl Abort, journal: &mut Vec<u8>, keeper: &mut Keeper, an: An) {
     keeper.now_durable(&wanted);
 }
 
-/// Creates the association at 0, which is out of range, at what the journal reserved, and behind that.
+/// Creates the association at 0, which is out of range, at what the journal reserved, and after that.
 fn starts_behind(rt: &impl Abort, keeper: &mut Keeper, an: An, floor: u64) {
     let number = KeyNumber::new(7).expect(rt, "a key number");
     let at_floor = if floor == 0 {

@@ -1,4 +1,4 @@
--- A report raises the entries, of which each key has one.
+-- A report raises the entries; each key has one.
 use Rattle.std.proofs.Common.{◌≡◌, ◌≤◌, ◌++◌, drop, length, map, ap, ◌∙◌, arith}
 use Rattle.std.specs.Prelude.{vec_capacity}
 use Rattle.std.proofs.lemmas.List.{length-map, with_items_is}
