@@ -3,46 +3,50 @@ use Rattle.std.proofs.Common.{ℕ, ◌<◌, ◌≤◌, List, [], ◌∷◌, ◌+
 use Rattle.std.proofs.lemmas.List.Elements.{All-cons, All-append, All-head, All-nil, All-tail, All-weaker}
 use Rattle.macsec_suite.specs.CipherUses.{CipherUse}
 use Rattle.macsec_reserve.specs.declared.reservation.Reservation.{Reservation}
-use Rattle.macsec_reserve.specs.Journal.{highest, record_of, reservations, sending_name}
-use Rattle.macsec_reserve.specs.Crashes.{IsReservation, LeavesDurable, StandsIn}
-use Rattle.macsec_reserve.specs.Histories.{AgreeOnKeys, IsHistory, KeepsDurable, Run, StaysSound, closing, opening, reported, sealed_in, sealed_in_all}
+use Rattle.macsec_reserve.specs.Entries.{reduced}
+use Rattle.macsec_reserve.specs.Journal.{highest, record_of, reservations, salt_of, sending_name}
+use Rattle.macsec_reserve.specs.Crashes.{IsHistoryOfCrashes, IsReservation, LeavesDurable, StandsIn}
+use Rattle.macsec_reserve.specs.Histories.{AgreeOnKeys, IsHistory, KeepsDurable, Run, SameSalt, StaysSound, closing, opening, reported, sealed_in, sealed_in_all}
 use Rattle.macsec_reserve.specs.Unique.{HasOtherIv, RepeatsNoIv, RepeatsNoIvAfterCrashes}
 use Rattle.macsec_reserve.proofs.EndpointLaws.{Laws, numbers_tell}
 use Rattle.macsec_reserve.proofs.Pairs.{no_pairs, pairs-append, pairs-head, pairs-tail}
 use Rattle.macsec_reserve.proofs.HighestOf.{highest-append}
+use Rattle.macsec_reserve.proofs.Reduced.{reduced_reserves}
 use Rattle.macsec_reserve.proofs.Written.{reads_written}
 use Rattle.macsec_reserve.proofs.Runs.{Runs, runs}
 use Rattle.macsec_reserve.proofs.Steps.{granted_reported}
 use Rattle.macsec_reserve.proofs.Seals.{IsUse}
 
-abbrev IsSoundRun : Run → Type 0
+abbrev pub IsSoundRun : Run → Type 0
 IsSoundRun run = StaysSound (opening run) run.inputs
 
-of_run : Laws → (run : Run) → IsSoundRun run → Runs (opening run) run.inputs
+pub of_run : Laws → (run : Run) → IsSoundRun run → Runs (opening run) run.inputs
 of_run laws run sound = runs laws run.inputs (opening run) refl sound
 
 -- the earlier run reserved its number, which the later one read: so the later number is above it
-differs : Laws → (run later : Run) → IsSoundRun run → IsSoundRun later → AgreeOnKeys run later → KeepsDurable run later →
+differs : Laws → (run later : Run) → IsSoundRun run → IsSoundRun later → AgreeOnKeys run later → SameSalt run later → KeepsDurable run later →
     (x : CipherUse) → IsUse (opening run) (closing run) x → (y : CipherUse) → IsUse (opening later) (closing later) y → HasOtherIv x y
-differs laws run later sound sound' agree durable x first y second bytes iv =
-    let name = sending_name x.key in
-    let above : highest (reservations later.journal) name < second.number =
-    subst (λ (key : List ℕ). highest (reservations later.journal) (sending_name key) < second.number) (sym bytes) second.above in
-    let less : first.number < second.number = omega (arith, first.within, granted_reported run.inputs (opening run) name, durable name, above) in
+differs laws run later sound sound' agree salt durable x first y second bytes iv =
+    let name = sending_name (salt_of run.journal) x.key in
+    let above : highest (reduced (reservations later.journal)) name < second.number =
+    subst (λ (s : List ℕ). highest (reduced (reservations later.journal)) (sending_name s x.key) < second.number) salt
+    (subst (λ (key : List ℕ). highest (reduced (reservations later.journal)) (sending_name (salt_of later.journal) key) < second.number) (sym bytes) second.above) in
+    let less : first.number < second.number = omega (arith, first.within, granted_reported run.inputs (opening run) name, durable name, reduced_reserves (reservations later.journal) name, above) in
     numbers_tell laws (closing run).secy (closing later).secy (of_run laws run sound).sound (of_run laws later sound').sound first.key second.key first.there second.there
     (agree first.key second.key first.there second.there (sym first.bytes ∙ bytes ∙ second.bytes))
     first.number second.number first.most second.most less (sym first.iv ∙ iv ∙ second.iv)
 
 -- a use of one run, and the uses of all later ones
 differs_from_all : Laws → (run : Run) → IsSoundRun run → (x : CipherUse) → IsUse (opening run) (closing run) x → (later : List Run) →
-    All IsSoundRun later → All (AgreeOnKeys run) later → All (KeepsDurable run) later → All (HasOtherIv x) (sealed_in_all later)
-differs_from_all laws run sound x first [] sounds agree durable = All-nil (HasOtherIv x)
-differs_from_all laws run sound x first (q ∷ qs) sounds agree durable =
+    All IsSoundRun later → All (AgreeOnKeys run) later → All (SameSalt run) later → All (KeepsDurable run) later → All (HasOtherIv x) (sealed_in_all later)
+differs_from_all laws run sound x first [] sounds agree salt durable = All-nil (HasOtherIv x)
+differs_from_all laws run sound x first (q ∷ qs) sounds agree salt durable =
     let sound' : IsSoundRun q = All-head IsSoundRun q qs sounds in
     All-append (HasOtherIv x) (sealed_in q) (sealed_in_all qs)
     (All-weaker (IsUse (opening q) (closing q)) (HasOtherIv x)
-    (differs laws run q sound sound' (All-head (AgreeOnKeys run) q qs agree) (All-head (KeepsDurable run) q qs durable) x first) (sealed_in q) (of_run laws q sound').from)
-    (differs_from_all laws run sound x first qs (All-tail IsSoundRun q qs sounds) (All-tail (AgreeOnKeys run) q qs agree) (All-tail (KeepsDurable run) q qs durable))
+    (differs laws run q sound sound' (All-head (AgreeOnKeys run) q qs agree) (All-head (SameSalt run) q qs salt) (All-head (KeepsDurable run) q qs durable) x first) (sealed_in q) (of_run laws q sound').from)
+    (differs_from_all laws run sound x first qs (All-tail IsSoundRun q qs sounds) (All-tail (AgreeOnKeys run) q qs agree) (All-tail (SameSalt run) q qs salt)
+    (All-tail (KeepsDurable run) q qs durable))
 
 pub repeats_no_iv : Laws → (history : List Run) → RepeatsNoIv history
 repeats_no_iv laws [] is = no_pairs HasOtherIv
@@ -52,11 +56,13 @@ repeats_no_iv laws (run ∷ later) is =
     let rest : IsHistory later = record {
       sound = All-tail IsSoundRun run later is.sound;
       agree = pairs-tail AgreeOnKeys run later is.agree;
+      salt = pairs-tail SameSalt run later is.salt;
       durable = pairs-tail KeepsDurable run later is.durable;
     } in
     pairs-append HasOtherIv (sealed_in run) (sealed_in_all later) it.apart (repeats_no_iv laws later rest)
     (All-weaker (IsUse (opening run) (closing run)) (λ x. All (HasOtherIv x) (sealed_in_all later))
-    (λ x first. differs_from_all laws run sound x first later rest.sound (pairs-head AgreeOnKeys run later is.agree) (pairs-head KeepsDurable run later is.durable))
+    (λ x first. differs_from_all laws run sound x first later rest.sound (pairs-head AgreeOnKeys run later is.agree) (pairs-head SameSalt run later is.salt)
+    (pairs-head KeepsDurable run later is.durable))
     (sealed_in run) it.from)
 
 -- ---- the octets that crashes leave
@@ -77,6 +83,13 @@ all_stand journal (r ∷ rs) all name =
 pub leaves_durable : (run later : Run) → LeavesDurable run later
 leaves_durable run later leaves name = all_stand later.journal (reported run) leaves name
 
+pub is_history : (runs : List Run) → IsHistoryOfCrashes runs → IsHistory runs
+is_history runs is = record {
+  sound = is.sound;
+  agree = is.agree;
+  salt = is.salt;
+  durable = λ i j d less within. leaves_durable (get_or runs i d) (get_or runs j d) (is.records i j d less within);
+}
+
 pub repeats_no_iv_after_crashes : Laws → (history : List Run) → RepeatsNoIvAfterCrashes history
-repeats_no_iv_after_crashes laws history sound agree leaves =
-    repeats_no_iv laws history (record { sound = sound; agree = agree; durable = λ i j d less within. leaves_durable (get_or history i d) (get_or history j d) (leaves i j d less within) })
+repeats_no_iv_after_crashes laws history is = repeats_no_iv laws history (is_history history is)

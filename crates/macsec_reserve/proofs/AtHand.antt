@@ -54,15 +54,16 @@ none_or_one k row may None by (inl none) = ap (λ b. all_may k (number_unless_fa
 none_or_one k row may None by (inr some) = ap (λ b. all_may k (number_unless_fault None b)) some ∙ one_goes (may_use k (row.key, row.next)) may
 
 -- what is at hand is what the lists say
-pub at_hand_goes : (k : Keeping) (names : List NamedKey) (at : AtHand) (row : TxRow) (frame : List ℕ) → HasNames k.secy.keys names → IsAtHand names k.before k.granted (Some at) →
+pub at_hand_goes : (k : Keeping) (names : List NamedKey) (at : AtHand) (row : TxRow) (frame : List ℕ) → HasNames k.salt k.secy.keys names → IsAtHand k.salt names k.before k.granted (Some at) →
     row_on k.secy.tx ≡ Some row → (row.key == at.key && (nat_lt at.before row.next && nat_le row.next at.granted)) ≡ true → uses_reserved k (client_frame frame) ≡ true
 at_hand_goes k names at row frame are is on test =
     let parts = and_parts (row.key == at.key) (nat_lt at.before row.next && nat_le row.next at.granted) test in
     let key : row.key ≡ at.key = eqb-true row.key at.key parts.0 in
-    let name : name_or_none (name_row names at.key) ≡ key_name k.secy.keys row.key = found_name k.secy.keys names at.key are ∙ ap (λ n. key_name k.secy.keys n) (sym key) in
+    let name : name_or_none k.salt (name_row names at.key) ≡ key_name k.salt k.secy.keys row.key =
+    found_name k.salt k.secy.keys names at.key are ∙ ap (λ n. key_name k.salt k.secy.keys n) (sym key) in
     let may : may_use k (row.key, row.next) ≡ true =
     ap (λ n. nat_lt (highest k.before n) row.next && nat_le row.next (highest k.granted n)) (sym name)
-    ∙ ap (λ m. nat_lt m row.next && nat_le row.next (highest k.granted (name_or_none (name_row names at.key)))) (sym is.0)
+    ∙ ap (λ m. nat_lt m row.next && nat_le row.next (highest k.granted (name_or_none k.salt (name_row names at.key)))) (sym is.0)
     ∙ ap (λ m. nat_lt at.before row.next && nat_le row.next m) (sym is.1)
     ∙ parts.1 in
     none_or_one k row may (frame_fault frame) _ (by_on (tx_options k.secy) k.secy.keys k.secy.tx frame row on)

@@ -17,13 +17,15 @@ use Rattle.macsec_secy.specs.Reception.{judgement_of, state_after_receiving}
 use Rattle.macsec_secy.specs.Sound.{IsSound}
 use Rattle.macsec_secy.specs.State.{State}
 use Rattle.macsec_reserve.specs.declared.reservation.Reservation.{Reservation}
-use Rattle.macsec_reserve.specs.Journal.{highest, reservations}
+use Rattle.macsec_reserve.specs.Entries.{reduced}
+use Rattle.macsec_reserve.specs.Journal.{highest, receiving_name, reservations, salt_of, sending_name}
 use Rattle.macsec_reserve.specs.Keeping.{Keeping, KeepingInput, KeepingOutput, dropped_no_reservation, endpoint_input, now_durable, is_below_floor, keeping_after, keeping_step, may_go, with_step}
 use Rattle.macsec_reserve.specs.Histories.{Run, opening, reported}
-use Rattle.macsec_reserve.specs.Replay.{DeliversAbove, KeepsAssociation, NeverDeliversAgain, SavesAccepted, row_name, saved_for}
+use Rattle.macsec_reserve.specs.Replay.{DeliversAbove, KeepsAssociation, NeverDeliversAgain, NeverDeliversAgainUnder, SavesAccepted, row_name, saved_for}
 use Rattle.macsec_reserve.proofs.EndpointLaws.{Laws}
 use Rattle.macsec_reserve.proofs.Steps.{by_tests}
-use Rattle.macsec_reserve.proofs.FloorsKept.{IsAbove, all_found, before_stays_after, keeps_floors}
+use Rattle.macsec_reserve.proofs.FloorsKept.{IsAbove, all_found, before_stays_after, keeps_floors, salt_stays_after}
+use Rattle.macsec_reserve.proofs.Reduced.{reduced_reserves}
 
 abbrev pub RowsStay : Type 0
 RowsStay = (s : State) (input : Input) (sci : Sci) (an n : ℕ) → RxRowStays s input sci an n
@@ -35,10 +37,12 @@ delivers_above laws apart delivers run inputs frame row delivered sound replay i
     let s = k.secy in
     let sound' : IsSound s = subst (λ (is : List KeepingInput). IsSound (keeping_after (opening run) is).secy) (take_all (length inputs) inputs (omega arith)) (sound (length inputs)) in
     let it = delivers s frame row delivered sound' is_row is_delivered in
-    let above = keeps_floors laws apart inputs (opening run) refl sound (All-nil (IsAbove (opening run).before (opening run).secy.keys)) in
-    let own : IsAbove k.before s.keys row = all_found (IsAbove k.before s.keys) (λ r. is_at row.sci row.an r) s.rx.rows row above it.at_place in
-    let saved : highest (reservations run.journal) (row_name s row) < row.lowest = subst (λ (before : List Reservation). IsAbove before s.keys row) (before_stays_after inputs (opening run)) own in
-    omega (arith, saved, it.on_time replay)
+    let above = keeps_floors laws apart inputs (opening run) refl sound (All-nil (IsAbove (opening run).salt (opening run).before (opening run).secy.keys)) in
+    let own : IsAbove k.salt k.before s.keys row = all_found (IsAbove k.salt k.before s.keys) (λ r. is_at row.sci row.an r) s.rx.rows row above it.at_place in
+    let saved : IsAbove (salt_of run.journal) (reduced (reservations run.journal)) s.keys row =
+    subst (λ (salt : List ℕ). IsAbove salt (reduced (reservations run.journal)) s.keys row) (salt_stays_after inputs (opening run))
+    (subst (λ (before : List Reservation). IsAbove k.salt before s.keys row) (before_stays_after inputs (opening run)) own) in
+    omega (arith, saved, reduced_reserves (reservations run.journal) (row_name (salt_of run.journal) s row), it.on_time replay)
 
 found_bound : (scis : List Sci) (rows : List RxRow) (sci : Sci) (an : ℕ) (row : RxRow) → AreRxRows scis rows → rx_row rows sci an ≡ Some row → row.next ≤ 2 ^ 64
 found_bound scis [] sci an row are found = cc
@@ -49,8 +53,8 @@ found_bound scis (x ∷ xs) sci an row are found = by_test (is_at sci an x) (fou
     by_test false later found' = later found'
 
 -- what is saved covers what was accepted
-pub saves_accepted : (s : State) (sci : Sci) (an : ℕ) (row : RxRow) (n : ℕ) → SavesAccepted s sci an row n
-saves_accepted s sci an row n sound window found below =
+pub saves_accepted : (salt : List ℕ) (s : State) (sci : Sci) (an : ℕ) (row : RxRow) (n : ℕ) → SavesAccepted salt s sci an row n
+saves_accepted salt s sci an row n sound window found below =
     let within : row.next ≤ row.lowest + s.options.window =
     all_found (λ (r : RxRow). r.next ≤ r.lowest + s.options.window) (λ r. is_at sci an r) s.rx.rows row sound.agrees.within_window found in
     let most : row.next ≤ 2 ^ 64 = found_bound s.rx.scis s.rx.rows sci an row sound.rx.rows found in
@@ -128,15 +132,26 @@ never_delivers_again laws apart stay delivers run later name n saved durable inp
     let last_sound : IsSound saved.last.secy = subst (λ (k' : Keeping). IsSound k'.secy) (sym saved.last_is)
     (subst (λ (is : List KeepingInput). IsSound (keeping_after (keeping_step k (endpoint_input (link_frame saved.frame))).1 is).secy) (take_all (length saved.then_on) saved.then_on (omega arith))
     (saved.sound (suc (length saved.then_on)))) in
-    let covered : n ≤ (saved_for saved.last.secy saved.row).last =
-    saves_accepted saved.last.secy saved.from.sci saved.from.an saved.row n last_sound saved.window saved.there (omega (arith, next)) in
-    let granted : (saved_for saved.last.secy saved.row).last ≤ highest (reported run) (row_name saved.last.secy saved.row) =
-    All-contains (λ (x : Reservation). x.last ≤ highest (reported run) x.name) (reported run) (saved_for saved.last.secy saved.row)
+    let covered : n ≤ (saved_for saved.last.salt saved.last.secy saved.row).last =
+    saves_accepted saved.last.salt saved.last.secy saved.from.sci saved.from.an saved.row n last_sound saved.window saved.there (omega (arith, next)) in
+    let granted : (saved_for saved.last.salt saved.last.secy saved.row).last ≤ highest (reported run) (row_name saved.last.salt saved.last.secy saved.row) =
+    All-contains (λ (x : Reservation). x.last ≤ highest (reported run) x.name) (reported run) (saved_for saved.last.salt saved.last.secy saved.row)
     (has_highest (reported run)) saved.durable in
-    let kept = durable (row_name saved.last.secy saved.row) in
+    let kept = durable (row_name saved.last.salt saved.last.secy saved.row) in
     let s = (keeping_after (opening later) inputs).secy in
-    let above : highest (reservations later.journal) (row_name s row) < (judgement_of s frame).number =
+    let above : highest (reservations later.journal) (row_name (salt_of later.journal) s row) < (judgement_of s frame).number =
     delivers_above laws apart delivers later inputs frame row delivered sound replay is_row is_delivered in
-    let above' : highest (reservations later.journal) (row_name saved.last.secy saved.row) < (judgement_of s frame).number =
+    let above' : highest (reservations later.journal) (row_name saved.last.salt saved.last.secy saved.row) < (judgement_of s frame).number =
     subst (λ (m : List ℕ). highest (reservations later.journal) m < (judgement_of s frame).number) (is_name ∙ sym saved.name_is) above in
     omega (arith, covered, granted, kept, above')
+
+pub never_delivers_again_under : Laws → ((s : State) → IsSound s → RxRowsAreApart s.rx.rows) → RowsStay →
+    ((s : State) (frame : List ℕ) (row : RxRow) (delivered : List ℕ) → DeliversFrom s frame row delivered) →
+    (run later : Run) (bytes : List ℕ) (sci : Sci) (an n : ℕ) → NeverDeliversAgainUnder run later bytes sci an n
+never_delivers_again_under laws apart stay delivers run later bytes sci an n saved salt durable inputs frame row delivered sound replay is_row is_delivered is_key is_sci is_an =
+    never_delivers_again laws apart stay delivers run later (receiving_name (sending_name (salt_of run.journal) bytes) sci an) n saved durable
+    inputs frame row delivered sound replay is_row is_delivered
+    (ap (λ (b : List ℕ). receiving_name (sending_name (salt_of later.journal) b) row.sci row.an) is_key
+    ∙ ap (λ (s : List ℕ). receiving_name (sending_name s bytes) row.sci row.an) salt
+    ∙ ap (λ (x : Sci). receiving_name (sending_name (salt_of run.journal) bytes) x row.an) is_sci
+    ∙ ap (λ (k : ℕ). receiving_name (sending_name (salt_of run.journal) bytes) sci k) is_an)

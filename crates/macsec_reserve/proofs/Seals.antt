@@ -23,7 +23,7 @@ use Rattle.macsec_reserve.specs.Journal.{highest, sending_name}
 use Rattle.macsec_reserve.specs.Keeping.{Keeping, KeepingInput, endpoint_input, now_durable, dropped_no_reservation, keeping_step, key_name, may_go, may_use, with_step}
 use Rattle.macsec_reserve.specs.Histories.{newly_sealed, sealed_by, sealed_if}
 use Rattle.macsec_reserve.proofs.EndpointLaws.{Laws}
-use Rattle.macsec_reserve.proofs.Steps.{before_stays}
+use Rattle.macsec_reserve.proofs.Steps.{before_stays, salt_stays}
 
 -- from a moment of a run to a later one: a use of the cipher between them, by a key as it is at the later one
 pub record IsUse (k later : Keeping) (x : CipherUse) : Type 0 where
@@ -34,8 +34,8 @@ pub record IsUse (k later : Keeping) (x : CipherUse) : Type 0 where
   pub most : number ≤ last_of key.suite
   pub iv : x.iv ≡ iv_of key.suite later.secy.config.sci key.ssci key.salt number
   -- no earlier run may have used the number, and this run has reserved it
-  pub above : highest k.before (sending_name x.key) < number
-  pub within : number ≤ highest later.granted (sending_name x.key)
+  pub above : highest k.before (sending_name k.salt x.key) < number
+  pub within : number ≤ highest later.granted (sending_name k.salt x.key)
   -- nor was it used in this run under a key of these octets
   pub unused : (old : InstalledKey) → Contains k.secy.keys old → x.key ≡ old.bytes → old.first_unused ≤ number
 
@@ -65,8 +65,9 @@ use_earlier k input later stay x it = record {
   bytes = it.bytes;
   most = it.most;
   iv = it.iv;
-  above = subst (λ before. highest before (sending_name x.key) < it.number) (before_stays k input) it.above;
-  within = it.within;
+  above = subst (λ before. highest before (sending_name k.salt x.key) < it.number) (before_stays k input)
+      (subst (λ (salt : List ℕ). highest (keeping_step k input).1.before (sending_name salt x.key) < it.number) (salt_stays k input) it.above);
+  within = subst (λ (salt : List ℕ). it.number ≤ highest later.granted (sending_name salt x.key)) (salt_stays k input) it.within;
   unused = λ old there bytes.
       let then' = stay.keys old there in
       let at_least : then'.later.first_unused ≤ it.number = it.unused then'.later then'.there (bytes ∙ sym then'.is_later.bytes) in
@@ -103,7 +104,7 @@ new_use laws k frame row later keeps sound fits by go stay grow =
     let noted : Contains (keeping_step k (endpoint_input (client_frame frame))).1.secy.keys (row_noting row.next key) =
     subst (λ (t : State). Contains t.keys (row_noting row.next key)) (sym same) it.noted in
     let then' = stay.keys (row_noting row.next key) noted in
-    let tests = and_parts (nat_lt (highest k.before (key_name s.keys row.key)) row.next) (nat_le row.next (highest k.granted (key_name s.keys row.key)))
+    let tests = and_parts (nat_lt (highest k.before (key_name k.salt s.keys row.key)) row.next) (nat_le row.next (highest k.granted (key_name k.salt s.keys row.key)))
     (may_be_used k frame row keeps fits by go) in
     let config : later.secy.config ≡ s.config = stay.config ∙ ap (λ (t : State). t.config) same ∙ (laws.keys_stay s (client_frame frame) sound).config in
     let there : Contains s.keys key = ((laws.keys_apart s sound).found row.key it.there).there in
@@ -116,9 +117,9 @@ new_use laws k frame row later keeps sound fits by go stay grow =
         most = subst (λ (u : Suite). row.next ≤ last_of u) (sym then'.is_later.suite) it.most;
         iv = iv_again key.suite then'.later.suite s.config.sci later.secy.config.sci key.ssci then'.later.ssci key.salt then'.later.salt row.next
             then'.is_later.suite (ap (λ (c : EndConfig). c.sci) config) then'.is_later.ssci then'.is_later.salt;
-        above = ltb-true (highest k.before (key_name s.keys row.key)) row.next tests.0;
-        within = let now : row.next ≤ highest k.granted (key_name s.keys row.key) = leb-true row.next (highest k.granted (key_name s.keys row.key)) tests.1 in
-            omega (arith, now, grow (key_name s.keys row.key));
+        above = ltb-true (highest k.before (key_name k.salt s.keys row.key)) row.next tests.0;
+        within = let now : row.next ≤ highest k.granted (key_name k.salt s.keys row.key) = leb-true row.next (highest k.granted (key_name k.salt s.keys row.key)) tests.1 in
+            omega (arith, now, grow (key_name k.salt s.keys row.key));
         unused = λ old here bytes.
             let one : key ≡ old = (laws.keys_apart s sound).by_bytes key old there here bytes in
             subst (λ (o : InstalledKey). o.first_unused ≤ row.next) one it.unused;

@@ -27,7 +27,7 @@ pub none_used : (k : Keeping) (input : Input) → [] ≡ number_used k.secy inpu
 none_used k input none = ap (λ us. all_may k us) none
 
 pub one_used : (k : Keeping) (input : Input) (row : TxRow) (name name' : List ℕ) (may : Bool) → (row.key, row.next) ∷ [] ≡ number_used k.secy input →
-    name ≡ name' → name' ≡ key_name k.secy.keys row.key →
+    name ≡ name' → name' ≡ key_name k.salt k.secy.keys row.key →
     may ≡ (nat_lt (highest k.before name) row.next && nat_le row.next (highest k.granted name)) → may ≡ uses_reserved k input
 one_used k input row name name' may one is_name is_key is_may =
     is_may

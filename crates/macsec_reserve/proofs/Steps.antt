@@ -10,7 +10,7 @@ use Rattle.macsec_reserve.specs.Journal.{highest}
 use Rattle.macsec_reserve.specs.Keeping.{Keeping, KeepingInput, KeepingOutput, endpoint_input, endpoint_output, now_durable, dropped_no_reservation, for_each_key, is_below_floor, may_go, keeping_after, keeping_step, with_step}
 use Rattle.macsec_reserve.specs.Histories.{reported_in}
 use Rattle.macsec_reserve.proofs.EndpointLaws.{Laws}
-use Rattle.macsec_reserve.proofs.Entries.{for_each_key_reserves, raised_reserves}
+use Rattle.macsec_reserve.proofs.KeyEntries.{for_each_key_reserves, raised_reserves}
 use Rattle.macsec_reserve.proofs.HighestOf.{highest-append}
 
 -- ---- keys
@@ -79,8 +79,8 @@ granted_by_tests false false k answer name = omega arith
 
 pub granted_grows : (k : Keeping) (input : KeepingInput) (name : List ℕ) → highest k.granted name ≤ highest (keeping_step k input).1.granted name
 granted_grows k (now_durable r) name =
-    let raised = raised_reserves r (for_each_key k.granted k.secy.keys) name in
-    omega (arith, raised.0, for_each_key_reserves k.granted k.secy.keys name)
+    let raised = raised_reserves r (for_each_key k.salt k.granted k.secy.keys) name in
+    omega (arith, raised.0, for_each_key_reserves k.salt k.granted k.secy.keys name)
 granted_grows k (endpoint_input input) name = granted_by_tests (is_below_floor k input) (may_go k input) k (step k.secy input) name
 
 -- what is reserved was reserved before, or reported since
@@ -92,12 +92,12 @@ same_by_tests false false k answer name = refl
 pub granted_reported : (inputs : List KeepingInput) (k : Keeping) (name : List ℕ) → highest (keeping_after k inputs).granted name ≤ max (highest k.granted name) (highest (reported_in inputs) name)
 granted_reported [] k name = omega arith
 granted_reported (now_durable r ∷ inputs) k name =
-    let raised = raised_reserves r (for_each_key k.granted k.secy.keys) name in
+    let raised = raised_reserves r (for_each_key k.salt k.granted k.secy.keys) name in
     omega (
       arith,
       granted_reported inputs (keeping_step k (now_durable r)).1 name,
       raised.1,
-      for_each_key_reserves k.granted k.secy.keys name,
+      for_each_key_reserves k.salt k.granted k.secy.keys name,
       highest-append (r ∷ []) (reported_in inputs) name,
     )
 granted_reported (endpoint_input input ∷ inputs) k name =
@@ -111,3 +111,12 @@ keeps_by_tests false false k answer = refl
 pub keeps_stays : (k : Keeping) (input : KeepingInput) → (keeping_step k input).1.keeps ≡ k.keeps
 keeps_stays k (now_durable r) = refl
 keeps_stays k (endpoint_input input) = keeps_by_tests (is_below_floor k input) (may_go k input) k (step k.secy input)
+
+salt_by_tests : (below go : Bool) (k : Keeping) (answer : Output × State) → (by_tests below go k answer).1.salt ≡ k.salt
+salt_by_tests true go k answer = refl
+salt_by_tests false true k answer = refl
+salt_by_tests false false k answer = refl
+
+pub salt_stays : (k : Keeping) (input : KeepingInput) → (keeping_step k input).1.salt ≡ k.salt
+salt_stays k (now_durable r) = refl
+salt_stays k (endpoint_input input) = salt_by_tests (is_below_floor k input) (may_go k input) k (step k.secy input)

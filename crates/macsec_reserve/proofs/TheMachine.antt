@@ -28,7 +28,7 @@ nothing_reserved (Some it) = by_number it.1
     by_number (suc n) = and_right (nat_lt 0 (suc n)) (nat_le (suc n) 0) (lt-leb (suc n) 0 (omega arith))
 
 no_floor : (k : Keeping) (input : Input) → k.before ≡ [] → is_below_floor k input ≡ false
-no_floor k (operator_command c) none = and_right k.keeps (was_reserved k.before (begins_at k.secy c)) (ap (λ (before : List Reservation). was_reserved before (begins_at k.secy c)) none ∙ nothing_reserved (begins_at k.secy c))
+no_floor k (operator_command c) none = and_right k.keeps (was_reserved k.before (begins_at k.salt k.secy c)) (ap (λ (before : List Reservation). was_reserved before (begins_at k.salt k.secy c)) none ∙ nothing_reserved (begins_at k.salt k.secy c))
 no_floor k (client_frame frame) none = refl
 no_floor k (uncontrolled_frame frame) none = refl
 no_floor k (link_frame frame) none = refl
@@ -36,11 +36,11 @@ no_floor k (link_frame frame) none = refl
 -- ---- what is used
 
 abbrev IsReserved : Keeping → UsedNumber → Type 0
-IsReserved k u = u.1 ≤ highest k.granted (key_name k.secy.keys u.0)
+IsReserved k u = u.1 ≤ highest k.granted (key_name k.salt k.secy.keys u.0)
 
 one_may : (k : Keeping) (u : UsedNumber) → k.before ≡ [] → 0 < u.1 → IsReserved k u → may_use k u ≡ true
 one_may k u none least reserved =
-    let name = key_name k.secy.keys u.0 in
+    let name = key_name k.salt k.secy.keys u.0 in
     let above : highest k.before name < u.1 = subst (λ (before : List Reservation). highest before name < u.1) (sym none) least in
     and_from (nat_lt (highest k.before name) u.1) (nat_le u.1 (highest k.granted name)) (lt-ltb (highest k.before name) u.1 above) (le-leb u.1 (highest k.granted name) reserved)
 
@@ -82,7 +82,7 @@ is_the_machine laws k input sound none reserved =
 -- ---- without a journal
 
 no_floor_alone : (k : Keeping) (input : Input) → k.keeps ≡ false → is_below_floor k input ≡ false
-no_floor_alone k (operator_command c) alone = ap (λ (b : Bool). b && was_reserved k.before (begins_at k.secy c)) alone
+no_floor_alone k (operator_command c) alone = ap (λ (b : Bool). b && was_reserved k.before (begins_at k.salt k.secy c)) alone
 no_floor_alone k (client_frame frame) alone = refl
 no_floor_alone k (uncontrolled_frame frame) alone = refl
 no_floor_alone k (link_frame frame) alone = refl

@@ -1,19 +1,14 @@
 -- What a crash leaves of a journal: each record that was durable, at its place, and around it any octets at all.
-use Rattle.std.specs.Prelude.{◌≡◌, ◌<◌, ◌≤◌, ◌%◌, ◌^◌, ℕ, List, [], ◌∷◌, ◌++◌, length}
-use Rattle.std.specs.List.{All}
+use Rattle.std.specs.Prelude.{◌≡◌, ◌<◌, ◌≤◌, ◌%◌, ◌^◌, ℕ, List, ◌++◌, length}
+use Rattle.std.specs.List.{All, AllPairs}
 use Rattle.macsec_reserve.specs.declared.reservation.Reservation.{Reservation}
-use Rattle.macsec_reserve.specs.Journal.{highest, record_length, record_of, reservations}
-use Rattle.macsec_reserve.specs.Histories.{KeepsDurable, Run, reported}
+use Rattle.macsec_reserve.specs.Journal.{highest, record_length, record_of, records_of, reservations}
+use Rattle.macsec_reserve.specs.Histories.{AgreeOnKeys, KeepsDurable, Run, SameSalt, StaysSound, opening, reported}
 
 -- a name has 32 octets, and a packet number 64 bits
 pub record IsReservation (r : Reservation) : Type 0 where
   pub name : length r.name ≡ 32
   pub last : r.last < 2 ^ 64
-
--- the records of a list, one after another
-abbrev pub records_of : List Reservation → List ℕ
-records_of [] = []
-records_of (r ∷ rs) = record_of r ++ records_of rs
 
 -- records that were appended to whole records are read, and so is everything before them, whatever octets follow
 abbrev pub ReadsWritten : List ℕ → List Reservation → List ℕ → Type 0
@@ -39,3 +34,11 @@ LeavesRecords run later = All (StandsIn later.journal) (reported run)
 -- then the later run reads what they reserve
 abbrev pub LeavesDurable : Run → Run → Type 0
 LeavesDurable run later = LeavesRecords run later → KeepsDurable run later
+
+-- the runs are sound and agree on their keys, and every later run reads the same salt, and each record that was reported
+-- durable to a run, at its place
+pub record IsHistoryOfCrashes (runs : List Run) : Type 0 where
+  pub sound : All (λ run. StaysSound (opening run) run.inputs) runs
+  pub agree : AllPairs AgreeOnKeys runs
+  pub salt : AllPairs SameSalt runs
+  pub records : AllPairs LeavesRecords runs

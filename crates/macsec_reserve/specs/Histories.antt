@@ -12,7 +12,7 @@ use Rattle.macsec_secy.specs.State.{State, tx_options}
 use Rattle.macsec_secy.specs.Sound.{IsSound}
 use Rattle.macsec_secy.specs.Step.{Input, operator_command, client_frame, uncontrolled_frame, link_frame, frame_fault, sending_of}
 use Rattle.macsec_reserve.specs.declared.reservation.Reservation.{Reservation}
-use Rattle.macsec_reserve.specs.Journal.{highest, reservations}
+use Rattle.macsec_reserve.specs.Journal.{highest, reservations, salt_of}
 use Rattle.macsec_reserve.specs.Keeping.{Keeping, KeepingInput, endpoint_input, now_durable, keeping_after, keeping_step, may_go, opened}
 
 -- a run: the octets that it read, its configuration, and what came in until it ended, at whatever moment
@@ -85,12 +85,18 @@ AgreeOnKeys run later =
 abbrev pub KeepsDurable : Run → Run → Type 0
 KeepsDurable run later = (name : List ℕ) → highest (reported run) name ≤ highest (reservations later.journal) name
 
+-- the journal that a later run reads has the salt of the one that the run read
+abbrev pub SameSalt : Run → Run → Type 0
+SameSalt run later = salt_of later.journal ≡ salt_of run.journal
+
 -- at each moment of the run the endpoint is sound, as each call leaves it
 abbrev pub StaysSound : Keeping → List KeepingInput → Type 0
 StaysSound k inputs = (n : ℕ) → IsSound (keeping_after k (take n inputs)).secy
 
--- the runs are sound and agree on their keys, and each reads what was reported durable to the runs before it
+-- the runs are sound and agree on their keys, and each reads the salt of the runs before it and what was reported durable
+-- to them
 pub record IsHistory (runs : List Run) : Type 0 where
   pub sound : All (λ run. StaysSound (opening run) run.inputs) runs
   pub agree : AllPairs AgreeOnKeys runs
+  pub salt : AllPairs SameSalt runs
   pub durable : AllPairs KeepsDurable runs

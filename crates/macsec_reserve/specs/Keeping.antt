@@ -1,6 +1,6 @@
 -- A keeping endpoint: the endpoint of the machine, with what earlier runs may have used and with what this run has
 -- reserved. Without a journal it keeps nothing, and is the machine.
-use Rattle.std.specs.Prelude.{ℕ, ◌+◌, ◌-◌, ◌/◌, ◌^◌, min, max, option_map, List, [], ◌∷◌, ◌++◌, map, drop, length, nat_lt, nat_le, not, ◌&&◌, ◌||◌, Bool, true, false, if◌then◌else◌, Option, Some, None}
+use Rattle.std.specs.Prelude.{ℕ, ◌+◌, ◌-◌, ◌/◌, ◌^◌, min, option_map, List, [], ◌∷◌, ◌++◌, map, drop, length, replicate, nat_lt, nat_le, not, ◌&&◌, ◌||◌, Bool, true, false, if◌then◌else◌, Option, Some, None}
 use Rattle.std.specs.List.{list_any}
 use Rattle.macsec_suite.specs.KeyRows.{InstalledKey, the_key}
 use Rattle.macsec_suite.specs.declared.refusal.Refusal.TheVariants.{PnFloor}
@@ -11,49 +11,47 @@ use Rattle.macsec_tx.specs.declared.TxRow.{TxRow}
 use Rattle.macsec_secy.specs.State.{State, start}
 use Rattle.macsec_secy.specs.Laws.{UsedNumber, number_used}
 use Rattle.macsec_secy.specs.Step.{Input, operator_command, Output, refused, step}
-use Rattle.macsec_gcm.specs.Octets.{same_octets}
 use Rattle.macsec_reserve.specs.declared.reservation.Reservation.{Reservation}
-use Rattle.macsec_reserve.specs.Journal.{highest, receiving_name, reservations, sending_name}
+use Rattle.macsec_reserve.specs.Entries.{raised_by, reduced}
+use Rattle.macsec_reserve.specs.Journal.{highest, receiving_name, reservations, salt_of, sending_name}
 
--- the endpoint; whether it has a journal; what the journal reserved when the run began; and what was reported durable
--- since, one entry for each key
+-- the endpoint; whether it has a journal; the journal's salt; what the journal reserved when the run began, one entry for
+-- each name; and what was reported durable since, one entry for each key
 pub record Keeping : Type 0 where
   pub secy : State
   pub keeps : Bool
+  pub salt : List ℕ
   pub before : List Reservation
   pub granted : List Reservation
 
 -- as it is opened beside a journal: nothing is reserved
 abbrev pub opened : EndConfig → List ℕ → Keeping
-opened config journal = record { secy = start config; keeps = true; before = reservations journal; granted = [] }
+opened config journal =
+    record { secy = start config; keeps = true; salt = salt_of journal; before = reduced (reservations journal); granted = [] }
 
 -- as it is made without a journal
 abbrev pub alone : EndConfig → Keeping
-alone config = record { secy = start config; keeps = false; before = []; granted = [] }
+alone config = record { secy = start config; keeps = false; salt = replicate 32 0; before = []; granted = [] }
 
 -- the name of the key of this number for sending
-abbrev pub key_name : List InstalledKey → ℕ → List ℕ
-key_name keys key = sending_name (the_key keys key).bytes
+abbrev pub key_name : List ℕ → List InstalledKey → ℕ → List ℕ
+key_name salt keys key = sending_name salt (the_key keys key).bytes
 
 -- ---- what was reported durable
 
 -- the entry of a key for which nothing was
-abbrev pub nothing_yet : InstalledKey → Reservation
-nothing_yet key = record { name = sending_name key.bytes; last = 0 }
+abbrev pub nothing_yet : List ℕ → InstalledKey → Reservation
+nothing_yet salt key = record { name = sending_name salt key.bytes; last = 0 }
 
 -- an entry for each key, in the order of installation
-abbrev pub for_each_key : List Reservation → List InstalledKey → List Reservation
-for_each_key granted keys = granted ++ map nothing_yet (drop (length granted) keys)
-
--- a report raises the entry of its name
-abbrev pub raised_by : Reservation → Reservation → Reservation
-raised_by r entry = if same_octets entry.name r.name then record entry { last = max entry.last r.last } else entry
+abbrev pub for_each_key : List ℕ → List Reservation → List InstalledKey → List Reservation
+for_each_key salt granted keys = granted ++ map (nothing_yet salt) (drop (length granted) keys)
 
 -- ---- what may be done
 
 -- a packet number may be used under a key if no earlier run may have used it, and if this run has reserved it
 abbrev pub may_use : Keeping → UsedNumber → Bool
-may_use k u = let name = key_name k.secy.keys u.0 in nat_lt (highest k.before name) u.1 && nat_le u.1 (highest k.granted name)
+may_use k u = let name = key_name k.salt k.secy.keys u.0 in nat_lt (highest k.before name) u.1 && nat_le u.1 (highest k.granted name)
 
 -- an input that uses packet numbers, by the machine, may use them all
 abbrev pub uses_reserved : Keeping → Input → Bool
@@ -64,10 +62,10 @@ abbrev pub may_go : Keeping → Input → Bool
 may_go k input = not k.keeps || uses_reserved k input
 
 -- the first packet number of an association to be, and the name under which it counts
-abbrev pub begins_at : State → Command → Option (List ℕ × ℕ)
-begins_at s (TxSa an key next conf) = Some (key_name s.keys key, next)
-begins_at s (RxSa sci an key ssci lowest) = Some (receiving_name (key_name s.keys key) sci an, lowest)
-begins_at s c = None
+abbrev pub begins_at : List ℕ → State → Command → Option (List ℕ × ℕ)
+begins_at salt s (TxSa an key next conf) = Some (key_name salt s.keys key, next)
+begins_at salt s (RxSa sci an key ssci lowest) = Some (receiving_name (key_name salt s.keys key) sci an, lowest)
+begins_at salt s c = None
 
 -- an earlier run may have used the number, from 1 on
 abbrev pub was_reserved : List Reservation → Option (List ℕ × ℕ) → Bool
@@ -76,7 +74,7 @@ was_reserved before (Some it) = nat_lt 0 it.1 && nat_le it.1 (highest before it.
 
 -- a command that begins at a number which an earlier run may have used
 abbrev pub is_below_floor : Keeping → Input → Bool
-is_below_floor k (operator_command c) = k.keeps && was_reserved k.before (begins_at k.secy c)
+is_below_floor k (operator_command c) = k.keeps && was_reserved k.before (begins_at k.salt k.secy c)
 is_below_floor k input = false
 
 -- ---- steps
@@ -97,7 +95,8 @@ with_step k answer = (endpoint_output answer.0, record k { secy = answer.1 })
 -- as the machine, except that no association begins at a number that an earlier run may have used, and that no packet
 -- number is used which is not reserved; in both cases nothing changes
 abbrev pub keeping_step : Keeping → KeepingInput → KeepingOutput × Keeping
-keeping_step k (now_durable r) = (noted, record k { granted = map (raised_by r) (for_each_key k.granted k.secy.keys) })
+keeping_step k (now_durable r) =
+    (noted, record k { granted = map (raised_by r) (for_each_key k.salt k.granted k.secy.keys) })
 keeping_step k (endpoint_input input) =
     if is_below_floor k input then (endpoint_output (refused PnFloor), k)
     else if may_go k input then with_step k (step k.secy input)
@@ -121,5 +120,5 @@ wanted_last reserved next amount =
 -- of a transmit association
 abbrev pub wanted_for : Keeping → ℕ → TxRow → Option Reservation
 wanted_for k amount row =
-    let name = key_name k.secy.keys row.key in
+    let name = key_name k.salt k.secy.keys row.key in
     option_map (λ last. record { name = name; last = last }) (wanted_last (highest k.granted name) row.next amount)

@@ -6,28 +6,29 @@ use Rattle.macsec_tag.specs.declared.identifiers.Sci.{Sci}
 use Rattle.macsec_rx.specs.declared.RxRow.{RxRow}
 use Rattle.macsec_rx.specs.Channels.{rx_row}
 use Rattle.macsec_secy.specs.Kept.{is_deleting}
+use Rattle.macsec_suite.specs.KeyRows.{the_key}
 use Rattle.macsec_secy.specs.Step.{frame_fault, link_frame}
 use Rattle.macsec_secy.specs.Sound.{IsSound}
 use Rattle.macsec_secy.specs.Reception.{judgement_of}
 use Rattle.macsec_secy.specs.State.{State}
 use Rattle.macsec_reserve.specs.declared.reservation.Reservation.{Reservation}
-use Rattle.macsec_reserve.specs.Journal.{highest, receiving_name, reservations}
-use Rattle.macsec_reserve.specs.Histories.{KeepsDurable, Run, StaysSound, opening, reported}
+use Rattle.macsec_reserve.specs.Journal.{highest, receiving_name, reservations, salt_of, sending_name}
+use Rattle.macsec_reserve.specs.Histories.{KeepsDurable, Run, SameSalt, StaysSound, opening, reported}
 use Rattle.macsec_reserve.specs.Keeping.{Keeping, KeepingInput, endpoint_input, now_durable, keeping_after, keeping_step, key_name}
 
 -- the name under which the numbers of a receive association are saved
-abbrev pub row_name : State → RxRow → List ℕ
-row_name s row = receiving_name (key_name s.keys row.key) row.sci row.an
+abbrev pub row_name : List ℕ → State → RxRow → List ℕ
+row_name salt s row = receiving_name (key_name salt s.keys row.key) row.sci row.an
 
 -- what is to be saved of it: below its lowest acceptable packet number nothing is accepted
-abbrev pub saved_for : State → RxRow → Reservation
-saved_for s row = record { name = row_name s row; last = min (row.lowest - 1) (2 ^ 64 - 1) }
+abbrev pub saved_for : List ℕ → State → RxRow → Reservation
+saved_for salt s row = record { name = row_name salt s row; last = min (row.lowest - 1) (2 ^ 64 - 1) }
 
 -- while the replay window is 0 that covers each packet number which the association has accepted: its next one is above
 -- them
-abbrev pub SavesAccepted : State → Sci → ℕ → RxRow → ℕ → Type 0
-SavesAccepted s sci an row n =
-    IsSound s → s.options.window ≡ 0 → rx_row s.rx.rows sci an ≡ Some row → n < row.next → n ≤ (saved_for s row).last
+abbrev pub SavesAccepted : List ℕ → State → Sci → ℕ → RxRow → ℕ → Type 0
+SavesAccepted salt s sci an row n =
+    IsSound s → s.options.window ≡ 0 → rx_row s.rx.rows sci an ≡ Some row → n < row.next → n ≤ (saved_for salt s row).last
 
 -- at the end of these inputs the endpoint drops late frames, and delivers this frame from this association: then its
 -- packet number is above all that the journal had saved for the association when the run began
@@ -35,7 +36,7 @@ abbrev pub DeliversAbove : Run → List KeepingInput → List ℕ → RxRow → 
 DeliversAbove run inputs frame row delivered =
     let s = (keeping_after (opening run) inputs).secy in
     StaysSound (opening run) inputs → s.options.replay ≡ true → (judgement_of s frame).row ≡ Some row → (judgement_of s frame).delivered ≡ Some delivered →
-    highest (reservations run.journal) (row_name s row) < (judgement_of s frame).number
+    highest (reservations run.journal) (row_name (salt_of run.journal) s row) < (judgement_of s frame).number
 
 -- ---- over two runs
 
@@ -68,14 +69,23 @@ pub record HasSaved (run : Run) (name : List ℕ) (n : ℕ) : Type 0 where
   pub window : last.secy.options.window ≡ 0
   pub row : RxRow
   pub there : rx_row last.secy.rx.rows from.sci from.an ≡ Some row
-  pub name_is : row_name last.secy row ≡ name
-  pub durable : Contains (reported run) (saved_for last.secy row)
+  pub name_is : row_name last.salt last.secy row ≡ name
+  pub durable : Contains (reported run) (saved_for last.salt last.secy row)
 
 -- then no later run that drops late frames delivers a frame of that packet number, or of a lower one, from an association
--- of that name: one of the same key octets, SCI and number
+-- of that name: in a journal of the same salt, one of the same key octets, SCI and number
 abbrev pub NeverDeliversAgain : Run → Run → List ℕ → ℕ → Type 0
 NeverDeliversAgain run later name n =
     HasSaved run name n → KeepsDurable run later → (inputs : List KeepingInput) (frame : List ℕ) (row : RxRow) (delivered : List ℕ) →
     let s = (keeping_after (opening later) inputs).secy in
     StaysSound (opening later) inputs → s.options.replay ≡ true → (judgement_of s frame).row ≡ Some row → (judgement_of s frame).delivered ≡ Some delivered →
-    row_name s row ≡ name → n < (judgement_of s frame).number
+    row_name (salt_of later.journal) s row ≡ name → n < (judgement_of s frame).number
+
+-- the same of key octets, an SCI and a number, where the journal keeps its salt
+abbrev pub NeverDeliversAgainUnder : Run → Run → List ℕ → Sci → ℕ → ℕ → Type 0
+NeverDeliversAgainUnder run later bytes sci an n =
+    HasSaved run (receiving_name (sending_name (salt_of run.journal) bytes) sci an) n → SameSalt run later → KeepsDurable run later →
+    (inputs : List KeepingInput) (frame : List ℕ) (row : RxRow) (delivered : List ℕ) →
+    let s = (keeping_after (opening later) inputs).secy in
+    StaysSound (opening later) inputs → s.options.replay ≡ true → (judgement_of s frame).row ≡ Some row → (judgement_of s frame).delivered ≡ Some delivered →
+    (the_key s.keys row.key).bytes ≡ bytes → row.sci ≡ sci → row.an ≡ an → n < (judgement_of s frame).number

@@ -9,7 +9,7 @@ use Rattle.macsec_reserve.specs.Keeping.{Keeping, endpoint_input, keeping_step, 
 
 abbrev pub IsTheMachine : Keeping → Input → Type 0
 IsTheMachine k input =
-    IsSound k.secy → k.before ≡ [] → All (λ u. u.1 ≤ highest k.granted (key_name k.secy.keys u.0)) (number_used k.secy input) →
+    IsSound k.secy → k.before ≡ [] → All (λ u. u.1 ≤ highest k.granted (key_name k.salt k.secy.keys u.0)) (number_used k.secy input) →
     keeping_step k (endpoint_input input) ≡ with_step k (step k.secy input)
 
 -- without a journal it takes the machine's step, whatever the input

@@ -10,12 +10,14 @@ ghost use Rattle.macsec_secy.specs.Sound.{IsSound};
 ghost use Rattle.macsec_secy.specs.Step.{client_frame, link_frame, operator_command, uncontrolled_frame};
 ghost use Rattle.macsec_reserve.specs.Answers.{MakesAlone, MakesKeeper, output_of_kept};
 ghost use Rattle.macsec_reserve.specs.Journal.{highest, sending_name};
-ghost use Rattle.macsec_reserve.specs.Keeping.{begins_at, endpoint_input, endpoint_output, is_below_floor, keeping_step, may_go, now_durable, raised_by, uses_reserved, wanted_for, wanted_last, was_reserved};
+ghost use Rattle.macsec_reserve.specs.Keeping.{begins_at, endpoint_input, endpoint_output, is_below_floor, keeping_step, may_go, now_durable, uses_reserved, wanted_for, wanted_last, was_reserved};
 ghost use Rattle.macsec_reserve.specs.Names.{IsAtHand, entry_of, name_or_none, name_row, names_after};
 ghost use Rattle.macsec_reserve.specs.Replay.{saved_for};
 ghost use Rattle.macsec_reserve.specs.Rests.{RestsAs};
 
-use crate::{Reservation, highest, is_journal, receiving_name, reservations, sending_name};
+use crate::entries::raise;
+use crate::journal::{entries_of, salt_of};
+use crate::{Reservation, highest, is_journal, receiving_name, sending_name};
 use macsec_aes::Key;
 use macsec_secy::{
     An, Command, EndConfig, FrameFault, KeyNumber, NewFault, Received, Refusal, RxRow, Sci, Secy,
@@ -53,7 +55,9 @@ pub struct Keeper {
     secy: Secy,
     /// Has it a journal?
     keeps: bool,
-    /// What the journal reserved when the run began.
+    /// The journal's salt, or zeros.
+    salt: [u8; 32],
+    /// What the journal reserved when the run began, one entry for each name.
     before: Vec<Reservation>,
     /// What was reported durable since, an entry for each key that was installed before the last report.
     granted: Vec<Reservation>,
@@ -70,11 +74,11 @@ impl Model for Keeper {
 
     ghost Value = { Keeping };
 
-    ghost view = { λ k. record { secy = k.secy; keeps = k.keeps; before = k.before.items; granted = k.granted.items } };
+    ghost view = { λ k. record { secy = k.secy; keeps = k.keeps; salt = k.salt; before = k.before.items; granted = k.granted.items } };
 
     // The endpoint's keys have these names, it is sound, and there is capacity for all keys that it can have.
-    ghost invariant = { λ k. IsKept k.secy k.names.items (vec_capacity k.names) (vec_capacity k.granted)
-        × IsAtHand k.names.items k.before.items k.granted.items k.at_hand };
+    ghost invariant = { λ k. IsKept k.secy k.salt k.names.items (vec_capacity k.names) (vec_capacity k.granted)
+        × IsAtHand k.salt k.names.items k.before.items k.granted.items k.at_hand };
 }
 
 /// What becomes of a client frame.
@@ -115,6 +119,7 @@ impl Keeper {
         Ok(Keeper {
             secy,
             keeps: false,
+            salt: [0; 32],
             before: Vec::new(alloc),
             granted,
             names,
@@ -134,7 +139,7 @@ impl Keeper {
             Ok(secy) => secy,
             Err(fault) => return Err(OpenFault::Endpoint(fault)),
         };
-        let Ok(before) = reservations(alloc, journal) else {
+        let Ok(before) = entries_of(alloc, journal) else {
             return Err(OpenFault::Memory);
         };
         let Ok(granted) = Vec::with_capacity(alloc, KEY_COUNT) else {
@@ -146,6 +151,7 @@ impl Keeper {
         Ok(Keeper {
             secy,
             keeps: true,
+            salt: salt_of(journal),
             before,
             granted,
             names,
@@ -168,7 +174,7 @@ impl Keeper {
     fn wanted_for(&self, row: TxRow, amount: u64) -> Option<Reservation>
         ensures { result ≡ wanted_for self.now amount row }
     {
-        let name = name_of(self.names.as_slice(), row.key);
+        let name = name_of(&self.salt, self.names.as_slice(), row.key);
         let reserved = highest(self.granted.as_slice(), &name);
         match wanted_last(reserved, row.next, amount) {
             None => None,
@@ -179,7 +185,7 @@ impl Keeper {
     /// What is to be saved of the receive association of this channel and of this number, if there is one: once its record
     /// is durable, no later run creates the association at a packet number that is too low.
     pub fn to_save(&self, sci: Sci, an: An) -> Option<Reservation>
-        ensures { result ≡ option_map (saved_for self.now.secy) (rx_row self.now.secy.rx.rows sci an) }
+        ensures { result ≡ option_map (saved_for self.now.salt self.now.secy) (rx_row self.now.secy.rx.rows sci an) }
     {
         match self.secy.rx_row(sci, an) {
             None => None,
@@ -189,9 +195,9 @@ impl Keeper {
 
     /// What is to be saved of a receive association.
     fn saved_for(&self, row: RxRow) -> Option<Reservation>
-        ensures { result ≡ Some (saved_for self.now.secy row) }
+        ensures { result ≡ Some (saved_for self.now.salt self.now.secy row) }
     {
-        let key = name_of(self.names.as_slice(), row.key);
+        let key = name_of(&self.salt, self.names.as_slice(), row.key);
         let name = receiving_name(&key, row.sci, row.an);
         let last = up_to(row.lowest);
         Some(Reservation { name, last })
@@ -254,7 +260,7 @@ impl Keeper {
         match self.secy.command(command) {
             Ok(()) => {
                 self.at_hand = None;
-                note_key(&mut self.names, command);
+                note_key(&self.salt, &mut self.names, command);
                 self.take_at_hand();
                 Ok(())
             }
@@ -271,11 +277,11 @@ impl Keeper {
 
     /// Is an association to begin at a packet number that the journal reserved when the run began?
     fn begins_reserved(&self, command: &Command) -> bool
-        ensures { result ≡ was_reserved self.now.before (begins_at self.now.secy command.now) }
+        ensures { result ≡ was_reserved self.now.before (begins_at self.now.salt self.now.secy command.now) }
     {
         match *command {
             Command::TxSa { key, next, .. } => {
-                let name = name_of(self.names.as_slice(), key);
+                let name = name_of(&self.salt, self.names.as_slice(), key);
                 was_reserved(self.before.as_slice(), &name, next)
             }
             Command::RxSa {
@@ -285,7 +291,11 @@ impl Keeper {
                 lowest,
                 ..
             } => {
-                let name = receiving_name(&name_of(self.names.as_slice(), key), sci, an);
+                let name = receiving_name(
+                    &name_of(&self.salt, self.names.as_slice(), key),
+                    sci,
+                    an,
+                );
                 was_reserved(self.before.as_slice(), &name, lowest)
             }
             _ => false,
@@ -299,6 +309,7 @@ impl Keeper {
         self.at_hand = match self.secy.tx_row_on() {
             None => None,
             Some(row) => Some(reserved_for(
+                &self.salt,
                 self.names.as_slice(),
                 self.before.as_slice(),
                 self.granted.as_slice(),
@@ -334,7 +345,7 @@ impl Keeper {
         match self.secy.next_row(frame) {
             None => true,
             Some(row) => {
-                let name = name_of(self.names.as_slice(), row.key);
+                let name = name_of(&self.salt, self.names.as_slice(), row.key);
                 may_use(
                     self.before.as_slice(),
                     self.granted.as_slice(),
@@ -348,14 +359,15 @@ impl Keeper {
 
 /// What is reserved for a key.
 fn reserved_for(
+    salt: &[u8; 32],
     names: &[NamedKey],
     before: &[Reservation],
     granted: &[Reservation],
     key: KeyNumber,
 ) -> AtHand
-    ensures { IsAtHand names.now before.now granted.now (Some result) }
+    ensures { IsAtHand salt.now names.now before.now granted.now (Some result) }
 {
-    let name = name_of(names, key);
+    let name = name_of(salt, names, key);
     let before = highest(before, &name);
     let granted = highest(granted, &name);
     AtHand {
@@ -373,15 +385,15 @@ fn is_reserved(at: AtHand, row: TxRow) -> bool
 }
 
 /// The name of the key of this number, or the name of no octets.
-fn name_of(names: &[NamedKey], key: KeyNumber) -> [u8; 32]
-    ensures { result ≡ name_or_none (name_row names.now key) }
+fn name_of(salt: &[u8; 32], names: &[NamedKey], key: KeyNumber) -> [u8; 32]
+    ensures { result ≡ name_or_none salt.now (name_row names.now key) }
 {
     for named in names {
         if named.number == key {
             return named.name;
         }
     }
-    sending_name(&[])
+    sending_name(salt, &[])
 }
 
 /// Was this packet number not used by an earlier run, and is it reserved?
@@ -399,24 +411,24 @@ fn was_reserved(before: &[Reservation], name: &[u8; 32], number: u64) -> bool
 }
 
 /// The name of a key for sending.
-fn name_of_key(key: Key) -> [u8; 32]
-    ensures { result ≡ sending_name (key_bytes key) }
+fn name_of_key(salt: &[u8; 32], key: Key) -> [u8; 32]
+    ensures { result ≡ sending_name salt.now (key_bytes key) }
 {
     match key {
-        Key::K128(bytes) => sending_name(bytes.as_slice()),
-        Key::K256(bytes) => sending_name(bytes.as_slice()),
+        Key::K128(bytes) => sending_name(salt, bytes.as_slice()),
+        Key::K256(bytes) => sending_name(salt, bytes.as_slice()),
     }
 }
 
 /// Notes the name of the key that a command has installed, if it is such a command.
-fn note_key(names: &mut Vec<NamedKey>, command: &Command)
-    requires { length (names_after names.old.items command.now) ≤ vec_capacity names.old }
-    ensures items { names.new.items ≡ names_after names.old.items command.now }
+fn note_key(salt: &[u8; 32], names: &mut Vec<NamedKey>, command: &Command)
+    requires { length (names_after salt.now names.old.items command.now) ≤ vec_capacity names.old }
+    ensures items { names.new.items ≡ names_after salt.now names.old.items command.now }
     ensures room { vec_capacity names.old ≤ vec_capacity names.new }
 {
     if let Command::Key(key) = *command {
         let number = key.number;
-        let name = name_of_key(key.bytes);
+        let name = name_of_key(salt, key.bytes);
         names.push(NamedKey { number, name }).unwrap();
     }
 }
@@ -442,28 +454,6 @@ fn append_entries(granted: &mut Vec<Reservation>, names: &[NamedKey])
     for named in names {
         let name = named.name;
         granted.push(Reservation { name, last: 0 }).unwrap();
-    }
-}
-
-/// Raises the entry of a reservation's name to its number.
-fn raise(entries: &mut [Reservation], by: &Reservation)
-    ensures { entries.new ≡ map (raised_by by.now) entries.old }
-{
-    for reserved in entries.iter_mut() {
-        *reserved = raised_by(*reserved, by);
-    }
-}
-
-/// An entry, raised if a reservation has its name.
-fn raised_by(entry: Reservation, by: &Reservation) -> Reservation
-    ensures { result ≡ raised_by by.now entry }
-{
-    if entry.name == by.name {
-        let name = entry.name;
-        let last = entry.last.max(by.last);
-        Reservation { name, last }
-    } else {
-        entry
     }
 }
 

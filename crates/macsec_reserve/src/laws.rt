@@ -3,25 +3,40 @@
 ghost use Rattle.std.specs.Prelude.{ℕ, List};
 ghost use Rattle.macsec_reserve.specs.declared.reservation.Reservation.{Reservation};
 ghost use Rattle.macsec_reserve.specs.Crashes.{ReadsWritten};
+ghost use Rattle.macsec_reserve.specs.Entries.{SaysTheSame, reduced};
 ghost use Rattle.macsec_reserve.specs.Histories.{Run};
 ghost use Rattle.macsec_tag.specs.declared.identifiers.Sci.{Sci};
 ghost use Rattle.macsec_rx.specs.declared.RxRow.{RxRow};
 ghost use Rattle.macsec_secy.specs.State.{State};
 ghost use Rattle.macsec_secy.specs.Step.{Input};
 ghost use Rattle.macsec_reserve.specs.Keeping.{Keeping, KeepingInput};
-ghost use Rattle.macsec_reserve.specs.Replay.{DeliversAbove, NeverDeliversAgain, SavesAccepted};
+ghost use Rattle.macsec_reserve.specs.Replay.{DeliversAbove, NeverDeliversAgain, NeverDeliversAgainUnder, SavesAccepted};
 ghost use Rattle.macsec_reserve.specs.Transparent.{IsTheMachine, IsTheMachineAlone};
+ghost use Rattle.macsec_reserve.specs.TwoEnds.{RepeatsNoIvAtBoth, RepeatsNoIvAtBothAfterCrashes};
 ghost use Rattle.macsec_reserve.specs.Unique.{RepeatsNoIv, RepeatsNoIvAfterCrashes};
 
 use macsec_secy::laws::{delivers_in_time, keys_stay, protects_frames, rx_rows_stay};
 use macsec_suite::laws::equal_ivs;
 
 /// Over all runs of a history, whatever the moment at which each ended, no two frames are sealed with the same key octets
-/// and the same IV. Premise: every later run reads what was reported durable to a run (`durable`), or it reads the records
-/// of it, with any octets around them (`crashes`).
+/// and the same IV. Premises: every later run reads the same salt of the journal, and what was reported durable to a run
+/// (`durable`), or its records, with any octets around them (`crashes`).
 pub fn repeats_no_iv()
     ensures durable { (runs : List Run) → RepeatsNoIv runs }
     ensures crashes { (runs : List Run) → RepeatsNoIvAfterCrashes runs }
+{
+    // Laws that the proof cites; the calls do nothing.
+    equal_ivs();
+    keys_stay();
+    protects_frames();
+}
+
+/// The same over all runs of two ends, each with a journal of its own. Premises besides those of `repeats_no_iv` for each:
+/// the ends' SCIs differ, keys with the same octets at both agree as above, and with extended packet numbers their own SSCIs
+/// differ.
+pub fn repeats_no_iv_at_both()
+    ensures durable { (runs others : List Run) → RepeatsNoIvAtBoth runs others }
+    ensures crashes { (runs others : List Run) → RepeatsNoIvAtBothAfterCrashes runs others }
 {
     // Laws that the proof cites; the calls do nothing.
     equal_ivs();
@@ -33,6 +48,11 @@ pub fn repeats_no_iv()
 /// leaves after them.
 pub fn reads_written()
     ensures { (journal : List ℕ) (rs : List Reservation) (behind : List ℕ) → ReadsWritten journal rs behind }
+{}
+
+/// One entry for each name says of each name what the whole list says.
+pub fn reduces()
+    ensures { (rs : List Reservation) → SaysTheSame rs (reduced rs) }
 {}
 
 /// At each moment of a run a frame that is delivered while late frames are dropped has a packet number above all that the
@@ -50,13 +70,14 @@ pub fn delivers_above()
 
 /// While the replay window is 0, what is to be saved of a receive association covers each packet number that it has accepted.
 pub fn saves_accepted()
-    ensures { (s : State) (sci : Sci) (an : ℕ) (row : RxRow) (n : ℕ) → SavesAccepted s sci an row n }
+    ensures { (salt : List ℕ) (s : State) (sci : Sci) (an : ℕ) (row : RxRow) (n : ℕ) → SavesAccepted salt s sci an row n }
 {}
 
 /// What a run accepted before it saved the association's number, at replay window 0, is not delivered again by a later run
-/// that drops late frames.
+/// that drops late frames: on an association of that name, or where the journal keeps its salt, of those key octets.
 pub fn never_delivers_again()
-    ensures { (run later : Run) (name : List ℕ) (n : ℕ) → NeverDeliversAgain run later name n }
+    ensures named { (run later : Run) (name : List ℕ) (n : ℕ) → NeverDeliversAgain run later name n }
+    ensures keyed { (run later : Run) (bytes : List ℕ) (sci : Sci) (an n : ℕ) → NeverDeliversAgainUnder run later bytes sci an n }
 {
     // Laws that the proof cites; the calls do nothing.
     equal_ivs();

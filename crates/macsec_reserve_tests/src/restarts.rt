@@ -1,11 +1,13 @@
 //! A program that ends at any moment and starts again, with what a crash has left of its journal.
 
 use macsec_reserve::{
-    HEADER, Keeper, KeptSent, OpenFault, RECORD_LENGTH, highest, reservations, sending_name,
+    CompactFault, Keeper, KeptSent, OpenFault, RECORD_LENGTH, Reservation, compacted, header,
+    highest, reservations, sending_name,
 };
 use macsec_secy::{
     An, Command, EndConfig, Key, KeyNumber, NewKey, Refusal, Sci, Sent, Suite, TagForm,
 };
+use std::alloc::{AllocError, Global};
 use std::process::Abort;
 use std::test::Fail;
 
@@ -17,6 +19,8 @@ const CONFIG: EndConfig = EndConfig {
 };
 
 const OCTETS: [u8; 16] = [9; 16];
+
+const SALT: [u8; 32] = [5; 32];
 
 /// How many packet numbers are reserved at once.
 const AMOUNT: u64 = 8;
@@ -54,13 +58,16 @@ fn sent(rt: &impl Abort, keeper: &mut Keeper) -> Option<u32> {
     }
 }
 
+fn new_journal(alloc: Global, salt: &[u8; 32]) -> Result<Vec<u8>, AllocError> {
+    let mut journal = Vec::new(alloc);
+    journal.extend_from_slice(&header(salt))?;
+    Ok(journal)
+}
+
 /// Writes a record after the whole records of the journal.
 fn write(rt: &impl Abort, journal: &mut Vec<u8>, keeper: &mut Keeper, an: An) {
     let wanted = keeper.wanted(an, AMOUNT).expect(rt, "a reservation");
     journal.truncate(journal.len() / RECORD_LENGTH * RECORD_LENGTH);
-    if journal.is_empty() {
-        journal.extend_from_slice(HEADER).expect(rt, "memory");
-    }
     wanted.append_to(journal).expect(rt, "memory");
     keeper.now_durable(&wanted);
 }
@@ -93,7 +100,7 @@ fn starts_behind(rt: &impl Abort, keeper: &mut Keeper, an: An, floor: u64) {
 fn numbers_rise_over_all_runs(rt: HostRuntime) -> Result<(), Fail> {
     let alloc = rt.alloc();
     let an = An::new(0).ok_or("an association number")?;
-    let mut journal = Vec::new(alloc);
+    let mut journal = new_journal(alloc, &SALT)?;
     let mut last = 0;
     for run in 0..40usize {
         let mut keeper = match Keeper::open(alloc, CONFIG, &journal) {
@@ -102,7 +109,7 @@ fn numbers_rise_over_all_runs(rt: HostRuntime) -> Result<(), Fail> {
         };
         assert!(rt; refusal(&mut keeper, &Command::Key(key(&rt))).is_none());
         let before = reservations(alloc, &journal)?;
-        let floor = highest(before.as_slice(), &sending_name(&OCTETS));
+        let floor = highest(before.as_slice(), &sending_name(&SALT, &OCTETS));
         assert!(rt; u64::from(last) <= floor, "run {run}");
         starts_behind(&rt, &mut keeper, an, floor);
         // Nothing is reserved yet.
@@ -129,11 +136,64 @@ fn numbers_rise_over_all_runs(rt: HostRuntime) -> Result<(), Fail> {
 
 #[test]
 fn refuses_another_file(rt: HostRuntime) {
-    let octets = [b'x'; 64];
-    let fault = Keeper::open(rt.alloc(), CONFIG, &octets).err();
-    assert!(rt; fault == Some(OpenFault::NotJournal));
-    let fault = Keeper::open(rt.alloc(), CONFIG, &octets[..63]).err();
-    assert!(rt; fault.is_none());
+    let alloc = rt.alloc();
+    let octets = header(&SALT);
+    assert!(rt; Keeper::open(alloc, CONFIG, &octets).is_ok());
+    // A file is created with its header, so a part of it is no journal.
+    for length in [0usize, 1, 32, 63] {
+        let fault = Keeper::open(alloc, CONFIG, &octets[..length]).err();
+        assert!(rt; fault == Some(OpenFault::NotJournal), "{length}");
+        let fault = compacted(alloc, &octets[..length]).err();
+        assert!(rt; fault == Some(CompactFault::NotJournal), "{length}");
+    }
+    let other = [b'x'; 64];
+    assert!(rt; Keeper::open(alloc, CONFIG, &other).err() == Some(OpenFault::NotJournal));
+}
+
+#[test]
+fn names_differ_by_salt(rt: HostRuntime) {
+    assert!(rt; sending_name(&SALT, &OCTETS) != sending_name(&[6; 32], &OCTETS));
+}
+
+#[test]
+fn compaction_keeps_the_highest(rt: HostRuntime) -> Result<(), Fail> {
+    let alloc = rt.alloc();
+    let mut journal = new_journal(alloc, &SALT)?;
+    for last in [3u64, 9, 7, 1, 8] {
+        for octet in [1u8, 2] {
+            let name = [octet; 32];
+            let last = last + u64::from(octet);
+            journal.extend_from_slice(&Reservation { name, last }.to_octets())?;
+        }
+    }
+    journal.extend_from_slice(&[0; 70])?;
+    let shorter = match compacted(alloc, &journal) {
+        Ok(shorter) => shorter,
+        Err(_) => panic!(rt; "no journal"),
+    };
+    assert!(rt; shorter.len() == 3 * RECORD_LENGTH);
+    let kept = reservations(alloc, &shorter)?;
+    for octet in [1u8, 2, 3] {
+        let name = [octet; 32];
+        let wanted = if octet == 3 { 0 } else { 9 + u64::from(octet) };
+        assert!(rt; highest(kept.as_slice(), &name) == wanted, "{octet}");
+    }
+    Ok(())
+}
+
+#[test]
+fn reads_its_own_record_and_no_other(rt: HostRuntime) {
+    let reservation = Reservation {
+        name: [7; 32],
+        last: 0x0123_4567_89ab_cdef,
+    };
+    let record = reservation.to_octets();
+    assert!(rt; Reservation::from_octets(&record) == Some(reservation));
+    for k in 0..RECORD_LENGTH {
+        let mut torn = record;
+        torn[k] ^= 1;
+        assert!(rt; Reservation::from_octets(&torn).is_none(), "{k}");
+    }
 }
 
 #[test]

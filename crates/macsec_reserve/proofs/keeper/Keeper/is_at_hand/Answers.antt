@@ -13,6 +13,6 @@ pub returns : goal.returns
 returns c frame goes =
     let k = the_view c.self.inside in
     let names = c.self.inside.names.items in
-    let at = subst (λ (h : Option AtHand). IsAtHand names k.before k.granted h) c.in-Some.is c.self.invariant.1 in
+    let at = subst (λ (h : Option AtHand). IsAtHand k.salt names k.before k.granted h) c.in-Some.is c.self.invariant.1 in
     subst (λ (k' : Keeping). uses_reserved k' (client_frame frame) ≡ true) c.self.view_is
     (at_hand_goes k names c.in-Some.at c.in-Some-tx_row_on.row frame c.self.invariant.0.names at (sym c.tx_row_on.ensures ∙ c.in-Some-tx_row_on.is) (sym c.is_reserved.ensures ∙ goes))

@@ -15,9 +15,9 @@ returns-in-Some c =
     let k = the_view c.self.inside in
     let row = c.in-Some.row in
     let name = c.name_of-name.result in
-    one_used k (client_frame c.args.frame.now) row name (name_or_none (name_row c.self.inside.names.items row.key)) c.may_use.result c.in-Some.ensures
-    (c.name_of-name.ensures ∙ ap (λ ns. name_or_none (name_row ns row.key)) c.as_slice.ensures.value)
-    (found_name c.self.inside.secy.keys c.self.inside.names.items row.key c.self.invariant.0.names)
+    one_used k (client_frame c.args.frame.now) row name (name_or_none k.salt (name_row c.self.inside.names.items row.key)) c.may_use.result c.in-Some.ensures
+    (c.name_of-name.ensures ∙ ap (λ ns. name_or_none k.salt (name_row ns row.key)) c.as_slice.ensures.value)
+    (found_name k.salt c.self.inside.secy.keys c.self.inside.names.items row.key c.self.invariant.0.names)
     (c.may_use.ensures
     ∙ ap (λ before. nat_lt (highest before name) row.next && nat_le row.next (highest c.as_slice-in-Some-2.result.now name)) c.as_slice-in-Some.ensures.value
     ∙ ap (λ granted. nat_lt (highest k.before name) row.next && nat_le row.next (highest granted name)) c.as_slice-in-Some-2.ensures.value)

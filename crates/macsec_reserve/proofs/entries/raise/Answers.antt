@@ -1,8 +1,8 @@
 use Rattle.std.proofs.Common.{arith}
 use Rattle.std.proofs.lemmas.List.{get_or_default}
 use Rattle.std.proofs.lemmas.List.Edits.{map_over_more}
-use Rattle.macsec_reserve.specs.Keeping.{raised_by}
-use Rattle.macsec_reserve.proofs.keeper.raise.Goals as goal
+use Rattle.macsec_reserve.specs.Entries.{raised_by}
+use Rattle.macsec_reserve.proofs.entries.raise.Goals as goal
 
 pub loop-reserved-preserved : goal.loop-reserved-preserved
 loop-reserved-preserved c =

@@ -1,6 +1,6 @@
 use Rattle.std.proofs.Common.{◌≡◌, ◌++◌, map, take, drop}
-use Rattle.macsec_reserve.specs.Keeping.{raised_by}
-use Rattle.macsec_reserve.proofs.keeper.raise.Given as goal
+use Rattle.macsec_reserve.specs.Entries.{raised_by}
+use Rattle.macsec_reserve.proofs.entries.raise.Given as goal
 
 -- the entries before the index are raised, and the others are unchanged
 abbrev pub invariant-loop-reserved : goal.invariant-loop-reserved

@@ -12,23 +12,26 @@ use Rattle.macsec_suite.specs.KeyRows.{AreKeyRows, InstalledKey, key_row, max_ke
 use Rattle.macsec_reserve.specs.declared.keeper.NamedKey.{NamedKey}
 use Rattle.macsec_reserve.specs.declared.reservation.Reservation.{Reservation}
 use Rattle.macsec_reserve.specs.Journal.{highest, sending_name}
-use Rattle.macsec_reserve.specs.Keeping.{for_each_key, nothing_yet, raised_by}
+use Rattle.macsec_reserve.specs.Entries.{raised_by}
+use Rattle.macsec_reserve.specs.Keeping.{for_each_key, nothing_yet}
 use Rattle.macsec_reserve.specs.Names.{HasNames, entry_of, named}
 use Rattle.macsec_reserve.proofs.HighestOf.{highest-append, highest_of_one}
 
 -- ---- what they reserve
 
-nothing_reserved : (keys : List InstalledKey) (name : List ℕ) → highest (map nothing_yet keys) name ≡ 0
-nothing_reserved [] name = refl
-nothing_reserved (k ∷ ks) name = by_name (same_octets (sending_name k.bytes) name) (nothing_reserved ks name)
+nothing_reserved : (salt : List ℕ) (keys : List InstalledKey) (name : List ℕ) → highest (map (nothing_yet salt) keys) name ≡ 0
+nothing_reserved salt [] name = refl
+nothing_reserved salt (k ∷ ks) name = by_name (same_octets (sending_name salt k.bytes) name) (nothing_reserved salt ks name)
   where
-    by_name : (b : Bool) → highest (map nothing_yet ks) name ≡ 0 → (if b then max 0 (highest (map nothing_yet ks) name) else highest (map nothing_yet ks) name) ≡ 0
+    by_name : (b : Bool) → highest (map (nothing_yet salt) ks) name ≡ 0 →
+        (if b then max 0 (highest (map (nothing_yet salt) ks) name) else highest (map (nothing_yet salt) ks) name) ≡ 0
     by_name true none = omega (arith, none)
     by_name false none = none
 
-pub for_each_key_reserves : (granted : List Reservation) (keys : List InstalledKey) (name : List ℕ) → highest (for_each_key granted keys) name ≡ highest granted name
-for_each_key_reserves granted keys name =
-    omega (arith, highest-append granted (map nothing_yet (drop (length granted) keys)) name, nothing_reserved (drop (length granted) keys) name)
+pub for_each_key_reserves : (salt : List ℕ) (granted : List Reservation) (keys : List InstalledKey) (name : List ℕ) →
+    highest (for_each_key salt granted keys) name ≡ highest granted name
+for_each_key_reserves salt granted keys name =
+    omega (arith, highest-append granted (map (nothing_yet salt) (drop (length granted) keys)) name, nothing_reserved salt (drop (length granted) keys) name)
 
 one_more : (last later before after r : ℕ) (b : Bool) → last ≤ later → (b ≡ true → later ≤ max last r) → before ≤ after → after ≤ max before r →
     ((if b then max last before else before) ≤ (if b then max later after else after)) × ((if b then max later after else after) ≤ max (if b then max last before else before) r)
@@ -54,16 +57,16 @@ raised_reserves r (g ∷ gs) name = by_own (same_octets g.name r.name) refl (rai
 
 -- ---- beside the names
 
-of_named : (n : ℕ) (keys : List InstalledKey) → map entry_of (drop n (map named keys)) ≡ map nothing_yet (drop n keys)
-of_named zero [] = refl
-of_named zero (k ∷ ks) = ap (λ entries. nothing_yet k ∷ entries) (of_named zero ks)
-of_named (suc n) [] = refl
-of_named (suc n) (k ∷ ks) = of_named n ks
+of_named : (salt : List ℕ) (n : ℕ) (keys : List InstalledKey) → map entry_of (drop n (map (named salt) keys)) ≡ map (nothing_yet salt) (drop n keys)
+of_named salt zero [] = refl
+of_named salt zero (k ∷ ks) = ap (λ entries. nothing_yet salt k ∷ entries) (of_named salt zero ks)
+of_named salt (suc n) [] = refl
+of_named salt (suc n) (k ∷ ks) = of_named salt n ks
 
-pub entries_of_names : (granted : List Reservation) (keys : List InstalledKey) (names : List NamedKey) → HasNames keys names →
-    granted ++ map entry_of (drop (length granted) names) ≡ for_each_key granted keys
-entries_of_names granted keys names are =
-    ap (λ ns. granted ++ map entry_of (drop (length granted) ns)) (sym are) ∙ ap (λ entries. granted ++ entries) (of_named (length granted) keys)
+pub entries_of_names : (salt : List ℕ) (granted : List Reservation) (keys : List InstalledKey) (names : List NamedKey) → HasNames salt keys names →
+    granted ++ map entry_of (drop (length granted) names) ≡ for_each_key salt granted keys
+entries_of_names salt granted keys names are =
+    ap (λ ns. granted ++ map entry_of (drop (length granted) ns)) (sym are) ∙ ap (λ entries. granted ++ entries) (of_named salt (length granted) keys)
 
 pub entry_more : (old now next : List Reservation) (names : List NamedKey) (i : ℕ) (d : NamedKey) → i < length names → now ≡ old ++ map entry_of (take i names) →
     next ≡ now ++ entry_of (get_or names i d) ∷ [] → next ≡ old ++ map entry_of (take (i + 1) names)
@@ -101,8 +104,8 @@ numbers_below : (rows : List InstalledKey) → AreKeyRows rows → (q : ℕ) →
 numbers_below [] are q any = cc
 numbers_below (row ∷ rows) are q any = below_from_among q row.number max_key_count (list_any (eqb q) (numbers_of rows)) are.0.number (λ e. numbers_below rows are.2 q e) any
 
-pub names_fit : (keys : List InstalledKey) (names : List NamedKey) (room : ℕ) → AreKeyRows keys → HasNames keys names → max_key_count ≤ room → length names ≤ room
-names_fit keys names room are is within =
+pub names_fit : (salt : List ℕ) (keys : List InstalledKey) (names : List NamedKey) (room : ℕ) → AreKeyRows keys → HasNames salt keys names → max_key_count ≤ room → length names ≤ room
+names_fit salt keys names room are is within =
     let fits : length (numbers_of keys) ≤ max_key_count = length-le_from_distinct_below (numbers_of keys) max_key_count (numbers_distinct keys are) (numbers_below keys are) in
-    let count : length (map named keys) ≡ length names = ap length is in
-    omega (arith, fits, count, length-map keys named, length-map keys (λ (row : InstalledKey). row.number), within)
+    let count : length (map (named salt) keys) ≡ length names = ap length is in
+    omega (arith, fits, count, length-map keys (named salt), length-map keys (λ (row : InstalledKey). row.number), within)
