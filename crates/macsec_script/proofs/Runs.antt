@@ -1,7 +1,8 @@
 -- The loop over the lines of a script: what was written, and the world after them.
 use Rattle.std.proofs.Common.{◌≡◌, ℕ, ◌+◌, ◌<◌, List, [], ◌∷◌, ◌++◌, take, drop, get_or, length, refl, sym, ◌∙◌, ap, subst, append_assoc, append-nil}
 use Rattle.std.proofs.lemmas.List.{drop_more, take_more, take-append-drop}
-use Rattle.std.specs.Prelude.{MatchResult, OnErr, OnOk, Option, Result, Ok, Err}
+use Rattle.std.specs.Prelude.{MatchResult, OnErr, OnOk, Option, None, Result, Ok, Err}
+use Rattle.std.specs.Io.{StartsWith}
 use Rattle.std.specs.Io.KnownBytes.{Appends}
 use Rattle.std.proofs.KnownBytes.{Appends-kept, Appends-nil, Appends-trans, starts_with_rest}
 use Rattle.std.proofs.Transfers.{starts_with_of_append}
@@ -17,7 +18,7 @@ use Rattle.macsec_script_parser.specs.declared.faults.ScriptFault.{ScriptFault}
 use Rattle.macsec_script_parser.specs.declared.faults.ScriptFault.TheVariants.{Memory, Write}
 use Rattle.macsec_script_parser.specs.Scripts.{NumberedLine}
 use Rattle.macsec_script.specs.Printed.{line_step, text_from}
-use Rattle.macsec_script.specs.Promised.{IsPromisedBefore, LeavesAll, StaysSoundUpTo, event_of, events_of, text_after}
+use Rattle.macsec_script.specs.Promised.{IsPromisedBefore, IsSoundUpTo, LeavesAll, UnlessMemory, event_of, events_of, text_after}
 use Rattle.macsec_script.specs.Runs.{WritesText}
 use Rattle.macsec_script.proofs.TextOfWorlds.{events_with, text_of_worlds, text_with, world_with}
 
@@ -64,12 +65,16 @@ with_line law start before entry old mid new w after adds same keeps so_far =
           (stays_with law start (events_of before) entry.0 entry.1 (subst IsSound after_is (keeps (so_far.sound sound))) (so_far.stays sound));
     }
 
+-- the first i + 1 lines
+take_next : (lines : List NumberedLine) (i : ℕ) (entry : NumberedLine) → entry ≡ get_or lines i entry → i < length lines → take (i + 1) lines ≡ take i lines ++ entry ∷ []
+take_next lines i entry item within = take_more lines i entry within ∙ ap (λ x. take i lines ++ x ∷ []) (sym item)
+
 -- the first i + 1 lines were carried out
 pub one_more : StepIsSound → (start : WorldState) (lines : List NumberedLine) (i : ℕ) (entry : NumberedLine) (old mid new : Option (List ℕ)) (w after : WorldState) →
     entry ≡ get_or lines i entry → i < length lines → Appends mid new (line_step w entry.0 entry.1).0 → after ≡ (line_step w entry.0 entry.1).1 →
     (IsSound w → IsSound after) → CarriedOut start (take i lines) old mid w → CarriedOut start (take (i + 1) lines) old new after
 one_more law start lines i entry old mid new w after item within adds same keeps so_far =
-    subst (λ before. CarriedOut start before old new after) (sym (take_more lines i entry within ∙ ap (λ x. take i lines ++ x ∷ []) (sym item)))
+    subst (λ before. CarriedOut start before old new after) (sym (take_next lines i entry item within))
     (with_line law start (take i lines) entry old mid new w after adds same keeps so_far)
 
 -- ---- printing a line fails
@@ -79,6 +84,13 @@ lines_at : (lines : List NumberedLine) (i : ℕ) (entry : NumberedLine) → entr
 lines_at lines i entry item within =
     sym (take-append-drop i lines) ∙ ap (λ rest. take i lines ++ rest) (drop_more lines i entry within ∙ ap (λ e. e ∷ drop (i + 1) lines) (sym item))
 
+-- a prefix of the line's text, and the rest of it
+cut_piece : (start : WorldState) (before : List NumberedLine) (entry : NumberedLine) (old mid : Option (List ℕ)) (w : WorldState) (front : List ℕ) →
+    CarriedOut start before old mid w → StartsWith (line_step w entry.0 entry.1).0 front →
+    text_after start before entry ≡ front ++ drop (length front) (line_step w entry.0 entry.1).0
+cut_piece start before entry old mid w front so_far begins =
+    ap (λ v. (line_step v entry.0 entry.1).0) (sym so_far.world) ∙ starts_with_rest (line_step w entry.0 entry.1).0 front begins
+
 -- the lines before it were printed, and a prefix of its own text
 cut_at : (start : WorldState) (lines : List NumberedLine) (i : ℕ) (entry : NumberedLine) (old mid new : Option (List ℕ)) (w : WorldState) →
     entry ≡ get_or lines i entry → i < length lines → CarriedOut start (take i lines) old mid w →
@@ -86,14 +98,11 @@ cut_at : (start : WorldState) (lines : List NumberedLine) (i : ℕ) (entry : Num
 cut_at start lines i entry old mid new w item within so_far (front, begins, adds) =
     let before = text_from start (take i lines) in
     let after = text_from (world_after start (events_of (take i lines ++ entry ∷ []))) (drop (i + 1) lines) in
-    let piece = (line_step w entry.0 entry.1).0 in
-    let rest = drop (length front) piece in
-    let piece_is : text_after start (take i lines) entry ≡ front ++ rest =
-    ap (λ v. (line_step v entry.0 entry.1).0) (sym so_far.world) ∙ starts_with_rest piece front begins in
+    let rest = drop (length front) (line_step w entry.0 entry.1).0 in
     let whole_is : text_from start lines ≡ (before ++ front) ++ (rest ++ after) =
     ap (text_from start) (lines_at lines i entry item within)
     ∙ text_of_worlds start (take i lines) entry (drop (i + 1) lines)
-    ∙ ap (λ p. before ++ (p ++ after)) piece_is
+    ∙ ap (λ p. before ++ (p ++ after)) (cut_piece start (take i lines) entry old mid w front so_far begins)
     ∙ ap (λ more. before ++ more) (append_assoc front rest after) ∙ sym (append_assoc before front (rest ++ after)) in (
       before ++ front,
       starts_with_of_append (text_from start lines) (before ++ front) (rest ++ after) whole_is,
@@ -107,15 +116,51 @@ given_up start lines i entry old mid new w item within so_far Memory h = cut_at 
 given_up start lines i entry old mid new w item within so_far Write h = cut_at start lines i entry old mid new w item within so_far h
 given_up start lines i entry old mid new w item within so_far other h = h
 
--- memory runs out at a line: the text of the lines before it was written
-pub sound_before : (start : WorldState) (lines : List NumberedLine) (i : ℕ) (old mid new : Option (List ℕ)) (w : WorldState) →
-    CarriedOut start (take i lines) old mid w → (f : ScriptFault) → LeavesAll mid new f → IsPromisedBefore (StaysSoundUpTo start lines) old new f
-sound_before start lines i old mid new w so_far Memory kept =
+-- a write fails in a line: the lines before it were printed, and a prefix of its own text, and it was carried out
+cut_into : StepIsSound → (start : WorldState) (lines : List NumberedLine) (i : ℕ) (entry : NumberedLine) (old mid new : Option (List ℕ)) (w after : WorldState) →
+    entry ≡ get_or lines i entry → i < length lines → CarriedOut start (take i lines) old mid w → AppendsFront mid new (line_step w entry.0 entry.1).0 →
+    after ≡ (line_step w entry.0 entry.1).1 → (IsSound w → IsSound after) → IsPromisedBefore (IsSoundUpTo start after lines) old new Write
+cut_into law start lines i entry old mid new w after item within so_far (front, begins, adds) same keeps =
+    let before = text_from start (take i lines) in
+    let rest = drop (length front) (line_step w entry.0 entry.1).0 in
+    let whole_is : text_from start (take (i + 1) lines) ≡ (before ++ front) ++ rest =
+    ap (text_from start) (take_next lines i entry item within)
+    ∙ text_with start (take i lines) entry
+    ∙ ap (λ p. before ++ p) (cut_piece start (take i lines) entry old mid w front so_far begins)
+    ∙ sym (append_assoc before front rest) in
+    let unseen : CarriedOut start (take i lines) None None w = record { written = tt; world = so_far.world; sound = so_far.sound; stays = so_far.stays } in
+    let next : CarriedOut start (take (i + 1) lines) None None after = one_more law start lines i entry None None None w after item within tt same keeps unseen in (
+      before ++ front,
+      record {
+        count = i;
+        within = within;
+        whole = starts_with_of_append (before ++ front) before front refl;
+        front = starts_with_of_append (text_from start (take (i + 1) lines)) (before ++ front) rest whole_is;
+        world = next.world;
+        sounds = next.stays;
+      },
+      Appends-trans old mid new before front so_far.written adds,
+    )
+
+-- memory runs out at a line: the text of the lines before it was written; or a write fails in it
+pub sound_before : StepIsSound → (start : WorldState) (lines : List NumberedLine) (i : ℕ) (entry : NumberedLine) (old mid new : Option (List ℕ)) (w after : WorldState) →
+    entry ≡ get_or lines i entry → i < length lines → CarriedOut start (take i lines) old mid w → (f : ScriptFault) →
+    WritesText (line_step w entry.0 entry.1).0 mid new (Err f) → LeavesAll mid new f → UnlessMemory (Err f) (after ≡ (line_step w entry.0 entry.1).1) →
+    (IsSound w → IsSound after) → IsPromisedBefore (IsSoundUpTo start after lines) old new f
+sound_before law start lines i entry old mid new w after item within so_far Memory writes kept same keeps =
     let text = text_from start (take i lines) in
     (text, record { count = i; written = refl; sounds = so_far.stays }, Appends-kept old mid new text so_far.written kept)
-sound_before start lines i old mid new w so_far other kept = tt
+sound_before law start lines i entry old mid new w after item within so_far Write writes kept same keeps =
+    cut_into law start lines i entry old mid new w after item within so_far writes same keeps
+sound_before law start lines i entry old mid new w after item within so_far other writes kept same keeps = tt
 
 -- ---- printing a line
+
+-- a line that was carried out, whatever its write returned
+pub carried_out : (answer : Result (Unit {0}) ScriptFault) (Holds : Type 0) → Holds → UnlessMemory answer Holds
+carried_out (Ok done) Holds holds = holds
+carried_out (Err Memory) Holds holds = tt
+carried_out (Err other) Holds holds = holds
 
 -- nothing was written
 pub none_written : (text : Option (List ℕ)) (whole : List ℕ) → AppendsFront text text whole

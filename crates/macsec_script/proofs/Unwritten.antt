@@ -8,7 +8,7 @@ use Rattle.macsec_script_parser.specs.declared.faults.ScriptFault.TheVariants.{M
 use Rattle.macsec_script_parser.specs.Fields.{map_ok}
 use Rattle.macsec_script_parser.specs.Scripts.{NumberedLine, script_of}
 use Rattle.macsec_script.specs.Printed.{printed_text, text_of}
-use Rattle.macsec_script.specs.Runs.{IsBegun, LeavesText, RunGives, WritesText}
+use Rattle.macsec_script.specs.Runs.{IsAfterRead, IsBegun, LeavesText, RunGives, WritesText}
 use Rattle.macsec_script_parser.specs.Readings.{Parses}
 
 -- the empty text is a prefix of every text
@@ -67,3 +67,13 @@ only_written whole old new (Ok done) h = tt
 only_written whole old new (Err Memory) h = tt
 only_written whole old new (Err Write) h = tt
 only_written whole old new (Err other) h = absurd h
+
+-- neither parsing nor printing reads
+pub parsed_after : (meant : Result (List NumberedLine) ScriptFault) (f : ScriptFault) → Parses meant (Err f) → IsAfterRead f
+parsed_after meant Read h = absurd h
+parsed_after meant other h = tt
+
+pub printed_after : (whole : List ℕ) (old new : Option (List ℕ)) (answer : Result (Unit {0}) ScriptFault) → WritesText whole old new answer → IfErr answer IsAfterRead
+printed_after whole old new (Ok done) h = tt
+printed_after whole old new (Err Read) h = absurd h
+printed_after whole old new (Err other) h = tt

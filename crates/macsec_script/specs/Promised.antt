@@ -1,5 +1,6 @@
 -- The four promises, on the run of a script's two ends over the events of its lines.
-use Rattle.std.specs.Prelude.{◌≡◌, ◌⊎◌, ℕ, List, [], ◌∷◌, ◌++◌, take, IfOk, IfSome, IsSome, Option, Ok}
+use Rattle.std.specs.Prelude.{◌≡◌, ◌<◌, ◌+◌, ◌⊎◌, ℕ, List, [], ◌∷◌, ◌++◌, length, take, IfOk, IfSome, IsSome, Option, Result, Ok, Err}
+use Rattle.std.specs.Io.{StartsWith}
 use Rattle.std.specs.Io.KnownBytes.{Appends, Keeps}
 use Rattle.macsec_commands.specs.declared.event.Event.{Event}
 use Rattle.macsec_link.specs.World.{WorldState}
@@ -10,7 +11,7 @@ use Rattle.macsec_link.specs.Promises.{KeepsPromises}
 use Rattle.macsec_script_parser.specs.declared.lines.Line.{Line}
 use Rattle.macsec_script_parser.specs.declared.lines.Line.TheVariants as line
 use Rattle.macsec_script_parser.specs.declared.faults.ScriptFault.{ScriptFault}
-use Rattle.macsec_script_parser.specs.declared.faults.ScriptFault.TheVariants.{Memory}
+use Rattle.macsec_script_parser.specs.declared.faults.ScriptFault.TheVariants.{Memory, Write}
 use Rattle.macsec_script_parser.specs.Scripts.{NumberedLine, script_of}
 use Rattle.macsec_script.specs.Printed.{line_step, text_from, text_of, two_ends}
 
@@ -32,24 +33,36 @@ ArePromised lines = IfSome (two_ends lines) (λ run. KeepsPromises run.0 run.1 (
 abbrev pub IsPromised : List ℕ → Type 0
 IsPromised script = IfOk (script_of script) ArePromised
 
--- ---- a run that ends early, out of memory
+-- ---- a run that ends early: out of memory, or at a failed write
 
 -- out of memory: nothing was written
 abbrev pub LeavesAll : Option (List ℕ) → Option (List ℕ) → ScriptFault → Type 0
 LeavesAll old new Memory = Keeps old new
 LeavesAll old new other = Unit {0}
 
--- the text is all that the first n lines print, and the promises hold of those lines
-abbrev pub ArePromisedUpTo : List NumberedLine → List ℕ → Type 0
-ArePromisedUpTo lines text = (n : ℕ) × (text ≡ text_of (take n lines)) × ArePromised (take n lines)
+-- this holds, unless memory ran out
+abbrev pub UnlessMemory : Result (Unit {0}) ScriptFault → Type 0 → Type 0
+UnlessMemory (Err Memory) Holds = Unit {0}
+UnlessMemory other Holds = Holds
+
+-- out of memory: the text is all that the first n lines print, and the promises hold of those lines. At a failed write:
+-- the text has all that the first n lines print, and at most what the first n + 1 lines print, and the promises hold of
+-- those n + 1 lines
+abbrev pub ArePromisedUpTo : List NumberedLine → ScriptFault → List ℕ → Type 0
+ArePromisedUpTo lines Memory text = (n : ℕ) × (text ≡ text_of (take n lines)) × ArePromised (take n lines)
+ArePromisedUpTo lines Write text =
+    (n : ℕ) × (n < length lines) × StartsWith text (text_of (take n lines)) × StartsWith (text_of (take (n + 1) lines)) text
+    × ArePromised (take (n + 1) lines)
+ArePromisedUpTo lines other text = Unit {0}
 
 -- the same for a script, if it has no fault
-abbrev pub IsPromisedUpTo : List ℕ → List ℕ → Type 0
-IsPromisedUpTo script text = IfOk (script_of script) (λ lines. ArePromisedUpTo lines text)
+abbrev pub IsPromisedUpTo : List ℕ → ScriptFault → List ℕ → Type 0
+IsPromisedUpTo script fault text = IfOk (script_of script) (λ lines. ArePromisedUpTo lines fault text)
 
--- out of memory: this holds of the text that was written
-abbrev pub IsPromisedBefore : (List ℕ → Type 0) → Option (List ℕ) → Option (List ℕ) → ScriptFault → Type 0
-IsPromisedBefore Holds old new Memory = (text : List ℕ) × Holds text × Appends old new text
+-- out of memory or at a failed write: this holds of the text that was written
+abbrev pub IsPromisedBefore : (ScriptFault → List ℕ → Type 0) → Option (List ℕ) → Option (List ℕ) → ScriptFault → Type 0
+IsPromisedBefore Holds old new Memory = (text : List ℕ) × Holds Memory text × Appends old new text
+IsPromisedBefore Holds old new Write = (text : List ℕ) × Holds Write text × Appends old new text
 IsPromisedBefore Holds old new other = Unit {0}
 
 -- the text is all that the first lines print from this world on, and the world stays sound over their events
@@ -57,6 +70,22 @@ pub record StaysSoundUpTo (w : WorldState) (lines : List NumberedLine) (text : L
   pub count : ℕ
   pub written : text ≡ text_from w (take count lines)
   pub sounds : IsSound w → StaysSound w (events_of (take count lines))
+
+-- a write failed in the line after the first ones: the text has all that these print, and at most what that line adds.
+-- That line was the last one carried out, and the world stays sound over the events up to it
+pub record StaysSoundInto (w after : WorldState) (lines : List NumberedLine) (text : List ℕ) : Type 0 where
+  pub count : ℕ
+  pub within : count < length lines
+  pub whole : StartsWith text (text_from w (take count lines))
+  pub front : StartsWith (text_from w (take (count + 1) lines)) text
+  pub world : after ≡ world_after w (events_of (take (count + 1) lines))
+  pub sounds : IsSound w → StaysSound w (events_of (take (count + 1) lines))
+
+-- `after` is the world in which the run ended
+abbrev pub IsSoundUpTo : WorldState → WorldState → List NumberedLine → ScriptFault → List ℕ → Type 0
+IsSoundUpTo w after lines Memory text = StaysSoundUpTo w lines text
+IsSoundUpTo w after lines Write text = StaysSoundInto w after lines text
+IsSoundUpTo w after lines other text = Unit {0}
 
 -- ---- how the text depends on those events
 

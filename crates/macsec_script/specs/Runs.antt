@@ -28,6 +28,11 @@ RunGives script old new (Err Read) = Keeps old new
 RunGives script old new (Err Write) = (whole : List ℕ) × (printed_text script ≡ Ok whole) × AppendsFront old new whole
 RunGives script old new (Err fault) = (printed_text script ≡ Err fault) × Keeps old new
 
+-- a fault of a run by octets that were read: no read fails
+abbrev pub IsAfterRead : ScriptFault → Type 0
+IsAfterRead Read = ⊥
+IsAfterRead other = Unit {0}
+
 -- every fault but Memory and Write comes before anything is written
 abbrev pub LeavesText : Option (List ℕ) → Option (List ℕ) → ScriptFault → Type 0
 LeavesText old new Memory = Unit {0}

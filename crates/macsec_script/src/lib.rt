@@ -6,8 +6,8 @@
 //!   For a script with a fault, `run_text` returns that fault or `Memory`.
 //! - `Memory`: what was written is all that the first lines print, perhaps no line or every one, and the four promises
 //!   hold of these lines (`promised_before`). Nothing was written if the script has a fault.
-//! - `Write`: the script has no fault, and what was written is a prefix of what `printed_text` gives, possibly empty or
-//!   all of it.
+//! - `Write`: the script has no fault. What was written is all that the first lines print, and a prefix of what the
+//!   next line prints. The promises hold of these lines and that one (`promised_before`).
 //!
 //! Over any writer: with `Ok`, the four promises hold of the run of the script's two ends over the events of all its
 //! lines (`promised`). `run_script` is `read_text`, then `run_text`. Of it the same is proved for all that the reader

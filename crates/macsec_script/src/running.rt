@@ -7,8 +7,8 @@ ghost use Rattle.macsec_link.specs.Answers.{make_fault};
 ghost use Rattle.macsec_script_parser.specs.declared.lines.Line.TheVariants as line;
 ghost use Rattle.macsec_script_parser.specs.Scripts.{a_config, b_config};
 ghost use Rattle.macsec_script.specs.Printed.{two_ends, frame_made, line_step, text_from, text_of};
-ghost use Rattle.macsec_script.specs.Promised.{ArePromised, ArePromisedUpTo, IsPromised, IsPromisedBefore, IsPromisedUpTo, LeavesAll, StaysSoundUpTo, events_of};
-ghost use Rattle.macsec_script.specs.Runs.{LeavesText, RunGives, WritesText};
+ghost use Rattle.macsec_script.specs.Promised.{ArePromised, ArePromisedUpTo, IsPromised, IsPromisedBefore, IsPromisedUpTo, IsSoundUpTo, LeavesAll, UnlessMemory, events_of};
+ghost use Rattle.macsec_script.specs.Runs.{IsAfterRead, LeavesText, RunGives, WritesText};
 ghost use Rattle.macsec_script_printer.specs.Printing.{Prints};
 
 use macsec_link::laws::{promises, worlds_are_sound};
@@ -41,11 +41,13 @@ pub fn run_script<R: Read, W: Write>(
 /// script's first fault, having written nothing, or `Memory` or `Write`.
 pub fn run_text<W: Write>(alloc: Global, writer: &mut W, script: &[u8]) -> Result<(), ScriptFault>
     ensures run { RunGives script.now (W.contents writer.old) (W.contents writer.new) result }
+    ensures read { IfErr result IsAfterRead }
     ensures unwritten { IfErr result (λ fault. LeavesText (W.contents writer.old) (W.contents writer.new) fault) }
     // The four promises hold of the run of the script's two ends over the events of its lines. The text shows the
     // worlds of that run (`laws::prints_of_worlds`).
     ensures promised { OnOk result (IsPromised script.now) }
-    // If memory runs out, what was written is all that the first lines print, and the same holds of these lines.
+    // If memory runs out, what was written is all that the first lines print, and the same holds of these lines. If a
+    // write fails, what was written ends in the text of one line, and the same holds of the lines up to that one.
     ensures promised_before { IfErr result (λ fault. IsPromisedBefore (IsPromisedUpTo script.now) (W.contents writer.old) (W.contents writer.new) fault) }
 {
     // A law that the proof cites.
@@ -119,7 +121,7 @@ fn print_lines<W: Write>(
 ) -> Result<(), ScriptFault>
     ensures text { WritesText (text_from world.old lines.now) (W.contents writer.old) (W.contents writer.new) result }
     ensures sound { OnOk result (IsSound world.old → StaysSound world.old (events_of lines.now)) }
-    ensures sound_before { IfErr result (λ fault. IsPromisedBefore (StaysSoundUpTo world.old lines.now) (W.contents writer.old) (W.contents writer.new) fault) }
+    ensures sound_before { IfErr result (λ fault. IsPromisedBefore (IsSoundUpTo world.old world.new lines.now) (W.contents writer.old) (W.contents writer.new) fault) }
 {
     // A law that the proof cites.
     worlds_are_sound();
@@ -140,7 +142,8 @@ fn print_line<W: Write>(
 ) -> Result<(), ScriptFault>
     ensures text { WritesText (line_step world.old n line.now).0 (W.contents writer.old) (W.contents writer.new) result }
     ensures unwritten { IfErr result (λ fault. LeavesAll (W.contents writer.old) (W.contents writer.new) fault) }
-    ensures world { OnOk result (world.new ≡ (line_step world.old n line.now).1) }
+    // Also if the write fails.
+    ensures world { UnlessMemory result (world.new ≡ (line_step world.old n line.now).1) }
     ensures sound { IsSound world.old → IsSound world.new }
 {
     room.clear();

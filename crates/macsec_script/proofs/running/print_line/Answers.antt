@@ -1,6 +1,7 @@
--- Of a line whose text could not be composed nothing was written, and of any other what was written of its text.
+-- Of a line whose text could not be composed nothing was written, and of any other what was written of its text. The
+-- write does not change the world.
 use Rattle.std.proofs.Common.{rules}
-use Rattle.macsec_script.proofs.Runs.{line_written, none_written}
+use Rattle.macsec_script.proofs.Runs.{carried_out, line_written, none_written}
 use Rattle.macsec_script.proofs.running.print_line.Goals as goal
 
 pub returns-then-is_err-clause-text : goal.returns-then-is_err-clause-text
@@ -10,3 +11,9 @@ pub returns-clause-text : goal.returns-clause-text
 returns-clause-text g c =
     line_written _ _ _ _ c.write_octets-written.result c.write_fault.result (search rules) c.write_octets-written.ensures.whole
     c.write_octets-written.ensures.cut c.write_fault.ensures
+
+pub returns-clause-world : goal.returns-clause-world
+returns-clause-world g c = carried_out c.write_fault.result _ (search rules)
+
+pub returns-clause-sound : goal.returns-clause-sound
+returns-clause-sound g c = c.show.ensures.sound

@@ -27,7 +27,10 @@ returns-in_err-print_line-clause-text g c =
 pub returns-in_err-print_line-clause-sound_before : goal.returns-in_err-print_line-clause-sound_before
 returns-in_err-print_line-clause-sound_before g c =
     let p = err_from_is_err_and c.from_residual.result c.from_residual.ensures.1 in
-    rw (p.1, p.2) (sound_before c.args.world.now c.args.lines.now c.loop-n.n-index _ _ _ _ c.loop-n.invariant _ c.in_err-print_line.ensures.unwritten)
+    let it = c.in_err-print_line.ensures in
+    rw (p.1, p.2)
+    (sound_before c.worlds_are_sound.ensures.step c.args.world.now c.args.lines.now c.loop-n.n-index _ _ _ _ _ _ c.loop-n-item.is (omega arith)
+    c.loop-n.invariant _ it.text it.unwritten it.world it.sound)
 
 pub returns-clause-text : goal.returns-clause-text
 returns-clause-text g c =

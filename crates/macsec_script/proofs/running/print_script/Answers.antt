@@ -7,5 +7,5 @@ returns-clause-promised g c =
 
 pub returns-clause-promised_before : goal.returns-clause-promised_before
 returns-clause-promised_before g c =
-    lines_before c.promises.ensures c.args.lines.now _ _ _ _ c.in-Some.ensures c.in-Ok.ensures.made.1 c.in-Ok.ensures.sound _ _ c.print_lines.result
+    lines_before c.promises.ensures c.args.lines.now _ _ _ _ _ c.in-Some.ensures c.in-Ok.ensures.made.1 c.in-Ok.ensures.sound _ _ c.print_lines.result
     c.print_lines.ensures.sound_before

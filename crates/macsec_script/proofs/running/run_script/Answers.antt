@@ -17,4 +17,4 @@ returns-clause-promised_before g c =
 pub returns-in_err-text-clause-promised_before : goal.returns-in_err-text-clause-promised_before
 returns-in_err-text-clause-promised_before g c =
     let p = err_from_is_err_and c.from_residual.result c.from_residual.ensures.1 in
-    rw p.1 (nothing_read _ _ _)
+    rw (p.1, p.2) (nothing_read _ _ _ c.in_err-text.ensures.fits)

@@ -5,13 +5,21 @@ use Rattle.std.proofs.lemmas.Result.{err_from_is_err_and}
 use Rattle.macsec_script_parser.specs.declared.script.Place.TheVariants.{EndA}
 use Rattle.macsec_script.proofs.GoodEnds.{script_ends_good}
 use Rattle.macsec_script.proofs.Promised.{nothing_before, text_before, text_promised}
-use Rattle.macsec_script.proofs.Unwritten.{after_running, at_fault, left_alone, only_written}
+use Rattle.macsec_script.proofs.Unwritten.{after_running, at_fault, left_alone, only_written, parsed_after, printed_after}
 use Rattle.macsec_script.proofs.running.run_text.Goals as goal
 
 pub returns-in_err-lines-clause-run : goal.returns-in_err-lines-clause-run
 returns-in_err-lines-clause-run g c =
     let p = err_from_is_err_and c.from_residual.result c.from_residual.ensures.1 in
     rw (p.1, p.2) (at_fault c.args.script.now _ _ (Keeps-refl _) _ c.in_err-lines.ensures)
+
+pub returns-in_err-lines-clause-read : goal.returns-in_err-lines-clause-read
+returns-in_err-lines-clause-read g c =
+    let p = err_from_is_err_and c.from_residual.result c.from_residual.ensures.1 in
+    rw (p.1, p.2) (parsed_after _ _ c.in_err-lines.ensures)
+
+pub returns-clause-read : goal.returns-clause-read
+returns-clause-read g c = printed_after _ _ _ c.print_script.result c.print_script.ensures.text
 
 pub returns-in_err-lines-clause-unwritten : goal.returns-in_err-lines-clause-unwritten
 returns-in_err-lines-clause-unwritten g c =
@@ -21,7 +29,7 @@ returns-in_err-lines-clause-unwritten g c =
 pub returns-in_err-lines-clause-promised_before : goal.returns-in_err-lines-clause-promised_before
 returns-in_err-lines-clause-promised_before g c =
     let p = err_from_is_err_and c.from_residual.result c.from_residual.ensures.1 in
-    rw p.1 (nothing_before c.args.script.now _ _)
+    rw (p.1, p.2) (nothing_before c.args.script.now _ _ c.in_err-lines.ensures)
 
 pub returns-clause-run : goal.returns-clause-run
 returns-clause-run g c =
