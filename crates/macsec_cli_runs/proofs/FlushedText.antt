@@ -1,14 +1,14 @@
 -- The contract of a script's run still holds after its text is flushed, and of some text if the reader's is not known.
-use Rattle.std.proofs.Common.{◌≡◌, ◌≤◌, inr, ℕ, List, [], append-nil, length, sym, subst}
+use Rattle.std.proofs.Common.{◌≡◌, ◌≤◌, inl, inr, ℕ, List, [], append-nil, length, sym, subst}
 use Rattle.std.specs.Prelude.{IfErr, MatchResult, OnOk, Option, Result, Ok, Err}
 use Rattle.std.specs.Io.KnownBytes.{Keeps}
 use Rattle.std.proofs.KnownBytes.{Appends-kept, Keeps-trans}
 use Rattle.std.proofs.Transfers.{starts_with_of_append}
 use Rattle.macsec_script_parser.specs.declared.faults.ScriptFault.{ScriptFault}
 use Rattle.macsec_script_parser.specs.declared.faults.ScriptFault.TheVariants.{Memory, Read, Write}
-use Rattle.macsec_script.specs.Promised.{IsPromised}
+use Rattle.macsec_script.specs.Promised.{IsPromised, IsPromisedBefore, IsPromisedUpTo}
 use Rattle.macsec_script.specs.Runs.{LeavesText, RunGives}
-use Rattle.macsec_cli_runs.specs.SomeText.{RunsSomeText}
+use Rattle.macsec_cli_runs.specs.SomeText.{IsPromisedThen, RunsSomeText}
 
 abbrev Done : Type 0
 Done = Result (Unit {0}) ScriptFault
@@ -51,9 +51,30 @@ flushed_promised P (Ok done) (Ok flush) answer is holds = subst (λ (a : Done). 
 flushed_promised P (Ok done) (Err error) answer is holds = subst (λ (a : Done). OnOk a P) (sym is) tt
 flushed_promised P (Err fault) flush answer is holds = subst (λ (a : Done). OnOk a P) (sym is) tt
 
+before_kept : (P : ScriptFault → List ℕ → Type 0) (old mid new : Option (List ℕ)) → Keeps mid new → (fault : ScriptFault) → IsPromisedBefore P old mid fault →
+    IsPromisedBefore P old new fault
+before_kept P old mid new keeps Memory it = (it.0, it.1, Appends-kept old mid new it.0 it.2 keeps)
+before_kept P old mid new keeps Write it = (it.0, it.1, Appends-kept old mid new it.0 it.2 keeps)
+before_kept P old mid new keeps other it = tt
+
+then_kept : (script : List ℕ) (old mid new : Option (List ℕ)) → Keeps mid new → (fault : ScriptFault) → IsPromisedBefore (IsPromisedUpTo script) old mid fault →
+    IsPromisedThen script old new fault
+then_kept script old mid new keeps Write it = inr (before_kept (IsPromisedUpTo script) old mid new keeps Write it)
+then_kept script old mid new keeps Memory it = before_kept (IsPromisedUpTo script) old mid new keeps Memory it
+then_kept script old mid new keeps other it = tt
+
+-- the promises of a run that ended early, or whose flush failed
+pub flushed_then : {E : Type 0} (script : List ℕ) (old mid new : Option (List ℕ)) → Keeps mid new → (done : Done) (flush : Result (Unit {0}) E) (answer : Done) →
+    Ends done flush answer → OnOk done (IsPromised script) → IfErr done (IsPromisedBefore (IsPromisedUpTo script) old mid) → IfErr answer (IsPromisedThen script old new)
+flushed_then script old mid new keeps (Ok done) (Ok flush) answer is whole before = subst (λ (a : Done). IfErr a (IsPromisedThen script old new)) (sym is) tt
+flushed_then script old mid new keeps (Ok done) (Err error) answer is whole before = subst (λ (a : Done). IfErr a (IsPromisedThen script old new)) (sym is) (inl whole)
+flushed_then script old mid new keeps (Err fault) flush answer is whole before =
+    subst (λ (a : Done). IfErr a (IsPromisedThen script old new)) (sym is) (then_kept script old mid new keeps fault before)
+
 -- the run of the text that was read is the run of some text
 pub of_text : (text lent : List ℕ) (old new : Option (List ℕ)) (answer : Done) → length text ≤ 1048576 → lent ≡ text →
-    RunGives lent old new answer → OnOk answer (IsPromised lent) → RunsSomeText old new answer
-of_text text lent old new (Ok done) fits same gives promised =
+    RunGives lent old new answer → OnOk answer (IsPromised lent) → IfErr answer (IsPromisedThen lent old new) → RunsSomeText old new answer
+of_text text lent old new (Ok done) fits same gives promised before =
     (text, fits, (subst (λ t. RunGives t old new (Ok done)) same gives, subst IsPromised same promised))
-of_text text lent old new (Err fault) fits same gives promised = inr (text, fits, subst (λ t. RunGives t old new (Err fault)) same gives)
+of_text text lent old new (Err fault) fits same gives promised before =
+    inr (text, fits, (subst (λ t. RunGives t old new (Err fault)) same gives, subst (λ t. IsPromisedThen t old new fault) same before))

@@ -4,7 +4,8 @@
 //! Proved, of `run_named`: with the name `-`, over standard input whose octets a contract can name, it returns and
 //! writes what `run_script` may, and after `Ok` the four promises hold of these octets. With another name, standard
 //! input is unchanged. With any name, it returns and writes what `run_text` may of some text of at most 1,048,576
-//! octets, and after `Ok` the promises hold of it; or no text was read completely, and nothing was written.
+//! octets, and the promises hold of it, or up to where memory ran out or a write failed; or no text was read
+//! completely, and nothing was written.
 //! `CannotOpen` has the name that was passed, and then nothing was written. Neither `Usage` nor a fault of a capture
 //! file is returned. With a fault of the script other than `Memory` and `Write` nothing was written.
 //!

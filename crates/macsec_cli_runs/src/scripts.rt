@@ -3,7 +3,7 @@
 ghost use Rattle.std.specs.Prelude.{◌≡◌, ◌≢◌, codes, IfSome, IfErr, MatchResult, OnOk, Ok, Err};
 ghost use Rattle.macsec_script_parser.specs.declared.faults.ScriptFault.TheVariants.{Write};
 ghost use Rattle.macsec_cli_runs.specs.Failures.{FailsAs, LeavesOutput, NamedGives};
-ghost use Rattle.macsec_cli_runs.specs.SomeText.{NamedRunsSomeText, RunsSomeText};
+ghost use Rattle.macsec_cli_runs.specs.SomeText.{IsPromisedThen, NamedRunsSomeText, RunsSomeText};
 ghost use Rattle.macsec_script.specs.Promised.{IsPromised};
 ghost use Rattle.macsec_script.specs.Runs.{LeavesText, RunGives};
 
@@ -33,6 +33,7 @@ fn run_text_and_flush<W: Write>(
     ensures run { RunGives script.now (W.contents writer.old) (W.contents writer.new) result }
     ensures unwritten { IfErr result (λ fault. LeavesText (W.contents writer.old) (W.contents writer.new) fault) }
     ensures promised { OnOk result (IsPromised script.now) }
+    ensures promised_before { IfErr result (IsPromisedThen script.now (W.contents writer.old) (W.contents writer.new)) }
 {
     let done = run_text(alloc, writer, script);
     let flushed = writer.flush();

@@ -23,4 +23,4 @@ returns-clause-promised g c =
 pub returns-clause-some_text : goal.returns-clause-some_text
 returns-clause-some_text g c =
     of_text c.in_ok-text.text.items _ _ _ c.run_text_and_flush.result c.in_ok-text.ensures.fits c.as_slice.ensures.value
-    c.run_text_and_flush.ensures.run c.run_text_and_flush.ensures.promised
+    c.run_text_and_flush.ensures.run c.run_text_and_flush.ensures.promised c.run_text_and_flush.ensures.promised_before
