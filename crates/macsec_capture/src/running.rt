@@ -62,6 +62,9 @@ pub fn run_capture<C: Read, R: Read, W: Write, T: Write>(
 /// and one after each record. With `Pcap(Memory)` and `Pcap(Read)` both writers are at the same stop. With
 /// `Pcap(Write)` the text is at a stop, and the output has all of the stop before it and maybe more of what this one
 /// has. With `Script(Write)` the output is at a stop.
+///
+/// The stop at `Pcap(Read)` is the one after the last record that was read. `run_records` has a clause of this. Here
+/// only the octets that `input` has left could tell which record that is, and `CaptureReader` has no clause on these.
 pub fn run_config<R: Read, W: Write, T: Write>(
     alloc: Global,
     direction: Direction,
