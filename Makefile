@@ -69,7 +69,8 @@ install: build/macsec build/libmacsec.a
 	install -m 644 include/macsec.h "$(DESTDIR)$(PREFIX)/include/macsec.h"
 	install -m 644 build/libmacsec.a build/libmacsec.so.1 "$(DESTDIR)$(PREFIX)/lib"
 	ln -sfn libmacsec.so.1 "$(DESTDIR)$(PREFIX)/lib/libmacsec.so"
-	if [ -f build/$(HWCAPS)/libmacsec.so.1 ]; then \
+	rm -f "$(DESTDIR)$(PREFIX)/lib/$(HWCAPS)/libmacsec.so.1"
+	if [ build/$(HWCAPS)/libmacsec.so.1 -nt build/libmacsec.so.1 ]; then \
 	    install -D -m 644 -t "$(DESTDIR)$(PREFIX)/lib/$(HWCAPS)" build/$(HWCAPS)/libmacsec.so.1; fi
 	sed 's|@PREFIX@|$(PREFIX)|; s|@VERSION@|'"$$(cat VERSION)"'|' include/macsec.pc.in \
 	    > "$(DESTDIR)$(PREFIX)/lib/pkgconfig/macsec.pc"

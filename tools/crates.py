@@ -77,14 +77,43 @@ def kit_id() -> str:
 
 
 @functools.cache
-def sum_of(name: str, is_of_here: bool = True) -> str:
-    """A hash of everything that a library is made from: with where this checkout and the kit are, or without."""
-    below_it = [sum_of(it, is_of_here) for it in own(name)]
-    made = hashlib.sha256(repr([kit_id(), *[KIT] * is_of_here, CRATES[name], *below_it]).encode())
+def sum_of(name: str) -> str:
+    """A hash of everything that a library is made from, the same in every folder: the kit, and the files of the crate
+    and of those below it."""
+    made = hashlib.sha256(repr([kit_id(), CRATES[name], *map(sum_of, own(name))]).encode())
     for path in files(name):
         with open(path, "rb") as it:
-            made.update(repr((path if is_of_here else os.path.relpath(path, ROOT), it.read())).encode())
+            made.update(repr((os.path.relpath(path, ROOT), it.read())).encode())
     return made.hexdigest()
+
+
+def hash_of(path: str) -> str:
+    """The SHA-256 of a file."""
+    with open(path, "rb") as it:
+        return hashlib.sha256(it.read()).hexdigest()
+
+
+def record(path: str, crate: str, run: str) -> str:
+    """What tools/prove writes beside a program or a library when it is built: which run proved its crates, its own
+    hash, and those of what its crates are made from."""
+    lines = [run, f"{hash_of(path)} {os.path.basename(path)}"]
+    return "\n".join([*lines, *(f"{sum_of(it)} {it}" for it in (*below(crate), crate))]) + "\n"
+
+
+def record_file(path: str) -> str:
+    """Where that is."""
+    return f"{path}.proved"
+
+
+def proved_by(path: str, crate: str) -> "str | None":
+    """The run that proved the crates of a program or a library; None if it is not there as it was built of the files
+    that are here."""
+    if not os.path.isfile(path) or not os.path.isfile(record_file(path)):
+        return None
+    with open(record_file(path), encoding="utf-8") as it:
+        text = it.read()
+    run = text.partition("\n")[0]
+    return run if text == record(path, crate, run) else None
 
 
 def libraries_folder() -> str:
