@@ -4,7 +4,7 @@
     python3 fuzz/calls.py                          100,000 calls, by build/c/calls
     python3 fuzz/calls.py --calls 5000 --seed 7    fewer, and others
     python3 fuzz/calls.py --program valgrind --error-exitcode=9 build/c/calls
-    python3 fuzz/calls.py --also build/c/calls-shared    the same calls by two programs
+    python3 fuzz/calls.py --also build/c/calls-x86-64-v2    the same calls by two programs
 
 It needs Python 3.9 or later and its standard library alone. The calls go to three handles: with endpoints, without one,
 and freed. Numbers, lengths and frames are of all kinds, also those that nothing has. Statuses, suites, forms, modes,
