@@ -1,0 +1,155 @@
+"""Finds libmacsec.so.1, and declares its structures and calls as include/macsec.h does."""
+
+from __future__ import annotations
+
+import ctypes
+import functools
+import os
+from ctypes import c_bool, c_char_p, c_size_t, c_uint8, c_uint16, c_uint32, c_uint64, c_void_p
+
+SONAME = "libmacsec.so.1"
+Sci = c_uint8 * 8
+
+
+class Endpoint(ctypes.Structure):
+    _fields_ = [("secy", c_void_p)]
+
+
+class Config(ctypes.Structure):
+    _fields_ = [("sci", Sci), ("suite", c_uint32), ("form", c_uint32), ("max_frame", c_uint32)]
+
+
+class Sak(ctypes.Structure):
+    _fields_ = [
+        ("bytes", c_uint8 * 32), ("salt", c_uint8 * 12), ("ssci", c_uint32), ("suite", c_uint32), ("number", c_uint16),
+        ("length", c_uint8), ("offset", c_uint8),
+    ]  # fmt: skip
+
+
+class Sent(ctypes.Structure):
+    _fields_ = [
+        ("frame", c_void_p), ("length", c_size_t), ("status", c_uint32), ("fate", c_uint32), ("key", c_uint16),
+        ("reserved", c_uint64 * 4),
+    ]  # fmt: skip
+
+
+class Received(ctypes.Structure):
+    _fields_ = [
+        ("frame", c_void_p), ("length", c_size_t), ("status", c_uint32), ("verdict", c_uint32), ("sci", Sci),
+        ("an", c_uint8), ("has_sa", c_bool), ("delivered", c_bool), ("reserved", c_uint64 * 3),
+    ]  # fmt: skip
+
+
+class Options(ctypes.Structure):
+    _fields_ = [
+        ("window", c_uint64), ("mode", c_uint32), ("form", c_uint32), ("protect", c_bool), ("replay", c_bool),
+        ("reserved", c_uint64 * 5),
+    ]  # fmt: skip
+
+
+class Counters(ctypes.Structure):
+    _fields_ = [
+        ("in_pkts_untagged", c_uint64), ("in_pkts_no_tag", c_uint64), ("in_pkts_bad_tag", c_uint64),
+        ("in_pkts_reserved", c_uint64), ("in_pkts_no_sa", c_uint64), ("in_pkts_no_sa_error", c_uint64),
+        ("in_octets_validated", c_uint64), ("in_octets_decrypted", c_uint64), ("out_pkts_untagged", c_uint64),
+        ("out_pkts_too_long", c_uint64), ("out_pkts_no_sa", c_uint64), ("reserved", c_uint64 * 5),
+    ]  # fmt: skip
+
+
+class TxCounters(ctypes.Structure):
+    _fields_ = [
+        ("out_pkts_protected", c_uint64), ("out_pkts_encrypted", c_uint64), ("out_octets_protected", c_uint64),
+        ("out_octets_encrypted", c_uint64), ("reserved", c_uint64 * 4),
+    ]  # fmt: skip
+
+
+class RxCounters(ctypes.Structure):
+    _fields_ = [
+        ("in_pkts_ok", c_uint64), ("in_pkts_unchecked", c_uint64), ("in_pkts_delayed", c_uint64),
+        ("in_pkts_late", c_uint64), ("in_pkts_invalid", c_uint64), ("in_pkts_not_valid", c_uint64),
+        ("reserved", c_uint64 * 10),
+    ]  # fmt: skip
+
+
+class TxSa(ctypes.Structure):
+    _fields_ = [
+        ("next", c_uint64), ("next_high", c_uint64), ("key", c_uint16), ("conf", c_bool), ("on", c_bool),
+        ("reserved", c_uint64 * 5),
+    ]  # fmt: skip
+
+
+class RxSa(ctypes.Structure):
+    _fields_ = [
+        ("next", c_uint64), ("next_high", c_uint64), ("lowest", c_uint64), ("lowest_high", c_uint64),
+        ("ssci", c_uint32), ("key", c_uint16), ("on", c_bool), ("reserved", c_uint64 * 3),
+    ]  # fmt: skip
+
+
+# The structures by their names in the header without macsec_.
+STRUCTURES = {
+    "endpoint": Endpoint, "config": Config, "sak": Sak, "sent": Sent, "received": Received, "options": Options,
+    "counters": Counters, "tx_counters": TxCounters, "rx_counters": RxCounters, "tx_sa": TxSa, "rx_sa": RxSa,
+}  # fmt: skip
+
+# The arguments of each call after the handle. An SCI and a frame are octets that the call only reads.
+_TO_FILL, _SCI = c_void_p, c_char_p
+CALLS = {
+    "new": (_TO_FILL,),
+    "configure_raw": (c_char_p, c_size_t, _TO_FILL),
+    "free_raw": (),
+    "send_raw": (c_char_p, c_size_t, _TO_FILL),
+    "send_uncontrolled_raw": (c_char_p, c_size_t),
+    "receive_raw": (c_char_p, c_size_t, _TO_FILL),
+    "set_protect": (c_bool,),
+    "set_validation": (c_uint32,),
+    "set_replay": (c_bool, c_uint64),
+    "set_tag_form": (c_uint32,),
+    "install_key": (_TO_FILL,),
+    "retire_key": (c_uint16,),
+    "add_tx_sa": (c_uint8, c_uint16, c_uint64, c_bool),
+    "enable_tx_sa": (c_uint8,),
+    "disable_tx_sa": (c_uint8,),
+    "delete_tx_sa": (c_uint8,),
+    "add_rx_sc": (_SCI,),
+    "delete_rx_sc": (_SCI,),
+    "add_rx_sa": (_SCI, c_uint8, c_uint16, c_uint32, c_uint64),
+    "enable_rx_sa": (_SCI, c_uint8),
+    "disable_rx_sa": (_SCI, c_uint8),
+    "set_lowest_pn": (_SCI, c_uint8, c_uint64),
+    "delete_rx_sa": (_SCI, c_uint8),
+    "command_line_raw": (c_char_p, c_size_t),
+    "get_options": (_TO_FILL,),
+    "get_counters": (_TO_FILL,),
+    "get_tx_counters": (_TO_FILL,),
+    "keys_left": (_TO_FILL,),
+    "get_rx_counters": (_SCI, _TO_FILL),
+    "get_rx_sa_counters": (_SCI, c_uint8, _TO_FILL),
+    "get_removed_counters": (_SCI, _TO_FILL),
+    "get_rx_sc": (c_size_t, _TO_FILL),
+    "get_tx_sa": (c_uint8, _TO_FILL),
+    "get_rx_sa": (_SCI, c_uint8, _TO_FILL),
+}
+
+
+def path() -> str:
+    """What is loaded: the file that MACSEC_LIBRARY names, else the library that the system's loader finds."""
+    return os.environ.get("MACSEC_LIBRARY") or SONAME
+
+
+@functools.lru_cache(maxsize=None)
+def load() -> ctypes.CDLL:
+    """The library, with the types of its calls. It is loaded once."""
+    try:
+        library = ctypes.CDLL(path())
+    except OSError as why:
+        raise ImportError(
+            f"cannot load {path()} ({why}): install libmacsec1, or name the file in MACSEC_LIBRARY"
+        ) from None
+    library.macsec_version.restype, library.macsec_version.argtypes = c_uint32, []
+    if library.macsec_version() >= 2_000_000:
+        raise ImportError(f"{path()} has version {library.macsec_version()}; this package needs one below 2000000")
+    for name, arguments in CALLS.items():
+        call = getattr(library, f"macsec_{name}")
+        call.argtypes = [c_void_p, *arguments]
+        call.restype = None if name == "free_raw" else c_uint32
+    return library

@@ -1,0 +1,221 @@
+"""Reads and writes capture files: pcap, pcapng, and both compressed by gzip."""
+
+from __future__ import annotations
+
+import gzip
+import os
+import struct
+import tempfile
+from typing import BinaryIO, Dict, Iterable, Iterator, List, NamedTuple, Optional, Tuple, cast
+
+from .errors import CaptureError
+
+ETHERNET = 1
+MOST_OCTETS = 262_144
+_MAGIC = {0xA1B2C3D4: 1000, 0xA1B23C4D: 1}
+
+
+class Packet(NamedTuple):
+    """A record, numbered from 0 as `macsec` numbers them. `time` is in nanoseconds since 1970, `fcs` the length of a
+    frame check sequence that the file announces."""
+
+    number: int
+    time: int
+    frame: bytes
+    length: int
+    link_type: int = ETHERNET
+    fcs: int = 0
+
+    @property
+    def is_whole(self) -> bool:
+        """Was all of an Ethernet frame captured?"""
+        return self.link_type == ETHERNET and len(self.frame) >= self.length
+
+
+def read(path: str) -> Iterator[Packet]:
+    """The records of a capture file. A fault raises CaptureError after the records before it."""
+    with open(path, "rb") as plain:
+        file = cast(BinaryIO, gzip.GzipFile(fileobj=plain)) if plain.read(2) == b"\x1f\x8b" else plain
+        plain.seek(0)
+        try:
+            start = file.read(4)
+            if start == b"\x0a\x0d\x0d\x0a":
+                yield from _read_pcapng(file, start)
+            else:
+                yield from _read_pcap(file, start)
+        except (gzip.BadGzipFile, EOFError) as why:
+            raise CaptureError(f"{path}: {why}") from None
+
+
+def _exactly(file: BinaryIO, count: int, what: str) -> bytes:
+    octets = file.read(count)
+    if len(octets) != count:
+        raise CaptureError(f"the file ends within {what}")
+    return octets
+
+
+def _read_pcap(file: BinaryIO, start: bytes) -> Iterator[Packet]:
+    order = next((it for it in "<>" if len(start) == 4 and struct.unpack(it + "I", start)[0] in _MAGIC), None)
+    if order is None:
+        raise CaptureError("this is neither pcap nor pcapng")
+    unit = _MAGIC[struct.unpack(order + "I", start)[0]]
+    kind = struct.unpack(order + "I", _exactly(file, 20, "its header")[16:])[0]
+    # The upper half of the link type can announce a frame check sequence.
+    fcs = 4 if kind & 0x0400_0000 and kind >> 28 else 0
+    head, number = struct.Struct(order + "IIII"), 0
+    while True:
+        octets = file.read(16)
+        if not octets:
+            return
+        if len(octets) < 16:
+            raise CaptureError(f"the file ends within record {number}")
+        seconds, fraction, captured, length = head.unpack(octets)
+        if captured > MOST_OCTETS:
+            raise CaptureError(f"record {number} has {captured} octets")
+        frame = _exactly(file, captured, f"record {number}")
+        yield Packet(number, seconds * 10**9 + fraction * unit, frame, length, kind & 0xFFFF, fcs)
+        number += 1
+
+
+class _Interface(NamedTuple):
+    link_type: int
+    snap: int
+    units: int  # in a second
+    offset: int  # seconds
+    fcs: int
+
+
+def _options(octets: bytes, order: str) -> Dict[int, bytes]:
+    """The options of a block: of a repeated one, the first."""
+    found: Dict[int, bytes] = {}
+    at = 0
+    while at + 4 <= len(octets):
+        code, size = struct.unpack_from(order + "HH", octets, at)
+        if code == 0:
+            break
+        found.setdefault(code, octets[at + 4 : at + 4 + size])
+        at += 4 + (size + 3) // 4 * 4
+    return found
+
+
+def _interface(body: bytes, order: str) -> _Interface:
+    link_type, _, snap = struct.unpack_from(order + "HHI", body)
+    options = _options(body[8:], order)
+    resolution = (options.get(9) or b"\x06")[0]
+    units = 2 ** (resolution & 0x7F) if resolution & 0x80 else 10**resolution
+    offset = struct.unpack(order + "q", options[14])[0] if len(options.get(14, b"")) == 8 else 0
+    return _Interface(link_type, snap, units, offset, (options.get(13) or b"\0")[0])
+
+
+def _read_pcapng(file: BinaryIO, start: bytes) -> Iterator[Packet]:
+    order, interfaces, number = "<", cast(List[_Interface], []), 0
+    while start:
+        if len(start) < 4:
+            raise CaptureError("the file ends within a block")
+        size_octets, body = _exactly(file, 4, "a block"), b""
+        if start == b"\x0a\x0d\x0d\x0a":
+            body = _exactly(file, 4, "a block")
+            order = "<" if body == b"\x4d\x3c\x2b\x1a" else ">"
+            if body not in (b"\x4d\x3c\x2b\x1a", b"\x1a\x2b\x3c\x4d"):
+                raise CaptureError("a section's byte-order magic is wrong")
+            interfaces = []
+        size = struct.unpack(order + "I", size_octets)[0]
+        if size < 12 + len(body) or size % 4 or size > 2**28:
+            raise CaptureError(f"a block has the length {size}")
+        body += _exactly(file, size - 12 - len(body), "a block")
+        _exactly(file, 4, "a block")
+        kind = struct.unpack(order + "I", start)[0]
+        try:
+            if kind == 1:
+                interfaces.append(_interface(body, order))
+            elif kind in (2, 3, 6):
+                yield _packet(number, kind, body, order, interfaces)
+                number += 1
+        except (struct.error, IndexError):
+            raise CaptureError(f"record {number}: its block is at fault") from None
+        start = file.read(4)
+
+
+def _packet(number: int, kind: int, body: bytes, order: str, interfaces: List[_Interface]) -> Packet:
+    """The packet of an enhanced, a simple or an obsolete packet block."""
+    time = 0
+    if kind == 3:
+        of, at, length = interfaces[0], 4, struct.unpack_from(order + "I", body)[0]
+        captured, options = min(length, of.snap or length), b""
+    else:
+        which, high, low, captured, length = struct.unpack_from(order + ("IIIII" if kind == 6 else "HxxIIII"), body)
+        of, at = interfaces[which], 20
+        time = (high << 32 | low) * 10**9 // of.units + of.offset * 10**9
+        options = body[at + (captured + 3) // 4 * 4 :]
+    if captured > MOST_OCTETS or at + captured > len(body):
+        raise CaptureError(f"record {number} has more octets than its block")
+    flags = _options(options, order).get(2, b"")
+    fcs = struct.unpack(order + "I", flags)[0] >> 5 & 15 if len(flags) == 4 else 0
+    return Packet(number, time, body[at : at + captured], length, of.link_type, fcs or of.fcs)
+
+
+def write_pcap(path: str, packets: "Iterable[Tuple[int, bytes]]") -> None:
+    """Writes frames with their times in nanoseconds as a pcap file."""
+    with open(path, "wb") as file:
+        file.write(struct.pack("<IHHiIII", 0xA1B23C4D, 2, 4, 0, 0, 65535, ETHERNET))
+        for time, frame in packets:
+            seconds, rest = divmod(time, 10**9)
+            file.write(struct.pack("<IIII", seconds, rest, len(frame), len(frame)) + frame)
+
+
+class PcapngFile:
+    """A new pcapng file, which appears under its name only when `close` is called.
+
+    Until then it is a file of another name in the same folder; `discard` removes that. It can be read by its owner
+    alone, since what it holds was protected.
+    """
+
+    def __init__(self, path: str) -> None:
+        self._path = path
+        if os.path.lexists(path):
+            raise FileExistsError(f"{path} exists: name a new file")
+        handle, self._temporary = tempfile.mkstemp(prefix=".macsec-", dir=os.path.dirname(os.path.abspath(path)))
+        self._file: Optional[BinaryIO] = os.fdopen(handle, "wb")
+        self._interfaces: Dict[int, int] = {}
+        self._put(0x0A0D0D0A, struct.pack("<IHHq", 0x1A2B3C4D, 1, 0, -1))
+
+    def _put(self, kind: int, body: bytes) -> None:
+        assert self._file is not None
+        body += bytes(-len(body) % 4)
+        size = struct.pack("<I", 12 + len(body))
+        self._file.write(struct.pack("<I", kind) + size + body + size)
+
+    def write(self, time: int, frame: bytes, length: int, comment: str = "", link_type: int = ETHERNET) -> None:
+        """Adds a frame with its time in nanoseconds, its original length and a comment."""
+        if link_type not in self._interfaces:
+            self._interfaces[link_type] = len(self._interfaces)
+            # if_tsresol: nanoseconds.
+            self._put(1, struct.pack("<HHIHHBxxxI", link_type, 0, 0, 9, 1, 9, 0))
+        octets = comment.encode()
+        options = struct.pack("<HH", 1, len(octets)) + octets + bytes(-len(octets) % 4 + 4) if comment else b""
+        head = struct.pack("<IIIII", self._interfaces[link_type], time >> 32, time & 0xFFFF_FFFF, len(frame), length)
+        self._put(6, head + frame + bytes(-len(frame) % 4) + options)
+
+    def close(self) -> None:
+        """Gives the file its name. A file of that name, made meanwhile, raises FileExistsError."""
+        if self._file is None:
+            return
+        self._file.close()
+        self._file = None
+        try:
+            os.link(self._temporary, self._path)
+        except FileExistsError:
+            raise FileExistsError(f"{self._path} exists: name a new file") from None
+        except OSError:  # a file system without links
+            os.rename(self._temporary, self._path)
+            return
+        finally:
+            if os.path.exists(self._path) and os.path.lexists(self._temporary):
+                os.unlink(self._temporary)
+
+    def discard(self) -> None:
+        """Removes what was written, unless the file has its name."""
+        if self._file is not None:
+            self._file.close()
+            self._file = None
+            os.unlink(self._temporary)

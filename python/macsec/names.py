@@ -1,0 +1,130 @@
+"""The numbers that the library gives and takes, with the names that the program `macsec` prints.
+
+>>> Verdict(5).name, Verdict.NoSAError.value
+('NoSAError', 5)
+>>> Suite["xpn128"]
+<Suite.xpn128: 3>
+"""
+
+from __future__ import annotations
+
+from enum import IntEnum
+
+
+class Status(IntEnum):
+    """Why the library did nothing. 1 to 20 are the refusals of commands."""
+
+    OK = 0
+    KeyLength = 1
+    Offset = 2
+    KeyNumberUsed = 3
+    KeyRepeated = 4
+    NoKey = 5
+    KeyRetired = 6
+    KeyInUse = 7
+    OwnSci = 8
+    ScTaken = 9
+    ScFull = 10
+    NoSc = 11
+    AnTaken = 12
+    NoSa = 13
+    PnRange = 14
+    PnLower = 15
+    PnFloor = 16
+    SsciOwn = 17
+    Window = 18
+    SciForm = 19
+    Exhausted = 20
+    Empty = 32
+    Taken = 33
+    NoSuchSuite = 34
+    NoSuchForm = 35
+    NoSuchMode = 36
+    NoSuchAn = 37
+    NoSuchKeyNumber = 38
+    NoSuchKeyOctets = 39
+    NotFound = 40
+    Memory = 41
+    NewMaxFrame = 42
+    NewSciForm = 43
+    Short = 44
+    Long = 45
+    Word = 46
+    Count = 47
+    Hex = 48
+    Number = 49
+    Ends = 50
+    LineLong = 51
+    ScriptLong = 52
+
+
+class Suite(IntEnum):
+    """A cipher suite. `default` is the suite of the endpoint, for keys alone."""
+
+    default = 0
+    gcm128 = 1
+    gcm256 = 2
+    xpn128 = 3
+    xpn256 = 4
+
+    @property
+    def is_extended(self) -> bool:
+        """Do its packet numbers have 64 bits?"""
+        return self in (Suite.xpn128, Suite.xpn256)
+
+    @property
+    def key_octets(self) -> int:
+        """The length of its keys."""
+        return 32 if self in (Suite.gcm256, Suite.xpn256) else 16
+
+
+class Form(IntEnum):
+    """Which SecTAG a frame gets."""
+
+    auto = 0
+    sci = 1
+    es = 2
+    scb = 3
+
+
+class Mode(IntEnum):
+    """How received frames are validated."""
+
+    disabled = 0
+    check = 1
+    strict = 2
+
+
+class Fate(IntEnum):
+    """What becomes of a client frame."""
+
+    Protected = 1
+    Plain = 2
+    NoSA = 3
+    TooLong = 4
+
+
+class Verdict(IntEnum):
+    """What becomes of a link frame. Each is named as its counter is, without InPkts."""
+
+    Untagged = 1
+    NoTag = 2
+    BadTag = 3
+    Reserved = 4
+    NoSAError = 5
+    NoSA = 6
+    Late = 7
+    NotValid = 8
+    Unchecked = 9
+    Delayed = 10
+    Invalid = 11
+    OK = 12
+
+
+# The order of each structure of counters in include/macsec.h.
+ENDPOINT_COUNTERS = (
+    "InPktsUntagged", "InPktsNoTag", "InPktsBadTag", "InPktsReserved", "InPktsNoSA", "InPktsNoSAError",
+    "InOctetsValidated", "InOctetsDecrypted", "OutPktsUntagged", "OutPktsTooLong", "OutPktsNoSA",
+)  # fmt: skip
+TX_COUNTERS = ("OutPktsProtected", "OutPktsEncrypted", "OutOctetsProtected", "OutOctetsEncrypted")
+RX_COUNTERS = ("InPktsOK", "InPktsUnchecked", "InPktsDelayed", "InPktsLate", "InPktsInvalid", "InPktsNotValid")

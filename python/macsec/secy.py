@@ -1,0 +1,412 @@
+"""A MACsec endpoint (SecY) of the proved library."""
+
+from __future__ import annotations
+
+import ctypes
+import operator
+import struct
+import threading
+from typing import Any, Dict, List, NamedTuple, Optional, Union
+
+from . import _library
+from .errors import error
+from .names import ENDPOINT_COUNTERS, RX_COUNTERS, TX_COUNTERS, Fate, Form, Mode, Suite, Verdict
+
+# A frame or a text: anything with octets, as a packet of Scapy has by `__bytes__`.
+Octets = Union[bytes, bytearray, memoryview, Any]
+# An SCI: 8 octets, or their 16 hex digits.
+SciLike = Union[bytes, bytearray, memoryview, str]
+
+_FATES = tuple(Fate(it) if it else None for it in range(5))
+_VERDICTS = tuple(Verdict(it) if it else None for it in range(13))
+_SENT_OCTETS = ctypes.c_char * ctypes.sizeof(_library.Sent)
+_RECEIVED_OCTETS = ctypes.c_char * ctypes.sizeof(_library.Received)
+# The members of both before `reserved`, read at once.
+_SENT_MEMBERS, _RECEIVED_MEMBERS = struct.Struct("=QQIIH"), struct.Struct("=QQII8sB??")
+_sent_of, _received_of = _SENT_MEMBERS.unpack_from, _RECEIVED_MEMBERS.unpack_from
+# Answers that name no frame, as MACSEC_SENT_INIT and MACSEC_RECEIVED_INIT are.
+_NOTHING = ctypes.create_string_buffer(1)
+_NO_SENT = bytes(_library.Sent(frame=ctypes.addressof(_NOTHING)))
+_NO_RECEIVED = bytes(_library.Received(frame=ctypes.addressof(_NOTHING)))
+_NO_SA = (None, None)
+_memmove = ctypes.memmove
+# The octets at an address, as ctypes.string_at returns them in more time.
+_octets_at = ctypes.PYFUNCTYPE(ctypes.py_object, ctypes.c_void_p, ctypes.c_ssize_t)(
+    ("PyBytes_FromStringAndSize", ctypes.pythonapi)
+)
+
+
+class Sent(NamedTuple):
+    """What becomes of a client frame. `frame` is to be transmitted, or None; `key` is the number of its key."""
+
+    fate: Fate
+    frame: Optional[bytes]
+    key: Optional[int]
+
+
+class Received(NamedTuple):
+    """What becomes of a link frame. `frame` is what the client gets, or None; `sci` and `an` name the association."""
+
+    verdict: Verdict
+    frame: Optional[bytes]
+    sci: Optional[bytes]
+    an: Optional[int]
+
+
+class Options(NamedTuple):
+    """The options of an endpoint."""
+
+    protect: bool
+    mode: Mode
+    replay: bool
+    window: int
+    form: Form
+
+
+class TxSa(NamedTuple):
+    """A transmit association. `next` is the packet number of the next frame, one past the last if it is exhausted."""
+
+    key: int
+    next: int
+    conf: bool
+    on: bool
+
+
+class RxSa(NamedTuple):
+    """A receive association: the next expected packet number, and the lowest acceptable one."""
+
+    key: int
+    next: int
+    lowest: int
+    ssci: int
+    on: bool
+
+
+def octets_of(value: Octets) -> bytes:
+    """The octets of a frame.
+
+    >>> octets_of(memoryview(b"abcd")[::2])
+    b'ac'
+    """
+    if type(value) is bytes:
+        return value
+    if isinstance(value, (bytes, bytearray, memoryview)) or hasattr(value, "__bytes__"):
+        return bytes(value)
+    raise TypeError(f"a frame is bytes, bytearray, memoryview or has __bytes__, not {type(value).__name__}")
+
+
+def sci_of(value: SciLike) -> bytes:
+    """The octets of an SCI.
+
+    >>> sci_of("0200000000010001")
+    b'\\x02\\x00\\x00\\x00\\x00\\x01\\x00\\x01'
+    """
+    octets = bytes.fromhex(value) if isinstance(value, str) else octets_of(value)
+    if len(octets) != 8:
+        raise ValueError(f"an SCI has 8 octets, not {len(octets)}")
+    return octets
+
+
+def _number(value: int, bits: int, what: str) -> int:
+    """A number that fits into so many bits; the library says whether it means something."""
+    number = operator.index(value)
+    if not 0 <= number < 1 << bits:
+        raise ValueError(f"{what} is from 0 to {(1 << bits) - 1}, not {number}")
+    return number
+
+
+def _named(kind: Any, value: Union[int, str]) -> int:
+    """A number of an enumeration, given as its name too."""
+    return int(kind[value]) if isinstance(value, str) else _number(value, 32, kind.__name__)
+
+
+class SecY:
+    """An endpoint. It protects its client's frames, validates those from the link, and counts both.
+
+    A refused command raises `Refused`, and nothing has changed. An endpoint is closed by `close`, at the end of a
+    `with`, or when nothing refers to it any more. Threads may share it: one call at a time is made. After a fork only
+    one of the processes may send by it. Never give two endpoints that send the same key and packet number.
+
+    >>> key = bytes.fromhex("ad7a2bd03eac835a6f620fdcb506b345")
+    >>> with SecY("0200000000010001") as a, SecY("0200000000020001") as b:
+    ...     a.install_key(0, key)
+    ...     a.add_tx_sa(0, key=0, pn=1, conf=True)
+    ...     a.enable_tx_sa(0)
+    ...     b.install_key(0, key)
+    ...     b.add_rx_sc("0200000000010001")
+    ...     b.add_rx_sa("0200000000010001", 0, key=0, pn=1)
+    ...     b.enable_rx_sa("0200000000010001", 0)
+    ...     sent = a.send(bytes.fromhex("ffffffffffff0200000000010800"))
+    ...     received = b.receive(sent.frame)
+    ...     again = b.receive(sent.frame)
+    >>> sent.fate.name, len(sent.frame), received.verdict.name, received.frame.hex(), again.verdict.name
+    ('Protected', 46, 'OK', 'ffffffffffff0200000000010800', 'Late')
+    """
+
+    def __init__(
+        self,
+        sci: SciLike,
+        suite: Union[Suite, int, str] = Suite.gcm128,
+        form: Union[Form, int, str] = Form.sci,
+        max_frame: int = 9248,
+    ) -> None:
+        self._begin()
+        config = _library.Config(
+            _library.Sci(*sci_of(sci)), _named(Suite, suite), _named(Form, form), _number(max_frame, 32, "max_frame")
+        )
+        status = self._library.macsec_new(self._handle, ctypes.byref(config))
+        if status:
+            raise error(status)
+
+    def _begin(self) -> None:
+        """What an endpoint has before the library fills its handle."""
+        self._library = _library.load()
+        self._lock = threading.Lock()
+        self._endpoint = _library.Endpoint()
+        self._handle = ctypes.addressof(self._endpoint)
+        self._sent, self._received = _SENT_OCTETS(), _RECEIVED_OCTETS()
+        self._sent_at, self._received_at = ctypes.addressof(self._sent), ctypes.addressof(self._received)
+        self._send_raw, self._receive_raw = self._library.macsec_send_raw, self._library.macsec_receive_raw
+
+    @classmethod
+    def configure(cls, text: Union[str, Octets]) -> "SecY":
+        """The endpoint of the text of a CONFIG. A fault or a refused line raises, with its line, and makes nothing.
+
+        >>> SecY.configure("end A gcm128 0200000000010001 1546 sci\\nA txon 0\\n")
+        Traceback (most recent call last):
+            ...
+        macsec.errors.Refused: line 2: 13 NoSa: there is no such association
+        """
+        made = cls.__new__(cls)
+        made._begin()
+        octets, line = _text(text), ctypes.c_uint32()
+        status = made._library.macsec_configure_raw(made._handle, octets, len(octets), ctypes.byref(line))
+        if status:
+            raise error(status, line.value)
+        return made
+
+    def close(self) -> None:
+        """Frees the endpoint. Every later call raises, except this one."""
+        if hasattr(self, "_endpoint"):
+            with self._lock:
+                self._library.macsec_free_raw(self._handle)
+
+    def __enter__(self) -> "SecY":
+        return self
+
+    def __exit__(self, *_: object) -> None:
+        self.close()
+
+    def __del__(self) -> None:
+        self.close()
+
+    def __reduce_ex__(self, protocol: Any) -> Any:
+        raise TypeError("an endpoint cannot be copied: two of them would send the same packet numbers")
+
+    # Frames.
+
+    def send(self, frame: Octets) -> Sent:
+        """What becomes of a client frame at the controlled port."""
+        octets = frame if type(frame) is bytes else octets_of(frame)
+        with self._lock:
+            self._sent.raw = _NO_SENT
+            status = self._send_raw(self._handle, octets, len(octets), self._sent_at)
+            if status:
+                raise error(status)
+            at, length, _, fate, key = _sent_of(self._sent)
+            link = _octets_at(at, length) if length else None
+        return Sent(_FATES[fate], link, key if fate == 1 else None)
+
+    def receive(self, frame: Octets) -> Received:
+        """What becomes of a frame from the link."""
+        octets = frame if type(frame) is bytes else octets_of(frame)
+        with self._lock:
+            self._received.raw = _NO_RECEIVED
+            status = self._receive_raw(self._handle, octets, len(octets), self._received_at)
+            if status:
+                raise error(status)
+            at, length, _, verdict, sci, an, has_sa, is_delivered = _received_of(self._received)
+            client = _octets_at(at, length) if is_delivered else None
+        return Received(_VERDICTS[verdict], client, *((sci, an) if has_sa else _NO_SA))
+
+    def send_uncontrolled(self, frame: Octets) -> bytes:
+        """A client frame of the uncontrolled port, which is to be transmitted as it is."""
+        octets = octets_of(frame)
+        self._call("send_uncontrolled_raw", octets, len(octets))
+        return octets
+
+    # Commands.
+
+    def _call(self, name: str, *arguments: Any) -> None:
+        """Makes a call, and raises its status if it is not OK."""
+        with self._lock:
+            status = getattr(self._library, f"macsec_{name}")(self._handle, *arguments)
+        if status:
+            raise error(status)
+
+    def command(self, line: Union[str, Octets]) -> None:
+        """Carries out a command as a line of CONFIG says it: `A txon 0`."""
+        octets = _text(line)
+        self._call("command_line_raw", octets, len(octets))
+
+    def set_protect(self, on: bool) -> None:
+        """Protects client frames, or sends them as they are."""
+        self._call("set_protect", bool(on))
+
+    def set_validation(self, mode: Union[Mode, int, str]) -> None:
+        """Sets how received frames are validated."""
+        self._call("set_validation", _named(Mode, mode))
+
+    def set_replay(self, on: bool, window: int = 0) -> None:
+        """Drops late frames or not, and sets the replay window."""
+        self._call("set_replay", bool(on), _number(window, 64, "window"))
+
+    def set_tag_form(self, form: Union[Form, int, str]) -> None:
+        """Sets the tag form."""
+        self._call("set_tag_form", _named(Form, form))
+
+    def install_key(
+        self,
+        number: int,
+        key: Octets,
+        *,
+        offset: int = 0,
+        suite: Union[Suite, int, str] = Suite.default,
+        ssci: int = 0,
+        salt: Octets = bytes(12),
+    ) -> None:
+        """Installs a key (SAK). SSCI, the endpoint's own, and salt are for extended packet numbers."""
+        octets, salt = octets_of(key), octets_of(salt)
+        if len(salt) != 12:
+            raise ValueError(f"a salt has 12 octets, not {len(salt)}")
+        # The library says which lengths keys have.
+        sak = _library.Sak(
+            ssci=_number(ssci, 32, "ssci"), suite=_named(Suite, suite), number=_number(number, 16, "number"),
+            length=min(len(octets), 255), offset=_number(offset, 8, "offset"),
+        )  # fmt: skip
+        _memmove(ctypes.addressof(sak), octets, min(len(octets), 32))
+        _memmove(ctypes.addressof(sak) + _library.Sak.salt.offset, salt, 12)
+        self._call("install_key", ctypes.byref(sak))
+
+    def retire_key(self, number: int) -> None:
+        """Retires a key that no association uses."""
+        self._call("retire_key", _number(number, 16, "number"))
+
+    def add_tx_sa(self, an: int, key: int, pn: int, conf: bool) -> None:
+        """Creates a transmit association, disabled. It encrypts if `conf`. `pn` must be above all that the key used."""
+        self._call("add_tx_sa", _number(an, 8, "an"), _number(key, 16, "key"), _number(pn, 64, "pn"), bool(conf))
+
+    def enable_tx_sa(self, an: int) -> None:
+        """Enables a transmit association, and disables every other one."""
+        self._call("enable_tx_sa", _number(an, 8, "an"))
+
+    def disable_tx_sa(self, an: int) -> None:
+        """Disables a transmit association."""
+        self._call("disable_tx_sa", _number(an, 8, "an"))
+
+    def delete_tx_sa(self, an: int) -> None:
+        """Deletes a transmit association."""
+        self._call("delete_tx_sa", _number(an, 8, "an"))
+
+    def add_rx_sc(self, sci: SciLike) -> None:
+        """Creates a receive channel, of another endpoint's SCI."""
+        self._call("add_rx_sc", sci_of(sci))
+
+    def delete_rx_sc(self, sci: SciLike) -> None:
+        """Deletes a receive channel with its associations and counters."""
+        self._call("delete_rx_sc", sci_of(sci))
+
+    def add_rx_sa(self, sci: SciLike, an: int, key: int, pn: int, ssci: int = 0) -> None:
+        """Creates a receive association, disabled. `pn` is its lowest acceptable packet number, `ssci` the sender's."""
+        numbers = _number(an, 8, "an"), _number(key, 16, "key"), _number(ssci, 32, "ssci"), _number(pn, 64, "pn")
+        self._call("add_rx_sa", sci_of(sci), *numbers)
+
+    def enable_rx_sa(self, sci: SciLike, an: int) -> None:
+        """Enables a receive association."""
+        self._call("enable_rx_sa", sci_of(sci), _number(an, 8, "an"))
+
+    def disable_rx_sa(self, sci: SciLike, an: int) -> None:
+        """Disables a receive association."""
+        self._call("disable_rx_sa", sci_of(sci), _number(an, 8, "an"))
+
+    def set_lowest_pn(self, sci: SciLike, an: int, pn: int) -> None:
+        """Raises the lowest acceptable packet number of a receive association."""
+        self._call("set_lowest_pn", sci_of(sci), _number(an, 8, "an"), _number(pn, 64, "pn"))
+
+    def delete_rx_sa(self, sci: SciLike, an: int) -> None:
+        """Deletes a receive association."""
+        self._call("delete_rx_sa", sci_of(sci), _number(an, 8, "an"))
+
+    # What an endpoint shows.
+
+    def _shown(self, kind: Any, name: str, *arguments: Any) -> Any:
+        """A structure that a call fills in."""
+        shown = kind()
+        self._call(name, *arguments, ctypes.byref(shown))
+        return shown
+
+    def options(self) -> Options:
+        """The options."""
+        it = self._shown(_library.Options, "get_options")
+        return Options(it.protect, Mode(it.mode), it.replay, it.window, Form(it.form))
+
+    def keys_left(self) -> int:
+        """How many keys the endpoint still takes in its life."""
+        return int(self._shown(ctypes.c_uint32, "keys_left").value)
+
+    def counters(self) -> Dict[str, int]:
+        """The counters of the endpoint and of its transmit channel, by the names that the program prints."""
+        return {
+            **_counters(self._shown(_library.Counters, "get_counters"), ENDPOINT_COUNTERS),
+            **_counters(self._shown(_library.TxCounters, "get_tx_counters"), TX_COUNTERS),
+        }
+
+    def rx_counters(self, sci: SciLike, an: Optional[int] = None) -> Dict[str, int]:
+        """The counters of a receive channel, or of one of its associations."""
+        if an is None:
+            return _counters(self._shown(_library.RxCounters, "get_rx_counters", sci_of(sci)), RX_COUNTERS)
+        words = sci_of(sci), _number(an, 8, "an")
+        return _counters(self._shown(_library.RxCounters, "get_rx_sa_counters", *words), RX_COUNTERS)
+
+    def removed_counters(self, sci: SciLike) -> Dict[str, int]:
+        """What the deleted associations of a channel had counted."""
+        return _counters(self._shown(_library.RxCounters, "get_removed_counters", sci_of(sci)), RX_COUNTERS)
+
+    def rx_sc(self, place: int) -> bytes:
+        """The SCI of the receive channel at this place in the order of creation."""
+        return bytes(self._shown(_library.Sci, "get_rx_sc", _number(place, 64, "place")))
+
+    def rx_scs(self) -> List[bytes]:
+        """The SCIs of the receive channels, in the order of creation."""
+        found: List[bytes] = []
+        try:
+            while True:
+                found.append(self.rx_sc(len(found)))
+        except LookupError:
+            return found
+
+    def tx_sa(self, an: int) -> TxSa:
+        """A transmit association."""
+        it = self._shown(_library.TxSa, "get_tx_sa", _number(an, 8, "an"))
+        return TxSa(it.key, it.next_high << 64 | it.next, it.conf, it.on)
+
+    def rx_sa(self, sci: SciLike, an: int) -> RxSa:
+        """A receive association."""
+        it = self._shown(_library.RxSa, "get_rx_sa", sci_of(sci), _number(an, 8, "an"))
+        return RxSa(it.key, it.next_high << 64 | it.next, it.lowest_high << 64 | it.lowest, it.ssci, it.on)
+
+
+def _text(text: Union[str, Octets]) -> bytes:
+    """The octets of a text."""
+    return text.encode() if isinstance(text, str) else octets_of(text)
+
+
+def _counters(shown: Any, names: "tuple[str, ...]") -> Dict[str, int]:
+    """Counters by their names."""
+    return {name: getattr(shown, field[0]) for name, field in zip(names, shown._fields_)}
+
+
+def version() -> int:
+    """The number of the library's version: 1,000,000 times its first number, plus 1,000 times its second, plus its
+    third."""
+    return int(_library.load().macsec_version())

@@ -1,0 +1,166 @@
+"""Makes the calls that the lines of standard input name, by the package, and prints each answer as fuzz/calls.c does.
+
+fuzz/calls.py gives it random calls, and compares the answers with those that its model expects.
+"""
+
+from __future__ import annotations
+
+import sys
+from typing import Callable, Dict, List, Optional
+
+from macsec import MacsecError, SecY
+from macsec.names import ENDPOINT_COUNTERS, RX_COUNTERS, TX_COUNTERS
+
+handles: "List[Optional[SecY]]" = [None] * 4
+EMPTY, TAKEN = 32, 33
+
+
+def octets(word: str) -> bytes:
+    return b"" if word == "-" else bytes.fromhex(word)
+
+
+def hex_of(frame: "Optional[bytes]") -> str:
+    return frame.hex() if frame else "-"
+
+
+def wide(number: int) -> str:
+    return f"{number:017x}"
+
+
+def send(it: SecY, frame: str) -> str:
+    sent = it.send(memoryview(octets(frame)))
+    return f" {int(sent.fate)} {sent.key or 0} {hex_of(sent.frame)}"
+
+
+def receive(it: SecY, frame: str) -> str:
+    got = it.receive(bytearray(octets(frame)))
+    has_sa, sci = got.sci is not None, (got.sci or bytes(8)).hex()
+    return f" {int(got.verdict)} {int(has_sa)} {sci} {got.an or 0} {int(got.frame is not None)} {hex_of(got.frame)}"
+
+
+def install_key(it: SecY, *words: str) -> str:
+    key, salt, ssci, suite, number, length, offset = words
+    chosen = {"suite": int(suite), "ssci": int(ssci), "salt": octets(salt), "offset": int(offset)}
+    it.install_key(int(number), octets(key)[: int(length)], **chosen)  # type: ignore[arg-type]
+    return ""
+
+
+def options(it: SecY) -> str:
+    shown = it.options()
+    return f" {shown.window} {int(shown.mode)} {int(shown.form)} {int(shown.protect)} {int(shown.replay)}"
+
+
+def counters(values: "Dict[str, int]", names: "tuple[str, ...]") -> str:
+    return "".join(f" {values[name]}" for name in names)
+
+
+def tx_sa(it: SecY, an: str) -> str:
+    sa = it.tx_sa(int(an))
+    return f" {wide(sa.next)} {sa.key} {int(sa.conf)} {int(sa.on)}"
+
+
+def rx_sa(it: SecY, sci: str, an: str) -> str:
+    sa = it.rx_sa(sci, int(an))
+    return f" {wide(sa.next)} {wide(sa.lowest)} {sa.ssci} {sa.key} {int(sa.on)}"
+
+
+def done(call: "Callable[..., object]") -> "Callable[..., str]":
+    """A call that shows nothing."""
+
+    def made(*arguments: object) -> str:
+        call(*arguments)
+        return ""
+
+    return made
+
+
+CALLS: "Dict[str, Callable[..., str]]" = {
+    "send": send,
+    "receive": receive,
+    "send_uncontrolled": done(lambda it, frame: it.send_uncontrolled(octets(frame))),
+    "command_line": done(lambda it, line: it.command(octets(line))),
+    "set_protect": done(lambda it, on: it.set_protect(on != "0")),
+    "set_validation": done(lambda it, mode: it.set_validation(int(mode))),
+    "set_replay": done(lambda it, on, window: it.set_replay(on != "0", int(window))),
+    "set_tag_form": done(lambda it, form: it.set_tag_form(int(form))),
+    "install_key": install_key,
+    "retire_key": done(lambda it, key: it.retire_key(int(key))),
+    "add_tx_sa": done(lambda it, an, key, pn, conf: it.add_tx_sa(int(an), int(key), int(pn), conf != "0")),
+    "enable_tx_sa": done(lambda it, an: it.enable_tx_sa(int(an))),
+    "disable_tx_sa": done(lambda it, an: it.disable_tx_sa(int(an))),
+    "delete_tx_sa": done(lambda it, an: it.delete_tx_sa(int(an))),
+    "add_rx_sc": done(lambda it, sci: it.add_rx_sc(sci)),
+    "delete_rx_sc": done(lambda it, sci: it.delete_rx_sc(sci)),
+    "add_rx_sa": done(lambda it, sci, an, key, ssci, pn: it.add_rx_sa(sci, int(an), int(key), int(pn), int(ssci))),
+    "enable_rx_sa": done(lambda it, sci, an: it.enable_rx_sa(sci, int(an))),
+    "disable_rx_sa": done(lambda it, sci, an: it.disable_rx_sa(sci, int(an))),
+    "set_lowest_pn": done(lambda it, sci, an, pn: it.set_lowest_pn(sci, int(an), int(pn))),
+    "delete_rx_sa": done(lambda it, sci, an: it.delete_rx_sa(sci, int(an))),
+    "get_options": options,
+    "keys_left": lambda it: f" {it.keys_left()}",
+    "get_counters": lambda it: counters(it.counters(), ENDPOINT_COUNTERS),
+    "get_tx_counters": lambda it: counters(it.counters(), TX_COUNTERS),
+    "get_rx_counters": lambda it, sci: counters(it.rx_counters(sci), RX_COUNTERS),
+    "get_rx_sa_counters": lambda it, sci, an: counters(it.rx_counters(sci, int(an)), RX_COUNTERS),
+    "get_removed_counters": lambda it, sci: counters(it.removed_counters(sci), RX_COUNTERS),
+    "get_rx_sc": lambda it, place: f" {it.rx_sc(int(place)).hex()}",
+    "get_tx_sa": tx_sa,
+    "get_rx_sa": rx_sa,
+}
+# What fuzz/calls.c shows if a call does nothing: the values before it.
+UNSHOWN = {
+    "send": " 0 0 -", "receive": f" 0 0 {'00' * 8} 0 0 -", "get_options": " 7 7 7 0 0", "keys_left": " 7",
+    "get_counters": " 7" * 11, "get_tx_counters": " 7" * 4, "get_rx_counters": " 7" * 6, "get_rx_sa_counters": " 7" * 6,
+    "get_removed_counters": " 7" * 6, "get_rx_sc": " " + "07" * 8, "get_tx_sa": f" {wide(7 << 64 | 7)} 7 0 0",
+    "get_rx_sa": f" {wide(7 << 64 | 7)} {wide(7 << 64 | 7)} 7 7 0",
+}  # fmt: skip
+
+
+def creation(name: str, handle: int, words: "List[str]") -> "tuple[str, int]":
+    """The answer of a call that makes or ends an endpoint."""
+    if name == "free":
+        it = handles[handle]
+        if it is not None:
+            it.close()
+            try:
+                it.keys_left()
+            except MacsecError as why:
+                assert why.number == EMPTY
+        handles[handle] = None
+        return "", 0
+    line = " 0" if name == "configure" else ""
+    if handles[handle] is not None:
+        return line, TAKEN
+    try:
+        if name == "configure":
+            handles[handle] = SecY.configure(octets(words[0]))
+        else:
+            sci, suite, form, most = words
+            handles[handle] = SecY(sci, int(suite), int(form), int(most))
+    except MacsecError as why:
+        return f" {why.line or 0}" if line else "", why.number
+    return line, 0
+
+
+def answer(name: str, handle: int, words: "List[str]") -> "tuple[str, int]":
+    """What a call shows, and its status."""
+    if name in ("new", "configure", "free"):
+        return creation(name, handle, words)
+    it = handles[handle]
+    if it is None:
+        return UNSHOWN.get(name, ""), EMPTY
+    try:
+        return CALLS[name](it, *words), 0
+    except MacsecError as why:
+        return UNSHOWN.get(name, ""), why.number
+
+
+def main() -> None:
+    for line in sys.stdin:
+        name, handle, *words = line.split()
+        shown, status = answer(name, int(handle), words)
+        print(f"{name}{shown} : {status}")
+
+
+if __name__ == "__main__":
+    main()

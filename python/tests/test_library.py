@@ -1,0 +1,65 @@
+"""The names, structures and calls of the package are those of include/macsec.h."""
+
+from __future__ import annotations
+
+import ctypes
+import re
+import unittest
+
+import macsec
+from macsec import _library, errors, names
+
+from .helpers import ROOT
+
+HEADER = (ROOT / "include" / "macsec.h").read_text()
+
+
+def names_in(function: str) -> "dict[str, int]":
+    """The names that a function of the header gives, and their numbers."""
+    body = re.search(rf"macsec_{function}_name\(.*?\n}}", HEADER, re.S)
+    assert body
+    constants = {name: int(value) for name, value in re.findall(r"\b(MACSEC_\w+) = (\d+)", HEADER)}
+    return {text: constants[name] for name, text in re.findall(r'case (\w+): return "(\w+)"', body[0])}
+
+
+class Library(unittest.TestCase):
+    def test_names(self) -> None:
+        for function, kind in (
+            ("status", names.Status),
+            ("verdict", names.Verdict),
+            ("fate", names.Fate),
+            ("suite", names.Suite),
+        ):
+            expected = {name: number for name, number in names_in(function).items() if name != "None"}
+            self.assertEqual({it.name: int(it) for it in kind}, expected)
+
+    def test_forms_and_modes(self) -> None:
+        for kind in (names.Form, names.Mode):
+            found = re.findall(rf"MACSEC_{kind.__name__.upper()}_(\w+) = (\d+)", HEADER)
+            self.assertEqual({it.name: int(it) for it in kind}, {name.lower(): int(number) for name, number in found})
+
+    def test_each_status_has_a_meaning(self) -> None:
+        self.assertEqual(set(errors.MEANINGS), set(names.Status) - {names.Status.OK})
+
+    def test_structures(self) -> None:
+        text = (ROOT / "tools" / "c" / "layout.txt").read_text()
+        shown = ""
+        for block in re.findall(r"^macsec_(\w+): ", text, re.M):
+            kind = _library.STRUCTURES[block]
+            shown += f"macsec_{block}: {ctypes.sizeof(kind)}\n"
+            shown += "".join(f"    {name} {getattr(kind, name).offset}\n" for name, *_ in kind._fields_)
+        self.assertEqual(shown, text)
+
+    def test_calls(self) -> None:
+        found = dict(re.findall(r"^(?:uint32_t|void) macsec_(\w+)\(([^)]*)\);", re.sub(r"\n +", " ", HEADER), re.M))
+        self.assertEqual(set(_library.CALLS), set(found) - {"version"})
+        for name, arguments in _library.CALLS.items():
+            self.assertEqual(len(arguments) + 1, found[name].count(",") + 1, name)
+
+    def test_version(self) -> None:
+        number = re.search(r"MACSEC_VERSION_NUMBER (\d+)", HEADER)
+        self.assertEqual(macsec.version(), int(number[1]) if number else 0)
+
+
+if __name__ == "__main__":
+    unittest.main()
