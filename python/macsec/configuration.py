@@ -1,0 +1,117 @@
+"""The endpoint of a CONFIG, as `macsec validate` has it: every command is carried out, and a refused one is noted."""
+
+from __future__ import annotations
+
+from typing import Dict, List, NamedTuple, Optional
+
+from .errors import Refused, UsageError, error
+from .grammar import Command, parse
+from .names import Suite
+from .secy import Received, RxSa, SecY
+
+
+class KeyLine(NamedTuple):
+    """A key that CONFIG installed."""
+
+    line: int
+    number: int
+    octets: bytes
+    offset: int
+    suite: Suite
+    ssci: int
+    salt: bytes
+
+    @property
+    def name(self) -> str:
+        return f"key {self.number}"
+
+
+class Refusal(NamedTuple):
+    """A line that was refused."""
+
+    line: int
+    number: int
+    name: str
+    message: str
+
+
+def key_line(command: Command, default: Suite) -> KeyLine:
+    """The key of a line `key`. After the offset come no words, a suite, an SSCI and a salt, or all three."""
+    number, octets, offset, *rest = command.values
+    suite = Suite[rest[0]] if len(rest) in (1, 3) else default
+    ssci, salt = rest[-2:] if len(rest) > 1 else (bytes(4), bytes(12))
+    return KeyLine(command.line, number, octets, offset, suite, int.from_bytes(ssci, "big"), salt)
+
+
+class Configuration:
+    """A CONFIG that the library has carried out."""
+
+    def __init__(self, text: bytes) -> None:
+        self.commands, faults = parse(text)
+        if faults:
+            raise UsageError(str(faults[0]))
+        self.text = text
+        end = self.commands[0]
+        self.end_line = end.line
+        _, suite, self.sci, self.max_frame, self.form = end.values
+        self.suite = Suite[suite]
+        self.keys: Dict[int, KeyLine] = {}
+        self.refusals: List[Refusal] = []
+        self._lines = text.split(b"\n")
+        self._alone: Optional[SecY] = None
+        self.secy = self._made(True)
+
+    def _made(self, is_first: bool) -> SecY:
+        """An endpoint of this text."""
+        secy = SecY(self.sci, self.suite, self.form, self.max_frame)
+        for command in self.commands[1:]:
+            try:
+                secy.command(self._lines[command.line - 1])
+            except Refused as why:
+                if is_first:
+                    self.refusals.append(
+                        Refusal(command.line, why.number, why.name, str(error(why.number, command.line)))
+                    )
+                continue
+            if is_first and command.keyword == "key":
+                made = key_line(command, self.suite)
+                self.keys[made.number] = made
+        return secy
+
+    def fresh(self) -> SecY:
+        """Another endpoint of the same text, for receiving alone."""
+        return self._made(False)
+
+    def alone(self, frame: bytes) -> Received:
+        """What becomes of a frame that is the first one."""
+        with self.fresh() as secy:
+            return secy.receive(frame)
+
+    def channels(self) -> List[bytes]:
+        """The SCIs of the receive channels."""
+        return self._state().rx_scs()
+
+    def rx_sa(self, sci: bytes, an: int) -> Optional[RxSa]:
+        """A receive association as CONFIG leaves it, before any frame; None if there is none."""
+        try:
+            return self._state().rx_sa(sci, an)
+        except LookupError:
+            return None
+
+    def _state(self) -> SecY:
+        """An endpoint that receives nothing."""
+        if self._alone is None:
+            self._alone = self.fresh()
+        return self._alone
+
+    def _line_of(self, keyword: str, *values: object) -> Optional[int]:
+        found = [it.line for it in self.commands if it.keyword == keyword and it.values[: len(values)] == values]
+        return found[-1] if found else None
+
+    def line_of_rxsa(self, sci: bytes, an: int) -> Optional[int]:
+        """The number of the last line `rxsa` for an association."""
+        return self._line_of("rxsa", sci, an)
+
+    def line_of_rxsc(self, sci: bytes) -> Optional[int]:
+        """The number of the last line `rxsc` for a channel."""
+        return self._line_of("rxsc", sci)

@@ -1,0 +1,154 @@
+"""Asks the library whether a frame opens under other keys, suites, offsets, SSCIs, upper halves or SCIs."""
+
+from __future__ import annotations
+
+from typing import Dict, NamedTuple, Optional, Tuple
+
+from .errors import MacsecError, UsageError
+from .names import Suite, Verdict
+from .secy import Received, SecY
+
+# Verdicts on frames that were opened: the ICV is valid.
+OPENED = (Verdict.OK, Verdict.Delayed)
+_OWN_SCIS = (bytes.fromhex("02ffffffffff0001"), bytes.fromhex("02fffffffffe0001"))
+
+
+class Key(NamedTuple):
+    """A key, and what it is called."""
+
+    octets: bytes
+    suite: Suite
+    offset: int = 0
+    salt: bytes = bytes(12)
+    name: str = ""
+
+
+def own_sci(*others: bytes) -> bytes:
+    """An SCI that none of the others is.
+
+    >>> own_sci(bytes.fromhex("02ffffffffff0001")).hex()
+    '02fffffffffe0001'
+    """
+    return next(it for it in (*_OWN_SCIS, *(bytes([2, *[0] * 6, n]) for n in range(256))) if it not in others)
+
+
+class Trial:
+    """An endpoint with one key and one channel, which opens frames of one association, late ones too."""
+
+    def __init__(self, key: Key, sci: bytes, an: int, ssci: int = 0) -> None:
+        self.key, self.sci, self.an, self.ssci = key, sci, an, ssci
+        self.secy = SecY(own_sci(sci), key.suite)
+        self.secy.set_replay(False)
+        # The endpoint's own SSCI has to be another one.
+        self.secy.install_key(0, key.octets, offset=key.offset, ssci=ssci ^ 0xFFFF_FFFF, salt=key.salt)
+        self.secy.add_rx_sc(sci)
+        self._has_sa = False
+
+    def begin(self, upper: int = 0) -> None:
+        """Begins the association anew, with this upper half of extended packet numbers."""
+        if self._has_sa:
+            self.secy.delete_rx_sa(self.sci, self.an)
+        self.secy.add_rx_sa(self.sci, self.an, 0, upper << 32 | 1, self.ssci)
+        self.secy.enable_rx_sa(self.sci, self.an)
+        self._has_sa = True
+
+    def receive(self, frame: bytes) -> Received:
+        """What becomes of a frame. `begin` comes first."""
+        return self.secy.receive(frame)
+
+    def packet_number(self) -> int:
+        """The packet number after a frame with the verdict OK: that of the frame, since the window is 0."""
+        return self.secy.rx_sa(self.sci, self.an).next - 1
+
+    def close(self) -> None:
+        self.secy.close()
+
+
+class Trials:
+    """Trials that are kept, so that many tries do not create an endpoint each."""
+
+    MOST = 64
+
+    def __init__(self) -> None:
+        self._kept: Dict[Tuple[Key, bytes, int, int], Trial] = {}
+
+    def opens(self, key: Key, sci: bytes, an: int, frame: bytes, ssci: int = 0, upper: int = 0) -> bool:
+        """Does the frame open so, as the first one of its association?"""
+        return self.verdict(key, sci, an, frame, ssci, upper) in OPENED
+
+    def verdict(self, key: Key, sci: bytes, an: int, frame: bytes, ssci: int = 0, upper: int = 0) -> Optional[Verdict]:
+        """Its verdict so; None if no suite has such a key or offset, or no endpoint takes such a frame."""
+        try:
+            trial = self._trial(key, sci, an, ssci)
+            trial.begin(upper)
+            return trial.receive(frame).verdict
+        except MacsecError:
+            return None
+
+    def _trial(self, key: Key, sci: bytes, an: int, ssci: int) -> Trial:
+        place = (key, sci, an, ssci)
+        if place not in self._kept:
+            if len(self._kept) >= self.MOST:
+                self.close()
+            self._kept[place] = Trial(key, sci, an, ssci)
+        return self._kept[place]
+
+    def close(self) -> None:
+        """Closes all of them."""
+        for each in self._kept.values():
+            each.close()
+        self._kept.clear()
+
+
+class KeyArgument(NamedTuple):
+    """The value of an option --key: a key, and whose it is where that is said."""
+
+    octets: bytes
+    salt: Optional[bytes] = None
+    ssci: Optional[int] = None
+    sci: Optional[bytes] = None
+    an: Optional[int] = None
+    id: Optional[str] = None
+
+    def suites(self, asked: Optional[Suite] = None) -> "Tuple[Suite, ...]":
+        """The suites that the key can be of: one that was asked for, or by its length and whether it has a salt."""
+        if asked is not None:
+            return (asked,) if asked.key_octets == len(self.octets) else ()
+        if len(self.octets) == 16:
+            return (Suite.gcm128,) if self.salt is None else (Suite.xpn128, Suite.gcm128)
+        return (Suite.gcm256,) if self.salt is None else (Suite.xpn256, Suite.gcm256)
+
+
+def _hex(text: str, what: str, *lengths: int) -> bytes:
+    try:
+        octets = bytes.fromhex(text)
+    except ValueError:
+        raise UsageError(f"--key: {what} {text!r} is not hex") from None
+    if len(octets) not in lengths:
+        expected = " or ".join(str(2 * it) for it in lengths)
+        raise UsageError(f"--key: {what} has {len(text)} digits, {expected} expected")
+    return octets
+
+
+def key_argument(text: str) -> KeyArgument:
+    """Reads [WHOSE=]KEY[:SALT[:SSCI]], where WHOSE is SCI, SCI/AN, /AN, or the identifier of the key for `ip macsec`.
+
+    >>> key_argument("0200000000010001/3=ad7a2bd03eac835a6f620fdcb506b345").an
+    3
+    >>> key_argument("ad7a2bd03eac835a6f620fdcb506b345:a0a1a2a3a4a5a6a7a8a9aaab:00000002").ssci
+    2
+    """
+    whose, _, rest = text.rpartition("=")
+    parts = rest.split(":")
+    if len(parts) > 3:
+        raise UsageError("--key: KEY, KEY:SALT or KEY:SALT:SSCI expected")
+    octets = _hex(parts[0], "the key", 16, 32)
+    salt = _hex(parts[1], "the salt", 12) if len(parts) > 1 else None
+    ssci = int.from_bytes(_hex(parts[2], "the SSCI", 4), "big") if len(parts) > 2 else None
+    sci_text, slash, an_text = whose.partition("/")
+    if slash and an_text not in ("0", "1", "2", "3"):
+        raise UsageError(f"--key: the association number {an_text!r} is not 0 to 3")
+    an = int(an_text) if slash else None
+    if sci_text and not slash and len(sci_text) != 16:
+        return KeyArgument(octets, salt, ssci, id=sci_text.lower().ljust(32, "0"))
+    return KeyArgument(octets, salt, ssci, _hex(sci_text, "the SCI", 8) if sci_text else None, an)

@@ -1,0 +1,252 @@
+"""macsec-why: the cause of a verdict, found by asking the proved library about other settings."""
+
+from __future__ import annotations
+
+import argparse
+import collections
+import json
+import sys
+from typing import Dict, List, NamedTuple, Optional, Sequence, Tuple
+
+from . import capture
+from .causes import Change, Found, Search, Setting
+from .commands import run
+from .configuration import Configuration
+from .errors import FrameFault, UsageError
+from .frames import ethertype, read_tag, without_vlan
+from .names import Verdict
+from .summary import Summary, frames_text, ranges
+from .trial import OPENED, Key, Trial, key_argument
+
+_DELIVERED_AS_SENT = (Verdict.OK, Verdict.Delayed)
+# How many frames of a kind, and of all kinds, other settings are searched for; and how many of a kind are kept.
+_MOST_SEARCHES, _MOST_SEARCHES_OF_ALL, _MOST_FRAMES = 6, 300, 20_000
+# A verdict, and an SCI with an association number or an EtherType.
+_Kind = Tuple[Verdict, str, Optional[int]]
+
+
+class Seen(NamedTuple):
+    """A frame that was not opened: its record, and its octets."""
+
+    record: int
+    frame: bytes
+
+
+class Group(NamedTuple):
+    """Frames of one kind with the same explanation. `changes` are empty if nothing that was tried explains them."""
+
+    verdict: Verdict
+    sender: str
+    an: Optional[int]
+    records: List[int]
+    changes: Tuple[Change, ...]
+    note: str = ""
+
+    def as_dict(self) -> "Dict[str, object]":
+        causes = [{key: value for key, value in it._asdict().items() if value is not None} for it in self.changes]
+        named: "Dict[str, object]" = {"sci": self.sender, "an": self.an}
+        if self.an is None:
+            named = {"ethertype": self.sender}
+        note = {"note": self.note} if self.note else {}
+        return {"verdict": self.verdict.name, **named, "records": self.records, "causes": causes, **note}
+
+    def lines(self) -> "List[str]":
+        of = f"EtherType {self.sender}" if self.an is None else f"SCI {self.sender} AN {self.an}"
+        found = [f"record {ranges(self.records)} {self.verdict.name} ({frames_text(len(self.records))}), {of}:"]
+        for each in self.changes:
+            found.append(f"  {each.cause}: " + (f"line {each.line}: " if each.line else "") + each.text)
+        return found + ([f"  {self.note}"] if self.note else [])
+
+
+class Run:
+    """What `macsec validate` makes of a capture, and the frames that it did not open."""
+
+    def __init__(self, configuration: Configuration, path: str, only: Optional[int]) -> None:
+        self.summary = Summary()
+        self.unopened: Dict[_Kind, List[Seen]] = {}
+        self.first_opened: Dict[Tuple[str, Optional[int]], int] = {}
+        self.others: Dict[str, List[int]] = collections.defaultdict(list)
+        self.only: Optional[capture.Packet] = None
+        self.only_verdict = ""
+        for packet in capture.read(path):
+            verdict = self._add(configuration, packet, only)
+            if packet.number == only:
+                self.only, self.only_verdict = packet, verdict
+                break
+        if only is not None and self.only is None:
+            raise UsageError(f"the capture has no record {only}")
+
+    def _add(self, configuration: Configuration, packet: capture.Packet, only: Optional[int]) -> str:
+        """Gives a record to the endpoint."""
+        if not packet.is_whole:
+            name = "partial" if packet.link_type == capture.ETHERNET else f"linktype {packet.link_type}"
+            self.others[name].append(packet.number)
+            return name
+        try:
+            verdict = configuration.secy.receive(packet.frame).verdict
+        except FrameFault as why:
+            self.others[why.name].append(packet.number)
+            return why.name
+        of = self.summary.add(packet.number, packet.frame, verdict.name)
+        if verdict in _DELIVERED_AS_SENT:
+            self.first_opened.setdefault(of, packet.number)
+        elif only is None or only == packet.number:
+            kept = self.unopened.setdefault((verdict, *of), [])
+            if len(kept) < _MOST_FRAMES:
+                kept.append(Seen(packet.number, packet.frame))
+        return verdict.name
+
+
+def _opened_by(setting: Setting, seen: "Sequence[Seen]") -> "List[int]":
+    """The records of the frames that open under a setting, one after another."""
+    trial = Trial(setting.key, setting.sci, setting.an, setting.ssci)
+    trial.begin(setting.upper)
+    found = []
+    for each in seen:
+        plain, _ = without_vlan(each.frame)
+        octets = plain[: len(plain) - setting.cut] if setting.cut else plain
+        tag = read_tag(octets)
+        if tag is not None and len(octets) >= 14 and trial.receive(octets).verdict in OPENED:
+            found.append(each.record)
+    trial.close()
+    return found
+
+
+def _note_of(run_: Run, kind: _Kind, seen: Seen) -> str:
+    """What is known of a frame for which no change was found."""
+    verdict, sender, an = kind
+    if an is None:
+        return f"the frame has no SecTAG: EtherType {ethertype(seen.frame)}"
+    if verdict == Verdict.BadTag:
+        return "its SecTAG is malformed, or the frame is shorter than the tag says"
+    if verdict == Verdict.Reserved:
+        return "E is set and C is clear: not a data frame"
+    first = run_.first_opened.get((sender, an))
+    if first is not None and verdict in (Verdict.NotValid, Verdict.Invalid):
+        return (
+            f"no change that was tried opens it; others of the association open (record {first}): altered, or a rekey"
+        )
+    return "no change that was tried opens it: another key, or salt; give more keys by --key"
+
+
+def _with_rekey(run_: Run, kind: _Kind, found: Found, record: int) -> "Tuple[Change, ...]":
+    """The changes; a key that follows another one of the same association is a rekey."""
+    first = run_.first_opened.get((kind[1], kind[2]))
+    changes = tuple(
+        it._replace(cause="rekey", text=f"from here on {it.text}: macsec-decrypt follows rekeys")
+        if it.cause == "key" and first is not None and first < record else it for it in found.changes
+    )  # fmt: skip
+    if changes or found.setting is None:
+        return changes
+    return (Change("order", "it opens as the first frame: its packet number is far from those that were accepted"),)
+
+
+class Explanation:
+    """The causes of all verdicts that are not OK."""
+
+    def __init__(self, run_: Run, search: Search) -> None:
+        self.groups: "List[Group]" = []
+        self._run, self._search, self._searches = run_, search, 0
+        for kind, seen in run_.unopened.items():
+            self._explain(kind, seen)
+
+    def _explain(self, kind: _Kind, seen: "List[Seen]") -> None:
+        """Explains the frames of a kind: those that one setting opens together."""
+        left = list(seen)
+        unexplained: "List[Seen]" = []
+        while left and len(unexplained) < _MOST_SEARCHES and self._searches < _MOST_SEARCHES_OF_ALL:
+            first = left[0]
+            self._searches += 1
+            found = self._search.of(first.frame, kind[0])
+            if found is None:
+                unexplained.append(left.pop(0))
+                continue
+            records = self._records(found, left, kind[0])
+            self.groups.append(Group(*kind, records, _with_rekey(self._run, kind, found, first.record)))
+            chosen = set(records)
+            left = [it for it in left if it.record not in chosen]
+        if unexplained or left:
+            note = _note_of(self._run, kind, (unexplained + left)[0])
+            self.groups.append(Group(*kind, [it.record for it in unexplained + left], (), note))
+
+    def _records(self, found: Found, left: "List[Seen]", verdict: Verdict) -> "List[int]":
+        """The records of the first frame, and of those that have the same cause."""
+        if found.setting is not None:
+            return [left[0].record, *_opened_by(found.setting, left[1:])]
+        return [left[0].record, *(it.record for it in left[1:] if _is_same(self._search, found, it, verdict))]
+
+
+def _is_same(search: Search, found: Found, seen: Seen, verdict: Verdict) -> bool:
+    """Has another frame the same cause? What no setting opened is compared by its kind alone."""
+    if any(it.cause in ("vlan", "replay") for it in found.changes):
+        other = search.of(seen.frame, verdict)
+        return other is not None and [it.cause for it in other.changes] == [it.cause for it in found.changes]
+    return True
+
+
+def _record_lines(packet: capture.Packet, verdict: str) -> "List[str]":
+    """The fields of one record."""
+    plain, tags = without_vlan(packet.frame)
+    tag = read_tag(plain)
+    lines = [
+        f"record {packet.number} {verdict}: {len(packet.frame)} octets, DA {plain[:6].hex()} SA {plain[6:12].hex()}"
+    ]
+    if tags:
+        lines.append(f"  VLAN tag {tags.hex()} before the SecTAG")
+    if tag is None:
+        return [*lines, f"  no SecTAG, EtherType {ethertype(packet.frame)}"]
+    sci = tag.sci.hex() if tag.sci else "none"
+    return [*lines, f"  SecTAG: {tag.flags}, AN {tag.an}, SL {tag.sl}, PN {tag.pn:08x}, SCI {sci}"]
+
+
+def _more_keys(texts: "Sequence[str]") -> "List[Key]":
+    """The keys of the options --key."""
+    found = []
+    for place, text in enumerate(texts, 1):
+        it = key_argument(text)
+        for suite in it.suites():
+            found.append(Key(it.octets, suite, 0, it.salt or bytes(12), f"--key {place}"))
+            break
+    return found
+
+
+def main(words: Optional[Sequence[str]] = None) -> int:
+    """Runs the command, and returns its exit status."""
+    parser = argparse.ArgumentParser(
+        prog="macsec-why",
+        description="Names the cause of each verdict other than OK and Delayed, and summarizes a capture.",
+        epilog="Exit status: 0 if every protected frame opens, 3 if not; 1 for a file, 2 for arguments or CONFIG.",
+    )
+    parser.add_argument("config", metavar="CONFIG", help="the configuration of `macsec validate`")
+    parser.add_argument("capture", metavar="IN", help="pcap or pcapng, also compressed by gzip")
+    parser.add_argument("record", metavar="K", type=int, nargs="?", help="a record alone, from 0")
+    parser.add_argument("--key", action="append", default=[], metavar="KEY[:SALT]", help="one more key to try, in hex")
+    parser.add_argument("--json", action="store_true", help="one JSON object on each line")
+    asked = parser.parse_args(words)
+    return run("macsec-why", lambda: _why(asked))
+
+
+def _why(asked: argparse.Namespace) -> int:
+    with open(asked.config, "rb") as file:
+        configuration = Configuration(file.read())
+    search = Search(configuration, _more_keys(asked.key))
+    made = Run(configuration, asked.capture, asked.record)
+    groups = Explanation(made, search).groups
+    search.trials.close()
+    if asked.json:
+        objects: "List[Dict[str, object]]" = [{"refused": it._asdict()} for it in configuration.refusals]
+        objects += [] if asked.record is not None else made.summary.as_dicts()
+        objects += [{"not seen": name, "records": records} for name, records in made.others.items()]
+        objects += [{"unopened": it.as_dict()} for it in groups]
+        lines = [json.dumps(it) for it in objects]
+    else:
+        lines = [f"{it.message}" for it in configuration.refusals]
+        lines += _record_lines(made.only, made.only_verdict) if made.only else made.summary.lines()
+        lines += [f"record {ranges(records)}: {name}" for name, records in made.others.items()]
+        lines += [line for it in groups for line in it.lines()]
+    sys.stdout.write("".join(f"{it}\n" for it in lines))
+    return 3 if any(it.an is not None or it.changes for it in groups) else 0
+
+
+if __name__ == "__main__":
+    sys.exit(main())

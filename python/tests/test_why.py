@@ -1,0 +1,194 @@
+"""macsec-why names each planted cause, and none for an untouched capture."""
+
+from __future__ import annotations
+
+import json
+import unittest
+from typing import List, Set
+
+from macsec import SecY, Suite
+from macsec.why import main
+
+from .helpers import CAPTURES, KEYS, OTHER, RECEIVER, SALT, SENDER, InFolder, client_frames, main_of, protected
+
+
+def config(
+    suite: str = "gcm128", key: bytes = KEYS[0], offset: int = 0, sci: str = SENDER, an: int = 0, pn: str = "1",
+    ssci: str = "00000001", on: bool = True, own: str = RECEIVER, more: str = "",
+) -> str:  # fmt: skip
+    """A CONFIG that receives."""
+    extended = suite.startswith("xpn")
+    return "\n".join([
+        f"end A {suite} {own} 1546 sci",
+        f"A key 0 {key.hex()} {offset}" + (f" 0000000f {SALT.hex()}" if extended else ""),
+        f"A rxsc {sci}",
+        f"A rxsa {sci} {an} 0 {pn}" + (f" {ssci}" if extended else ""),
+        *([f"A rxon {sci} {an}"] if on else []),
+        more,
+    ])  # fmt: skip
+
+
+class Planted(InFolder):
+    def causes(self, text: str, frames: "List[bytes]", *words: str, count: int = 8) -> "Set[str]":
+        """The kinds of causes that are named. All frames have to be explained."""
+        path = self.put("CONFIG", text)
+        status, out, error = main_of(main, path, self.put("IN", frames), "--json", *words)
+        self.assertEqual((status, error), (3, ""))
+        groups = [it["unopened"] for it in map(json.loads, out.splitlines()) if "unopened" in it]
+        self.assertEqual(sum(len(it["records"]) for it in groups), count)
+        self.assertTrue(all(it["causes"] for it in groups), out)
+        return {cause["cause"] for it in groups for cause in it["causes"]}
+
+    def setUp(self) -> None:
+        super().setUp()
+        self.frames = client_frames(8)
+        self.link = protected(self.frames)
+
+    def test_key(self) -> None:
+        other = f"A key 1 {KEYS[0].hex()} 0"
+        self.assertEqual(self.causes(config(key=KEYS[1], more=other), self.link), {"key"})
+        self.assertEqual(self.causes(config(key=KEYS[1]), self.link, "--key", KEYS[0].hex()), {"key"})
+
+    def test_offset(self) -> None:
+        self.assertEqual(self.causes(config(offset=50), self.link), {"offset"})
+        self.assertEqual(self.causes(config(), protected(self.frames, offset=30)), {"offset"})
+
+    def test_suite(self) -> None:
+        self.assertEqual(self.causes(config(suite="xpn128"), self.link), {"suite"})
+        extended = protected(self.frames, suite=Suite.xpn128)
+        text = config(more=f"A key 1 {KEYS[1].hex()} 0").replace(
+            f"{KEYS[0].hex()} 0", f"{KEYS[0].hex()} 0 00000009 {SALT.hex()}"
+        )
+        self.assertIn("suite", self.causes(text, extended))
+
+    def test_order_of_the_ssci(self) -> None:
+        link = protected(self.frames, suite=Suite.xpn128, ssci=2)
+        self.assertEqual(self.causes(config(suite="xpn128", ssci="02000000"), link), {"ssci"})
+        self.assertEqual(self.causes(config(suite="xpn128", ssci="00000007"), link), {"ssci"})
+
+    def test_upper_half(self) -> None:
+        link = protected(self.frames, suite=Suite.xpn128, pn=0x5_0000_0001)
+        self.assertEqual(self.causes(config(suite="xpn128"), link), {"upper"})
+
+    def test_salt(self) -> None:
+        link = protected(self.frames, suite=Suite.xpn128)
+        text = config(suite="xpn128").replace(SALT.hex(), SALT[::-1].hex())
+        self.assertEqual(self.causes(text, link), {"salt"})
+
+    def test_sci(self) -> None:
+        self.assertEqual(self.causes(config(sci=OTHER), self.link), {"sci"})
+
+    def test_sci_that_is_not_in_the_tag(self) -> None:
+        link = protected(self.frames, form="auto")
+        self.assertEqual(self.causes(config(sci="0200000000010002"), link), {"sci"})
+
+    def test_association_number(self) -> None:
+        self.assertEqual(self.causes(config(an=1), self.link), {"an"})
+
+    def test_association_off(self) -> None:
+        self.assertEqual(self.causes(config(on=False), self.link), {"off"})
+
+    def test_own_sci(self) -> None:
+        self.assertEqual(self.causes(config(own=SENDER, sci=OTHER), self.link), {"own-sci"})
+
+    def test_frame_check_sequence(self) -> None:
+        self.assertEqual(self.causes(config(), [it + b"\xde\xad\xbe\xef" for it in self.link]), {"fcs"})
+
+    def test_vlan(self) -> None:
+        tagged = [it[:12] + bytes.fromhex("81000064") + it[12:] for it in self.link]
+        self.assertEqual(self.causes(config(), tagged), {"vlan"})
+        twice = [it[:12] + bytes.fromhex("88a8000a") + it[12:] for it in tagged]
+        self.assertEqual(self.causes(config(offset=30), twice), {"vlan", "offset"})
+
+    def test_padding(self) -> None:
+        self.assertEqual(self.causes(config(), [it + bytes(6) for it in self.link]), {"padding"})
+
+    def test_packet_number(self) -> None:
+        self.assertEqual(self.causes(config(pn="57"), self.link), {"pn"})
+
+    def test_repeats(self) -> None:
+        self.assertEqual(self.causes(config(), self.link + self.link[3:5], count=2), {"replay"})
+
+    def test_rekey(self) -> None:
+        later = protected(client_frames(4), key=KEYS[1], pn=9)
+        more = f"A key 1 {KEYS[1].hex()} 0"
+        self.assertEqual(self.causes(config(more=more), self.link + later, count=4), {"rekey"})
+
+    def test_several(self) -> None:
+        link = [it + b"\xde\xad\xbe\xef" for it in protected(self.frames, offset=30)]
+        self.assertEqual(self.causes(config(), link), {"offset", "fcs"})
+
+
+class Untouched(InFolder):
+    def run_of(self, text: str, capture: str, *words: str) -> "tuple[int, List[dict]]":
+        status, out, error = main_of(main, CAPTURES / text, CAPTURES / capture, "--json", *words)
+        self.assertEqual(error, "")
+        return status, [json.loads(it) for it in out.splitlines()]
+
+    def test_no_cause_is_named(self) -> None:
+        pairs = (
+            ("receiver.config", "link.pcap"), ("observer.config", "observed.pcap"), ("peer.config", "linux.pcap"),
+            ("xpn.config", "xpn.pcap"),
+        )  # fmt: skip
+        for text, capture in pairs:
+            status, shown = self.run_of(text, capture)
+            self.assertEqual(status, 0, capture)
+            self.assertFalse([it for it in shown if it.get("unopened", {}).get("causes")], capture)
+
+    def test_an_altered_frame_has_no_cause(self) -> None:
+        link = protected(client_frames(4))
+        link[2] = link[2][:-1] + bytes([link[2][-1] ^ 1])
+        text = self.put("CONFIG", config())
+        status, out, _ = main_of(main, text, self.put("IN", link), "--json")
+        (group,) = [it["unopened"] for it in map(json.loads, out.splitlines()) if "unopened" in it]
+        self.assertEqual((status, group["causes"], group["records"]), (3, [], [2]))
+
+    def test_summary(self) -> None:
+        _, shown = self.run_of("observer.config", "observed.pcap")
+        first, second = (it["association"] for it in shown if "association" in it)
+        self.assertEqual((first["sci"], first["frames"], first["repeated"], first["missing"]), (SENDER, 4, 1, 0))
+        self.assertEqual(second["verdicts"], {"OK": 3})
+        frames = protected(client_frames(9))
+        text = self.put("CONFIG", config())
+        _, out, _ = main_of(main, text, self.put("IN", frames[:3] + frames[5:]))
+        self.assertIn("7 frames, PN 00000001 to 00000009, 2 missing, 0 repeated: OK 7", out)
+
+    def test_one_record(self) -> None:
+        status, out, _ = main_of(main, CAPTURES / "one-sender.config", CAPTURES / "fcs.pcap", 1)
+        self.assertEqual(status, 3)
+        self.assertIn("SecTAG: SC E C, AN 0, SL 0, PN 00000002", out)
+        self.assertIn("fcs: ", out)
+        self.assertEqual(main_of(main, CAPTURES / "one-sender.config", CAPTURES / "fcs.pcap", 9)[0], 2)
+
+    def test_a_refused_line_is_named(self) -> None:
+        text = self.put("CONFIG", config().replace("key 0", "key 1"))
+        _, out, _ = main_of(main, text, self.put("IN", protected(client_frames(1))))
+        self.assertIn("line 4: 5 NoKey", out)
+
+    def test_faults(self) -> None:
+        text = self.put("CONFIG", config())
+        bad = self.put("BAD", config().replace("gcm128", "gcm-aes-128"))
+        self.assertEqual(main_of(main, bad, self.put("IN", []))[0], 2)
+        self.assertEqual(main_of(main, text, self.put("TEXT", "no capture"))[0], 1)
+        self.assertEqual(main_of(main, text, "/nowhere/IN")[0], 1)
+        self.assertEqual(main_of(main, text)[0], 2)
+
+
+class Search(InFolder):
+    def test_library_is_asked(self) -> None:
+        """What is named is what opens: the setting that is found opens the frame by itself."""
+        link = protected(client_frames(1), suite=Suite.xpn128, pn=0x2_0000_0007, ssci=3)
+        with SecY(RECEIVER, Suite.xpn128) as b:
+            b.install_key(0, KEYS[0], ssci=9, salt=SALT)
+            b.add_rx_sc(SENDER)
+            b.add_rx_sa(SENDER, 0, 0, 0x2_0000_0001, ssci=3)
+            b.enable_rx_sa(SENDER, 0)
+            self.assertEqual(b.receive(link[0]).verdict.name, "OK")
+        text = self.put("CONFIG", config(suite="xpn128"))
+        _, out, _ = main_of(main, text, self.put("IN", link))
+        self.assertIn("upper half 2 ", out)
+        self.assertIn("SSCI 00000003", out)
+
+
+if __name__ == "__main__":
+    unittest.main()
