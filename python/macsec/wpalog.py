@@ -1,0 +1,106 @@
+"""The keys and associations in a log of wpa_supplicant, run with -dK."""
+
+from __future__ import annotations
+
+import re
+from typing import Dict, List, NamedTuple, Optional, Tuple
+
+from .errors import UsageError
+from .names import Suite
+from .plan import Plan, PlannedSa
+
+# What the key server and its peers log of a key, and what either logs of the association around it.
+_KEY = re.compile(
+    r"(generated new SAK|AES Key Unwrap of SAK|macsec_linux: SA key)[.:]* - hexdump\(len=\d+\):"
+    r"((?: [0-9a-f]{2})+| \[REMOVED\])"
+)
+_AN = re.compile(r"Distributed AN\.*: (\d)")
+_OFFSET = re.compile(r"Confidentiality Offset\.*: (\d)")
+# What the driver for Linux logs: the number and the SCI of an association, and options. The key comes on a later line.
+_SA = re.compile(r"create_(transmit|receive)_sa -> (\d) on ([0-9a-f:]{17})::([0-9a-f]+) \(.*next_pn=(\d+)\)")
+_OPTION = re.compile(r"try_commit (protect_frames|encrypt|encoding_sa|replay_protect)=(\d+)(?: replay_window=(\d+))?")
+# The offsets by their numbers in MKA; 0 is integrity alone.
+_OFFSETS = {"0": 0, "1": 0, "2": 30, "3": 50}
+
+
+class LoggedKey(NamedTuple):
+    """A key of the log, in the order in which they were distributed."""
+
+    octets: bytes
+    an: Optional[int]
+    offset: int
+
+
+def keys_of(log: str) -> "List[LoggedKey]":
+    """The keys of a log, each once.
+
+    >>> log = "\\tDistributed AN........: 1\\n\\tAES Key Unwrap of SAK.: - hexdump(len=16):" + " 0f" * 16
+    >>> keys_of(log)[0].an
+    1
+    """
+    found: List[LoggedKey] = []
+    an: Optional[int] = None
+    offset, waits = 0, False
+    for line in log.splitlines():
+        told = _OFFSET.search(line)
+        offset = _OFFSETS.get(told[1], 0) if told else offset
+        told = _AN.search(line)
+        if told:
+            an = int(told[1])
+            if waits:
+                found[-1], waits = found[-1]._replace(an=an), False
+            continue
+        told = _KEY.search(line)
+        if not told:
+            if waits and _OFFSET.search(line):
+                found[-1] = found[-1]._replace(offset=offset)
+            continue
+        if "REMOVED" in told[2]:
+            raise UsageError("the log does not show keys: run wpa_supplicant with -dK")
+        octets = bytes.fromhex(told[2])
+        if len(octets) in (16, 32) and all(it.octets != octets for it in found):
+            # The server logs the association after its key, a peer before.
+            waits = told[1].startswith("generated")
+            found.append(LoggedKey(octets, None if waits else an, offset))
+    return found
+
+
+def plan_of_log(log: str, mtu: int = 1500) -> Plan:
+    """The endpoint that wpa_supplicant made by the driver for Linux: of each association the last key."""
+    sas: "Dict[Tuple[bool, bytes, int], Tuple[bytes, int]]" = {}
+    waits: "Optional[Tuple[bool, bytes, int, int]]" = None
+    options: Dict[str, int] = {}
+    replaced = 0
+    for line in log.splitlines():
+        told = _OPTION.search(line)
+        if told:
+            options[told[1]] = int(told[2])
+            options["window"] = int(told[3] or options.get("window", 0))
+        told = _SA.search(line)
+        if told:
+            sci = bytes.fromhex(told[3].replace(":", "")) + int(told[4], 16).to_bytes(2, "big")
+            waits = told[1] == "transmit", sci, int(told[2]), max(int(told[5]), 1)
+        told = _KEY.search(line)
+        if told and waits and told[1].endswith("SA key"):
+            if "REMOVED" in told[2]:
+                raise UsageError("the log does not show keys: run wpa_supplicant with -dK")
+            replaced += waits[:3] in sas
+            sas[waits[:3]], waits = (bytes.fromhex(told[2]), waits[3]), None
+    own = [sci for is_tx, sci, _ in sas if is_tx]
+    if not own:
+        raise UsageError("the log has no create_transmit_sa of macsec_linux with its key: run wpa_supplicant with -dK")
+    lengths = {len(octets) for octets, _ in sas.values()}
+    plan = Plan(own[-1], Suite.gcm256 if lengths == {32} else Suite.gcm128, "sci", mtu + 14)
+    plan.protect, plan.encrypt = options.get("protect_frames", 1) == 1, options.get("encrypt", 1) == 1
+    plan.replay, plan.window = options.get("replay_protect", 0) == 1, options.get("window", 0)
+    plan.encoding = options.get("encoding_sa")
+    if replaced:
+        plan.notes.append(f"{replaced} associations got another key in the log; each one here has its last key")
+    for (is_tx, sci, an), (octets, pn) in sas.items():
+        suite = Suite.gcm256 if len(octets) == 32 else Suite.gcm128
+        sa = PlannedSa(plan.key_of(octets, suite=suite), pn)
+        if is_tx and sci == plan.sci:
+            plan.tx[an] = sa
+        elif not is_tx:
+            plan.rx.setdefault(sci, {})[an] = sa
+    return plan

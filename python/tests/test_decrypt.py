@@ -1,0 +1,214 @@
+"""macsec-decrypt: both directions, rekeys, VLAN tags, check sequences, files."""
+
+from __future__ import annotations
+
+import gzip
+import json
+import os
+import shutil
+import subprocess
+import unittest
+import zlib
+from typing import Iterator, List
+
+from macsec import Suite, capture
+from macsec.decrypt import main
+
+from .helpers import CAPTURES, KEYS, LONG_KEY, OTHER, SALT, START, InFolder, client_frames, main_of, protected
+
+
+def mixed(*parts: "List[bytes]") -> "Iterator[bytes]":
+    """Frames of several senders, one of each after another."""
+    for several in zip(*parts):
+        yield from several
+
+
+class Opening(InFolder):
+    def opened(self, frames: object, *words: object, status: int = 0) -> "List[bytes]":
+        """The frames of OUT, for some frames or a capture file."""
+        path = frames if isinstance(frames, (str, os.PathLike)) else self.put("IN", frames)
+        out = self.folder / "OUT"
+        out.unlink(missing_ok=True)
+        ended, self.text, error = main_of(main, path, out, *words)
+        self.assertEqual((ended, error), (status, ""), self.text)
+        self.packets = list(capture.read(str(out)))
+        return [it.frame for it in self.packets]
+
+    def keys(self, *which: int) -> "List[str]":
+        return [word for it in which for word in ("--key", KEYS[it].hex())]
+
+
+class Decrypt(Opening):
+    def test_both_directions(self) -> None:
+        one, two = client_frames(5), client_frames(5, OTHER)
+        link = mixed(protected(one), protected(two, sci=OTHER, key=KEYS[1]))
+        self.assertEqual(self.opened(list(link), *self.keys(0, 1)), list(mixed(one, two)))
+
+    def test_four_rekeys_that_return_to_an_association_number(self) -> None:
+        frames = client_frames(20)
+        link = [it for n in range(5) for it in protected(frames[4 * n : 4 * n + 4], key=KEYS[n], an=n % 4)]
+        # A frame of the first key comes after the first one of the second.
+        link[3], link[4] = link[4], link[3]
+        frames[3], frames[4] = frames[4], frames[3]
+        self.assertEqual(self.opened(link, *self.keys(4, 2, 0, 1, 3)), frames)
+        self.assertEqual(self.text.count("under"), 5)
+
+    def test_the_old_key_of_an_association_number_still_opens(self) -> None:
+        frames = client_frames(6)
+        link = protected(frames[:3]) + protected(frames[3:], key=KEYS[1])
+        link[2], link[3] = link[3], link[2]
+        self.assertEqual(self.opened(link, *self.keys(0, 1)), frames[:2] + [frames[3], frames[2]] + frames[4:])
+
+    def test_suites_offsets_and_forms(self) -> None:
+        frames = client_frames(3)
+        for how in (
+            {"suite": Suite.gcm256, "key": LONG_KEY}, {"offset": 30}, {"offset": 50}, {"conf": False}, {"form": "auto"},
+            {"form": "es"}, {"form": "scb", "sci": "0200000000010000"}, {"form": "auto", "sci": "0200000000010002"},
+            {"suite": Suite.xpn128}, {"suite": Suite.xpn256, "key": LONG_KEY, "ssci": 5, "pn": 0x77_0000_0001},
+            {"suite": Suite.xpn128, "pn": 0xFFFF_FFFE}, {"suite": Suite.xpn128, "form": "auto", "ssci": 1 << 24},
+        ):  # fmt: skip
+            key = how.get("key", KEYS[0]).hex()  # type: ignore[union-attr]
+            suite = Suite(how.get("suite", 1))  # type: ignore[arg-type]
+            extended = f":{SALT.hex()}" if suite.is_extended else ""
+            with self.subTest(how=how):
+                self.assertEqual(self.opened(protected(frames, **how), "--key", key + extended), frames)
+
+    def test_extended_numbers_are_shown_whole(self) -> None:
+        link = protected(client_frames(4), suite=Suite.xpn128, pn=0x2_FFFF_FFFE)
+        self.opened(link, "--json", "--key", f"{KEYS[0].hex()}:{SALT.hex()}")
+        self.assertEqual([json.loads(it)["pn"] for it in self.text.splitlines()], [0x2_FFFF_FFFE + n for n in range(4)])
+
+    def test_vlan_tags_are_put_back(self) -> None:
+        (frame,), (link,) = client_frames(1), protected(client_frames(1))
+        for tags in ("81000064", "88a8000a81000064"):
+            octets = bytes.fromhex(tags)
+            self.assertEqual(
+                self.opened([link[:12] + octets + link[12:]], *self.keys(0)), [frame[:12] + octets + frame[12:]]
+            )
+
+    def test_check_sequences_are_cut_off(self) -> None:
+        frames = client_frames(2, length=30) + client_frames(2)
+        link = protected(frames)
+        right = [it + zlib.crc32(it).to_bytes(4, "little") for it in link]
+        self.assertEqual(self.opened(right, *self.keys(0)), frames)
+        self.assertEqual(self.opened([it + b"\xde\xad\xbe\xef" for it in link], *self.keys(0)), frames)
+        plain = client_frames(1)[0]
+        self.assertEqual(self.opened([plain + zlib.crc32(plain).to_bytes(4, "little")], *self.keys(0)), [plain])
+
+    def test_what_is_not_opened_is_kept(self) -> None:
+        link = protected(client_frames(3)) + protected(client_frames(1), key=KEYS[1])
+        link[1] = link[1][:-1] + bytes([link[1][-1] ^ 1])
+        opened = self.opened([*link, bytes(60)], *self.keys(0), status=3)
+        self.assertEqual(opened, [client_frames(1)[0], link[1], client_frames(3)[2], link[3], bytes(60)])
+        self.assertIn("2 frames opened; 2 frames not opened; 1 frame not protected", self.text)
+        self.assertEqual(len(self.opened(link, *self.keys(0), "--only-opened", status=3)), 2)
+
+    def test_repeats_are_opened(self) -> None:
+        link = protected(client_frames(3))
+        self.assertEqual(self.opened(link + link[:1], *self.keys(0)), client_frames(3) + client_frames(1))
+
+    def test_whose_key(self) -> None:
+        frames = client_frames(2)
+        link = protected(frames)
+        self.assertEqual(self.opened(link, "--key", f"{OTHER}={KEYS[0].hex()}", status=3), link)
+        self.assertEqual(self.opened(link, "--key", f"0200000000010001/0={KEYS[0].hex()}"), frames)
+        self.assertEqual(self.opened(link, "--key", f"/1={KEYS[0].hex()}", status=3), link)
+        keys = self.put("KEYS", f"# two keys\n\n{KEYS[1].hex()}\n/0={KEYS[0].hex()}\n")
+        self.assertEqual(self.opened(link, "--keys", keys), frames)
+
+    def test_a_log_of_wpa_supplicant(self) -> None:
+        spaced = [it.hex(" ") for it in KEYS[:2]]
+        log = (
+            f"KaY: generated new SAK - hexdump(len=16): {spaced[0]}\n\tDistributed AN........: 0\n"
+            "MKA Distributed SAK parameter set\n\tDistributed AN........: 1\n\tConfidentiality Offset: 1\n"
+            f"\tAES Key Unwrap of SAK.: - hexdump(len=16): {spaced[1]}\n"
+        )
+        frames = client_frames(4)
+        link = protected(frames[:2]) + protected(frames[2:], key=KEYS[1], an=1)
+        self.assertEqual(self.opened(link, "--wpa", self.put("LOG", log)), frames)
+        hidden = self.put("HIDDEN", "KaY: generated new SAK - hexdump(len=16): [REMOVED]\n")
+        status, _, error = main_of(main, self.put("IN", link), self.folder / "OTHER", "--wpa", hidden)
+        self.assertEqual(status, 2)
+        self.assertIn("-dK", error)
+
+
+class Files(Opening):
+    def test_formats(self) -> None:
+        frames = client_frames(3)
+        path = self.put("IN", protected(frames))
+        for made in (path, self.put("IN.gz", gzip.compress((self.folder / "IN").read_bytes()))):
+            self.assertEqual(self.opened(made, *self.keys(0)), frames)
+        self.assertEqual([it.time for it in self.packets], [START + n * 10**6 for n in range(3)])
+        again = self.put("again", (self.folder / "OUT").read_bytes())
+        self.assertEqual(self.opened(again, *self.keys(0)), frames)
+
+    def test_out_is_a_new_file_that_appears_when_it_is_complete(self) -> None:
+        link = protected(client_frames(2))
+        out = self.put("OUT", "yesterday's")
+        path = self.put("IN", link)
+        self.assertEqual(main_of(main, path, out, *self.keys(0))[0], 1)
+        self.assertEqual((self.folder / "OUT").read_text(), "yesterday's")
+        self.assertEqual(main_of(main, path, path, *self.keys(0))[0], 1)
+        os.unlink(out)
+        cut = self.put("CUT", (self.folder / "IN").read_bytes()[:-1])
+        status, _, error = main_of(main, cut, out, *self.keys(0))
+        self.assertEqual((status, self.names()), (1, ["CUT", "IN"]))
+        self.assertIn("record 1", error)
+        self.assertEqual(main_of(main, "/nowhere/IN", out, *self.keys(0))[0], 1)
+        self.assertEqual(main_of(main, path, out)[0], 2)
+        self.assertEqual(main_of(main, path, out, "--key", "00")[0], 2)
+        self.assertEqual(self.names(), ["CUT", "IN"])
+        self.assertEqual(main_of(main, path, out, *self.keys(0))[0], 0)
+        self.assertEqual(os.stat(out).st_mode & 0o777, 0o600)
+        self.assertEqual(self.names(), ["CUT", "IN", "OUT"])
+
+    def test_other_records(self) -> None:
+        """Records that are not whole, or not Ethernet, are kept."""
+        writer = capture.PcapngFile(str(self.folder / "IN"))
+        (link,) = protected(client_frames(1))
+        writer.write(START, link[:40], len(link))
+        writer.write(START, b"other", 5, link_type=113)
+        writer.write(START, link, len(link), "a comment")
+        writer.close()
+        self.assertEqual(self.opened(self.folder / "IN", *self.keys(0)), [link[:40], b"other", *client_frames(1)])
+        self.assertEqual([it.link_type for it in self.packets], [1, 113, 1])
+        self.assertEqual(self.packets[0].length, len(link))
+
+    def test_examples(self) -> None:
+        for name, which in (
+            ("rekey", (0, 1, 2)),
+            ("observed", (0,)),
+            ("linux", (0,)),
+            ("no-sci", (0,)),
+            ("fcs", (0,)),
+            ("vlan", (0,)),
+        ):
+            self.opened(CAPTURES / f"{name}.pcap", *self.keys(*which))
+        self.assertEqual(
+            self.opened(CAPTURES / "link.pcap", *self.keys(0)),
+            [it.frame for it in capture.read(str(CAPTURES / "client.pcap"))],
+        )
+
+    @unittest.skipIf(shutil.which("tshark") is None, "tshark is not installed")
+    def test_tshark_reads_it(self) -> None:
+        self.opened(CAPTURES / "observed.pcap", *self.keys(0))
+        words = [
+            "tshark",
+            "-r",
+            str(self.folder / "OUT"),
+            "-T",
+            "fields",
+            "-e",
+            "frame.time_epoch",
+            "-e",
+            "icmp.seq",
+            "-e",
+            "frame.comment",
+        ]
+        shown = subprocess.run(words, capture_output=True, text=True, check=True).stdout.splitlines()
+        self.assertEqual(shown[2], "1700000000.001000000\t1\tmacsec: OK, SCI 0200000000010001, AN 0, PN 0x1f5, key 1")
+        self.assertEqual(shown[5].split("\t")[2], "macsec: not protected")
+
+
+if __name__ == "__main__":
+    unittest.main()
