@@ -1,0 +1,129 @@
+"""macsec-config: a CONFIG from what people have, and what is wrong with one."""
+
+from __future__ import annotations
+
+import argparse
+import json
+import sys
+from typing import List, Optional, Sequence
+
+from .commands import run
+from .configuration import Configuration
+from .decrypt import add_key_options, key_arguments
+from .errors import UsageError
+from .iproute import Devices, address_of, commands_of, plan_of_json
+from .lint import lint
+from .names import Suite
+from .nextrun import next_config
+from .plan import Plan, plan_of
+from .scan import scan
+from .secy import sci_of
+from .trial import KeyArgument
+from .wpalog import plan_of_log
+
+
+def main(words: Optional[Sequence[str]] = None) -> int:
+    """Runs the command, and returns its exit status."""
+    parser = argparse.ArgumentParser(
+        prog="macsec-config",
+        description="Writes a CONFIG to standard output, with what was found as comments; or checks one.",
+        epilog="Exit status: 0; 3 if --lint finds a fault or a refused line, or a frame of --capture does not open; "
+        "1 for a file, 2 for arguments or their texts. The result has keys: keep it as you keep them.",
+    )
+    source = parser.add_mutually_exclusive_group()
+    source.add_argument("--capture", metavar="IN", help="from a capture, and from keys")
+    source.add_argument(
+        "--ip", metavar="FILE", help="from a script of ip link and ip macsec commands (-: standard input)"
+    )
+    source.add_argument("--ip-json", metavar="FILE", help="from the output of ip -j macsec show, and from keys")
+    source.add_argument("--lint", metavar="CONFIG", help="say what is wrong with a CONFIG, and where")
+    source.add_argument("--to-ip", metavar="CONFIG", help="print the commands of ip for a CONFIG")
+    source.add_argument(
+        "--next", nargs=2, metavar=("TEXT", "CONFIG"), help="CONFIG for the next run, after the one that printed TEXT"
+    )
+    parser.add_argument(
+        "--as", dest="role", choices=("end", "peer", "observer"), help="whose CONFIG (--ip: end; --capture: observer)"
+    )
+    parser.add_argument("--own", metavar="SCI", help="with --capture: the SCI of the end whose CONFIG it is")
+    parser.add_argument("--name", metavar="NAME", help="the macsec device (macsec0, or the only one)")
+    parser.add_argument("--dev", metavar="DEV", default="eth0", help="with --to-ip: the device below (eth0)")
+    parser.add_argument("--mtu", type=int, default=1500, help="the MTU of the device below (1500)")
+    parser.add_argument(
+        "--address", action="append", default=[], metavar="DEV=MAC", help="with --ip: the address of a device"
+    )
+    add_key_options(parser)
+    parser.add_argument(
+        "--offset", type=int, choices=(0, 30, 50), help="the confidentiality offset; else all are tried"
+    )
+    parser.add_argument("--json", action="store_true", help="with --lint: one JSON object on each line")
+    asked = parser.parse_args(words)
+    return run("macsec-config", lambda: _config(asked))
+
+
+def _read(path: str) -> bytes:
+    if path == "-":
+        return sys.stdin.buffer.read()
+    with open(path, "rb") as file:
+        return file.read()
+
+
+def _config(asked: argparse.Namespace) -> int:
+    if asked.lint:
+        return _lint(asked)
+    if asked.next:
+        text = _read(asked.next[0]).decode("latin-1")
+        sys.stdout.write(next_config(_read(asked.next[1]), text).decode("latin-1"))
+        return 0
+    if asked.to_ip:
+        plan = plan_of(Configuration(_read(asked.to_ip)))
+        print("\n".join(commands_of(_as(plan, asked.role or "end"), asked.dev, asked.name or "macsec0")))
+        return 0
+    if asked.capture:
+        return _from_capture(asked)
+    if asked.ip:
+        addresses: "dict[str, bytes]" = {}
+        for each in asked.address:
+            device, _, address = each.partition("=")
+            try:
+                addresses[device] = address_of(address)
+            except ValueError:
+                raise UsageError(f"--address {each}: DEV=MAC expected") from None
+        plan = Devices(_read(asked.ip).decode(), addresses).plan(asked.name, asked.mtu)
+    elif asked.ip_json:
+        plan = plan_of_json(_read(asked.ip_json).decode(), key_arguments(asked), asked.name, asked.mtu)
+    elif len(asked.wpa) == 1:
+        plan = plan_of_log(_read(asked.wpa[0]).decode(errors="replace"), asked.mtu)
+    else:
+        raise UsageError("name a source: --capture, --ip, --ip-json, --wpa, --to-ip, --next or --lint")
+    sys.stdout.write(_as(plan, asked.role or "end").text())
+    return 0
+
+
+def _as(plan: Plan, role: str) -> Plan:
+    return plan.observer() if role == "observer" else plan.peer() if role == "peer" else plan
+
+
+def _from_capture(asked: argparse.Namespace) -> int:
+    keys: List[KeyArgument] = key_arguments(asked) if asked.key or asked.keys or asked.wpa else []
+    suite = Suite[asked.suite] if asked.suite else None
+    made = scan(asked.capture, keys, suite, asked.offset)
+    try:
+        own = sci_of(asked.own) if asked.own else None
+    except ValueError as why:
+        raise UsageError(f"--own: {why}") from None
+    if asked.role in ("end", "peer") and own is None:
+        raise UsageError(f"--as {asked.role}: give the SCI of the end by --own")
+    plan = made.plan(own, suite)
+    sys.stdout.write((plan.peer() if asked.role == "peer" else plan).text())
+    return 3 if made.unopened else 0
+
+
+def _lint(asked: argparse.Namespace) -> int:
+    found = lint(_read(asked.lint))
+    for each in found:
+        print(json.dumps(each._asdict()) if asked.json else each)
+    return 3 if any(it.kind != "hint" for it in found) else 0
+
+
+if __name__ == "__main__":
+    sys.exit(main())

@@ -1,0 +1,331 @@
+"""`ip macsec` of iproute2: commands into an endpoint and back, and the output of `ip -j macsec show`."""
+
+from __future__ import annotations
+
+import json
+import re
+import shlex
+from typing import Any, Dict, List, Optional, Sequence, Tuple
+
+from .errors import UsageError
+from .names import Suite
+from .plan import Plan, PlannedSa
+from .trial import KeyArgument
+
+CIPHERS = {
+    "default": Suite.gcm128, "gcm-aes-128": Suite.gcm128, "gcm-aes-256": Suite.gcm256,
+    "gcm-aes-xpn-128": Suite.xpn128, "gcm-aes-xpn-256": Suite.xpn256,
+}  # fmt: skip
+_NAMES = {suite: name for name, suite in CIPHERS.items() if name != "default"}
+# The options of `type macsec` that have a value.
+_OPTIONS = (
+    "address port sci cipher icvlen encrypt send_sci end_station scb protect replay window validate encodingsa offload"
+).split()
+
+
+def address_of(text: str) -> bytes:
+    """The octets of a MAC address."""
+    octets = bytes.fromhex(text.replace(":", "").replace("-", ""))
+    if len(octets) != 6:
+        raise ValueError(text)
+    return octets
+
+
+def _commands(text: str) -> "List[Tuple[int, List[str]]]":
+    """The words of each `ip` command after `ip` and its options, with its line."""
+    found = []
+    joined = re.sub(r"\\\n", lambda _: "\x00", text)
+    line = 1
+    for part in joined.split("\n"):
+        for each in re.split(r";|&&|\|\|", part.replace("\x00", " ")):
+            try:
+                words = shlex.split(each, comments=True)
+            except ValueError:
+                words = []
+            while words[:1] and words[0] != "ip" and words[0] in ("sudo", "doas"):
+                words.pop(0)
+            if words[:1] == ["ip"]:
+                words.pop(0)
+                while words and words[0].startswith("-"):
+                    words = words[2:] if words[0] in ("-n", "-netns") else words[1:]
+                found.append((line, words))
+        line += 1 + part.count("\x00")
+    return found
+
+
+class _Device:
+    """A device of type macsec, as commands have it."""
+
+    def __init__(self, below: str, address: Optional[bytes]) -> None:
+        self.below, self.address = below, address
+        self.options: Dict[str, str] = {}
+        self.tx: Dict[int, Dict[str, str]] = {}
+        self.rx: Dict[bytes, Dict[int, Dict[str, str]]] = {}
+        self.rx_off: "set[bytes]" = set()
+
+
+def _options_of(words: "Sequence[str]") -> "Dict[str, str]":
+    found, rest = {}, list(words)
+    while rest:
+        name = rest.pop(0)
+        if name not in _OPTIONS or not rest:
+            raise ValueError(f"{name!r} is no option of a macsec device")
+        found[name] = rest.pop(0)
+    return found
+
+
+def _sa_of(words: "Sequence[str]") -> "Dict[str, str]":
+    """The options of an association."""
+    found, rest = {}, list(words)
+    while rest:
+        name = rest.pop(0)
+        if name in ("on", "off"):
+            found["state"] = name
+        elif name == "key":
+            found["id"], found["key"] = rest.pop(0), rest.pop(0)
+        elif name in ("pn", "xpn", "salt", "ssci"):
+            found[name] = rest.pop(0)
+        else:
+            raise ValueError(f"{name!r} is no option of an association")
+    return found
+
+
+def _channel_of(words: "List[str]") -> "Tuple[bytes, List[str]]":
+    """The SCI at the beginning of some words, and the words after it."""
+    named: Dict[str, str] = {}
+    rest = list(words)
+    while rest[:1] and rest[0] in ("sci", "port", "address"):
+        named[rest[0]] = rest[1]
+        rest = rest[2:]
+    if "sci" in named:
+        return int(named["sci"], 16).to_bytes(8, "big"), rest
+    return address_of(named["address"]) + int(named["port"], 0).to_bytes(2, "big"), rest
+
+
+class Devices:
+    """The macsec devices that commands make."""
+
+    def __init__(self, text: str, addresses: "Dict[str, bytes]") -> None:
+        self._addresses = addresses
+        self.devices: Dict[str, _Device] = {}
+        for line, words in _commands(text):
+            try:
+                if words[:1] in (["link"], ["l"]):
+                    self._link(words[1:])
+                elif words[:1] == ["macsec"]:
+                    self._macsec(words[1:])
+            except (ValueError, IndexError, KeyError) as why:
+                raise UsageError(f"line {line}: ip {' '.join(words)[:60]}: {why or 'a word is missing'}") from None
+
+    def _link(self, words: "List[str]") -> None:
+        if "type" not in words or words[words.index("type") + 1 :][:1] != ["macsec"]:
+            if words[:1] == ["set"] and "address" in words:
+                name = words[2] if words[1] == "dev" else words[1]
+                self._addresses.setdefault(name, address_of(words[words.index("address") + 1]))
+            return
+        at = words.index("type")
+        options = _options_of(words[at + 2 :])
+        head = words[1:at]
+        if words[0] == "set":
+            self.devices[head[-1]].options.update(options)
+            return
+        below, address, name = "", None, ""
+        while head:
+            word = head.pop(0)
+            if word == "link":
+                below = head.pop(0)
+            elif word == "address":
+                address = address_of(head.pop(0))
+            elif word in ("name", "dev"):
+                name = head.pop(0)
+            elif word in ("mtu", "txqueuelen", "numtxqueues", "numrxqueues"):
+                head.pop(0)
+            else:
+                name = word
+        self.devices[name] = _Device(below, address)
+        self.devices[name].options = options
+
+    def _macsec(self, words: "List[str]") -> None:
+        verb, device = words[0], self.devices.get(words[1]) if len(words) > 1 else None
+        if verb not in ("add", "set", "del", "delete") or device is None:
+            if verb in ("add", "set"):
+                raise ValueError("no command makes this device")
+            return
+        is_del = verb.startswith("del")
+        if words[2] == "tx":
+            self._change(device.tx, int(words[4]), _sa_of(words[5:]), is_del)
+            return
+        sci, rest = _channel_of(words[3:])
+        if rest[:1] == ["sa"]:
+            self._change(device.rx.setdefault(sci, {}), int(rest[1]), _sa_of(rest[2:]), is_del)
+        elif is_del:
+            device.rx.pop(sci, None)
+        else:
+            device.rx.setdefault(sci, {})
+            (device.rx_off.add if "off" in rest else device.rx_off.discard)(sci)
+
+    @staticmethod
+    def _change(sas: "Dict[int, Dict[str, str]]", an: int, options: "Dict[str, str]", is_del: bool) -> None:
+        if is_del:
+            sas.pop(an, None)
+        else:
+            sas.setdefault(an, {}).update(options)
+
+    def _sci_of(self, device: _Device) -> bytes:
+        if "sci" in device.options:
+            return int(device.options["sci"], 16).to_bytes(8, "big")
+        given = device.options.get("address")
+        address = address_of(given) if given else device.address or self._addresses.get(device.below)
+        if address is None:
+            raise UsageError(
+                f"the address of {device.below or 'the device below'} is not in the commands: "
+                f"give it by --address {device.below}=MAC"
+            )
+        return address + int(device.options.get("port", "1"), 0).to_bytes(2, "big")
+
+    def plan(self, name: Optional[str] = None, mtu: int = 1500) -> Plan:
+        """The endpoint of a device: of this name, or of the only one."""
+        if name is None and len(self.devices) != 1:
+            raise UsageError(f"the commands make {len(self.devices)} macsec devices; choose one by --name")
+        chosen = self.devices.get(name) if name else next(iter(self.devices.values()))
+        if chosen is None:
+            raise UsageError(f"no command makes {name}")
+        options = chosen.options
+        cipher = options.get("cipher", "default").lower()
+        if cipher not in CIPHERS:
+            raise UsageError(f"{cipher} is no cipher suite of ip macsec")
+        plan = Plan(self._sci_of(chosen), CIPHERS[cipher], _form_of(options), mtu + 14)
+        plan.encrypt, plan.protect = options.get("encrypt") == "on", options.get("protect") != "off"
+        plan.validate, plan.replay = options.get("validate", "strict"), options.get("replay") == "on"
+        plan.window = int(options.get("window", "0"), 0)
+        plan.encoding = int(options.get("encodingsa", "0"))
+        if options.get("icvlen", "16") != "16":
+            plan.notes.append(f"icvlen {options['icvlen']} has no counterpart: the ICV has 16 octets")
+        for an, sa in chosen.tx.items():
+            plan.tx[an] = _planned(plan, sa)
+            plan.keys[plan.tx[an].key].ssci = plan.tx[an].ssci
+        for sci, sas in chosen.rx.items():
+            plan.rx[sci] = {an: _planned(plan, sa) for an, sa in sas.items()}
+            for planned in plan.rx[sci].values():
+                planned.on = planned.on and sci not in chosen.rx_off
+        return plan
+
+
+def _form_of(options: "Dict[str, str]") -> str:
+    if options.get("send_sci", "on") != "off":
+        return "sci"
+    return "es" if options.get("end_station") == "on" else "scb" if options.get("scb") == "on" else "auto"
+
+
+def _planned(plan: Plan, sa: "Dict[str, str]") -> PlannedSa:
+    if "key" not in sa:
+        raise UsageError("an association has no key")
+    key = plan.key_of(bytes.fromhex(sa["key"]), bytes.fromhex(sa.get("salt", "00" * 12).replace("0x", "")))
+    return PlannedSa(
+        key, int(sa.get("xpn", sa.get("pn", "1")), 0), sa.get("state") == "on", int(sa.get("ssci", "0"), 16)
+    )
+
+
+def _switch(flag: bool) -> str:
+    return "on" if flag else "off"
+
+
+def commands_of(plan: Plan, device: str, name: str) -> "List[str]":
+    """The commands of `ip` that make an endpoint. What has no counterpart is a comment."""
+    port = int.from_bytes(plan.sci[6:], "big")
+    notes = []
+    if plan.form == "sci":
+        address = f"sci {plan.sci.hex()}" if not port else f"address {plan.sci[:6].hex(':')} port {port}"
+        form = "send_sci on"
+    else:
+        address, form = f"port {port}" if port else f"sci {plan.sci.hex()}", "send_sci off"
+        form += {"es": " end_station on", "scb": " scb on"}.get(plan.form, "")
+        notes.append(f"# {device} must have the address {plan.sci[:6].hex(':')}")
+    for place, key in enumerate(plan.keys):
+        if key.offset:
+            notes.append(f"# key {place}: the confidentiality offset {key.offset} has no counterpart")
+        if (key.suite or plan.suite) != plan.suite:
+            notes.append(f"# key {place}: another suite than the device's has no counterpart")
+    encoding = plan.encoding if plan.encoding is not None else min(plan.tx, default=0)
+    window = f" window {plan.window}" if plan.replay else ""
+    lines = [
+        f"ip link add link {device} {name} type macsec {address} cipher {_NAMES[plan.suite]} "
+        f"encrypt {_switch(plan.encrypt)} {form} protect {_switch(plan.protect)} replay {_switch(plan.replay)}{window} "
+        f"validate {plan.validate} encodingsa {encoding}"
+    ]
+
+    def sa_words(sa: PlannedSa) -> str:
+        key = plan.keys[sa.key]
+        number = f"xpn {sa.pn} salt {key.salt.hex()} ssci {sa.ssci:x}" if plan.suite.is_extended else f"pn {sa.pn}"
+        return f"{number} {_switch(sa.on)} key {sa.key:02x} {key.octets.hex()}"
+
+    for an, sa in sorted(plan.tx.items()):
+        lines.append(f"ip macsec add {name} tx sa {an} {sa_words(sa)}")
+    for sci, sas in plan.rx.items():
+        lines.append(f"ip macsec add {name} rx sci {sci.hex()}")
+        lines += [f"ip macsec add {name} rx sci {sci.hex()} sa {an} {sa_words(sa)}" for an, sa in sorted(sas.items())]
+    return [*notes, *lines, f"ip link set {name} up"]
+
+
+def _is_on(value: Any) -> bool:
+    return value in (True, "on", "true", 1)
+
+
+def plan_of_json(text: str, keys: "Sequence[KeyArgument]", name: Optional[str] = None, mtu: int = 1500) -> Plan:
+    """The endpoint of a device in the output of `ip -j macsec show`, which shows identifiers in place of keys."""
+    try:
+        shown = [it for it in json.loads(text) if it]
+    except ValueError as why:
+        raise UsageError(f"this is not the output of ip -j macsec show: {why}") from None
+    found = [it for it in shown if name in (None, it.get("ifname"))]
+    if len(found) != 1:
+        raise UsageError(f"{len(found)} macsec devices; choose one by --name")
+    it = found[0]
+    cipher = str(it.get("cipher_suite", "GCM-AES-128")).lower()
+    if cipher not in CIPHERS:
+        raise UsageError(f"{cipher} is no cipher suite of ip macsec")
+    options = {
+        key: on
+        for key in ("send_sci", "inc_sci", "end_station", "scb")
+        for on in ["on" if _is_on(it.get(key)) else "off"]
+    }
+    if "send_sci" not in it:
+        options["send_sci"] = options["inc_sci"] if "inc_sci" in it else "on"
+    plan = Plan(_json_sci(it["sci"]), CIPHERS[cipher], _form_of(options), mtu + 14)
+    plan.encrypt, plan.protect = _is_on(it.get("encrypt")), _is_on(it.get("protect", True))
+    plan.validate, plan.replay = it.get("validate", "strict"), _is_on(it.get("replay"))
+    plan.window = int(it.get("window", 0))
+    plan.encoding = int(it.get("encoding_sa", 0))
+    for sa in it.get("sa_list", []):
+        plan.tx[sa["an"]] = _json_sa(plan, sa, keys, plan.sci)
+        plan.keys[plan.tx[sa["an"]].key].ssci = plan.tx[sa["an"]].ssci
+    for channel in it.get("rx_sc", []):
+        sci = _json_sci(channel["sci"])
+        plan.rx[sci] = {sa["an"]: _json_sa(plan, sa, keys, sci) for sa in channel.get("sa_list", [])}
+    for sas in plan.rx.values():
+        for planned in sas.values():
+            planned.pn = planned.pn >> 32 << 32 | 1
+    if plan.suite.is_extended:
+        plan.notes.append("iproute2 shows the lower 32 bits of packet numbers alone: the upper halves here are 0")
+    return plan
+
+
+def _json_sci(value: Any) -> bytes:
+    """An SCI, which is shown as hex text, with 0x or without."""
+    return int(str(value), 16).to_bytes(8, "big")
+
+
+def _json_sa(plan: Plan, sa: "Dict[str, Any]", keys: "Sequence[KeyArgument]", sci: bytes) -> PlannedSa:
+    """An association, and its key: by its identifier, by its SCI or number, or the only one."""
+    fitting = [it for it in keys if it.id == sa.get("key")]
+    fitting = fitting or [it for it in keys if it.id is None and it.sci in (None, sci) and it.an in (None, sa["an"])]
+    if len(fitting) != 1:
+        raise UsageError(
+            f"{len(fitting)} keys fit SCI {sci.hex()} AN {sa['an']}, whose key has the identifier {sa.get('key')}: "
+            "give one by --key IDENTIFIER=KEY"
+        )
+    chosen = fitting[0]
+    ssci = int(str(sa["ssci"]), 16) if "ssci" in sa else chosen.ssci or 0
+    key = plan.key_of(chosen.octets, chosen.salt or bytes(12))
+    state = sa.get("active", sa.get("state", True))
+    return PlannedSa(key, max(int(sa.get("pn", 1)), 1), _is_on(state), ssci)

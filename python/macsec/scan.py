@@ -1,0 +1,125 @@
+"""The endpoint that opens a capture: from the capture itself, and from keys."""
+
+from __future__ import annotations
+
+import collections
+from typing import Counter, Dict, List, NamedTuple, Optional, Sequence, Tuple
+
+from . import capture
+from .frames import ethertype, has_fcs, read_tag, sender_of, vlan_octets, without_vlan
+from .names import Suite
+from .opener import Live, Opener
+from .plan import OBSERVER_MAX, Plan, PlannedSa
+from .summary import frames_text, ranges
+from .trial import KeyArgument, own_sci
+
+
+class _Use(NamedTuple):
+    """An association under a key: its first record, and how the library opened it."""
+
+    record: int
+    live: Live
+    first_pn: int
+
+
+class Scan:
+    """What a capture has."""
+
+    def __init__(self, path: str, opener: Opener) -> None:
+        self.forms: Dict[Tuple[bytes, int], Counter[str]] = {}
+        self.numbers: Dict[Tuple[bytes, int], List[int]] = {}
+        self.others: Counter[str] = collections.Counter()
+        self.uses: Dict[Tuple[bytes, int], List[_Use]] = {}
+        self.vlan, self.fcs, self.partial = 0, 0, 0
+        self.unopened: List[int] = []
+        for packet in capture.read(path):
+            if not packet.is_whole:
+                self.partial += 1
+                continue
+            self._add(packet, opener)
+
+    def _add(self, packet: capture.Packet, opener: Opener) -> None:
+        plain, tags = without_vlan(packet.frame)
+        tag = read_tag(plain)
+        if tag is None:
+            self.others[ethertype(packet.frame)] += 1
+            return
+        opened = opener.open(packet.number, packet.frame, packet.fcs)
+        live = opener.last
+        place = live.trial.sci if live else sender_of(plain, tag), tag.an
+        self.forms.setdefault(place, collections.Counter())[tag.flags] += 1
+        self.numbers.setdefault(place, []).append(tag.pn)
+        self.vlan += bool(tags and vlan_octets(packet.frame))
+        if opened.state != "opened" or live is None:
+            self.unopened.append(packet.number)
+            return
+        self.fcs += bool(live.cut or packet.fcs or has_fcs(packet.frame))
+        uses = self.uses.setdefault(place, [])
+        if all(it.live.trial.key.octets != live.trial.key.octets for it in uses):
+            uses.append(_Use(packet.number, live, opened.pn or tag.pn))
+
+    def notes(self) -> "List[str]":
+        """What was found, a line each."""
+        found = []
+        for (sci, an), forms in self.forms.items():
+            numbers = self.numbers[(sci, an)]
+            flags = ", ".join(f"{name} x{count}" for name, count in forms.items())
+            span = f"PN {numbers[0]:08x} to {numbers[-1]:08x}"
+            found.append(f"SCI {sci.hex()} AN {an}: {frames_text(len(numbers))}, {span}, {flags}")
+            uses = self.uses.get((sci, an), [])
+            for it in uses[1:]:
+                found.append(
+                    f"SCI {sci.hex()} AN {an} is under {it.live.trial.key.name} from record {it.record} on: "
+                    "one CONFIG has one key for it; macsec-decrypt opens all"
+                )
+        found += [f"{frames_text(count)} of EtherType {kind} without a SecTAG" for kind, count in self.others.items()]
+        if self.vlan:
+            found.append(f"{frames_text(self.vlan)} with a VLAN tag before the SecTAG: macsec-decrypt takes it out")
+        if self.fcs:
+            found.append(f"{frames_text(self.fcs)} with a frame check sequence: macsec-decrypt cuts it off")
+        if self.partial:
+            found.append(f"{frames_text(self.partial)} not captured whole, or not Ethernet")
+        if self.unopened:
+            found.append(f"not opened by any key: record {ranges(self.unopened)}")
+        return found
+
+    def plan(self, own: Optional[bytes] = None, suite: Optional[Suite] = None) -> Plan:
+        """The endpoint that opens the capture: an observer, or the end with this SCI."""
+        suites = [use.live.trial.key.suite for uses in self.uses.values() for use in uses]
+        first = suites[0] if suites else suite or Suite.gcm128
+        plan = Plan(own or own_sci(*(sci for sci, _ in self.forms)), first, "sci", OBSERVER_MAX, replay=False)
+        plan.notes = self.notes()
+        for (sci, an), uses in self.uses.items():
+            trial = uses[0].live.trial
+            key = plan.key_of(trial.key.octets, trial.key.salt, trial.key.offset, trial.key.suite)
+            if sci == own:
+                numbers = self.numbers[(sci, an)]
+                plan.notes.append(
+                    f"txsa {an} goes on after the last packet number here: use a new key if more was sent"
+                )
+                plan.tx[an] = PlannedSa(key, (uses[0].first_pn >> 32 << 32) + max(numbers) + 1, True, trial.ssci)
+                plan.keys[key].ssci, plan.encoding, plan.replay = trial.ssci, an, True
+                plan.encrypt = any("E" in it.split() for it in self.forms[(sci, an)])
+            else:
+                sa = PlannedSa(key, uses[0].first_pn >> 32 << 32 | 1, True, trial.ssci)
+                plan.rx.setdefault(sci, {})[an] = sa
+        _without_keys(plan, self, own)
+        return plan
+
+
+def _without_keys(plan: Plan, scan: Scan, own: Optional[bytes]) -> None:
+    """Says which associations have no key."""
+    for sci, an in scan.forms:
+        if (sci, an) not in scan.uses and sci != own:
+            plan.notes.append(
+                f"A rxsc {sci.hex()}, A rxsa {sci.hex()} {an} N 1, A rxon {sci.hex()} {an}: key N is not known"
+            )
+
+
+def scan(path: str, keys: "Sequence[KeyArgument]", suite: Optional[Suite] = None, offset: Optional[int] = None) -> Scan:
+    """Reads a capture under keys."""
+    opener = Opener(keys, suite, offset)
+    try:
+        return Scan(path, opener)
+    finally:
+        opener.close()

@@ -1,0 +1,287 @@
+"""macsec-config: from captures, from ip and back, lint, and the next run."""
+
+from __future__ import annotations
+
+import collections
+import json
+import os
+import random
+import subprocess
+import sys
+import unittest
+from typing import Counter, List
+
+from macsec import MacsecError, SecY, Suite, capture, grammar
+from macsec.config import main
+from macsec.configuration import Configuration
+
+from .helpers import CAPTURES, KEYS, OTHER, ROOT, SALT, SENDER, InFolder, client_frames, main_of, protected
+
+IP_COMMANDS = """
+ip link set eth0 address 02:00:00:00:00:02
+sudo ip link add link eth0 macsec0 type macsec port 1 cipher gcm-aes-128 \\
+    encrypt on send_sci on replay on window 0 validate strict encodingsa 0
+ip -n other macsec add macsec0 tx sa 0 pn 1 on key 00 ad7a2bd03eac835a6f620fdcb506b345
+ip macsec add macsec0 rx port 1 address 02:00:00:00:00:01 && ip macsec add macsec0 rx sci 0200000000010001 \\
+    sa 0 pn 1024 on key 00 ad7a2bd03eac835a6f620fdcb506b345
+ip link set macsec0 up # ready
+"""
+IP_EXTENDED = """
+ip link add link eth0 macsec0 type macsec sci 0200000000020001 cipher gcm-aes-xpn-128 encrypt on encodingsa 1
+ip macsec add macsec0 tx sa 1 xpn 8589934594 salt a0a1a2a3a4a5a6a7a8a9aaab ssci 2 on \\
+    key 01 ad7a2bd03eac835a6f620fdcb506b345
+ip macsec add macsec0 rx sci 0200000000010001 on
+ip macsec add macsec0 rx sci 0200000000010001 sa 1 xpn 1 salt a0a1a2a3a4a5a6a7a8a9aaab ssci 1 on \\
+    key 01 ad7a2bd03eac835a6f620fdcb506b345
+"""
+
+
+def lines_of(text: str) -> "List[str]":
+    return [it for it in text.splitlines() if not it.startswith("#")]
+
+
+class Made(InFolder):
+    def config(self, *words: object, status: int = 0) -> str:
+        ended, text, error = main_of(main, *words)
+        self.assertEqual((ended, error), (status, ""), text)
+        return text
+
+    def verdicts(self, text: str, path: object) -> "Counter[str]":
+        """The verdicts of a CONFIG on a capture; no line of it is refused."""
+        made = Configuration(text.encode())
+        self.assertEqual(made.refusals, [])
+        return collections.Counter(made.secy.receive(it.frame).verdict.name for it in capture.read(str(path)))
+
+
+class FromCapture(Made):
+    def test_examples(self) -> None:
+        key = KEYS[0].hex()
+        for name, given, expected in (
+            ("link", key, {"OK": 3}), ("linux", key, {"OK": 3}), ("observed", key, {"OK": 6, "Delayed": 1, "NoTag": 1}),
+            ("xpn", f"{key}:{SALT.hex()}", {"OK": 4}),
+        ):  # fmt: skip
+            path = CAPTURES / f"{name}.pcap"
+            self.assertEqual(self.verdicts(self.config("--capture", path, "--key", given), path), expected, name)
+        text = self.config("--capture", CAPTURES / "observed.pcap", "--key", key)
+        self.assertEqual(lines_of(text), lines_of((CAPTURES / "observer.config").read_text()))
+
+    def test_an_end(self) -> None:
+        path = CAPTURES / "observed.pcap"
+        text = self.config("--capture", path, "--key", KEYS[0].hex(), "--own", OTHER)
+        self.assertIn("A txsa 0 0 2f conf\nA txon 0\n", text)
+        self.assertIn(f"A rxsc {SENDER}\n", text)
+        self.assertEqual(main_of(main, "--capture", path, "--key", KEYS[0].hex(), "--as", "end")[0], 2)
+
+    def test_what_was_found(self) -> None:
+        text = self.config("--capture", CAPTURES / "rekey.pcap", *(w for it in KEYS[:3] for w in ("--key", it.hex())))
+        self.assertIn("AN 0 is under key 3 from record 3 on", text)
+        for name, word in (("vlan", "VLAN"), ("fcs", "frame check sequence"), ("observed", "EtherType 88cc")):
+            self.assertIn(word, self.config("--capture", CAPTURES / f"{name}.pcap", "--key", KEYS[0].hex()))
+        text = self.config("--capture", CAPTURES / "link.pcap", status=3)
+        self.assertIn(f"# A rxsc {SENDER}, A rxsa {SENDER} 0 N 1", text)
+
+    def test_offset_and_suite(self) -> None:
+        path = self.put("IN", protected(client_frames(3), offset=30))
+        text = self.config("--capture", path, "--key", KEYS[0].hex())
+        self.assertIn(f"A key 0 {KEYS[0].hex()} 30\n", text)
+        self.assertEqual(self.verdicts(text, path), {"OK": 3})
+        path = self.put("IN", protected(client_frames(3), suite=Suite.xpn128, ssci=3, pn=0x9_0000_0001, form="auto"))
+        text = self.config("--capture", path, "--key", f"{KEYS[0].hex()}:{SALT.hex()}")
+        self.assertEqual(self.verdicts(text, path), {"OK": 3})
+
+
+class Ip(Made):
+    def test_ends(self) -> None:
+        path = self.put("commands", IP_COMMANDS)
+        end = self.config("--ip", path)
+        self.assertEqual(lines_of(end), [
+            f"end A gcm128 {OTHER} 1514 sci", f"A key 0 {KEYS[0].hex()} 0", "A txsa 0 0 1 conf", "A txon 0",
+            f"A rxsc {SENDER}", f"A rxsa {SENDER} 0 0 400", f"A rxon {SENDER} 0",
+        ])  # fmt: skip
+        peer = self.config("--ip", path, "--as", "peer")
+        self.assertEqual(
+            lines_of(peer)[:3], [f"end A gcm128 {SENDER} 1514 sci", f"A key 0 {KEYS[0].hex()} 0", "A txsa 0 0 400 conf"]
+        )
+        with SecY.configure(end) as a, SecY.configure(peer) as b:
+            self.assertEqual(b.receive(a.send(bytes(60)).frame).verdict.name, "OK")
+            self.assertEqual(a.receive(b.send(bytes(60)).frame).verdict.name, "OK")
+
+    def test_the_capture_of_linux(self) -> None:
+        observer = self.config("--ip", self.put("commands", IP_COMMANDS), "--as", "observer")
+        self.assertEqual(self.verdicts(observer, CAPTURES / "linux.pcap"), {"OK": 3})
+
+    def test_extended(self) -> None:
+        path = self.put("commands", IP_EXTENDED)
+        end, peer = self.config("--ip", path), self.config("--ip", path, "--as", "peer")
+        observer = self.config("--ip", path, "--as", "observer")
+        self.assertIn("A txsa 1 0 200000002 conf", end)
+        with SecY.configure(end) as a, SecY.configure(peer) as b, SecY.configure(observer) as c:
+            for sent in (a.send(bytes(60)), a.send(bytes(60))):
+                self.assertEqual({it.receive(sent.frame).verdict.name for it in (b, c)}, {"OK"})
+            self.assertEqual({it.receive(b.send(bytes(60)).frame).verdict.name for it in (a,)}, {"OK"})
+
+    def test_there_and_back(self) -> None:
+        for text in (IP_COMMANDS, IP_EXTENDED):
+            config = self.config("--ip", self.put("commands", text))
+            back = self.config("--to-ip", self.put("CONFIG", config))
+            self.assertEqual(self.config("--ip", self.put("again", back)), config)
+        for name in ("peer", "observer", "xpn", "sender"):
+            back = self.put("again", self.config("--to-ip", CAPTURES / f"{name}.config"))
+            again = self.config("--ip", back)
+            with open(back, encoding="ascii") as file:
+                self.assertEqual(self.config("--to-ip", self.put("CONFIG", again)), file.read())
+
+    def test_faults(self) -> None:
+        wrong = ("ip link set eth0 address", "tx sa 0 pn", "gcm-aes-128", "encrypt")
+        for text in ("", *(IP_COMMANDS.replace(it, f"{it}x" if it != wrong[0] else "#") for it in wrong)):
+            status, _, error = main_of(main, "--ip", self.put("commands", text))
+            self.assertEqual(status, 2)
+            self.assertTrue(error.startswith("macsec-config: "), error)
+        moved = self.put("commands", IP_COMMANDS.replace("ip link set eth0 address", "#"))
+        self.assertIn(OTHER, self.config("--ip", moved, "--address", "eth0=02:00:00:00:00:02"))
+
+    def test_json(self) -> None:
+        def sa(pn: int) -> "dict[str, object]":
+            return {"an": 0, "pn": pn, "active": True, "key": "0" * 32}
+
+        it = {
+            "ifindex": 3, "ifname": "macsec0", "protect": True, "validate": "strict", "encrypt": True, "send_sci": True,
+            "end_station": False, "scb": False, "replay": False, "cipher_suite": "GCM-AES-128", "icv_length": 16,
+            "sci": OTHER, "encoding_sa": 0, "sa_list": [sa(58)],
+            "rx_sc": [{"sci": SENDER, "active": True, "sa_list": [sa(91)]}],
+        }  # fmt: skip
+        path = self.put("shown", json.dumps([{}, it]))
+        for key in (f"00={KEYS[0].hex()}", KEYS[0].hex()):
+            text = self.config("--ip-json", path, "--key", key)
+            self.assertIn("A txsa 0 0 3a conf\n", text)
+            self.assertIn(f"A rxsa {SENDER} 0 0 1\n", text)
+        observer = self.config("--ip-json", path, "--key", KEYS[0].hex(), "--as", "observer")
+        self.assertEqual(self.verdicts(observer, CAPTURES / "linux.pcap"), {"OK": 3})
+        self.assertEqual(main_of(main, "--ip-json", path, "--key", f"01={KEYS[0].hex()}")[0], 2)
+
+
+class Log(Made):
+    """wpa_supplicant 2.10 with the driver macsec_linux; the forms of its lines are those in its program."""
+
+    def log(self, key: str, an: int, own: str = "02:00:00:00:00:02::1", peer: str = "02:00:00:00:00:01::1") -> str:
+        shown = f"macsec_linux: SA keyid - hexdump(len=16): 00 01\nmacsec_linux: SA key - hexdump(len=16): {key}\n"
+        return (
+            f"macsec_linux: eth0: create_receive_sa -> {an} on {peer} (enable_receive=0 next_pn=1)\n{shown}"
+            f"macsec_linux: eth0: create_transmit_sa -> {an} on {own} (enable_transmit=0 next_pn=1)\n{shown}"
+            f"macsec_linux: eth0: try_commit encrypt=1\nmacsec_linux: eth0: try_commit encoding_sa={an}\n"
+        )
+
+    def test_log_alone(self) -> None:
+        log = self.log(KEYS[1].hex(" "), 1) + self.log(KEYS[2].hex(" "), 0) + self.log(KEYS[0].hex(" "), 0)
+        path = self.put("LOG", log)
+        end, observer = self.config("--wpa", path), self.config("--wpa", path, "--as", "observer")
+        self.assertIn("# 2 associations got another key", end)
+        self.assertIn("A txon 0\n", end)
+        self.assertEqual(self.verdicts(observer, CAPTURES / "linux.pcap"), {"OK": 3})
+        for wrong in ("", log.replace(KEYS[0].hex(" "), "[REMOVED]")):
+            self.assertEqual(main_of(main, "--wpa", self.put("LOG", wrong))[0], 2)
+        self.assertEqual(main_of(main)[0], 2)
+
+    def test_keys_for_a_capture(self) -> None:
+        path = self.put("LOG", self.log(KEYS[1].hex(" "), 1) + self.log(KEYS[0].hex(" "), 0))
+        text = self.config("--capture", CAPTURES / "observed.pcap", "--wpa", path)
+        self.assertEqual(self.verdicts(text, CAPTURES / "observed.pcap")["OK"], 6)
+
+
+class Lint(Made):
+    def test_where_and_what(self) -> None:
+        good = f"end A gcm128 {SENDER} 1546 sci\nA key 0 {KEYS[0].hex()} 0\nA txsa 0 0 1 conf\nA txon 0\n"
+        self.assertEqual(self.config("--lint", self.put("CONFIG", good)), "")
+        suites = "gcm128, gcm256, xpn128 or xpn256"
+        alone = "a comment needs a line of its own"
+        refused = "line 3: refused: 5 NoKey: there is no such key\n"
+        refused += "line 4: refused: 13 NoSa: there is no such association\n"
+        other, where = f"end B gcm128 {OTHER} 99 sci", "line 4: every line after the first has to be a command at A\n"
+        for old, new, expected in (
+            ("345 0", "345f 0", "line 2, argument 4: 33 digits, 32 or 64 expected\n"),
+            (KEYS[0].hex(), KEYS[0].hex(":"), "line 2, argument 4: ':' is no hex digit: leave them out\n"),
+            ("gcm128", "gcm-aes-128", f"line 1, argument 3: 'gcm-aes-128', {suites} expected; write gcm128\n"),
+            ("A key", "A keys", "line 2, argument 2: 'keys' is no command; write key\n"),
+            ("A key", "a key", "line 2, argument 1: 'a', A or end expected\n"),
+            ("0 1 conf", "0 0x1 conf", "line 3, argument 5: 'x' is no hex digit: leave 0x out\n"),
+            ("1546", "9249", "line 1, argument 5: '9249', a decimal number from 64 to 9248 expected\n"),
+            (" sci", "", f"line 1: 5 words, 6 expected: {grammar.END}\n"),
+            ("A txon 0", "A txon 0 # on", f"line 4: 5 words, 3 expected: A txon AN; {alone}\n"),
+            ("A txon 0", "A counters", "line 4: counters is for scripts alone\n"),
+            ("A txon 0", other, where),
+            ("txsa 0 0", "txsa 0 1", f"line 2, argument 3: hint: no association uses key 0\n{refused}"),
+        ):  # fmt: skip
+            text = self.put("CONFIG", good.replace(old, new, 1))
+            self.assertEqual(self.config("--lint", text, status=3), expected)
+        hinted = self.config("--lint", self.put("CONFIG", good.replace("0 1 conf", "0 57 conf")))
+        self.assertEqual(hinted, "line 3, argument 5: hint: packet numbers are hex: 57 is 87; decimal 57 is 39\n")
+        shown = json.loads(
+            self.config("--lint", self.put("CONFIG", good.replace("345 0", "345f 0")), "--json", status=3)
+        )
+        self.assertEqual((shown["name"], shown["line"], shown["word"]), ("Hex", 2, 4))
+
+    def test_the_first_fault_is_the_library_s(self) -> None:
+        """Random texts: the first line and the name of its fault are those of the library."""
+        sys.path.insert(0, str(ROOT / "fuzz"))
+        try:
+            import calls
+        finally:
+            sys.path.pop(0)
+        source, met = calls.Calls(str(random.random())), collections.Counter()
+        for _ in range(1500):
+            text = source.text()
+            _, faults = grammar.parse(text)
+            try:
+                SecY.configure(text).close()
+                expected = None
+            except MacsecError as why:
+                expected = (why.name, why.line or 0) if why.number > 20 else None
+            self.assertEqual((faults[0].name, faults[0].line) if faults else None, expected, text[:2000])
+            met[expected and expected[0]] += 1
+        self.assertLessEqual({"Word", "Count", "Hex", "Number", "Ends"}, set(met))
+
+
+class Next(Made):
+    def test_no_number_is_used_twice(self) -> None:
+        config = (CAPTURES / "sender.config").read_text().replace("A txsa 0 0 1 ", "  A  txsa 0 0 fffffffa ")
+        text = "2 done\n3 done\n4 done\nrecord 0 link 74\nrecord 1 dropped TooLong\nrecord 2 link 130\n"
+        text += "end OutPktsNoSA 0\nend OutPktsProtected 0\nend OutPktsEncrypted 2\n"
+        path = self.put("CONFIG", config)
+        made = self.config("--next", self.put("TEXT", text), path)
+        self.assertEqual(made, config.replace("fffffffa", "fffffffc"))
+        for old, new in (
+            ("end OutPktsEncrypted 2\n", ""),
+            ("2 done", "2 refused 5 NoKey"),
+            ("2 done\n", ""),
+            ("Encrypted 2", "Encrypted 3"),
+        ):
+            self.assertEqual(main_of(main, "--next", self.put("TEXT", text.replace(old, new)), path)[0], 2)
+        long = text.replace("record 0 link 74\n", "".join(f"record {n} link 74\n" for n in range(5))).replace(
+            "Encrypted 2", "Encrypted 6"
+        )
+        status, _, error = main_of(main, "--next", self.put("TEXT", long), path)
+        self.assertEqual(status, 2)
+        self.assertIn("no packet number left", error)
+
+    @unittest.skipUnless("MACSEC_PROGRAM" in os.environ, "MACSEC_PROGRAM names no program")
+    def test_with_the_program(self) -> None:
+        numbers = []
+        config = CAPTURES / "sender.config"
+        for run in range(3):
+            words = [
+                os.environ["MACSEC_PROGRAM"],
+                "protect",
+                str(config),
+                str(CAPTURES / "client.pcap"),
+                str(self.folder / "OUT"),
+            ]
+            text = subprocess.run(words, capture_output=True, text=True, check=True).stdout
+            numbers += [it.frame[16:20] for it in capture.read(str(self.folder / "OUT"))]
+            made = self.config("--next", self.put("TEXT", text), config)
+            (self.folder / f"{run}.config").write_text(made)
+            config = self.folder / f"{run}.config"
+        self.assertEqual([int.from_bytes(it, "big") for it in numbers], list(range(1, 10)))
+
+
+if __name__ == "__main__":
+    unittest.main()
