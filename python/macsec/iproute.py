@@ -102,6 +102,24 @@ def _channel_of(words: "List[str]") -> "Tuple[bytes, List[str]]":
     return address_of(named["address"]) + int(named["port"], 0).to_bytes(2, "big"), rest
 
 
+def _new_link(words: "Sequence[str]") -> "Tuple[str, Optional[bytes], str]":
+    """The device below, the address and the name of a new device."""
+    below, address, name, rest = "", None, "", list(words)
+    while rest:
+        word = rest.pop(0)
+        if word == "link":
+            below = rest.pop(0)
+        elif word == "address":
+            address = address_of(rest.pop(0))
+        elif word in ("name", "dev"):
+            name = rest.pop(0)
+        elif word in ("mtu", "txqueuelen", "numtxqueues", "numrxqueues"):
+            rest.pop(0)
+        else:
+            name = word
+    return below, address, name
+
+
 class Devices:
     """The macsec devices that commands make."""
 
@@ -118,32 +136,23 @@ class Devices:
                 raise UsageError(f"line {line}: ip {' '.join(words)[:60]}: {why or 'a word is missing'}") from None
 
     def _link(self, words: "List[str]") -> None:
-        if "type" not in words or words[words.index("type") + 1 :][:1] != ["macsec"]:
-            if words[:1] == ["set"] and "address" in words:
-                name = words[2] if words[1] == "dev" else words[1]
-                self._addresses.setdefault(name, address_of(words[words.index("address") + 1]))
-            return
-        at = words.index("type")
-        options = _options_of(words[at + 2 :])
-        head = words[1:at]
-        if words[0] == "set":
-            self.devices[head[-1]].options.update(options)
-            return
-        below, address, name = "", None, ""
-        while head:
-            word = head.pop(0)
-            if word == "link":
-                below = head.pop(0)
-            elif word == "address":
-                address = address_of(head.pop(0))
-            elif word in ("name", "dev"):
-                name = head.pop(0)
-            elif word in ("mtu", "txqueuelen", "numtxqueues", "numrxqueues"):
-                head.pop(0)
-            else:
-                name = word
-        self.devices[name] = _Device(below, address)
-        self.devices[name].options = options
+        at = words.index("type") if "type" in words else len(words)
+        kind, head = words[at + 1 : at + 2], words[1:at]
+        if kind == ["macsec"] and words[0] == "set":
+            self.devices[head[-1]].options.update(_options_of(words[at + 2 :]))
+        elif kind == ["macsec"]:
+            below, address, name = _new_link(head)
+            self.devices[name] = _Device(below, address)
+            self.devices[name].options = _options_of(words[at + 2 :])
+        elif kind == ["vlan"]:
+            # A VLAN device has the address of the device below.
+            below, address, name = _new_link(head)
+            inherited = address or self._addresses.get(below)
+            if inherited:
+                self._addresses.setdefault(name, inherited)
+        elif words[:1] == ["set"] and "address" in words:
+            name = words[2] if words[1] == "dev" else words[1]
+            self._addresses.setdefault(name, address_of(words[words.index("address") + 1]))
 
     def _macsec(self, words: "List[str]") -> None:
         verb, device = words[0], self.devices.get(words[1]) if len(words) > 1 else None

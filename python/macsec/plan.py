@@ -104,9 +104,16 @@ class Plan:
             **{s: self._heard(it) for s, it in self.rx.items()},
         }
         keys = [dataclasses.replace(it, ssci=OBSERVER_SSCI) for it in self.keys]
+        notes = list(self.notes)
+        if self.form == "auto" and len(senders) > 1:
+            # Such a frame is for the only channel of its receiver.
+            senders = {self.sci: self._heard(self.tx)}
+            notes.append(
+                "frames without an SCI, ES and SCB need a CONFIG with one channel: the other direction is left out"
+            )
         return Plan(
             own_sci(self.sci, *self.rx), self.suite, "sci", OBSERVER_MAX, replay=False, keys=keys, rx=senders,
-            notes=self.notes,
+            notes=notes,
         )  # fmt: skip
 
     def peer(self) -> "Plan":

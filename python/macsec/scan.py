@@ -72,6 +72,19 @@ class Scan:
                     f"SCI {sci.hex()} AN {an} is under {it.live.trial.key.name} from record {it.record} on: "
                     "one CONFIG has one key for it; macsec-decrypt opens all"
                 )
+        if (
+            len(
+                {
+                    sci
+                    for (sci, _), forms in self.forms.items()
+                    if not {"SC", "ES", "SCB"} & set(" ".join(forms).split())
+                }
+            )
+            > 1
+        ):
+            found.append(
+                "senders that no tag names: a CONFIG with one channel opens one of them; macsec-decrypt opens all"
+            )
         found += [f"{frames_text(count)} of EtherType {kind} without a SecTAG" for kind, count in self.others.items()]
         if self.vlan:
             found.append(f"{frames_text(self.vlan)} with a VLAN tag before the SecTAG: macsec-decrypt takes it out")

@@ -36,7 +36,10 @@ def nanoseconds(call: "object", frame: bytes) -> float:
 
 def main(program: str) -> None:
     """Prints a line for each length; `program` measures C."""
-    print(f"nanoseconds of a processor for a frame, the fastest of {ROUNDS} rounds of {COUNT}; Python {sys.version.split()[0]}")
+    print(
+        f"nanoseconds of a processor for a frame, the fastest of {ROUNDS} rounds of {COUNT}; "
+        f"Python {sys.version.split()[0]}"
+    )
     print("octets      send: C  Python    more   receive: C  Python    more")
     for length in (64, 512, 1500):
         told = subprocess.run([program, str(length), str(COUNT)], stdout=subprocess.PIPE, text=True, check=True).stdout

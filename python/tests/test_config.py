@@ -120,6 +120,18 @@ class Ip(Made):
                 self.assertEqual({it.receive(sent.frame).verdict.name for it in (b, c)}, {"OK"})
             self.assertEqual({it.receive(b.send(bytes(60)).frame).verdict.name for it in (a,)}, {"OK"})
 
+    def test_devices_below(self) -> None:
+        """A VLAN device has the address of the device below it; without SCIs an observer has one channel."""
+        text = IP_COMMANDS.replace(
+            "sudo ip link add link eth0", "ip link add link eth0 name v7 type vlan id 7\nip link add link v7"
+        )
+        self.assertIn(f"end A gcm128 {OTHER} ", self.config("--ip", self.put("commands", text)))
+        auto = self.config(
+            "--ip", self.put("commands", IP_COMMANDS.replace("send_sci on", "send_sci off")), "--as", "observer"
+        )
+        self.assertEqual(auto.count("A rxsc"), 1)
+        self.assertIn("# frames without an SCI", auto)
+
     def test_there_and_back(self) -> None:
         for text in (IP_COMMANDS, IP_EXTENDED):
             config = self.config("--ip", self.put("commands", text))
@@ -144,11 +156,13 @@ class Ip(Made):
         def sa(pn: int) -> "dict[str, object]":
             return {"an": 0, "pn": pn, "active": True, "key": "0" * 32}
 
+        # As iproute2 6.1 prints it.
         it = {
-            "ifindex": 3, "ifname": "macsec0", "protect": True, "validate": "strict", "encrypt": True, "send_sci": True,
-            "end_station": False, "scb": False, "replay": False, "cipher_suite": "GCM-AES-128", "icv_length": 16,
-            "sci": OTHER, "encoding_sa": 0, "sa_list": [sa(58)],
-            "rx_sc": [{"sci": SENDER, "active": True, "sa_list": [sa(91)]}],
+            "ifindex": 16, "ifname": "macsec0", "protect": True, "validate": "strict", "sc": False, "sa": False,
+            "encrypt": True, "send_sci": True, "end_station": False, "scb": False, "replay": False,
+            "cipher_suite": "GCM-AES-128", "icv_length": 16, "sci": "0x200000000020001", "encoding_sa": 0,
+            "sa_list": [sa(58)], "rx_sc": [{"sci": "0x200000000010001", "active": True, "sa_list": [sa(91)]}],
+            "offload": "off",
         }  # fmt: skip
         path = self.put("shown", json.dumps([{}, it]))
         for key in (f"00={KEYS[0].hex()}", KEYS[0].hex()):
