@@ -21,6 +21,11 @@ from .secy import sci_of
 from .trial import KeyArgument
 from .wpalog import plan_of_log
 
+_SENDS = (
+    "# This end sends. If the same SCI sent these packet numbers under its key before, or another endpoint does, IVs\n"
+    "# repeat, which breaks GCM: then use a new key.\n"
+)
+
 
 def main(words: Optional[Sequence[str]] = None) -> int:
     """Runs the command, and returns its exit status."""
@@ -42,7 +47,10 @@ def main(words: Optional[Sequence[str]] = None) -> int:
         "--next", nargs=2, metavar=("TEXT", "CONFIG"), help="CONFIG for the next run, after the one that printed TEXT"
     )
     parser.add_argument(
-        "--as", dest="role", choices=("end", "peer", "observer"), help="whose CONFIG (--ip: end; --capture: observer)"
+        "--as",
+        dest="role",
+        choices=("end", "peer", "observer"),
+        help="whose CONFIG (end; for --capture and --wpa: observer)",
     )
     parser.add_argument("--own", metavar="SCI", help="with --capture: the SCI of the end whose CONFIG it is")
     parser.add_argument("--name", metavar="NAME", help="the macsec device (macsec0, or the only one)")
@@ -95,12 +103,18 @@ def _config(asked: argparse.Namespace) -> int:
         plan = plan_of_log(_read(asked.wpa[0]).decode(errors="replace"), asked.mtu)
     else:
         raise UsageError("name a source: --capture, --ip, --ip-json, --wpa, --to-ip, --next or --lint")
-    sys.stdout.write(_as(plan, asked.role or "end").text())
+    # A log is of an endpoint that still sends.
+    sys.stdout.write(_text(_as(plan, asked.role or ("observer" if asked.wpa and not asked.ip_json else "end"))))
     return 0
 
 
 def _as(plan: Plan, role: str) -> Plan:
     return plan.observer() if role == "observer" else plan.peer() if role == "peer" else plan
+
+
+def _text(plan: Plan) -> str:
+    """The CONFIG, with a warning if it sends."""
+    return (_SENDS if plan.tx else "") + plan.text()
 
 
 def _from_capture(asked: argparse.Namespace) -> int:
@@ -114,7 +128,7 @@ def _from_capture(asked: argparse.Namespace) -> int:
     if asked.role in ("end", "peer") and own is None:
         raise UsageError(f"--as {asked.role}: give the SCI of the end by --own")
     plan = made.plan(own, suite)
-    sys.stdout.write((plan.peer() if asked.role == "peer" else plan).text())
+    sys.stdout.write(_text(plan.peer() if asked.role == "peer" else plan))
     return 3 if made.unopened else 0
 
 

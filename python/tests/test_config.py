@@ -17,6 +17,8 @@ from macsec.configuration import Configuration
 
 from .helpers import CAPTURES, KEYS, OTHER, ROOT, SALT, SENDER, InFolder, client_frames, main_of, protected
 
+DATA = ROOT / "python" / "tests" / "data"
+LONG_KEY = bytes.fromhex("e3c08a8f06c6e3ad95a70557b23f75483ce33021a9c72b7025666204c69c0b72")
 IP_COMMANDS = """
 ip link set eth0 address 02:00:00:00:00:02
 sudo ip link add link eth0 macsec0 type macsec port 1 cipher gcm-aes-128 \\
@@ -188,7 +190,7 @@ class Log(Made):
     def test_log_alone(self) -> None:
         log = self.log(KEYS[1].hex(" "), 1) + self.log(KEYS[2].hex(" "), 0) + self.log(KEYS[0].hex(" "), 0)
         path = self.put("LOG", log)
-        end, observer = self.config("--wpa", path), self.config("--wpa", path, "--as", "observer")
+        end, observer = self.config("--wpa", path, "--as", "end"), self.config("--wpa", path)
         self.assertIn("# 2 associations got another key", end)
         self.assertIn("A txon 0\n", end)
         self.assertEqual(self.verdicts(observer, CAPTURES / "linux.pcap"), {"OK": 3})
@@ -200,6 +202,25 @@ class Log(Made):
         path = self.put("LOG", self.log(KEYS[1].hex(" "), 1) + self.log(KEYS[0].hex(" "), 0))
         text = self.config("--capture", CAPTURES / "observed.pcap", "--wpa", path)
         self.assertEqual(self.verdicts(text, CAPTURES / "observed.pcap")["OK"], 6)
+
+
+class Linux(Made):
+    """Captures of Linux 6.1, with the commands, the output of iproute2 6.1 and the logs of wpa_supplicant 2.10."""
+
+    def test_extended_numbers_across_their_half(self) -> None:
+        path = DATA / "xpn.pcap"
+        key = f"{LONG_KEY.hex()}:{SALT.hex()}"
+        for words in (("--ip", DATA / "xpn.sh", "--as", "observer"), ("--capture", path, "--key", key)):
+            self.assertEqual(self.verdicts(self.config(*words), path), {"OK": 14})
+        shown = self.config("--ip-json", DATA / "xpn.json", "--key", f"01={key}")
+        self.assertIn(f"end A xpn256 {SENDER} 1514 sci\nA replay off 0\n", shown)
+
+    def test_key_agreement(self) -> None:
+        path = DATA / "mka.pcap"
+        for log in ("mka-server.log", "mka-peers.log"):
+            text = self.config("--capture", path, "--wpa", DATA / log)
+            self.assertIn("AN 0 is under key 5 from record 24 on", text)
+            self.assertEqual(self.verdicts(text, path), {"OK": 24, "NotValid": 6})
 
 
 class Lint(Made):

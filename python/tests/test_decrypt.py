@@ -14,7 +14,7 @@ from typing import Iterator, List
 from macsec import Suite, capture
 from macsec.decrypt import main
 
-from .helpers import CAPTURES, KEYS, LONG_KEY, OTHER, SALT, START, InFolder, client_frames, main_of, protected
+from .helpers import CAPTURES, KEYS, LONG_KEY, OTHER, ROOT, SALT, START, InFolder, client_frames, main_of, protected
 
 
 def mixed(*parts: "List[bytes]") -> "Iterator[bytes]":
@@ -130,6 +130,19 @@ class Decrypt(Opening):
         status, _, error = main_of(main, self.put("IN", link), self.folder / "OTHER", "--wpa", hidden)
         self.assertEqual(status, 2)
         self.assertIn("-dK", error)
+
+
+class Linux(Opening):
+    """A link of Linux 6.1 whose five keys wpa_supplicant 2.10 agreed on; the fifth returns to association number 0."""
+
+    def test_key_agreement(self) -> None:
+        data = ROOT / "python" / "tests" / "data"
+        for log in ("mka-server.log", "mka-peers.log"):
+            opened = self.opened(data / "mka.pcap", "--wpa", data / log)
+            self.assertEqual(self.text.count("under"), 5)
+            # The client sent frames with the numbers of their run and of their place in it.
+            self.assertEqual([it[14:16] for it in opened], [bytes([run, n]) for run in range(5) for n in range(6)])
+            self.assertEqual({len(set(zip(it[14::2], it[15::2]))) for it in opened}, {1})
 
 
 class Files(Opening):
