@@ -57,11 +57,8 @@ class MacsecError(Exception):
     def __init__(self, status: int, line: Optional[int] = None) -> None:
         self.number = int(status)
         self.line = line
-        try:
-            known = Status(status)
-            self.name, meaning = known.name, MEANINGS.get(known, "")
-        except ValueError:
-            self.name, meaning = "unknown", ""
+        known = Status(status)
+        self.name, meaning = known.name, MEANINGS.get(known, "")
         where = f"line {line}: " if line else ""
         super().__init__(f"{where}{self.number} {self.name}" + (f": {meaning}" if meaning else ""))
 

@@ -9,9 +9,22 @@
 from __future__ import annotations
 
 from enum import IntEnum
+from typing import Any
 
 
-class Status(IntEnum):
+class _Number(IntEnum):
+    """A number that a library of a later version can give without a name here: it is called `unknown`."""
+
+    @classmethod
+    def _missing_(cls, value: object) -> Any:
+        if not isinstance(value, int):
+            return None
+        made = int.__new__(cls, value)
+        made._name_, made._value_ = "unknown", value
+        return made
+
+
+class Status(_Number):
     """Why the library did nothing. 1 to 20 are the refusals of commands."""
 
     OK = 0
@@ -95,7 +108,7 @@ class Mode(IntEnum):
     strict = 2
 
 
-class Fate(IntEnum):
+class Fate(_Number):
     """What becomes of a client frame."""
 
     Protected = 1
@@ -104,7 +117,7 @@ class Fate(IntEnum):
     TooLong = 4
 
 
-class Verdict(IntEnum):
+class Verdict(_Number):
     """What becomes of a link frame. Each is named as its counter is, without InPkts."""
 
     Untagged = 1

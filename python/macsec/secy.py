@@ -17,8 +17,8 @@ Octets = Union[bytes, bytearray, memoryview, Any]
 # An SCI: 8 octets, or their 16 hex digits.
 SciLike = Union[bytes, bytearray, memoryview, str]
 
-_FATES = tuple(Fate(it) if it else None for it in range(5))
-_VERDICTS = tuple(Verdict(it) if it else None for it in range(13))
+_FATES = {int(it): it for it in Fate}
+_VERDICTS = {int(it): it for it in Verdict}
 _SENT_OCTETS = ctypes.c_char * ctypes.sizeof(_library.Sent)
 _RECEIVED_OCTETS = ctypes.c_char * ctypes.sizeof(_library.Received)
 # The members of both before `reserved`, read at once.
@@ -215,7 +215,7 @@ class SecY:
                 raise error(status)
             at, length, _, fate, key = _sent_of(self._sent)
             link = _octets_at(at, length) if length else None
-        return Sent(_FATES[fate], link, key if fate == 1 else None)
+        return Sent(_FATES.get(fate) or Fate(fate), link, key if fate == 1 else None)
 
     def receive(self, frame: Octets) -> Received:
         """What becomes of a frame from the link."""
@@ -227,7 +227,7 @@ class SecY:
                 raise error(status)
             at, length, _, verdict, sci, an, has_sa, is_delivered = _received_of(self._received)
             client = _octets_at(at, length) if is_delivered else None
-        return Received(_VERDICTS[verdict], client, *((sci, an) if has_sa else _NO_SA))
+        return Received(_VERDICTS.get(verdict) or Verdict(verdict), client, *((sci, an) if has_sa else _NO_SA))
 
     def send_uncontrolled(self, frame: Octets) -> bytes:
         """A client frame of the uncontrolled port, which is to be transmitted as it is."""
