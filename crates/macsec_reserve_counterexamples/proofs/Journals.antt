@@ -1,0 +1,67 @@
+-- The journals of worked runs: a header whose salt begins with eight zeros, so that it reserves nothing even if it
+-- reads as a record, and whole records.
+use Rattle.std.proofs.Common.{◌≡◌, ℕ, ◌+◌, ◌≤◌, Bool, true, false, List, [], ◌∷◌, ◌++◌, length, take, drop, refl, ap, ◌∙◌, arith, length-append, All}
+use Rattle.std.specs.Prelude.{replicate, slice_range, max, nat_le, ◌&&◌, if◌then◌else◌}
+use Rattle.std.specs.Int.{w64, from_be_bytes}
+use Rattle.std.proofs.lemmas.Bool.{and_from, le-leb}
+use Rattle.std.proofs.lemmas.List.{drop_at, take_at}
+use Rattle.macsec_gcm.specs.Octets.{same_octets}
+use Rattle.macsec_reserve.specs.declared.reservation.Reservation.{Reservation}
+use Rattle.macsec_reserve.specs.Crashes.{IsReservation}
+use Rattle.macsec_reserve.specs.Journal.{check_of, header, highest, is_journal, records_of, reservations, reserved_in, salt_of, title}
+use Rattle.macsec_reserve.proofs.ShorterJournals.{reads_records, reservations_split}
+use Rattle.macsec_reserve.proofs.HighestOf.{highest-append}
+
+-- two salts
+abbrev pub salt : Bool → List ℕ
+salt false = replicate 32 0
+salt true = replicate 31 0 ++ 1 ∷ []
+
+abbrev pub journal : Bool → List Reservation → List ℕ
+journal other rs = header (salt other) ++ records_of rs
+
+zero_if : (b : Bool) (entry name : List ℕ) (last : ℕ) → last ≡ 0 → highest (if b then record { name = entry; last = last } ∷ [] else []) name ≡ 0
+zero_if false entry name last none = refl
+zero_if true entry name last none = by_name (same_octets entry name)
+  where
+    by_name : (c : Bool) → (if c then max last 0 else 0) ≡ 0
+    by_name true = omega (arith, none)
+    by_name false = refl
+
+in_header : (other : Bool) (name : List ℕ) → highest (reserved_in (header (salt other))) name ≡ 0
+in_header false name =
+    zero_if (same_octets (slice_range (header (salt false)) 40 64) (check_of (take 32 (header (salt false))) (slice_range (header (salt false)) 32 40)))
+    (take 32 (header (salt false))) name (from_be_bytes w64 (slice_range (header (salt false)) 32 40)) refl
+in_header true name =
+    zero_if (same_octets (slice_range (header (salt true)) 40 64) (check_of (take 32 (header (salt true))) (slice_range (header (salt true)) 32 40)))
+    (take 32 (header (salt true))) name (from_be_bytes w64 (slice_range (header (salt true)) 32 40)) refl
+
+long : (other : Bool) → length (header (salt other)) ≡ 64
+long false = refl
+long true = refl
+
+-- a journal says what its records say
+pub says : (other : Bool) (rs : List Reservation) → All IsReservation rs → (name : List ℕ) → highest (reservations (journal other rs)) name ≡ highest rs name
+says other rs are name =
+    let head : List ℕ = header (salt other) in
+    let read : reservations (head ++ records_of rs) ≡ reserved_in head ++ rs =
+    reservations_split (head ++ records_of rs) (omega (arith, length-append head (records_of rs), long other))
+    ∙ ap (λ xs. reserved_in xs ++ reservations (drop 64 (head ++ records_of rs))) (take_at head (records_of rs) 64 (long other))
+    ∙ ap (λ xs. reserved_in head ++ reservations xs) (drop_at head (records_of rs) 64 (long other))
+    ∙ ap (λ qs. reserved_in head ++ qs) (reads_records rs are).0 in
+    let same : highest (reservations (head ++ records_of rs)) name ≡ highest (reserved_in head ++ rs) name = ap (λ qs. highest qs name) read in
+    omega (arith, same, highest-append (reserved_in head) rs name, in_header other name)
+
+pub salt_is : (other : Bool) (rs : List Reservation) → salt_of (journal other rs) ≡ salt other
+salt_is false rs = refl
+salt_is true rs = refl
+
+title_is : (other : Bool) (rs : List Reservation) → same_octets (take 32 (journal other rs)) title ≡ true
+title_is false rs = refl
+title_is true rs = refl
+
+-- it is a journal
+pub is_one : (other : Bool) (rs : List Reservation) → is_journal (journal other rs) ≡ true
+is_one other rs =
+    let longer : 64 ≤ length (journal other rs) = omega (arith, length-append (header (salt other)) (records_of rs), long other) in
+    and_from (nat_le 64 (length (journal other rs))) (same_octets (take 32 (journal other rs)) title) (le-leb 64 (length (journal other rs)) longer) (title_is other rs)

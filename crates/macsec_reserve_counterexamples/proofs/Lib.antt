@@ -1,0 +1,7 @@
+pub mod Journals
+pub mod Goes
+pub mod Senders
+pub mod IvPremises
+pub mod Receivers
+pub mod ReplayPremises
+pub mod UnsoundKey
