@@ -35,8 +35,8 @@ LeavesRecords run later = All (StandsIn later.journal) (reported run)
 abbrev pub LeavesDurable : Run → Run → Type 0
 LeavesDurable run later = LeavesRecords run later → KeepsDurable run later
 
--- the runs are sound and agree on their keys, and every later run reads the same salt, and each record that was reported
--- durable to a run, at its place
+-- the runs are sound and agree on their keys, and every later run reads the same salt, and each record that was
+-- reported durable to a run, at its place
 pub record IsHistoryOfCrashes (runs : List Run) : Type 0 where
   pub sound : All (λ run. StaysSound (opening run) run.inputs) runs
   pub agree : AllPairs AgreeOnKeys runs

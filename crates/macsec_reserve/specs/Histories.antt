@@ -93,8 +93,8 @@ SameSalt run later = salt_of later.journal ≡ salt_of run.journal
 abbrev pub StaysSound : Keeping → List KeepingInput → Type 0
 StaysSound k inputs = (n : ℕ) → IsSound (keeping_after k (take n inputs)).secy
 
--- the runs are sound and agree on their keys, and each reads the salt of the runs before it and what was reported durable
--- to them
+-- the runs are sound and agree on their keys, and each reads the salt of the runs before it and what was reported
+-- durable to them
 pub record IsHistory (runs : List Run) : Type 0 where
   pub sound : All (λ run. StaysSound (opening run) run.inputs) runs
   pub agree : AllPairs AgreeOnKeys runs

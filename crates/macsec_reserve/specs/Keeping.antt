@@ -15,8 +15,8 @@ use Rattle.macsec_reserve.specs.declared.reservation.Reservation.{Reservation}
 use Rattle.macsec_reserve.specs.Entries.{raised_by, reduced}
 use Rattle.macsec_reserve.specs.Journal.{highest, receiving_name, reservations, salt_of, sending_name}
 
--- the endpoint; whether it has a journal; the journal's salt; what the journal reserved when the run began, one entry for
--- each name; and what was reported durable since, one entry for each key
+-- the endpoint; whether it has a journal; the journal's salt; what the journal reserved when the run began, one entry
+-- for each name; and what was reported durable since, one entry for each key
 pub record Keeping : Type 0 where
   pub secy : State
   pub keeps : Bool

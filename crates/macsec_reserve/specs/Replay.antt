@@ -72,8 +72,8 @@ pub record HasSaved (run : Run) (name : List ℕ) (n : ℕ) : Type 0 where
   pub name_is : row_name last.salt last.secy row ≡ name
   pub durable : Contains (reported run) (saved_for last.salt last.secy row)
 
--- then no later run that drops late frames delivers a frame of that packet number, or of a lower one, from an association
--- of that name: in a journal of the same salt, one of the same key octets, SCI and number
+-- then no later run that drops late frames delivers a frame of that packet number, or of a lower one, from an
+-- association of that name: in a journal of the same salt, one of the same key octets, SCI and number
 abbrev pub NeverDeliversAgain : Run → Run → List ℕ → ℕ → Type 0
 NeverDeliversAgain run later name n =
     HasSaved run name n → KeepsDurable run later → (inputs : List KeepingInput) (frame : List ℕ) (row : RxRow) (delivered : List ℕ) →

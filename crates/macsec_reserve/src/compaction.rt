@@ -17,8 +17,8 @@ pub enum CompactFault {
     Memory,
 }
 
-/// The octets of a shorter journal that reserves the same: its header, and one record for each name. Write them to a new
-/// file, make them durable, and rename it over the old one.
+/// The octets of a shorter journal that reserves the same: its header, and one record for each name. Write them to a
+/// new file, make them durable, and rename it over the old one.
 pub fn compacted(alloc: Global, journal: &[u8]) -> Result<Vec<u8>, CompactFault>
     ensures octets { IfOk result (λ shorter. shorter.items ≡ compacted journal.now) }
     ensures keeps { IfOk result (λ shorter. IsCompacted journal.now shorter.items) }

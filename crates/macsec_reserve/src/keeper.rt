@@ -182,8 +182,8 @@ impl Keeper {
         }
     }
 
-    /// What is to be saved of the receive association of this channel and of this number, if there is one: once its record
-    /// is durable, no later run creates the association at a packet number that is too low.
+    /// What is to be saved of the receive association of this channel and of this number, if there is one: once its
+    /// record is durable, no later run creates the association at a packet number that is too low.
     pub fn to_save(&self, sci: Sci, an: An) -> Option<Reservation>
         ensures { result ≡ option_map (saved_for self.now.salt self.now.secy) (rx_row self.now.secy.rx.rows sci an) }
     {
@@ -235,8 +235,8 @@ impl Keeper {
         self.secy.receive(frame)
     }
 
-    /// Notes that a reservation is durable: its record is on stable storage, where every later run will read it. One for
-    /// a name of no key reserves nothing in this run.
+    /// Notes that a reservation is durable: its record is on stable storage, where every later run will read it. One
+    /// for a name of no key reserves nothing in this run.
     pub fn now_durable(&mut self, reservation: &Reservation)
         ensures after { self.new ≡ (keeping_step self.old (now_durable reservation.now)).1 }
         ensures sound { IsSound self.new.secy }

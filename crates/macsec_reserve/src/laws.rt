@@ -18,9 +18,9 @@ ghost use Rattle.macsec_reserve.specs.Unique.{RepeatsNoIv, RepeatsNoIvAfterCrash
 use macsec_secy::laws::{delivers_in_time, keys_stay, protects_frames, rx_rows_stay};
 use macsec_suite::laws::equal_ivs;
 
-/// Over all runs of a history, whatever the moment at which each ended, no two frames are sealed with the same key octets
-/// and the same IV. Premises: every later run reads the same salt of the journal, and what was reported durable to a run
-/// (`durable`), or its records, with any octets around them (`crashes`).
+/// Over all runs of a history, whatever the moment at which each ended, no two frames are sealed with the same key
+/// octets and the same IV. Premises: every later run reads the same salt of the journal, and what was reported durable
+/// to a run (`durable`), or its records, with any octets around them (`crashes`).
 pub fn repeats_no_iv()
     ensures durable { (runs : List Run) → RepeatsNoIv runs }
     ensures crashes { (runs : List Run) → RepeatsNoIvAfterCrashes runs }
@@ -31,9 +31,9 @@ pub fn repeats_no_iv()
     protects_frames();
 }
 
-/// The same over all runs of two ends, each with a journal of its own. Premises besides those of `repeats_no_iv` for each:
-/// the ends' SCIs differ, keys with the same octets at both agree as above, and with extended packet numbers their own SSCIs
-/// differ.
+/// The same over all runs of two ends, each with a journal of its own. Premises besides those of `repeats_no_iv` for
+/// each: the ends' SCIs differ, keys with the same octets at both agree as above, and with extended packet numbers
+/// their own SSCIs differ.
 pub fn repeats_no_iv_at_both()
     ensures durable { (runs others : List Run) → RepeatsNoIvAtBoth runs others }
     ensures crashes { (runs others : List Run) → RepeatsNoIvAtBothAfterCrashes runs others }
@@ -44,8 +44,8 @@ pub fn repeats_no_iv_at_both()
     protects_frames();
 }
 
-/// Every later run reads records that were appended to whole records, and everything before them, whatever octets a crash
-/// leaves after them.
+/// Every later run reads records that were appended to whole records, and everything before them, whatever octets a
+/// crash leaves after them.
 pub fn reads_written()
     ensures { (journal : List ℕ) (rs : List Reservation) (behind : List ℕ) → ReadsWritten journal rs behind }
 {}
@@ -55,8 +55,8 @@ pub fn reduces()
     ensures { (rs : List Reservation) → SaysTheSame rs (reduced rs) }
 {}
 
-/// At each moment of a run a frame that is delivered while late frames are dropped has a packet number above all that the
-/// journal had saved for its association when the run began.
+/// At each moment of a run a frame that is delivered while late frames are dropped has a packet number above all that
+/// the journal had saved for its association when the run began.
 pub fn delivers_above()
     ensures { (run : Run) (inputs : List KeepingInput) (frame : List ℕ) (row : RxRow) (delivered : List ℕ) → DeliversAbove run inputs frame row delivered }
 {
@@ -68,13 +68,15 @@ pub fn delivers_above()
     delivers_in_time();
 }
 
-/// While the replay window is 0, what is to be saved of a receive association covers each packet number that it has accepted.
+/// While the replay window is 0, what is to be saved of a receive association covers each packet number that it has
+/// accepted.
 pub fn saves_accepted()
     ensures { (salt : List ℕ) (s : State) (sci : Sci) (an : ℕ) (row : RxRow) (n : ℕ) → SavesAccepted salt s sci an row n }
 {}
 
-/// What a run accepted before it saved the association's number, at replay window 0, is not delivered again by a later run
-/// that drops late frames: on an association of that name, or where the journal keeps its salt, of those key octets.
+/// What a run accepted before it saved the association's number, at replay window 0, is not delivered again by a later
+/// run that drops late frames: on an association of that name, or where the journal keeps its salt, of those key
+/// octets.
 pub fn never_delivers_again()
     ensures named { (run later : Run) (name : List ℕ) (n : ℕ) → NeverDeliversAgain run later name n }
     ensures keyed { (run later : Run) (bytes : List ℕ) (sci : Sci) (an n : ℕ) → NeverDeliversAgainUnder run later bytes sci an n }
@@ -87,8 +89,8 @@ pub fn never_delivers_again()
     delivers_in_time();
 }
 
-/// A keeping endpoint is the machine with an empty journal, where the packet numbers that an input uses are reserved; and
-/// always without a journal.
+/// A keeping endpoint is the machine with an empty journal, where the packet numbers that an input uses are reserved;
+/// and always without a journal.
 pub fn is_the_machine()
     ensures reserved { (k : Keeping) (input : Input) → IsTheMachine k input }
     ensures alone { (k : Keeping) (input : Input) → IsTheMachineAlone k input }
