@@ -1,7 +1,7 @@
 -- The loop over the lines of a script: what was written, and the world after them.
 use Rattle.std.proofs.Common.{◌≡◌, ℕ, ◌+◌, ◌<◌, List, [], ◌∷◌, ◌++◌, take, drop, get_or, length, refl, sym, ◌∙◌, ap, subst, append_assoc, append-nil}
 use Rattle.std.proofs.lemmas.List.{drop_more, take_more, take-append-drop}
-use Rattle.std.specs.Prelude.{MatchResult, OnErr, OnOk, Option, None, Result, Ok, Err}
+use Rattle.std.specs.Prelude.{false, is_err, MatchResult, OnErr, OnOk, Option, None, Result, Ok, Err}
 use Rattle.std.specs.Io.{StartsWith}
 use Rattle.std.specs.Io.KnownBytes.{Appends}
 use Rattle.std.proofs.KnownBytes.{Appends-kept, Appends-nil, Appends-trans, starts_with_rest}
@@ -156,11 +156,12 @@ sound_before law start lines i entry old mid new w after item within so_far othe
 
 -- ---- printing a line
 
--- a line that was carried out, whatever its write returned
-pub carried_out : (answer : Result (Unit {0}) ScriptFault) (Holds : Type 0) → Holds → UnlessMemory answer Holds
-carried_out (Ok done) Holds holds = holds
-carried_out (Err Memory) Holds holds = tt
-carried_out (Err other) Holds holds = holds
+-- a line whose text was composed was carried out, whatever its write returned
+pub carried_out : (composed answer : Result (Unit {0}) ScriptFault) (Holds : Type 0) → is_err composed ≡ false → OnOk composed Holds → UnlessMemory answer Holds
+carried_out (Err fault) answer Holds good holds = cc
+carried_out (Ok done) (Ok end) Holds good holds = holds
+carried_out (Ok done) (Err Memory) Holds good holds = tt
+carried_out (Ok done) (Err other) Holds good holds = holds
 
 -- nothing was written
 pub none_written : (text : Option (List ℕ)) (whole : List ℕ) → AppendsFront text text whole

@@ -1,6 +1,6 @@
 -- Of a line whose text could not be composed nothing was written, and of any other what was written of its text. The
 -- write does not change the world.
-use Rattle.std.proofs.Common.{rules}
+use Rattle.std.proofs.Common.{rules, sym, ◌∙◌}
 use Rattle.macsec_script.proofs.Runs.{carried_out, line_written, none_written}
 use Rattle.macsec_script.proofs.running.print_line.Goals as goal
 
@@ -13,7 +13,7 @@ returns-clause-text g c =
     c.write_octets-written.ensures.cut c.write_fault.ensures
 
 pub returns-clause-world : goal.returns-clause-world
-returns-clause-world g c = carried_out c.write_fault.result _ (search rules)
+returns-clause-world g c = carried_out c.show.result c.write_fault.result _ (sym c.is_err.ensures.value ∙ c.if-is_err.false) c.show.ensures.world
 
 pub returns-clause-sound : goal.returns-clause-sound
 returns-clause-sound g c = c.show.ensures.sound
