@@ -157,8 +157,9 @@ def archive(name: str, room: str) -> None:
     do("gcc", "-o", f"{room}/talk", f"{top}/share/doc/macsec/examples/c/talk.c", *flags)
     see("unpacked, the archive has what talk.c needs", do(f"{room}/talk") == text("examples/c/talk.txt"))
     cargo = shutil.which("cargo")
-    if cargo:
-        rust = outside({**asks, "PATH": f"{os.path.dirname(cargo)}:{ENVIRONMENT['PATH']}", "HOME": os.environ["HOME"]})
+    if cargo and subprocess.run([cargo, "--version"], stdout=subprocess.DEVNULL).returncode == 0:
+        # Cargo finds its compiler by variables and files of the user.
+        rust = outside({**os.environ, **asks, "PATH": f"{os.path.dirname(cargo)}:{ENVIRONMENT['PATH']}"})
         words = [cargo, "run", "--quiet", "--offline", "--target-dir", f"{room}/rust"]
         told = rust(*words, "--manifest-path", f"{top}/share/doc/macsec/examples/rust/Cargo.toml")
         see("unpacked, the archive has what cargo needs for examples/rust", told == text("examples/rust/stdout.txt"))
