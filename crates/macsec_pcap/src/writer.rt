@@ -98,6 +98,7 @@ fn write_record<W: Write>(
 }
 
 /// Writes these octets. Returns `Write` if a write fails, and then at most a prefix of them was written.
+#[inline(always)]
 fn write_piece<W: Write>(destination: &mut W, octets: &[u8]) -> Result<(), PcapFault>
     ensures whole { OnOk result (Appends (W.contents destination.old) (W.contents destination.new) octets.now) }
     ensures fault { IfErr result (λ fault. fault ≡ PcapFault.Write) }

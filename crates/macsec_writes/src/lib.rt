@@ -12,6 +12,7 @@ use std::io::{self, ErrorKind, Write};
 
 /// Writes all of these octets. A write that is interrupted is tried again. Returns the error of a write that failed, or
 /// `WriteZero` if a write took no octet; then at most a prefix of the octets was written.
+#[inline(always)]
 pub fn write_octets<W: Write>(destination: &mut W, octets: &[u8]) -> io::Result<()>
     ensures whole { OnOk result (Appends (W.contents destination.old) (W.contents destination.new) octets.now) }
     ensures cut { OnErr result (AppendsFront (W.contents destination.old) (W.contents destination.new) octets.now) }
