@@ -147,6 +147,8 @@ def _packet(number: int, kind: int, body: bytes, order: str, interfaces: List[_I
         of, at = interfaces[which], 20
         time = (high << 32 | low) * 10**9 // of.units + of.offset * 10**9
         options = body[at + (captured + 3) // 4 * 4 :]
+        if not 0 <= time < 10**9 << 32:
+            raise CaptureError(f"record {number}: its time is before 1970 or after 2106")
     if captured > MOST_OCTETS or at + captured > len(body):
         raise CaptureError(f"record {number} has more octets than its block")
     flags = _options(options, order).get(2, b"")

@@ -11,8 +11,8 @@ from .names import Suite, Verdict
 from .trial import OPENED, Key, KeyArgument, Trial, Trials
 
 _MOST_LIVE = 8
-# How many frames of an association that never opened are tried under all upper halves and SSCIs.
-_WIDE_SEARCHES = 3
+# How many frames of an association that never opened, and of all, are tried under all upper halves and SSCIs.
+_WIDE_SEARCHES, _WIDE_SEARCHES_OF_ALL = 3, 20
 _UPPER_HALVES, _SSCIS = 256, 16
 _FEW_UPPER_HALVES, _FEW_SSCIS = 4, 4
 _FCS = 4
@@ -83,6 +83,7 @@ class Opener:
         self._streams: Dict[Tuple[bytes, bool, int], _Stream] = {}
         self._sscis: Dict[bytes, int] = {}
         self._trials = Trials()
+        self._wide_searches = 0
         self.events: List[Event] = []
         # How the last frame was opened, or None.
         self.last: Optional[Live] = None
@@ -159,14 +160,15 @@ class Opener:
         self, stream: _Stream, plain: bytes, tag: SecTag, may_cut: bool
     ) -> "Optional[Tuple[Key, bytes, int, int, int]]":
         """A key under which a frame opens, with the sender's SCI and SSCI, the upper half, and what is cut off."""
-        is_wide = not stream.live and stream.failures < _WIDE_SEARCHES
+        is_wide = not stream.live and stream.failures < _WIDE_SEARCHES and self._wide_searches < _WIDE_SEARCHES_OF_ALL
+        self._wide_searches += is_wide
         for cut in (0, _FCS) if may_cut else (0,):
             octets = plain[: len(plain) - cut] if cut else plain
             if len(octets) < 14 or read_tag(octets) is None:
                 continue
             for argument, sci in self._candidates(plain, tag):
                 for key in self._forms_of(argument):
-                    for ssci, upper in self._numbers(stream, argument, key, sci, is_wide):
+                    for ssci, upper in self._numbers(stream, argument, key, sci, is_wide and not cut):
                         if self._trials.opens(key, sci, tag.an, octets, ssci, upper):
                             return key, sci, ssci, upper, cut
         return None
@@ -209,8 +211,9 @@ class Opener:
             sscis = [*([self._sscis[sci]] if sci in self._sscis else []), *range(1, count + 1)]
             sscis += [it << 24 for it in range(1, _FEW_SSCIS + 1)]
         uppers = [stream.upper, stream.upper + 1, *range(_UPPER_HALVES if is_wide else _FEW_UPPER_HALVES)]
-        for upper in dict.fromkeys(uppers):
-            for ssci in dict.fromkeys(sscis):
+        # One endpoint tries all upper halves, so these are the inner loop.
+        for ssci in dict.fromkeys(sscis):
+            for upper in dict.fromkeys(uppers):
                 yield ssci, upper
 
     def close(self) -> None:

@@ -20,7 +20,7 @@ from .trial import OPENED, Key, Trial, key_argument
 
 _DELIVERED_AS_SENT = (Verdict.OK, Verdict.Delayed)
 # How many frames of a kind, and of all kinds, other settings are searched for; and how many of a kind are kept.
-_MOST_SEARCHES, _MOST_SEARCHES_OF_ALL, _MOST_FRAMES = 6, 300, 20_000
+_MOST_SEARCHES, _MOST_SEARCHES_OF_ALL, _MOST_FRAMES = 4, 100, 20_000
 # A verdict, and an SCI with an association number or an EtherType.
 _Kind = Tuple[Verdict, str, Optional[int]]
 
