@@ -20,10 +20,10 @@ output_of_kept (Err f) = endpoint_output (output_of_sent (Err f))
 
 -- of `open`: a file that is no journal, or no endpoint, or out of memory, or the keeping endpoint as it is opened
 abbrev pub MakesKeeper : EndConfig → List ℕ → Result Keeping OpenFault → Type 0
-MakesKeeper config journal (Ok k) = (is_journal journal ≡ true) × (k ≡ opened config journal)
+MakesKeeper config journal (Ok k) = (is_journal journal ≡ true) × (config_fault config ≡ None) × (k ≡ opened config journal)
 MakesKeeper config journal (Err NotJournal) = is_journal journal ≡ false
 MakesKeeper config journal (Err (Endpoint f)) = (is_journal journal ≡ true) × MakesEndpoint config (Err f)
-MakesKeeper config journal (Err Memory) = is_journal journal ≡ true
+MakesKeeper config journal (Err Memory) = (is_journal journal ≡ true) × (config_fault config ≡ None)
 
 -- of `new`: no endpoint, or one without a journal
 abbrev pub MakesAlone : EndConfig → Result Keeping NewFault → Type 0

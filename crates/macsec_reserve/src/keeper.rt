@@ -52,7 +52,7 @@ struct AtHand {
 /// An endpoint that uses a packet number only if it has reserved it; without a journal it uses any, as `Secy`.
 #[derive(Drop)]
 pub struct Keeper {
-    secy: Secy,
+    pub(crate) secy: Secy,
     /// Has it a journal?
     keeps: bool,
     /// The journal's salt, or zeros.
