@@ -18,6 +18,7 @@ enum { HANDLES = 4, MOST_WORDS = 12, LONGEST_LINE = 262144, MOST_ROOMS = 4 };
 
 static macsec_endpoint handles[HANDLES];
 static bool made[HANDLES]; /* whether they hold an endpoint */
+static int blocks[HANDLES]; /* and of how many blocks */
 static char line[LONGEST_LINE];
 
 static void fail(const char *why) {
@@ -155,18 +156,24 @@ void __wrap_free(void *block) {
     __real_free(block);
 }
 
-/* An endpoint has four blocks. Only the calls that make one, and a line, ask for blocks. */
-static void check_blocks(const char *name, bool held_before, bool holds) {
-    int expected = 4 * ((int)holds - (int)held_before);
-    bool may_ask = strcmp(name, "configure") == 0 || strcmp(name, "command_line") == 0;
-    if (held != expected)
+/* An endpoint has six blocks, and one more beside a journal with records. Only the calls that make one, a line and a
+ * journal ask for blocks. */
+static void check_blocks(const char *name, unsigned handle, bool held_before) {
+    const char *reading[] = { "configure", "command_line", "reserve_open", "reserve_configure", "journal_compacted" };
+    bool beside = strncmp(name, "reserve_", strlen("reserve_")) == 0, may_ask = false;
+    for (size_t i = 0; i < sizeof reading / sizeof reading[0]; i++)
+        may_ask = may_ask || strcmp(name, reading[i]) == 0;
+    int changed = made[handle] == held_before ? 0 : held_before ? -blocks[handle] : held;
+    if (held != changed || (changed > 0 && held != 6 && (held != 7 || !beside)))
         fail("the library holds another number of blocks");
-    if (!may_ask && asked != (expected > 0 ? 4u : 0u))
+    if (!may_ask && asked != (changed > 0 ? 6u : 0u))
         fail("the library asked for another number of blocks");
+    if (changed > 0)
+        blocks[handle] = held;
 }
 #else
-static void check_blocks(const char *name, bool held_before, bool holds) {
-    (void)name, (void)held_before, (void)holds;
+static void check_blocks(const char *name, unsigned handle, bool held_before) {
+    (void)name, (void)handle, (void)held_before, (void)blocks;
 }
 #endif
 
@@ -225,14 +232,78 @@ static uint32_t send_uncontrolled(macsec_endpoint *e, const char *word) {
     return macsec_send_uncontrolled(e, frame, length);
 }
 
-static uint32_t new_endpoint(macsec_endpoint *e, char **w) {
+static const macsec_config *sealed_config(char **w) {
     macsec_config *config = room_of(sizeof *config);
     octets(w[0], config->sci, sizeof config->sci);
     config->suite = (uint32_t)number(w[1]);
     config->form = (uint32_t)number(w[2]);
     config->max_frame = (uint32_t)number(w[3]);
     seal();
-    return macsec_new(e, config);
+    return config;
+}
+
+static uint32_t new_endpoint(macsec_endpoint *e, char **w) {
+    return macsec_new(e, sealed_config(w));
+}
+
+static uint32_t reserve_open(macsec_endpoint *e, char **w) {
+    size_t length;
+    const uint8_t *journal = sealed(w[4], &length);
+    return macsec_reserve_open(e, sealed_config(w), journal, length);
+}
+
+static uint32_t reserve_configure(macsec_endpoint *e, char **w) {
+    size_t text_length, length;
+    const uint8_t *text = sealed(w[0], &text_length), *journal = sealed(w[1], &length);
+    uint32_t *at = room_of(sizeof *at);
+    *at = 7;
+    uint32_t status = macsec_reserve_configure(e, text, text_length, journal, length, at);
+    print_number(*at);
+    return status;
+}
+
+static uint32_t journal_compacted(const char *word) {
+    size_t length;
+    const uint8_t *journal = sealed(word, &length);
+    uint8_t *out = room_of(length);
+    size_t *written = room_of(sizeof *written);
+    memset(out, 7, length);
+    *written = 7;
+    uint32_t status = macsec_journal_compacted(journal, length, out, written);
+    print_number(*written);
+    print_octets(out, length);
+    return status;
+}
+
+static uint32_t journal_header(const char *word) {
+    size_t length;
+    const uint8_t *salt = sealed(word, &length);
+    macsec_record *out = room_of(sizeof *out);
+    if (length != 32)
+        fail("a salt has another length");
+    memset(out, 7, sizeof *out);
+    uint32_t status = macsec_journal_header(salt, out);
+    print_octets(out->octets, sizeof out->octets);
+    return status;
+}
+
+/* The record that a transmit association needs next, or what is to be saved of a receive association. */
+static uint32_t record(const macsec_endpoint *e, const char *name, char **w) {
+    macsec_record *out = room_of(sizeof *out);
+    memset(out, 7, sizeof *out);
+    uint32_t status = strcmp(name, "reserve_wanted") == 0
+                          ? macsec_reserve_wanted(e, (uint8_t)number(w[0]), number(w[1]), out)
+                          : macsec_reserve_to_save(e, sealed_sci(w[0]), (uint8_t)number(w[1]), out);
+    print_octets(out->octets, sizeof out->octets);
+    return status;
+}
+
+static uint32_t granted(macsec_endpoint *e, const char *word) {
+    macsec_record *record = room_of(sizeof *record);
+    if (octets(word, record->octets, sizeof record->octets) != sizeof record->octets)
+        fail("a record has another length");
+    seal();
+    return macsec_reserve_granted(e, record);
 }
 
 static uint32_t configure(macsec_endpoint *e, const char *word) {
@@ -410,6 +481,20 @@ static uint32_t command(macsec_endpoint *e, const char *name, char **w) {
     return macsec_add_tx_sa(e, (uint8_t)n, (uint16_t)number(w[1]), number(w[2]), number(w[3]) != 0);
 }
 
+static uint32_t reservation(macsec_endpoint *e, const char *name, char **w) {
+    if (strcmp(name, "reserve_open") == 0)
+        return reserve_open(e, w);
+    if (strcmp(name, "reserve_configure") == 0)
+        return reserve_configure(e, w);
+    if (strcmp(name, "reserve_granted") == 0)
+        return granted(e, w[0]);
+    if (strcmp(name, "journal_header") == 0)
+        return journal_header(w[0]);
+    if (strcmp(name, "journal_compacted") == 0)
+        return journal_compacted(w[0]);
+    return record(e, name, w);
+}
+
 static uint32_t call(macsec_endpoint *e, const char *name, char **w, int count) {
     if (strcmp(name, "new") == 0)
         return new_endpoint(e, w);
@@ -446,6 +531,8 @@ static uint32_t call(macsec_endpoint *e, const char *name, char **w, int count) 
     if (strcmp(name, "get_rx_counters") == 0 || strcmp(name, "get_rx_sa_counters") == 0 ||
         strcmp(name, "get_removed_counters") == 0)
         return rx_counters(e, name, w);
+    if (strncmp(name, "reserve_", strlen("reserve_")) == 0 || strncmp(name, "journal_", strlen("journal_")) == 0)
+        return reservation(e, name, w);
     if (strstr(name, "_rx_") != NULL || strcmp(name, "set_lowest_pn") == 0)
         return rx_command(e, name, w, count);
     return command(e, name, w);
@@ -453,7 +540,8 @@ static uint32_t call(macsec_endpoint *e, const char *name, char **w, int count) 
 
 /* Makes the call of a line, and checks the blocks that it takes and gives back. */
 static uint32_t checked(unsigned handle, const char *name, char **w, int count) {
-    bool before = made[handle], makes = strcmp(name, "new") == 0 || strcmp(name, "configure") == 0;
+    bool before = made[handle], makes = strcmp(name, "new") == 0 || strcmp(name, "configure") == 0 ||
+                                        strcmp(name, "reserve_open") == 0 || strcmp(name, "reserve_configure") == 0;
     asked = 0;
     held = 0;
     uint32_t status = call(&handles[handle], name, w, count);
@@ -461,7 +549,7 @@ static uint32_t checked(unsigned handle, const char *name, char **w, int count) 
         made[handle] = true;
     if (strcmp(name, "free") == 0)
         made[handle] = false;
-    check_blocks(name, before, made[handle]);
+    check_blocks(name, handle, before);
     leave_rooms();
     return status;
 }

@@ -1,5 +1,5 @@
 #!/usr/bin/env python3
-"""Makes random calls of the C library, and compares each answer with the one that expected.py works out.
+"""Makes random calls of the C library, and compares each answer with the one that handles.py works out.
 
     python3 fuzz/calls.py                          100,000 calls, by build/c/calls
     python3 fuzz/calls.py --calls 5000 --seed 7    fewer, and others
@@ -17,7 +17,6 @@ import argparse
 import collections
 import hashlib
 import itertools
-import pathlib
 import random
 import re
 import struct
@@ -26,338 +25,8 @@ import sys
 
 sys.dont_write_bytecode = True
 import expected
-
-ROOT = pathlib.Path(__file__).resolve().parent.parent
-HEADER = (ROOT / "include/macsec.h").read_text()
-# The constants of the header, by their names without MACSEC_.
-CONSTANTS = {name: int(value) for name, value in re.findall(r"\bMACSEC_(\w+) = (\d+)", HEADER)}
-CONSTANTS |= {name: int(value) for name, value in re.findall(r"#define MACSEC_(\w+) (\d+)\n", HEADER)}
-FRAME_MIN, FRAME_MAX = CONSTANTS["FRAME_MIN"], CONSTANTS["FRAME_MAX"]
-
-HANDLES = 3
-SUITES = {CONSTANTS["SUITE_GCM_AES_" + it]: "gcm" + it for it in ("128", "256")}
-SUITES |= {CONSTANTS["SUITE_GCM_AES_XPN_" + it]: "xpn" + it for it in ("128", "256")}
-FORMS = {CONSTANTS["FORM_" + it.upper()]: it for it in expected.FORMS}
-MODES = {CONSTANTS["MODE_" + it.upper()]: it for it in expected.MODES}
-ALL_COUNTERS = expected.SECY_COUNTERS[:11]
-TX_COUNTERS = expected.SECY_COUNTERS[11:]
-
-
-def constant_name(name):
-    """NoSAError: NO_SA_ERROR."""
-    return re.sub(r"(?<=[a-z])(?=[A-Z])|(?<=[A-Z])(?=[A-Z][a-z])", "_", name).upper()
-
-
-class Status(Exception):
-    """Why nothing is done: the name of the status, and what is shown with it, if that is not the same for all."""
-
-
-class Endpoint(expected.Endpoint):
-    """An endpoint that also keeps what deleted associations had counted."""
-
-    def do_rxsc(self, sci):
-        super().do_rxsc(sci)
-        self.channels[-1].removed = dict.fromkeys(expected.RX_COUNTERS, 0)
-
-    def do_rxdel(self, sci, an):
-        sa = self.rx_sa(sci, an)
-        super().do_rxdel(sci, an)
-        removed = self.channel(sci).removed
-        for name in expected.RX_COUNTERS:
-            removed[name] = (removed[name] + sa.counters[name]) % 2**64
-
-    def row_of(self, frame):
-        """The SCI and the number of the association that a link frame is for."""
-        read = expected.read_frame(frame)
-        if isinstance(read, str) or (read["tci"] & 8 and not read["tci"] & 4):
-            return None
-        channel, an = self.channel_of(read, frame), read["tci"] & 3
-        return (channel.sci, an) if channel and an in channel.sas and channel.sas[an].on else None
-
-
-def named(table, number, status):
-    if number not in table:
-        raise Status(status)
-    return table[number]
-
-
-def below(count, number, status):
-    if number >= count:
-        raise Status(status)
-    return number
-
-
-def an_of(number):
-    return below(CONSTANTS["AN_COUNT"], number, "E_NO_SUCH_AN")
-
-
-def key_number_of(number):
-    return below(CONSTANTS["KEY_COUNT"], number, "E_NO_SUCH_KEY_NUMBER")
-
-
-def framed(frame):
-    if len(frame) < FRAME_MIN:
-        raise Status("E_FRAME_SHORT")
-    if len(frame) > FRAME_MAX:
-        raise Status("E_FRAME_LONG")
-    return frame
-
-
-# The statuses of the faults of a configuration.
-FAULTS = {it: "E_LINE_" + it.upper() for it in ("Word", "Count", "Hex", "Number", "Ends")}
-FAULTS |= {"LineLong": "E_LINE_LONG", "ScriptLong": "E_CONFIG_LONG"}
-
-
-def parsed(text, told):
-    """The lines of a configuration; a fault is shown with its line."""
-    try:
-        return expected.parse(text, is_config=True)
-    except expected.ScriptFault as fault:
-        name, line = fault.args
-        raise Status(FAULTS[name], told(line)) from None
-
-
-def hex_of(octets):
-    return octets.hex() or "-"
-
-
-def flag(is_on):
-    return "on" if is_on else "off"
-
-
-class Model:
-    """What the handles hold, and what each call answers: the text before its status, and the status."""
-
-    def __init__(self):
-        self.ends = [None] * HANDLES
-        # Each constant that was given or answered.
-        self.met = collections.Counter({"OK": 0})
-
-    def answer(self, name, handle, *words):
-        shown = getattr(self, "unshown_" + name, lambda: "")()
-        status = "OK"
-        try:
-            if name not in ("new", "configure", "free") and self.ends[handle] is None:
-                raise Status("E_EMPTY")
-            shown = getattr(self, "call_" + name)(handle, *words) or ""
-        except Status as it:
-            status, *told = it.args
-            shown = told[0] if told else shown
-        except expected.Refused as it:
-            status = "E_" + constant_name(str(it))
-        self.met[status] += 1
-        return f"{name}{shown} : {CONSTANTS[status]}"
-
-    # Creation and end.
-
-    def call_new(self, handle, sci, suite, form, max_frame):
-        if self.ends[handle] is not None:
-            raise Status("E_TAKEN")
-        suite, form = named(SUITES, suite, "E_NO_SUCH_SUITE"), named(FORMS, form, "E_NO_SUCH_FORM")
-        if not 64 <= max_frame <= FRAME_MAX:
-            raise Status("E_NEW_MAX_FRAME")
-        if not expected.form_fits(form, sci):
-            raise Status("E_NEW_SCI_FORM")
-        self.ends[handle] = Endpoint(suite, sci, max_frame, form)
-
-    def unshown_configure(self):
-        return " 0"
-
-    def call_configure(self, handle, text):
-        if self.ends[handle] is not None:
-            raise Status("E_TAKEN")
-        (_, _, _, (_, suite, sci, max_frame, form)), *commands = parsed(text, lambda line: f" {line or 0}")
-        made = Endpoint(suite, sci, max_frame, form)
-        for line, keyword, _, values in commands:
-            try:
-                made.command(keyword, values)
-            except expected.Refused as it:
-                raise Status("E_" + constant_name(str(it)), f" {line}") from None
-        self.ends[handle] = made
-        return " 0"
-
-    def call_free(self, handle):
-        self.ends[handle] = None
-
-    # Frames.
-
-    def unshown_send(self):
-        return f" {CONSTANTS['FATE_NONE']} 0 -"
-
-    def call_send(self, handle, frame):
-        end = self.ends[handle]
-        key = next((sa.key for sa in end.tx.values() if sa.on), 0) if end.protects else 0
-        sent, reason = end.send(framed(frame))
-        fate = "FATE_" + (constant_name(reason) if sent is None else "PROTECTED" if end.protects else "PLAIN")
-        self.met[fate] += 1
-        self.met["OVERHEAD_MAX"] += sent is not None and len(sent) - len(frame) == CONSTANTS["OVERHEAD_MAX"]
-        assert sent is None or len(sent) - len(frame) <= CONSTANTS["OVERHEAD_MAX"]
-        return f" {CONSTANTS[fate]} {0 if sent is None else key} {hex_of(sent or b'')}"
-
-    def call_send_uncontrolled(self, handle, frame):
-        framed(frame)
-
-    def unshown_receive(self):
-        return f" {CONSTANTS['VERDICT_NONE']} 0 {'00' * 8} 0 0 -"
-
-    def call_receive(self, handle, frame):
-        end = self.ends[handle]
-        row = end.row_of(framed(frame))
-        verdict, delivered = end.receive(frame)
-        verdict = "VERDICT_" + constant_name(verdict)
-        self.met[verdict] += 1
-        sci, an = row or (bytes(8), 0)
-        told = f"{int(row is not None)} {sci.hex()} {an} {int(delivered is not None)} {hex_of(delivered or b'')}"
-        return f" {CONSTANTS[verdict]} {told}"
-
-    # Commands.
-
-    def command(self, handle, keyword, *values):
-        self.ends[handle].command(keyword, values)
-
-    def call_set_protect(self, handle, on):
-        self.command(handle, "protect", flag(on))
-
-    def call_set_validation(self, handle, mode):
-        self.command(handle, "validate", named(MODES, mode, "E_NO_SUCH_MODE"))
-
-    def call_set_replay(self, handle, on, window):
-        self.command(handle, "replay", flag(on), window)
-
-    def call_set_tag_form(self, handle, form):
-        self.command(handle, "tag", named(FORMS, form, "E_NO_SUCH_FORM"))
-
-    def call_install_key(self, handle, octets, salt, ssci, suite, number, length, offset):
-        end = self.ends[handle]
-        suite = end.suite if suite == CONSTANTS["SUITE_DEFAULT"] else named(SUITES, suite, "E_NO_SUCH_SUITE")
-        number = key_number_of(number)
-        if length not in (16, 32):
-            raise Status("E_NO_SUCH_KEY_OCTETS")
-        self.command(handle, "key", number, octets[:length], offset, suite, struct.pack(">I", ssci), salt)
-
-    def call_retire_key(self, handle, key):
-        self.command(handle, "retire", key_number_of(key))
-
-    def call_add_tx_sa(self, handle, an, key, pn, conf):
-        self.command(handle, "txsa", an_of(an), key_number_of(key), pn, "conf" if conf else "int")
-
-    def call_enable_tx_sa(self, handle, an):
-        self.command(handle, "txon", an_of(an))
-
-    def call_disable_tx_sa(self, handle, an):
-        self.command(handle, "txoff", an_of(an))
-
-    def call_delete_tx_sa(self, handle, an):
-        self.command(handle, "txdel", an_of(an))
-
-    def call_add_rx_sc(self, handle, sci):
-        self.command(handle, "rxsc", sci)
-
-    def call_delete_rx_sc(self, handle, sci):
-        self.command(handle, "rxscdel", sci)
-
-    def call_add_rx_sa(self, handle, sci, an, key, ssci, pn):
-        self.command(handle, "rxsa", sci, an_of(an), key_number_of(key), pn, struct.pack(">I", ssci))
-
-    def call_enable_rx_sa(self, handle, sci, an):
-        self.command(handle, "rxon", sci, an_of(an))
-
-    def call_disable_rx_sa(self, handle, sci, an):
-        self.command(handle, "rxoff", sci, an_of(an))
-
-    def call_set_lowest_pn(self, handle, sci, an, pn):
-        self.command(handle, "rxlow", sci, an_of(an), pn)
-
-    def call_delete_rx_sa(self, handle, sci, an):
-        self.command(handle, "rxdel", sci, an_of(an))
-
-    def call_command_line(self, handle, line):
-        """A line is read as the second one of a configuration."""
-        _, *commands = parsed(b"end A gcm128 0200000000010001 1518 sci\n" + line, lambda _: "")
-        for _, keyword, _, values in commands:
-            self.command(handle, keyword, *values)
-
-    # What an endpoint shows. The program sets all that it has room for to 7 before the call.
-
-    def unshown_get_options(self):
-        return " 7 7 7 0 0"
-
-    def call_get_options(self, handle):
-        end = self.ends[handle]
-        mode, form = CONSTANTS["MODE_" + end.mode.upper()], CONSTANTS["FORM_" + end.form.upper()]
-        self.met.update(["MODE_" + end.mode.upper(), "FORM_" + end.form.upper()])
-        return f" {end.window} {mode} {form} {int(end.protects)} {int(end.replay)}"
-
-    def unshown_keys_left(self):
-        return " 7"
-
-    def call_keys_left(self, handle):
-        return f" {CONSTANTS['KEY_COUNT'] - len(self.ends[handle].keys)}"
-
-    def unshown_get_counters(self):
-        return " 7" * len(ALL_COUNTERS)
-
-    def call_get_counters(self, handle):
-        return "".join(f" {self.ends[handle].counters[it]}" for it in ALL_COUNTERS)
-
-    def unshown_get_tx_counters(self):
-        return " 7" * len(TX_COUNTERS)
-
-    def call_get_tx_counters(self, handle):
-        return "".join(f" {self.ends[handle].counters[it]}" for it in TX_COUNTERS)
-
-    def unshown_get_rx_counters(self):
-        return " 7" * len(expected.RX_COUNTERS)
-
-    unshown_get_rx_sa_counters = unshown_get_removed_counters = unshown_get_rx_counters
-
-    def channel(self, handle, sci):
-        found = self.ends[handle].channel(sci)
-        if found is None:
-            raise Status("E_NOT_FOUND")
-        return found
-
-    def rx_sa(self, handle, sci, an):
-        an = an_of(an)
-        sas = self.channel(handle, sci).sas
-        if an not in sas:
-            raise Status("E_NOT_FOUND")
-        return sas[an]
-
-    def call_get_rx_counters(self, handle, sci):
-        return "".join(f" {it}" for it in self.channel(handle, sci).counters.values())
-
-    def call_get_rx_sa_counters(self, handle, sci, an):
-        return "".join(f" {it}" for it in self.rx_sa(handle, sci, an).counters.values())
-
-    def call_get_removed_counters(self, handle, sci):
-        return "".join(f" {it}" for it in self.channel(handle, sci).removed.values())
-
-    def unshown_get_rx_sc(self):
-        return " " + "07" * 8
-
-    def call_get_rx_sc(self, handle, place):
-        if place >= len(self.ends[handle].channels):
-            raise Status("E_NOT_FOUND")
-        return f" {self.ends[handle].channels[place].sci.hex()}"
-
-    def unshown_get_tx_sa(self):
-        return f" 7{7:016x} 7 0 0"
-
-    def call_get_tx_sa(self, handle, an):
-        an = an_of(an)
-        if an not in self.ends[handle].tx:
-            raise Status("E_NOT_FOUND")
-        sa = self.ends[handle].tx[an]
-        return f" {sa.next:017x} {sa.key} {int(sa.conf)} {int(sa.on)}"
-
-    def unshown_get_rx_sa(self):
-        return f" 7{7:016x} 7{7:016x} 7 7 0"
-
-    def call_get_rx_sa(self, handle, sci, an):
-        sa = self.rx_sa(handle, sci, an)
-        ssci = int.from_bytes(sa.ssci, "big")
-        return f" {sa.next:017x} {sa.lowest:017x} {ssci} {sa.key} {int(sa.on)}"
+import journals
+from handles import CONSTANTS, ROOT, SUITES, Model, hex_of
 
 
 class Calls:
@@ -369,6 +38,8 @@ class Calls:
     NUMBERS = [0, 1, 2, 3, 4, 5, 4095, 4096, 65535]
     SSCIS = [0, 1, 2, 2**32 - 1]
     SALT = bytes(range(0xA0, 0xAC))
+    JOURNAL = journals.header(bytes(range(32)))
+    AMOUNTS = [0, 1, 2, 2, 3, 3, 8, 64, 2**32, 2**63, 2**64 - 1]
     # The lines of commands, by what their words are.
     LINES = (
         "protect switch", "validate mode", "replay switch window", "tag form", "key number octets offset",
@@ -382,6 +53,8 @@ class Calls:
         self.random = random.Random(int.from_bytes(hashlib.sha256(seed.encode()).digest(), "big"))
         self.model = Model()
         self.link = []
+        # Records that were shown.
+        self.records = []
         self.keys = [self.random.randbytes(32) for _ in range(6)]
 
     def handle(self):
@@ -427,6 +100,21 @@ class Calls:
         form = self.pick((0, 1, 1, 2, 2, 3, 3, 4))
         max_frame = self.pick((1518,) * 8 + (9_248, 100, 64, 63, 0, 9_249, 2**32 - 1))
         return self.handle(), self.sci(), self.pick((1, 1, 1, 2, 3, 3, 4, 0, 5, 2**32 - 1)), form, max_frame
+
+    def record(self):
+        """The octets of a record that was shown, as they were or altered; or of another one."""
+        known = self.records[-4:] or [journals.record((self.random.randbytes(32), self.pick(self.PNS)))]
+        record = bytearray(self.pick(known))
+        if self.random.random() < 0.1:
+            record[self.random.randrange(len(record))] ^= 1
+        return bytes(record)
+
+    def journal(self):
+        """Most often a journal with records that were shown, and a part of one."""
+        if self.random.random() < 0.1:
+            return self.pick((b"", self.JOURNAL[:63], self.random.randbytes(64), self.JOURNAL.replace(b"1", b"2")))
+        records = [self.record() for _ in range(self.pick((0, 1, 2, 5)))]
+        return self.JOURNAL + b"".join(records) + self.record()[: self.pick((0, 0, 1, 63))]
 
     def key(self):
         fitting = ((0, 16), (0, 32), (1, 16), (2, 32), (3, 16), (4, 32))
@@ -496,6 +184,12 @@ class Calls:
             "configure": lambda: (h(), self.text()),
             "command_line": lambda: (h(), self.line()),
             "free": lambda: (h(),),
+            "reserve_open": lambda: (*self.new(), self.journal()),
+            "reserve_configure": lambda: (h(), self.text(), self.journal()),
+            "reserve_wanted": lambda: (pick((0, 0, 0, 1, 2)), self.an(), pick(self.AMOUNTS)),
+            "reserve_granted": lambda: (pick((0, 0, 0, 1, 2)), self.record()),
+            "journal_header": lambda: (h(), self.random.randbytes(32)),
+            "journal_compacted": lambda: (h(), self.journal()),
             "send": lambda: (pick((0, 0, 0, 0, 0, 1, 2)), self.client_frame()),
             "send_uncontrolled": lambda: (h(), self.client_frame()),
             "receive": lambda: (pick((1, 1, 1, 1, 1, 0, 2)), self.link_frame()),
@@ -526,8 +220,10 @@ class Calls:
         "set_validation": 8, "set_replay": 8, "set_tag_form": 8, "install_key": 25, "retire_key": 6, "add_tx_sa": 20,
         "enable_tx_sa": 20, "disable_tx_sa": 2, "delete_tx_sa": 2, "add_rx_sc": 10, "delete_rx_sc": 2, "add_rx_sa": 30,
         "enable_rx_sa": 25, "disable_rx_sa": 2, "set_lowest_pn": 10, "delete_rx_sa": 3, "command_line": 60,
-        "get_options": 8, "keys_left": 8, "get_counters": 20, "get_tx_counters": 10, "get_rx_counters": 15, "get_rx_sa_counters": 15,
-        "get_removed_counters": 10, "get_rx_sc": 6, "get_tx_sa": 10, "get_rx_sa": 15,
+        "get_options": 8, "keys_left": 8, "get_counters": 20, "get_tx_counters": 10, "get_rx_counters": 15,
+        "get_rx_sa_counters": 15, "get_removed_counters": 10, "get_rx_sc": 6, "get_tx_sa": 10, "get_rx_sa": 15, "reserve_open": 4,
+        "reserve_configure": 4, "reserve_wanted": 15, "reserve_to_save": 10, "reserve_granted": 15, "journal_header": 1,
+        "journal_compacted": 5,
     }  # fmt: skip
 
     def paired(self):
@@ -550,6 +246,7 @@ class Calls:
         yield "enable_rx_sa", (1, sender, an)
         yield "set_replay", (1, self.pick((0, 1)), self.pick((0, 2)))
         yield "set_validation", (1, self.pick((0, 1, 2, 2, 2)))
+        yield "reserve_to_save", (1, sender, an)
 
     def paired_by_texts(self):
         """The same of two configurations."""
@@ -566,6 +263,56 @@ class Calls:
         """A configuration for a handle without an endpoint."""
         yield "free", (2,)
         yield "configure", (2, self.text())
+
+    def kept(self):
+        """Endpoint 0 beside a journal, which it sends from: numbers are reserved before they are used, or not."""
+        suite, sender, an = self.pick((1, 1, 2, 3, 4)), self.sci(), self.random.randrange(4)
+        key = (self.keys[suite], self.SALT, 1, suite, suite, 32 if suite in (2, 4) else 16, 0)
+        yield "free", (0,)
+        yield "reserve_open", (0, sender, suite, 1, 1518, self.JOURNAL + b"".join(self.records[-8:]))
+        yield "install_key", (0, *key)
+        end = self.model.ends[0]
+        for pn in (1, 1 + journals.highest(end.before, end.key_name(suite))):
+            yield "add_tx_sa", (0, an, suite, min(pn, journals.LAST), self.random.randrange(2))
+        yield "enable_tx_sa", (0, an)
+        for _ in range(self.pick((1, 2, 5))):
+            amount = self.pick((2, 3, 8))
+            wanted = end.wanted(an, amount)
+            yield "reserve_wanted", (0, an, amount)
+            if wanted and self.random.random() < 0.9:
+                yield "reserve_granted", (0, journals.record(wanted))
+            for _ in range(self.pick((1, 2, 3))):
+                yield "send", (0, self.client_frame())
+
+    def rarely_reserved(self):
+        """What random calls over journals seldom come to."""
+        own, other = self.SCIS[2], self.SCIS[0]
+        key = (self.keys[0], self.SALT, 1, 1, 0, 16, 0)
+        saved = journals.receiving_name(journals.sending_name(bytes(range(32)), self.keys[0][:16]), other, 1), 7
+        yield "free", (2,)
+        for journal in (b"", self.JOURNAL[:63], b"M" + self.JOURNAL[1:]):
+            yield "reserve_open", (2, own, 1, 1, 1518, journal)
+            yield "reserve_configure", (2, self.configuration(own, 1), journal)
+            yield "journal_compacted", (2, journal)
+        yield "reserve_open", (2, own, 1, 1, 63, self.JOURNAL)
+        yield "reserve_wanted", (2, 0, 4)
+        yield "reserve_open", (2, own, 1, 1, 1518, self.JOURNAL + journals.record(saved) + b"torn")
+        yield "install_key", (2, *key)
+        yield "add_rx_sc", (2, other)
+        yield "add_rx_sa", (2, other, 1, 0, 0, 7)
+        yield "add_rx_sa", (2, other, 1, 0, 0, 8)
+        yield "reserve_to_save", (2, other, 1)
+        yield "reserve_to_save", (2, other, 4)
+        yield "add_tx_sa", (2, 0, 0, 1, 1)
+        yield "enable_tx_sa", (2, 0)
+        yield "send", (2, bytes(60))
+        yield "reserve_wanted", (2, 0, 4)
+        yield "reserve_granted", (2, bytes(64))
+        yield "reserve_granted", (2, journals.record(self.model.ends[2].wanted(0, 4)))
+        yield "reserve_wanted", (2, 0, 4)
+        for _ in range(6):
+            yield "send", (2, bytes(60))
+        yield "journal_compacted", (2, self.JOURNAL + 3 * journals.record(saved) + bytes(64))
 
     def crowded(self):
         """More channels than there can be."""
@@ -678,12 +425,12 @@ class Calls:
 
     def all(self, count):
         """So many calls: the lines, and their answers."""
-        waiting = itertools.chain(self.crowded(), self.rarely_refused(), self.rarely_made())
+        waiting = itertools.chain(self.crowded(), self.rarely_refused(), self.rarely_made(), self.rarely_reserved())
         names, weights = list(self.WEIGHTS), list(self.WEIGHTS.values())
         for _ in range(count):
             made = next(waiting, None)
             if made is None and self.random.random() < 0.025:
-                several = (self.paired, self.paired, self.paired_by_texts, self.configured, self.configured)
+                several = (self.paired, self.paired, self.paired_by_texts, self.kept, self.configured, self.configured)
                 waiting = iter(self.pick(several)())
                 made = next(waiting)
             if made is None:
@@ -694,11 +441,13 @@ class Calls:
             answer = self.model.answer(name, *words)
             if name == "send" and answer.split()[1] in (str(CONSTANTS["FATE_PROTECTED"]), str(CONSTANTS["FATE_PLAIN"])):
                 self.link = [*self.link[-40:], bytes.fromhex(answer.split()[3])]
+            if name in ("reserve_wanted", "reserve_to_save") and answer.endswith(f" : {CONSTANTS['OK']}"):
+                self.records = [*self.records[-40:], bytes.fromhex(answer.split()[1])]
             yield " ".join([name, *(hex_of(it) if isinstance(it, bytes) else str(it) for it in words)]), answer
 
     def meet(self, name, words):
         """Notes the suites that a call names."""
-        place = {"new": 2, "install_key": 4}.get(name)
+        place = {"new": 2, "reserve_open": 2, "install_key": 4}.get(name)
         for it, value in CONSTANTS.items():
             if place and it.startswith("SUITE_") and value == words[place]:
                 self.model.met[it] += 1
@@ -732,7 +481,7 @@ def main():
     lines = collections.Counter(line.split()[0] for line in lines)
     print("calls: " + ", ".join(f"{name} {count}" for name, count in sorted(lines.items())))
     print("met: " + ", ".join(f"{name} {count}" for name, count in sorted(calls.model.met.items())))
-    others = re.compile("FATE_NONE|VERDICT_NONE|E_MEMORY|FRAME_M..|VERSION_NUMBER|.*_COUNT")
+    others = re.compile("FATE_NONE|VERDICT_NONE|E_MEMORY|FRAME_M..|VERSION_NUMBER|RECORD_LENGTH|.*_COUNT")
     unmet = [it for it in CONSTANTS if not calls.model.met[it] and not others.fullmatch(it)]
     missing = [it for it in Calls.WEIGHTS if it not in lines]
     if asked.calls >= asked.met_from and (unmet or missing):

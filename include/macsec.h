@@ -6,9 +6,9 @@
  * GCM-AES-128, GCM-AES-256, GCM-AES-XPN-128 and GCM-AES-XPN-256. It opens no socket and no file, starts no thread,
  * reads no clock, and keeps no state outside its endpoints.
  *
- * An endpoint's packet numbers are lost when it is freed. Give the next endpoint new keys, or start it above every
- * packet number that was used under its key. After a fork, or when a snapshot of a machine is restored or copied, only
- * one of the copies may send. Otherwise IVs repeat, which breaks GCM.
+ * An endpoint's packet numbers are lost when it is freed. Give the next endpoint new keys, start it above every packet
+ * number that was used under its key, or keep a journal (macsec_reserve_open). After a fork, or when a snapshot of a
+ * machine is restored or copied, only one of the copies may send. Otherwise IVs repeat, which breaks GCM.
  *
  *     macsec_endpoint a = MACSEC_ENDPOINT_INIT;
  *     macsec_config config = { { 0x12, 0x15, 0x35, 0x24, 0xc0, 0x89, 0x5e, 0x81 },
@@ -31,24 +31,27 @@
  *            writes them: an SCI is the six octets of a MAC address and two of a port number.
  * STATUS     Each call with a handle, except macsec_free, returns a status: MACSEC_OK, or why nothing was done
  *            (MACSEC_E_..). In the second case nothing has changed, and the caller's output structs are unchanged,
- *            except that a macsec_sent, a macsec_received and the line of macsec_configure are always filled in. The
+ *            except that a macsec_sent, a macsec_received and the line of macsec_configure and of
+ *            macsec_reserve_configure are always filled in. The
  *            handle is tested first (MACSEC_E_EMPTY, MACSEC_E_TAKEN), then the arguments (MACSEC_E_NO_SUCH_..), then
  *            the rest. If several statuses of arguments apply, or several refusals of a command, the call returns the
  *            lowest.
- * MEMORY     macsec_new allocates four blocks by malloc, 17.6 MB in all: two for 4,096 keys, one for a frame, one for
- *            the rest. macsec_free frees them. macsec_configure allocates the same. macsec_configure and
- *            macsec_command_line also allocate while they read their text, and free that before they return. No other
- *            call allocates, so no other call runs out of memory. malloc and realloc must align a block to each power
- *            of two up to 16 that divides its size, as all C libraries do. They must return: no exception may be thrown
- *            through the library, which has no unwinding tables. The memory is not wiped: keys may stay in it, and on
- *            the stack. Give each call 96 KB of stack: macsec_new took 59 KB on x86-64 and macsec_configure 56, the
- *            others a fraction of that (measured, not proved).
+ * MEMORY     macsec_new allocates six blocks by malloc, 17.9 MB in all: four for 4,096 keys, one for a frame, one for
+ *            the rest. macsec_free frees them. macsec_configure allocates the same, and so do macsec_reserve_open and
+ *            macsec_reserve_configure, with one more for a journal that has records. macsec_configure,
+ *            macsec_reserve_configure and macsec_command_line also allocate while they read their text, and
+ *            macsec_journal_compacted while it works, and free that before they return. No other call allocates, so no
+ *            other call runs out of memory. malloc and realloc must align a block to each power of two up to 16 that
+ *            divides its size, as all C libraries do. They must return: no exception may be thrown through the
+ *            library, which has no unwinding tables. The memory is not wiped: keys may stay in it, and on the stack.
+ *            Give each call 96 KB of stack: macsec_new took 59 KB on x86-64 and macsec_configure 56, the others a
+ *            fraction of that (measured, not proved).
  * PROCESSOR  An x86-64 processor with SSSE3 (every x86-64-v2 has it). The library does not test for it: on another one
  *            the process ends with SIGILL.
  * HANDLES    A handle is the caller's memory, initialized with MACSEC_ENDPOINT_INIT (all zero). Do not copy, move or
  *            write it while it holds an endpoint. A handle that was never used, or that was freed, holds none: then
- *            macsec_free does nothing, and every other call except macsec_new and macsec_configure returns
- *            MACSEC_E_EMPTY.
+ *            macsec_free does nothing, and every other call returns MACSEC_E_EMPTY, except those that create an
+ *            endpoint: macsec_new, macsec_configure, macsec_reserve_open and macsec_reserve_configure.
  * OWNERSHIP  The library keeps no pointer that a call was given. The frame that macsec_send or macsec_receive returns
  *            is in the endpoint's buffer, or is (a part of) the caller's own frame. Read it before the next call with
  *            that handle, and while the caller's frame is unchanged. Do not write to it, and copy it before you give
@@ -98,6 +101,8 @@ extern "C" {
 #define MACSEC_FRAME_MAX 9248
 /* A frame that is sent protected has 24 to this many octets more than the client's: SecTAG (8 or 16) and ICV (16). */
 #define MACSEC_OVERHEAD_MAX 32
+/* The octets of a record of a journal, and of a journal's header. */
+#define MACSEC_RECORD_LENGTH 64
 /* Association numbers, key numbers and places of receive channels are below these. */
 #define MACSEC_AN_COUNT 4
 #define MACSEC_KEY_COUNT 4096
@@ -146,7 +151,9 @@ enum {
     MACSEC_E_LINE_NUMBER = 49,        /* a word of the line is not a decimal number in its range */
     MACSEC_E_LINE_ENDS = 50,          /* the line is in a wrong place, or its tag form does not fit its SCI */
     MACSEC_E_LINE_LONG = 51,          /* the line has more than 20,000 octets */
-    MACSEC_E_CONFIG_LONG = 52         /* the configuration has more than 1,048,576 octets or 65,536 lines */
+    MACSEC_E_CONFIG_LONG = 52,        /* the configuration has more than 1,048,576 octets or 65,536 lines */
+    MACSEC_E_NOT_JOURNAL = 53,        /* the octets are not a journal, or one of another version */
+    MACSEC_E_NOT_RECORD = 54          /* the octets are not a record of a journal */
 };
 
 /* Cipher suites (clause 14). Only a key can have the default: the suite of the endpoint's configuration. */
@@ -179,7 +186,8 @@ enum {
     MACSEC_FATE_PROTECTED = 1, /* the frame is sent protected, under the key of number `key` */
     MACSEC_FATE_PLAIN = 2,     /* it is sent as it is: frames are not protected */
     MACSEC_FATE_NO_SA = 3,     /* dropped: no association is enabled, or the enabled one is exhausted */
-    MACSEC_FATE_TOO_LONG = 4   /* dropped: it would be longer than the configuration's largest frame */
+    MACSEC_FATE_TOO_LONG = 4,  /* dropped: it would be longer than the configuration's largest frame */
+    MACSEC_FATE_NO_RESERVATION = 5 /* dropped: its packet number is not reserved */
 };
 
 /* Verdicts on link frames, named as their counters are, without InPkts (10.7). */
@@ -320,6 +328,11 @@ typedef struct macsec_rx_sa {
     uint64_t reserved[3];
 } macsec_rx_sa;
 
+/* A record of a journal, or a journal's header. */
+typedef struct macsec_record {
+    uint8_t octets[MACSEC_RECORD_LENGTH];
+} macsec_record;
+
 /* ---- Creation and end ---- */
 
 /* Creates an endpoint of a configuration in a handle that holds none. It has no keys and no associations, its
@@ -448,6 +461,71 @@ uint32_t macsec_get_rx_sc(const macsec_endpoint *e, size_t place, uint8_t sci[8]
 uint32_t macsec_get_tx_sa(const macsec_endpoint *e, uint8_t an, macsec_tx_sa *out);
 uint32_t macsec_get_rx_sa(const macsec_endpoint *e, const uint8_t sci[8], uint8_t an, macsec_rx_sa *out);
 
+/* ---- Reservations: packet numbers that outlive the endpoint ----
+ *
+ * An endpoint that was made beside a journal uses a packet number only if a record that is already on the disk reserves
+ * it, and begins no association at a number that a record of an earlier run reserves (MACSEC_E_PN_FLOOR, before every
+ * other refusal). So no frames of all runs over one journal have the same key and IV, whatever the moment at which each
+ * run ended. The caller keeps the file and does the following in this order; the library opens none.
+ *
+ * 1. Create the file on the operator's word alone: beside a new journal every number counts as unused. Write a header
+ *    (macsec_journal_header), then sync the file and its folder. A missing, empty or shorter file is no journal.
+ * 2. Lock the file as long as the endpoint lives: one process at a time uses it. Never restore or copy an older one.
+ * 3. Read the whole file, and make the endpoint with macsec_reserve_open or macsec_reserve_configure.
+ * 4. After macsec_add_tx_sa, before macsec_enable_tx_sa, and then from time to time ask macsec_reserve_wanted for a
+ *    record. Before an orderly end, and from time to time, take that of each receive association from
+ *    macsec_reserve_to_save: with a replay window of 0 a later run then delivers none of its frames again.
+ * 5. Write each record with pwrite at the greatest multiple of 64 that is not above the file's length. A crash may
+ *    have left a part of a record there: write over it. After such a part no record would be read.
+ * 6. When fdatasync has returned 0, call macsec_reserve_granted. If it fails, a later one may return 0 although the
+ *    record is lost: write the record again first.
+ * 7. To shorten the file, write what macsec_journal_compacted gives to a new file, sync it, rename it over the old one,
+ *    and sync the folder.
+ *
+ * Choose `amount` by the rate of frames, a second's worth or more: a run that ends loses up to so many numbers. */
+
+/* The header of a new journal, with a salt of 32 random octets: in journals of different salts the records of one key
+ * have different names. Returns MACSEC_OK. */
+uint32_t macsec_journal_header(const uint8_t salt[32], macsec_record *out);
+
+uint32_t macsec_journal_compacted_raw(const uint8_t *journal, size_t journal_length, uint8_t *out, size_t out_length,
+                                      size_t *written);
+/* A journal with the same header that reserves the same, with one record for each name. `out` has room for `length`
+ * octets; `out_length` is how many of them are written. MACSEC_E_NOT_JOURNAL, MACSEC_E_MEMORY. */
+static inline uint32_t macsec_journal_compacted(const uint8_t *journal, size_t length, uint8_t *out,
+                                                size_t *out_length) {
+    uint8_t none;
+    return macsec_journal_compacted_raw(macsec_octets(journal, length), length, length == 0 ? &none : out, length,
+                                        out_length);
+}
+
+uint32_t macsec_reserve_open_raw(macsec_endpoint *e, const macsec_config *config, const uint8_t *journal,
+                                 size_t length);
+/* As macsec_new, beside a journal: all octets of its file. MACSEC_E_NOT_JOURNAL comes after MACSEC_E_NO_SUCH_FORM. */
+static inline uint32_t macsec_reserve_open(macsec_endpoint *e, const macsec_config *config, const uint8_t *journal,
+                                           size_t length) {
+    return macsec_reserve_open_raw(e, config, macsec_octets(journal, length), length);
+}
+
+uint32_t macsec_reserve_configure_raw(macsec_endpoint *e, const uint8_t *text, size_t text_length,
+                                      const uint8_t *journal, size_t journal_length, uint32_t *line);
+/* As macsec_configure, beside a journal: a faulty text first, then MACSEC_E_NOT_JOURNAL with `line` 0. A `txsa` or
+ * `rxsa` at a number that an earlier run may have used is refused, and then there is no endpoint. */
+static inline uint32_t macsec_reserve_configure(macsec_endpoint *e, const uint8_t *text, size_t text_length,
+                                                const uint8_t *journal, size_t length, uint32_t *line) {
+    return macsec_reserve_configure_raw(e, macsec_octets(text, text_length), text_length,
+                                        macsec_octets(journal, length), length, line);
+}
+
+/* The record to write next for a transmit association: it reserves `amount` numbers from its next one on.
+ * MACSEC_E_NOT_FOUND if there is no such association, or if half of `amount` are still reserved for it. */
+uint32_t macsec_reserve_wanted(const macsec_endpoint *e, uint8_t an, uint64_t amount, macsec_record *out);
+/* The record that saves the lowest acceptable packet number of a receive association, or MACSEC_E_NOT_FOUND. */
+uint32_t macsec_reserve_to_save(const macsec_endpoint *e, const uint8_t sci[8], uint8_t an, macsec_record *out);
+/* A record is on the disk, where every later run will read it. MACSEC_E_NOT_RECORD if its octets are none: then nothing
+ * has changed. */
+uint32_t macsec_reserve_granted(macsec_endpoint *e, const macsec_record *record);
+
 /* ---- Names, as the program `macsec` prints them; "unknown" for a number without a meaning ---- */
 
 static inline const char *macsec_status_name(uint32_t status) {
@@ -494,6 +572,8 @@ static inline const char *macsec_status_name(uint32_t status) {
         case MACSEC_E_LINE_ENDS: return "Ends";
         case MACSEC_E_LINE_LONG: return "LineLong";
         case MACSEC_E_CONFIG_LONG: return "ScriptLong";
+        case MACSEC_E_NOT_JOURNAL: return "NotJournal";
+        case MACSEC_E_NOT_RECORD: return "NotRecord";
         default: return "unknown";
     }
 }
@@ -524,6 +604,7 @@ static inline const char *macsec_fate_name(uint32_t fate) {
         case MACSEC_FATE_PLAIN: return "Plain";
         case MACSEC_FATE_NO_SA: return "NoSA";
         case MACSEC_FATE_TOO_LONG: return "TooLong";
+        case MACSEC_FATE_NO_RESERVATION: return "NoReservation";
         default: return "unknown";
     }
 }

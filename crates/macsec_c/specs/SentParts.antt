@@ -1,7 +1,7 @@
 -- The result of sending a client frame, as C sees it.
 use Rattle.std.specs.Prelude.{ℕ, List, [], replicate, Option, Some, None}
-use Rattle.macsec_secy.specs.State.{State}
-use Rattle.macsec_secy.specs.Step.{Output, done, refused, leaves, dropped_no_sa, dropped_too_long, received, fault, client_frame, step}
+use Rattle.macsec_secy.specs.Step.{Output, done, refused, leaves, dropped_no_sa, dropped_too_long, received, fault, client_frame}
+use Rattle.macsec_reserve.specs.Keeping.{Keeping, KeepingOutput, dropped_no_reservation, endpoint_input, endpoint_output, keeping_step, noted}
 use Rattle.macsec_c.specs.declared.sending.Sent.{Sent}
 use Rattle.macsec_c_numbers.specs.Statuses.{done_status, empty_status, status_of_frame_fault}
 
@@ -38,7 +38,12 @@ parts_of_output dropped_no_sa = unsent done_status 3
 parts_of_output dropped_too_long = unsent done_status 4
 parts_of_output (fault f) = unsent (status_of_frame_fault f) 0
 
+abbrev pub parts_of_kept : KeepingOutput → SentParts
+parts_of_kept (endpoint_output output) = parts_of_output output
+parts_of_kept dropped_no_reservation = unsent done_status 5
+parts_of_kept noted = unsent done_status 0
+
 -- for a client frame given to a handle
-abbrev pub sent_parts : Option State → List ℕ → SentParts
+abbrev pub sent_parts : Option Keeping → List ℕ → SentParts
 sent_parts None frame = unsent empty_status 0
-sent_parts (Some s) frame = parts_of_output (step s (client_frame frame)).0
+sent_parts (Some k) frame = parts_of_kept (keeping_step k (endpoint_input (client_frame frame))).0

@@ -10,7 +10,7 @@ use Rattle.macsec_secy.specs.declared.options.Options.{Options}
 use Rattle.macsec_secy.specs.declared.counters.Counters.{Counters}
 use Rattle.macsec_secy.specs.declared.counters.TxCounters.{TxCounters}
 use Rattle.macsec_secy.specs.declared.counters.RxCounters.{RxCounters}
-use Rattle.macsec_secy.specs.State.{State}
+use Rattle.macsec_reserve.specs.Keeping.{Keeping}
 use Rattle.macsec_c.specs.declared.showing.OptionsShown.{OptionsShown}
 use Rattle.macsec_c.specs.declared.showing.CountersShown.{CountersShown}
 use Rattle.macsec_c.specs.declared.showing.TxCountersShown.{TxCountersShown}
@@ -21,28 +21,28 @@ use Rattle.macsec_c_numbers.specs.Arguments.{Named}
 use Rattle.macsec_c_numbers.specs.Statuses.{done_status, empty_status, none_status, status_of_argument_fault}
 
 -- what `read` finds in the endpoint of a handle, if the handle holds one
-abbrev pub found : {A : Type 0} → Option State → (State → Option A) → Option A
+abbrev pub found : {A : Type 0} → Option Keeping → (Keeping → Option A) → Option A
 found None read = None
-found (Some s) read = read s
+found (Some k) read = read k
 
 abbrev pub status_if : {A : Type 0} → Option A → ℕ
 status_if None = none_status
 status_if (Some x) = done_status
 
-abbrev pub status_of_found : {A : Type 0} → Option State → (State → Option A) → ℕ
+abbrev pub status_of_found : {A : Type 0} → Option Keeping → (Keeping → Option A) → ℕ
 status_of_found None read = empty_status
-status_of_found (Some s) read = status_if (read s)
+status_of_found (Some k) read = status_if (read k)
 
 -- the same for an AN, if the argument is one
-abbrev pub found_at : {A : Type 0} → Option State → Named ℕ → (State → ℕ → Option A) → Option A
+abbrev pub found_at : {A : Type 0} → Option Keeping → Named ℕ → (Keeping → ℕ → Option A) → Option A
 found_at None an read = None
-found_at (Some s) (Err f) read = None
-found_at (Some s) (Ok n) read = read s n
+found_at (Some k) (Err f) read = None
+found_at (Some k) (Ok n) read = read k n
 
-abbrev pub status_of_an : {A : Type 0} → Option State → Named ℕ → (State → ℕ → Option A) → ℕ
+abbrev pub status_of_an : {A : Type 0} → Option Keeping → Named ℕ → (Keeping → ℕ → Option A) → ℕ
 status_of_an None an read = empty_status
-status_of_an (Some s) (Err f) read = status_of_argument_fault f
-status_of_an (Some s) (Ok n) read = status_if (read s n)
+status_of_an (Some k) (Err f) read = status_of_argument_fault f
+status_of_an (Some k) (Ok n) read = status_if (read k n)
 
 abbrev pub number_of_mode : Mode → ℕ
 number_of_mode Disabled = 0

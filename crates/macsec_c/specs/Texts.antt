@@ -1,5 +1,5 @@
 -- Texts that C gives: the configuration of an endpoint, and the line of one command.
-use Rattle.std.specs.Prelude.{◌≡◌, ℕ, List, [], ◌∷◌, Option, Some, None, Result, Ok, Err, unwrap_or}
+use Rattle.std.specs.Prelude.{◌≡◌, ℕ, Bool, true, false, List, [], ◌∷◌, Option, Some, None, Result, Ok, Err, unwrap_or}
 use Rattle.macsec_suite.specs.RefusalNumbers.{number_of_refusal}
 use Rattle.macsec_commands.specs.declared.command.Command.{Command}
 use Rattle.macsec_commands.specs.declared.config.EndConfig.{EndConfig}
@@ -18,12 +18,15 @@ use Rattle.macsec_script_parser.specs.Faults.{fault_line}
 use Rattle.macsec_script_parser.specs.Kinds.{and_then, line_of}
 use Rattle.macsec_script_parser.specs.Readings.{Reads}
 use Rattle.macsec_script_parser.specs.Scripts.{NumberedLine, a_config, config_of}
-use Rattle.macsec_secy.specs.State.{State, start}
-use Rattle.macsec_secy.specs.Step.{Output, refused, operator_command, step}
+use Rattle.macsec_secy.specs.Step.{Output, refused, operator_command}
+use Rattle.macsec_reserve.specs.declared.keeper.OpenFault.{OpenFault}
+use Rattle.macsec_reserve.specs.declared.keeper.OpenFault.TheVariants as open_fault
+use Rattle.macsec_reserve.specs.Journal.{is_journal}
+use Rattle.macsec_reserve.specs.Keeping.{Keeping, KeepingOutput, alone, dropped_no_reservation, endpoint_input, endpoint_output, keeping_step, noted, opened}
 use Rattle.macsec_c.specs.declared.configuring.ConfigFault.{ConfigFault}
-use Rattle.macsec_c.specs.declared.configuring.ConfigFault.TheVariants.{Text, New, Refused}
+use Rattle.macsec_c.specs.declared.configuring.ConfigFault.TheVariants.{Text, New, NotJournal, Refused}
 use Rattle.macsec_c.specs.Answers.{commanded}
-use Rattle.macsec_c_numbers.specs.Statuses.{done_status, empty_status, taken_status, status_of_line_fault, status_of_new_fault, status_of_script_fault}
+use Rattle.macsec_c_numbers.specs.Statuses.{done_status, empty_status, not_journal_status, taken_status, status_of_line_fault, status_of_new_fault, status_of_script_fault}
 
 -- the command of a line, if it is a command at end A
 abbrev pub command_of : Line → Option Command
@@ -32,45 +35,74 @@ command_of other = None
 
 -- ---- a configuration
 
--- the endpoint after the command of line n, or the refusal
-abbrev pub after_output : ℕ → Output → State → Result State ConfigFault
-after_output n (refused r) after = Err (Refused n r)
-after_output n other after = Ok after
+-- why no keeping endpoint is opened
+abbrev pub config_fault_of : OpenFault → ConfigFault
+config_fault_of (open_fault.Endpoint f) = New f
+config_fault_of open_fault.NotJournal = NotJournal
+config_fault_of open_fault.Memory = New new.Memory
 
-abbrev pub after_command : ℕ → State → Option Command → Result State ConfigFault
-after_command n s None = Err (Text (script.Ends n))
-after_command n s (Some c) = after_output n (step s (operator_command c)).0 (step s (operator_command c)).1
+-- the endpoint after the command of line n, or the refusal
+abbrev pub after_endpoint_output : ℕ → Output → Keeping → Result Keeping ConfigFault
+after_endpoint_output n (refused r) after = Err (Refused n r)
+after_endpoint_output n other after = Ok after
+
+abbrev pub after_output : ℕ → KeepingOutput → Keeping → Result Keeping ConfigFault
+after_output n (endpoint_output output) after = after_endpoint_output n output after
+after_output n dropped_no_reservation after = Ok after
+after_output n noted after = Ok after
+
+abbrev pub after_command : ℕ → Keeping → Option Command → Result Keeping ConfigFault
+after_command n k None = Err (Text (script.Ends n))
+after_command n k (Some c) =
+    let after = keeping_step k (endpoint_input (operator_command c)) in
+    after_output n after.0 after.1
 
 -- the endpoint after the commands of these lines, which are carried out in order until one is refused
-abbrev pub carried_out : State → List NumberedLine → Result State ConfigFault
-carried_out s [] = Ok s
-carried_out s (first ∷ more) = and_then (after_command first.0 s (command_of first.1)) (λ after. carried_out after more)
+abbrev pub carried_out : Keeping → List NumberedLine → Result Keeping ConfigFault
+carried_out k [] = Ok k
+carried_out k (first ∷ more) = and_then (after_command first.0 k (command_of first.1)) (λ after. carried_out after more)
+
+-- what creates an endpoint of a configuration
+abbrev pub Creation : Type 0
+Creation = EndConfig → Result Keeping ConfigFault
 
 -- the endpoint, unless the configuration has a fault
-abbrev pub unless_new_fault : Option NewFault → Result State ConfigFault → Result State ConfigFault
-unless_new_fault None endpoint = endpoint
-unless_new_fault (Some f) endpoint = Err (New f)
+abbrev pub unless_new_fault : Option NewFault → Keeping → Result Keeping ConfigFault
+unless_new_fault None made = Ok made
+unless_new_fault (Some f) made = Err (New f)
 
-abbrev pub created_at : ℕ → Option EndConfig → List NumberedLine → Result State ConfigFault
-created_at n None commands = Err (Text (script.Ends n))
-created_at n (Some config) commands = unless_new_fault (config_fault config) (carried_out (start config) commands)
+-- without a journal
+abbrev pub created_alone : Creation
+created_alone config = unless_new_fault (config_fault config) (alone config)
+
+-- beside these octets, if they are a journal
+abbrev pub created_if : Bool → List ℕ → Creation
+created_if false journal config = Err NotJournal
+created_if true journal config = unless_new_fault (config_fault config) (opened config journal)
+
+abbrev pub created_beside : List ℕ → Creation
+created_beside journal config = created_if (is_journal journal) journal config
+
+abbrev pub created_at : Creation → ℕ → Option EndConfig → List NumberedLine → Result Keeping ConfigFault
+created_at creation n None commands = Err (Text (script.Ends n))
+created_at creation n (Some config) commands = and_then (creation config) (λ made. carried_out made commands)
 
 -- the endpoint that the first line creates, after the commands of the others
-abbrev pub endpoint_of : List NumberedLine → Result State ConfigFault
-endpoint_of [] = Err (Text (script.Ends 0))
-endpoint_of (first ∷ commands) = created_at first.0 (a_config first.1) commands
+abbrev pub endpoint_of : Creation → List NumberedLine → Result Keeping ConfigFault
+endpoint_of creation [] = Err (Text (script.Ends 0))
+endpoint_of creation (first ∷ commands) = created_at creation first.0 (a_config first.1) commands
 
 -- the same for the lines of a text, or the text's first fault
-abbrev pub endpoint_of_parsed : Result (List NumberedLine) ScriptFault → Result State ConfigFault
-endpoint_of_parsed (Ok lines) = endpoint_of lines
-endpoint_of_parsed (Err f) = Err (Text f)
+abbrev pub endpoint_of_parsed : Creation → Result (List NumberedLine) ScriptFault → Result Keeping ConfigFault
+endpoint_of_parsed creation (Ok lines) = endpoint_of creation lines
+endpoint_of_parsed creation (Err f) = Err (Text f)
 
-abbrev pub configured : List ℕ → Result State ConfigFault
-configured text = endpoint_of_parsed (config_of text)
+abbrev pub configured : Creation → List ℕ → Result Keeping ConfigFault
+configured creation text = endpoint_of_parsed creation (config_of text)
 
 -- a configuration gives its endpoint or its fault, unless memory runs out
-abbrev pub MakesConfigured : Result State ConfigFault → Result State ConfigFault → Type 0
-MakesConfigured meant (Ok s) = meant ≡ Ok s
+abbrev pub MakesConfigured : Result Keeping ConfigFault → Result Keeping ConfigFault → Type 0
+MakesConfigured meant (Ok k) = meant ≡ Ok k
 MakesConfigured meant (Err (Text script.Memory)) = Unit {0}
 MakesConfigured meant (Err (New new.Memory)) = Unit {0}
 MakesConfigured meant (Err f) = meant ≡ Err f
@@ -78,12 +110,14 @@ MakesConfigured meant (Err f) = meant ≡ Err f
 abbrev pub status_of_config_fault : ConfigFault → ℕ
 status_of_config_fault (Text f) = status_of_script_fault f
 status_of_config_fault (New f) = status_of_new_fault f
+status_of_config_fault NotJournal = not_journal_status
 status_of_config_fault (Refused n r) = number_of_refusal r
 
 -- the number of the line with the fault, from 1, or 0 if the fault is in no line
 abbrev pub line_of_config_fault : ConfigFault → ℕ
 line_of_config_fault (Text f) = unwrap_or (fault_line f) 0
 line_of_config_fault (New f) = 0
+line_of_config_fault NotJournal = 0
 line_of_config_fault (Refused n r) = n
 
 -- the report on a configuration: its status, and the number of the line with the fault
@@ -95,10 +129,11 @@ report_of f = (status_of_config_fault f, line_of_config_fault f)
 
 -- the report on a text that is given to a handle, and what the handle holds afterwards. If the handle held no endpoint:
 -- the endpoint of the text with all commands carried out, or none, and why
-abbrev pub Configures : Option State → List ℕ → Report → Option State → Type 0
-Configures (Some s) text report after = (report ≡ (taken_status, 0)) × (after ≡ Some s)
-Configures None text report (Some s) = (report ≡ (done_status, 0)) × (configured text ≡ Ok s)
-Configures None text report None = (f : ConfigFault) × (report ≡ report_of f) × MakesConfigured (configured text) (Err f)
+abbrev pub Configures : Creation → Option Keeping → List ℕ → Report → Option Keeping → Type 0
+Configures creation (Some k) text report after = (report ≡ (taken_status, 0)) × (after ≡ Some k)
+Configures creation None text report (Some k) = (report ≡ (done_status, 0)) × (configured creation text ≡ Ok k)
+Configures creation None text report None =
+    (f : ConfigFault) × (report ≡ report_of f) × MakesConfigured (configured creation text) (Err f)
 
 -- ---- a line
 
@@ -115,13 +150,13 @@ abbrev pub line_command : List ℕ → Result (Option Command) LineFault
 line_command text = and_then (line_of text) command_of_parsed
 
 -- the status of a line that was read, and what the handle holds afterwards
-abbrev pub line_commanded : Option State → Result (Option Command) LineFault → ℕ × Option State
+abbrev pub line_commanded : Option Keeping → Result (Option Command) LineFault → ℕ × Option Keeping
 line_commanded None read = (empty_status, None)
-line_commanded (Some s) (Ok (Some c)) = commanded (Some s) (Ok c)
-line_commanded (Some s) (Ok None) = (done_status, Some s)
-line_commanded (Some s) (Err f) = (status_of_line_fault f, Some s)
+line_commanded (Some k) (Ok (Some c)) = commanded (Some k) (Ok c)
+line_commanded (Some k) (Ok None) = (done_status, Some k)
+line_commanded (Some k) (Err f) = (status_of_line_fault f, Some k)
 
 -- the line is read, unless memory runs out, and then carried out
-abbrev pub CommandsLine : Option State → List ℕ → ℕ → Option State → Type 0
+abbrev pub CommandsLine : Option Keeping → List ℕ → ℕ → Option Keeping → Type 0
 CommandsLine held text status after =
     (read : Result (Option Command) LineFault) × Reads (line_command text) read × ((status, after) ≡ line_commanded held read)

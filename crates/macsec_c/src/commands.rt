@@ -23,7 +23,7 @@ pub(crate) fn carry_out(e: &mut Endpoint, command: Result<Command, ArgumentFault
         Ok(command) => command,
         Err(fault) => return fault.status(),
     };
-    match e.secy().command(&command) {
+    match e.keeper().command(&command) {
         Ok(()) => DONE,
         Err(refusal) => u32::from(refusal.number()),
     }

@@ -5,18 +5,21 @@ ghost use Rattle.macsec_script_parser.specs.Fields.{map_ok};
 ghost use Rattle.macsec_script_parser.specs.Readings.{Reads};
 ghost use Rattle.macsec_script_parser.specs.Scripts.{a_config};
 ghost use Rattle.macsec_c.specs.Texts.{CommandsLine, Configures, MakesConfigured, after_command, carried_out, command_of, configured, endpoint_of, line_command};
+ghost use Rattle.macsec_c.specs.Texts.{created_alone, created_beside};
 ghost use Rattle.macsec_c.specs.Texts.{line_of_config_fault, status_of_config_fault};
 
 use crate::commands::carry_out;
-use crate::creating::endpoint_of;
+use crate::creating::{endpoint_alone, endpoint_beside};
 use crate::endpoint::Endpoint;
 use crate::loose::Loose;
 use macsec_c_numbers::{
-    DONE, EMPTY, TAKEN, status_of_line_fault, status_of_new_fault, status_of_script_fault,
+    DONE, EMPTY, NOT_JOURNAL, TAKEN, status_of_line_fault, status_of_new_fault,
+    status_of_script_fault,
 };
 use macsec_commands::{End, Event};
+use macsec_reserve::{Keeper, OpenFault};
 use macsec_script_parser::{Line, LineFault, ScriptFault, parse_config, parse_line};
-use macsec_secy::{Command, EndConfig, NewFault, Refusal, Secy};
+use macsec_secy::{Command, EndConfig, NewFault, Refusal};
 use std::alloc::Global;
 
 /// Why a configuration creates no endpoint.
@@ -26,6 +29,8 @@ pub enum ConfigFault {
     Text(ScriptFault),
     /// No endpoint can be created.
     New(NewFault),
+    /// The octets beside it are not a journal.
+    NotJournal,
     /// The command of this line is refused.
     Refused(u32, Refusal),
 }
@@ -38,6 +43,7 @@ impl ConfigFault {
         match self {
             ConfigFault::Text(fault) => status_of_script_fault(fault),
             ConfigFault::New(fault) => status_of_new_fault(fault),
+            ConfigFault::NotJournal => NOT_JOURNAL,
             ConfigFault::Refused(_, refusal) => u32::from(refusal.number()),
         }
     }
@@ -48,7 +54,7 @@ impl ConfigFault {
     {
         match self {
             ConfigFault::Text(fault) => fault.line().unwrap_or(0),
-            ConfigFault::New(_) => 0,
+            ConfigFault::NotJournal | ConfigFault::New(_) => 0,
             ConfigFault::Refused(n, _) => n,
         }
     }
@@ -76,6 +82,21 @@ impl From<NewFault> for ConfigFault {
     }
 }
 
+impl From<OpenFault> for ConfigFault {
+    ghost use Rattle.macsec_c.specs.Texts.{config_fault_of};
+    ghost use Rattle.std.specs.Prelude.{◌≡◌};
+
+    ghost from_gives = { λ fault r. r ≡ config_fault_of fault };
+
+    fn from(fault: OpenFault) -> ConfigFault {
+        match fault {
+            OpenFault::Endpoint(fault) => ConfigFault::New(fault),
+            OpenFault::NotJournal => ConfigFault::NotJournal,
+            OpenFault::Memory => ConfigFault::New(NewFault::Memory),
+        }
+    }
+}
+
 /// The configuration of an `end` line for A.
 fn config_at_a(line: &Line) -> Option<EndConfig>
     ensures { result ≡ a_config line.now }
@@ -97,31 +118,34 @@ fn command_of(line: &Line) -> Option<Command>
 }
 
 /// Carries out the command of line `n`.
-fn carry_out_line(secy: &mut Secy, n: u32, line: &Line) -> Result<(), ConfigFault>
-    ensures { map_ok (λ done. secy.new) result ≡ after_command n secy.old (command_of line.now) }
+fn carry_out_line(keeper: &mut Keeper, n: u32, line: &Line) -> Result<(), ConfigFault>
+    ensures { map_ok (λ done. keeper.new) result ≡ after_command n keeper.old (command_of line.now) }
 {
     let Some(command) = command_of(line) else {
         return Err(ConfigFault::Text(ScriptFault::Ends(n)));
     };
-    match secy.command(&command) {
+    match keeper.command(&command) {
         Ok(()) => Ok(()),
         Err(refusal) => Err(ConfigFault::Refused(n, refusal)),
     }
 }
 
 /// Carries out the commands of these lines, until one is refused.
-fn carry_out_lines(secy: &mut Secy, lines: &[(u32, Line)]) -> Result<(), ConfigFault>
-    ensures { map_ok (λ done. secy.new) result ≡ carried_out secy.old lines.now }
+fn carry_out_lines(keeper: &mut Keeper, lines: &[(u32, Line)]) -> Result<(), ConfigFault>
+    ensures { map_ok (λ done. keeper.new) result ≡ carried_out keeper.old lines.now }
 {
     for (n, line) in lines {
-        carry_out_line(secy, *n, line)?;
+        carry_out_line(keeper, *n, line)?;
     }
     Ok(())
 }
 
 /// Creates the endpoint of the first line, and carries out the commands of the others.
-fn endpoint_of_lines(alloc: Global, lines: &[(u32, Line)]) -> Result<Box<Secy, Global>, ConfigFault>
-    ensures { MakesConfigured (endpoint_of lines.now) (map_ok (λ secy. secy.value) result) }
+fn endpoint_of_lines(
+    alloc: Global,
+    lines: &[(u32, Line)],
+) -> Result<Box<Keeper, Global>, ConfigFault>
+    ensures { MakesConfigured (endpoint_of created_alone lines.now) (map_ok (λ keeper. keeper.value) result) }
 {
     let Some((first, commands)) = lines.split_first() else {
         return Err(ConfigFault::Text(ScriptFault::Ends(0)));
@@ -129,17 +153,48 @@ fn endpoint_of_lines(alloc: Global, lines: &[(u32, Line)]) -> Result<Box<Secy, G
     let Some(config) = config_at_a(&first.1) else {
         return Err(ConfigFault::Text(ScriptFault::Ends(first.0)));
     };
-    let mut secy = endpoint_of(alloc, config)?;
-    carry_out_lines(&mut *secy, commands)?;
-    Ok(secy)
+    let mut keeper = endpoint_alone(alloc, config)?;
+    carry_out_lines(&mut *keeper, commands)?;
+    Ok(keeper)
+}
+
+/// Creates the endpoint of the first line beside a journal, and carries out the commands of the others.
+fn endpoint_of_lines_beside(
+    alloc: Global,
+    lines: &[(u32, Line)],
+    journal: &[u8],
+) -> Result<Box<Keeper, Global>, ConfigFault>
+    ensures { MakesConfigured (endpoint_of (created_beside journal.now) lines.now) (map_ok (λ keeper. keeper.value) result) }
+{
+    let Some((first, commands)) = lines.split_first() else {
+        return Err(ConfigFault::Text(ScriptFault::Ends(0)));
+    };
+    let Some(config) = config_at_a(&first.1) else {
+        return Err(ConfigFault::Text(ScriptFault::Ends(first.0)));
+    };
+    let mut keeper = endpoint_beside(alloc, config, journal)?;
+    carry_out_lines(&mut *keeper, commands)?;
+    Ok(keeper)
 }
 
 /// Creates the endpoint of a configuration, and carries out its commands.
-fn configured(alloc: Global, text: &[u8]) -> Result<Box<Secy, Global>, ConfigFault>
-    ensures { MakesConfigured (configured text.now) (map_ok (λ secy. secy.value) result) }
+fn configured(alloc: Global, text: &[u8]) -> Result<Box<Keeper, Global>, ConfigFault>
+    ensures { MakesConfigured (configured created_alone text.now) (map_ok (λ keeper. keeper.value) result) }
 {
     let lines = parse_config(alloc, text)?;
     endpoint_of_lines(alloc, lines.as_slice())
+}
+
+/// Creates the endpoint of a configuration beside a journal, and carries out the configuration's commands.
+fn configured_beside(
+    alloc: Global,
+    text: &[u8],
+    journal: &[u8],
+) -> Result<Box<Keeper, Global>, ConfigFault>
+    ensures { MakesConfigured (configured (created_beside journal.now) text.now) (map_ok (λ keeper. keeper.value) result) }
+{
+    let lines = parse_config(alloc, text)?;
+    endpoint_of_lines_beside(alloc, lines.as_slice(), journal)
 }
 
 /// Creates the endpoint of a configuration in a handle without one, and carries out the configuration's commands. If
@@ -152,15 +207,43 @@ pub extern "C" fn macsec_configure_raw(
     text: &[u8],
     line: &mut u32,
 ) -> u32
-    ensures { Configures e.old.state text.now (result, line.new) e.new.state }
+    ensures { Configures created_alone e.old.state text.now (result, line.new) e.new.state }
 {
     *line = 0;
     if e.is_made() {
         return TAKEN;
     }
     match configured(alloc, text) {
-        Ok(secy) => {
-            e.put(Loose::of(secy));
+        Ok(keeper) => {
+            e.put(Loose::of(keeper));
+            DONE
+        }
+        Err(fault) => {
+            *line = fault.line();
+            fault.status()
+        }
+    }
+}
+
+/// The same beside a journal. `macsec_reserve_configure` of the header calls this with a text and a journal that are
+/// not null.
+#[unsafe(no_mangle)]
+pub extern "C" fn macsec_reserve_configure_raw(
+    alloc: Global,
+    e: &mut Endpoint,
+    text: &[u8],
+    journal: &[u8],
+    line: &mut u32,
+) -> u32
+    ensures { Configures (created_beside journal.now) e.old.state text.now (result, line.new) e.new.state }
+{
+    *line = 0;
+    if e.is_made() {
+        return TAKEN;
+    }
+    match configured_beside(alloc, text, journal) {
+        Ok(keeper) => {
+            e.put(Loose::of(keeper));
             DONE
         }
         Err(fault) => {

@@ -78,7 +78,7 @@ fn reception<'a>(e: &'a mut Endpoint, frame: &'a [u8]) -> Received<'a>
     if !e.is_made() {
         return unreceived(frame, EMPTY);
     }
-    match e.secy().receive(frame) {
+    match e.keeper().receive(frame) {
         Ok(received) => {
             let (has_sa, sci, an) = place_of(received.row);
             let (frame, delivered) = delivered_of(received.controlled, frame);

@@ -9,9 +9,10 @@ ghost use Rattle.macsec_c.specs.SentParts.{parts_of_sent, sent_as, sent_parts, u
 
 use crate::endpoint::Endpoint;
 use macsec_c_numbers::{
-    DONE, EMPTY, FATE_NO_SA, FATE_NONE, FATE_PLAIN, FATE_PROTECTED, FATE_TOO_LONG,
-    status_of_frame_fault,
+    DONE, EMPTY, FATE_NO_RESERVATION, FATE_NO_SA, FATE_NONE, FATE_PLAIN, FATE_PROTECTED,
+    FATE_TOO_LONG, status_of_frame_fault,
 };
+use macsec_reserve::KeptSent;
 use macsec_secy::{DropReason, Sent as Fate};
 
 /// The result of sending a client frame.
@@ -23,7 +24,8 @@ pub struct Sent<'a> {
     /// The status.
     pub status: u32,
     /// 0 if the status is not 0. 1 if the frame is sent protected, 2 if it is sent unchanged, 3 if it is dropped
-    /// because no SA can send, 4 if it is dropped because it would be too long.
+    /// because no SA can send, 4 if it is dropped because it would be too long, 5 if it is dropped because its packet
+    /// number is not reserved.
     pub fate: u32,
     /// The number of the key that protects it, or 0.
     pub key: u16,
@@ -65,16 +67,21 @@ fn fate_of<'a>(e: &'a mut Endpoint, frame: &'a [u8]) -> Sent<'a>
     if !e.is_made() {
         return unsent(frame, EMPTY, FATE_NONE);
     }
-    match e.secy().send(frame) {
+    match e.keeper().send(frame) {
         Ok(
-            Fate::Link {
-                frame,
-                under: Some(key),
-            },
+            KeptSent::Sent(
+                Fate::Link {
+                    frame,
+                    under: Some(key),
+                },
+            ),
         ) => sent_as(frame, FATE_PROTECTED, key),
-        Ok(Fate::Link { frame, under: None }) => sent_as(frame, FATE_PLAIN, 0),
-        Ok(Fate::Dropped(DropReason::NoSa)) => unsent(frame, DONE, FATE_NO_SA),
-        Ok(Fate::Dropped(DropReason::TooLong)) => unsent(frame, DONE, FATE_TOO_LONG),
+        Ok(KeptSent::Sent(Fate::Link { frame, under: None })) => sent_as(frame, FATE_PLAIN, 0),
+        Ok(KeptSent::Sent(Fate::Dropped(DropReason::NoSa))) => unsent(frame, DONE, FATE_NO_SA),
+        Ok(KeptSent::Sent(Fate::Dropped(DropReason::TooLong))) => {
+            unsent(frame, DONE, FATE_TOO_LONG)
+        }
+        Ok(KeptSent::NoReservation) => unsent(frame, DONE, FATE_NO_RESERVATION),
         Err(fault) => unsent(frame, status_of_frame_fault(fault), FATE_NONE),
     }
 }
@@ -105,7 +112,7 @@ pub extern "C" fn macsec_send_uncontrolled_raw(e: &mut Endpoint, frame: &[u8]) -
     if !e.is_made() {
         return EMPTY;
     }
-    match e.secy().send_uncontrolled(frame) {
+    match e.keeper().send_uncontrolled(frame) {
         Ok(_) => DONE,
         Err(fault) => status_of_frame_fault(fault),
     }

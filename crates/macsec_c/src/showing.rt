@@ -220,60 +220,60 @@ fn rx_row_shown(row: RxRow) -> RxRowShown
 /// Shows the options.
 #[unsafe(no_mangle)]
 pub extern "C" fn macsec_get_options(e: &mut Endpoint, out: &mut OptionsShown) -> u32
-    ensures status { result ≡ status_of_found e.old.state (λ s. Some s.options) }
+    ensures status { result ≡ status_of_found e.old.state (λ k. Some k.secy.options) }
     ensures same { e.new.state ≡ e.old.state }
-    ensures shown { IfSome e.old.state (λ s. out.new ≡ options_shown s.options) }
+    ensures shown { IfSome e.old.state (λ k. out.new ≡ options_shown k.secy.options) }
     ensures kept { IfNone e.old.state (out.new ≡ out.old) }
 {
     if !e.is_made() {
         return EMPTY;
     }
-    *out = options_shown(e.secy().options());
+    *out = options_shown(e.keeper().secy().options());
     DONE
 }
 
 /// Shows the endpoint's counters.
 #[unsafe(no_mangle)]
 pub extern "C" fn macsec_get_counters(e: &mut Endpoint, out: &mut CountersShown) -> u32
-    ensures status { result ≡ status_of_found e.old.state (λ s. Some s.counters) }
+    ensures status { result ≡ status_of_found e.old.state (λ k. Some k.secy.counters) }
     ensures same { e.new.state ≡ e.old.state }
-    ensures shown { IfSome e.old.state (λ s. out.new ≡ counters_shown s.counters) }
+    ensures shown { IfSome e.old.state (λ k. out.new ≡ counters_shown k.secy.counters) }
     ensures kept { IfNone e.old.state (out.new ≡ out.old) }
 {
     if !e.is_made() {
         return EMPTY;
     }
-    *out = counters_shown(e.secy().counters());
+    *out = counters_shown(e.keeper().secy().counters());
     DONE
 }
 
 /// Shows the counters of the transmit SC.
 #[unsafe(no_mangle)]
 pub extern "C" fn macsec_get_tx_counters(e: &mut Endpoint, out: &mut TxCountersShown) -> u32
-    ensures status { result ≡ status_of_found e.old.state (λ s. Some s.tx_counters) }
+    ensures status { result ≡ status_of_found e.old.state (λ k. Some k.secy.tx_counters) }
     ensures same { e.new.state ≡ e.old.state }
-    ensures shown { IfSome e.old.state (λ s. out.new ≡ tx_counters_shown s.tx_counters) }
+    ensures shown { IfSome e.old.state (λ k. out.new ≡ tx_counters_shown k.secy.tx_counters) }
     ensures kept { IfNone e.old.state (out.new ≡ out.old) }
 {
     if !e.is_made() {
         return EMPTY;
     }
-    *out = tx_counters_shown(e.secy().tx_counters());
+    *out = tx_counters_shown(e.keeper().secy().tx_counters());
     DONE
 }
 
 /// Shows how many keys the endpoint can still take in its life: 4,096 less the number that were installed.
 #[unsafe(no_mangle)]
 pub extern "C" fn macsec_keys_left(e: &mut Endpoint, out: &mut u32) -> u32
-    ensures status { result ≡ status_of_found e.old.state (λ s. Some s.keys) }
+    ensures status { result ≡ status_of_found e.old.state (λ k. Some k.secy.keys) }
     ensures same { e.new.state ≡ e.old.state }
-    ensures shown { IfSome e.old.state (λ s. out.new + length s.keys ≡ max_key_count) }
+    ensures shown { IfSome e.old.state (λ k. out.new + length k.secy.keys ≡ max_key_count) }
     ensures kept { IfNone e.old.state (out.new ≡ out.old) }
 {
     if !e.is_made() {
         return EMPTY;
     }
-    *out = u32::from(e.secy().keys_left());
+    *out = u32::from(e.keeper().secy().keys_left());
     DONE
 }
 
@@ -284,15 +284,15 @@ pub extern "C" fn macsec_get_rx_counters(
     sci: &[u8; 8],
     out: &mut RxCountersShown,
 ) -> u32
-    ensures status { result ≡ status_of_found e.old.state (λ s. rx_counters_of s.rx_counters (sci_of sci.now)) }
+    ensures status { result ≡ status_of_found e.old.state (λ k. rx_counters_of k.secy.rx_counters (sci_of sci.now)) }
     ensures same { e.new.state ≡ e.old.state }
-    ensures shown { IfSome (found e.old.state (λ s. rx_counters_of s.rx_counters (sci_of sci.now))) (λ c. out.new ≡ rx_counters_shown c) }
-    ensures kept { IfNone (found e.old.state (λ s. rx_counters_of s.rx_counters (sci_of sci.now))) (out.new ≡ out.old) }
+    ensures shown { IfSome (found e.old.state (λ k. rx_counters_of k.secy.rx_counters (sci_of sci.now))) (λ c. out.new ≡ rx_counters_shown c) }
+    ensures kept { IfNone (found e.old.state (λ k. rx_counters_of k.secy.rx_counters (sci_of sci.now))) (out.new ≡ out.old) }
 {
     if !e.is_made() {
         return EMPTY;
     }
-    match e.secy().rx_counters(Sci(*sci)) {
+    match e.keeper().secy().rx_counters(Sci(*sci)) {
         Some(counters) => {
             *out = rx_counters_shown(counters);
             DONE
@@ -309,10 +309,10 @@ pub extern "C" fn macsec_get_rx_sa_counters(
     an: u8,
     out: &mut RxCountersShown,
 ) -> u32
-    ensures status { result ≡ status_of_an e.old.state (an_of an) (λ s n. rx_sa_counters_of s.rx_counters (sci_of sci.now) n) }
+    ensures status { result ≡ status_of_an e.old.state (an_of an) (λ k n. rx_sa_counters_of k.secy.rx_counters (sci_of sci.now) n) }
     ensures same { e.new.state ≡ e.old.state }
-    ensures shown { IfSome (found_at e.old.state (an_of an) (λ s n. rx_sa_counters_of s.rx_counters (sci_of sci.now) n)) (λ c. out.new ≡ rx_counters_shown c) }
-    ensures kept { IfNone (found_at e.old.state (an_of an) (λ s n. rx_sa_counters_of s.rx_counters (sci_of sci.now) n)) (out.new ≡ out.old) }
+    ensures shown { IfSome (found_at e.old.state (an_of an) (λ k n. rx_sa_counters_of k.secy.rx_counters (sci_of sci.now) n)) (λ c. out.new ≡ rx_counters_shown c) }
+    ensures kept { IfNone (found_at e.old.state (an_of an) (λ k n. rx_sa_counters_of k.secy.rx_counters (sci_of sci.now) n)) (out.new ≡ out.old) }
 {
     if !e.is_made() {
         return EMPTY;
@@ -321,7 +321,7 @@ pub extern "C" fn macsec_get_rx_sa_counters(
         Ok(an) => an,
         Err(fault) => return fault.status(),
     };
-    match e.secy().rx_sa_counters(Sci(*sci), an) {
+    match e.keeper().secy().rx_sa_counters(Sci(*sci), an) {
         Some(counters) => {
             *out = rx_counters_shown(counters);
             DONE
@@ -337,15 +337,15 @@ pub extern "C" fn macsec_get_removed_counters(
     sci: &[u8; 8],
     out: &mut RxCountersShown,
 ) -> u32
-    ensures status { result ≡ status_of_found e.old.state (λ s. rx_removed_of s.rx_counters (sci_of sci.now)) }
+    ensures status { result ≡ status_of_found e.old.state (λ k. rx_removed_of k.secy.rx_counters (sci_of sci.now)) }
     ensures same { e.new.state ≡ e.old.state }
-    ensures shown { IfSome (found e.old.state (λ s. rx_removed_of s.rx_counters (sci_of sci.now))) (λ c. out.new ≡ rx_counters_shown c) }
-    ensures kept { IfNone (found e.old.state (λ s. rx_removed_of s.rx_counters (sci_of sci.now))) (out.new ≡ out.old) }
+    ensures shown { IfSome (found e.old.state (λ k. rx_removed_of k.secy.rx_counters (sci_of sci.now))) (λ c. out.new ≡ rx_counters_shown c) }
+    ensures kept { IfNone (found e.old.state (λ k. rx_removed_of k.secy.rx_counters (sci_of sci.now))) (out.new ≡ out.old) }
 {
     if !e.is_made() {
         return EMPTY;
     }
-    match e.secy().rx_removed(Sci(*sci)) {
+    match e.keeper().secy().rx_removed(Sci(*sci)) {
         Some(counters) => {
             *out = rx_counters_shown(counters);
             DONE
@@ -357,15 +357,15 @@ pub extern "C" fn macsec_get_removed_counters(
 /// Shows the SCI of the receive SC at this index in the order of creation, from 0.
 #[unsafe(no_mangle)]
 pub extern "C" fn macsec_get_rx_sc(e: &mut Endpoint, place: usize, out: &mut [u8; 8]) -> u32
-    ensures status { result ≡ status_of_found e.old.state (λ s. slice_get s.rx.scis place) }
+    ensures status { result ≡ status_of_found e.old.state (λ k. slice_get k.secy.rx.scis place) }
     ensures same { e.new.state ≡ e.old.state }
-    ensures shown { IfSome (found e.old.state (λ s. slice_get s.rx.scis place)) (λ sci. sci_of out.new ≡ sci) }
-    ensures kept { IfNone (found e.old.state (λ s. slice_get s.rx.scis place)) (out.new ≡ out.old) }
+    ensures shown { IfSome (found e.old.state (λ k. slice_get k.secy.rx.scis place)) (λ sci. sci_of out.new ≡ sci) }
+    ensures kept { IfNone (found e.old.state (λ k. slice_get k.secy.rx.scis place)) (out.new ≡ out.old) }
 {
     if !e.is_made() {
         return EMPTY;
     }
-    match e.secy().rx_channel(place) {
+    match e.keeper().secy().rx_channel(place) {
         Some(sci) => {
             let octets = sci.0;
             *out = octets;
@@ -378,10 +378,10 @@ pub extern "C" fn macsec_get_rx_sc(e: &mut Endpoint, place: usize, out: &mut [u8
 /// Shows the transmit SA with this AN.
 #[unsafe(no_mangle)]
 pub extern "C" fn macsec_get_tx_sa(e: &mut Endpoint, an: u8, out: &mut TxRowShown) -> u32
-    ensures status { result ≡ status_of_an e.old.state (an_of an) (λ s n. tx_row s.tx n) }
+    ensures status { result ≡ status_of_an e.old.state (an_of an) (λ k n. tx_row k.secy.tx n) }
     ensures same { e.new.state ≡ e.old.state }
-    ensures shown { IfSome (found_at e.old.state (an_of an) (λ s n. tx_row s.tx n)) (λ row. out.new ≡ tx_row_shown row) }
-    ensures kept { IfNone (found_at e.old.state (an_of an) (λ s n. tx_row s.tx n)) (out.new ≡ out.old) }
+    ensures shown { IfSome (found_at e.old.state (an_of an) (λ k n. tx_row k.secy.tx n)) (λ row. out.new ≡ tx_row_shown row) }
+    ensures kept { IfNone (found_at e.old.state (an_of an) (λ k n. tx_row k.secy.tx n)) (out.new ≡ out.old) }
 {
     if !e.is_made() {
         return EMPTY;
@@ -390,7 +390,7 @@ pub extern "C" fn macsec_get_tx_sa(e: &mut Endpoint, an: u8, out: &mut TxRowShow
         Ok(an) => an,
         Err(fault) => return fault.status(),
     };
-    match e.secy().tx_row(an) {
+    match e.keeper().secy().tx_row(an) {
         Some(row) => {
             *out = tx_row_shown(row);
             DONE
@@ -407,10 +407,10 @@ pub extern "C" fn macsec_get_rx_sa(
     an: u8,
     out: &mut RxRowShown,
 ) -> u32
-    ensures status { result ≡ status_of_an e.old.state (an_of an) (λ s n. rx_row s.rx.rows (sci_of sci.now) n) }
+    ensures status { result ≡ status_of_an e.old.state (an_of an) (λ k n. rx_row k.secy.rx.rows (sci_of sci.now) n) }
     ensures same { e.new.state ≡ e.old.state }
-    ensures shown { IfSome (found_at e.old.state (an_of an) (λ s n. rx_row s.rx.rows (sci_of sci.now) n)) (λ row. out.new ≡ rx_row_shown row) }
-    ensures kept { IfNone (found_at e.old.state (an_of an) (λ s n. rx_row s.rx.rows (sci_of sci.now) n)) (out.new ≡ out.old) }
+    ensures shown { IfSome (found_at e.old.state (an_of an) (λ k n. rx_row k.secy.rx.rows (sci_of sci.now) n)) (λ row. out.new ≡ rx_row_shown row) }
+    ensures kept { IfNone (found_at e.old.state (an_of an) (λ k n. rx_row k.secy.rx.rows (sci_of sci.now) n)) (out.new ≡ out.old) }
 {
     if !e.is_made() {
         return EMPTY;
@@ -419,7 +419,7 @@ pub extern "C" fn macsec_get_rx_sa(
         Ok(an) => an,
         Err(fault) => return fault.status(),
     };
-    match e.secy().rx_row(Sci(*sci), an) {
+    match e.keeper().secy().rx_row(Sci(*sci), an) {
         Some(row) => {
             *out = rx_row_shown(row);
             DONE

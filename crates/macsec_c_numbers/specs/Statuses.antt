@@ -28,6 +28,14 @@ taken_status = 33
 abbrev pub none_status : ℕ
 none_status = 40
 
+-- the octets are not a journal
+abbrev pub not_journal_status : ℕ
+not_journal_status = 53
+
+-- the octets are not a record
+abbrev pub not_record_status : ℕ
+not_record_status = 54
+
 abbrev pub status_of_argument_fault : ArgumentFault → ℕ
 status_of_argument_fault argument.Suite = 34
 status_of_argument_fault argument.Form = 35

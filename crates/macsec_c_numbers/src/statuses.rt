@@ -18,6 +18,12 @@ pub const TAKEN: u32 = 33;
 /// There is no such SC or SA.
 pub const NONE: u32 = 40;
 
+/// The octets are not a journal of this version.
+pub const NOT_JOURNAL: u32 = 53;
+
+/// The octets are not a record of a journal.
+pub const NOT_RECORD: u32 = 54;
+
 /// No client frame was taken: the status is not 0.
 pub const FATE_NONE: u32 = 0;
 
@@ -32,6 +38,9 @@ pub const FATE_NO_SA: u32 = 3;
 
 /// The frame is dropped: it would be too long.
 pub const FATE_TOO_LONG: u32 = 4;
+
+/// The frame is dropped: its packet number is not reserved.
+pub const FATE_NO_RESERVATION: u32 = 5;
 
 /// The status of a fault of a configuration.
 pub fn status_of_new_fault(fault: NewFault) -> u32

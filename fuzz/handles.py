@@ -1,0 +1,447 @@
+"""What the handles of the C library hold, and what each call answers, worked out from expected.py and journals.py.
+
+calls.py compares the library with this. It needs Python 3.9 or later and its standard library alone.
+"""
+
+import collections
+import pathlib
+import re
+import struct
+
+import expected
+import journals
+
+ROOT = pathlib.Path(__file__).resolve().parent.parent
+HEADER = (ROOT / "include/macsec.h").read_text()
+# The constants of the header, by their names without MACSEC_.
+CONSTANTS = {name: int(value) for name, value in re.findall(r"\bMACSEC_(\w+) = (\d+)", HEADER)}
+CONSTANTS |= {name: int(value) for name, value in re.findall(r"#define MACSEC_(\w+) (\d+)\n", HEADER)}
+FRAME_MIN, FRAME_MAX = CONSTANTS["FRAME_MIN"], CONSTANTS["FRAME_MAX"]
+
+HANDLES = 3
+SUITES = {CONSTANTS["SUITE_GCM_AES_" + it]: "gcm" + it for it in ("128", "256")}
+SUITES |= {CONSTANTS["SUITE_GCM_AES_XPN_" + it]: "xpn" + it for it in ("128", "256")}
+FORMS = {CONSTANTS["FORM_" + it.upper()]: it for it in expected.FORMS}
+MODES = {CONSTANTS["MODE_" + it.upper()]: it for it in expected.MODES}
+# The calls that a handle without an endpoint does not refuse.
+HANDLE_FREE = ("new", "configure", "reserve_open", "reserve_configure", "free", "journal_header", "journal_compacted")
+ALL_COUNTERS = expected.SECY_COUNTERS[:11]
+TX_COUNTERS = expected.SECY_COUNTERS[11:]
+
+
+def constant_name(name):
+    """NoSAError: NO_SA_ERROR."""
+    return re.sub(r"(?<=[a-z])(?=[A-Z])|(?<=[A-Z])(?=[A-Z][a-z])", "_", name).upper()
+
+
+class Status(Exception):
+    """Why nothing is done: the name of the status, and what is shown with it, if that is not the same for all."""
+
+
+class NoReservation(Exception):
+    """The packet number of a frame is not reserved."""
+
+
+class Endpoint(expected.Endpoint):
+    """An endpoint that also keeps what deleted associations had counted, and reservations."""
+
+    def __init__(self, suite, sci, max_frame, form, journal=None):
+        super().__init__(suite, sci, max_frame, form)
+        self.keeps = journal is not None
+        self.salt = journals.salt_of(journal) if self.keeps else bytes(32)
+        self.before = list(journals.reservations(journal)) if self.keeps else []
+        # An entry for each key that was installed before the last report: its name, and the last number reserved.
+        self.granted = []
+
+    def key_name(self, number):
+        return journals.sending_name(self.salt, self.keys[number].octets if number in self.keys else b"")
+
+    def command(self, keyword, values):
+        if self.keeps and keyword in ("txsa", "rxsa"):
+            key, pn = values[1:3] if keyword == "txsa" else values[2:4]
+            name = self.key_name(key)
+            if keyword == "rxsa":
+                name = journals.receiving_name(name, *values[:2])
+            expected.refuse("PnFloor", 0 < pn <= journals.highest(self.before, name))
+        super().command(keyword, values)
+
+    def protected(self, frame, bits, an, sa, data):
+        name = self.key_name(sa.key)
+        if self.keeps and not journals.highest(self.before, name) < sa.next <= journals.highest(self.granted, name):
+            raise NoReservation
+        return super().protected(frame, bits, an, sa, data)
+
+    def wanted(self, an, amount):
+        """The reservation that a transmit association needs next, or None."""
+        if an not in self.tx:
+            return None
+        sa = self.tx[an]
+        name = self.key_name(sa.key)
+        last = journals.wanted_last(journals.highest(self.granted, name), sa.next, amount)
+        return None if last is None else (name, last)
+
+    def to_save(self, sci, an):
+        """What is to be saved of a receive association, if it exists."""
+        channel = self.channel(sci)
+        if channel is None or an not in channel.sas:
+            return None
+        sa = channel.sas[an]
+        name = journals.receiving_name(self.key_name(sa.key), sci, an)
+        return name, min(max(sa.lowest - 1, 0), journals.LAST)
+
+    def note_durable(self, reservation):
+        """A reservation is durable: the entries of its name are raised."""
+        names = [journals.sending_name(self.salt, it.octets) for it in self.keys.values()]
+        entries = [*self.granted, *((it, 0) for it in names[len(self.granted) :])]
+        its, to = reservation
+        self.granted = [(name, max(last, to) if name == its else last) for name, last in entries]
+
+    def do_rxsc(self, sci):
+        super().do_rxsc(sci)
+        self.channels[-1].removed = dict.fromkeys(expected.RX_COUNTERS, 0)
+
+    def do_rxdel(self, sci, an):
+        sa = self.rx_sa(sci, an)
+        super().do_rxdel(sci, an)
+        removed = self.channel(sci).removed
+        for name in expected.RX_COUNTERS:
+            removed[name] = (removed[name] + sa.counters[name]) % 2**64
+
+    def row_of(self, frame):
+        """The SCI and the number of the association that a link frame is for."""
+        read = expected.read_frame(frame)
+        if isinstance(read, str) or (read["tci"] & 8 and not read["tci"] & 4):
+            return None
+        channel, an = self.channel_of(read, frame), read["tci"] & 3
+        return (channel.sci, an) if channel and an in channel.sas and channel.sas[an].on else None
+
+
+def named(table, number, status):
+    if number not in table:
+        raise Status(status)
+    return table[number]
+
+
+def below(count, number, status):
+    if number >= count:
+        raise Status(status)
+    return number
+
+
+def an_of(number):
+    return below(CONSTANTS["AN_COUNT"], number, "E_NO_SUCH_AN")
+
+
+def key_number_of(number):
+    return below(CONSTANTS["KEY_COUNT"], number, "E_NO_SUCH_KEY_NUMBER")
+
+
+def framed(frame):
+    if len(frame) < FRAME_MIN:
+        raise Status("E_FRAME_SHORT")
+    if len(frame) > FRAME_MAX:
+        raise Status("E_FRAME_LONG")
+    return frame
+
+
+# The statuses of the faults of a configuration.
+FAULTS = {it: "E_LINE_" + it.upper() for it in ("Word", "Count", "Hex", "Number", "Ends")}
+FAULTS |= {"LineLong": "E_LINE_LONG", "ScriptLong": "E_CONFIG_LONG"}
+
+
+def parsed(text, told):
+    """The lines of a configuration; a fault is shown with its line."""
+    try:
+        return expected.parse(text, is_config=True)
+    except expected.ScriptFault as fault:
+        name, line = fault.args
+        raise Status(FAULTS[name], told(line)) from None
+
+
+def hex_of(octets):
+    return octets.hex() or "-"
+
+
+def flag(is_on):
+    return "on" if is_on else "off"
+
+
+class Model:
+    """What the handles hold, and what each call answers: the text before its status, and the status."""
+
+    def __init__(self):
+        self.ends = [None] * HANDLES
+        # Each constant that was given or answered.
+        self.met = collections.Counter({"OK": 0})
+
+    def answer(self, name, handle, *words):
+        shown = getattr(self, "unshown_" + name, lambda: "")()
+        status = "OK"
+        try:
+            if name not in HANDLE_FREE and self.ends[handle] is None:
+                raise Status("E_EMPTY")
+            shown = getattr(self, "call_" + name)(handle, *words) or ""
+        except Status as it:
+            status, *told = it.args
+            shown = told[0] if told else shown
+        except expected.Refused as it:
+            status = "E_" + constant_name(str(it))
+        self.met[status] += 1
+        return f"{name}{shown} : {CONSTANTS[status]}"
+
+    # Creation and end.
+
+    def call_new(self, handle, sci, suite, form, max_frame, journal=None):
+        if self.ends[handle] is not None:
+            raise Status("E_TAKEN")
+        suite, form = named(SUITES, suite, "E_NO_SUCH_SUITE"), named(FORMS, form, "E_NO_SUCH_FORM")
+        if journal is not None and not journals.is_journal(journal):
+            raise Status("E_NOT_JOURNAL")
+        if not 64 <= max_frame <= FRAME_MAX:
+            raise Status("E_NEW_MAX_FRAME")
+        if not expected.form_fits(form, sci):
+            raise Status("E_NEW_SCI_FORM")
+        self.ends[handle] = Endpoint(suite, sci, max_frame, form, journal)
+
+    call_reserve_open = call_new
+
+    def unshown_configure(self):
+        return " 0"
+
+    unshown_reserve_configure = unshown_configure
+
+    def call_configure(self, handle, text, journal=None):
+        if self.ends[handle] is not None:
+            raise Status("E_TAKEN")
+        (_, _, _, (_, suite, sci, max_frame, form)), *commands = parsed(text, lambda line: f" {line or 0}")
+        if journal is not None and not journals.is_journal(journal):
+            raise Status("E_NOT_JOURNAL")
+        made = Endpoint(suite, sci, max_frame, form, journal)
+        for line, keyword, _, values in commands:
+            try:
+                made.command(keyword, values)
+            except expected.Refused as it:
+                raise Status("E_" + constant_name(str(it)), f" {line}") from None
+        self.ends[handle] = made
+        return " 0"
+
+    call_reserve_configure = call_configure
+
+    def call_free(self, handle):
+        self.ends[handle] = None
+
+    # Reservations. Octets that a call does not write are 7, as the program sets them before it.
+
+    def unshown_reserve_wanted(self):
+        return " " + "07" * journals.RECORD
+
+    unshown_reserve_to_save = unshown_reserve_wanted
+
+    def shown_record(self, reservation):
+        if reservation is None:
+            raise Status("E_NOT_FOUND")
+        return f" {journals.record(reservation).hex()}"
+
+    def call_reserve_wanted(self, handle, an, amount):
+        return self.shown_record(self.ends[handle].wanted(an_of(an), amount))
+
+    def call_reserve_to_save(self, handle, sci, an):
+        return self.shown_record(self.ends[handle].to_save(sci, an_of(an)))
+
+    def call_reserve_granted(self, handle, octets):
+        read = journals.read_record(octets)
+        if read is None:
+            raise Status("E_NOT_RECORD")
+        self.ends[handle].note_durable(read)
+
+    def call_journal_header(self, handle, salt):
+        return f" {journals.header(salt).hex()}"
+
+    def call_journal_compacted(self, handle, journal):
+        if not journals.is_journal(journal):
+            raise Status("E_NOT_JOURNAL", f" 7 {hex_of(bytes([7]) * len(journal))}")
+        shorter = journals.compacted(journal)
+        return f" {len(shorter)} {hex_of(shorter + bytes([7]) * (len(journal) - len(shorter)))}"
+
+    # Frames.
+
+    def unshown_send(self):
+        return f" {CONSTANTS['FATE_NONE']} 0 -"
+
+    def call_send(self, handle, frame):
+        end = self.ends[handle]
+        key = next((sa.key for sa in end.tx.values() if sa.on), 0) if end.protects else 0
+        try:
+            sent, reason = end.send(framed(frame))
+        except NoReservation:
+            sent, reason = None, "NoReservation"
+        fate = "FATE_" + (constant_name(reason) if sent is None else "PROTECTED" if end.protects else "PLAIN")
+        self.met[fate] += 1
+        self.met["OVERHEAD_MAX"] += sent is not None and len(sent) - len(frame) == CONSTANTS["OVERHEAD_MAX"]
+        assert sent is None or len(sent) - len(frame) <= CONSTANTS["OVERHEAD_MAX"]
+        return f" {CONSTANTS[fate]} {0 if sent is None else key} {hex_of(sent or b'')}"
+
+    def call_send_uncontrolled(self, handle, frame):
+        framed(frame)
+
+    def unshown_receive(self):
+        return f" {CONSTANTS['VERDICT_NONE']} 0 {'00' * 8} 0 0 -"
+
+    def call_receive(self, handle, frame):
+        end = self.ends[handle]
+        row = end.row_of(framed(frame))
+        verdict, delivered = end.receive(frame)
+        verdict = "VERDICT_" + constant_name(verdict)
+        self.met[verdict] += 1
+        sci, an = row or (bytes(8), 0)
+        told = f"{int(row is not None)} {sci.hex()} {an} {int(delivered is not None)} {hex_of(delivered or b'')}"
+        return f" {CONSTANTS[verdict]} {told}"
+
+    # Commands.
+
+    def command(self, handle, keyword, *values):
+        self.ends[handle].command(keyword, values)
+
+    def call_set_protect(self, handle, on):
+        self.command(handle, "protect", flag(on))
+
+    def call_set_validation(self, handle, mode):
+        self.command(handle, "validate", named(MODES, mode, "E_NO_SUCH_MODE"))
+
+    def call_set_replay(self, handle, on, window):
+        self.command(handle, "replay", flag(on), window)
+
+    def call_set_tag_form(self, handle, form):
+        self.command(handle, "tag", named(FORMS, form, "E_NO_SUCH_FORM"))
+
+    def call_install_key(self, handle, octets, salt, ssci, suite, number, length, offset):
+        end = self.ends[handle]
+        suite = end.suite if suite == CONSTANTS["SUITE_DEFAULT"] else named(SUITES, suite, "E_NO_SUCH_SUITE")
+        number = key_number_of(number)
+        if length not in (16, 32):
+            raise Status("E_NO_SUCH_KEY_OCTETS")
+        self.command(handle, "key", number, octets[:length], offset, suite, struct.pack(">I", ssci), salt)
+
+    def call_retire_key(self, handle, key):
+        self.command(handle, "retire", key_number_of(key))
+
+    def call_add_tx_sa(self, handle, an, key, pn, conf):
+        self.command(handle, "txsa", an_of(an), key_number_of(key), pn, "conf" if conf else "int")
+
+    def call_enable_tx_sa(self, handle, an):
+        self.command(handle, "txon", an_of(an))
+
+    def call_disable_tx_sa(self, handle, an):
+        self.command(handle, "txoff", an_of(an))
+
+    def call_delete_tx_sa(self, handle, an):
+        self.command(handle, "txdel", an_of(an))
+
+    def call_add_rx_sc(self, handle, sci):
+        self.command(handle, "rxsc", sci)
+
+    def call_delete_rx_sc(self, handle, sci):
+        self.command(handle, "rxscdel", sci)
+
+    def call_add_rx_sa(self, handle, sci, an, key, ssci, pn):
+        self.command(handle, "rxsa", sci, an_of(an), key_number_of(key), pn, struct.pack(">I", ssci))
+
+    def call_enable_rx_sa(self, handle, sci, an):
+        self.command(handle, "rxon", sci, an_of(an))
+
+    def call_disable_rx_sa(self, handle, sci, an):
+        self.command(handle, "rxoff", sci, an_of(an))
+
+    def call_set_lowest_pn(self, handle, sci, an, pn):
+        self.command(handle, "rxlow", sci, an_of(an), pn)
+
+    def call_delete_rx_sa(self, handle, sci, an):
+        self.command(handle, "rxdel", sci, an_of(an))
+
+    def call_command_line(self, handle, line):
+        """A line is read as the second one of a configuration."""
+        _, *commands = parsed(b"end A gcm128 0200000000010001 1518 sci\n" + line, lambda _: "")
+        for _, keyword, _, values in commands:
+            self.command(handle, keyword, *values)
+
+    # What an endpoint shows. The program sets all that it has room for to 7 before the call.
+
+    def unshown_get_options(self):
+        return " 7 7 7 0 0"
+
+    def call_get_options(self, handle):
+        end = self.ends[handle]
+        mode, form = CONSTANTS["MODE_" + end.mode.upper()], CONSTANTS["FORM_" + end.form.upper()]
+        self.met.update(["MODE_" + end.mode.upper(), "FORM_" + end.form.upper()])
+        return f" {end.window} {mode} {form} {int(end.protects)} {int(end.replay)}"
+
+    def unshown_keys_left(self):
+        return " 7"
+
+    def call_keys_left(self, handle):
+        return f" {CONSTANTS['KEY_COUNT'] - len(self.ends[handle].keys)}"
+
+    def unshown_get_counters(self):
+        return " 7" * len(ALL_COUNTERS)
+
+    def call_get_counters(self, handle):
+        return "".join(f" {self.ends[handle].counters[it]}" for it in ALL_COUNTERS)
+
+    def unshown_get_tx_counters(self):
+        return " 7" * len(TX_COUNTERS)
+
+    def call_get_tx_counters(self, handle):
+        return "".join(f" {self.ends[handle].counters[it]}" for it in TX_COUNTERS)
+
+    def unshown_get_rx_counters(self):
+        return " 7" * len(expected.RX_COUNTERS)
+
+    unshown_get_rx_sa_counters = unshown_get_removed_counters = unshown_get_rx_counters
+
+    def channel(self, handle, sci):
+        found = self.ends[handle].channel(sci)
+        if found is None:
+            raise Status("E_NOT_FOUND")
+        return found
+
+    def rx_sa(self, handle, sci, an):
+        an = an_of(an)
+        sas = self.channel(handle, sci).sas
+        if an not in sas:
+            raise Status("E_NOT_FOUND")
+        return sas[an]
+
+    def call_get_rx_counters(self, handle, sci):
+        return "".join(f" {it}" for it in self.channel(handle, sci).counters.values())
+
+    def call_get_rx_sa_counters(self, handle, sci, an):
+        return "".join(f" {it}" for it in self.rx_sa(handle, sci, an).counters.values())
+
+    def call_get_removed_counters(self, handle, sci):
+        return "".join(f" {it}" for it in self.channel(handle, sci).removed.values())
+
+    def unshown_get_rx_sc(self):
+        return " " + "07" * 8
+
+    def call_get_rx_sc(self, handle, place):
+        if place >= len(self.ends[handle].channels):
+            raise Status("E_NOT_FOUND")
+        return f" {self.ends[handle].channels[place].sci.hex()}"
+
+    def unshown_get_tx_sa(self):
+        return f" 7{7:016x} 7 0 0"
+
+    def call_get_tx_sa(self, handle, an):
+        an = an_of(an)
+        if an not in self.ends[handle].tx:
+            raise Status("E_NOT_FOUND")
+        sa = self.ends[handle].tx[an]
+        return f" {sa.next:017x} {sa.key} {int(sa.conf)} {int(sa.on)}"
+
+    def unshown_get_rx_sa(self):
+        return f" 7{7:016x} 7{7:016x} 7 7 0"
+
+    def call_get_rx_sa(self, handle, sci, an):
+        sa = self.rx_sa(handle, sci, an)
+        ssci = int.from_bytes(sa.ssci, "big")
+        return f" {sa.next:017x} {sa.lowest:017x} {ssci} {sa.key} {int(sa.on)}"
