@@ -1,0 +1,397 @@
+/* The journal of an endpoint's packet numbers as a file on a disk. journal.h has the rules. */
+#define _GNU_SOURCE /* renameat2, RENAME_NOREPLACE */
+#include "journal.h"
+#include <errno.h>
+#include <fcntl.h>
+#include <stdio.h>
+#include <stdlib.h>
+#include <string.h>
+#include <sys/file.h>
+#include <sys/random.h>
+#include <sys/stat.h>
+#include <unistd.h>
+
+/* The suffix of a new file until it takes the place of the old one. */
+#define NEW_SUFFIX ".new"
+/* How often another process may put a new file in place between opening and locking. */
+#define OPEN_ATTEMPTS 8
+
+static int failed(struct journal_fault *fault, enum journal_step step, int error) {
+    fault->step = step;
+    fault->error = error;
+    fault->status = MACSEC_OK;
+    return -1;
+}
+
+static int failed_in_library(struct journal_fault *fault, uint32_t status) {
+    failed(fault, JOURNAL_LIBRARY, EINVAL);
+    fault->status = status;
+    return -1;
+}
+
+/* Closes a descriptor. An error says nothing of what fdatasync has made durable, and Linux closes it all the same. */
+static void close_file(int file) {
+    if (file >= 0)
+        (void)close(file);
+}
+
+/* ---- Reading and writing ---- */
+
+/* Writes all octets. Returns 0, or -1 with errno set. */
+static int write_all(int file, const uint8_t *octets, size_t length, off_t at) {
+    while (length > 0) {
+        ssize_t count = pwrite(file, octets, length, at);
+        if (count < 0 && errno == EINTR)
+            continue;
+        if (count == 0)
+            errno = EIO;
+        if (count <= 0)
+            return -1;
+        octets += count;
+        at += count;
+        length -= (size_t)count;
+    }
+    return 0;
+}
+
+/* Reads as many octets from the start of a file. Returns 0, or -1 with errno set. */
+static int read_all(int file, uint8_t *octets, size_t length) {
+    size_t got = 0;
+    while (got < length) {
+        ssize_t count = pread(file, octets + got, length - got, (off_t)got);
+        if (count < 0 && errno == EINTR)
+            continue;
+        if (count == 0)
+            errno = EIO;
+        if (count <= 0)
+            return -1;
+        got += (size_t)count;
+    }
+    return 0;
+}
+
+static int random_octets(uint8_t *octets, size_t length) {
+    ssize_t count;
+    do
+        count = getrandom(octets, length, 0);
+    while (count < 0 && errno == EINTR);
+    if (count >= 0 && (size_t)count != length)
+        errno = EIO;
+    return count >= 0 && (size_t)count == length ? 0 : -1;
+}
+
+/* ---- The folder and the names in it ---- */
+
+/* Opens a file of the folder. Returns -1 with errno set. */
+static int open_in(int folder, const char *name, int flags, mode_t mode) {
+    int file;
+    do
+        file = openat(folder, name, flags | O_RDWR | O_CLOEXEC | O_NOFOLLOW | O_NOCTTY, mode);
+    while (file < 0 && errno == EINTR);
+    return file;
+}
+
+/* Opens the folder of a path, and notes the name in it. */
+static int open_folder(struct journal *journal, const char *path, struct journal_fault *fault) {
+    char folder[PATH_MAX];
+    const char *slash = strrchr(path, '/');
+    const char *name = slash == NULL ? path : slash + 1;
+    size_t length = slash == NULL ? 0 : (size_t)(slash - path) + 1;
+    if (strcmp(name, "") == 0 || strcmp(name, ".") == 0 || strcmp(name, "..") == 0)
+        return failed(fault, JOURNAL_PATH, EINVAL);
+    if (length + 2 > sizeof folder || strlen(name) + strlen(NEW_SUFFIX) >= sizeof journal->name)
+        return failed(fault, JOURNAL_PATH, ENAMETOOLONG);
+    memcpy(folder, path, length);
+    memcpy(folder + length, ".", 2);
+    strcpy(journal->name, name);
+    strcpy(journal->new_name, name);
+    strcat(journal->new_name, NEW_SUFFIX);
+    do
+        journal->folder = open(folder, O_RDONLY | O_DIRECTORY | O_CLOEXEC);
+    while (journal->folder < 0 && errno == EINTR);
+    return journal->folder < 0 ? failed(fault, JOURNAL_FOLDER, errno) : 0;
+}
+
+static int sync_folder(const struct journal *journal, struct journal_fault *fault) {
+    return fsync(journal->folder) != 0 ? failed(fault, JOURNAL_SYNC_FOLDER, errno) : 0;
+}
+
+/* Sees that the name still leads to the file. */
+static int check_named(const struct journal *journal, struct journal_fault *fault) {
+    struct stat named;
+    if (fstatat(journal->folder, journal->name, &named, AT_SYMLINK_NOFOLLOW) != 0)
+        return errno == ENOENT ? failed(fault, JOURNAL_NAMED, ESTALE) : failed(fault, JOURNAL_STATUS, errno);
+    if (named.st_dev != journal->device || named.st_ino != journal->inode)
+        return failed(fault, JOURNAL_NAMED, ESTALE);
+    return 0;
+}
+
+/* Notes which file it is, and returns its length. */
+static int note_file(struct journal *journal, off_t *length, struct journal_fault *fault) {
+    struct stat status;
+    if (fstat(journal->file, &status) != 0)
+        return failed(fault, JOURNAL_STATUS, errno);
+    if (!S_ISREG(status.st_mode))
+        return failed(fault, JOURNAL_KIND, EINVAL);
+    if (status.st_nlink > 1)
+        return failed(fault, JOURNAL_KIND, EMLINK);
+    journal->device = status.st_dev;
+    journal->inode = status.st_ino;
+    *length = status.st_size;
+    return 0;
+}
+
+/* ---- New files ---- */
+
+/* Locks a new file and writes it, durably. */
+static int fill_new_file(int file, const uint8_t *octets, size_t length, struct journal_fault *fault) {
+    if (flock(file, LOCK_EX | LOCK_NB) != 0)
+        return failed(fault, JOURNAL_LOCK, errno);
+    if (write_all(file, octets, length, 0) != 0)
+        return failed(fault, JOURNAL_WRITE, errno);
+    return fsync(file) != 0 ? failed(fault, JOURNAL_SYNC, errno) : 0;
+}
+
+/* Writes a new file beside the journal, locked and durable, and renames it to the journal's name. Returns its
+ * descriptor. With RENAME_NOREPLACE there must be no file of that name. */
+static int put_new_file(const struct journal *journal, const uint8_t *octets, size_t length, unsigned flags,
+                        struct journal_fault *fault) {
+    int file = open_in(journal->folder, journal->new_name, O_CREAT | O_EXCL, 0600);
+    if (file < 0)
+        return failed(fault, JOURNAL_NEW_FILE, errno);
+    if (fill_new_file(file, octets, length, fault) == 0) {
+        if (renameat2(journal->folder, journal->new_name, journal->folder, journal->name, flags) == 0)
+            return file;
+        failed(fault, JOURNAL_RENAME, errno);
+    }
+    /* Where this fails, the file stays: `fault` has the first error, and the next attempt reports EEXIST. */
+    (void)unlinkat(journal->folder, journal->new_name, 0);
+    close_file(file);
+    return -1;
+}
+
+int journal_create(const char *path, struct journal_fault *fault) {
+    struct journal journal;
+    uint8_t salt[32];
+    macsec_record header;
+    int file, result;
+    if (random_octets(salt, sizeof salt) != 0)
+        return failed(fault, JOURNAL_RANDOM, errno);
+    if (macsec_journal_header(salt, &header) != MACSEC_OK)
+        return failed(fault, JOURNAL_LIBRARY, EINVAL);
+    if (open_folder(&journal, path, fault) != 0)
+        return -1;
+    file = put_new_file(&journal, header.octets, MACSEC_RECORD_LENGTH, RENAME_NOREPLACE, fault);
+    result = file < 0 ? -1 : sync_folder(&journal, fault);
+    /* It is still locked, so nobody uses it. Where this fails too, a journal without records stays. */
+    if (file >= 0 && result != 0)
+        (void)unlinkat(journal.folder, journal.name, 0);
+    close_file(file);
+    close_file(journal.folder);
+    return result;
+}
+
+/* ---- Opening ---- */
+
+/* Opens the file and locks it. Returns 0; 1 if another file has its name by then, as after a rewriting; or -1. */
+static int open_and_lock(struct journal *journal, off_t *length, struct journal_fault *fault) {
+    journal->file = open_in(journal->folder, journal->name, O_NONBLOCK, 0);
+    if (journal->file < 0)
+        return failed(fault, JOURNAL_OPEN, errno);
+    if (note_file(journal, length, fault) != 0)
+        return -1;
+    if (flock(journal->file, LOCK_EX | LOCK_NB) != 0)
+        return failed(fault, JOURNAL_LOCK, errno);
+    if (check_named(journal, fault) != 0)
+        return fault->step == JOURNAL_NAMED ? 1 : -1;
+    /* Its length can have changed until it was locked. */
+    return note_file(journal, length, fault);
+}
+
+/* Opens and locks the file that has the name, and makes its name durable. */
+static int open_named(struct journal *journal, off_t *length, struct journal_fault *fault) {
+    int result = 1;
+    for (int attempt = 0; result == 1 && attempt < OPEN_ATTEMPTS; attempt++) {
+        close_file(journal->file);
+        result = open_and_lock(journal, length, fault);
+    }
+    return result == 0 ? sync_folder(journal, fault) : -1;
+}
+
+/* Reads the whole records of a file with so many octets. */
+static int read_records(struct journal *journal, off_t length, size_t limit, struct journal_fault *fault) {
+    if (length < MACSEC_RECORD_LENGTH)
+        return failed(fault, JOURNAL_LENGTH, ENODATA);
+    if ((uintmax_t)length > JOURNAL_MAX)
+        return failed(fault, JOURNAL_LENGTH, EFBIG);
+    journal->length = (size_t)length / MACSEC_RECORD_LENGTH * MACSEC_RECORD_LENGTH;
+    journal->own = journal->length;
+    journal->room = journal->length < limit ? limit : journal->length;
+    journal->octets = malloc(journal->room);
+    journal->spare = malloc(journal->room);
+    if (journal->octets == NULL || journal->spare == NULL)
+        return failed(fault, JOURNAL_MEMORY, ENOMEM);
+    return read_all(journal->file, journal->octets, journal->length) != 0 ? failed(fault, JOURNAL_READ, errno) : 0;
+}
+
+int journal_open(struct journal *journal, const char *path, size_t limit, struct journal_fault *fault) {
+    off_t length = 0;
+    memset(journal, 0, sizeof *journal);
+    journal->file = -1;
+    if (limit < 2 * MACSEC_RECORD_LENGTH)
+        return failed(fault, JOURNAL_LENGTH, EINVAL);
+    if (open_folder(journal, path, fault) != 0)
+        return -1;
+    if (open_named(journal, &length, fault) == 0 && read_records(journal, length, limit, fault) == 0)
+        return 0;
+    journal_close(journal);
+    return -1;
+}
+
+void journal_close(struct journal *journal) {
+    free(journal->octets);
+    free(journal->spare);
+    journal->octets = journal->spare = NULL;
+    close_file(journal->file);
+    close_file(journal->folder);
+    journal->file = journal->folder = -1;
+}
+
+/* ---- Rewriting ---- */
+
+/* Makes room for twice as many octets as a journal has when it has been written anew. */
+static int grow(struct journal *journal, size_t length, struct journal_fault *fault) {
+    uint8_t *grown;
+    if (2 * length <= journal->room)
+        return 0;
+    if (2 * length > JOURNAL_MAX)
+        return failed(fault, JOURNAL_LENGTH, EFBIG);
+    grown = realloc(journal->octets, 2 * length);
+    if (grown == NULL)
+        return failed(fault, JOURNAL_MEMORY, ENOMEM);
+    journal->octets = grown;
+    grown = realloc(journal->spare, 2 * length);
+    if (grown == NULL)
+        return failed(fault, JOURNAL_MEMORY, ENOMEM);
+    journal->spare = grown;
+    journal->room = 2 * length;
+    return 0;
+}
+
+/* Goes on with the file that has taken the place of the old one. */
+static int take_new_file(struct journal *journal, int file, size_t length, struct journal_fault *fault) {
+    uint8_t *octets = journal->spare;
+    off_t written;
+    journal->spare = journal->octets;
+    journal->octets = octets;
+    journal->length = length;
+    journal->own = MACSEC_RECORD_LENGTH;
+    close_file(journal->file);
+    journal->file = file;
+    return note_file(journal, &written, fault);
+}
+
+int journal_rewrite(struct journal *journal, struct journal_fault *fault) {
+    size_t length = 0;
+    int file;
+    uint32_t status = (uint32_t)macsec_journal_compacted(journal->octets, journal->length, journal->spare, &length);
+    journal->in_doubt = true;
+    if (status != MACSEC_OK)
+        return failed_in_library(fault, status);
+    if (grow(journal, length, fault) != 0 || check_named(journal, fault) != 0)
+        return -1;
+    /* This process holds the lock, so a file of this name is left over. */
+    if (unlinkat(journal->folder, journal->new_name, 0) != 0 && errno != ENOENT)
+        return failed(fault, JOURNAL_NEW_FILE, errno);
+    file = put_new_file(journal, journal->spare, length, 0, fault);
+    if (file < 0 || take_new_file(journal, file, length, fault) != 0 || sync_folder(journal, fault) != 0)
+        return -1;
+    journal->in_doubt = false;
+    return 0;
+}
+
+/* ---- Records ---- */
+
+/* Has this process made the record durable? One that was read may be in the page cache only. */
+static bool has_record(const struct journal *journal, const macsec_record *record) {
+    for (size_t at = journal->length; at > journal->own; at -= MACSEC_RECORD_LENGTH)
+        if (memcmp(journal->octets + at - MACSEC_RECORD_LENGTH, record->octets, MACSEC_RECORD_LENGTH) == 0)
+            return true;
+    return false;
+}
+
+int journal_append(struct journal *journal, const macsec_record *record, struct journal_fault *fault) {
+    if (!journal->in_doubt && has_record(journal, record))
+        return 0;
+    if ((journal->in_doubt || journal->length + MACSEC_RECORD_LENGTH > journal->room) &&
+        journal_rewrite(journal, fault) != 0)
+        return -1;
+    journal->in_doubt = true;
+    if (write_all(journal->file, record->octets, MACSEC_RECORD_LENGTH, (off_t)journal->length) != 0)
+        return failed(fault, JOURNAL_WRITE, errno);
+    if (fdatasync(journal->file) != 0)
+        return failed(fault, JOURNAL_SYNC, errno);
+    if (check_named(journal, fault) != 0)
+        return -1;
+    memcpy(journal->octets + journal->length, record->octets, MACSEC_RECORD_LENGTH);
+    journal->length += MACSEC_RECORD_LENGTH;
+    journal->in_doubt = false;
+    return 0;
+}
+
+/* Makes a record durable, and then reports it to the endpoint. */
+static int append_and_report(struct journal *journal, macsec_endpoint *e, const macsec_record *record,
+                             struct journal_fault *fault) {
+    uint32_t status;
+    if (journal_append(journal, record, fault) != 0)
+        return -1;
+    status = (uint32_t)macsec_reserve_granted(e, record);
+    return status != MACSEC_OK ? failed_in_library(fault, status) : 0;
+}
+
+int journal_reserve(struct journal *journal, macsec_endpoint *e, uint32_t an, uint64_t amount,
+                    struct journal_fault *fault) {
+    macsec_record record;
+    uint32_t status = (uint32_t)macsec_reserve_wanted(e, an, amount, &record);
+    if (status == MACSEC_E_NOT_FOUND)
+        return 0;
+    return status != MACSEC_OK ? failed_in_library(fault, status) : append_and_report(journal, e, &record, fault);
+}
+
+int journal_save(struct journal *journal, macsec_endpoint *e, const uint8_t sci[8], uint8_t an,
+                 struct journal_fault *fault) {
+    macsec_record record;
+    uint32_t status = (uint32_t)macsec_reserve_to_save(e, sci, an, &record);
+    if (status == MACSEC_E_NOT_FOUND)
+        return 0;
+    return status != MACSEC_OK ? failed_in_library(fault, status) : append_and_report(journal, e, &record, fault);
+}
+
+uint64_t journal_amount(uint64_t frames_per_second) {
+    if (frames_per_second > UINT64_MAX / 2)
+        return UINT64_MAX;
+    return frames_per_second < JOURNAL_AMOUNT_MIN / 2 ? JOURNAL_AMOUNT_MIN : 2 * frames_per_second;
+}
+
+const char *journal_step_name(enum journal_step step) {
+    switch (step) {
+        case JOURNAL_PATH: return "path";
+        case JOURNAL_FOLDER: return "folder";
+        case JOURNAL_SYNC_FOLDER: return "sync folder";
+        case JOURNAL_RANDOM: return "random";
+        case JOURNAL_NEW_FILE: return "new file";
+        case JOURNAL_RENAME: return "rename";
+        case JOURNAL_OPEN: return "open";
+        case JOURNAL_LOCK: return "lock";
+        case JOURNAL_STATUS: return "status";
+        case JOURNAL_KIND: return "kind";
+        case JOURNAL_NAMED: return "named";
+        case JOURNAL_LENGTH: return "length";
+        case JOURNAL_MEMORY: return "memory";
+        case JOURNAL_READ: return "read";
+        case JOURNAL_WRITE: return "write";
+        case JOURNAL_SYNC: return "sync";
+        case JOURNAL_LIBRARY: return "library";
+        default: return "unknown";
+    }
+}

@@ -1,0 +1,146 @@
+/*
+ * journal.h - the journal of an endpoint's packet numbers as a file on a disk. C11 on Linux.
+ *
+ * An endpoint that has a journal sends a frame only if a durable record reserves its packet number, so that no later
+ * run repeats the number. The library of macsec.h decides what is reserved and what the records are; it opens no file.
+ * These calls keep its records in a file. They are not proved: the promises of macsec_reserve_open rest on them and on
+ * the disk.
+ *
+ *     struct journal journal;
+ *     struct journal_fault fault;
+ *     if (journal_open(&journal, path, JOURNAL_LIMIT, &fault) != 0) ...
+ *     macsec_reserve_open(&e, &config, journal.octets, journal.length);
+ *     macsec_install_key(&e, &sak); macsec_add_tx_sa(&e, an, sak.number, next, true);
+ *     if (journal_reserve(&journal, &e, an, journal_amount(rate), &fault) != 0) ...
+ *     macsec_enable_tx_sa(&e, an);
+ *     ... frames; journal_reserve and journal_save at least twice a second ...
+ *     journal_save(&journal, &e, sci, an, &fault);
+ *     macsec_free(&e);
+ *     journal_close(&journal);
+ *
+ * CREATION   Create a journal when the operator asks for one, and never because journal_open failed: without its
+ *            records all packet numbers can be used again. If a journal is lost, install new keys. journal_create does
+ *            not replace a file.
+ * ONE USER   The file is locked from journal_open to journal_close, so that one process uses it at a time. The lock is
+ *            flock: it covers the whole file, and belongs to the open file, as a lock of F_OFD_SETLK does. A lock of
+ *            F_SETLK would end when any code of the process closes another descriptor of the file. A child made by fork
+ *            shares the lock, and a program started by exec does not. After a fork, only one process may use the
+ *            journal and its endpoint. Use a local file system.
+ * DURABLE    A call that returns 0 after it wrote a record has written all of it, fdatasync returned 0, and the name of
+ *            the file still leads to it. Only then is the record reported to the endpoint (macsec_reserve_granted).
+ * FAILURES   After a failed fdatasync, Linux marks the pages as clean, and the next one can return 0 although nothing
+ *            was written. So after a failed write or synchronization the file is in doubt: nothing is appended to it or
+ *            read from it again. The next call writes the whole journal from memory into a new file, which takes its
+ *            place. A full disk is handled in the same way. Until this succeeds, the endpoint sends with the numbers
+ *            that it has reserved, and then drops its frames (MACSEC_FATE_NO_RESERVATION). After a failure, wait a
+ *            second before the next call.
+ * TORN TAIL  Records are at multiples of 64 octets. The next record overwrites what an interrupted write left.
+ * LENGTH     Before a journal is longer than its limit, it is written anew with one record for each name, into a new
+ *            file that takes its place. The limit grows to twice the length of that file, if it was lower. Names of old
+ *            keys stay in the journal. At JOURNAL_MAX octets the calls fail (EFBIG): create another journal, and
+ *            install new keys.
+ * LEFTOVERS  A new file has the name of the journal with the suffix .new until it is complete. A crash can leave one.
+ *            The next rewriting removes it, but journal_create does not (EEXIST): remove it manually.
+ * SECRETS    The journal contains no key. Its file is readable and writable by its owner only. Who can write it can
+ *            make the endpoint repeat packet numbers.
+ * DISK       Not covered: a disk that loses or alters what it reported as written, a restored backup or snapshot, and a
+ *            second copy of the file in use. Then install new keys.
+ * ERRORS     A call returns 0, or -1 and fills in `fault`: the step that failed, its errno, and the library's status if
+ *            a call of the library failed. Nothing is printed. Use a journal in one call at a time.
+ */
+#ifndef JOURNAL_H
+#define JOURNAL_H
+
+#include "macsec.h"
+#include <limits.h>
+#include <stdbool.h>
+#include <stddef.h>
+#include <stdint.h>
+#include <sys/types.h>
+
+/* The limit for a device: 4,096 records. */
+#define JOURNAL_LIMIT ((size_t)1 << 18)
+/* The most octets of a journal. */
+#define JOURNAL_MAX ((size_t)1 << 26)
+/* The fewest packet numbers of a reservation. */
+#define JOURNAL_AMOUNT_MIN 65536
+
+/* What a call was doing when it failed. */
+enum journal_step {
+    JOURNAL_PATH = 1,    /* taking the folder and the name from the path */
+    JOURNAL_FOLDER,      /* opening the folder */
+    JOURNAL_SYNC_FOLDER, /* making the names in it durable */
+    JOURNAL_RANDOM,      /* getting random octets for the salt */
+    JOURNAL_NEW_FILE,    /* creating the new file; EEXIST: one was left over */
+    JOURNAL_RENAME,      /* giving it its name; EEXIST: there is such a file */
+    JOURNAL_OPEN,        /* opening the file; ELOOP: it is a symbolic link */
+    JOURNAL_LOCK,        /* locking it; EWOULDBLOCK: another process uses the journal */
+    JOURNAL_STATUS,      /* reading its status */
+    JOURNAL_KIND,        /* EINVAL: it is no regular file; EMLINK: it has other names too */
+    JOURNAL_NAMED,       /* ESTALE: the name leads to another file, or to none */
+    JOURNAL_LENGTH,      /* ENODATA: it is too short for a header; EFBIG: it is too long */
+    JOURNAL_MEMORY,      /* allocating memory */
+    JOURNAL_READ,        /* reading */
+    JOURNAL_WRITE,       /* writing */
+    JOURNAL_SYNC,        /* making what was written durable */
+    JOURNAL_LIBRARY      /* EINVAL: the library's call returned `status` */
+};
+
+struct journal_fault {
+    enum journal_step step;
+    int error;       /* errno */
+    uint32_t status; /* MACSEC_E_.. if step is JOURNAL_LIBRARY, else MACSEC_OK */
+};
+
+/* An open journal. The members from `spare` on belong to these calls. */
+struct journal {
+    uint8_t *octets; /* what the journal has, for macsec_reserve_open: its header and the durable records */
+    size_t length;   /* their number: a multiple of 64 */
+    uint8_t *spare;  /* as large as `octets` */
+    size_t room;     /* of both */
+    size_t own;      /* from here on this process has made the records durable */
+    int file;        /* locked */
+    int folder;
+    dev_t device; /* which file it is */
+    ino_t inode;
+    bool in_doubt; /* is the journal to be written anew before anything is appended? */
+    char name[NAME_MAX + 1];
+    char new_name[NAME_MAX + 1];
+};
+
+/* Creates a journal with a random salt and no records. If it fails, there is none. */
+int journal_create(const char *path, struct journal_fault *fault);
+
+/* Opens, locks and reads a journal. The limit is in octets, at least 128. The library tests the header when it is given
+ * the octets (MACSEC_E_NOT_JOURNAL). */
+int journal_open(struct journal *journal, const char *path, size_t limit, struct journal_fault *fault);
+
+/* Makes a record durable. One that this process has made durable is not written again. */
+int journal_append(struct journal *journal, const macsec_record *record, struct journal_fault *fault);
+
+/* Reserves `amount` packet numbers for a transmit association if the endpoint has fewer than half of them left; else it
+ * does nothing, as for an association that does not exist. Call it after the association was added and before it is
+ * enabled, and then at least twice as often as `amount` frames are sent. */
+int journal_reserve(struct journal *journal, macsec_endpoint *e, uint32_t an, uint64_t amount,
+                    struct journal_fault *fault);
+
+/* Saves the lowest acceptable packet number of a receive association, if it exists. No later run whose replay window is
+ * 0 delivers a frame that was received before this call. Frames that were received after the last call can be delivered
+ * again. So call it from time to time and before the endpoint ends. */
+int journal_save(struct journal *journal, macsec_endpoint *e, const uint8_t sci[8], uint8_t an,
+                 struct journal_fault *fault);
+
+/* Writes the journal anew, with one record for each name. The calls above do this when it is needed. */
+int journal_rewrite(struct journal *journal, struct journal_fault *fault);
+
+/* Unlocks and closes an open journal. Nothing is lost: each record was made durable when it was written. */
+void journal_close(struct journal *journal);
+
+/* How many packet numbers to reserve for so many frames a second: two seconds' worth, as the next reservation is made
+ * when half of one is left, and at least JOURNAL_AMOUNT_MIN. A restart loses at most twice as many. */
+uint64_t journal_amount(uint64_t frames_per_second);
+
+/* The name of a step, for messages; "unknown" for a number without a meaning. */
+const char *journal_step_name(enum journal_step step);
+
+#endif
