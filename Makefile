@@ -22,12 +22,13 @@
 # make stored-runs   compares the program's answers with stored ones
 # make controls      sees that the tools that compare report something wrong
 # make peer          compares frames with Scapy's and with what tshark reads; both have to be installed
+# make journal       kills, stops and fails a program with a journal of packet numbers, and reads what it sent
 # make kept-frames   sees that callers which keep a frame over the next call are refused
 # make c-programs    builds the library for C and the programs over it, runs them, and makes 100,000 random calls
 # make lanes-used    sees that the cipher is built of its lanes, powers and pieces
 # make clean         removes what make has built
-# install, pages, fuzz, failures, stored-runs, controls and peer prove and build the program first; install, controls and
-# c-programs the library for C. All of them work in any order in one checkout.
+# install, pages, fuzz, failures, stored-runs, controls and peer prove and build the program first; install, controls,
+# c-programs and journal the library for C. All of them work in any order in one checkout.
 RT := $(shell command -v rt 2>/dev/null)
 SOURCES := crates.txt $(shell find crates -name out -prune -o -type f \( -name '*.rt' -o -name '*.antt' \) -print)
 INPUTS := 100000
@@ -38,7 +39,7 @@ BUILT := build/macsec$(if $(filter x86-64-v3,$(CPU)),-x86-64-v3)
 HWCAPS := glibc-hwcaps/x86-64-v3
 
 .PHONY: all try test run lib kept install dist check edits pictures reference pages bench fuzz moves failures stored-runs \
-    controls peer kept-frames c-programs lanes-used toolchain clean
+    controls peer kept-frames c-programs journal lanes-used toolchain clean
 
 all: $(BUILT)
 
@@ -120,6 +121,9 @@ kept-frames: toolchain
 
 c-programs: build/libmacsec.a
 	tools/c-programs --calls $(INPUTS) --seed $(SEED)
+
+journal: build/libmacsec.a
+	tools/journal --seed $(SEED)
 
 lanes-used: toolchain
 	tools/lanes-used
