@@ -174,11 +174,13 @@ int journal_create(const char *path, struct journal_fault *fault) {
     struct journal journal;
     uint8_t salt[32];
     macsec_record header;
+    uint32_t status;
     int file, result;
     if (random_octets(salt, sizeof salt) != 0)
         return failed(fault, JOURNAL_RANDOM, errno);
-    if (macsec_journal_header(salt, &header) != MACSEC_OK)
-        return failed(fault, JOURNAL_LIBRARY, EINVAL);
+    status = macsec_journal_header(salt, &header);
+    if (status != MACSEC_OK)
+        return failed_in_library(fault, status);
     if (open_folder(&journal, path, fault) != 0)
         return -1;
     file = put_new_file(&journal, header.octets, MACSEC_RECORD_LENGTH, RENAME_NOREPLACE, fault);
@@ -294,7 +296,7 @@ static int take_new_file(struct journal *journal, int file, size_t length, struc
 int journal_rewrite(struct journal *journal, struct journal_fault *fault) {
     size_t length = 0;
     int file;
-    uint32_t status = (uint32_t)macsec_journal_compacted(journal->octets, journal->length, journal->spare, &length);
+    uint32_t status = macsec_journal_compacted(journal->octets, journal->length, journal->spare, &length);
     journal->in_doubt = true;
     if (status != MACSEC_OK)
         return failed_in_library(fault, status);
@@ -345,14 +347,14 @@ static int append_and_report(struct journal *journal, macsec_endpoint *e, const 
     uint32_t status;
     if (journal_append(journal, record, fault) != 0)
         return -1;
-    status = (uint32_t)macsec_reserve_granted(e, record);
+    status = macsec_reserve_granted(e, record);
     return status != MACSEC_OK ? failed_in_library(fault, status) : 0;
 }
 
-int journal_reserve(struct journal *journal, macsec_endpoint *e, uint32_t an, uint64_t amount,
+int journal_reserve(struct journal *journal, macsec_endpoint *e, uint8_t an, uint64_t amount,
                     struct journal_fault *fault) {
     macsec_record record;
-    uint32_t status = (uint32_t)macsec_reserve_wanted(e, an, amount, &record);
+    uint32_t status = macsec_reserve_wanted(e, an, amount, &record);
     if (status == MACSEC_E_NOT_FOUND)
         return 0;
     return status != MACSEC_OK ? failed_in_library(fault, status) : append_and_report(journal, e, &record, fault);
@@ -361,7 +363,7 @@ int journal_reserve(struct journal *journal, macsec_endpoint *e, uint32_t an, ui
 int journal_save(struct journal *journal, macsec_endpoint *e, const uint8_t sci[8], uint8_t an,
                  struct journal_fault *fault) {
     macsec_record record;
-    uint32_t status = (uint32_t)macsec_reserve_to_save(e, sci, an, &record);
+    uint32_t status = macsec_reserve_to_save(e, sci, an, &record);
     if (status == MACSEC_E_NOT_FOUND)
         return 0;
     return status != MACSEC_OK ? failed_in_library(fault, status) : append_and_report(journal, e, &record, fault);

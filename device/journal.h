@@ -121,7 +121,7 @@ int journal_append(struct journal *journal, const macsec_record *record, struct 
 /* Reserves `amount` packet numbers for a transmit association if the endpoint has fewer than half of them left; else it
  * does nothing, as for an association that does not exist. Call it after the association was added and before it is
  * enabled, and then at least twice as often as `amount` frames are sent. */
-int journal_reserve(struct journal *journal, macsec_endpoint *e, uint32_t an, uint64_t amount,
+int journal_reserve(struct journal *journal, macsec_endpoint *e, uint8_t an, uint64_t amount,
                     struct journal_fault *fault);
 
 /* Saves the lowest acceptable packet number of a receive association, if it exists. No later run whose replay window is

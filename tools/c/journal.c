@@ -105,7 +105,7 @@ static uint32_t make_endpoint(macsec_endpoint *e, const uint8_t *sci, uint32_t s
     bool wide = suite == MACSEC_SUITE_GCM_AES_256 || suite == MACSEC_SUITE_GCM_AES_XPN_256;
     uint32_t status;
     memcpy(config.sci, sci, sizeof config.sci);
-    status = (uint32_t)macsec_reserve_open(e, &config, journal->octets, journal->length);
+    status = macsec_reserve_open(e, &config, journal->octets, journal->length);
     for (uint16_t it = 0; status == MACSEC_OK && it < KEYS; it++) {
         macsec_sak key = { { 0 }, { 0 }, sci[5], MACSEC_SUITE_DEFAULT, it, wide ? 32 : 16, 0 };
         memset(key.bytes, 0xa0 + it, sizeof key.bytes); /* only for this test */
