@@ -16,6 +16,8 @@ FLAGS = ["-std=c11", "-Wall", "-Wextra", "-Werror", "-O2", "-I", str(ROOT / "inc
 RECORD = 64
 ANS = (0, 1)
 SECONDS = 60
+# After so many lines nothing more is printed of what is wrong.
+MANY = 20
 
 Frame = Tuple[bytes, int, int]  # SCI, association number, packet number
 wrong: List[str] = []
@@ -25,7 +27,7 @@ def report(holds: bool, line: str) -> None:
     """Notes and prints what is wrong."""
     if not holds:
         wrong.append(line)
-        if len(wrong) <= 20:
+        if len(wrong) <= MANY:
             print(f"WRONG: {line}", flush=True)
 
 
