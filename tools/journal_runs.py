@@ -51,6 +51,7 @@ def build(library: pathlib.Path, folder: pathlib.Path, memory: bool) -> Tuple[pa
     program, sanitized, disk = folder / "journal", folder / "journal-sanitized", folder / "journal_disk.so"
     sources = [str(ROOT / "tools/c/journal.c"), str(ROOT / "device/journal.c")]
     model = str(ROOT / "tools/c/journal_disk.c")
+    sources += ["-Wl,--wrap=malloc", "-Wl,--wrap=realloc"]
     sanitizers = ["-g", "-fsanitize=address,undefined", "-fno-sanitize-recover=all"]
     commands = [
         ["gcc", *FLAGS, "-pedantic", "-o", str(program), *sources, str(library)],
@@ -180,6 +181,9 @@ class State(NamedTuple):
     files: Dict[str, bytes]
 
 
+After = Callable[[pathlib.Path], State]
+
+
 class Chain:
     """Runs of a sender one after another on the disk of tools/c/journal_disk.c, with a power failure after each."""
 
@@ -203,22 +207,20 @@ class Chain:
             names.append(f"{inode} {name}\n")
         (folder / "disk/names").write_text("".join(names))
 
-    def run(
-        self, faults: str, words: Callable[[pathlib.Path], List[str]], after: Callable[[pathlib.Path], State]
-    ) -> Ended:
+    def run(self, faults: str, words: Callable[[pathlib.Path], List[str]], after: After, **more: str) -> Ended:
         """Runs the program on the state, and takes the power away at its end. `after` chooses what is left."""
         with work_folder() as folder:
             self.restore(folder)
-            env = {"LD_PRELOAD": str(self.options.disk), "DISK": str(folder / "disk"), "FAULTS": faults}
+            env = {"LD_PRELOAD": str(self.options.disk), "DISK": str(folder / "disk"), "FAULTS": faults, **more}
             ended = run(self.options.program, words(folder), env)
             self.state = after(folder)
             self.judge(frames_of(folder / "capture"))
         return ended
 
-    def send(self, faults: str, after: Callable[[pathlib.Path], State]) -> Ended:
-        """Runs the sender."""
+    def send(self, faults: str, after: After, **more: str) -> Ended:
+        """Runs the sender, with more variables in its environment."""
         sizes = (self.LIMIT, self.AMOUNT, self.FRAMES)
-        return self.run(faults, lambda it: send_words(it / "files/journal", it / "capture", *sizes), after)
+        return self.run(faults, lambda it: send_words(it / "files/journal", it / "capture", *sizes), after, **more)
 
     def judge(self, frames: List[Frame]) -> None:
         """Sees that no packet number is used again, and that each is reserved in what is left."""
@@ -254,5 +256,5 @@ def state_after(folder: pathlib.Path, renamed: bool, tail: str, seed: str) -> St
         files["journal"] = octets + rest.randbytes(rest.randrange(1, 150))
     elif octets is not None and tail == "written" and (folder / "files/journal").exists():
         now = (folder / "files/journal").read_bytes()
-        files["journal"] = octets + now[len(octets) : len(octets) + rest.randrange(1, RECORD)]
+        files["journal"] = octets + now[len(octets) : len(octets) + rest.randrange(1, 3 * RECORD)]
     return State(files)

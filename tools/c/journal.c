@@ -58,6 +58,27 @@ static uint64_t number_of(const char *word) {
     return number;
 }
 
+/* ---- Memory: the allocation of the number in REFUSED, counted from 1, fails ---- */
+
+void *__real_malloc(size_t size);
+void *__real_realloc(void *old, size_t size);
+void *__wrap_malloc(size_t size);
+void *__wrap_realloc(void *old, size_t size);
+
+static bool is_refused(void) {
+    static unsigned long made;
+    const char *number = getenv("REFUSED");
+    return number != NULL && ++made == strtoul(number, NULL, 10);
+}
+
+void *__wrap_malloc(size_t size) {
+    return is_refused() ? NULL : __real_malloc(size);
+}
+
+void *__wrap_realloc(void *old, size_t size) {
+    return is_refused() ? NULL : __real_realloc(old, size);
+}
+
 /* ---- Captures ---- */
 
 static int create_capture(const char *name) {
