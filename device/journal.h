@@ -75,7 +75,7 @@ enum journal_step {
     JOURNAL_SYNC_FOLDER, /* making the names in it durable */
     JOURNAL_RANDOM,      /* getting random octets for the salt */
     JOURNAL_NEW_FILE,    /* creating the new file; EEXIST: one was left over */
-    JOURNAL_RENAME,      /* giving it its name; EEXIST: there is such a file */
+    JOURNAL_RENAME,      /* giving it its name; EEXIST: there is such a file; EINVAL: not on this file system */
     JOURNAL_OPEN,        /* opening the file; ELOOP: it is a symbolic link */
     JOURNAL_LOCK,        /* locking it; EWOULDBLOCK: another process uses the journal */
     JOURNAL_STATUS,      /* reading its status */
@@ -127,9 +127,10 @@ int journal_append(struct journal *journal, const macsec_record *record, struct 
 int journal_reserve(struct journal *journal, macsec_endpoint *e, uint8_t an, uint64_t amount,
                     struct journal_fault *fault);
 
-/* Saves the lowest acceptable packet number of a receive association, if it exists. No later run whose replay window is
- * 0 delivers a frame that was received before this call. Frames that were received after the last call can be delivered
- * again. So call it from time to time and before the endpoint ends. */
+/* Saves the lowest acceptable packet number of a receive association, if it exists. If the replay window is 0, no later
+ * run that drops late frames delivers a frame that was received before this call. Frames that were received after the
+ * last call can be delivered again. So call it from time to time, before the association is deleted, and before the
+ * endpoint ends. */
 int journal_save(struct journal *journal, macsec_endpoint *e, const uint8_t sci[8], uint8_t an,
                  struct journal_fault *fault);
 
