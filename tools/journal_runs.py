@@ -1,6 +1,7 @@
 """Runs of a program with a journal (tools/c/journal.c), what it captured, and the disk that a power failure leaves."""
 
 import contextlib
+import hashlib
 import os
 import pathlib
 import random
@@ -133,10 +134,15 @@ def add_new(seen: Set[Frame], frames: List[Frame], what: str) -> None:
         seen.add(frame)
 
 
+def is_record(octets: bytes) -> bool:
+    """Are these 64 octets a record: name, number, and the check of both?"""
+    return octets[40:] == hashlib.sha256(b"macsec reserve: check" + octets[:40]).digest()[:24]
+
+
 def records_of(octets: bytes) -> List[Tuple[bytes, int]]:
-    """The name and the number of each record of a journal that this tool's programs have written."""
-    records = (octets[at : at + RECORD] for at in range(RECORD, len(octets) - RECORD + 1, RECORD))
-    return [(it[:32], int.from_bytes(it[32:40], "big")) for it in records]
+    """The name and the number of each record of a journal."""
+    places = (octets[at : at + RECORD] for at in range(RECORD, len(octets) - RECORD + 1, RECORD))
+    return [(it[:32], int.from_bytes(it[32:40], "big")) for it in places if is_record(it)]
 
 
 def highest(octets: bytes, name: bytes) -> int:
