@@ -83,14 +83,17 @@ def run(
     program: pathlib.Path, words: List[str], env: Optional[Dict[str, str]] = None, under: Tuple[str, ...] = ()
 ) -> Ended:
     """Runs the program to its end."""
-    ended = subprocess.run(
-        [*under, str(program), *words],
-        env={**os.environ, **(env or {})},
-        stdin=subprocess.DEVNULL,
-        stdout=subprocess.PIPE,
-        stderr=subprocess.PIPE,
-        timeout=SECONDS,
-    )
+    try:
+        ended = subprocess.run(
+            [*under, str(program), *words],
+            env={**os.environ, **(env or {})},
+            stdin=subprocess.DEVNULL,
+            stdout=subprocess.PIPE,
+            stderr=subprocess.PIPE,
+            timeout=SECONDS,
+        )
+    except subprocess.TimeoutExpired:
+        return Ended(-1, "", f"no end within {SECONDS} seconds")
     return Ended(ended.returncode, ended.stdout.decode(), ended.stderr.decode(errors="replace"))
 
 

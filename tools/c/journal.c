@@ -2,17 +2,18 @@
  *
  *     journal create JOURNAL
  *     journal send JOURNAL LIMIT SUITE AMOUNT FRAMES CAPTURE
+ *     journal keys JOURNAL LIMIT COUNT
  *     journal receive JOURNAL LIMIT SUITE CAPTURE IN..
  *     journal floors JOURNAL PREFIX STEP SEED NUMBER..
  *     journal amounts
  *
  * send protects frames under two keys, one after another, and writes each to CAPTURE before it protects the next
- * one. It ends after FRAMES of them, or never if FRAMES is 0. receive gives all frames of IN to an endpoint with a
- * replay window of 0. It writes those that the endpoint delivers to CAPTURE, once their packet numbers are saved.
- * floors writes each prefix of JOURNAL to PREFIX, alone and followed by random octets, and opens it. It prints how
- * many of the NUMBERs, from the first on, are refused as the first of each key. With a STEP of 5 it does so for
- * every fifth prefix, and for those around the end of a record. amounts prints reservations. The status is 3 if the
- * journal can't be created or opened. */
+ * one. It ends after FRAMES of them, or never if FRAMES is 0. keys makes four reservations for each of COUNT keys.
+ * receive gives all frames of IN to an endpoint with a replay window of 0. It writes those that the endpoint
+ * delivers to CAPTURE, once their packet numbers are saved. floors writes each prefix of JOURNAL to PREFIX, alone
+ * and followed by random octets, and opens it. It prints how many of the NUMBERs, from the first on, are refused as
+ * the first of each key. With a STEP of 5 it does so for every fifth prefix, and for those around the end of a
+ * record. amounts prints reservations. The status is 3 if the journal can't be created or opened. */
 #define _GNU_SOURCE
 #include "journal.h"
 #include <errno.h>
@@ -219,6 +220,28 @@ static int run_send(char **words) {
     return close(file) == 0 ? 0 : 1;
 }
 
+/* ---- keys ---- */
+
+static int run_keys(char **words) {
+    const uint64_t keys = number_of(words[2]);
+    struct counts counts = { 0, 0, 0 };
+    struct journal journal;
+    macsec_endpoint e = MACSEC_ENDPOINT_INIT;
+    open_journal(&journal, words[0], (size_t)number_of(words[1]));
+    must("reserve_open", make_endpoint(&e, sender, MACSEC_SUITE_GCM_AES_128, &journal));
+    for (uint16_t it = KEYS; it < KEYS + keys; it++) {
+        macsec_sak key = { { 0xc0, (uint8_t)(it >> 8), (uint8_t)it }, { 0 }, 0, MACSEC_SUITE_DEFAULT, it, 16, 0 };
+        must("install_key", macsec_install_key(&e, &key));
+        must("add_tx_sa", macsec_add_tx_sa(&e, 0, it, 1, true));
+        for (uint64_t times = 1; times <= 27; times *= 3)
+            reserve(&journal, &e, 0, times * (100 + it), &counts);
+        must("delete_tx_sa", macsec_delete_tx_sa(&e, 0));
+    }
+    macsec_free(&e);
+    journal_close(&journal);
+    return counts.failures == 0 ? 0 : 1;
+}
+
 /* ---- receive ---- */
 
 /* Frames that were received and are not yet delivered to the client. */
@@ -391,12 +414,14 @@ int main(int count, char **words) {
         return run_create(words[2]);
     if (count == 8 && strcmp(words[1], "send") == 0)
         return run_send(words + 2);
+    if (count == 5 && strcmp(words[1], "keys") == 0)
+        return run_keys(words + 2);
     if (count >= 6 && strcmp(words[1], "receive") == 0)
         return run_receive(count - 2, words + 2);
     if (count >= 6 && strcmp(words[1], "floors") == 0)
         return run_floors(count - 2, words + 2);
     if (count == 2 && strcmp(words[1], "amounts") == 0)
         return run_amounts();
-    fprintf(stderr, "usage: journal create|send|receive|floors|amounts ..: see tools/c/journal.c\n");
+    fprintf(stderr, "usage: journal create|send|keys|receive|floors|amounts ..: see tools/c/journal.c\n");
     return 2;
 }
