@@ -37,8 +37,8 @@
  * TORN TAIL  Records are at multiples of 64 octets. The next record overwrites what an interrupted write left.
  * LENGTH     Before a journal is longer than its limit, it is written anew with one record for each name, into a new
  *            file that takes its place. The limit grows to twice the length of that file, if it was lower. Names of old
- *            keys stay in the journal. At JOURNAL_MAX octets the calls fail (EFBIG): create another journal, and
- *            install new keys.
+ *            keys stay in the journal. If they fill half of JOURNAL_MAX, nothing more can be written (EFBIG): create
+ *            another journal, and install new keys.
  * TIME       The library compares each record with each name when it opens or rewrites a journal, and the endpoint
  *            waits for it. Of 1,024 records this took 3 ms of a processor with 2 names, and 24 ms with 512; of 4,096
  *            records with 2,048 names 350 ms (x86-64, an unproved build). So keep the limit low.
