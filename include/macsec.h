@@ -32,10 +32,10 @@
  * STATUS     Each call with a handle, except macsec_free, returns a status: MACSEC_OK, or why nothing was done
  *            (MACSEC_E_..). In the second case nothing has changed, and the caller's output structs are unchanged,
  *            except that a macsec_sent, a macsec_received and the line of macsec_configure and of
- *            macsec_reserve_configure are always filled in. The
- *            handle is tested first (MACSEC_E_EMPTY, MACSEC_E_TAKEN), then the arguments (MACSEC_E_NO_SUCH_..), then
- *            the rest. If several statuses of arguments apply, or several refusals of a command, the call returns the
- *            lowest.
+ *            macsec_reserve_configure are always filled in. The handle is tested first (MACSEC_E_EMPTY,
+ *            MACSEC_E_TAKEN), then the arguments (MACSEC_E_NO_SUCH_..), then the rest. If several statuses of arguments
+ *            apply, or several refusals of a command, the call returns the lowest; but MACSEC_E_PN_FLOOR comes first
+ *            where a journal is the reason.
  * MEMORY     macsec_new allocates six blocks by malloc, 17.9 MB in all: four for 4,096 keys, one for a frame, one for
  *            the rest. macsec_free frees them. macsec_configure allocates the same, and so do macsec_reserve_open and
  *            macsec_reserve_configure, with one more for a journal that has records. macsec_configure,
@@ -73,12 +73,12 @@
  *            MACSEC_RECEIVED_INIT are.
  *
  * Proved with Rattle: each call creates an endpoint, takes it out of its handle, is one step of the written machine
- * (crates/macsec_secy/specs/Step.antt), or reads its state, for the arguments that C gave; or it takes the steps that
- * the lines of a text say. Each call reads and writes only what it was given, and returns. A reader that finds nothing
- * leaves its output struct unchanged. Measured or tested, not proved: sizes and stack, that macsec_free frees each
- * block, and that only the three calls named above allocate. Not proved: this header and its inline functions, which a
- * script compares with the library's source; C's side of what it says; malloc; the compilers. No call takes constant
- * time.
+ * (crates/macsec_secy/specs/Step.antt; with a journal, crates/macsec_reserve/specs/Keeping.antt), or reads its state,
+ * for the arguments that C gave; or it takes the steps that the lines of a text say. Each call reads and writes only
+ * what it was given, and returns. A reader that finds nothing leaves its output struct unchanged. Measured or tested,
+ * not proved: sizes and stack, that macsec_free frees each block, and which calls allocate. Not proved: this header and
+ * its inline functions, which a script compares with the library's source; C's side of what it says; malloc; the
+ * compilers. No call takes constant time.
  */
 #ifndef MACSEC_H
 #define MACSEC_H
