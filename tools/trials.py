@@ -71,7 +71,7 @@ def text(path: str) -> str:
 
 def has_vectors() -> bool:
     """Does this processor have vectors of 256 bits, so that the loader takes the library for them?"""
-    return "x86-64-v3 (supported" in run(f"/lib/{TRIPLET}/ld-linux-x86-64.so.2", "--help")
+    return "x86-64-v3 (supported" in run("/lib64/ld-linux-x86-64.so.2", "--help")
 
 
 def tried_in_c(where: str, do: "Callable[..., str]", at: str, room: str, flags: "list[str]") -> None:
