@@ -44,8 +44,8 @@
  *            other call runs out of memory. malloc and realloc must align a block to each power of two up to 16 that
  *            divides its size, as all C libraries do. They must return: no exception may be thrown through the
  *            library, which has no unwinding tables. The memory is not wiped: keys may stay in it, and on the stack.
- *            Give each call 96 KB of stack: macsec_new took 59 KB on x86-64 and macsec_configure 56, the others a
- *            fraction of that (measured, not proved).
+ *            Give each call 160 KB of stack: macsec_new took 115 KB on x86-64, the other calls that create an endpoint
+ *            113, the rest a fraction of that (measured, not proved).
  * PROCESSOR  An x86-64 processor with SSSE3 (every x86-64-v2 has it). The library does not test for it: on another one
  *            the process ends with SIGILL.
  * HANDLES    A handle is the caller's memory, initialized with MACSEC_ENDPOINT_INIT (all zero). Do not copy, move or
