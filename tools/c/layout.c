@@ -98,6 +98,8 @@ static void others(void) {
     PLACE(macsec_rx_sa, key);
     PLACE(macsec_rx_sa, on);
     PLACE(macsec_rx_sa, reserved);
+    SIZE(macsec_record);
+    PLACE(macsec_record, octets);
 }
 
 int main(void) {
