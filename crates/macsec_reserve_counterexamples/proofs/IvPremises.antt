@@ -1,7 +1,6 @@
 -- The first promise needs each premise: without it there are runs that meet the others and seal two frames with the
 -- same key octets and the same IV.
-use Rattle.std.proofs.Common.{◌≡◌, ◌≢◌, ℕ, ◌+◌, ◌<◌, ◌≤◌, Bool, true, false, List, [], ◌∷◌, ◌++◌, length, refl, ap, sym, subst, ◌∙◌, arith, All, AllPairs, Contains}
-use Rattle.std.specs.Prelude.{◌^◌, max, if◌then◌else◌}
+use Rattle.std.proofs.Common.{◌≡◌, ◌≢◌, ℕ, ◌+◌, ◌<◌, Bool, true, false, List, [], ◌∷◌, ◌++◌, length, refl, ap, sym, subst, ◌∙◌, arith, All, AllPairs, Contains}
 use Rattle.std.proofs.lemmas.List.Elements.{All-cons, All-nil}
 use Rattle.std.proofs.lemmas.List.Kept.{AllPairs-cons}
 use Rattle.sha2.specs.Sha256.{compress, digest_bytes, first_words, hash_after, rounds, schedule, sha256}
@@ -13,7 +12,7 @@ use Rattle.macsec_suite.specs.Suites.{is_xpn}
 use Rattle.macsec_reserve.specs.declared.reservation.Reservation.{Reservation}
 use Rattle.macsec_reserve.specs.Crashes.{IsReservation}
 use Rattle.macsec_reserve.specs.Entries.{reduced}
-use Rattle.macsec_reserve.specs.Histories.{AgreeOnKey, IsHistory, KeepsDurable, Run, SameSalt, StaysSound, closing, opening, reported, sealed_in, sealed_in_all}
+use Rattle.macsec_reserve.specs.Histories.{IsHistory, KeepsDurable, Run, SameSalt, StaysSound, closing, opening, sealed_in, sealed_in_all}
 use Rattle.macsec_reserve.specs.Journal.{highest, reservations, sending_name}
 use Rattle.macsec_reserve.specs.Keeping.{Keeping}
 use Rattle.macsec_reserve.specs.Unique.{HasOtherIv}
@@ -24,7 +23,7 @@ use Rattle.macsec_reserve.proofs.Written.{same_octets-refl}
 use Rattle.macsec_link_counterexamples.proofs.WorkedEnds.{bytes, of_two}
 use Rattle.macsec_reserve_counterexamples.proofs.Goes.{Goes}
 use Rattle.macsec_reserve_counterexamples.proofs.Journals.{journal, salt, salt_is, says}
-use Rattle.macsec_reserve_counterexamples.proofs.Senders.{Extended, OtherSalt, ReadSalt, Sender, Short, at_end, config_of, goes, inputs, kept, key_at, key_salt, number_of, reserves, suite_of, use_of}
+use Rattle.macsec_reserve_counterexamples.proofs.Senders.{AtB, AtBReads, AtBSalted, Extended, OtherSalt, ReadSalt, Sender, Short, at_end, config_of, goes, inputs, kept, key_at, key_salt, number_of, reserves, suite_of, use_of}
 
 -- the names of the premises
 pub data Premise : Type 0 where
@@ -64,14 +63,14 @@ LawWithout left_out runs = ((p : Premise) → p ≢ left_out → Holds runs p) �
 
 -- ---- two runs
 
-abbrev run_of : Sender → Bool → List Reservation → Run
+abbrev pub run_of : Sender → Bool → List Reservation → Run
 run_of w other rs = record { journal = journal other rs; config = config_of w; inputs = inputs w (salt other) }
 
 -- its journal has not reserved the packet number
 abbrev IsFree : Sender → Bool → List Reservation → Type 0
 IsFree w other rs = highest rs (sending_name (salt other) bytes) < number_of w
 
-run_goes : (w : Sender) (other : Bool) (rs : List Reservation) → All IsReservation rs → IsFree w other rs →
+pub run_goes : (w : Sender) (other : Bool) (rs : List Reservation) → All IsReservation rs → IsFree w other rs →
     Goes (opening (run_of w other rs)) (run_of w other rs).inputs (use_of w ∷ [])
     (kept (salt other) (reduced (reservations (journal other rs))) (reserves w (salt other) ∷ []) (at_end w))
 run_goes w other rs are free =
@@ -95,7 +94,7 @@ both_sound p q first second =
     All-cons (λ run. StaysSound (opening run) run.inputs) p (q ∷ []) first (All-cons (λ run. StaysSound (opening run) run.inputs) q [] second (All-nil (λ run. StaysSound (opening run) run.inputs)))
 
 -- what holds of the two keys holds of any two
-of_keys : (R : InstalledKey → InstalledKey → Type 0) (p q : Run) (w v : Sender) → (closing p).secy.keys ≡ key_at w (number_of w + 1) ∷ [] →
+pub of_keys : (R : InstalledKey → InstalledKey → Type 0) (p q : Run) (w v : Sender) → (closing p).secy.keys ≡ key_at w (number_of w + 1) ∷ [] →
     (closing q).secy.keys ≡ key_at v (number_of v + 1) ∷ [] → R (key_at w (number_of w + 1)) (key_at v (number_of v + 1)) →
     (x y : InstalledKey) → Contains (closing p).secy.keys x → Contains (closing q).secy.keys y → R x y
 of_keys R p q w v is is' holds x y there there' =
@@ -112,6 +111,9 @@ reserves_is w s = All-cons IsReservation (reserves w s) [] (by_number w) (All-ni
     by_number Extended = record { name = name; last = omega arith }
     by_number OtherSalt = record { name = name; last = omega arith }
     by_number ReadSalt = record { name = name; last = omega arith }
+    by_number AtB = record { name = name; last = omega arith }
+    by_number AtBReads = record { name = name; last = omega arith }
+    by_number AtBSalted = record { name = name; last = omega arith }
 
 -- ---- an earlier run, whose journal is empty, and a later one
 
@@ -149,11 +151,11 @@ holds_but left_out w v other rs k l us vs first second keys keys' suite key_salt
 
 -- ---- the premises
 
-short_goes : Goes (opening (run_of Short false [])) (run_of Short false []).inputs (use_of Short ∷ [])
+pub short_goes : Goes (opening (run_of Short false [])) (run_of Short false []).inputs (use_of Short ∷ [])
     (kept (salt false) (reduced (reservations (journal false []))) (reserves Short (salt false) ∷ []) (at_end Short))
 short_goes = run_goes Short false [] nothing (omega arith)
 
-extended_goes : Goes (opening (run_of Extended false [])) (run_of Extended false []).inputs (use_of Extended ∷ [])
+pub extended_goes : Goes (opening (run_of Extended false [])) (run_of Extended false []).inputs (use_of Extended ∷ [])
     (kept (salt false) (reduced (reservations (journal false []))) (reserves Extended (salt false) ∷ []) (at_end Extended))
 extended_goes = run_goes Extended false [] nothing (omega arith)
 

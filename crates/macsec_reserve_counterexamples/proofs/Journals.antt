@@ -1,7 +1,7 @@
 -- The journals of worked runs: a header whose salt begins with eight zeros, so that it reserves nothing even if it
 -- reads as a record, and whole records.
-use Rattle.std.proofs.Common.{◌≡◌, ℕ, ◌+◌, ◌≤◌, Bool, true, false, List, [], ◌∷◌, ◌++◌, length, take, drop, refl, ap, ◌∙◌, arith, length-append, All}
-use Rattle.std.specs.Prelude.{replicate, slice_range, max, nat_le, ◌&&◌, if◌then◌else◌}
+use Rattle.std.proofs.Common.{◌≡◌, ℕ, ◌≤◌, Bool, true, false, List, [], ◌∷◌, ◌++◌, length, take, drop, refl, ap, ◌∙◌, arith, length-append, All}
+use Rattle.std.specs.Prelude.{replicate, slice_range, max, nat_le, if◌then◌else◌}
 use Rattle.std.specs.Int.{w64, from_be_bytes}
 use Rattle.std.proofs.lemmas.Bool.{and_from, le-leb}
 use Rattle.std.proofs.lemmas.List.{drop_at, take_at}

@@ -5,3 +5,4 @@ pub mod IvPremises
 pub mod Receivers
 pub mod ReplayPremises
 pub mod UnsoundKey
+pub mod TwoEndsPremises

@@ -1,11 +1,9 @@
 -- An endpoint that receives the frame that another one sealed with packet number 1: its commands and its states. The
 -- cipher is not computed: all that is known of the frame's tag is that it opens.
-use Rattle.std.proofs.Common.{◌≡◌, ℕ, ◌+◌, ◌<◌, ◌≤◌, Bool, true, false, List, [], ◌∷◌, ◌++◌, refl, ap, sym, subst, ◌∙◌, arith}
+use Rattle.std.proofs.Common.{◌≡◌, ℕ, ◌<◌, ◌≤◌, Bool, true, false, List, [], ◌∷◌, refl, ap, sym, subst, arith}
 use Rattle.std.specs.Prelude.{◌^◌, Some}
-use Rattle.std.proofs.lemmas.List.Elements.{All-from_recursion}
 use Rattle.macsec_tag.specs.Table.{parts_at}
 use Rattle.macsec_suite.specs.KeyRows.{AreKeyRows}
-use Rattle.macsec_commands.specs.Scis.{IsSci}
 use Rattle.macsec_commands.specs.declared.command.Command.TheVariants.{Key, Replay, RxOn, RxSa, RxSc}
 use Rattle.macsec_rx.specs.declared.RxRow.{RxRow}
 use Rattle.macsec_rx.specs.declared.Verdict.{Verdict}
@@ -22,9 +20,9 @@ use Rattle.macsec_reserve.specs.declared.reservation.Reservation.{Reservation}
 use Rattle.macsec_reserve.specs.Journal.{highest, receiving_name, sending_name}
 use Rattle.macsec_reserve.specs.Keeping.{KeepingInput, keeping_step}
 use Rattle.macsec_link_counterexamples.proofs.Exchange.{Opens, client, key_row, link_frame_of}
-use Rattle.macsec_link_counterexamples.proofs.WorkedEnds.{bytes, gcm_b, new_key, no_salt, rx_from, sci_a, sci_b}
+use Rattle.macsec_link_counterexamples.proofs.WorkedEnds.{bytes, gcm_b, new_key, no_salt, rx_from, sci_a}
 use Rattle.macsec_reserve_counterexamples.proofs.Goes.{Goes, command, command_seals, command_step, ended, is_new, next_goes}
-use Rattle.macsec_reserve_counterexamples.proofs.Senders.{kept, none_are, own_sci}
+use Rattle.macsec_reserve_counterexamples.proofs.Senders.{kept, none_are, other_sci, own_sci}
 
 -- one that drops late frames; one with a window of 1; one that delivers late frames, from packet number 2 on
 pub data Receiver : Type 0 where
@@ -89,13 +87,6 @@ pub is_heard : (r : Receiver) (t : List ℕ) → Opens 1 t → (step (ready r) (
 is_heard r t is = ap (λ (j : Judgement). state_after_receiving (ready r) (frame t) j) (judged r t is)
 
 -- ---- they are sound
-
-other_sci : IsSci sci_b
-other_sci = record {
-  count = refl;
-  octets = All-from_recursion (λ x. x < 256) sci_b.0
-      (omega arith, (omega arith, (omega arith, (omega arith, (omega arith, (omega arith, (omega arith, (omega arith, tt))))))));
-}
 
 pub keys_are : AreKeyRows (key_row 2 1 ∷ [])
 keys_are = (record { number = omega arith; bytes = refl; salt = refl; ssci = omega arith; first_unused_least = omega arith; first_unused = omega arith }, refl, tt)

@@ -11,7 +11,7 @@ use Rattle.macsec_rx.specs.Channels.{rx_row}
 use Rattle.macsec_rx.specs.Judge.{Judgement}
 use Rattle.macsec_secy.specs.Commands.{effect}
 use Rattle.macsec_secy.specs.Reception.{judgement_of}
-use Rattle.macsec_secy.specs.State.{State, start}
+use Rattle.macsec_secy.specs.State.{State}
 use Rattle.macsec_secy.specs.Sound.{IsSound}
 use Rattle.macsec_secy.specs.Step.{link_frame}
 use Rattle.macsec_secy.proofs.StaysSound.{after_effect}
@@ -23,11 +23,11 @@ use Rattle.macsec_reserve.specs.Journal.{highest, reservations, salt_of}
 use Rattle.macsec_reserve.specs.Keeping.{Keeping, KeepingInput, endpoint_input, keeping_after, keeping_step, now_durable}
 use Rattle.macsec_reserve.specs.Replay.{HasSaved, IsAccepted, KeepsAssociation, row_name, saved_for}
 use Rattle.macsec_reserve.proofs.Reduced.{reduced_reserves}
-use Rattle.macsec_link_counterexamples.proofs.Exchange.{client, first_opens, first_tag, key_row}
+use Rattle.macsec_link_counterexamples.proofs.Exchange.{client, first_opens, first_tag}
 use Rattle.macsec_link_counterexamples.proofs.WorkedEnds.{gcm_b, rx_from, sci_a}
 use Rattle.macsec_reserve_counterexamples.proofs.Goes.{Goes, command, command_seals, command_step, ended, is_new, link_seals, link_step, next_goes}
 use Rattle.macsec_reserve_counterexamples.proofs.Journals.{journal, salt, salt_is, says}
-use Rattle.macsec_reserve_counterexamples.proofs.Receivers.{Off, Plain, Receiver, Wide, channels_are, frame, goes, heard, heard_sound, inputs, is_heard, judged, judged_as, keys_are, lowest_of, name_of, ready, ready_sound, replay_of, row_is, verdict_of}
+use Rattle.macsec_reserve_counterexamples.proofs.Receivers.{Off, Plain, Receiver, Wide, channels_are, frame, goes, heard, heard_sound, inputs, is_heard, judged, judged_as, keys_are, lowest_of, name_of, ready, ready_sound, row_is, verdict_of}
 use Rattle.macsec_reserve_counterexamples.proofs.Senders.{kept}
 
 -- the names of the premises that a run can break although each of its calls keeps its contract

@@ -1,7 +1,7 @@
 -- The first promise needs the premise that the endpoint is sound at each moment. Each call of a `Keeper` keeps it; an
 -- input that no call can be given breaks it: a key whose salt has no octets. Under it all packet numbers have the same
 -- IV.
-use Rattle.std.proofs.Common.{◌≡◌, ◌≢◌, ℕ, ◌<◌, ◌≤◌, Bool, true, false, List, [], ◌∷◌, ◌++◌, refl, ap, sym, subst, ◌∙◌, arith, AllPairs}
+use Rattle.std.proofs.Common.{◌≡◌, ◌≢◌, ℕ, ◌<◌, Bool, true, false, List, [], ◌∷◌, ◌++◌, refl, ap, subst, ◌∙◌, arith, AllPairs}
 use Rattle.std.specs.Prelude.{◌||◌, ◌&&◌, not, nat_lt, nat_le, max, if◌then◌else◌}
 use Rattle.std.proofs.lemmas.Bool.{lt-ltb}
 use Rattle.macsec_gcm.specs.Octets.{sum_with_stream}
@@ -14,7 +14,7 @@ use Rattle.macsec_secy.specs.State.{State, no_tx_counters, start, tx_options}
 use Rattle.macsec_secy.specs.Step.{client_frame}
 use Rattle.macsec_reserve.specs.declared.reservation.Reservation.{Reservation}
 use Rattle.macsec_reserve.specs.Entries.{reduced}
-use Rattle.macsec_reserve.specs.Histories.{KeepsDurable, Run, SameSalt, newly_sealed, opening, sealed_from, sealed_in_all}
+use Rattle.macsec_reserve.specs.Histories.{KeepsDurable, Run, SameSalt, newly_sealed, sealed_from, sealed_in_all}
 use Rattle.macsec_reserve.specs.Journal.{highest, reservations, sending_name}
 use Rattle.macsec_reserve.specs.Keeping.{Keeping, KeepingInput, endpoint_input, keeping_step, may_go, now_durable}
 use Rattle.macsec_reserve.specs.Unique.{HasOtherIv}
