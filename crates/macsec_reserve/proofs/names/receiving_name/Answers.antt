@@ -1,0 +1,5 @@
+use Rattle.std.proofs.Common.{rules}
+use Rattle.macsec_reserve.proofs.names.receiving_name.Goals as goal
+
+pub returns : goal.returns
+returns c = search rules
