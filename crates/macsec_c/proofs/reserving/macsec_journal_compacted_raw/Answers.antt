@@ -1,6 +1,6 @@
 -- Which fault there is; the rest by search.
 use Rattle.std.proofs.Common.{rules}
-use Rattle.std.specs.Prelude.{Some}
+use Rattle.std.specs.Prelude.{Some, None}
 use Rattle.macsec_reserve.specs.declared.compaction.CompactFault.TheVariants.{NotJournal, Memory}
 use Rattle.macsec_c.proofs.reserving.macsec_journal_compacted_raw.Goals as goal
 
@@ -13,3 +13,6 @@ returns-in_default c = (Some Memory, search rules)
 -- the buffer is too small
 pub returns-then-out-count : goal.returns-then-out-count
 returns-then-out-count c = (Some Memory, search rules)
+
+pub returns : goal.returns
+returns c = (None, search rules steps 300000)
