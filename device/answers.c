@@ -1,0 +1,313 @@
+/* The text of answers: what the library's reading calls show. */
+#define _GNU_SOURCE
+#include "device.h"
+#include <ctype.h>
+#include <inttypes.h>
+#include <stdarg.h>
+#include <stdio.h>
+#include <string.h>
+
+enum { OWN = 11, TX = 4, RX = 6, SCI_TEXT = 17, METRIC = 40 };
+
+/* The names of the counters, in the order of the members of the library's structs and of docs/ENDPOINT.md's table. */
+static const char *const own_names[OWN] = {
+    "InPktsUntagged",    "InPktsNoTag",       "InPktsBadTag",    "InPktsReserved", "InPktsNoSA",  "InPktsNoSAError",
+    "InOctetsValidated", "InOctetsDecrypted", "OutPktsUntagged", "OutPktsTooLong", "OutPktsNoSA",
+};
+static const char *const tx_names[TX] = {
+    "OutPktsProtected", "OutPktsEncrypted", "OutOctetsProtected", "OutOctetsEncrypted",
+};
+static const char *const rx_names[RX] = {
+    "InPktsOK", "InPktsUnchecked", "InPktsDelayed", "InPktsLate", "InPktsInvalid", "InPktsNotValid",
+};
+
+void text_add(struct text *t, const char *form, ...) {
+    va_list arguments;
+    int length;
+    va_start(arguments, form);
+    length = vsnprintf(t->octets + t->length, t->room - t->length, form, arguments);
+    va_end(arguments);
+    if (length < 0 || (size_t)length >= t->room - t->length)
+        t->full = true;
+    else
+        t->length += (size_t)length;
+}
+
+/* ---- Values ---- */
+
+/* The values of the endpoint's counters and of its transmit channel's; 0 if there is no endpoint. */
+static void own_values(const macsec_endpoint *e, uint64_t own[OWN], uint64_t tx[TX]) {
+    macsec_counters all;
+    macsec_tx_counters sent;
+    memset(&all, 0, sizeof all);
+    memset(&sent, 0, sizeof sent);
+    (void)macsec_get_counters(e, &all); /* MACSEC_E_EMPTY leaves 0 */
+    (void)macsec_get_tx_counters(e, &sent);
+    memcpy(own, &all, OWN * sizeof *own);
+    memcpy(tx, &sent, TX * sizeof *tx);
+}
+
+/* The values of a receive channel's counters, or, if `an` is not -1, of an association's. */
+static uint32_t rx_values(const macsec_endpoint *e, const uint8_t sci[8], int an, uint64_t values[RX]) {
+    macsec_rx_counters shown;
+    uint32_t status;
+    memset(&shown, 0, sizeof shown);
+    status = an < 0 ? macsec_get_rx_counters(e, sci, &shown) : macsec_get_rx_sa_counters(e, sci, (uint8_t)an, &shown);
+    memcpy(values, &shown, RX * sizeof *values);
+    return status;
+}
+
+static void sci_text(const uint8_t sci[8], char text[SCI_TEXT]) {
+    for (int i = 0; i < 8; i++)
+        snprintf(text + 2 * i, 3, "%02x", sci[i]);
+}
+
+/* A packet number, of which 2^64 is one past the last. */
+static void number_text(uint64_t number, uint64_t high, char text[20]) {
+    snprintf(text, 20, "%s%016" PRIx64, high != 0 ? "1" : "", number);
+}
+
+/* ---- Commands ---- */
+
+void answer_status(struct text *t, uint32_t status, uint64_t raised) {
+    if (status == MACSEC_OK && raised != 0)
+        text_add(t, "ok pn %016" PRIx64 "\n", raised);
+    else if (status == MACSEC_OK)
+        text_add(t, "ok\n");
+    else if (status < MACSEC_E_EMPTY)
+        text_add(t, "refused %u %s\n", (unsigned)status, macsec_status_name(status));
+    else
+        text_add(t, "fault %s\n", macsec_status_name(status));
+}
+
+/* ---- Lines ---- */
+
+static void add_lines(struct text *t, const char *before, const char *const *names, const uint64_t *values, int count) {
+    for (int i = 0; i < count; i++)
+        text_add(t, "%s%s %" PRIu64 "\n", before, names[i], values[i]);
+}
+
+/* The lines of a receive channel and of its associations. */
+static void add_channel_lines(struct text *t, const macsec_endpoint *e, const uint8_t sci[8]) {
+    char name[SCI_TEXT], before[SCI_TEXT + 4];
+    uint64_t values[RX];
+    sci_text(sci, name);
+    for (int an = -1; an < MACSEC_AN_COUNT; an++) {
+        if (rx_values(e, sci, an, values) != MACSEC_OK)
+            continue;
+        if (an < 0)
+            snprintf(before, sizeof before, "%s ", name);
+        else
+            snprintf(before, sizeof before, "%s %d ", name, an & 3);
+        add_lines(t, before, rx_names, values, RX);
+    }
+}
+
+void answer_counters(struct text *t, const macsec_endpoint *e) {
+    uint64_t own[OWN], tx[TX];
+    uint8_t sci[8];
+    own_values(e, own, tx);
+    add_lines(t, "", own_names, own, OWN);
+    add_lines(t, "", tx_names, tx, TX);
+    for (size_t place = 0; macsec_get_rx_sc(e, place, sci) == MACSEC_OK; place++)
+        add_channel_lines(t, e, sci);
+}
+
+uint32_t answer_tx_number(struct text *t, const macsec_endpoint *e, uint8_t an) {
+    macsec_tx_sa sa;
+    char next[20];
+    uint32_t status = macsec_get_tx_sa(e, an, &sa);
+    if (status != MACSEC_OK)
+        return status;
+    number_text(sa.next, sa.next_high, next);
+    text_add(t, "tx %u %u %s %s %s\n", an, sa.key, next, sa.on ? "on" : "off", sa.conf ? "conf" : "int");
+    return status;
+}
+
+uint32_t answer_rx_number(struct text *t, const macsec_endpoint *e, const uint8_t sci[8], uint8_t an) {
+    macsec_rx_sa sa;
+    char name[SCI_TEXT], next[20], lowest[20];
+    uint32_t status = macsec_get_rx_sa(e, sci, an, &sa);
+    if (status != MACSEC_OK)
+        return status;
+    sci_text(sci, name);
+    number_text(sa.next, sa.next_high, next);
+    number_text(sa.lowest, sa.lowest_high, lowest);
+    text_add(t, "rx %s %u %u %s %s %s\n", name, an, sa.key, next, lowest, sa.on ? "on" : "off");
+    return status;
+}
+
+void answer_numbers(struct text *t, const macsec_endpoint *e) {
+    uint8_t sci[8];
+    for (uint8_t an = 0; an < MACSEC_AN_COUNT; an++)
+        (void)answer_tx_number(t, e, an); /* nothing is added for one that does not exist */
+    for (size_t place = 0; macsec_get_rx_sc(e, place, sci) == MACSEC_OK; place++)
+        for (uint8_t an = 0; an < MACSEC_AN_COUNT; an++)
+            (void)answer_rx_number(t, e, sci, an);
+}
+
+void answer_counts(struct text *t, const struct counts *c) {
+    for (size_t i = 0; i < COUNT_OF_COUNTS; i++)
+        text_add(t, "device %s %" PRIu64 "\n", counts_name(i), counts_value(c, i));
+}
+
+/* ---- JSON ---- */
+
+static void add_object(struct text *t, const char *name, const char *const *names, const uint64_t *values, int count) {
+    text_add(t, "\"%s\":{", name);
+    for (int i = 0; i < count; i++)
+        text_add(t, "%s\"%s\":%" PRIu64, i == 0 ? "" : ",", names[i], values[i]);
+    text_add(t, "}");
+}
+
+static void add_json_transmit(struct text *t, const macsec_endpoint *e) {
+    const char *comma = "";
+    text_add(t, ",\"transmit\":[");
+    for (uint8_t an = 0; an < MACSEC_AN_COUNT; an++) {
+        macsec_tx_sa sa;
+        char next[20];
+        if (macsec_get_tx_sa(e, an, &sa) != MACSEC_OK)
+            continue;
+        number_text(sa.next, sa.next_high, next);
+        text_add(t, "%s{\"an\":%u,\"key\":%u,\"next\":\"%s\",\"on\":%s,\"conf\":%s}", comma, an, sa.key, next,
+                 sa.on ? "true" : "false", sa.conf ? "true" : "false");
+        comma = ",";
+    }
+    text_add(t, "]");
+}
+
+static void add_json_associations(struct text *t, const macsec_endpoint *e, const uint8_t sci[8]) {
+    const char *comma = "";
+    text_add(t, ",\"associations\":[");
+    for (uint8_t an = 0; an < MACSEC_AN_COUNT; an++) {
+        macsec_rx_sa sa;
+        uint64_t values[RX];
+        char next[20], lowest[20];
+        if (macsec_get_rx_sa(e, sci, an, &sa) != MACSEC_OK || rx_values(e, sci, an, values) != MACSEC_OK)
+            continue;
+        number_text(sa.next, sa.next_high, next);
+        number_text(sa.lowest, sa.lowest_high, lowest);
+        text_add(t, "%s{\"an\":%u,\"key\":%u,\"next\":\"%s\",\"lowest\":\"%s\",\"on\":%s,", comma, an, sa.key, next,
+                 lowest, sa.on ? "true" : "false");
+        add_object(t, "counters", rx_names, values, RX);
+        text_add(t, "}");
+        comma = ",";
+    }
+    text_add(t, "]");
+}
+
+static void add_json_receive(struct text *t, const macsec_endpoint *e) {
+    uint8_t sci[8];
+    text_add(t, ",\"receive\":[");
+    for (size_t place = 0; macsec_get_rx_sc(e, place, sci) == MACSEC_OK; place++) {
+        char name[SCI_TEXT];
+        uint64_t values[RX];
+        sci_text(sci, name);
+        (void)rx_values(e, sci, -1, values); /* the channel is there */
+        text_add(t, "%s{\"sci\":\"%s\",", place == 0 ? "" : ",", name);
+        add_object(t, "counters", rx_names, values, RX);
+        add_json_associations(t, e, sci);
+        text_add(t, "}");
+    }
+    text_add(t, "]");
+}
+
+void answer_json(struct text *t, const struct device *d) {
+    uint64_t own[OWN], tx[TX];
+    uint32_t left = 0;
+    own_values(&d->endpoint, own, tx);
+    (void)macsec_keys_left(&d->endpoint, &left); /* without an endpoint it is 0 */
+    text_add(t, "{\"device\":\"%s\",\"tap\":\"%s\",\"link\":\"%s\",\"up\":%s,\"keys_left\":%u,", d->name, d->tap.name,
+             d->link.name, d->life.up ? "true" : "false", (unsigned)left);
+    text_add(t, "\"device_counters\":{");
+    for (size_t i = 0; i < COUNT_OF_COUNTS; i++)
+        text_add(t, "%s\"%s\":%" PRIu64, i == 0 ? "" : ",", counts_name(i), counts_value(&d->counts, i));
+    text_add(t, "},");
+    add_object(t, "counters", own_names, own, OWN);
+    text_add(t, ",");
+    add_object(t, "transmit_counters", tx_names, tx, TX);
+    add_json_transmit(t, &d->endpoint);
+    add_json_receive(t, &d->endpoint);
+    text_add(t, "}\n");
+}
+
+/* ---- Prometheus ---- */
+
+/* InPktsNoSAError: in_pkts_no_sa_error. */
+static void metric_name(const char *name, char metric[METRIC]) {
+    size_t length = 0;
+    for (size_t i = 0; name[i] != '\0' && length + 2 < METRIC; i++) {
+        bool begins = i > 0 && isupper((unsigned char)name[i]) &&
+                      (islower((unsigned char)name[i - 1]) || islower((unsigned char)name[i + 1]));
+        if (begins)
+            metric[length++] = '_';
+        metric[length++] = (char)tolower((unsigned char)name[i]);
+    }
+    metric[length] = '\0';
+}
+
+static void add_type(struct text *t, const char *prefix, const char *metric) {
+    text_add(t, "# TYPE macsec_%s%s_total counter\n", prefix, metric);
+}
+
+static void add_plain_metrics(struct text *t, const char *device, const char *const *names, const uint64_t *values,
+                              int count) {
+    for (int i = 0; i < count; i++) {
+        char metric[METRIC];
+        metric_name(names[i], metric);
+        add_type(t, "", metric);
+        text_add(t, "macsec_%s_total{device=\"%s\"} %" PRIu64 "\n", metric, device, values[i]);
+    }
+}
+
+/* The samples of one counter of all receive channels, or of all receive associations. */
+static void add_rx_metrics(struct text *t, const char *device, const macsec_endpoint *e, int counter, bool of_sas) {
+    char metric[METRIC], name[SCI_TEXT];
+    uint64_t values[RX];
+    uint8_t sci[8];
+    metric_name(rx_names[counter], metric);
+    add_type(t, of_sas ? "sa_" : "", metric);
+    for (size_t place = 0; macsec_get_rx_sc(e, place, sci) == MACSEC_OK; place++) {
+        sci_text(sci, name);
+        if (!of_sas && rx_values(e, sci, -1, values) == MACSEC_OK)
+            text_add(t, "macsec_%s_total{device=\"%s\",sci=\"%s\"} %" PRIu64 "\n", metric, device, name,
+                     values[counter]);
+        for (int an = 0; of_sas && an < MACSEC_AN_COUNT; an++)
+            if (rx_values(e, sci, an, values) == MACSEC_OK)
+                text_add(t, "macsec_sa_%s_total{device=\"%s\",sci=\"%s\",an=\"%d\"} %" PRIu64 "\n", metric, device,
+                         name, an, values[counter]);
+    }
+}
+
+static void add_gauges(struct text *t, const struct device *d) {
+    uint32_t left = 0;
+    (void)macsec_keys_left(&d->endpoint, &left);
+    text_add(t, "# TYPE macsec_link_up gauge\nmacsec_link_up{device=\"%s\"} %d\n", d->name, d->life.up);
+    text_add(t, "# TYPE macsec_keys_left gauge\nmacsec_keys_left{device=\"%s\"} %u\n", d->name, (unsigned)left);
+    text_add(t, "# TYPE macsec_next_packet_number gauge\n");
+    for (uint8_t an = 0; an < MACSEC_AN_COUNT; an++) {
+        macsec_tx_sa sa;
+        if (macsec_get_tx_sa(&d->endpoint, an, &sa) == MACSEC_OK && sa.next_high == 0)
+            text_add(t, "macsec_next_packet_number{device=\"%s\",an=\"%u\",key=\"%u\",on=\"%d\"} %" PRIu64 "\n",
+                     d->name, an, sa.key, sa.on, sa.next);
+    }
+}
+
+void answer_metrics(struct text *t, const struct device *d) {
+    uint64_t own[OWN], tx[TX];
+    own_values(&d->endpoint, own, tx);
+    add_plain_metrics(t, d->name, own_names, own, OWN);
+    add_plain_metrics(t, d->name, tx_names, tx, TX);
+    for (int i = 0; i < RX; i++)
+        add_rx_metrics(t, d->name, &d->endpoint, i, false);
+    for (int i = 0; i < RX; i++)
+        add_rx_metrics(t, d->name, &d->endpoint, i, true);
+    for (size_t i = 0; i < COUNT_OF_COUNTS; i++) {
+        char metric[METRIC];
+        metric_name(counts_name(i), metric);
+        add_type(t, "device_", metric);
+        text_add(t, "macsec_device_%s_total{device=\"%s\"} %" PRIu64 "\n", metric, d->name,
+                 counts_value(&d->counts, i));
+    }
+    add_gauges(t, d);
+}

@@ -1,0 +1,245 @@
+/* NAME.conf: the lines of docs/SCRIPT.md for one end, and lines of the device, which begin with the word `device`. */
+#define _GNU_SOURCE
+#include "device.h"
+#include <ctype.h>
+#include <errno.h>
+#include <fcntl.h>
+#include <grp.h>
+#include <stdio.h>
+#include <stdlib.h>
+#include <string.h>
+#include <sys/stat.h>
+#include <unistd.h>
+
+/* The most octets of a configuration, as the library has it. */
+enum { LONGEST = 1048576 };
+
+/* The most words of a line of the device, and the most octets of one of them. */
+enum { WORDS = 4, WORD = 64 };
+
+/* ---- Where files are ---- */
+
+bool config_is_name(const char *name) {
+    size_t length = strlen(name);
+    if (length == 0 || length >= IF_NAMESIZE || name[0] == '.' || name[0] == '-')
+        return false;
+    for (size_t i = 0; i < length; i++)
+        if (!isalnum((unsigned char)name[i]) && strchr("_-.:@", name[i]) == NULL)
+            return false;
+    return true;
+}
+
+bool config_path(char *path, size_t room, const char *variable, const char *otherwise, const char *name,
+                 const char *suffix) {
+    const char *folder = getenv(variable);
+    int length;
+    if (folder == NULL || folder[0] == '\0')
+        folder = otherwise;
+    length = snprintf(path, room, "%s/%s%s", folder, name, suffix);
+    return length > 0 && (size_t)length < room;
+}
+
+/* ---- The file ---- */
+
+/* Keys are in the file: nobody but its owner may read it. A credential is guarded by the service manager. */
+static int check_file(const struct config *c, int file, bool is_credential, struct stat *status) {
+    if (fstat(file, status) != 0) {
+        message_of_errno("%s", c->path);
+        return ENDS_FAILED;
+    }
+    if (!S_ISREG(status->st_mode)) {
+        message("%s is not a regular file", c->path);
+        return ENDS_WRONG;
+    }
+    if (!is_credential && (status->st_mode & 077) != 0) {
+        message("%s has keys, and others may read or write it: chmod 600 %s", c->path, c->path);
+        return ENDS_WRONG;
+    }
+    if (!is_credential && status->st_uid != geteuid() && status->st_uid != 0) {
+        message("%s has keys, and belongs to another user than root or the one that runs macsecd", c->path);
+        return ENDS_WRONG;
+    }
+    return 0;
+}
+
+/* Reads the text into one block, which has no copy. */
+static int read_text(struct config *c, int file, size_t size) {
+    if (size > LONGEST) {
+        message("%s has more than 1,048,576 octets", c->path);
+        return ENDS_WRONG;
+    }
+    c->room = size + 1;
+    c->text = calloc(c->room, 1);
+    if (c->text == NULL) {
+        message("%s: out of memory", c->path);
+        return ENDS_FAILED;
+    }
+    while (c->length < size) {
+        ssize_t count = read(file, c->text + c->length, size - c->length);
+        if (count < 0 && errno == EINTR)
+            continue;
+        if (count < 0) {
+            message_of_errno("%s", c->path);
+            return ENDS_FAILED;
+        }
+        if (count == 0)
+            break;
+        c->length += (size_t)count;
+    }
+    return 0;
+}
+
+/* Opens NAME.conf: the service manager's credential of this name if there is one, else the file. */
+static int open_file(struct config *c, const char *name, bool *is_credential) {
+    int file = -1;
+    *is_credential = getenv("CREDENTIALS_DIRECTORY") != NULL &&
+                     config_path(c->path, sizeof c->path, "CREDENTIALS_DIRECTORY", "", name, ".conf");
+    if (*is_credential)
+        file = open(c->path, O_RDONLY | O_CLOEXEC | O_NOFOLLOW | O_NONBLOCK);
+    if (file >= 0 || (*is_credential && errno != ENOENT))
+        return file;
+    *is_credential = false;
+    if (!config_path(c->path, sizeof c->path, "CONFIGURATION_DIRECTORY", "/etc/macsec", name, ".conf")) {
+        errno = ENAMETOOLONG;
+        return -1;
+    }
+    return open(c->path, O_RDONLY | O_CLOEXEC | O_NOFOLLOW | O_NONBLOCK);
+}
+
+static int read_file(struct config *c, const char *name) {
+    struct stat status;
+    bool is_credential;
+    int result, file = open_file(c, name, &is_credential);
+    if (file < 0) {
+        message_of_errno("cannot open %s", c->path);
+        return ENDS_FAILED;
+    }
+    result = check_file(c, file, is_credential, &status);
+    if (result == 0)
+        result = read_text(c, file, (size_t)status.st_size);
+    (void)close(file); /* it was only read */
+    return result;
+}
+
+/* ---- The lines of the device ---- */
+
+static bool take_name(char *to, const char *name) {
+    if (!config_is_name(name))
+        return false;
+    memset(to, 0, IF_NAMESIZE);
+    memcpy(to, name, strlen(name));
+    return true;
+}
+
+static bool take_group(struct config *c, const char *name) {
+    const struct group *group = getgrnam(name);
+    if (group == NULL)
+        return false;
+    c->group = group->gr_gid;
+    c->has_group = true;
+    return true;
+}
+
+/* Takes a line of the device. Returns what is wrong with it, or NULL. */
+static const char *take_line(struct config *c, char words[WORDS][WORD], int count) {
+    if (count == 2 && strcmp(words[1], "persist") == 0)
+        return c->persists = true, NULL;
+    if (count != 3)
+        return "`device link NAME`, `device tap NAME`, `device group NAME` or `device persist` is expected";
+    if (strcmp(words[1], "link") == 0)
+        return take_name(c->link, words[2]) ? NULL : "no network device can have this name";
+    if (strcmp(words[1], "tap") == 0)
+        return take_name(c->tap, words[2]) ? NULL : "no network device can have this name";
+    if (strcmp(words[1], "group") == 0)
+        return take_group(c, words[2]) ? NULL : "there is no such group";
+    return "the word after `device` is not link, tap, group or persist";
+}
+
+static bool is_blank(uint8_t octet) {
+    return octet == ' ' || octet == '\t' || octet == '\r';
+}
+
+/* Splits a line of the device into words. Returns their number, WORDS if there are more or one is too long. */
+static int split(const uint8_t *line, size_t length, char words[WORDS][WORD]) {
+    int count = 0;
+    for (size_t i = 0; i < length;) {
+        size_t end = i;
+        while (end < length && !is_blank(line[end]))
+            end++;
+        if (end > i) {
+            if (count == WORDS || end - i >= WORD)
+                return WORDS;
+            memcpy(words[count], line + i, end - i);
+            words[count++][end - i] = '\0';
+        }
+        i = end + 1;
+    }
+    return count;
+}
+
+/* Does a line, from its first word on, belong to the device? */
+static bool is_device_line(const uint8_t *line, size_t length) {
+    return length >= 6 && memcmp(line, "device", 6) == 0 && (length == 6 || is_blank(line[6]));
+}
+
+/* Takes the lines of the device, and makes comments of them, so that the others keep their numbers. */
+static int take_lines(struct config *c) {
+    unsigned number = 1;
+    for (size_t start = 0; start < c->length; number++) {
+        const uint8_t *feed = memchr(c->text + start, '\n', c->length - start);
+        size_t end = feed == NULL ? c->length : (size_t)(feed - c->text);
+        size_t first = start;
+        while (first < end && is_blank(c->text[first]))
+            first++;
+        if (is_device_line(c->text + first, end - first)) {
+            char words[WORDS][WORD];
+            const char *wrong = take_line(c, words, split(c->text + first, end - first, words));
+            if (wrong != NULL) {
+                message("%s: line %u: %s", c->path, number, wrong);
+                return ENDS_WRONG;
+            }
+            c->text[first] = '#';
+        }
+        start = end + 1;
+    }
+    return 0;
+}
+
+/* Reads MAX of the `end` line, the first one that is not skipped. The library judges that line; this number is for the
+ * MTU of TAP alone. The text ends with a zero. */
+static void take_max_frame(struct config *c) {
+    const char *line = (const char *)c->text;
+    unsigned max;
+    line += strspn(line, " \t\r\n");
+    while (*line == '#') {
+        line += strcspn(line, "\n");
+        line += strspn(line, " \t\r\n");
+    }
+    c->max_frame = sscanf(line, "end A %*20s %*20s %9u", &max) == 1 ? max : MACSEC_FRAME_MAX;
+}
+
+int config_read(struct config *c, const char *name) {
+    int result;
+    memset(c, 0, sizeof *c);
+    memcpy(c->tap, name, strlen(name));
+    result = read_file(c, name);
+    if (result == 0)
+        result = take_lines(c);
+    if (result == 0 && c->link[0] == '\0') {
+        message("%s has no line `device link NAME`, which names the network device below", c->path);
+        result = ENDS_WRONG;
+    }
+    if (result == 0)
+        take_max_frame(c);
+    else
+        config_wipe(c);
+    return result;
+}
+
+void config_wipe(struct config *c) {
+    if (c->text != NULL)
+        explicit_bzero(c->text, c->room);
+    free(c->text);
+    c->text = NULL;
+    c->length = c->room = 0;
+}

@@ -1,0 +1,106 @@
+/* What macsecd gives up. The list of system calls is a program of its own and not of libseccomp: it is short, for one
+ * processor, and never changes while macsecd runs, and so the package needs the C library alone. */
+#define _GNU_SOURCE
+#include "device.h"
+#include <errno.h>
+#include <linux/audit.h>
+#include <linux/capability.h>
+#include <linux/filter.h>
+#include <linux/if_tun.h>
+#include <linux/seccomp.h>
+#include <stddef.h>
+#include <sys/ioctl.h>
+#include <sys/mman.h>
+#include <sys/prctl.h>
+#include <sys/resource.h>
+#include <sys/syscall.h>
+#include <unistd.h>
+
+int confine_memory(void) {
+    const struct rlimit none = { 0, 0 };
+    if (setrlimit(RLIMIT_CORE, &none) == 0 && prctl(PR_SET_DUMPABLE, 0, 0, 0, 0) == 0)
+        return 0;
+    message_of_errno("core files can't be forbidden");
+    return ENDS_FAILED;
+}
+
+/* ---- Capabilities ---- */
+
+static int drop_capabilities(void) {
+    struct __user_cap_header_struct header = { _LINUX_CAPABILITY_VERSION_3, 0 };
+    const struct __user_cap_data_struct none[2] = { { 0, 0, 0 }, { 0, 0, 0 } };
+    /* Without CAP_SETPCAP the bounding set stays. No new privileges can be had all the same. */
+    for (unsigned long capability = 0; prctl(PR_CAPBSET_READ, capability, 0, 0, 0) >= 0; capability++)
+        if (prctl(PR_CAPBSET_DROP, capability, 0, 0, 0) != 0)
+            break;
+    if (prctl(PR_CAP_AMBIENT, PR_CAP_AMBIENT_CLEAR_ALL, 0, 0, 0) != 0 || syscall(SYS_capset, &header, none) != 0 ||
+        prctl(PR_SET_NO_NEW_PRIVS, 1, 0, 0, 0) != 0) {
+        message_of_errno("capabilities can't be given up");
+        return ENDS_FAILED;
+    }
+    return 0;
+}
+
+/* ---- System calls ---- */
+
+#ifndef MACSECD_UNFILTERED /* sanitizers and valgrind make other calls */
+
+static const unsigned allowed[] = {
+    /* frames, control, reports, signals and the clock */
+    SYS_read, SYS_write, SYS_recvmmsg, SYS_sendmmsg, SYS_recvfrom, SYS_sendto, SYS_getsockopt, SYS_setsockopt,
+    SYS_accept4, SYS_close, SYS_epoll_wait, SYS_epoll_pwait, SYS_epoll_ctl, SYS_clock_gettime, SYS_restart_syscall,
+    /* the journal, also when it is written anew */
+    SYS_openat, SYS_pread64, SYS_pwrite64, SYS_fdatasync, SYS_fsync, SYS_flock, SYS_fstat, SYS_newfstatat,
+    SYS_renameat2, SYS_unlinkat,
+    /* memory, for the words of a line */
+    SYS_brk, SYS_munmap, SYS_mremap, SYS_madvise,
+    SYS_exit, SYS_exit_group,
+};
+
+enum { ALLOWED = sizeof allowed / sizeof allowed[0], BEFORE = 3, AFTER = 8 };
+
+#define LOAD(member) BPF_STMT(BPF_LD | BPF_W | BPF_ABS, (unsigned)offsetof(struct seccomp_data, member))
+#define JUMP_IF(test, value, yes, no) BPF_JUMP(BPF_JMP | (test) | BPF_K, (value), (yes), (no))
+
+/* Makes the program: the calls of the list are allowed, mmap without execution, and ioctl for TAP's carrier. Any other
+ * ends the process. */
+static void make_filter(struct sock_filter program[BEFORE + ALLOWED + AFTER]) {
+    struct sock_filter *next = program;
+    *next++ = (struct sock_filter)LOAD(arch);
+    *next++ = (struct sock_filter)JUMP_IF(BPF_JEQ, AUDIT_ARCH_X86_64, 0, ALLOWED + 7);
+    *next++ = (struct sock_filter)LOAD(nr);
+    for (unsigned i = 0; i < ALLOWED; i++)
+        *next++ = (struct sock_filter)JUMP_IF(BPF_JEQ, allowed[i], (unsigned char)(ALLOWED - i - 1 + 7), 0);
+    *next++ = (struct sock_filter)JUMP_IF(BPF_JEQ, SYS_mmap, 1, 0);
+    *next++ = (struct sock_filter)JUMP_IF(BPF_JEQ, SYS_ioctl, 2, 4);
+    *next++ = (struct sock_filter)LOAD(args[2]);
+    *next++ = (struct sock_filter)JUMP_IF(BPF_JSET, PROT_EXEC, 2, 3);
+    *next++ = (struct sock_filter)LOAD(args[1]);
+    *next++ = (struct sock_filter)JUMP_IF(BPF_JEQ, TUNSETCARRIER, 1, 0);
+    *next++ = (struct sock_filter)BPF_STMT(BPF_RET | BPF_K, SECCOMP_RET_KILL_PROCESS);
+    *next++ = (struct sock_filter)BPF_STMT(BPF_RET | BPF_K, SECCOMP_RET_ALLOW);
+}
+
+static int filter_calls(void) {
+    struct sock_filter program[BEFORE + ALLOWED + AFTER];
+    struct sock_fprog filter = { BEFORE + ALLOWED + AFTER, program };
+    make_filter(program);
+    if (prctl(PR_SET_SECCOMP, SECCOMP_MODE_FILTER, &filter, 0, 0) == 0)
+        return 0;
+    message_of_errno("the list of system calls");
+    return ENDS_FAILED;
+}
+
+#else
+
+static int filter_calls(void) {
+    message("this build does not restrict its system calls");
+    return 0;
+}
+
+#endif
+
+int confine_rights(void) {
+    int result = drop_capabilities();
+    return result == 0 ? filter_calls() : result;
+}

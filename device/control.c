@@ -1,0 +1,200 @@
+/* The control socket: a packet is a request, and its answer is a packet. */
+#define _GNU_SOURCE
+#include "device.h"
+#include <errno.h>
+#include <fcntl.h>
+#include <stdio.h>
+#include <string.h>
+#include <sys/socket.h>
+#include <sys/stat.h>
+#include <sys/un.h>
+#include <unistd.h>
+
+/* A request is at most one octet longer than the longest line, so that a longer one is seen. */
+enum { REQUEST = 20001, ANSWER = 256 * 1024 };
+
+static char request[REQUEST + 1], answer[ANSWER];
+
+/* ---- Opening ---- */
+
+/* The permissions are set before anybody can connect: listen comes after it. */
+static int set_owner(const struct control *k, const struct config *c) {
+    if (c->has_group && fchownat(k->folder, k->file, (uid_t)-1, c->group, AT_SYMLINK_NOFOLLOW) != 0) {
+        message_of_errno("the group of the control socket");
+        return ENDS_FAILED;
+    }
+    if (fchmodat(k->folder, k->file, c->has_group ? 0660 : 0600, 0) != 0) {
+        message_of_errno("the mode of the control socket");
+        return ENDS_FAILED;
+    }
+    return 0;
+}
+
+/* An earlier run that was killed has left its socket. The lock on the journal says that it runs no more. */
+static int bind_socket(struct control *k, const struct sockaddr_un *address) {
+    mode_t before;
+    int result;
+    if (unlinkat(k->folder, k->file, 0) != 0 && errno != ENOENT) {
+        message_of_errno("%s", address->sun_path);
+        return ENDS_FAILED;
+    }
+    before = umask(0177);
+    result = bind(k->listener, (const struct sockaddr *)address, sizeof *address);
+    (void)umask(before);
+    if (result != 0)
+        message_of_errno("%s", address->sun_path);
+    return result == 0 ? 0 : ENDS_FAILED;
+}
+
+/* Opens the folder, which is made if it is not there. */
+static int open_folder(struct control *k, const char *path) {
+    char folder[sizeof(struct sockaddr_un)];
+    size_t length = (size_t)(strrchr(path, '/') - path);
+    memcpy(folder, path, length);
+    folder[length] = '\0';
+    if (mkdir(folder, 0755) != 0 && errno != EEXIST) {
+        message_of_errno("%s", folder);
+        return ENDS_FAILED;
+    }
+    k->folder = open(folder, O_RDONLY | O_DIRECTORY | O_CLOEXEC);
+    if (k->folder < 0)
+        message_of_errno("%s", folder);
+    return k->folder < 0 ? ENDS_FAILED : 0;
+}
+
+int control_open(struct control *k, const char *name, const struct config *c) {
+    struct sockaddr_un address = { .sun_family = AF_UNIX };
+    int result;
+    for (int i = 0; i < CLIENTS; i++)
+        k->clients[i] = -1;
+    k->listener = k->folder = -1;
+    if (!config_path(address.sun_path, sizeof address.sun_path, "RUNTIME_DIRECTORY", "/run/macsec", name, ".sock")) {
+        message("the path of the control socket is too long");
+        return ENDS_WRONG;
+    }
+    snprintf(k->file, sizeof k->file, "%s.sock", name);
+    result = open_folder(k, address.sun_path);
+    if (result != 0)
+        return result;
+    k->listener = socket(AF_UNIX, SOCK_SEQPACKET | SOCK_NONBLOCK | SOCK_CLOEXEC, 0);
+    if (k->listener < 0) {
+        message_of_errno("control socket");
+        return ENDS_FAILED;
+    }
+    result = bind_socket(k, &address);
+    if (result == 0)
+        result = set_owner(k, c);
+    if (result == 0 && listen(k->listener, CLIENTS) != 0) {
+        message_of_errno("control socket");
+        result = ENDS_FAILED;
+    }
+    return result;
+}
+
+void control_close(struct control *k) {
+    if (k->folder >= 0 && unlinkat(k->folder, k->file, 0) != 0 && errno != ENOENT)
+        message_of_errno("the control socket can't be removed");
+}
+
+/* ---- Clients ---- */
+
+static void close_client(struct control *k, int index) {
+    (void)close(k->clients[index]); /* this also takes it out of what the loop waits for */
+    k->clients[index] = -1;
+}
+
+int control_accept(struct control *k) {
+    int octets = ANSWER, client = accept4(k->listener, NULL, NULL, SOCK_NONBLOCK | SOCK_CLOEXEC);
+    if (client < 0)
+        return -1; /* it has gone again, or there are too many files: the next one is tried again */
+    for (int i = 0; i < CLIENTS; i++) {
+        if (k->clients[i] >= 0)
+            continue;
+        (void)setsockopt(client, SOL_SOCKET, SO_SNDBUF, &octets, sizeof octets); /* else a long answer closes it */
+        k->clients[i] = client;
+        return i;
+    }
+    (void)close(client); /* there are as many as there can be */
+    return -1;
+}
+
+/* ---- Requests ---- */
+
+/* `numbers tx AN` or `numbers rx SCI AN`. Returns false if it is neither. */
+static bool answer_one_number(struct text *t, const macsec_endpoint *e, const char *text) {
+    unsigned an, octets[8];
+    uint8_t sci[8];
+    int end = -1;
+    if (sscanf(text, "numbers tx %1u%n", &an, &end) == 1 && text[end] == '\0') {
+        uint32_t status = answer_tx_number(t, e, (uint8_t)an);
+        if (status != MACSEC_OK)
+            answer_status(t, status, 0);
+        return true;
+    }
+    end = -1;
+    if (sscanf(text, "numbers rx %2x%2x%2x%2x%2x%2x%2x%2x %1u%n", &octets[0], &octets[1], &octets[2], &octets[3],
+               &octets[4], &octets[5], &octets[6], &octets[7], &an, &end) == 9 && text[end] == '\0') {
+        for (int i = 0; i < 8; i++)
+            sci[i] = (uint8_t)octets[i];
+        uint32_t status = answer_rx_number(t, e, sci, (uint8_t)an);
+        if (status != MACSEC_OK)
+            answer_status(t, status, 0);
+        return true;
+    }
+    return false;
+}
+
+/* Answers a request that only reads. Returns false if it is a line for the endpoint. */
+static bool answer_reader(struct device *d, struct text *t, const char *text) {
+    if (strcmp(text, "A counters") == 0 || strcmp(text, "counters") == 0)
+        answer_counters(t, &d->endpoint);
+    else if (strcmp(text, "A numbers") == 0 || strcmp(text, "numbers") == 0)
+        answer_numbers(t, &d->endpoint);
+    else if (strcmp(text, "json") == 0)
+        answer_json(t, d);
+    else if (strcmp(text, "metrics") == 0)
+        answer_metrics(t, d);
+    else
+        return strncmp(text, "numbers ", 8) == 0 && answer_one_number(t, &d->endpoint, text);
+    if (strcmp(text, "counters") == 0)
+        answer_counts(t, &d->counts);
+    return true;
+}
+
+/* Answers a request. Its text ends with a zero, and may have others. */
+static void answer_request(struct device *d, struct text *t, size_t length) {
+    uint64_t raised = 0;
+    if (length > 0 && request[length - 1] == '\n')
+        request[--length] = '\0';
+    link_count_lost(&d->link, &d->counts);
+    if (strlen(request) != length || !answer_reader(d, t, request)) {
+        uint32_t status = numbers_command(d->numbers, &d->endpoint, (const uint8_t *)request, length, &raised);
+        answer_status(t, status, raised);
+    }
+    if (t->full) {
+        t->length = 0;
+        text_add(t, "fault AnswerLong\n");
+    }
+}
+
+bool control_answer(struct device *d, int index) {
+    struct text t = { answer, 0, sizeof answer, false };
+    int client = d->control.clients[index];
+    ssize_t length = recv(client, request, REQUEST, MSG_DONTWAIT);
+    if (length < 0 && (errno == EAGAIN || errno == EINTR))
+        return true;
+    if (length <= 0) {
+        close_client(&d->control, index);
+        return false;
+    }
+    request[length] = '\0';
+    d->counts.requests++;
+    answer_request(d, &t, (size_t)length);
+    explicit_bzero(request, sizeof request); /* it may be a key */
+    do
+        length = send(client, answer, t.length, MSG_DONTWAIT | MSG_NOSIGNAL);
+    while (length < 0 && errno == EINTR);
+    if (length < 0)
+        close_client(&d->control, index); /* it does not read its answers, or has gone */
+    return length >= 0;
+}

@@ -1,0 +1,253 @@
+/* The parts of macsecd, a MACsec device for Linux over include/macsec.h. Each section is the interface of one file. */
+#ifndef DEVICE_H
+#define DEVICE_H
+
+#include "macsec.h"
+#include <net/if.h>
+#include <stdbool.h>
+#include <stddef.h>
+#include <stdint.h>
+#include <sys/types.h>
+
+/* Exit statuses: the system refused something, or LINK or TAP is gone; the arguments or the configuration are wrong. */
+enum { ENDS_FAILED = 1, ENDS_WRONG = 2 };
+
+/* The most frames that one call takes from a device or gives to it. */
+enum { BATCH = 64 };
+
+struct device;
+
+/* ---- messages.c: what macsecd says, on standard error ---- */
+
+/* Names the device in the messages that follow. */
+void messages_name(const char *name);
+/* Prints a line. No frame makes one. */
+void message(const char *form, ...) __attribute__((format(printf, 1, 2)));
+/* The same, with the text of errno after it. */
+void message_of_errno(const char *form, ...) __attribute__((format(printf, 1, 2)));
+
+/* ---- config.c: NAME.conf, and where files are ---- */
+
+struct config {
+    char link[IF_NAMESIZE];
+    char tap[IF_NAMESIZE];
+    char path[256];
+    gid_t group; /* that may use the control socket */
+    bool has_group;
+    bool persists;      /* does TAP stay when macsecd ends? */
+    uint32_t max_frame; /* MAX of the `end` line */
+    uint8_t *text;      /* the lines for the endpoint; those for the device are comments in it */
+    size_t length, room;
+};
+
+/* Can a device have this name? It is also the name of files. */
+bool config_is_name(const char *name);
+/* Makes the path FOLDER/NAME SUFFIX. FOLDER is the value of an environment variable, else `otherwise`. Returns false if
+ * it is too long. */
+bool config_path(char *path, size_t room, const char *variable, const char *otherwise, const char *name,
+                 const char *suffix);
+/* Reads the configuration of this name. Returns 0, or the exit status after a message. */
+int config_read(struct config *c, const char *name);
+/* Wipes and frees its text, which has keys. */
+void config_wipe(struct config *c);
+
+/* ---- counts.c: what the device counts, in addition to the endpoint ---- */
+
+struct counts {
+    uint64_t link_in;        /* frames that were read from LINK */
+    uint64_t link_lost;      /* frames that LINK's socket had no space for: they were not read */
+    uint64_t link_too_short; /* frames of LINK that the endpoint refused: fewer than 14 octets */
+    uint64_t link_too_long;  /* frames of LINK that the endpoint refused: more than 9,248 octets */
+    uint64_t link_out;       /* frames that LINK took */
+    uint64_t link_refused;   /* frames that LINK did not take; their packet numbers are used */
+    uint64_t tap_in;         /* frames that were read from TAP */
+    uint64_t tap_too_short;  /* frames of TAP that the endpoint refused */
+    uint64_t tap_too_long;
+    uint64_t tap_out;        /* frames that TAP took */
+    uint64_t tap_refused;    /* frames that TAP did not take, because it is down, for example */
+    uint64_t no_reservation; /* frames of TAP that were dropped: their packet numbers are not reserved */
+    uint64_t journal_failed; /* failures to write to the journal */
+    uint64_t requests;       /* requests at the control socket */
+};
+
+enum { COUNT_OF_COUNTS = sizeof(struct counts) / sizeof(uint64_t) };
+
+/* The name of the count at this index, in the style of the endpoint's counters, and its value. */
+const char *counts_name(size_t index);
+uint64_t counts_value(const struct counts *c, size_t index);
+
+/* ---- link.c: LINK, the network device below ---- */
+
+struct link {
+    int socket;
+    int index;
+    uint32_t mtu;
+    uint8_t address[6];
+    bool promiscuous;
+    char name[IF_NAMESIZE];
+};
+
+/* A frame in a buffer of link.c or tap.c. Its length is above MACSEC_FRAME_MAX if it is too long. */
+struct frame {
+    const uint8_t *octets;
+    size_t length;
+};
+
+/* What became of a call to a device: it was done, it can't be done now, or the device is gone. */
+enum port { PORT_DONE, PORT_BUSY, PORT_GONE };
+
+/* Opens LINK. Returns 0, or the exit status after a message. */
+int link_open(struct link *l, const char *name);
+/* Reads at most BATCH frames. A VLAN tag that the system took out of a frame is in it again. */
+enum port link_read(struct link *l, struct frame frames[BATCH], unsigned *count);
+/* Adds a copy of a frame to those that wait. At most BATCH frames may wait. */
+void link_append(const uint8_t *octets, size_t length);
+/* How many frames wait. */
+unsigned link_waiting(void);
+/* Sends the frames that wait. PORT_BUSY: some still wait, until LINK can be written to. */
+enum port link_flush(struct link *l, struct counts *c);
+/* Adds the frames that LINK's socket has lost since the last call. */
+void link_count_lost(struct link *l, struct counts *c);
+/* Makes LINK pass frames to any address. */
+void link_make_promiscuous(struct link *l);
+
+/* ---- tap.c: TAP, the network device of the client ---- */
+
+struct tap {
+    int file;
+    int index;
+    char name[IF_NAMESIZE];
+};
+
+/* The MTU of TAP: 32 octets below LINK's, and so small that no frame is longer than the configuration's largest. */
+uint32_t tap_mtu(uint32_t link_mtu, uint32_t max_frame);
+/* Opens TAP, with LINK's address and this MTU. Returns 0, or the exit status after a message. */
+int tap_open(struct tap *t, const struct config *c, const struct link *l);
+/* Reads a frame. It is there until the next call. */
+enum port tap_read(struct tap *t, struct frame *frame);
+/* Delivers a frame, and counts whether TAP took it. */
+enum port tap_write(struct tap *t, const uint8_t *octets, size_t length, struct counts *c);
+/* Gives TAP carrier, or takes it away. */
+void tap_set_carrier(struct tap *t, bool on);
+
+/* ---- numbers.c: packet numbers that outlive a run ---- */
+
+struct numbers;
+
+/* Creates the journal of this name. Returns 0, or the exit status after a message. */
+int numbers_create(const char *name);
+/* Opens it. Returns NULL after a message if it can't be read or written. */
+struct numbers *numbers_open(const char *name, struct counts *counts);
+/* Creates the endpoint of a configuration's text, beside the journal. An association begins above all packet numbers
+ * that an earlier run may have used. Returns the status of the first line that fails, and its number. */
+uint32_t numbers_configure(struct numbers *n, macsec_endpoint *e, const uint8_t *text, size_t length, uint32_t *line);
+/* Carries out a line. If an association begins above the packet number of the line, `raised` is where; else it is 0. */
+uint32_t numbers_command(struct numbers *n, macsec_endpoint *e, const uint8_t *line, size_t length, uint64_t *raised);
+/* Makes the reservations that transmit associations want. Returns false if one could not be made durable. */
+bool numbers_reserve(struct numbers *n, macsec_endpoint *e);
+/* Notes that frames were sent, and reserves in time. */
+void numbers_used(struct numbers *n, macsec_endpoint *e, unsigned frames);
+/* To be called each second: fits the reservations to the rate, and saves some of the received packet numbers. */
+void numbers_tick(struct numbers *n, macsec_endpoint *e);
+/* Saves all received packet numbers, and closes the journal. */
+void numbers_close(struct numbers *n, macsec_endpoint *e);
+
+/* ---- answers.c: the text of answers ---- */
+
+struct text {
+    char *octets;
+    size_t length, room;
+    bool full; /* has something been left out? */
+};
+
+void text_add(struct text *t, const char *form, ...) __attribute__((format(printf, 2, 3)));
+/* The answer to a command. */
+void answer_status(struct text *t, uint32_t status, uint64_t raised);
+/* Counters and packet numbers, as docs/SCRIPT.md has them, without the number of a line. */
+void answer_counters(struct text *t, const macsec_endpoint *e);
+void answer_numbers(struct text *t, const macsec_endpoint *e);
+/* The line of one association. Returns the library's status. */
+uint32_t answer_tx_number(struct text *t, const macsec_endpoint *e, uint8_t an);
+uint32_t answer_rx_number(struct text *t, const macsec_endpoint *e, const uint8_t sci[8], uint8_t an);
+/* What the device counts, a line each. */
+void answer_counts(struct text *t, const struct counts *c);
+/* All counters as one JSON object, and in the text format of Prometheus. */
+void answer_json(struct text *t, const struct device *d);
+void answer_metrics(struct text *t, const struct device *d);
+
+/* ---- control.c: the control socket ---- */
+
+enum { CLIENTS = 16 };
+
+struct control {
+    int listener, folder;
+    int clients[CLIENTS]; /* -1: there is none */
+    char file[IF_NAMESIZE + 8];
+};
+
+/* Opens the socket. Returns 0, or the exit status after a message. */
+int control_open(struct control *k, const char *name, const struct config *c);
+/* Accepts a connection. Returns its index, or -1. */
+int control_accept(struct control *k);
+/* Answers a request of a client. Returns false if the connection has ended; it is closed then. */
+bool control_answer(struct device *d, int index);
+/* Removes the socket. */
+void control_close(struct control *k);
+
+/* ---- life.c: LINK and TAP go up and down, change and end ---- */
+
+struct life {
+    int socket; /* of rtnetlink */
+    bool up;    /* is LINK up, with carrier? */
+};
+
+/* Opens the socket, and gives TAP LINK's carrier. Returns 0, or the exit status after a message. */
+int life_open(struct device *d);
+/* Reads what the system reports. Returns false, after a message, if LINK or TAP is gone. */
+bool life_read(struct device *d);
+
+/* ---- service.c: the service manager ---- */
+
+/* Connects to the service manager's socket, if there is one. Returns 0, or the exit status after a message. */
+int service_open(void);
+/* Sends it an assignment, such as READY=1. */
+void service_notify(const char *assignment);
+
+/* ---- confine.c: what macsecd gives up ---- */
+
+/* No core files, and no access to the memory by other processes of the same user: to be called before keys are read. */
+int confine_memory(void);
+/* No capabilities, no new privileges, and only some system calls: to be called before frames are read. Both return 0,
+ * or the exit status after a message. */
+int confine_rights(void);
+
+/* ---- frames.c: the path of frames ---- */
+
+/* Reads a batch of frames from TAP, and sends what the endpoint makes of them. */
+enum port frames_from_client(struct device *d);
+/* Reads a batch of frames from LINK, and delivers what the endpoint makes of them. */
+enum port frames_from_link(struct device *d);
+
+/* ---- loop.c: waiting ---- */
+
+struct device {
+    const char *name;
+    struct config config;
+    macsec_endpoint endpoint;
+    struct counts counts;
+    struct link link;
+    struct tap tap;
+    struct life life;
+    struct control control;
+    struct numbers *numbers;
+    int signals, clock, events;
+};
+
+/* Blocks the signals that end macsecd. To be called first. Returns 0, or the exit status after a message. */
+int loop_block_signals(struct device *d);
+/* Opens what the loop waits for. Returns 0, or the exit status after a message. */
+int loop_open(struct device *d);
+/* Runs until a signal ends it. Returns the exit status. */
+int loop_run(struct device *d);
+
+#endif

@@ -1,0 +1,54 @@
+/* The path of frames. The library says what becomes of each one; this file moves octets and counts. */
+#include "device.h"
+
+static void count_fault(uint32_t status, uint64_t *too_short, uint64_t *too_long) {
+    if (status == MACSEC_E_FRAME_SHORT)
+        ++*too_short;
+    if (status == MACSEC_E_FRAME_LONG)
+        ++*too_long;
+}
+
+/* Adds to the waiting frames what the endpoint makes of a client frame. Returns true if that used a packet number. */
+static bool send_one(struct device *d, const struct frame *frame) {
+    macsec_sent sent;
+    uint32_t status = macsec_send(&d->endpoint, frame->octets, frame->length, &sent);
+    if (sent.fate == MACSEC_FATE_NO_RESERVATION && numbers_reserve(d->numbers, &d->endpoint))
+        status = macsec_send(&d->endpoint, frame->octets, frame->length, &sent);
+    count_fault(status, &d->counts.tap_too_short, &d->counts.tap_too_long);
+    if (sent.fate == MACSEC_FATE_NO_RESERVATION)
+        d->counts.no_reservation++;
+    if (sent.length > 0)
+        link_append(sent.frame, sent.length);
+    return sent.fate == MACSEC_FATE_PROTECTED;
+}
+
+enum port frames_from_client(struct device *d) {
+    unsigned used = 0;
+    for (unsigned i = link_waiting(); i < BATCH; i++) {
+        struct frame frame;
+        enum port port = tap_read(&d->tap, &frame);
+        if (port == PORT_GONE)
+            return port;
+        if (port == PORT_BUSY)
+            break;
+        d->counts.tap_in++;
+        used += send_one(d, &frame);
+    }
+    numbers_used(d->numbers, &d->endpoint, used);
+    return link_flush(&d->link, &d->counts);
+}
+
+enum port frames_from_link(struct device *d) {
+    struct frame frames[BATCH];
+    unsigned count;
+    enum port port = link_read(&d->link, frames, &count);
+    for (unsigned i = 0; i < count; i++) {
+        macsec_received got;
+        uint32_t status = macsec_receive(&d->endpoint, frames[i].octets, frames[i].length, &got);
+        d->counts.link_in++;
+        count_fault(status, &d->counts.link_too_short, &d->counts.link_too_long);
+        if (got.delivered && tap_write(&d->tap, got.frame, got.length, &d->counts) == PORT_GONE)
+            return PORT_GONE;
+    }
+    return port;
+}

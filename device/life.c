@@ -1,0 +1,169 @@
+/* LINK and TAP go up and down, change and end: what rtnetlink reports. */
+#define _GNU_SOURCE
+#include "device.h"
+#include <errno.h>
+#include <linux/netlink.h>
+#include <linux/rtnetlink.h>
+#include <net/if.h>
+#include <string.h>
+#include <sys/socket.h>
+#include <unistd.h>
+
+/* A message of rtnetlink about a device has at most this many octets. */
+enum { MESSAGE = 32768 };
+
+static _Alignas(struct nlmsghdr) char buffer[MESSAGE];
+
+/* ---- Asking ---- */
+
+/* Asks for the state of the device of this index. The answer is read as a report is. */
+static int ask(const struct life *f, int index) {
+    struct {
+        struct nlmsghdr header;
+        struct ifinfomsg about;
+    } request;
+    memset(&request, 0, sizeof request);
+    request.header.nlmsg_len = sizeof request;
+    request.header.nlmsg_type = RTM_GETLINK;
+    request.header.nlmsg_flags = NLM_F_REQUEST;
+    request.about.ifi_family = AF_UNSPEC;
+    request.about.ifi_index = index;
+    if (send(f->socket, &request, sizeof request, 0) == (ssize_t)sizeof request)
+        return 0;
+    message_of_errno("rtnetlink");
+    return ENDS_FAILED;
+}
+
+/* ---- Reports ---- */
+
+static void note_link_up(struct device *d, unsigned flags) {
+    bool up = (flags & IFF_UP) != 0 && (flags & IFF_RUNNING) != 0;
+    if (up == d->life.up)
+        return;
+    d->life.up = up;
+    tap_set_carrier(&d->tap, up);
+    message("LINK %s is %s", d->link.name, up ? "up" : "down");
+}
+
+/* Without capabilities macsecd can't change the MTU of TAP: it says what it should be. */
+static void note_link_mtu(struct device *d, uint32_t mtu) {
+    uint32_t fits;
+    if (mtu == d->link.mtu)
+        return;
+    d->link.mtu = mtu;
+    fits = tap_mtu(mtu, d->config.max_frame);
+    message("the MTU of LINK %s is %u now, so that of TAP should be %u: ip link set %s mtu %u", d->link.name,
+            (unsigned)mtu, (unsigned)fits, d->tap.name, (unsigned)fits);
+}
+
+/* An operator or a bridge can give TAP or LINK another address. */
+static void note_address(struct device *d, bool is_tap, const uint8_t *address, size_t length) {
+    if (length != sizeof d->link.address || memcmp(address, d->link.address, length) == 0)
+        return;
+    if (!is_tap)
+        memcpy(d->link.address, address, length);
+    link_make_promiscuous(&d->link);
+}
+
+static void note_attributes(struct device *d, const struct ifinfomsg *about, size_t length) {
+    bool is_tap = about->ifi_index == d->tap.index;
+    const struct rtattr *a = (const struct rtattr *)((const char *)about + NLMSG_ALIGN(sizeof *about));
+    length -= NLMSG_ALIGN(sizeof *about);
+    while (length >= sizeof *a && a->rta_len >= sizeof *a && a->rta_len <= length) {
+        const uint8_t *value = (const uint8_t *)a + RTA_LENGTH(0);
+        size_t step = RTA_ALIGN(a->rta_len);
+        if (a->rta_type == IFLA_ADDRESS)
+            note_address(d, is_tap, value, a->rta_len - RTA_LENGTH(0));
+        if (a->rta_type == IFLA_MTU && !is_tap && a->rta_len == RTA_LENGTH(sizeof(uint32_t))) {
+            uint32_t mtu;
+            memcpy(&mtu, value, sizeof mtu);
+            note_link_mtu(d, mtu);
+        }
+        if (step >= length)
+            return;
+        length -= step;
+        a = (const struct rtattr *)((const char *)a + step);
+    }
+}
+
+/* Reads one report. Returns false if it says that LINK or TAP is gone. */
+static bool read_report(struct device *d, const struct nlmsghdr *header) {
+    const struct ifinfomsg *about = NLMSG_DATA(header);
+    bool is_link;
+    if (header->nlmsg_len < NLMSG_LENGTH(sizeof *about) ||
+        (header->nlmsg_type != RTM_NEWLINK && header->nlmsg_type != RTM_DELLINK))
+        return true;
+    is_link = about->ifi_index == d->link.index;
+    /* Reports of a bridge, about a device that leaves it, have another family. */
+    if (about->ifi_family != AF_UNSPEC || (!is_link && about->ifi_index != d->tap.index))
+        return true;
+    if (header->nlmsg_type == RTM_DELLINK) {
+        message("%s %s was deleted", is_link ? "LINK" : "TAP", is_link ? d->link.name : d->tap.name);
+        return false;
+    }
+    note_attributes(d, about, header->nlmsg_len - NLMSG_LENGTH(0));
+    if (is_link)
+        note_link_up(d, about->ifi_flags);
+    return true;
+}
+
+/* The answer to a question about a device that is not there. */
+static bool read_error(const struct nlmsghdr *header) {
+    const struct nlmsgerr *error = NLMSG_DATA(header);
+    if (header->nlmsg_len < NLMSG_LENGTH(sizeof *error) || error->error == 0)
+        return true;
+    errno = -error->error;
+    message_of_errno("LINK or TAP is gone");
+    return false;
+}
+
+static bool read_reports(struct device *d, size_t length) {
+    const struct nlmsghdr *header = (const struct nlmsghdr *)buffer;
+    while (NLMSG_OK(header, length)) {
+        size_t step = NLMSG_ALIGN(header->nlmsg_len);
+        if (header->nlmsg_type == NLMSG_ERROR ? !read_error(header) : !read_report(d, header))
+            return false;
+        if (step >= length)
+            break;
+        length -= step;
+        header = (const struct nlmsghdr *)((const char *)header + step);
+    }
+    return true;
+}
+
+bool life_read(struct device *d) {
+    for (;;) {
+        struct sockaddr_nl from;
+        socklen_t room = sizeof from;
+        ssize_t length = recvfrom(d->life.socket, buffer, sizeof buffer, MSG_DONTWAIT, (struct sockaddr *)&from, &room);
+        if (length < 0 && errno == EINTR)
+            continue;
+        if (length < 0 && errno == EAGAIN)
+            return true;
+        if (length < 0 && errno == ENOBUFS) { /* reports were lost: ask */
+            if (ask(&d->life, d->link.index) != 0 || ask(&d->life, d->tap.index) != 0)
+                return false;
+            continue;
+        }
+        if (length < 0) {
+            message_of_errno("rtnetlink");
+            return false;
+        }
+        if (from.nl_pid == 0 && !read_reports(d, (size_t)length)) /* 0: the system, and no other process */
+            return false;
+    }
+}
+
+int life_open(struct device *d) {
+    struct sockaddr_nl address = { .nl_family = AF_NETLINK, .nl_groups = RTMGRP_LINK };
+    d->life.up = false;
+    d->life.socket = socket(AF_NETLINK, SOCK_RAW | SOCK_NONBLOCK | SOCK_CLOEXEC, NETLINK_ROUTE);
+    if (d->life.socket < 0 || bind(d->life.socket, (const struct sockaddr *)&address, sizeof address) != 0) {
+        message_of_errno("rtnetlink");
+        return ENDS_FAILED;
+    }
+    tap_set_carrier(&d->tap, false);
+    if (ask(&d->life, d->link.index) != 0 || ask(&d->life, d->tap.index) != 0)
+        return ENDS_FAILED;
+    return life_read(d) ? 0 : ENDS_FAILED;
+}

@@ -1,0 +1,165 @@
+/* Waiting: for frames, requests, reports, signals and the clock. */
+#define _GNU_SOURCE
+#include "device.h"
+#include <errno.h>
+#include <signal.h>
+#include <string.h>
+#include <sys/epoll.h>
+#include <sys/signalfd.h>
+#include <sys/timerfd.h>
+#include <unistd.h>
+
+/* What an event is about. Clients are numbered from CLIENT on. */
+enum { TAP, LINK, SIGNALS, CLOCK, LIFE, LISTENER, CLIENT };
+
+/* The most events of a wait. */
+enum { EVENTS = CLIENT + CLIENTS };
+
+/* What handling an event gives beside an exit status of 0 or more: the loop goes on. */
+enum { GOES_ON = -1 };
+
+/* ---- Opening ---- */
+
+int loop_block_signals(struct device *d) {
+    sigset_t set;
+    sigemptyset(&set);
+    sigaddset(&set, SIGTERM);
+    sigaddset(&set, SIGINT);
+    sigaddset(&set, SIGHUP);
+    sigaddset(&set, SIGPIPE);
+    sigaddset(&set, SIGUSR1);
+    sigaddset(&set, SIGUSR2);
+    if (sigprocmask(SIG_BLOCK, &set, NULL) == 0)
+        d->signals = signalfd(-1, &set, SFD_NONBLOCK | SFD_CLOEXEC);
+    else
+        d->signals = -1;
+    if (d->signals < 0)
+        message_of_errno("signals");
+    return d->signals < 0 ? ENDS_FAILED : 0;
+}
+
+static int watch(const struct device *d, int operation, int file, uint32_t events, uint32_t about) {
+    struct epoll_event event = { .events = events, .data.u32 = about };
+    if (epoll_ctl(d->events, operation, file, &event) == 0)
+        return 0;
+    message_of_errno("epoll");
+    return ENDS_FAILED;
+}
+
+static int open_clock(struct device *d) {
+    const struct itimerspec second = { { 1, 0 }, { 1, 0 } };
+    d->clock = timerfd_create(CLOCK_MONOTONIC, TFD_NONBLOCK | TFD_CLOEXEC);
+    if (d->clock >= 0 && timerfd_settime(d->clock, 0, &second, NULL) == 0)
+        return 0;
+    message_of_errno("timer");
+    return ENDS_FAILED;
+}
+
+int loop_open(struct device *d) {
+    const int files[CLIENT] = { d->tap.file, d->link.socket, d->signals, -1, d->life.socket, d->control.listener };
+    int result = open_clock(d);
+    d->events = epoll_create1(EPOLL_CLOEXEC);
+    if (d->events < 0) {
+        message_of_errno("epoll");
+        return ENDS_FAILED;
+    }
+    for (uint32_t i = 0; i < CLIENT && result == 0; i++)
+        result = watch(d, EPOLL_CTL_ADD, i == CLOCK ? d->clock : files[i], EPOLLIN, i);
+    return result;
+}
+
+/* ---- Events ---- */
+
+/* While frames wait for LINK, none is read from TAP, so that its queue fills and the client slows down. */
+static int watch_ports(struct device *d, bool *blocked) {
+    bool waits = link_waiting() > 0;
+    int result;
+    if (waits == *blocked)
+        return GOES_ON;
+    *blocked = waits;
+    result = watch(d, EPOLL_CTL_MOD, d->tap.file, waits ? 0 : EPOLLIN, TAP);
+    if (result == 0)
+        result = watch(d, EPOLL_CTL_MOD, d->link.socket, waits ? EPOLLIN | EPOLLOUT : EPOLLIN, LINK);
+    return result == 0 ? GOES_ON : result;
+}
+
+/* LINK has no message of its own: rtnetlink reports what happened to it. */
+static int on_link(struct device *d, uint32_t events) {
+    enum port port = (events & EPOLLOUT) != 0 ? link_flush(&d->link, &d->counts) : PORT_DONE;
+    if (port != PORT_GONE && (events & ~(uint32_t)EPOLLOUT) != 0)
+        port = frames_from_link(d);
+    return port == PORT_GONE && !life_read(d) ? ENDS_FAILED : GOES_ON;
+}
+
+/* PORT_GONE can also mean LINK here. rtnetlink says which, and if it has nothing to say, the loop goes on. */
+static int on_tap(struct device *d, uint32_t events) {
+    bool failed = (events & (EPOLLERR | EPOLLHUP)) != 0;
+    if (frames_from_client(d) != PORT_GONE && !failed)
+        return GOES_ON;
+    if (!life_read(d))
+        return ENDS_FAILED;
+    if (failed)
+        message("TAP %s is gone", d->tap.name);
+    return failed ? ENDS_FAILED : GOES_ON;
+}
+
+static int on_signal(struct device *d) {
+    struct signalfd_siginfo got;
+    while (read(d->signals, &got, sizeof got) == (ssize_t)sizeof got)
+        if (got.ssi_signo == SIGTERM || got.ssi_signo == SIGINT) {
+            message("ends by %s", got.ssi_signo == SIGTERM ? "SIGTERM" : "SIGINT");
+            return 0;
+        }
+    return GOES_ON; /* the others mean nothing here */
+}
+
+static int on_clock(struct device *d) {
+    uint64_t times;
+    if (read(d->clock, &times, sizeof times) != (ssize_t)sizeof times)
+        return GOES_ON;
+    numbers_tick(d->numbers, &d->endpoint);
+    link_count_lost(&d->link, &d->counts);
+    service_notify("WATCHDOG=1");
+    return GOES_ON;
+}
+
+static int on_listener(struct device *d) {
+    int index = control_accept(&d->control);
+    if (index < 0)
+        return GOES_ON;
+    return watch(d, EPOLL_CTL_ADD, d->control.clients[index], EPOLLIN, CLIENT + (uint32_t)index) == 0 ? GOES_ON
+                                                                                                     : ENDS_FAILED;
+}
+
+static int on_event(struct device *d, const struct epoll_event *event) {
+    switch (event->data.u32) {
+        case TAP: return on_tap(d, event->events);
+        case LINK: return on_link(d, event->events);
+        case SIGNALS: return on_signal(d);
+        case CLOCK: return on_clock(d);
+        case LIFE: return life_read(d) ? GOES_ON : ENDS_FAILED;
+        case LISTENER: return on_listener(d);
+        default:
+            if (d->control.clients[event->data.u32 - CLIENT] >= 0)
+                (void)control_answer(d, (int)(event->data.u32 - CLIENT));
+            return GOES_ON;
+    }
+}
+
+int loop_run(struct device *d) {
+    bool blocked = false;
+    int result = GOES_ON;
+    while (result == GOES_ON) {
+        struct epoll_event events[EVENTS];
+        int count = epoll_wait(d->events, events, EVENTS, -1);
+        if (count < 0 && errno != EINTR) {
+            message_of_errno("epoll");
+            return ENDS_FAILED;
+        }
+        for (int i = 0; i < count && result == GOES_ON; i++)
+            result = on_event(d, &events[i]);
+        if (result == GOES_ON)
+            result = watch_ports(d, &blocked);
+    }
+    return result;
+}

@@ -1,0 +1,82 @@
+/* A MACsec device for Linux: a TAP device whose frames are protected on the network device below.
+ *
+ *     macsecd NAME
+ *     macsecd --create-journal NAME
+ *
+ * man/macsecd.8 has the manual. The library of macsec.h judges every frame; this program moves octets. */
+#include "device.h"
+#include <stdio.h>
+#include <string.h>
+
+static struct device device = { .endpoint = MACSEC_ENDPOINT_INIT };
+
+/* Creates the endpoint of the configuration, whose text is wiped then. */
+static int configure(struct device *d) {
+    uint32_t line;
+    uint32_t status = numbers_configure(d->numbers, &d->endpoint, d->config.text, d->config.length, &line);
+    config_wipe(&d->config);
+    if (status == MACSEC_OK)
+        return 0;
+    if (status == MACSEC_E_NOT_JOURNAL)
+        message("the journal is none, or one of another version");
+    else if (status == MACSEC_E_MEMORY)
+        message("out of memory");
+    else
+        message("%s: line %u: %s", d->config.path, (unsigned)line, macsec_status_name(status));
+    return status == MACSEC_E_MEMORY ? ENDS_FAILED : ENDS_WRONG;
+}
+
+/* Opens everything, and then gives up the rights to open more. */
+static int start(struct device *d) {
+    int result = confine_memory();
+    if (result == 0)
+        result = service_open();
+    if (result == 0)
+        result = config_read(&d->config, d->name);
+    if (result != 0)
+        return result;
+    d->numbers = numbers_open(d->name, &d->counts);
+    result = d->numbers == NULL ? ENDS_FAILED : link_open(&d->link, d->config.link);
+    if (result == 0)
+        result = tap_open(&d->tap, &d->config, &d->link);
+    if (result == 0)
+        result = configure(d);
+    if (result == 0)
+        result = control_open(&d->control, d->name, &d->config);
+    if (result == 0)
+        result = life_open(d);
+    if (result == 0)
+        result = loop_open(d);
+    return result == 0 ? confine_rights() : result;
+}
+
+static int run(struct device *d) {
+    int result = loop_block_signals(d);
+    if (result == 0)
+        result = start(d);
+    if (result != 0) {
+        config_wipe(&d->config);
+        return result;
+    }
+    message("protects %s on %s", d->tap.name, d->link.name);
+    service_notify("READY=1");
+    result = loop_run(d);
+    service_notify("STOPPING=1");
+    numbers_close(d->numbers, &d->endpoint);
+    control_close(&d->control);
+    macsec_free(&d->endpoint);
+    return result;
+}
+
+int main(int count, char **words) {
+    bool creates = count == 3 && strcmp(words[1], "--create-journal") == 0;
+    if (count == 2 && strcmp(words[1], "--version") == 0)
+        return printf("macsecd %s\n", MACSEC_VERSION) < 0 || fflush(stdout) != 0 ? ENDS_FAILED : 0;
+    if ((count != 2 && !creates) || !config_is_name(words[count - 1])) {
+        message("usage: macsecd NAME, macsecd --create-journal NAME, or macsecd --version");
+        return ENDS_WRONG;
+    }
+    device.name = words[count - 1];
+    messages_name(device.name);
+    return creates ? numbers_create(device.name) : run(&device);
+}

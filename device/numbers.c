@@ -1,0 +1,308 @@
+/* Packet numbers that outlive a run. The library decides what a frame may use and what the records are, journal.c keeps
+ * them on the disk. */
+#define _GNU_SOURCE
+#include "device.h"
+#include "journal.h"
+#include <errno.h>
+#include <stdio.h>
+#include <string.h>
+
+/* The most words of a line that begins an association, and the most octets of a word. */
+enum { WORDS = 7, WORD = 32 };
+
+/* How many received packet numbers are saved in a second: each takes the time of a synchronization. */
+enum { SAVES = 8 };
+
+struct numbers {
+    struct journal journal;
+    struct counts *counts;
+    uint64_t amount; /* of a reservation */
+    uint64_t unseen; /* frames sent since the reservations were looked at */
+    uint64_t rate;   /* frames sent since the last tick */
+    unsigned next;   /* the place of the receive association that is saved next */
+    bool failed;     /* did the last record fail, and is that reported? */
+    bool waits;      /* is no record to be written before the next tick? */
+};
+
+static struct numbers the_numbers;
+
+/* ---- The journal ---- */
+
+static void report(const char *what, const struct journal_fault *fault) {
+    errno = fault->error;
+    message_of_errno("%s: %s%s%s", what, journal_step_name(fault->step), fault->status == MACSEC_OK ? "" : " ",
+                     fault->status == MACSEC_OK ? "" : macsec_status_name(fault->status));
+}
+
+static bool path_of(char *path, size_t room, const char *name) {
+    if (config_path(path, room, "STATE_DIRECTORY", "/var/lib/macsec", name, ".journal"))
+        return true;
+    message("the path of the journal is too long");
+    return false;
+}
+
+int numbers_create(const char *name) {
+    char path[PATH_MAX];
+    struct journal_fault fault;
+    if (!path_of(path, sizeof path, name))
+        return ENDS_WRONG;
+    if (journal_create(path, &fault) == 0)
+        return 0;
+    report(path, &fault);
+    return ENDS_FAILED;
+}
+
+struct numbers *numbers_open(const char *name, struct counts *counts) {
+    struct numbers *n = &the_numbers;
+    char path[PATH_MAX];
+    struct journal_fault fault;
+    memset(n, 0, sizeof *n);
+    n->counts = counts;
+    n->amount = journal_amount(0);
+    if (!path_of(path, sizeof path, name))
+        return NULL;
+    if (journal_open(&n->journal, path, JOURNAL_LIMIT, &fault) == 0)
+        return n;
+    report(path, &fault);
+    if (fault.step == JOURNAL_OPEN && fault.error == ENOENT)
+        message("if the keys of %s.conf were never used: macsecd --create-journal %s", name, name);
+    return NULL;
+}
+
+/* Notes how a record went, and reports it when that changes. */
+static bool note(struct numbers *n, int result, const struct journal_fault *fault) {
+    if (result == 0) {
+        if (n->failed)
+            message("the journal can be written again");
+        n->failed = false;
+        return true;
+    }
+    n->counts->journal_failed++;
+    if (!n->failed)
+        report("the journal can't be written, so frames will be dropped when their packet numbers are used up", fault);
+    n->failed = n->waits = true;
+    return false;
+}
+
+/* ---- Reserving ---- */
+
+bool numbers_reserve(struct numbers *n, macsec_endpoint *e) {
+    struct journal_fault fault;
+    bool all = true;
+    n->unseen = 0;
+    for (uint8_t an = 0; an < MACSEC_AN_COUNT && all; an++) {
+        size_t before = n->journal.length;
+        int result = n->waits ? 0 : journal_reserve(&n->journal, e, an, n->amount, &fault);
+        if (result != 0 || n->journal.length != before)
+            all = note(n, result, &fault);
+    }
+    return all && !n->waits;
+}
+
+void numbers_used(struct numbers *n, macsec_endpoint *e, unsigned frames) {
+    n->unseen += frames;
+    n->rate += frames;
+    if (n->unseen >= n->amount / 8 && !n->waits)
+        (void)numbers_reserve(n, e); /* a failure is reported, and tried again at the next tick */
+}
+
+/* ---- Saving ---- */
+
+/* Saves the associations of the channel at a place. Returns the status of the channel. */
+static uint32_t save_at(struct numbers *n, macsec_endpoint *e, unsigned place, uint8_t an) {
+    struct journal_fault fault;
+    uint8_t sci[8];
+    size_t before = n->journal.length;
+    uint32_t status = macsec_get_rx_sc(e, place, sci);
+    int result = status == MACSEC_OK ? journal_save(&n->journal, e, sci, an, &fault) : 0;
+    if (result != 0 || n->journal.length != before)
+        (void)note(n, result, &fault);
+    return status;
+}
+
+void numbers_tick(struct numbers *n, macsec_endpoint *e) {
+    n->waits = false;
+    n->amount = journal_amount(n->rate);
+    n->rate = 0;
+    (void)numbers_reserve(n, e);
+    for (int i = 0; i < SAVES && !n->waits; i++) {
+        if (save_at(n, e, n->next / MACSEC_AN_COUNT, (uint8_t)(n->next % MACSEC_AN_COUNT)) != MACSEC_OK)
+            n->next = 0;
+        else
+            n->next++;
+    }
+}
+
+void numbers_close(struct numbers *n, macsec_endpoint *e) {
+    n->waits = false;
+    for (unsigned i = 0; i < MACSEC_RX_CHANNEL_COUNT * MACSEC_AN_COUNT && !n->waits; i++)
+        (void)save_at(n, e, i / MACSEC_AN_COUNT, (uint8_t)(i % MACSEC_AN_COUNT));
+    journal_close(&n->journal);
+}
+
+/* ---- Lines ---- */
+
+/* A line that begins an association, in its words. */
+struct beginning {
+    char words[WORDS][WORD];
+    int count;
+    int number_at; /* which word is the packet number */
+};
+
+static bool is_blank(uint8_t octet) {
+    return octet == ' ' || octet == '\t' || octet == '\r';
+}
+
+/* Splits a line. Returns false if it is not `A txsa ..` or `A rxsa ..` with as many words as these have. */
+static bool begins(struct beginning *b, const uint8_t *line, size_t length) {
+    size_t i = 0;
+    b->count = 0;
+    while (i < length) {
+        size_t end = i;
+        while (end < length && !is_blank(line[end]))
+            end++;
+        if (end > i) {
+            if (b->count == WORDS || end - i >= WORD)
+                return false;
+            memcpy(b->words[b->count], line + i, end - i);
+            b->words[b->count++][end - i] = '\0';
+        }
+        i = end + 1;
+    }
+    if (b->count < 6 || strcmp(b->words[0], "A") != 0)
+        return false;
+    b->number_at = strcmp(b->words[1], "txsa") == 0 ? 4 : 5;
+    return strcmp(b->words[1], b->number_at == 4 ? "txsa" : "rxsa") == 0;
+}
+
+/* Carries out the line with another packet number. */
+static uint32_t begin_at(macsec_endpoint *e, const struct beginning *b, uint64_t number) {
+    char line[WORDS * (WORD + 1)];
+    int length = 0;
+    for (int i = 0; i < b->count; i++) {
+        if (i == b->number_at)
+            length += sprintf(line + length, "%llx ", (unsigned long long)number);
+        else
+            length += sprintf(line + length, "%s ", b->words[i]);
+    }
+    return macsec_command_line(e, (const uint8_t *)line, (size_t)length);
+}
+
+/* Would the endpoint refuse the line with this packet number, because it may have been used? An association that the
+ * test begins is deleted again: it was never enabled, so it has sent and received nothing. */
+static bool is_used(macsec_endpoint *e, const struct beginning *b, uint64_t number) {
+    char line[3 * (WORD + 1)];
+    int length;
+    uint32_t status = begin_at(e, b, number);
+    if (status != MACSEC_OK)
+        return status == MACSEC_E_PN_FLOOR;
+    length = b->number_at == 4 ? sprintf(line, "A txdel %s", b->words[2])
+                               : sprintf(line, "A rxdel %s %s", b->words[2], b->words[3]);
+    (void)macsec_command_line(e, (const uint8_t *)line, (size_t)length); /* if memory runs out, it stays: AnTaken */
+    return false;
+}
+
+/* Finds the lowest packet number above `used` that was not used: first by steps that double, then by halves. */
+static uint64_t first_unused(macsec_endpoint *e, const struct beginning *b, uint64_t used) {
+    uint64_t unused = used;
+    for (uint64_t step = 1; unused == used || is_used(e, b, unused); step *= 2) {
+        if (unused != used)
+            used = unused;
+        if (used == UINT64_MAX)
+            return used;
+        unused = UINT64_MAX - used < step ? UINT64_MAX : used + step;
+    }
+    while (unused - used > 1) {
+        uint64_t middle = used + (unused - used) / 2;
+        if (is_used(e, b, middle))
+            used = middle;
+        else
+            unused = middle;
+    }
+    return unused;
+}
+
+/* Begins the association of a refused line above every packet number that may have been used. */
+static uint32_t begin_above(macsec_endpoint *e, const struct beginning *b, uint64_t *raised) {
+    unsigned long long wanted;
+    uint64_t number;
+    uint32_t status;
+    if (sscanf(b->words[b->number_at], "%16llx", &wanted) != 1)
+        return MACSEC_E_PN_FLOOR;
+    number = first_unused(e, b, wanted);
+    status = begin_at(e, b, number);
+    if (status == MACSEC_OK)
+        *raised = number;
+    return status == MACSEC_E_PN_RANGE ? MACSEC_E_PN_FLOOR : status; /* no packet number is left to the key */
+}
+
+uint32_t numbers_command(struct numbers *n, macsec_endpoint *e, const uint8_t *line, size_t length, uint64_t *raised) {
+    struct beginning b;
+    uint32_t status = macsec_command_line(e, line, length);
+    *raised = 0;
+    if (!begins(&b, line, length))
+        return status;
+    if (status == MACSEC_E_PN_FLOOR)
+        status = begin_above(e, &b, raised);
+    if (status == MACSEC_OK && b.number_at == 4)
+        (void)numbers_reserve(n, e); /* a failure is reported; the frames are dropped until it succeeds */
+    return status;
+}
+
+/* ---- The configuration ---- */
+
+/* The end of the line that begins at `start`. */
+static size_t end_of_line(const uint8_t *text, size_t length, size_t start) {
+    const uint8_t *feed = memchr(text + start, '\n', length - start);
+    return feed == NULL ? length : (size_t)(feed - text);
+}
+
+/* Does the library skip this line? */
+static bool is_skipped(const uint8_t *line, size_t length) {
+    size_t i = 0;
+    while (i < length && is_blank(line[i]))
+        i++;
+    return i == length || line[i] == '#';
+}
+
+/* Carries out the lines from `start` on. */
+static uint32_t carry_out(struct numbers *n, macsec_endpoint *e, const uint8_t *text, size_t length, size_t start,
+                          uint32_t *line) {
+    while (start < length) {
+        size_t end = end_of_line(text, length, start);
+        uint64_t raised;
+        uint32_t status;
+        ++*line;
+        status = numbers_command(n, e, text + start, end - start, &raised);
+        if (status != MACSEC_OK)
+            return status;
+        if (raised != 0)
+            message("line %u: the association begins at packet number %llx, since lower ones may have been used",
+                    (unsigned)*line, (unsigned long long)raised);
+        start = end + 1;
+    }
+    return MACSEC_OK;
+}
+
+uint32_t numbers_configure(struct numbers *n, macsec_endpoint *e, const uint8_t *text, size_t length, uint32_t *line) {
+    size_t start = 0, end = 0;
+    uint32_t before = 0, status;
+    while (start < length) {
+        end = end_of_line(text, length, start);
+        if (!is_skipped(text + start, end - start))
+            break;
+        before++;
+        start = end + 1;
+    }
+    if (start >= length) {
+        *line = 0;
+        return MACSEC_E_LINE_ENDS;
+    }
+    status = macsec_reserve_configure(e, text + start, end - start, n->journal.octets, n->journal.length, line);
+    if (status == MACSEC_E_NOT_JOURNAL) {
+        *line = 0;
+        return status;
+    }
+    *line = before + 1;
+    return status == MACSEC_OK ? carry_out(n, e, text, length, end + 1, line) : status;
+}

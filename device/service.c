@@ -1,0 +1,39 @@
+/* The service manager: systemd's protocol for services, of a datagram with an assignment. */
+#define _GNU_SOURCE
+#include "device.h"
+#include <errno.h>
+#include <stddef.h>
+#include <stdlib.h>
+#include <string.h>
+#include <sys/socket.h>
+#include <sys/un.h>
+
+static int manager = -1;
+
+int service_open(void) {
+    struct sockaddr_un address = { .sun_family = AF_UNIX };
+    const char *path = getenv("NOTIFY_SOCKET");
+    size_t length = path == NULL ? 0 : strlen(path);
+    if (length == 0)
+        return 0;
+    if ((path[0] != '/' && path[0] != '@') || length >= sizeof address.sun_path) {
+        message("NOTIFY_SOCKET names no socket");
+        return ENDS_WRONG;
+    }
+    memcpy(address.sun_path, path, length);
+    if (path[0] == '@')
+        address.sun_path[0] = '\0'; /* a name that is no file's */
+    manager = socket(AF_UNIX, SOCK_DGRAM | SOCK_NONBLOCK | SOCK_CLOEXEC, 0);
+    if (manager >= 0 &&
+        connect(manager, (const struct sockaddr *)&address,
+                (socklen_t)(offsetof(struct sockaddr_un, sun_path) + length)) == 0)
+        return 0;
+    message_of_errno("NOTIFY_SOCKET");
+    return ENDS_FAILED;
+}
+
+/* If the manager does not get it, its watchdog acts. */
+void service_notify(const char *assignment) {
+    if (manager >= 0)
+        (void)send(manager, assignment, strlen(assignment), MSG_DONTWAIT | MSG_NOSIGNAL);
+}

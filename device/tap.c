@@ -1,0 +1,108 @@
+/* TAP: the network device of the client, this host's network stack. */
+#define _GNU_SOURCE
+#include "device.h"
+#include <errno.h>
+#include <fcntl.h>
+#include <linux/if_tun.h>
+#include <net/if.h>
+#include <string.h>
+#include <sys/ioctl.h>
+#include <unistd.h>
+
+/* Octets of an Ethernet header. */
+enum { HEADER = 14 };
+
+static uint8_t buffer[MACSEC_FRAME_MAX + 1];
+
+uint32_t tap_mtu(uint32_t link_mtu, uint32_t max_frame) {
+    uint32_t frame = max_frame < MACSEC_FRAME_MAX ? max_frame : MACSEC_FRAME_MAX;
+    if (link_mtu + HEADER < frame)
+        frame = link_mtu + HEADER;
+    return frame < HEADER + MACSEC_OVERHEAD_MAX ? 0 : frame - HEADER - MACSEC_OVERHEAD_MAX;
+}
+
+/* Carries out a request at a socket or at TAP's file. */
+static int ask(int file, unsigned long call, struct ifreq *request, const char *name, const char *what) {
+    if (ioctl(file, call, request) == 0)
+        return 0;
+    message_of_errno("TAP %s: %s", name, what);
+    return ENDS_FAILED;
+}
+
+/* Gives TAP LINK's address, as the system's own MACsec devices have it: a LINK that filters by address then passes the
+ * frames for TAP. The MTU leaves space for what the endpoint adds. */
+static int set_properties(const struct tap *t, const struct config *c, const struct link *l) {
+    struct ifreq request;
+    uint32_t mtu = tap_mtu(l->mtu, c->max_frame);
+    int result;
+    memset(&request, 0, sizeof request);
+    memcpy(request.ifr_name, t->name, IF_NAMESIZE);
+    request.ifr_hwaddr.sa_family = 1; /* ARPHRD_ETHER */
+    memcpy(request.ifr_hwaddr.sa_data, l->address, sizeof l->address);
+    result = ask(t->file, SIOCSIFHWADDR, &request, t->name, "its address");
+    memset(&request, 0, sizeof request);
+    memcpy(request.ifr_name, t->name, IF_NAMESIZE);
+    request.ifr_mtu = (int)mtu;
+    return result == 0 ? ask(l->socket, SIOCSIFMTU, &request, t->name, "its MTU") : result;
+}
+
+int tap_open(struct tap *t, const struct config *c, const struct link *l) {
+    struct ifreq request;
+    int result;
+    memset(t, 0, sizeof *t);
+    memcpy(t->name, c->tap, IF_NAMESIZE);
+    memset(&request, 0, sizeof request);
+    memcpy(request.ifr_name, t->name, IF_NAMESIZE);
+    request.ifr_flags = IFF_TAP | IFF_NO_PI;
+    t->file = open("/dev/net/tun", O_RDWR | O_NONBLOCK | O_CLOEXEC);
+    if (t->file < 0) {
+        message_of_errno("/dev/net/tun");
+        return ENDS_FAILED;
+    }
+    result = ask(t->file, TUNSETIFF, &request, t->name, "it can't be made or is in use");
+    if (result != 0)
+        return result;
+    /* No frame from the client lacks its checksum or is longer than the MTU. */
+    if (ioctl(t->file, TUNSETOFFLOAD, 0UL) != 0 || (c->persists && ioctl(t->file, TUNSETPERSIST, 1UL) != 0)) {
+        message_of_errno("TAP %s", t->name);
+        return ENDS_FAILED;
+    }
+    t->index = (int)if_nametoindex(t->name);
+    return set_properties(t, c, l);
+}
+
+/* A TAP that is down, or full, has errors that pass. */
+static bool is_gone(int error) {
+    return error == EBADFD || error == EBADF || error == ENODEV || error == ENXIO;
+}
+
+enum port tap_read(struct tap *t, struct frame *frame) {
+    ssize_t length;
+    do
+        length = read(t->file, buffer, sizeof buffer);
+    while (length < 0 && errno == EINTR);
+    if (length < 0)
+        return is_gone(errno) ? PORT_GONE : PORT_BUSY;
+    frame->octets = buffer;
+    frame->length = (size_t)length;
+    return PORT_DONE;
+}
+
+enum port tap_write(struct tap *t, const uint8_t *octets, size_t length, struct counts *c) {
+    ssize_t written;
+    do
+        written = write(t->file, octets, length);
+    while (written < 0 && errno == EINTR);
+    if (written >= 0) {
+        c->tap_out++;
+        return PORT_DONE;
+    }
+    c->tap_refused++;
+    return is_gone(errno) ? PORT_GONE : PORT_DONE;
+}
+
+void tap_set_carrier(struct tap *t, bool on) {
+    int value = on;
+    if (ioctl(t->file, TUNSETCARRIER, &value) != 0)
+        message_of_errno("TAP %s: its carrier", t->name);
+}
