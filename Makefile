@@ -24,6 +24,9 @@
 # make peer          compares frames with Scapy's and with what tshark reads; both have to be installed
 # make journal       kills, stops and fails a program with a journal of packet numbers, and reads what it sent
 # make kept-frames   sees that callers which keep a frame over the next call are refused
+# make device        builds build/macsecd, the MACsec device, and build/macsecctl over the library for C
+# make install-device copies both, their manual pages and the unit of the service manager to PREFIX
+# make macsecd       runs the device in network namespaces, with root's rights
 # make c-programs    builds the library for C and the programs over it, runs them, and makes 100,000 random calls
 # make lanes-used    sees that the cipher is built of its lanes, powers and pieces
 # make clean         removes what make has built
@@ -36,10 +39,12 @@ SEED := 1
 PREFIX ?= /usr/local
 CPU ?= x86-64-v2
 BUILT := build/macsec$(if $(filter x86-64-v3,$(CPU)),-x86-64-v3)
+DEVICE_FLAGS := -std=c11 -Wall -Wextra -Werror -pedantic -Iinclude -O2 -fstack-protector-strong -D_FORTIFY_SOURCE=2 \
+    -fPIE -pie -Wl,-z,relro -Wl,-z,now -Wl,-z,noexecstack
 HWCAPS := glibc-hwcaps/x86-64-v3
 
 .PHONY: all try test run lib kept install dist check edits pictures reference pages bench fuzz moves failures stored-runs \
-    controls peer kept-frames c-programs journal lanes-used toolchain clean
+    controls peer kept-frames c-programs device install-device macsecd journal lanes-used toolchain clean
 
 all: $(BUILT)
 
@@ -125,6 +130,18 @@ c-programs: build/libmacsec.a
 journal: build/libmacsec.a
 	tools/journal --seed $(SEED)
 
+device: build/macsecd build/macsecctl
+
+install-device: device
+	install -D -m 755 -t "$(DESTDIR)$(PREFIX)/sbin" build/macsecd build/macsecctl
+	install -D -m 644 -t "$(DESTDIR)$(PREFIX)/share/man/man8" man/macsecd.8 man/macsecctl.8
+	install -d "$(DESTDIR)$(PREFIX)/lib/systemd/system"
+	sed 's|/usr/local|$(PREFIX)|' device/macsecd@.service > "$(DESTDIR)$(PREFIX)/lib/systemd/system/macsecd@.service"
+
+macsecd: build/libmacsec.a
+	tools/macsecd --seed $(SEED)
+	tools/macsecd --short --controls
+
 lanes-used: toolchain
 	tools/lanes-used
 
@@ -143,6 +160,12 @@ build/libmacsec.a: $(SOURCES) tools/merged-library tools/libmacsec.map | toolcha
 	@echo "proving and building build/libmacsec.a: from nothing many minutes, with a line for each crate" >&2
 	@tools/prove libmacsec_c.a
 	tools/merged-library build/libmacsec_c.a $@
+
+build/macsecd: $(filter-out device/macsecctl.c,$(wildcard device/*.c)) build/libmacsec.a $(wildcard device/*.h)
+	$(CC) $(DEVICE_FLAGS) -o $@ $(filter %.c %.a,$^)
+
+build/macsecctl: device/macsecctl.c
+	$(CC) $(DEVICE_FLAGS) -o $@ $<
 
 # The same for processors with vectors of 256 bits, where the loader looks for it first.
 build/$(HWCAPS)/libmacsec.a: build/libmacsec.a

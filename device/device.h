@@ -136,8 +136,8 @@ struct numbers;
 
 /* Creates the journal of this name. Returns 0, or the exit status after a message. */
 int numbers_create(const char *name);
-/* Opens it. Returns NULL after a message if it can't be read or written. */
-struct numbers *numbers_open(const char *name, struct counts *counts);
+/* Opens it. Returns 0, or the exit status after a message. */
+int numbers_open(struct numbers **n, const char *name, struct counts *counts);
 /* Creates the endpoint of a configuration's text, beside the journal. An association begins above all packet numbers
  * that an earlier run may have used. Returns the status of the first line that fails, and its number. */
 uint32_t numbers_configure(struct numbers *n, macsec_endpoint *e, const uint8_t *text, size_t length, uint32_t *line);

@@ -33,10 +33,10 @@ static int start(struct device *d) {
         result = service_open();
     if (result == 0)
         result = config_read(&d->config, d->name);
-    if (result != 0)
-        return result;
-    d->numbers = numbers_open(d->name, &d->counts);
-    result = d->numbers == NULL ? ENDS_FAILED : link_open(&d->link, d->config.link);
+    if (result == 0)
+        result = numbers_open(&d->numbers, d->name, &d->counts);
+    if (result == 0)
+        result = link_open(&d->link, d->config.link);
     if (result == 0)
         result = tap_open(&d->tap, &d->config, &d->link);
     if (result == 0)

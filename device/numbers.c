@@ -52,21 +52,21 @@ int numbers_create(const char *name) {
     return ENDS_FAILED;
 }
 
-struct numbers *numbers_open(const char *name, struct counts *counts) {
-    struct numbers *n = &the_numbers;
+int numbers_open(struct numbers **n, const char *name, struct counts *counts) {
     char path[PATH_MAX];
     struct journal_fault fault;
-    memset(n, 0, sizeof *n);
-    n->counts = counts;
-    n->amount = journal_amount(0);
+    *n = &the_numbers;
+    the_numbers.counts = counts;
+    the_numbers.amount = journal_amount(0);
     if (!path_of(path, sizeof path, name))
-        return NULL;
-    if (journal_open(&n->journal, path, JOURNAL_LIMIT, &fault) == 0)
-        return n;
+        return ENDS_WRONG;
+    if (journal_open(&the_numbers.journal, path, JOURNAL_LIMIT, &fault) == 0)
+        return 0;
     report(path, &fault);
-    if (fault.step == JOURNAL_OPEN && fault.error == ENOENT)
-        message("if the keys of %s.conf were never used: macsecd --create-journal %s", name, name);
-    return NULL;
+    if (fault.step != JOURNAL_OPEN || fault.error != ENOENT)
+        return ENDS_FAILED;
+    message("if the keys of %s.conf were never used: macsecd --create-journal %s", name, name);
+    return ENDS_WRONG;
 }
 
 /* Notes how a record went, and reports it when that changes. */
