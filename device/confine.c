@@ -51,7 +51,7 @@ static const unsigned allowed[] = {
     SYS_accept4, SYS_close, SYS_epoll_wait, SYS_epoll_pwait, SYS_epoll_ctl, SYS_clock_gettime, SYS_restart_syscall,
     /* the journal, also when it is written anew */
     SYS_openat, SYS_pread64, SYS_pwrite64, SYS_fdatasync, SYS_fsync, SYS_flock, SYS_fstat, SYS_newfstatat,
-    SYS_renameat2, SYS_unlinkat,
+    SYS_renameat, SYS_renameat2, SYS_unlinkat,
     /* memory, for the words of a line */
     SYS_brk, SYS_munmap, SYS_mremap, SYS_madvise,
     SYS_exit, SYS_exit_group,
