@@ -24,11 +24,11 @@
 # make peer          compares frames with Scapy's and with what tshark reads; both have to be installed
 # make journal       kills, stops and fails a program with a journal of packet numbers, and reads what it sent
 # make kept-frames   sees that callers which keep a frame over the next call are refused
-# make device        builds build/macsecd, the MACsec device, and build/macsecctl over the library for C
-# make install-device copies both, their manual pages and the unit of the service manager to PREFIX
-# make macsecd       runs the device in network namespaces, with root's rights
 # make c-programs    builds the library for C and the programs over it, runs them, and makes 100,000 random calls
 # make lanes-used    sees that the cipher is built of its lanes, powers and pieces
+# make device        builds the MACsec device build/macsecd, and build/macsecctl, over the library for C
+# make install-device copies both, their manual pages and the unit for systemd to PREFIX, as make install does
+# make macsecd       runs the device in network namespaces, which needs root's rights
 # make clean         removes what make has built
 # install, pages, fuzz, failures, stored-runs, controls and peer prove and build the program first; install, controls,
 # c-programs and journal the library for C. All of them work in any order in one checkout.
@@ -44,7 +44,7 @@ DEVICE_FLAGS := -std=c11 -Wall -Wextra -Werror -pedantic -Iinclude -O2 -fstack-p
 HWCAPS := glibc-hwcaps/x86-64-v3
 
 .PHONY: all try test run lib kept install dist check edits pictures reference pages bench fuzz moves failures stored-runs \
-    controls peer kept-frames c-programs device install-device macsecd journal lanes-used toolchain clean
+    controls peer kept-frames c-programs journal lanes-used toolchain clean
 
 all: $(BUILT)
 
@@ -130,6 +130,11 @@ c-programs: build/libmacsec.a
 journal: build/libmacsec.a
 	tools/journal --seed $(SEED)
 
+lanes-used: toolchain
+	tools/lanes-used
+
+.PHONY: device install-device macsecd
+
 device: build/macsecd build/macsecctl
 
 install-device: device
@@ -141,9 +146,6 @@ install-device: device
 macsecd: build/libmacsec.a
 	tools/macsecd --seed $(SEED)
 	tools/macsecd --short --controls
-
-lanes-used: toolchain
-	tools/lanes-used
 
 # The program, proved and then built by LLVM.
 build/macsec: $(SOURCES) | toolchain
