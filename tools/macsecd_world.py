@@ -128,6 +128,7 @@ class End:
         self.process: Optional[subprocess.Popen] = None
         self.program = world.programs / "macsecd"
         self.prefix: List[str] = []
+        self.more_environment: Dict[str, str] = {}
         for each in ("conf", "state", "run"):
             (self.folder / each).mkdir(parents=True)
 
@@ -140,7 +141,7 @@ class End:
         """Where macsecd finds its files."""
         folders = {"CONFIGURATION_DIRECTORY": "conf", "STATE_DIRECTORY": "state", "RUNTIME_DIRECTORY": "run"}
         more = {name: str(self.folder / each) for name, each in folders.items()}
-        return {**os.environ, **more, "ASAN_OPTIONS": "detect_leaks=0"}
+        return {**os.environ, **more, "ASAN_OPTIONS": "detect_leaks=0", **self.more_environment}
 
     @property
     def config(self) -> pathlib.Path:
