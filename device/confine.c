@@ -7,6 +7,7 @@
 #include <linux/capability.h>
 #include <linux/filter.h>
 #include <linux/if_tun.h>
+#include <linux/landlock.h>
 #include <linux/seccomp.h>
 #include <stddef.h>
 #include <sys/ioctl.h>
@@ -41,9 +42,33 @@ static int drop_capabilities(void) {
     return 0;
 }
 
-/* ---- System calls ---- */
+#ifndef MACSECD_UNFILTERED /* sanitizers and valgrind open files and make other calls */
 
-#ifndef MACSECD_UNFILTERED /* sanitizers and valgrind make other calls */
+/* ---- Files ---- */
+
+static int allow(int set, int folder, uint64_t access) {
+    const struct landlock_path_beneath_attr rule = { .allowed_access = access, .parent_fd = folder };
+    return (int)syscall(SYS_landlock_add_rule, set, LANDLOCK_RULE_PATH_BENEATH, &rule, 0);
+}
+
+/* From now on files can be opened in the journal's folder alone, and removed there and in the control socket's. */
+static int restrict_files(int state, int run) {
+    const struct landlock_ruleset_attr all = { .handled_access_fs = (LANDLOCK_ACCESS_FS_MAKE_SYM << 1) - 1 };
+    const uint64_t journal = LANDLOCK_ACCESS_FS_READ_FILE | LANDLOCK_ACCESS_FS_WRITE_FILE |
+                             LANDLOCK_ACCESS_FS_MAKE_REG | LANDLOCK_ACCESS_FS_REMOVE_FILE;
+    int set = (int)syscall(SYS_landlock_create_ruleset, &all, sizeof all, 0);
+    if (set < 0 && (errno == ENOSYS || errno == EOPNOTSUPP)) {
+        message("this system has no Landlock: files are not restricted");
+        return 0;
+    }
+    if (set >= 0 && allow(set, state, journal) == 0 && allow(set, run, LANDLOCK_ACCESS_FS_REMOVE_FILE) == 0 &&
+        syscall(SYS_landlock_restrict_self, set, 0) == 0)
+        return close(set);
+    message_of_errno("files can't be restricted");
+    return ENDS_FAILED;
+}
+
+/* ---- System calls ---- */
 
 static const unsigned allowed[] = {
     /* frames, control, reports, signals and the clock */
@@ -93,14 +118,22 @@ static int filter_calls(void) {
 
 #else
 
+static int restrict_files(int state, int run) {
+    (void)state;
+    (void)run;
+    return 0;
+}
+
 static int filter_calls(void) {
-    message("this build does not restrict its system calls");
+    message("this build restricts neither its files nor its system calls");
     return 0;
 }
 
 #endif
 
-int confine_rights(void) {
+int confine_rights(int state, int run) {
     int result = drop_capabilities();
+    if (result == 0)
+        result = restrict_files(state, run);
     return result == 0 ? filter_calls() : result;
 }

@@ -138,6 +138,8 @@ struct numbers;
 int numbers_create(const char *name);
 /* Opens it. Returns 0, or the exit status after a message. */
 int numbers_open(struct numbers **n, const char *name, struct counts *counts);
+/* The descriptor of the journal's folder. */
+int numbers_folder(const struct numbers *n);
 /* Creates the endpoint of a configuration's text, beside the journal. An association begins above all packet numbers
  * that an earlier run may have used. Returns the status of the first line that fails, and its number. */
 uint32_t numbers_configure(struct numbers *n, macsec_endpoint *e, const uint8_t *text, size_t length, uint32_t *line);
@@ -217,9 +219,9 @@ void service_notify(const char *assignment);
 
 /* No core files, and no access to the memory by other processes of the same user: to be called before keys are read. */
 int confine_memory(void);
-/* No capabilities, no new privileges, and only some system calls: to be called before frames are read. Both return 0,
- * or the exit status after a message. */
-int confine_rights(void);
+/* No capabilities, no new privileges, only some system calls, and no files but those of the folders of the journal and
+ * of the control socket: to be called before frames are read. Both return 0, or the exit status after a message. */
+int confine_rights(int state, int run);
 
 /* ---- frames.c: the path of frames ---- */
 

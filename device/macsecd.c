@@ -47,7 +47,7 @@ static int start(struct device *d) {
         result = life_open(d);
     if (result == 0)
         result = loop_open(d);
-    return result == 0 ? confine_rights() : result;
+    return result == 0 ? confine_rights(numbers_folder(d->numbers), d->control.folder) : result;
 }
 
 static int run(struct device *d) {

@@ -69,6 +69,10 @@ int numbers_open(struct numbers **n, const char *name, struct counts *counts) {
     return ENDS_WRONG;
 }
 
+int numbers_folder(const struct numbers *n) {
+    return n->journal.folder;
+}
+
 /* Notes how a record went, and reports it when that changes. */
 static bool note(struct numbers *n, int result, const struct journal_fault *fault) {
     if (result == 0) {

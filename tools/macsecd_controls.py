@@ -4,7 +4,7 @@ import pathlib
 import shutil
 from typing import Dict, List, Tuple
 
-from macsecd_world import ROOT, Failed
+from macsecd_world import Failed
 
 # The name of a check, and its mistakes: a file of device/, a text that is there once, and what is written for it.
 CONTROLS: "Dict[str, List[Tuple[str, str, str]]]" = {
@@ -30,14 +30,15 @@ CONTROLS: "Dict[str, List[Tuple[str, str, str]]]" = {
                ("frames.c", "++*too_long;", ";")],
     "service": [("loop.c", "    service_notify(\"WATCHDOG=1\");\n", "")],
     "rights": [("config.c", "        explicit_bzero(c->text, c->room);\n", "        c->text[0] = 0;\n"),
-               ("confine.c", "syscall(SYS_capset, &header, none) != 0", "0")],
+               ("confine.c", "syscall(SYS_capset, &header, none) != 0", "0"),
+               ("confine.c", "result = restrict_files(state, run);", "(void)restrict_files;")],
     "hostile": [("control.c", "static char request[REQUEST + 1]", "static char request[64]")],
 }
 
 
-def altered(folder: pathlib.Path, edit: "Tuple[str, str, str]") -> pathlib.Path:
+def altered(folder: pathlib.Path, edit: "Tuple[str, str, str]", source: pathlib.Path) -> pathlib.Path:
     """A copy of the sources with one mistake."""
-    shutil.copytree(ROOT / "device", folder)
+    shutil.copytree(source, folder, ignore=shutil.ignore_patterns("built"))
     name, old, new = edit
     text = (folder / name).read_text()
     if text.count(old) != 1:

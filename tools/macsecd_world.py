@@ -23,6 +23,21 @@ ALL_FRAMES = socket.htons(3)
 SOL_PACKET, PACKET_AUXDATA, VLAN_VALID = 263, 8, 1 << 4
 SALT = "0102030405060708090a0b0c"
 
+# The endpoint's counters: of frames of a receive channel, of other frames of LINK, and of frames of TAP.
+RX = ["InPktsOK", "InPktsUnchecked", "InPktsDelayed", "InPktsLate", "InPktsInvalid", "InPktsNotValid"]
+IN = ["InPktsUntagged", "InPktsNoTag", "InPktsBadTag", "InPktsReserved", "InPktsNoSA", "InPktsNoSAError"]
+OUT = ["OutPktsUntagged", "OutPktsTooLong", "OutPktsNoSA", "OutPktsProtected", "OutPktsEncrypted"]
+
+# What does not hold.
+wrong: List[str] = []
+
+
+def report(holds: bool, what: str) -> None:
+    """Notes and prints what does not hold."""
+    if not holds:
+        wrong.append(what)
+        print(f"WRONG: {what}", flush=True)
+
 
 class Failed(Exception):
     """Something of the test itself failed, such as a command."""

@@ -1,0 +1,73 @@
+"""Requests to macsecd: what it answers to good ones, wrong ones, and many at a time."""
+
+import contextlib
+import json
+import socket
+
+from macsecd_world import IN, OUT, RX, End, ping, report, until
+
+
+def check_answers(end: End) -> None:
+    """What the answers say."""
+    peer = f"02000000000{3 - end.number}0001"
+    numbers = end.ask("numbers")
+    report(numbers.splitlines()[0].startswith("tx 0 0 00000000000") and f"rx {peer} 0 1 " in numbers, numbers)
+    report(end.ask("A numbers") == numbers == end.ask("numbers\n"), "`A numbers` and `numbers` differ")
+    report(end.ask("numbers tx 0") + end.ask(f"numbers rx {peer} 0") == numbers, "`numbers tx 0` differs")
+    report(end.ask("numbers tx 3") == "fault NotFound\n" == end.ask("numbers rx 1122334455667788 0"), "numbers tx 3")
+    names = [*IN, "InOctetsValidated", "InOctetsDecrypted", *OUT, "OutOctetsProtected", "OutOctetsEncrypted"]
+    names += [f"{peer} {it}" for it in RX] + [f"{peer} 0 {it}" for it in RX]
+    got = [line.rsplit(" ", 1)[0] for line in end.ask("A counters").splitlines()]
+    report(sorted(got) == sorted(names), f"`A counters` has {got}")
+    shown, counters = json.loads(end.ask("json")), end.counters()
+    report(shown["counters"]["InPktsNoTag"] == counters["InPktsNoTag"], "json")
+    report(shown["receive"][0]["sci"] == peer and shown["transmit"][0]["next"] in numbers, f"json: {shown}")
+    metrics = end.ask("metrics")
+    line = f'macsec_out_pkts_encrypted_total{{device="macsec0"}} {counters["OutPktsEncrypted"]}\n'
+    report(line in metrics and "macsec_in_pkts_no_sa_error_total{" in metrics, metrics[:300])
+    samples = [it for it in metrics.splitlines() if not it.startswith("#")]
+    report(len(set(it.rsplit(" ", 1)[0] for it in samples)) == len(samples) > 40, "metrics has a sample twice")
+
+
+def check_lines(end: End) -> None:
+    """Wrong lines: each has its answer and changes nothing."""
+    before = end.ask("A counters") + end.ask("numbers")
+    for line, answer in (
+        ("A txon 3", "refused 13 NoSa"), ("A txonn 0", "fault Word"), ("A txon", "fault Count"),
+        ("nothing", "fault Word"), ("B txon 0", "fault Ends"), ("A send 00", "fault Ends"),
+        ("end A gcm128 0200000000010001 1500 sci", "fault Ends"),
+        (f"A key 0 {'00' * 16} 0", "refused 3 KeyNumberUsed"), ("A txon 0\nA txoff 0", "fault Count"),
+        ("A key 9 xx 0", "fault Hex"), ("x" * 20000, "fault Word"), ("x" * 20001, "fault LineLong"),
+        ("y" * 100000, "fault LineLong"), ("A txoff\0 0", "fault Word"), ("numbers\0", "fault Word"), ("# none", "ok"),
+    ):
+        got = end.ask(line)
+        report(got == answer + "\n", f"{line[:40]!r}: {got!r}, and not {answer!r}")
+    report(end.ask("A counters") + end.ask("numbers") == before, "a wrong line has changed something")
+
+
+def connected(end: End) -> socket.socket:
+    """A connection to the control socket."""
+    it = socket.socket(socket.AF_UNIX, socket.SOCK_SEQPACKET)
+    it.settimeout(5)
+    it.connect(end.socket)
+    return it
+
+
+def check_clients(end: End) -> None:
+    """More clients than there can be, and one that does not read its answers."""
+    clients = [connected(end) for _ in range(20)]
+    answered = 0
+    for client in clients:
+        with contextlib.suppress(OSError):
+            client.send(b"numbers")
+            answered += client.recv(1 << 20) != b""
+        client.close()
+    report(answered == 16, f"{answered} of 20 clients got an answer")
+    report(until(end.answers), "no answer after the clients have gone")
+    lazy = connected(end)
+    lazy.settimeout(0.2)
+    with contextlib.suppress(OSError):
+        for _ in range(10000):
+            lazy.send(b"json")
+    report(end.ask("A txon 0") == "ok\n" and ping(end) == 3, "no answer while a client does not read")
+    lazy.close()
