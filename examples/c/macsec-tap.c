@@ -1,4 +1,6 @@
-/* A MACsec device in user space. Its client uses a TAP device; the link is another network device.
+/* An example, which repeats IVs when it is started again with the same keys; device/ has a device that does not.
+ *
+ * A MACsec device in user space. Its client uses a TAP device; the link is another network device.
  *
  *     macsec-tap CONFIG TAP LINK [REKEY]
  * CONFIG has the lines of docs/SCRIPT.md for one end, A: `end A ..` and then its commands. REKEY has only commands. The
@@ -120,7 +122,7 @@ static int open_link(const char *name) {
     address.sll_family = AF_PACKET;
     address.sll_protocol = htons(ETH_P_ALL);
     address.sll_ifindex = (int)if_nametoindex(name);
-    if (link < 0 || bind(link, (struct sockaddr *)&address, sizeof address) < 0)
+    if (link < 0 || address.sll_ifindex == 0 || bind(link, (struct sockaddr *)&address, sizeof address) < 0)
         fail(name);
     return link;
 }
