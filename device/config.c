@@ -145,14 +145,16 @@ static const char *take_line(struct config *c, char words[WORDS][WORD], int coun
     if (count == 2 && strcmp(words[1], "persist") == 0)
         return c->persists = true, NULL;
     if (count != 3)
-        return "`device link NAME`, `device tap NAME`, `device group NAME` or `device persist` is expected";
+        return "`device link NAME`, `tap NAME`, `group NAME`, `port off` or `persist` is expected";
     if (strcmp(words[1], "link") == 0)
         return take_name(c->link, words[2]) ? NULL : "no network device can have this name";
     if (strcmp(words[1], "tap") == 0)
         return take_name(c->tap, words[2]) ? NULL : "no network device can have this name";
     if (strcmp(words[1], "group") == 0)
         return take_group(c, words[2]) ? NULL : "there is no such group";
-    return "the word after `device` is not link, tap, group or persist";
+    if (strcmp(words[1], "port") == 0 && strcmp(words[2], "off") == 0)
+        return c->begins_off = true, NULL;
+    return "the word after `device` is not link, tap, group, port or persist";
 }
 
 static bool is_blank(uint8_t octet) {

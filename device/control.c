@@ -98,9 +98,10 @@ void control_close(struct control *k) {
 
 /* ---- Clients ---- */
 
-static void close_client(struct control *k, int index) {
-    (void)close(k->clients[index]); /* this also takes it out of what the loop waits for */
-    k->clients[index] = -1;
+static void close_client(struct device *d, int index) {
+    (void)close(d->control.clients[index]); /* this also takes it out of what the loop waits for */
+    d->control.clients[index] = -1;
+    port_client_gone(d, index);
 }
 
 int control_accept(struct control *k) {
@@ -161,16 +162,35 @@ static bool answer_reader(struct device *d, struct text *t, const char *text) {
     return true;
 }
 
+static bool is_request(const char *text, size_t length) {
+    return strlen(text) == length && memcmp(request, text, length) == 0;
+}
+
+/* Answers a request that may change something. */
+static void answer_change(struct device *d, struct text *t, int client, size_t length) {
+    uint64_t raised;
+    uint32_t status;
+    if (!port_may_change(d, client)) {
+        text_add(t, "fault Owned\n");
+    } else if (is_request("own", length)) {
+        port_own(d, client);
+        text_add(t, "ok\n");
+    } else if (is_request("port on", length) || is_request("port off", length)) {
+        port_set(d, is_request("port on", length));
+        text_add(t, "ok\n");
+    } else {
+        status = numbers_command(d->numbers, &d->endpoint, (const uint8_t *)request, length, &raised);
+        answer_status(t, status, raised);
+    }
+}
+
 /* Answers a request. Its text ends with a zero, and may have others. */
-static void answer_request(struct device *d, struct text *t, size_t length) {
-    uint64_t raised = 0;
+static void answer_request(struct device *d, struct text *t, int client, size_t length) {
     if (length > 0 && request[length - 1] == '\n')
         request[--length] = '\0';
     link_count_lost(&d->link, &d->counts);
-    if (strlen(request) != length || !answer_reader(d, t, request)) {
-        uint32_t status = numbers_command(d->numbers, &d->endpoint, (const uint8_t *)request, length, &raised);
-        answer_status(t, status, raised);
-    }
+    if (strlen(request) != length || !answer_reader(d, t, request))
+        answer_change(d, t, client, length);
     if (t->full) {
         t->length = 0;
         text_add(t, "fault AnswerLong\n");
@@ -184,17 +204,17 @@ bool control_answer(struct device *d, int index) {
     if (length < 0 && (errno == EAGAIN || errno == EINTR))
         return true;
     if (length <= 0) {
-        close_client(&d->control, index);
+        close_client(d, index);
         return false;
     }
     request[length] = '\0';
     d->counts.requests++;
-    answer_request(d, &t, (size_t)length);
+    answer_request(d, &t, index, (size_t)length);
     explicit_bzero(request, sizeof request); /* it may be a key */
     do
         length = send(client, answer, t.length, MSG_DONTWAIT | MSG_NOSIGNAL);
     while (length < 0 && errno == EINTR);
     if (length < 0)
-        close_client(&d->control, index); /* it does not read its answers, or has gone */
+        close_client(d, index); /* it does not read its answers, or has gone */
     return length >= 0;
 }

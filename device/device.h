@@ -35,6 +35,7 @@ struct config {
     gid_t group; /* that may use the control socket */
     bool has_group;
     bool persists;      /* does TAP stay when macsecd ends? */
+    bool begins_off;    /* is the controlled port off at the start? */
     uint32_t max_frame; /* MAX of the `end` line */
     uint8_t *text;      /* the lines for the endpoint; those for the device are comments in it */
     size_t length, room;
@@ -65,6 +66,8 @@ struct counts {
     uint64_t tap_too_long;
     uint64_t tap_out;        /* frames that TAP took */
     uint64_t tap_refused;    /* frames that TAP did not take, because it is down, for example */
+    uint64_t port_out;       /* frames of TAP that were dropped: the controlled port is off */
+    uint64_t port_in;        /* frames for TAP that were dropped for this reason */
     uint64_t no_reservation; /* frames of TAP that were dropped: their packet numbers are not reserved */
     uint64_t journal_failed; /* failures to write to the journal */
     uint64_t requests;       /* requests at the control socket */
@@ -94,18 +97,18 @@ struct frame {
 };
 
 /* What became of a call to a device: it was done, it can't be done now, or the device is gone. */
-enum port { PORT_DONE, PORT_BUSY, PORT_GONE };
+enum outcome { DONE, BUSY, GONE };
 
 /* Opens LINK. Returns 0, or the exit status after a message. */
 int link_open(struct link *l, const char *name);
 /* Reads at most BATCH frames. A VLAN tag that the system took out of a frame is in it again. */
-enum port link_read(struct link *l, struct frame frames[BATCH], unsigned *count);
+enum outcome link_read(struct link *l, struct frame frames[BATCH], unsigned *count);
 /* Adds a copy of a frame to those that wait. At most BATCH frames may wait. */
 void link_append(const uint8_t *octets, size_t length);
 /* How many frames wait. */
 unsigned link_waiting(void);
-/* Sends the frames that wait. PORT_BUSY: some still wait, until LINK can be written to. */
-enum port link_flush(struct link *l, struct counts *c);
+/* Sends the frames that wait. BUSY: some still wait, until LINK can be written to. */
+enum outcome link_flush(struct link *l, struct counts *c);
 /* Adds the frames that LINK's socket has lost since the last call. */
 void link_count_lost(struct link *l, struct counts *c);
 /* Makes LINK pass frames to any address. */
@@ -124,9 +127,9 @@ uint32_t tap_mtu(uint32_t link_mtu, uint32_t max_frame);
 /* Opens TAP, with LINK's address and this MTU. Returns 0, or the exit status after a message. */
 int tap_open(struct tap *t, const struct config *c, const struct link *l);
 /* Reads a frame. It is there until the next call. */
-enum port tap_read(struct tap *t, struct frame *frame);
+enum outcome tap_read(struct tap *t, struct frame *frame);
 /* Delivers a frame, and counts whether TAP took it. */
-enum port tap_write(struct tap *t, const uint8_t *octets, size_t length, struct counts *c);
+enum outcome tap_write(struct tap *t, const uint8_t *octets, size_t length, struct counts *c);
 /* Gives TAP carrier, or takes it away. */
 void tap_set_carrier(struct tap *t, bool on);
 
@@ -196,6 +199,26 @@ bool control_answer(struct device *d, int index);
 /* Removes the socket. */
 void control_close(struct control *k);
 
+/* ---- port.c: the controlled port, and the client that owns the device ---- */
+
+struct port {
+    bool off;
+    int ticks; /* how often the clock has ticked since it is off */
+    int owner; /* a client, or -1 */
+};
+
+void port_open(struct device *d);
+/* Gives TAP carrier while LINK has and the port is on. */
+void port_set_carrier(struct device *d);
+void port_set(struct device *d, bool on);
+/* To be called each second. */
+void port_tick(struct device *d);
+/* May a client change something? Then it may become the owner. */
+bool port_may_change(const struct device *d, int client);
+void port_own(struct device *d, int client);
+/* To be called when a connection has ended. */
+void port_client_gone(struct device *d, int client);
+
 /* ---- life.c: LINK and TAP go up and down, change and end ---- */
 
 struct life {
@@ -226,9 +249,9 @@ int confine_rights(int state, int run);
 /* ---- frames.c: the path of frames ---- */
 
 /* Reads a batch of frames from TAP, and sends what the endpoint makes of them. */
-enum port frames_from_client(struct device *d);
+enum outcome frames_from_client(struct device *d);
 /* Reads a batch of frames from LINK, and delivers what the endpoint makes of them. */
-enum port frames_from_link(struct device *d);
+enum outcome frames_from_link(struct device *d);
 
 /* ---- loop.c: waiting ---- */
 
@@ -241,6 +264,7 @@ struct device {
     struct tap tap;
     struct life life;
     struct control control;
+    struct port port;
     struct numbers *numbers;
     int signals, clock, events;
 };

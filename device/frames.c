@@ -11,7 +11,12 @@ static void count_fault(uint32_t status, uint64_t *too_short, uint64_t *too_long
 /* Adds to the waiting frames what the endpoint makes of a client frame. Returns true if that used a packet number. */
 static bool send_one(struct device *d, const struct frame *frame) {
     macsec_sent sent;
-    uint32_t status = macsec_send(&d->endpoint, frame->octets, frame->length, &sent);
+    uint32_t status;
+    if (d->port.off) {
+        d->counts.port_out++;
+        return false;
+    }
+    status = macsec_send(&d->endpoint, frame->octets, frame->length, &sent);
     if (sent.fate == MACSEC_FATE_NO_RESERVATION && numbers_reserve(d->numbers, &d->endpoint))
         status = macsec_send(&d->endpoint, frame->octets, frame->length, &sent);
     count_fault(status, &d->counts.tap_too_short, &d->counts.tap_too_long);
@@ -22,14 +27,22 @@ static bool send_one(struct device *d, const struct frame *frame) {
     return sent.fate == MACSEC_FATE_PROTECTED;
 }
 
-enum port frames_from_client(struct device *d) {
+/* Delivers a frame, while the controlled port is on. The endpoint has judged it in any case. */
+static enum outcome deliver(struct device *d, const macsec_received *got) {
+    if (!d->port.off)
+        return tap_write(&d->tap, got->frame, got->length, &d->counts);
+    d->counts.port_in++;
+    return DONE;
+}
+
+enum outcome frames_from_client(struct device *d) {
     unsigned used = 0;
     for (unsigned i = link_waiting(); i < BATCH; i++) {
         struct frame frame;
-        enum port port = tap_read(&d->tap, &frame);
-        if (port == PORT_GONE)
-            return port;
-        if (port == PORT_BUSY)
+        enum outcome outcome = tap_read(&d->tap, &frame);
+        if (outcome == GONE)
+            return outcome;
+        if (outcome == BUSY)
             break;
         d->counts.tap_in++;
         used += send_one(d, &frame);
@@ -38,17 +51,17 @@ enum port frames_from_client(struct device *d) {
     return link_flush(&d->link, &d->counts);
 }
 
-enum port frames_from_link(struct device *d) {
+enum outcome frames_from_link(struct device *d) {
     struct frame frames[BATCH];
     unsigned count;
-    enum port port = link_read(&d->link, frames, &count);
+    enum outcome outcome = link_read(&d->link, frames, &count);
     for (unsigned i = 0; i < count; i++) {
         macsec_received got;
         uint32_t status = macsec_receive(&d->endpoint, frames[i].octets, frames[i].length, &got);
         d->counts.link_in++;
         count_fault(status, &d->counts.link_too_short, &d->counts.link_too_long);
-        if (got.delivered && tap_write(&d->tap, got.frame, got.length, &d->counts) == PORT_GONE)
-            return PORT_GONE;
+        if (got.delivered && deliver(d, &got) == GONE)
+            return GONE;
     }
-    return port;
+    return outcome;
 }

@@ -41,7 +41,7 @@ static void note_link_up(struct device *d, unsigned flags) {
     if (up == d->life.up)
         return;
     d->life.up = up;
-    tap_set_carrier(&d->tap, up);
+    port_set_carrier(d);
     message("LINK %s is %s", d->link.name, up ? "up" : "down");
 }
 

@@ -154,7 +154,7 @@ static bool is_gone(int error) {
     return error == ENODEV || error == ENXIO || error == EBADF;
 }
 
-enum port link_read(struct link *l, struct frame frames[BATCH], unsigned *count) {
+enum outcome link_read(struct link *l, struct frame frames[BATCH], unsigned *count) {
     struct mmsghdr headers[BATCH];
     struct iovec parts[BATCH];
     int got;
@@ -172,11 +172,11 @@ enum port link_read(struct link *l, struct frame frames[BATCH], unsigned *count)
         got = recvmmsg(l->socket, headers, BATCH, MSG_DONTWAIT, NULL);
     while (got < 0 && errno == EINTR);
     if (got < 0)
-        return is_gone(errno) ? PORT_GONE : PORT_BUSY;
+        return is_gone(errno) ? GONE : BUSY;
     for (int i = 0; i < got; i++)
         frames[i] = frame_of(&received[i], headers[i].msg_len, &headers[i].msg_hdr);
     *count = (unsigned)got;
-    return PORT_DONE;
+    return DONE;
 }
 
 void link_count_lost(struct link *l, struct counts *c) {
@@ -214,20 +214,20 @@ static int send_waiting(const struct link *l) {
     return sendmmsg(l->socket, headers, count, MSG_DONTWAIT);
 }
 
-enum port link_flush(struct link *l, struct counts *c) {
+enum outcome link_flush(struct link *l, struct counts *c) {
     while (link_waiting() > 0) {
         int sent = send_waiting(l);
         if (sent > 0) {
             c->link_out += (unsigned)sent;
             waiting_first += (unsigned)sent;
         } else if (errno == EAGAIN) {
-            return PORT_BUSY;
+            return BUSY;
         } else if (is_gone(errno)) {
-            return PORT_GONE;
+            return GONE;
         } else if (errno != EINTR) {
             c->link_refused++; /* this frame alone: too long for LINK, LINK is down, or its queue is full */
             waiting_first++;
         }
     }
-    return PORT_DONE;
+    return DONE;
 }

@@ -85,16 +85,16 @@ static int watch_ports(struct device *d, bool *blocked) {
 
 /* LINK has no message of its own: rtnetlink reports what happened to it. */
 static int on_link(struct device *d, uint32_t events) {
-    enum port port = (events & EPOLLOUT) != 0 ? link_flush(&d->link, &d->counts) : PORT_DONE;
-    if (port != PORT_GONE && (events & ~(uint32_t)EPOLLOUT) != 0)
-        port = frames_from_link(d);
-    return port == PORT_GONE && !life_read(d) ? ENDS_FAILED : GOES_ON;
+    enum outcome outcome = (events & EPOLLOUT) != 0 ? link_flush(&d->link, &d->counts) : DONE;
+    if (outcome != GONE && (events & ~(uint32_t)EPOLLOUT) != 0)
+        outcome = frames_from_link(d);
+    return outcome == GONE && !life_read(d) ? ENDS_FAILED : GOES_ON;
 }
 
-/* PORT_GONE can also mean LINK here. rtnetlink says which, and if it has nothing to say, the loop goes on. */
+/* GONE can also mean LINK here. rtnetlink says which, and if it has nothing to say, the loop goes on. */
 static int on_tap(struct device *d, uint32_t events) {
     bool failed = (events & (EPOLLERR | EPOLLHUP)) != 0;
-    if (frames_from_client(d) != PORT_GONE && !failed)
+    if (frames_from_client(d) != GONE && !failed)
         return GOES_ON;
     if (!life_read(d))
         return ENDS_FAILED;
@@ -119,6 +119,7 @@ static int on_clock(struct device *d) {
         return GOES_ON;
     numbers_tick(d->numbers, &d->endpoint);
     link_count_lost(&d->link, &d->counts);
+    port_tick(d);
     service_notify("WATCHDOG=1");
     return GOES_ON;
 }

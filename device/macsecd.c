@@ -39,6 +39,7 @@ static int start(struct device *d) {
         result = link_open(&d->link, d->config.link);
     if (result == 0)
         result = tap_open(&d->tap, &d->config, &d->link);
+    port_open(d);
     if (result == 0)
         result = configure(d);
     if (result == 0)

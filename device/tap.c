@@ -76,29 +76,29 @@ static bool is_gone(int error) {
     return error == EBADFD || error == EBADF || error == ENODEV || error == ENXIO;
 }
 
-enum port tap_read(struct tap *t, struct frame *frame) {
+enum outcome tap_read(struct tap *t, struct frame *frame) {
     ssize_t length;
     do
         length = read(t->file, buffer, sizeof buffer);
     while (length < 0 && errno == EINTR);
     if (length < 0)
-        return is_gone(errno) ? PORT_GONE : PORT_BUSY;
+        return is_gone(errno) ? GONE : BUSY;
     frame->octets = buffer;
     frame->length = (size_t)length;
-    return PORT_DONE;
+    return DONE;
 }
 
-enum port tap_write(struct tap *t, const uint8_t *octets, size_t length, struct counts *c) {
+enum outcome tap_write(struct tap *t, const uint8_t *octets, size_t length, struct counts *c) {
     ssize_t written;
     do
         written = write(t->file, octets, length);
     while (written < 0 && errno == EINTR);
     if (written >= 0) {
         c->tap_out++;
-        return PORT_DONE;
+        return DONE;
     }
     c->tap_refused++;
-    return is_gone(errno) ? PORT_GONE : PORT_DONE;
+    return is_gone(errno) ? GONE : DONE;
 }
 
 void tap_set_carrier(struct tap *t, bool on) {

@@ -71,3 +71,45 @@ def check_clients(end: End) -> None:
             lazy.send(b"json")
     report(end.ask("A txon 0") == "ok\n" and ping(end) == 3, "no answer while a client does not read")
     lazy.close()
+
+
+def has_carrier(end: End) -> bool:
+    """Has TAP carrier?"""
+    return "NO-CARRIER" not in end.ip("link", "show", "macsec0")
+
+
+def check_port(end: End, peer: End) -> None:
+    """The controlled port goes off and on: frames are judged and counted, and TAP loses carrier after a while."""
+    before = end.counters()
+    end.carry_out("port off")
+    report(ping(end, 2, seconds=0.1) == 0 and ping(peer, 2, seconds=0.1) == 0, "frames pass while the port is off")
+    after = end.counters()
+    for name in ("device PortOut", "device PortIn", f"{peer.sci} InPktsOK"):
+        report(after[name] >= before[name] + 2, f"the port is off: {name} goes from {before[name]} to {after[name]}")
+    end.carry_out("port on")
+    report(has_carrier(end) and ping(end) == 3, "a port that was off for a moment: no carrier, or no replies")
+    end.carry_out("port off")
+    report(until(lambda: not has_carrier(end)), "TAP has carrier while the port is off")
+    end.carry_out("port on")
+    report(until(lambda: has_carrier(end)) and ping(end, 5) > 2, "no replies after `port on`")
+
+
+def check_owner(end: End) -> None:
+    """A client that owns the device: others only read, and the port goes off when it has gone."""
+    owner, other = connected(end), connected(end)
+
+    def ask(client: socket.socket, request: bytes) -> str:
+        client.send(request)
+        return client.recv(1 << 20).decode()
+
+    report(ask(owner, b"own") == "ok\n" == ask(owner, b"own"), "`own`")
+    for request in (b"own", b"port off", b"A txoff 0", b"own\0", b"# none"):
+        report(ask(other, request) == "fault Owned\n", f"{request!r} of another client than the owner")
+    report(ask(other, b"numbers").startswith("tx 0 "), "another client than the owner can't read")
+    report(ask(owner, b"A txoff 0") == "ok\n" == ask(owner, b"A txon 0") and ping(end) == 3, "lines of the owner")
+    owner.close()
+    report(until(lambda: "the owner has gone" in end.log()), "no message when the owner has gone")
+    report(ping(end, 2, seconds=0.1) == 0, "frames pass without the owner")
+    report(ask(other, b"port on") == "ok\n" and ping(end) == 3, "no replies after `port on` of another client")
+    report(ask(other, b"own\0") == "fault Word\n", "a request with a zero")
+    other.close()

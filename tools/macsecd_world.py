@@ -16,7 +16,7 @@ from typing import Callable, Dict, Iterator, List, Optional, Tuple
 ROOT = pathlib.Path(__file__).resolve().parent.parent
 LIBC = ctypes.CDLL(None, use_errno=True)
 SOURCES = ["macsecd", "answers", "config", "confine", "control", "counts", "frames", "journal", "life", "link", "loop",
-           "messages", "numbers", "service", "tap"]
+           "messages", "numbers", "port", "service", "tap"]
 WARNINGS = ["-std=c11", "-Wall", "-Wextra", "-Werror", "-pedantic"]
 SANITIZED = ["-g", "-fsanitize=address,undefined", "-fno-sanitize-recover=all", "-DMACSECD_UNFILTERED"]
 ALL_FRAMES = socket.htons(3)

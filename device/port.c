@@ -1,0 +1,50 @@
+/* The controlled port, as a key agreement uses it: frames pass while it is on. A client that owns the device alone may
+ * change something, and the port goes off when it has gone, since then nobody installs new keys. */
+#include "device.h"
+
+/* How many ticks the port is off before TAP loses carrier. A port that is off for some milliseconds, as when a key
+ * agreement chooses another server, must not wake what waits for carrier. */
+enum { TICKS = 2 };
+
+void port_open(struct device *d) {
+    d->port.off = d->config.begins_off;
+    d->port.ticks = d->port.off ? TICKS : 0;
+    d->port.owner = -1;
+}
+
+void port_set_carrier(struct device *d) {
+    tap_set_carrier(&d->tap, d->life.up && d->port.ticks < TICKS);
+}
+
+void port_set(struct device *d, bool on) {
+    bool had_no_carrier = d->port.ticks >= TICKS;
+    d->port.off = !on;
+    if (on)
+        d->port.ticks = 0;
+    if (on && had_no_carrier)
+        port_set_carrier(d);
+}
+
+void port_tick(struct device *d) {
+    if (!d->port.off || d->port.ticks >= TICKS)
+        return;
+    d->port.ticks++;
+    if (d->port.ticks == TICKS)
+        port_set_carrier(d);
+}
+
+bool port_may_change(const struct device *d, int client) {
+    return d->port.owner < 0 || d->port.owner == client;
+}
+
+void port_own(struct device *d, int client) {
+    d->port.owner = client;
+}
+
+void port_client_gone(struct device *d, int client) {
+    if (d->port.owner != client)
+        return;
+    d->port.owner = -1;
+    port_set(d, false);
+    message("the owner has gone, so the port is off");
+}
