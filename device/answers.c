@@ -62,7 +62,7 @@ static void sci_text(const uint8_t sci[8], char text[SCI_TEXT]) {
         snprintf(text + 2 * i, 3, "%02x", sci[i]);
 }
 
-/* A packet number, of which 2^64 is one past the last. */
+/* A packet number as text. 2^64, one past the last, has 17 digits. */
 static void number_text(uint64_t number, uint64_t high, char text[20]) {
     snprintf(text, 20, "%s%016" PRIx64, high != 0 ? "1" : "", number);
 }

@@ -1,5 +1,5 @@
-/* What macsecd gives up. The list of system calls is a program of its own and not of libseccomp: it is short, for one
- * processor, and never changes while macsecd runs, and so the package needs the C library alone. */
+/* What macsecd gives up. libseccomp is not used: the list of system calls is short, for one processor, and never changes
+ * while macsecd runs. Without it the program needs the C library alone. */
 #define _GNU_SOURCE
 #include "device.h"
 #include <errno.h>
@@ -74,7 +74,7 @@ static const unsigned allowed[] = {
     /* frames, control, reports, signals and the clock */
     SYS_read, SYS_write, SYS_recvmmsg, SYS_sendmmsg, SYS_recvfrom, SYS_sendto, SYS_getsockopt, SYS_setsockopt,
     SYS_accept4, SYS_close, SYS_epoll_wait, SYS_epoll_pwait, SYS_epoll_ctl, SYS_clock_gettime, SYS_restart_syscall,
-    /* the journal, also when it is written anew */
+    /* the journal, also when it is rewritten */
     SYS_openat, SYS_pread64, SYS_pwrite64, SYS_fdatasync, SYS_fsync, SYS_flock, SYS_fstat, SYS_newfstatat,
     SYS_renameat, SYS_renameat2, SYS_unlinkat,
     /* memory, for the words of a line */

@@ -242,8 +242,8 @@ void service_notify(const char *assignment);
 
 /* No core files, and no access to the memory by other processes of the same user: to be called before keys are read. */
 int confine_memory(void);
-/* No capabilities, no new privileges, only some system calls, and no files but those of the folders of the journal and
- * of the control socket: to be called before frames are read. Both return 0, or the exit status after a message. */
+/* No capabilities, no new privileges, only some system calls, and no files except in the folders of the journal and the
+ * control socket: to be called before frames are read. Both return 0, or the exit status after a message. */
 int confine_rights(int state, int run);
 
 /* ---- frames.c: the path of frames ---- */

@@ -83,7 +83,7 @@ static int watch_ports(struct device *d, bool *blocked) {
     return result == 0 ? GOES_ON : result;
 }
 
-/* LINK has no message of its own: rtnetlink reports what happened to it. */
+/* Nothing is printed here: rtnetlink reports what happened to LINK. */
 static int on_link(struct device *d, uint32_t events) {
     enum outcome outcome = (events & EPOLLOUT) != 0 ? link_flush(&d->link, &d->counts) : DONE;
     if (outcome != GONE && (events & ~(uint32_t)EPOLLOUT) != 0)

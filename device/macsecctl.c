@@ -16,7 +16,7 @@
 #include <sys/un.h>
 #include <unistd.h>
 
-/* The most octets of a request: those of the longest line, and a line feed. The most of an answer. */
+/* A request is at most as long as the longest line with its line feed. */
 enum { REQUEST = 20002, ANSWER = 512 * 1024 };
 
 static char request[REQUEST], answer[ANSWER], earlier[ANSWER];

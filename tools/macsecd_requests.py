@@ -3,8 +3,14 @@
 import contextlib
 import json
 import socket
+from typing import Callable
 
 from macsecd_world import IN, OUT, RX, End, ping, report, until
+
+
+def agree(answer: Callable[[], str], other: Callable[[], str], what: str) -> None:
+    """Two answers have to be the same, unless a frame comes between them."""
+    report(until(lambda: answer() == other()), f"{what}: {answer()!r} and {other()!r}")
 
 
 def check_answers(end: End) -> None:
@@ -12,26 +18,43 @@ def check_answers(end: End) -> None:
     peer = f"02000000000{3 - end.number}0001"
     numbers = end.ask("numbers")
     report(numbers.splitlines()[0].startswith("tx 0 0 00000000000") and f"rx {peer} 0 1 " in numbers, numbers)
-    report(end.ask("A numbers") == numbers == end.ask("numbers\n"), "`A numbers` and `numbers` differ")
-    report(end.ask("numbers tx 0") + end.ask(f"numbers rx {peer} 0") == numbers, "`numbers tx 0` differs")
+    agree(lambda: end.ask("A numbers"), lambda: end.ask("numbers\n"), "`A numbers` and `numbers`")
+    agree(lambda: end.ask("numbers"), lambda: end.ask("numbers tx 0") + end.ask(f"numbers rx {peer} 0"), "one SA")
     report(end.ask("numbers tx 3") == "fault NotFound\n" == end.ask("numbers rx 1122334455667788 0"), "numbers tx 3")
     names = [*IN, "InOctetsValidated", "InOctetsDecrypted", *OUT, "OutOctetsProtected", "OutOctetsEncrypted"]
     names += [f"{peer} {it}" for it in RX] + [f"{peer} 0 {it}" for it in RX]
     got = [line.rsplit(" ", 1)[0] for line in end.ask("A counters").splitlines()]
     report(sorted(got) == sorted(names), f"`A counters` has {got}")
-    shown, counters = json.loads(end.ask("json")), end.counters()
-    report(shown["counters"]["InPktsNoTag"] == counters["InPktsNoTag"], "json")
-    report(shown["receive"][0]["sci"] == peer and shown["transmit"][0]["next"] in numbers, f"json: {shown}")
+    check_formats(end, peer)
+
+
+def check_formats(end: End, peer: str) -> None:
+    """JSON, and the text format of Prometheus."""
+
+    def sample() -> str:
+        lines = end.ask("metrics").splitlines()
+        return next(it for it in lines if it.startswith('macsec_out_pkts_encrypted_total{device="macsec0"}'))
+
+    shown = json.loads(end.ask("json"))
+    report(shown["receive"][0]["sci"] == peer and shown["link"] == "link0" and shown["up"] is True, f"json: {shown}")
+    agree(lambda: str(json.loads(end.ask("json"))["transmit_counters"]["OutPktsEncrypted"]),
+          lambda: str(end.counters()["OutPktsEncrypted"]), "json")
+    agree(lambda: sample().split()[1], lambda: str(end.counters()["OutPktsEncrypted"]), "metrics")
     metrics = end.ask("metrics")
-    line = f'macsec_out_pkts_encrypted_total{{device="macsec0"}} {counters["OutPktsEncrypted"]}\n'
-    report(line in metrics and "macsec_in_pkts_no_sa_error_total{" in metrics, metrics[:300])
+    report("macsec_in_pkts_no_sa_error_total{" in metrics, metrics[:300])
     samples = [it for it in metrics.splitlines() if not it.startswith("#")]
     report(len(set(it.rsplit(" ", 1)[0] for it in samples)) == len(samples) > 40, "metrics has a sample twice")
 
 
+def state_of(end: End) -> str:
+    """What lines can change: the associations without their packet numbers, which frames change, and the keys."""
+    lines = [line.split() for line in end.ask("numbers").splitlines()]
+    return f"{[[it for it in words if len(it) != 16] for words in lines]} {json.loads(end.ask('json'))['keys_left']}"
+
+
 def check_lines(end: End) -> None:
     """Wrong lines: each has its answer and changes nothing."""
-    before = end.ask("A counters") + end.ask("numbers")
+    before = state_of(end)
     for line, answer in (
         ("A txon 3", "refused 13 NoSa"), ("A txonn 0", "fault Word"), ("A txon", "fault Count"),
         ("nothing", "fault Word"), ("B txon 0", "fault Ends"), ("A send 00", "fault Ends"),
@@ -42,7 +65,7 @@ def check_lines(end: End) -> None:
     ):
         got = end.ask(line)
         report(got == answer + "\n", f"{line[:40]!r}: {got!r}, and not {answer!r}")
-    report(end.ask("A counters") + end.ask("numbers") == before, "a wrong line has changed something")
+    report(state_of(end) == before, f"a wrong line has changed {before} to {state_of(end)}")
 
 
 def connected(end: End) -> socket.socket:
