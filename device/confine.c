@@ -1,5 +1,5 @@
-/* What macsecd gives up. libseccomp is not used: the list of system calls is short, for one processor, and never changes
- * while macsecd runs. Without it the program needs the C library alone. */
+/* What macsecd gives up. libseccomp is not used: the list of system calls is short, for one processor, and never
+ * changes while macsecd runs. Without it the program needs the C library alone. */
 #define _GNU_SOURCE
 #include "device.h"
 #include <errno.h>

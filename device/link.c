@@ -47,9 +47,9 @@ static int join(const struct link *l, unsigned short type, const char *what) {
 static void set_buffer(int socket) {
     int octets = BUFFER;
     if (setsockopt(socket, SOL_SOCKET, SO_RCVBUFFORCE, &octets, sizeof octets) != 0)
-        (void)setsockopt(socket, SOL_SOCKET, SO_RCVBUF, &octets, sizeof octets); /* then LinkLost counts what it loses */
+        (void)setsockopt(socket, SOL_SOCKET, SO_RCVBUF, &octets, sizeof octets); /* LinkLost counts what it loses */
     if (setsockopt(socket, SOL_SOCKET, SO_SNDBUFFORCE, &octets, sizeof octets) != 0)
-        (void)setsockopt(socket, SOL_SOCKET, SO_SNDBUF, &octets, sizeof octets); /* then more calls are needed */
+        (void)setsockopt(socket, SOL_SOCKET, SO_SNDBUF, &octets, sizeof octets); /* more calls are needed */
 }
 
 /* Reads LINK's address and its MTU. */
