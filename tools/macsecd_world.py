@@ -18,7 +18,7 @@ LIBC = ctypes.CDLL(None, use_errno=True)
 SOURCES = ["macsecd", "answers", "config", "confine", "control", "counts", "frames", "journal", "life", "link", "loop",
            "messages", "numbers", "port", "service", "tap"]
 WARNINGS = ["-std=c11", "-Wall", "-Wextra", "-Werror", "-pedantic"]
-SANITIZED = ["-g", "-fsanitize=address,undefined", "-fno-sanitize-recover=all", "-DMACSECD_UNFILTERED"]
+SANITIZED = ["-g", "-O1", "-fsanitize=address,undefined", "-fno-sanitize-recover=all", "-DMACSECD_UNFILTERED"]
 ALL_FRAMES = socket.htons(3)
 SOL_PACKET, PACKET_AUXDATA, VLAN_VALID = 263, 8, 1 << 4
 SALT = "0102030405060708090a0b0c"
