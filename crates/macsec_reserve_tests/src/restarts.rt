@@ -143,9 +143,8 @@ fn refuses_another_file(rt: HostRuntime) {
     for length in [0usize, 1, 32, 63] {
         let fault = Keeper::open(alloc, CONFIG, &octets[..length]).err();
         assert!(rt; fault == Some(OpenFault::NotJournal), "{length}");
-        let fault = compacted(alloc, &octets[..length]).err();
-        assert!(rt; fault == Some(CompactFault::NotJournal), "{length}");
     }
+    assert!(rt; compacted(alloc, &octets[..63]).err() == Some(CompactFault::NotJournal));
     let other = [b'x'; 64];
     assert!(rt; Keeper::open(alloc, CONFIG, &other).err() == Some(OpenFault::NotJournal));
 }
@@ -155,44 +154,54 @@ fn names_differ_by_salt(rt: HostRuntime) {
     assert!(rt; sending_name(&SALT, &OCTETS) != sending_name(&[6; 32], &OCTETS));
 }
 
+/// The record of a name of equal octets.
+fn record(octet: u8, last: u64) -> [u8; 64] {
+    let name = [octet; 32];
+    Reservation { name, last }.to_octets()
+}
+
+/// What a journal reserves under a name of equal octets.
+fn reserved(alloc: Global, journal: &[u8], octet: u8) -> Result<u64, AllocError> {
+    let found = reservations(alloc, journal)?;
+    Ok(highest(found.as_slice(), &[octet; 32]))
+}
+
+fn made_shorter(alloc: Global, journal: &[u8]) -> Option<Vec<u8>> {
+    compacted(alloc, journal).ok()
+}
+
+fn last_read(octets: &[u8; 64]) -> Option<u64> {
+    match Reservation::from_octets(octets) {
+        None => None,
+        Some(reservation) => Some(reservation.last),
+    }
+}
+
 #[test]
 fn compaction_keeps_the_highest(rt: HostRuntime) -> Result<(), Fail> {
     let alloc = rt.alloc();
     let mut journal = new_journal(alloc, &SALT)?;
-    for last in [3u64, 9, 7, 1, 8] {
-        for octet in [1u8, 2] {
-            let name = [octet; 32];
-            let last = last + u64::from(octet);
-            journal.extend_from_slice(&Reservation { name, last }.to_octets())?;
-        }
+    for (octet, last) in [(1u8, 3u64), (2, 4), (1, 9), (2, 2), (1, 8)] {
+        journal.extend_from_slice(&record(octet, last))?;
     }
     journal.extend_from_slice(&[0; 70])?;
-    let shorter = match compacted(alloc, &journal) {
-        Ok(shorter) => shorter,
-        Err(_) => panic!(rt; "no journal"),
-    };
-    assert!(rt; shorter.len() == 3 * RECORD_LENGTH);
-    let kept = reservations(alloc, &shorter)?;
-    for octet in [1u8, 2, 3] {
-        let name = [octet; 32];
-        let wanted = if octet == 3 { 0 } else { 9 + u64::from(octet) };
-        assert!(rt; highest(kept.as_slice(), &name) == wanted, "{octet}");
+    let shorter = made_shorter(alloc, &journal).ok_or("no journal")?;
+    assert!(rt; shorter.len() == 192);
+    for (octet, last) in [(1u8, 9u64), (2, 4), (3, 0)] {
+        assert!(rt; reserved(alloc, &shorter, octet)? == last, "{octet}");
     }
     Ok(())
 }
 
 #[test]
 fn reads_its_own_record_and_no_other(rt: HostRuntime) {
-    let reservation = Reservation {
-        name: [7; 32],
-        last: 0x0123_4567_89ab_cdef,
-    };
-    let record = reservation.to_octets();
-    assert!(rt; Reservation::from_octets(&record) == Some(reservation));
-    for k in 0..RECORD_LENGTH {
-        let mut torn = record;
-        torn[k] ^= 1;
-        assert!(rt; Reservation::from_octets(&torn).is_none(), "{k}");
+    let last = 0x0123_4567_89ab_cdef;
+    let own = record(7, last);
+    assert!(rt; last_read(&own) == Some(last));
+    for k in [0usize, 31, 32, 39, 40, 63] {
+        let mut other = own;
+        other[k] ^= 1;
+        assert!(rt; last_read(&other).is_none(), "{k}");
     }
 }
 
