@@ -1,5 +1,5 @@
 -- The entries of keys: what they reserve together, and that there is room for them.
-use Rattle.std.proofs.Common.{◌≡◌, ℕ, zero, suc, ◌+◌, ◌<◌, ◌≤◌, Bool, true, false, cond, List, [], ◌∷◌, ◌++◌, map, drop, take, length, get_or, refl, ap, sym, subst, ◌∙◌, arith, eqb, ◌||◌, inl, inr, append_assoc}
+use Rattle.std.proofs.Common.{◌≡◌, ℕ, zero, suc, ◌+◌, ◌<◌, ◌≤◌, Bool, true, false, cond, List, [], ◌∷◌, ◌++◌, map, drop, take, length, get_or, refl, ap, sym, ◌∙◌, arith, eqb, ◌||◌, inl, inr, append_assoc}
 use Rattle.std.specs.Prelude.{max, if◌then◌else◌, Option, Some, None, ◌==◌}
 use Rattle.std.specs.List.{IsDistinct, AllByRecursion, list_any}
 use Rattle.std.proofs.lemmas.List.{length-map, map-append, take_more}

@@ -4,7 +4,7 @@ use Rattle.std.proofs.lemmas.List.Elements.{All-append, All-head, All-nil, All-t
 use Rattle.macsec_commands.specs.declared.config.EndConfig.{EndConfig}
 use Rattle.macsec_suite.specs.CipherUses.{CipherUse}
 use Rattle.macsec_suite.specs.Suites.{is_xpn}
-use Rattle.macsec_reserve.specs.Histories.{IsHistory, Run, closing, opening, sealed_in, sealed_in_all}
+use Rattle.macsec_reserve.specs.Histories.{Run, closing, opening, sealed_in, sealed_in_all}
 use Rattle.macsec_reserve.specs.TwoEnds.{AreOfTwoEnds, RepeatsNoIvAtBoth, RepeatsNoIvAtBothAfterCrashes}
 use Rattle.macsec_reserve.specs.Unique.{HasOtherIv}
 use Rattle.macsec_reserve.proofs.AllRuns.{IsSoundRun, is_history, of_run, repeats_no_iv}

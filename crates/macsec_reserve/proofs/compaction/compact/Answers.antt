@@ -1,4 +1,4 @@
-use Rattle.std.proofs.Common.{◌≡◌, ◌-◌, ap, drop, length, length-drop, take, ◌∙◌, arith}
+use Rattle.std.proofs.Common.{◌-◌, ap, drop, length, length-drop, take, ◌∙◌, arith}
 use Rattle.std.specs.Prelude.{◌++◌}
 use Rattle.std.proofs.lemmas.List.{take_all}
 use Rattle.macsec_reserve.specs.Entries.{reduced}

@@ -1,5 +1,5 @@
 -- A report raises the entries; each key has one.
-use Rattle.std.proofs.Common.{◌≡◌, ◌≤◌, ◌++◌, drop, length, map, ap, ◌∙◌, arith}
+use Rattle.std.proofs.Common.{◌≡◌, ◌++◌, drop, length, map, ap, ◌∙◌, arith}
 use Rattle.std.specs.Prelude.{vec_capacity}
 use Rattle.std.proofs.lemmas.List.{length-map, with_items_is}
 use Rattle.macsec_reserve.specs.contracts.keeper.Keeper.{the_view}
