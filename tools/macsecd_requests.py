@@ -5,7 +5,7 @@ import json
 import socket
 from typing import Callable
 
-from macsecd_world import IN, OUT, RX, End, ping, report, until
+from macsecd_world import IN, OUT, RX, End, connected, ping, report, until
 
 
 def agree(answer: Callable[[], str], other: Callable[[], str], what: str) -> None:
@@ -68,17 +68,9 @@ def check_lines(end: End) -> None:
     report(state_of(end) == before, f"a wrong line has changed {before} to {state_of(end)}")
 
 
-def connected(end: End) -> socket.socket:
-    """A connection to the control socket."""
-    it = socket.socket(socket.AF_UNIX, socket.SOCK_SEQPACKET)
-    it.settimeout(5)
-    it.connect(end.socket)
-    return it
-
-
 def check_clients(end: End) -> None:
     """More clients than there can be, and one that does not read its answers."""
-    clients = [connected(end) for _ in range(20)]
+    clients = [connected(end.socket, 5) for _ in range(20)]
     answered = 0
     for client in clients:
         with contextlib.suppress(OSError):
@@ -87,7 +79,7 @@ def check_clients(end: End) -> None:
         client.close()
     report(answered == 16, f"{answered} of 20 clients got an answer")
     report(until(end.answers), "no answer after the clients have gone")
-    lazy = connected(end)
+    lazy = connected(end.socket, 5)
     lazy.settimeout(0.2)
     with contextlib.suppress(OSError):
         for _ in range(10000):
@@ -119,7 +111,7 @@ def check_port(end: End, peer: End) -> None:
 
 def check_owner(end: End) -> None:
     """A client that owns the device: others only read, and the port goes off when it has gone."""
-    owner, other = connected(end), connected(end)
+    owner, other = connected(end.socket, 5), connected(end.socket, 5)
 
     def ask(client: socket.socket, request: bytes) -> str:
         client.send(request)

@@ -132,6 +132,15 @@ def protected(frames: List[bytes], sci: str) -> List[bytes]:
     return [it for it in frames if it[12:14] == b"\x88\xe5" and it[20:28].hex() == sci]
 
 
+def connected(path: str, seconds: int) -> socket.socket:
+    """A connection to a control socket. It waits while as many wait as may; a connect with a timeout would fail there."""
+    it = socket.socket(socket.AF_UNIX, socket.SOCK_SEQPACKET)
+    it.setsockopt(socket.SOL_SOCKET, socket.SO_SNDTIMEO, struct.pack("ll", seconds, 0))
+    it.connect(path)
+    it.settimeout(seconds)
+    return it
+
+
 class End:
     """A namespace with a macsecd in it."""
 
@@ -231,9 +240,7 @@ A rxon 02000000000{peer}0001 0
     def ask(self, *requests: str) -> str:
         """Makes requests over one connection. Returns the last answer."""
         got = b""
-        with socket.socket(socket.AF_UNIX, socket.SOCK_SEQPACKET) as it:
-            it.settimeout(10)
-            it.connect(self.socket)
+        with connected(self.socket, 10) as it:
             for request in requests:
                 it.send(request.encode())
                 got = it.recv(1 << 20)
