@@ -72,13 +72,9 @@ impl TxChannel {
         if !options.protect {
             return None;
         }
-        let Some(row) = self.row_on() else {
-            return None;
-        };
+        let row = self.row_on()?;
         let key = keys.key(row.key).unwrap();
-        let Some(pn) = number_of_frame(key, &row) else {
-            return None;
-        };
+        let pn = number_of_frame(key, &row)?;
         let tag = tag_of(options, &row, pn, frame);
         if is_too_long(options, &tag, frame) {
             return None;
