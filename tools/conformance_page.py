@@ -1,0 +1,99 @@
+"""The parts of docs/CONFORMANCE.md that are made from conformance/*.json and vectors/macsec-vectors.json."""
+
+from __future__ import annotations
+
+import re
+from typing import Any
+
+Row = "dict[str, Any]"
+
+SUPPORT = {"yes": "yes", "own": "own profile", "no": "not supported", "n/a": "not applicable"}
+PART = re.compile(r"(<!-- made: ([\w-]+) -->\n).*?(<!-- end -->)", re.S)
+
+
+def joined(text: "str | list[str]") -> str:
+    """A text that the table keeps in one or in several lines."""
+    return text if isinstance(text, str) else " ".join(text)
+
+
+def clause_of(row: Row) -> str:
+    """The clause; with a star if its number is from memory."""
+    return f"{row['clause']}{'*' if row['cited'] == 'memory' else ''}"
+
+
+def coded(names: "list[str]") -> str:
+    """Names as code."""
+    return ", ".join(f"`{it}`" for it in names)
+
+
+def evidence_of(row: Row) -> str:
+    """The last column: definitions, contracts, what shows it, or the reason."""
+    parts = []
+    for key, title in (("defined", "defined"), ("proved", "proved"), ("shown", "shown"), ("see", "rows")):
+        if row.get(key):
+            parts.append(f"{title}: {coded(row[key])}")
+    if "reason" in row and row["support"] in ("no", "n/a"):
+        parts.append(joined(row["reason"]))
+    return "; ".join(parts)
+
+
+def table(rows: "list[Row]") -> str:
+    """The rows of one clause."""
+    lines = ["| row | clause | requirement | support | evidence, or why not |", "|---|---|---|---|---|"]
+    for it in rows:
+        cells = [it["id"], clause_of(it), joined(it["requirement"]), SUPPORT[it["support"]], evidence_of(it)]
+        lines.append(f"| {' | '.join(cells)} |")
+    return "\n".join(lines)
+
+
+def own_rows(rows: "list[Row]") -> str:
+    """Where the profile is stricter or different."""
+    lines = ["| row | what a strict reading would do | why it differs here |", "|---|---|---|"]
+    for it in rows:
+        if it["support"] == "own":
+            lines.append(f"| {it['id']} | {joined(it['strict'])} | {joined(it['reason'])} |")
+    return "\n".join(lines)
+
+
+def names(rows: "list[Row]", first: "tuple[str, str]") -> str:
+    """The names of counters or of managed objects."""
+    keys = {first[0]: first[1], "mib": "MIB*", "ip": "`ip macsec`", "linux": "`if_macsec.h`"}
+    keys.update(dpdk="DPDK `rte_security`", wpa="wpa_supplicant", differs="differs")
+    if any("standard" in it for it in rows):
+        keys = {first[0]: first[1], "standard": "10.7*", **{key: it for key, it in keys.items() if key != first[0]}}
+    lines = [f"| {' | '.join(keys.values())} |", "|" + "---|" * len(keys)]
+    for it in rows:
+        lines.append(f"| {' | '.join(joined(it[key]) for key in keys)} |")
+    return "\n".join(lines)
+
+
+def vector_groups(vectors: "dict[str, Any]") -> str:
+    """The groups of vectors."""
+    lines = ["| group | has | vectors | frames or blocks |", "|---|---|---|---|"]
+    for group in vectors["groups"]:
+        frames = sum(len(it.get("frames", [0])) for it in group["vectors"])
+        lines.append(f"| `{group['name']}` | {group['about']} | {len(group['vectors'])} | {frames} |")
+    return "\n".join(lines)
+
+
+def counted(rows: "list[Row]") -> str:
+    """How many rows have each support, and how many clause numbers are from memory."""
+    numbers = {it: sum(row["support"] == it for row in rows) for it in SUPPORT}
+    memory = sum(row["cited"] == "memory" for row in rows)
+    text = ", ".join(f"{number} {SUPPORT[it]}" for it, number in numbers.items())
+    return f"{len(rows)} rows: {text}. The clause numbers of {memory} are from memory."
+
+
+def made(page: str, tables: "dict[str, Any]", vectors: "dict[str, Any]") -> str:
+    """The page with its parts made again."""
+    rows = [row for it in tables["clauses"].values() for row in it["rows"]]
+    parts = {name: table(it["rows"]) for name, it in tables["clauses"].items()}
+    parts["count"] = counted(rows)
+    parts["own"] = own_rows(rows)
+    parts["counters"] = names(tables["names"]["counters"], ("here", "here"))
+    parts["objects"] = names(tables["names"]["objects"], ("here", "here"))
+    parts["vectors"] = vector_groups(vectors)
+    found = {it[1] for it in PART.findall(page)}
+    if found != set(parts):
+        raise ValueError(f"docs/CONFORMANCE.md has the parts {sorted(found)}, and not {sorted(parts)}")
+    return PART.sub(lambda it: f"{it[1]}\n{parts[it[2]]}\n\n{it[3]}", page)
