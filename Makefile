@@ -15,6 +15,7 @@
 # make pictures      draws docs/pictures again, from crates.txt and docs/PERFORMANCE.md
 # make reference     writes docs/reference again, from the sources
 # make pages         runs the examples of the pages, and checks their links
+# make conformance   runs the table of docs/CONFORMANCE.md and the test vectors, and reports each row
 # make bench         measures the cipher and frames
 # make fuzz          gives mutated inputs to the program as both compilers build it
 # make moves         tries all lists of three moves over the rules in Python
@@ -30,8 +31,8 @@
 # make install-device copies both, their manual pages and the unit for systemd to PREFIX, as make install does
 # make macsecd       runs the device in network namespaces, which needs root's rights
 # make clean         removes what make has built
-# install, pages, fuzz, failures, stored-runs, controls and peer prove and build the program first; install, controls,
-# c-programs and journal the library for C. All of them work in any order in one checkout.
+# install, pages, conformance, fuzz, failures, stored-runs, controls and peer prove and build the program first; install,
+# controls, c-programs and journal the library for C. All of them work in any order in one checkout.
 RT := $(shell command -v rt 2>/dev/null)
 SOURCES := crates.txt $(shell find crates -name out -prune -o -type f \( -name '*.rt' -o -name '*.antt' \) -print)
 INPUTS := 100000
@@ -100,6 +101,9 @@ reference:
 pages: build/macsec
 	tools/pages
 
+conformance: build/macsec
+	tools/conformance --json build/conformance.json
+
 bench: toolchain
 	cd crates/macsec_bench && rt run -- measure
 
@@ -133,7 +137,7 @@ journal: build/libmacsec.a
 lanes-used: toolchain
 	tools/lanes-used
 
-.PHONY: device install-device macsecd
+.PHONY: device install-device macsecd conformance
 
 device: build/macsecd build/macsecctl
 
