@@ -31,8 +31,8 @@
 # make install-device copies both, their manual pages and the unit for systemd to PREFIX, as make install does
 # make macsecd       runs the device in network namespaces, which needs root's rights
 # make clean         removes what make has built
-# install, pages, conformance, fuzz, failures, stored-runs, controls and peer prove and build the program first; install,
-# controls, c-programs and journal the library for C. All of them work in any order in one checkout.
+# install, pages, conformance, fuzz, failures, stored-runs, controls and peer prove and build the program first;
+# install, controls, c-programs and journal the library for C. All of them work in any order in one checkout.
 RT := $(shell command -v rt 2>/dev/null)
 SOURCES := crates.txt $(shell find crates -name out -prune -o -type f \( -name '*.rt' -o -name '*.antt' \) -print)
 INPUTS := 100000

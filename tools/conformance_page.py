@@ -84,6 +84,13 @@ def counted(rows: "list[Row]") -> str:
     return f"{len(rows)} rows: {text}. The clause numbers of {memory} are from memory."
 
 
+def made_review(review: str, sizes: str) -> str:
+    """The page for reviewers with its table of sizes made again."""
+    if [it[1] for it in PART.findall(review)] != ["sizes"]:
+        raise ValueError("docs/REVIEW.md has other parts than the sizes")
+    return PART.sub(lambda it: f"{it[1]}\n{sizes}\n\n{it[3]}", review)
+
+
 def made(page: str, tables: "dict[str, Any]", vectors: "dict[str, Any]") -> str:
     """The page with its parts made again."""
     rows = [row for it in tables["clauses"].values() for row in it["rows"]]
