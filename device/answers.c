@@ -7,7 +7,7 @@
 #include <stdio.h>
 #include <string.h>
 
-enum { OWN = 11, TX = 4, RX = 6, SCI_TEXT = 17, METRIC = 40 };
+enum { OWN = OWN_COUNTERS, TX = TX_COUNTERS, RX = RX_COUNTERS, METRIC = 40 };
 
 /* The names of the counters, in the order of the members of the library's structs and of docs/ENDPOINT.md's table. */
 static const char *const own_names[OWN] = {
@@ -33,31 +33,7 @@ void text_add(struct text *t, const char *form, ...) {
         t->length += (size_t)length;
 }
 
-/* ---- Values ---- */
-
-/* The values of the endpoint's counters and of its transmit channel's; 0 if there is no endpoint. */
-static void own_values(const macsec_endpoint *e, uint64_t own[OWN], uint64_t tx[TX]) {
-    macsec_counters all;
-    macsec_tx_counters sent;
-    memset(&all, 0, sizeof all);
-    memset(&sent, 0, sizeof sent);
-    (void)macsec_get_counters(e, &all); /* MACSEC_E_EMPTY leaves 0 */
-    (void)macsec_get_tx_counters(e, &sent);
-    memcpy(own, &all, OWN * sizeof *own);
-    memcpy(tx, &sent, TX * sizeof *tx);
-}
-
-/* The values of a receive channel's counters, or, if `an` is not -1, of an association's. */
-static uint32_t rx_values(const macsec_endpoint *e, const uint8_t sci[8], int an, uint64_t values[RX]) {
-    macsec_rx_counters shown;
-    uint32_t status;
-    memset(&shown, 0, sizeof shown);
-    status = an < 0 ? macsec_get_rx_counters(e, sci, &shown) : macsec_get_rx_sa_counters(e, sci, (uint8_t)an, &shown);
-    memcpy(values, &shown, RX * sizeof *values);
-    return status;
-}
-
-static void sci_text(const uint8_t sci[8], char text[SCI_TEXT]) {
+void sci_text(const uint8_t sci[8], char text[SCI_TEXT]) {
     for (int i = 0; i < 8; i++)
         snprintf(text + 2 * i, 3, "%02x", sci[i]);
 }
@@ -69,15 +45,17 @@ static void number_text(uint64_t number, uint64_t high, char text[20]) {
 
 /* ---- Commands ---- */
 
-void answer_status(struct text *t, uint32_t status, uint64_t raised) {
-    if (status == MACSEC_OK && raised != 0)
-        text_add(t, "ok pn %016" PRIx64 "\n", raised);
-    else if (status == MACSEC_OK)
+void answer_result(struct text *t, const struct result *r) {
+    if (r->fault != NULL)
+        text_add(t, "fault %s\n", r->fault);
+    else if (r->status == MACSEC_OK && r->raised != 0)
+        text_add(t, "ok pn %016" PRIx64 "\n", r->raised);
+    else if (r->status == MACSEC_OK)
         text_add(t, "ok\n");
-    else if (status < MACSEC_E_EMPTY)
-        text_add(t, "refused %u %s\n", (unsigned)status, macsec_status_name(status));
+    else if (r->status < MACSEC_E_EMPTY)
+        text_add(t, "refused %u %s\n", (unsigned)r->status, macsec_status_name(r->status));
     else
-        text_add(t, "fault %s\n", macsec_status_name(status));
+        text_add(t, "fault %s\n", macsec_status_name(r->status));
 }
 
 /* ---- Lines ---- */
@@ -93,7 +71,7 @@ static void add_channel_lines(struct text *t, const macsec_endpoint *e, const ui
     uint64_t values[RX];
     sci_text(sci, name);
     for (int an = -1; an < MACSEC_AN_COUNT; an++) {
-        if (rx_values(e, sci, an, values) != MACSEC_OK)
+        if (totals_rx(e, sci, an, values) != MACSEC_OK)
             continue;
         if (an < 0)
             snprintf(before, sizeof before, "%s ", name);
@@ -106,7 +84,7 @@ static void add_channel_lines(struct text *t, const macsec_endpoint *e, const ui
 void answer_counters(struct text *t, const macsec_endpoint *e) {
     uint64_t own[OWN], tx[TX];
     uint8_t sci[8];
-    own_values(e, own, tx);
+    totals_own(e, own, tx);
     add_lines(t, "", own_names, own, OWN);
     add_lines(t, "", tx_names, tx, TX);
     for (size_t place = 0; macsec_get_rx_sc(e, place, sci) == MACSEC_OK; place++)
@@ -183,7 +161,7 @@ static void add_json_associations(struct text *t, const macsec_endpoint *e, cons
         macsec_rx_sa sa;
         uint64_t values[RX];
         char next[20], lowest[20];
-        if (macsec_get_rx_sa(e, sci, an, &sa) != MACSEC_OK || rx_values(e, sci, an, values) != MACSEC_OK)
+        if (macsec_get_rx_sa(e, sci, an, &sa) != MACSEC_OK || totals_rx(e, sci, an, values) != MACSEC_OK)
             continue;
         number_text(sa.next, sa.next_high, next);
         number_text(sa.lowest, sa.lowest_high, lowest);
@@ -203,7 +181,7 @@ static void add_json_receive(struct text *t, const macsec_endpoint *e) {
         char name[SCI_TEXT];
         uint64_t values[RX];
         sci_text(sci, name);
-        (void)rx_values(e, sci, -1, values); /* the channel is there */
+        (void)totals_rx(e, sci, -1, values); /* the channel is there */
         text_add(t, "%s{\"sci\":\"%s\",", place == 0 ? "" : ",", name);
         add_object(t, "counters", rx_names, values, RX);
         add_json_associations(t, e, sci);
@@ -215,10 +193,11 @@ static void add_json_receive(struct text *t, const macsec_endpoint *e) {
 void answer_json(struct text *t, const struct device *d) {
     uint64_t own[OWN], tx[TX];
     uint32_t left = 0;
-    own_values(&d->endpoint, own, tx);
-    (void)macsec_keys_left(&d->endpoint, &left); /* without an endpoint it is 0 */
-    text_add(t, "{\"device\":\"%s\",\"tap\":\"%s\",\"link\":\"%s\",\"up\":%s,\"keys_left\":%u,", d->name, d->tap.name,
-             d->link.name, d->life.up ? "true" : "false", (unsigned)left);
+    totals_own(d->endpoint, own, tx);
+    (void)macsec_keys_left(d->endpoint, &left); /* without an endpoint it is 0 */
+    text_add(t, "{\"device\":\"%s\",\"tap\":\"%s\",\"link\":\"%s\",\"up\":%s,", d->name, d->tap.name, d->link.name,
+             d->life.up ? "true" : "false");
+    text_add(t, "\"port\":\"%s\",\"keys_left\":%u,", d->port.off ? "off" : "on", (unsigned)left);
     text_add(t, "\"device_counters\":{");
     for (size_t i = 0; i < COUNT_OF_COUNTS; i++)
         text_add(t, "%s\"%s\":%" PRIu64, i == 0 ? "" : ",", counts_name(i), counts_value(&d->counts, i));
@@ -226,8 +205,8 @@ void answer_json(struct text *t, const struct device *d) {
     add_object(t, "counters", own_names, own, OWN);
     text_add(t, ",");
     add_object(t, "transmit_counters", tx_names, tx, TX);
-    add_json_transmit(t, &d->endpoint);
-    add_json_receive(t, &d->endpoint);
+    add_json_transmit(t, d->endpoint);
+    add_json_receive(t, d->endpoint);
     text_add(t, "}\n");
 }
 
@@ -269,11 +248,11 @@ static void add_rx_metrics(struct text *t, const char *device, const macsec_endp
     add_type(t, of_sas ? "sa_" : "", metric);
     for (size_t place = 0; macsec_get_rx_sc(e, place, sci) == MACSEC_OK; place++) {
         sci_text(sci, name);
-        if (!of_sas && rx_values(e, sci, -1, values) == MACSEC_OK)
+        if (!of_sas && totals_rx(e, sci, -1, values) == MACSEC_OK)
             text_add(t, "macsec_%s_total{device=\"%s\",sci=\"%s\"} %" PRIu64 "\n", metric, device, name,
                      values[counter]);
         for (int an = 0; of_sas && an < MACSEC_AN_COUNT; an++)
-            if (rx_values(e, sci, an, values) == MACSEC_OK)
+            if (totals_rx(e, sci, an, values) == MACSEC_OK)
                 text_add(t, "macsec_sa_%s_total{device=\"%s\",sci=\"%s\",an=\"%d\"} %" PRIu64 "\n", metric, device,
                          name, an, values[counter]);
     }
@@ -281,13 +260,14 @@ static void add_rx_metrics(struct text *t, const char *device, const macsec_endp
 
 static void add_gauges(struct text *t, const struct device *d) {
     uint32_t left = 0;
-    (void)macsec_keys_left(&d->endpoint, &left);
+    (void)macsec_keys_left(d->endpoint, &left);
     text_add(t, "# TYPE macsec_link_up gauge\nmacsec_link_up{device=\"%s\"} %d\n", d->name, d->life.up);
+    text_add(t, "# TYPE macsec_port_on gauge\nmacsec_port_on{device=\"%s\"} %d\n", d->name, !d->port.off);
     text_add(t, "# TYPE macsec_keys_left gauge\nmacsec_keys_left{device=\"%s\"} %u\n", d->name, (unsigned)left);
     text_add(t, "# TYPE macsec_next_packet_number gauge\n");
     for (uint8_t an = 0; an < MACSEC_AN_COUNT; an++) {
         macsec_tx_sa sa;
-        if (macsec_get_tx_sa(&d->endpoint, an, &sa) == MACSEC_OK && sa.next_high == 0)
+        if (macsec_get_tx_sa(d->endpoint, an, &sa) == MACSEC_OK && sa.next_high == 0)
             text_add(t, "macsec_next_packet_number{device=\"%s\",an=\"%u\",key=\"%u\",on=\"%d\"} %" PRIu64 "\n",
                      d->name, an, sa.key, sa.on, sa.next);
     }
@@ -295,13 +275,13 @@ static void add_gauges(struct text *t, const struct device *d) {
 
 void answer_metrics(struct text *t, const struct device *d) {
     uint64_t own[OWN], tx[TX];
-    own_values(&d->endpoint, own, tx);
+    totals_own(d->endpoint, own, tx);
     add_plain_metrics(t, d->name, own_names, own, OWN);
     add_plain_metrics(t, d->name, tx_names, tx, TX);
     for (int i = 0; i < RX; i++)
-        add_rx_metrics(t, d->name, &d->endpoint, i, false);
+        add_rx_metrics(t, d->name, d->endpoint, i, false);
     for (int i = 0; i < RX; i++)
-        add_rx_metrics(t, d->name, &d->endpoint, i, true);
+        add_rx_metrics(t, d->name, d->endpoint, i, true);
     for (size_t i = 0; i < COUNT_OF_COUNTS; i++) {
         char metric[METRIC];
         metric_name(counts_name(i), metric);

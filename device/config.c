@@ -14,9 +14,6 @@
 /* The most octets of a configuration, as the library has it. */
 enum { LONGEST = 1048576 };
 
-/* The most words of a line of the device, and the most octets of one of them. */
-enum { WORDS = 4, WORD = 64 };
-
 /* ---- Where files are ---- */
 
 bool config_is_name(const char *name) {
@@ -123,16 +120,17 @@ static int read_file(struct config *c, const char *name) {
 
 /* ---- The lines of the device ---- */
 
-static bool take_name(char *to, const char *name) {
-    if (!config_is_name(name))
+static bool take_name(char *to, const struct words *w) {
+    char name[IF_NAMESIZE];
+    if (!words_copy(w, 2, name, sizeof name) || !config_is_name(name))
         return false;
-    memset(to, 0, IF_NAMESIZE);
-    memcpy(to, name, strlen(name));
+    memcpy(to, name, sizeof name);
     return true;
 }
 
-static bool take_group(struct config *c, const char *name) {
-    const struct group *group = getgrnam(name);
+static bool take_group(struct config *c, const struct words *w) {
+    char name[WORD];
+    const struct group *group = words_copy(w, 2, name, sizeof name) ? getgrnam(name) : NULL;
     if (group == NULL)
         return false;
     c->group = group->gr_gid;
@@ -141,68 +139,40 @@ static bool take_group(struct config *c, const char *name) {
 }
 
 /* Takes a line of the device. Returns what is wrong with it, or NULL. */
-static const char *take_line(struct config *c, char words[WORDS][WORD], int count) {
-    if (count == 2 && strcmp(words[1], "persist") == 0)
+static const char *take_line(struct config *c, const struct words *w) {
+    if (words_is(w, 1, "allow"))
+        return limits_take(&c->limits, w);
+    if (words_are(w, 2, "device", "persist"))
         return c->persists = true, NULL;
-    if (count != 3)
-        return "`device link NAME`, `tap NAME`, `group NAME`, `port off` or `persist` is expected";
-    if (strcmp(words[1], "link") == 0)
-        return take_name(c->link, words[2]) ? NULL : "no network device can have this name";
-    if (strcmp(words[1], "tap") == 0)
-        return take_name(c->tap, words[2]) ? NULL : "no network device can have this name";
-    if (strcmp(words[1], "group") == 0)
-        return take_group(c, words[2]) ? NULL : "there is no such group";
-    if (strcmp(words[1], "port") == 0 && strcmp(words[2], "off") == 0)
+    if (w->count != 3)
+        return "`device link NAME`, `tap NAME`, `group NAME`, `port off`, `persist` or `allow ..` is expected";
+    if (words_is(w, 1, "link"))
+        return take_name(c->link, w) ? NULL : "no network device can have this name";
+    if (words_is(w, 1, "tap"))
+        return take_name(c->tap, w) ? NULL : "no network device can have this name";
+    if (words_is(w, 1, "group"))
+        return take_group(c, w) ? NULL : "there is no such group";
+    if (words_is(w, 1, "port") && words_is(w, 2, "off"))
         return c->begins_off = true, NULL;
-    return "the word after `device` is not link, tap, group, port or persist";
-}
-
-static bool is_blank(uint8_t octet) {
-    return octet == ' ' || octet == '\t' || octet == '\r';
-}
-
-/* Splits a line of the device into words. Returns their number, WORDS if there are more or one is too long. */
-static int split(const uint8_t *line, size_t length, char words[WORDS][WORD]) {
-    int count = 0;
-    for (size_t i = 0; i < length;) {
-        size_t end = i;
-        while (end < length && !is_blank(line[end]))
-            end++;
-        if (end > i) {
-            if (count == WORDS || end - i >= WORD)
-                return WORDS;
-            memcpy(words[count], line + i, end - i);
-            words[count++][end - i] = '\0';
-        }
-        i = end + 1;
-    }
-    return count;
-}
-
-/* Does a line, from its first word on, belong to the device? */
-static bool is_device_line(const uint8_t *line, size_t length) {
-    return length >= 6 && memcmp(line, "device", 6) == 0 && (length == 6 || is_blank(line[6]));
+    return "the word after `device` is not link, tap, group, port, persist or allow";
 }
 
 /* Takes the lines of the device, and makes comments of them, so that the others keep their numbers. */
 static int take_lines(struct config *c) {
-    unsigned number = 1;
-    for (size_t start = 0; start < c->length; number++) {
-        const uint8_t *feed = memchr(c->text + start, '\n', c->length - start);
-        size_t end = feed == NULL ? c->length : (size_t)(feed - c->text);
-        size_t first = start;
-        while (first < end && is_blank(c->text[first]))
-            first++;
-        if (is_device_line(c->text + first, end - first)) {
-            char words[WORDS][WORD];
-            const char *wrong = take_line(c, words, split(c->text + first, end - first, words));
-            if (wrong != NULL) {
-                message("%s: line %u: %s", c->path, number, wrong);
-                return ENDS_WRONG;
-            }
-            c->text[first] = '#';
+    const char *text = (const char *)c->text, *line;
+    size_t left = c->length, length;
+    for (unsigned number = 1; (line = words_line(&text, &left, &length)) != NULL; number++) {
+        const char *wrong;
+        struct words w;
+        words_split(&w, line, length);
+        if (!words_is(&w, 0, "device"))
+            continue;
+        wrong = take_line(c, &w);
+        if (wrong != NULL) {
+            message("%s: line %u: %s", c->path, number, wrong);
+            return ENDS_WRONG;
         }
-        start = end + 1;
+        c->text[w.at[0] - (const char *)c->text] = '#';
     }
     return 0;
 }

@@ -10,8 +10,8 @@
 #include <sys/un.h>
 #include <unistd.h>
 
-/* A request is at most one octet longer than the longest line, so that a longer one is seen. */
-enum { REQUEST = 20001, ANSWER = 256 * 1024 };
+/* A request is at most one octet longer than what `load` may have, so that a longer one is seen. */
+enum { REQUEST = REQUEST_MAX + 1, ANSWER = 256 * 1024 };
 
 static char request[REQUEST + 1], answer[ANSWER];
 
@@ -121,96 +121,21 @@ int control_accept(struct control *k) {
 
 /* ---- Requests ---- */
 
-/* `numbers tx AN` or `numbers rx SCI AN`. Returns false if it is neither. */
-static bool answer_one_number(struct text *t, const macsec_endpoint *e, const char *text) {
-    unsigned an, octets[8];
-    uint8_t sci[8];
-    int end = -1;
-    if (sscanf(text, "numbers tx %1u%n", &an, &end) == 1 && text[end] == '\0') {
-        uint32_t status = answer_tx_number(t, e, (uint8_t)an);
-        if (status != MACSEC_OK)
-            answer_status(t, status, 0);
-        return true;
-    }
-    end = -1;
-    if (sscanf(text, "numbers rx %2x%2x%2x%2x%2x%2x%2x%2x %1u%n", &octets[0], &octets[1], &octets[2], &octets[3],
-               &octets[4], &octets[5], &octets[6], &octets[7], &an, &end) == 9 && text[end] == '\0') {
-        for (int i = 0; i < 8; i++)
-            sci[i] = (uint8_t)octets[i];
-        uint32_t status = answer_rx_number(t, e, sci, (uint8_t)an);
-        if (status != MACSEC_OK)
-            answer_status(t, status, 0);
-        return true;
-    }
-    return false;
-}
-
-/* Answers a request that only reads. Returns false if it is a line for the endpoint. */
-static bool answer_reader(struct device *d, struct text *t, const char *text) {
-    if (strcmp(text, "A counters") == 0 || strcmp(text, "counters") == 0)
-        answer_counters(t, &d->endpoint);
-    else if (strcmp(text, "A numbers") == 0 || strcmp(text, "numbers") == 0)
-        answer_numbers(t, &d->endpoint);
-    else if (strcmp(text, "json") == 0)
-        answer_json(t, d);
-    else if (strcmp(text, "metrics") == 0)
-        answer_metrics(t, d);
-    else
-        return strncmp(text, "numbers ", 8) == 0 && answer_one_number(t, &d->endpoint, text);
-    if (strcmp(text, "counters") == 0)
-        answer_counts(t, &d->counts);
-    return true;
-}
-
-static bool is_request(const char *text, size_t length) {
-    return strlen(text) == length && memcmp(request, text, length) == 0;
-}
-
-/* Answers a request that may change something. */
-static void answer_change(struct device *d, struct text *t, int client, size_t length) {
-    uint64_t raised;
-    uint32_t status;
-    if (!port_may_change(d, client)) {
-        text_add(t, "fault Owned\n");
-    } else if (is_request("own", length)) {
-        port_own(d, client);
-        text_add(t, "ok\n");
-    } else if (is_request("port on", length) || is_request("port off", length)) {
-        port_set(d, is_request("port on", length));
-        text_add(t, "ok\n");
-    } else {
-        status = numbers_command(d->numbers, &d->endpoint, (const uint8_t *)request, length, &raised);
-        answer_status(t, status, raised);
-    }
-}
-
-/* Answers a request. Its text ends with a zero, and may have others. */
-static void answer_request(struct device *d, struct text *t, int client, size_t length) {
-    if (length > 0 && request[length - 1] == '\n')
-        request[--length] = '\0';
-    link_count_lost(&d->link, &d->counts);
-    if (strlen(request) != length || !answer_reader(d, t, request))
-        answer_change(d, t, client, length);
-    if (t->full) {
-        t->length = 0;
-        text_add(t, "fault AnswerLong\n");
-    }
-}
-
 bool control_answer(struct device *d, int index) {
     struct text t = { answer, 0, sizeof answer, false };
     int client = d->control.clients[index];
-    ssize_t length = recv(client, request, REQUEST, MSG_DONTWAIT);
+    ssize_t count, length = recv(client, request, REQUEST, MSG_DONTWAIT);
     if (length < 0 && (errno == EAGAIN || errno == EINTR))
         return true;
     if (length <= 0) {
         close_client(d, index);
         return false;
     }
+    count = length;
     request[length] = '\0';
     d->counts.requests++;
-    answer_request(d, &t, index, (size_t)length);
-    explicit_bzero(request, sizeof request); /* it may be a key */
+    requests_answer(d, &t, index, request, (size_t)length);
+    explicit_bzero(request, (size_t)count); /* it may be a key */
     do
         length = send(client, answer, t.length, MSG_DONTWAIT | MSG_NOSIGNAL);
     while (length < 0 && errno == EINTR);

@@ -17,6 +17,12 @@ enum { BATCH = 64 };
 
 struct device;
 
+struct text {
+    char *octets;
+    size_t length, room;
+    bool full; /* has something been left out? */
+};
+
 /* ---- messages.c: what macsecd says, on standard error ---- */
 
 /* Names the device in the messages that follow. */
@@ -25,6 +31,44 @@ void messages_name(const char *name);
 void message(const char *form, ...) __attribute__((format(printf, 1, 2)));
 /* The same, with the text of errno after it. */
 void message_of_errno(const char *form, ...) __attribute__((format(printf, 1, 2)));
+
+/* ---- words.c: the words of a line ---- */
+
+/* The most words of a line that are found, the octets of a word that is copied, and those of an SCI as text. */
+enum { WORDS = 9, WORD = 64, SCI_TEXT = 17 };
+
+struct words {
+    const char *at[WORDS];
+    size_t length[WORDS];
+    unsigned count; /* more than WORDS: the line has more words than these */
+};
+
+/* Splits a line. The words are in it. */
+void words_split(struct words *w, const char *line, size_t length);
+/* Is the word of this index there, and this one? */
+bool words_is(const struct words *w, unsigned index, const char *text);
+/* Are there so many words, and are these two the first? */
+bool words_are(const struct words *w, unsigned count, const char *first, const char *second);
+/* Copies a word, with zeros after it. Returns false if there is none, or if it is too long. */
+bool words_copy(const struct words *w, unsigned index, char *to, size_t room);
+/* Reads a word that is a decimal number; a greater one than fits is UINT64_MAX. Returns false if it is none. */
+bool words_number(const struct words *w, unsigned index, uint64_t *number);
+/* Reads a word that is an SCI. Returns false if it is none. */
+bool words_sci(const struct words *w, unsigned index, uint8_t sci[8]);
+/* Takes the next line of a text, without its line feed. Returns NULL if there is none. */
+const char *words_line(const char **text, size_t *left, size_t *length);
+
+/* ---- limits.c: what requests may weaken ---- */
+
+struct limits {
+    bool unprotected, check, disabled, late, integrity;
+    uint64_t window; /* the widest replay window */
+};
+
+/* Takes the words of a line `device allow ..`. Returns what is wrong with it, or NULL. */
+const char *limits_take(struct limits *l, const struct words *w);
+/* Do the limits allow a line for the endpoint? */
+bool limits_allow(const struct limits *l, const struct words *w);
 
 /* ---- config.c: NAME.conf, and where files are ---- */
 
@@ -36,6 +80,7 @@ struct config {
     bool has_group;
     bool persists;      /* does TAP stay when macsecd ends? */
     bool begins_off;    /* is the controlled port off at the start? */
+    struct limits limits;
     uint32_t max_frame; /* MAX of the `end` line */
     uint8_t *text;      /* the lines for the endpoint; those for the device are comments in it */
     size_t length, room;
@@ -59,6 +104,7 @@ struct counts {
     uint64_t link_lost;      /* frames that LINK's socket had no space for: they were not read */
     uint64_t link_too_short; /* frames of LINK that the endpoint refused: fewer than 14 octets */
     uint64_t link_too_long;  /* frames of LINK that the endpoint refused: more than 9,248 octets */
+    uint64_t no_endpoint;    /* frames of LINK while there is no endpoint */
     uint64_t link_out;       /* frames that LINK took */
     uint64_t link_refused;   /* frames that LINK did not take; their packet numbers are used */
     uint64_t tap_in;         /* frames that were read from TAP */
@@ -143,11 +189,11 @@ int numbers_create(const char *name);
 int numbers_open(struct numbers **n, const char *name, struct counts *counts);
 /* The descriptor of the journal's folder. */
 int numbers_folder(const struct numbers *n);
-/* Creates the endpoint of a configuration's text, beside the journal. An association begins above all packet numbers
- * that an earlier run may have used. Returns the status of the first line that fails, and its number. */
-uint32_t numbers_configure(struct numbers *n, macsec_endpoint *e, const uint8_t *text, size_t length, uint32_t *line);
-/* Carries out a line. If an association begins above the packet number of the line, `raised` is where; else it is 0. */
-uint32_t numbers_command(struct numbers *n, macsec_endpoint *e, const uint8_t *line, size_t length, uint64_t *raised);
+/* Creates the endpoint of an `end` line, beside the journal. Returns the library's status. */
+uint32_t numbers_configure(const struct numbers *n, macsec_endpoint *e, const char *line, size_t length);
+/* Carries out a line. If an association begins above the packet number of the line, since lower ones may have been used
+ * in an earlier run, `raised` is where; else it is 0. */
+uint32_t numbers_command(macsec_endpoint *e, const char *line, size_t length, uint64_t *raised);
 /* Makes the reservations that transmit associations want. Returns false if one could not be made durable. */
 bool numbers_reserve(struct numbers *n, macsec_endpoint *e);
 /* Notes that frames were sent, and reserves in time. */
@@ -157,17 +203,71 @@ void numbers_tick(struct numbers *n, macsec_endpoint *e);
 /* Saves all received packet numbers, and closes the journal. */
 void numbers_close(struct numbers *n, macsec_endpoint *e);
 
-/* ---- answers.c: the text of answers ---- */
+/* ---- keys.c: the keys that an endpoint has, for one that takes over from it ---- */
 
-struct text {
-    char *octets;
-    size_t length, room;
-    bool full; /* has something been left out? */
+/* Allocates locked memory. Returns 0, or the exit status after a message. */
+int keys_open(void);
+/* To be called when a line was carried out: keeps the line of a key, and wipes that of a retired one. */
+void keys_note(const struct words *w);
+/* Is there a key of this number that is not retired? */
+bool keys_has(uint64_t number);
+/* The line of the key of this number, or NULL. */
+const char *keys_line(size_t number, size_t *length);
+void keys_wipe(void);
+
+/* ---- totals.c: the endpoint's counters, with those of the endpoints from which it has taken over ---- */
+
+enum { OWN_COUNTERS = 11, TX_COUNTERS = 4, RX_COUNTERS = 6 };
+
+/* The values of the endpoint's counters and of its transmit channel's, in the order of the library's structs; 0 if
+ * there is no endpoint. */
+void totals_own(const macsec_endpoint *e, uint64_t own[OWN_COUNTERS], uint64_t tx[TX_COUNTERS]);
+/* Those of a receive channel, or, if `an` is not -1, of an association. Returns the library's status. */
+uint32_t totals_rx(const macsec_endpoint *e, const uint8_t sci[8], int an, uint64_t values[RX_COUNTERS]);
+/* Adds the counters of an endpoint that ends to those of the next one. */
+void totals_carry(const macsec_endpoint *e);
+/* To be called when a line was carried out: a channel or an association that was deleted counts no more. */
+void totals_note(const struct words *w);
+void totals_clear(void);
+
+/* ---- endpoint.c: the endpoint, by the lines of requests and of the configuration ---- */
+
+enum { END_LINE = 96 };
+
+/* What became of a line. */
+struct result {
+    const char *fault; /* NULL, or why macsecd did not give it to the endpoint */
+    uint32_t status;   /* the library's */
+    uint64_t raised;   /* as of numbers_command */
 };
 
+/* Creates the endpoint of a configuration's text, or none if the text has no line. Returns the status of the first line
+ * that fails, and its number. */
+uint32_t endpoint_configure(struct device *d, const char *text, size_t length, uint32_t *line);
+bool endpoint_is_open(const struct device *d);
+/* Creates one without keys by `open SCI SUITE FORM`; the one before it ends. */
+struct result endpoint_open(struct device *d, const struct words *w);
+void endpoint_close(struct device *d);
+/* Carries out a line of a request. */
+struct result endpoint_command(struct device *d, const char *line, size_t length);
+/* Carries out all lines of a text, or none. Adds the answer. */
+void endpoint_load(struct device *d, struct text *t, const char *lines, size_t length);
+
+/* ---- handover.c: a second endpoint ---- */
+
+/* Makes a second endpoint in the free handle: a copy with the keys that are not retired, the channels and the
+ * associations, which send above all numbers that were reserved. Returns NULL, after a message, if it can't be made. */
+macsec_endpoint *handover_begin(struct device *d);
+/* Reserves for it, and lets it take over from the first. Returns false, after a message, if no record can be written:
+ * then it is freed. */
+bool handover_finish(struct device *d, macsec_endpoint *e);
+
+/* ---- answers.c: the text of answers ---- */
+
 void text_add(struct text *t, const char *form, ...) __attribute__((format(printf, 2, 3)));
+void sci_text(const uint8_t sci[8], char text[SCI_TEXT]);
 /* The answer to a command. */
-void answer_status(struct text *t, uint32_t status, uint64_t raised);
+void answer_result(struct text *t, const struct result *r);
 /* Counters and packet numbers, as docs/SCRIPT.md has them, without the number of a line. */
 void answer_counters(struct text *t, const macsec_endpoint *e);
 void answer_numbers(struct text *t, const macsec_endpoint *e);
@@ -179,6 +279,14 @@ void answer_counts(struct text *t, const struct counts *c);
 /* All counters as one JSON object, and in the text format of Prometheus. */
 void answer_json(struct text *t, const struct device *d);
 void answer_metrics(struct text *t, const struct device *d);
+
+/* ---- requests.c: requests and their answers ---- */
+
+/* The most octets of a request: those of `load` with its lines. */
+enum { REQUEST_MAX = 128 * 1024 };
+
+/* Answers a request of a client, which ends with a zero and may have others. */
+void requests_answer(struct device *d, struct text *t, int client, char *request, size_t length);
 
 /* ---- control.c: the control socket ---- */
 
@@ -258,7 +366,9 @@ enum outcome frames_from_link(struct device *d);
 struct device {
     const char *name;
     struct config config;
-    macsec_endpoint endpoint;
+    macsec_endpoint handles[2];
+    macsec_endpoint *endpoint; /* one of them. It is empty if there is no endpoint; the other one always is. */
+    char end_line[END_LINE];   /* the line that created it */
     struct counts counts;
     struct link link;
     struct tap tap;

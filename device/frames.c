@@ -16,9 +16,9 @@ static bool send_one(struct device *d, const struct frame *frame) {
         d->counts.port_out++;
         return false;
     }
-    status = macsec_send(&d->endpoint, frame->octets, frame->length, &sent);
-    if (sent.fate == MACSEC_FATE_NO_RESERVATION && numbers_reserve(d->numbers, &d->endpoint))
-        status = macsec_send(&d->endpoint, frame->octets, frame->length, &sent);
+    status = macsec_send(d->endpoint, frame->octets, frame->length, &sent);
+    if (sent.fate == MACSEC_FATE_NO_RESERVATION && numbers_reserve(d->numbers, d->endpoint))
+        status = macsec_send(d->endpoint, frame->octets, frame->length, &sent);
     count_fault(status, &d->counts.tap_too_short, &d->counts.tap_too_long);
     if (sent.fate == MACSEC_FATE_NO_RESERVATION)
         d->counts.no_reservation++;
@@ -47,7 +47,7 @@ enum outcome frames_from_client(struct device *d) {
         d->counts.tap_in++;
         used += send_one(d, &frame);
     }
-    numbers_used(d->numbers, &d->endpoint, used);
+    numbers_used(d->numbers, d->endpoint, used);
     return link_flush(&d->link, &d->counts);
 }
 
@@ -57,9 +57,10 @@ enum outcome frames_from_link(struct device *d) {
     enum outcome outcome = link_read(&d->link, frames, &count);
     for (unsigned i = 0; i < count; i++) {
         macsec_received got;
-        uint32_t status = macsec_receive(&d->endpoint, frames[i].octets, frames[i].length, &got);
+        uint32_t status = macsec_receive(d->endpoint, frames[i].octets, frames[i].length, &got);
         d->counts.link_in++;
         count_fault(status, &d->counts.link_too_short, &d->counts.link_too_long);
+        d->counts.no_endpoint += status == MACSEC_E_EMPTY;
         if (got.delivered && deliver(d, &got) == GONE)
             return GONE;
     }

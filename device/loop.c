@@ -117,7 +117,7 @@ static int on_clock(struct device *d) {
     uint64_t times;
     if (read(d->clock, &times, sizeof times) != (ssize_t)sizeof times)
         return GOES_ON;
-    numbers_tick(d->numbers, &d->endpoint);
+    numbers_tick(d->numbers, d->endpoint);
     link_count_lost(&d->link, &d->counts);
     port_tick(d);
     service_notify("WATCHDOG=1");

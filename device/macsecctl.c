@@ -1,12 +1,14 @@
 /* Requests to a running macsecd.
  *
  *     macsecctl [-s SOCKET] NAME REQUEST..    one request; its arguments are joined by spaces
- *     macsecctl [-s SOCKET] NAME < FILE       a request for each line, until one is refused
+ *     macsecctl [-s SOCKET] NAME load FILE    carries out all lines of a file, or none
+ *     macsecctl [-s SOCKET] NAME < FILE       the same
  *     macsecctl [-s SOCKET] NAME watch        each second the counters that have changed
  *
  * The exit status is 0, 1 if macsecd can't be reached, or 2 if a request is refused or at fault. */
 #define _GNU_SOURCE
 #include <errno.h>
+#include <fcntl.h>
 #include <inttypes.h>
 #include <stdbool.h>
 #include <stdio.h>
@@ -16,8 +18,8 @@
 #include <sys/un.h>
 #include <unistd.h>
 
-/* A request is at most as long as the longest line with its line feed. */
-enum { REQUEST = 20002, ANSWER = 512 * 1024 };
+/* The longest request is that of `load` with its lines. */
+enum { REQUEST = 128 * 1024, ANSWER = 512 * 1024 };
 
 static char request[REQUEST], answer[ANSWER], earlier[ANSWER];
 
@@ -66,8 +68,12 @@ static bool ask(int file, size_t length) {
     return true;
 }
 
+/* Is the answer, or the answer to a line of `load`, not that it was done? */
 static bool is_refused(void) {
-    return strncmp(answer, "refused ", 8) == 0 || strncmp(answer, "fault ", 6) == 0;
+    const char *at = answer + strspn(answer, "0123456789");
+    if (at > answer && *at == ' ')
+        at++;
+    return strncmp(at, "refused ", 8) == 0 || strncmp(at, "fault ", 6) == 0;
 }
 
 /* ---- One request ---- */
@@ -88,38 +94,49 @@ static int ask_words(int file, int count, char **words) {
     return is_refused() ? 2 : 0;
 }
 
-/* ---- The lines of standard input ---- */
+/* ---- All lines or none ---- */
 
-/* Reads a line with its line feed. Returns its length, 0 at the end, and one more than fits if it is too long. */
-static size_t read_line(void) {
-    size_t length = 0;
-    int octet;
-    while ((octet = getchar()) != EOF) {
-        if (length == sizeof request)
-            return length + 1;
-        request[length++] = (char)octet;
-        if (octet == '\n')
-            break;
+/* Reads lines after what the request has already. Returns the length of the request, or 0 after a message. */
+static size_t read_lines(int file, size_t length) {
+    ssize_t count;
+    while (length < sizeof request && (count = read(file, request + length, sizeof request - length)) != 0) {
+        if (count < 0 && errno == EINTR)
+            continue;
+        if (count < 0) {
+            (void)fail("the lines");
+            return 0;
+        }
+        length += (size_t)count;
     }
-    return length;
+    if (length < sizeof request)
+        return length;
+    fprintf(stderr, "macsecctl: the lines have more than %d octets\n", REQUEST - 6);
+    return 0;
 }
 
-static int ask_lines(int file) {
+static int load(int file, int lines) {
     size_t length;
-    (void)setvbuf(stdin, NULL, _IONBF, 0); /* no second copy of the keys */
-    for (unsigned long number = 1; (length = read_line()) > 0; number++) {
-        if (length > sizeof request) {
-            explicit_bzero(request, sizeof request);
-            printf("%lu fault LineLong\n", number);
-            return 2;
-        }
-        if (!ask(file, length))
-            return 1;
-        printf("%lu %s", number, answer);
-        if (is_refused())
-            return 2;
+    memcpy(request, "load\n", 5);
+    length = read_lines(lines, 5);
+    if (length == 0) {
+        explicit_bzero(request, sizeof request);
+        return 2;
     }
-    return ferror(stdin) ? fail("standard input") : 0;
+    if (!ask(file, length))
+        return 1;
+    fputs(answer, stdout);
+    return is_refused() ? 2 : 0;
+}
+
+static int load_file(int file, const char *path) {
+    int result, lines = open(path, O_RDONLY | O_CLOEXEC);
+    if (lines < 0) {
+        (void)fail(path);
+        return 2;
+    }
+    result = load(file, lines);
+    (void)close(lines); /* it was only read */
+    return result;
 }
 
 /* ---- Watching ---- */
@@ -166,7 +183,9 @@ static int watch(int file) {
 
 static int run(int file, int count, char **words) {
     if (count == 0)
-        return ask_lines(file);
+        return load(file, STDIN_FILENO);
+    if (count == 2 && strcmp(words[0], "load") == 0)
+        return load_file(file, words[1]);
     return count == 1 && strcmp(words[0], "watch") == 0 ? watch(file) : ask_words(file, count, words);
 }
 

@@ -8,13 +8,15 @@
 #include <stdio.h>
 #include <string.h>
 
-static struct device device = { .endpoint = MACSEC_ENDPOINT_INIT };
+static struct device device = { .handles = { MACSEC_ENDPOINT_INIT, MACSEC_ENDPOINT_INIT } };
 
 /* Creates the endpoint of the configuration, whose text is wiped then. */
 static int configure(struct device *d) {
-    uint32_t line;
-    uint32_t status = numbers_configure(d->numbers, &d->endpoint, d->config.text, d->config.length, &line);
+    uint32_t line, status;
+    d->endpoint = &d->handles[0];
+    status = endpoint_configure(d, (const char *)d->config.text, d->config.length, &line);
     config_wipe(&d->config);
+    port_open(d);
     if (status == MACSEC_OK)
         return 0;
     if (status == MACSEC_E_NOT_JOURNAL)
@@ -39,7 +41,8 @@ static int start(struct device *d) {
         result = link_open(&d->link, d->config.link);
     if (result == 0)
         result = tap_open(&d->tap, &d->config, &d->link);
-    port_open(d);
+    if (result == 0)
+        result = keys_open();
     if (result == 0)
         result = configure(d);
     if (result == 0)
@@ -57,15 +60,18 @@ static int run(struct device *d) {
         result = start(d);
     if (result != 0) {
         config_wipe(&d->config);
+        keys_wipe();
         return result;
     }
-    message("protects %s on %s", d->tap.name, d->link.name);
+    message("protects %s on %s%s", d->tap.name, d->link.name,
+            endpoint_is_open(d) ? "" : "; it has no endpoint until a client opens one");
     service_notify("READY=1");
     result = loop_run(d);
     service_notify("STOPPING=1");
-    numbers_close(d->numbers, &d->endpoint);
+    numbers_close(d->numbers, d->endpoint);
     control_close(&d->control);
-    macsec_free(&d->endpoint);
+    macsec_free(d->endpoint);
+    keys_wipe();
     return result;
 }
 

@@ -5,10 +5,8 @@
 #include "journal.h"
 #include <errno.h>
 #include <stdio.h>
+#include <stdlib.h>
 #include <string.h>
-
-/* The most words of a line that begins an association, and the most octets of a word. */
-enum { WORDS = 7, WORD = 32 };
 
 /* How many received packet numbers are saved in a second: each takes the time of a synchronization. */
 enum { SAVES = 8 };
@@ -90,10 +88,18 @@ static bool note(struct numbers *n, int result, const struct journal_fault *faul
 
 /* ---- Reserving ---- */
 
+/* Is there no endpoint? */
+static bool is_empty(const macsec_endpoint *e) {
+    uint32_t left;
+    return macsec_keys_left(e, &left) == MACSEC_E_EMPTY;
+}
+
 bool numbers_reserve(struct numbers *n, macsec_endpoint *e) {
     struct journal_fault fault;
     bool all = true;
     n->unseen = 0;
+    if (is_empty(e))
+        return true;
     for (uint8_t an = 0; an < MACSEC_AN_COUNT && all; an++) {
         size_t before = n->journal.length;
         int result = n->waits ? 0 : journal_reserve(&n->journal, e, an, n->amount, &fault);
@@ -148,60 +154,43 @@ void numbers_close(struct numbers *n, macsec_endpoint *e) {
 
 /* A line that begins an association, in its words. */
 struct beginning {
-    char words[WORDS][WORD];
-    int count;
-    int number_at; /* which word is the packet number */
+    struct words words;
+    unsigned number_at; /* which word is the packet number */
 };
 
-static bool is_blank(uint8_t octet) {
-    return octet == ' ' || octet == '\t' || octet == '\r';
+/* Splits a line. Returns false if it is not `A txsa ..` or `A rxsa ..`. */
+static bool begins(struct beginning *b, const char *line, size_t length) {
+    words_split(&b->words, line, length);
+    b->number_at = words_is(&b->words, 1, "txsa") ? 4 : 5;
+    return words_is(&b->words, 0, "A") && (b->number_at == 4 || words_is(&b->words, 1, "rxsa")) &&
+           b->words.count > b->number_at && b->words.count <= WORDS;
 }
 
-/* Splits a line. Returns false if it is not `A txsa ..` or `A rxsa ..` with as many words as these have. */
-static bool begins(struct beginning *b, const uint8_t *line, size_t length) {
-    size_t i = 0;
-    b->count = 0;
-    while (i < length) {
-        size_t end = i;
-        while (end < length && !is_blank(line[end]))
-            end++;
-        if (end > i) {
-            if (b->count == WORDS || end - i >= WORD)
-                return false;
-            memcpy(b->words[b->count], line + i, end - i);
-            b->words[b->count++][end - i] = '\0';
-        }
-        i = end + 1;
-    }
-    if (b->count < 6 || strcmp(b->words[0], "A") != 0)
-        return false;
-    b->number_at = strcmp(b->words[1], "txsa") == 0 ? 4 : 5;
-    return strcmp(b->words[1], b->number_at == 4 ? "txsa" : "rxsa") == 0;
-}
-
-/* Carries out the line with another packet number. */
+/* Carries out the line with another packet number. Its words are short, since the library has taken them. */
 static uint32_t begin_at(macsec_endpoint *e, const struct beginning *b, uint64_t number) {
-    char line[WORDS * (WORD + 1)];
-    int length = 0;
-    for (int i = 0; i < b->count; i++) {
+    char line[WORDS * WORD];
+    size_t length = 0;
+    for (unsigned i = 0; i < b->words.count && length + WORD < sizeof line; i++) {
         if (i == b->number_at)
-            length += sprintf(line + length, "%llx ", (unsigned long long)number);
+            length += (size_t)snprintf(line + length, WORD, "%llx ", (unsigned long long)number);
         else
-            length += sprintf(line + length, "%s ", b->words[i]);
+            length += (size_t)snprintf(line + length, WORD, "%.*s ", (int)b->words.length[i], b->words.at[i]);
     }
-    return macsec_command_line(e, (const uint8_t *)line, (size_t)length);
+    return macsec_command_line(e, (const uint8_t *)line, length);
 }
 
 /* Would the endpoint refuse the line with this packet number, because it may have been used? An association that the
  * test begins is deleted again: it was never enabled, so it has sent and received nothing. */
 static bool is_used(macsec_endpoint *e, const struct beginning *b, uint64_t number) {
-    char line[3 * (WORD + 1)];
+    char line[3 * WORD], third[WORD] = "", fourth[WORD] = "";
     int length;
     uint32_t status = begin_at(e, b, number);
     if (status != MACSEC_OK)
         return status == MACSEC_E_PN_FLOOR;
-    length = b->number_at == 4 ? sprintf(line, "A txdel %s", b->words[2])
-                               : sprintf(line, "A rxdel %s %s", b->words[2], b->words[3]);
+    (void)words_copy(&b->words, 2, third, sizeof third);
+    (void)words_copy(&b->words, 3, fourth, sizeof fourth);
+    length = b->number_at == 4 ? snprintf(line, sizeof line, "A txdel %s", third)
+                               : snprintf(line, sizeof line, "A rxdel %s %s", third, fourth);
     (void)macsec_command_line(e, (const uint8_t *)line, (size_t)length); /* if memory runs out, it stays: AnTaken */
     return false;
 }
@@ -228,85 +217,26 @@ static uint64_t first_unused(macsec_endpoint *e, const struct beginning *b, uint
 
 /* Begins the association of a refused line above every packet number that may have been used. */
 static uint32_t begin_above(macsec_endpoint *e, const struct beginning *b, uint64_t *raised) {
-    unsigned long long wanted;
+    char word[WORD];
     uint64_t number;
     uint32_t status;
-    if (sscanf(b->words[b->number_at], "%16llx", &wanted) != 1)
+    if (!words_copy(&b->words, b->number_at, word, sizeof word))
         return MACSEC_E_PN_FLOOR;
-    number = first_unused(e, b, wanted);
+    number = first_unused(e, b, strtoull(word, NULL, 16));
     status = begin_at(e, b, number);
     if (status == MACSEC_OK)
         *raised = number;
     return status == MACSEC_E_PN_RANGE ? MACSEC_E_PN_FLOOR : status; /* no packet number is left to the key */
 }
 
-uint32_t numbers_command(struct numbers *n, macsec_endpoint *e, const uint8_t *line, size_t length, uint64_t *raised) {
+uint32_t numbers_command(macsec_endpoint *e, const char *line, size_t length, uint64_t *raised) {
     struct beginning b;
-    uint32_t status = macsec_command_line(e, line, length);
+    uint32_t status = macsec_command_line(e, (const uint8_t *)line, length);
     *raised = 0;
-    if (!begins(&b, line, length))
-        return status;
-    if (status == MACSEC_E_PN_FLOOR)
-        status = begin_above(e, &b, raised);
-    if (status == MACSEC_OK && b.number_at == 4)
-        (void)numbers_reserve(n, e); /* a failure is reported; the frames are dropped until it succeeds */
-    return status;
+    return status == MACSEC_E_PN_FLOOR && begins(&b, line, length) ? begin_above(e, &b, raised) : status;
 }
 
-/* ---- The configuration ---- */
-
-/* The end of the line that begins at `start`. */
-static size_t end_of_line(const uint8_t *text, size_t length, size_t start) {
-    const uint8_t *feed = memchr(text + start, '\n', length - start);
-    return feed == NULL ? length : (size_t)(feed - text);
-}
-
-/* Does the library skip this line? */
-static bool is_skipped(const uint8_t *line, size_t length) {
-    size_t i = 0;
-    while (i < length && is_blank(line[i]))
-        i++;
-    return i == length || line[i] == '#';
-}
-
-/* Carries out the lines from `start` on. */
-static uint32_t carry_out(struct numbers *n, macsec_endpoint *e, const uint8_t *text, size_t length, size_t start,
-                          uint32_t *line) {
-    while (start < length) {
-        size_t end = end_of_line(text, length, start);
-        uint64_t raised;
-        uint32_t status;
-        ++*line;
-        status = numbers_command(n, e, text + start, end - start, &raised);
-        if (status != MACSEC_OK)
-            return status;
-        if (raised != 0)
-            message("line %u: the association begins at packet number %llx, since lower ones may have been used",
-                    (unsigned)*line, (unsigned long long)raised);
-        start = end + 1;
-    }
-    return MACSEC_OK;
-}
-
-uint32_t numbers_configure(struct numbers *n, macsec_endpoint *e, const uint8_t *text, size_t length, uint32_t *line) {
-    size_t start = 0, end = 0;
-    uint32_t before = 0, status;
-    while (start < length) {
-        end = end_of_line(text, length, start);
-        if (!is_skipped(text + start, end - start))
-            break;
-        before++;
-        start = end + 1;
-    }
-    if (start >= length) {
-        *line = 0;
-        return MACSEC_E_LINE_ENDS;
-    }
-    status = macsec_reserve_configure(e, text + start, end - start, n->journal.octets, n->journal.length, line);
-    if (status == MACSEC_E_NOT_JOURNAL) {
-        *line = 0;
-        return status;
-    }
-    *line = before + 1;
-    return status == MACSEC_OK ? carry_out(n, e, text, length, end + 1, line) : status;
+uint32_t numbers_configure(const struct numbers *n, macsec_endpoint *e, const char *line, size_t length) {
+    uint32_t number;
+    return macsec_reserve_configure(e, (const uint8_t *)line, length, n->journal.octets, n->journal.length, &number);
 }

@@ -7,7 +7,7 @@
 enum { TICKS = 2 };
 
 void port_open(struct device *d) {
-    d->port.off = d->config.begins_off;
+    d->port.off = d->config.begins_off || !endpoint_is_open(d);
     d->port.ticks = d->port.off ? TICKS : 0;
     d->port.owner = -1;
 }

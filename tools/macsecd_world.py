@@ -11,12 +11,10 @@ import struct
 import subprocess
 import threading
 import time
-from typing import Callable, Dict, Iterator, List, Optional, Tuple
+from typing import Callable, Dict, Iterator, List, Optional, Set, Tuple
 
 ROOT = pathlib.Path(__file__).resolve().parent.parent
 LIBC = ctypes.CDLL(None, use_errno=True)
-SOURCES = ["macsecd", "answers", "config", "confine", "control", "counts", "frames", "journal", "life", "link", "loop",
-           "messages", "numbers", "port", "service", "tap"]
 WARNINGS = ["-std=c11", "-Wall", "-Wextra", "-Werror", "-pedantic"]
 SANITIZED = ["-g", "-O1", "-fsanitize=address,undefined", "-fno-sanitize-recover=all", "-DMACSECD_UNFILTERED"]
 ALL_FRAMES = socket.htons(3)
@@ -55,7 +53,7 @@ def build(out: pathlib.Path, library: pathlib.Path, options: List[str], source: 
     """Builds macsecd and macsecctl of a folder of sources. Returns the folder of the programs."""
     out.mkdir(parents=True, exist_ok=True)
     include = ["-I", str(ROOT / "include"), "-I", str(source)]
-    files = [str(source / f"{name}.c") for name in SOURCES]
+    files = [str(path) for path in sorted(source.glob("*.c")) if path.name != "macsecctl.c"]
     call("gcc", *WARNINGS, "-O2", *options, *include, "-o", str(out / "macsecd"), *files, str(library))
     call("gcc", *WARNINGS, "-O2", *options, *include, "-o", str(out / "macsecctl"), str(source / "macsecctl.c"))
     return out
@@ -133,7 +131,7 @@ def protected(frames: List[bytes], sci: str) -> List[bytes]:
 
 
 def connected(path: str, seconds: int) -> socket.socket:
-    """A connection to a control socket. It waits while as many wait as may; a connect with a timeout would fail there."""
+    """A connection to a control socket. It waits while the queue is full; a connect with a timeout would fail there."""
     it = socket.socket(socket.AF_UNIX, socket.SOCK_SEQPACKET)
     it.setsockopt(socket.SOL_SOCKET, socket.SO_SNDTIMEO, struct.pack("ll", seconds, 0))
     it.connect(path)
@@ -371,18 +369,20 @@ def is_answered(it: socket.socket, version: int, name: int, sequence: int, secon
 class Stream:
     """Numbered datagrams from one client to the other, in a thread, until it is stopped."""
 
-    def __init__(self, end: End, interval: float, size: int = 64) -> None:
+    def __init__(self, end: End, interval: float, size: int = 64, port: int = 9009) -> None:
         peer = end.world.ends[2 - end.number]
         with inside(peer.namespace):
             self.receiver = socket.socket(socket.AF_INET, socket.SOCK_DGRAM)
             self.receiver.setsockopt(socket.SOL_SOCKET, 33, 64 << 20)  # SO_RCVBUFFORCE
-            self.receiver.bind(("0.0.0.0", 9009))
+            self.receiver.bind(("0.0.0.0", port))
         with inside(end.namespace):
             self.sender = socket.socket(socket.AF_INET, socket.SOCK_DGRAM)
-        self.target, self.interval, self.size = (f"10.9.0.{peer.number}", 9009), interval, size
+        self.target, self.interval, self.size = (f"10.9.0.{peer.number}", port), interval, size
         self.sent, self.goes_on = 0, True
-        self.thread = threading.Thread(target=self.send)
-        self.thread.start()
+        self.arrived: "Set[bytes]" = set()
+        self.threads = [threading.Thread(target=each) for each in (self.send, self.receive)]
+        for thread in self.threads:
+            thread.start()
 
     def send(self) -> None:
         """Sends until it is stopped. What the system refuses is not counted as sent."""
@@ -393,18 +393,24 @@ class Stream:
             if self.interval:
                 time.sleep(self.interval)
 
+    def receive(self) -> None:
+        """Receives until it is stopped and none has arrived for half a second."""
+        self.receiver.settimeout(0.5)
+        while True:
+            try:
+                self.arrived.add(self.receiver.recv(65536)[:8])
+            except socket.timeout:
+                if not self.threads[0].is_alive():
+                    return
+
     def stop(self) -> "Tuple[int, int]":
         """Stops it. Returns how many datagrams were sent, and how many different ones arrived."""
         self.goes_on = False
-        self.thread.join()
-        arrived = set()
-        self.receiver.settimeout(0.5)
-        with contextlib.suppress(socket.timeout):
-            while True:
-                arrived.add(self.receiver.recv(65536)[:8])
+        for thread in self.threads:
+            thread.join()
         self.receiver.close()
         self.sender.close()
-        return self.sent, len(arrived)
+        return self.sent, len(self.arrived)
 
 
 def tcp(end: End, octets: int) -> float:

@@ -1,0 +1,206 @@
+/* The endpoint, by the lines of requests and of the configuration. The library judges each line. */
+#include "device.h"
+#include <stdio.h>
+#include <string.h>
+
+/* What a line that was carried out means for the device. */
+static void note(struct device *d, const struct words *w) {
+    keys_note(w);
+    totals_note(w);
+    /* If it fails, that is reported, and frames are dropped until it succeeds. */
+    if (words_is(w, 0, "A") && words_is(w, 1, "txsa"))
+        (void)numbers_reserve(d->numbers, d->endpoint);
+}
+
+/* ---- Creation and end ---- */
+
+bool endpoint_is_open(const struct device *d) {
+    uint32_t left;
+    return macsec_keys_left(d->endpoint, &left) != MACSEC_E_EMPTY;
+}
+
+void endpoint_close(struct device *d) {
+    port_set(d, false);
+    macsec_free(d->endpoint);
+    keys_wipe();
+    totals_clear();
+}
+
+/* Creates an endpoint of an `end` line, which replaces the one that there is. If it fails, nothing has changed. */
+static uint32_t create(struct device *d, const char *line, size_t length) {
+    macsec_endpoint *e = &d->handles[d->endpoint == &d->handles[0]];
+    struct words w;
+    size_t end = 0;
+    uint32_t status = numbers_configure(d->numbers, e, line, length);
+    if (status != MACSEC_OK)
+        return status;
+    endpoint_close(d);
+    d->endpoint = e;
+    words_split(&w, line, length);
+    for (unsigned i = 0; i < w.count; i++) /* six words: SUITE, SCI and FORM are short, MAX has at most 20 digits */
+        end += (size_t)snprintf(d->end_line + end, END_LINE - end, "%.*s ", (int)w.length[i], w.at[i]);
+    return status;
+}
+
+struct result endpoint_open(struct device *d, const struct words *w) {
+    struct result r = { NULL, MACSEC_OK, 0 };
+    char line[4 * WORD], suite[WORD], sci[WORD], form[WORD] = "sci";
+    uint32_t max = d->link.mtu + 14 < MACSEC_FRAME_MAX ? d->link.mtu + 14 : MACSEC_FRAME_MAX;
+    if (!words_copy(w, 1, sci, sizeof sci) || !words_copy(w, 2, suite, sizeof suite) || w->count > 4 ||
+        (w->count == 4 && !words_copy(w, 3, form, sizeof form))) {
+        r.status = MACSEC_E_LINE_COUNT;
+        return r;
+    }
+    snprintf(line, sizeof line, "end A %s %s %u %s", suite, sci, (unsigned)max, form);
+    r.status = strchr(line, '\n') != NULL ? MACSEC_E_LINE_WORD : create(d, line, strlen(line));
+    return r;
+}
+
+/* ---- The configuration ---- */
+
+/* Carries out the lines after the `end` line. */
+static uint32_t configure_lines(struct device *d, const char *text, size_t left, uint32_t *number) {
+    const char *line;
+    size_t length;
+    while ((line = words_line(&text, &left, &length)) != NULL) {
+        struct words w;
+        uint64_t raised;
+        uint32_t status = numbers_command(d->endpoint, line, length, &raised);
+        ++*number;
+        if (status != MACSEC_OK)
+            return status;
+        words_split(&w, line, length);
+        note(d, &w);
+        if (raised != 0)
+            message("line %u: the association begins at packet number %llx, since lower ones may have been used",
+                    (unsigned)*number, (unsigned long long)raised);
+    }
+    return MACSEC_OK;
+}
+
+/* Does the library skip this line? */
+static bool is_skipped(const char *line, size_t length) {
+    struct words w;
+    words_split(&w, line, length);
+    return w.count == 0 || w.at[0][0] == '#';
+}
+
+uint32_t endpoint_configure(struct device *d, const char *text, size_t length, uint32_t *line) {
+    const char *first;
+    size_t end;
+    *line = 0;
+    while ((first = words_line(&text, &length, &end)) != NULL) {
+        uint32_t status;
+        ++*line;
+        if (is_skipped(first, end))
+            continue;
+        status = create(d, first, end);
+        return status == MACSEC_OK ? configure_lines(d, text, length, line) : status;
+    }
+    return MACSEC_OK;
+}
+
+/* ---- Requests ---- */
+
+/* Has the endpoint taken all the keys that it can take, and is the number of this line's key retired? */
+static bool is_at_end(const struct device *d, const struct words *w) {
+    uint32_t left;
+    uint64_t number;
+    return words_is(w, 1, "key") && words_number(w, 2, &number) && !keys_has(number) &&
+           macsec_keys_left(d->endpoint, &left) == MACSEC_OK && left == 0;
+}
+
+/* Carries out the line of a key at a second endpoint. */
+static struct result command_of_next(struct device *d, const char *line, size_t length) {
+    struct result r = { NULL, MACSEC_E_MEMORY, 0 };
+    macsec_endpoint *e = handover_begin(d);
+    if (e == NULL)
+        return r;
+    r.status = numbers_command(e, line, length, &r.raised);
+    if (r.status != MACSEC_OK)
+        macsec_free(e);
+    else if (!handover_finish(d, e))
+        r.fault = "Journal";
+    else
+        message("the endpoint had taken %u keys: a second one goes on", MACSEC_KEY_COUNT);
+    return r;
+}
+
+struct result endpoint_command(struct device *d, const char *line, size_t length) {
+    struct result r = { NULL, MACSEC_OK, 0 };
+    struct words w;
+    words_split(&w, line, length);
+    if (!limits_allow(&d->config.limits, &w)) {
+        r.fault = "NotAllowed";
+        return r;
+    }
+    r.status = numbers_command(d->endpoint, line, length, &r.raised);
+    if (r.status == MACSEC_E_KEY_NUMBER_USED && is_at_end(d, &w))
+        r = command_of_next(d, line, length);
+    if (r.fault == NULL && r.status == MACSEC_OK)
+        note(d, &w);
+    return r;
+}
+
+/* ---- All lines or none ---- */
+
+/* Carries out the lines at a second endpoint, and adds the answers. Returns false if one was refused: then the answer
+ * is that of this line alone. */
+static bool load_lines(const struct device *d, macsec_endpoint *e, struct text *t, const char *lines, size_t left) {
+    const char *line;
+    size_t length;
+    bool fails = false;
+    for (unsigned number = 1; !fails && (line = words_line(&lines, &left, &length)) != NULL; number++) {
+        struct result r = { NULL, MACSEC_OK, 0 };
+        struct words w;
+        words_split(&w, line, length);
+        if (w.count > 0 && w.at[0][0] == '#')
+            w.count = 0;
+        if (!limits_allow(&d->config.limits, &w))
+            r.fault = "NotAllowed";
+        else
+            r.status = numbers_command(e, line, length, &r.raised);
+        fails = r.fault != NULL || r.status != MACSEC_OK;
+        if (w.count == 0 && !fails)
+            continue;
+        if (fails)
+            t->length = 0;
+        text_add(t, "%u ", number);
+        answer_result(t, &r);
+    }
+    if (t->length == 0)
+        text_add(t, "ok\n");
+    return !fails && !t->full;
+}
+
+/* What the lines mean for the device, now that they are carried out. Reservations were made. */
+static void note_lines(const char *lines, size_t left) {
+    const char *line;
+    size_t length;
+    while ((line = words_line(&lines, &left, &length)) != NULL) {
+        struct words w;
+        words_split(&w, line, length);
+        keys_note(&w);
+        totals_note(&w);
+    }
+}
+
+void endpoint_load(struct device *d, struct text *t, const char *lines, size_t length) {
+    struct result r = { NULL, MACSEC_E_MEMORY, 0 };
+    macsec_endpoint *e;
+    if (!endpoint_is_open(d))
+        r.status = MACSEC_E_EMPTY;
+    else if ((e = handover_begin(d)) != NULL) {
+        if (!load_lines(d, e, t, lines, length)) {
+            macsec_free(e);
+            return;
+        }
+        if (handover_finish(d, e)) {
+            note_lines(lines, length);
+            return;
+        }
+        r.fault = "Journal";
+    }
+    t->length = 0;
+    answer_result(t, &r);
+}

@@ -1,0 +1,122 @@
+/* A second endpoint. The first one has taken all the keys that an endpoint can take, or lines are carried out all or
+ * none: then a copy of it takes over between two frames, so that none is lost.
+ *
+ * The copy is made beside the journal, as after a restart. So its transmit associations begin above all numbers that
+ * the first endpoint has reserved, and no number is used twice. The copy does not know the retired keys. An association
+ * that has no packet number left is not in it either: it can send and receive nothing. */
+#include "device.h"
+#include <inttypes.h>
+#include <stdio.h>
+#include <string.h>
+
+enum { LINE = 128 };
+
+/* Carries out a line at the copy. An association without a packet number is left out. */
+static uint32_t add_association(macsec_endpoint *e, const char *line) {
+    uint64_t raised;
+    uint32_t status = numbers_command(e, line, strlen(line), &raised);
+    return status == MACSEC_E_PN_RANGE || status == MACSEC_E_PN_FLOOR ? MACSEC_E_NOT_FOUND : status;
+}
+
+static uint32_t copy_options(macsec_endpoint *to, const macsec_endpoint *from) {
+    macsec_options options;
+    uint32_t status = macsec_get_options(from, &options);
+    if (status == MACSEC_OK)
+        status = macsec_set_protect(to, options.protect);
+    if (status == MACSEC_OK)
+        status = macsec_set_validation(to, options.mode);
+    if (status == MACSEC_OK)
+        status = macsec_set_replay(to, options.replay, options.window);
+    return status == MACSEC_OK ? macsec_set_tag_form(to, options.form) : status;
+}
+
+static uint32_t copy_keys(macsec_endpoint *to) {
+    uint32_t status = MACSEC_OK;
+    for (size_t number = 0; number < MACSEC_KEY_COUNT && status == MACSEC_OK; number++) {
+        size_t length;
+        const char *line = keys_line(number, &length);
+        if (line != NULL)
+            status = macsec_command_line(to, (const uint8_t *)line, length);
+    }
+    return status;
+}
+
+static uint32_t copy_rx_sa(macsec_endpoint *to, const macsec_endpoint *from, const uint8_t sci[8], uint8_t an) {
+    macsec_rx_sa sa;
+    char line[LINE], name[SCI_TEXT];
+    uint32_t status = macsec_get_rx_sa(from, sci, an, &sa);
+    if (status != MACSEC_OK)
+        return status;
+    if (sa.lowest_high != 0)
+        return MACSEC_E_NOT_FOUND;
+    sci_text(sci, name);
+    snprintf(line, sizeof line, "A rxsa %s %u %u %" PRIx64 " %08" PRIx32, name, an, sa.key, sa.lowest, sa.ssci);
+    status = add_association(to, line);
+    return status == MACSEC_OK && sa.on ? macsec_enable_rx_sa(to, sci, an) : status;
+}
+
+static uint32_t copy_channels(macsec_endpoint *to, const macsec_endpoint *from) {
+    uint32_t status = MACSEC_OK;
+    uint8_t sci[8];
+    for (size_t place = 0; status == MACSEC_OK && macsec_get_rx_sc(from, place, sci) == MACSEC_OK; place++) {
+        status = macsec_add_rx_sc(to, sci);
+        for (uint8_t an = 0; an < MACSEC_AN_COUNT && status == MACSEC_OK; an++) {
+            status = copy_rx_sa(to, from, sci, an);
+            if (status == MACSEC_E_NOT_FOUND)
+                status = MACSEC_OK;
+        }
+    }
+    return status;
+}
+
+static uint32_t copy_tx_sa(macsec_endpoint *to, const macsec_endpoint *from, uint8_t an) {
+    macsec_tx_sa sa;
+    char line[LINE];
+    uint32_t status = macsec_get_tx_sa(from, an, &sa);
+    if (status != MACSEC_OK)
+        return status;
+    if (sa.next_high != 0)
+        return MACSEC_E_NOT_FOUND;
+    snprintf(line, sizeof line, "A txsa %u %u %" PRIx64 " %s", an, sa.key, sa.next, sa.conf ? "conf" : "int");
+    status = add_association(to, line);
+    return status == MACSEC_OK && sa.on ? macsec_enable_tx_sa(to, an) : status;
+}
+
+static uint32_t copy(macsec_endpoint *to, const macsec_endpoint *from) {
+    uint32_t status = copy_options(to, from);
+    if (status == MACSEC_OK)
+        status = copy_keys(to);
+    if (status == MACSEC_OK)
+        status = copy_channels(to, from);
+    for (uint8_t an = 0; an < MACSEC_AN_COUNT && status == MACSEC_OK; an++) {
+        status = copy_tx_sa(to, from, an);
+        if (status == MACSEC_E_NOT_FOUND)
+            status = MACSEC_OK;
+    }
+    return status;
+}
+
+macsec_endpoint *handover_begin(struct device *d) {
+    macsec_endpoint *e = &d->handles[d->endpoint == &d->handles[0]];
+    uint32_t status = numbers_configure(d->numbers, e, d->end_line, strlen(d->end_line));
+    if (status == MACSEC_OK)
+        status = copy(e, d->endpoint);
+    if (status == MACSEC_OK)
+        return e;
+    message("no second endpoint can be made: %s", macsec_status_name(status));
+    macsec_free(e);
+    return NULL;
+}
+
+bool handover_finish(struct device *d, macsec_endpoint *e) {
+    macsec_endpoint *before = d->endpoint;
+    if (!numbers_reserve(d->numbers, e)) {
+        message("the second endpoint does not take over: its packet numbers can't be reserved");
+        macsec_free(e);
+        return false;
+    }
+    totals_carry(before);
+    macsec_free(before);
+    d->endpoint = e;
+    return true;
+}

@@ -1,0 +1,83 @@
+/* The words of a line, separated as the library separates them: by spaces and tabs. One carriage return at the end of a
+ * line belongs to no word. */
+#include "device.h"
+#include <stdlib.h>
+#include <string.h>
+
+static bool is_blank(char octet) {
+    return octet == ' ' || octet == '\t';
+}
+
+void words_split(struct words *w, const char *line, size_t length) {
+    size_t i = 0;
+    w->count = 0;
+    if (length > 0 && line[length - 1] == '\r')
+        length--;
+    while (i < length) {
+        size_t end = i;
+        while (end < length && !is_blank(line[end]))
+            end++;
+        if (end > i) {
+            if (w->count == WORDS) {
+                w->count++;
+                return;
+            }
+            w->at[w->count] = line + i;
+            w->length[w->count++] = end - i;
+        }
+        i = end + 1;
+    }
+}
+
+bool words_is(const struct words *w, unsigned index, const char *text) {
+    return index < w->count && index < WORDS && w->length[index] == strlen(text) &&
+           memcmp(w->at[index], text, w->length[index]) == 0;
+}
+
+bool words_are(const struct words *w, unsigned count, const char *first, const char *second) {
+    return w->count == count && words_is(w, 0, first) && words_is(w, 1, second);
+}
+
+bool words_copy(const struct words *w, unsigned index, char *to, size_t room) {
+    if (index >= w->count || index >= WORDS || w->length[index] >= room)
+        return false;
+    memset(to, 0, room);
+    memcpy(to, w->at[index], w->length[index]);
+    return true;
+}
+
+bool words_number(const struct words *w, unsigned index, uint64_t *number) {
+    *number = 0;
+    if (index >= w->count || index >= WORDS)
+        return false;
+    for (size_t i = 0; i < w->length[index]; i++) {
+        unsigned digit = (unsigned)((unsigned char)w->at[index][i] - '0');
+        if (digit > 9)
+            return false;
+        *number = *number > (UINT64_MAX - digit) / 10 ? UINT64_MAX : 10 * *number + digit;
+    }
+    return true;
+}
+
+bool words_sci(const struct words *w, unsigned index, uint8_t sci[8]) {
+    char text[SCI_TEXT];
+    if (!words_copy(w, index, text, sizeof text) || strspn(text, "0123456789abcdefABCDEF") != SCI_TEXT - 1)
+        return false;
+    for (int i = 0; i < 8; i++) {
+        char pair[3] = { text[2 * i], text[2 * i + 1], '\0' };
+        sci[i] = (uint8_t)strtoul(pair, NULL, 16);
+    }
+    return true;
+}
+
+const char *words_line(const char **text, size_t *left, size_t *length) {
+    const char *line = *text;
+    const char *feed;
+    if (*left == 0)
+        return NULL;
+    feed = memchr(line, '\n', *left);
+    *length = feed == NULL ? *left : (size_t)(feed - line);
+    *text += feed == NULL ? *length : *length + 1;
+    *left -= feed == NULL ? *length : *length + 1;
+    return line;
+}
