@@ -144,7 +144,7 @@ class End:
 
     def __init__(self, world: "World", number: int) -> None:
         self.world, self.number = world, number
-        self.namespace = f"macsecd-{os.getpid()}-{number}"
+        self.namespace = f"macsecd-{os.getpid()}-{world.folder.name}-{number}"
         self.folder = world.folder / str(number)
         self.sci = f"02000000000{number}0001"
         self.process: Optional[subprocess.Popen] = None
