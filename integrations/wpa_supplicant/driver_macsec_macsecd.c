@@ -28,10 +28,6 @@
 #include "macsecd_keys.h"
 
 #define DRV_PREFIX "macsecd: "
-/* From a failure to a new MKA. The peers ignore the new MI until the old one
- * has expired. Beginning sooner would not be faster: the new KaY would forget
- * the peers again before they answer it. */
-#define AGAIN_SECONDS 3
 #define LAST_PN 0xffffffffULL
 
 #define SUITE_128 0x0080c20001000001ULL
@@ -76,15 +72,15 @@ static void macsecd_again(void *eloop_ctx, void *timeout_ctx)
 }
 
 
-static void begin_again(struct macsecd_data *drv, enum reason reason,
-			unsigned int seconds)
+/* At once, since the peers wait for the old MI to expire only from the moment
+ * when they hear of the new one. */
+static void begin_again(struct macsecd_data *drv, enum reason reason)
 {
 	if (eloop_is_timeout_registered(macsecd_again, drv, NULL))
 		return;
 	drv->again[reason]++;
-	wpa_msg(drv->common.ctx, MSG_WARNING,
-		DRV_PREFIX "MKA begins again in %u s", seconds);
-	if (eloop_register_timeout(seconds, 0, macsecd_again, drv, NULL))
+	wpa_msg(drv->common.ctx, MSG_WARNING, DRV_PREFIX "MKA begins again");
+	if (eloop_register_timeout(0, 0, macsecd_again, drv, NULL))
 		wpa_msg(drv->common.ctx, MSG_ERROR,
 			DRV_PREFIX "out of memory: MKA does not begin again");
 }
@@ -93,7 +89,7 @@ static void begin_again(struct macsecd_data *drv, enum reason reason,
 /* macsecd can be reached after it could not: its endpoint is lost. */
 static void macsecd_back(void *arg)
 {
-	begin_again(arg, CONNECTION, 0);
+	begin_again(arg, CONNECTION);
 }
 
 
@@ -101,11 +97,13 @@ static void macsecd_back(void *arg)
  * the end of the connection. */
 static void block_port(struct macsecd_data *drv, enum reason reason)
 {
+	if (drv->failed)
+		return; /* that is under way, and KaY goes on meanwhile */
 	drv->failed = true;
 	if (!has_endpoint(drv))
 		return; /* the port is off already */
 	if (macsecd_line(&drv->client, "port off") == 0)
-		begin_again(drv, reason, AGAIN_SECONDS);
+		begin_again(drv, reason);
 	else if (drv->client.fd >= 0)
 		macsecd_lost(&drv->client, "the port can't be blocked");
 }
