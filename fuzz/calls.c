@@ -14,7 +14,7 @@
 #include <sys/mman.h>
 #include <unistd.h>
 
-enum { HANDLES = 4, MOST_WORDS = 12, LONGEST_LINE = 262144, MOST_ROOMS = 4 };
+enum { HANDLES = 4, MOST_WORDS = 16, LONGEST_LINE = 262144, MOST_ROOMS = 4 };
 
 static macsec_endpoint handles[HANDLES];
 static bool made[HANDLES]; /* whether they hold an endpoint */
@@ -322,7 +322,7 @@ static uint32_t command_line(macsec_endpoint *e, const char *word) {
     return macsec_command_line(e, text, length);
 }
 
-static uint32_t key(macsec_endpoint *e, char **w) {
+static const macsec_sak *sealed_key(char **w) {
     macsec_sak *key = room_of(sizeof *key);
     octets(w[0], key->bytes, sizeof key->bytes);
     octets(w[1], key->salt, sizeof key->salt);
@@ -332,7 +332,19 @@ static uint32_t key(macsec_endpoint *e, char **w) {
     key->length = (uint8_t)number(w[5]);
     key->offset = (uint8_t)number(w[6]);
     seal();
-    return macsec_install_key(e, key);
+    return key;
+}
+
+/* Seals a frame of a tester, which is shown also where nothing was done. */
+static uint32_t seal_frame(char **w) {
+    const macsec_sak *key = sealed_key(w);
+    const uint8_t *sci = sealed_sci(w[7]);
+    size_t length = length_of(w[11]);
+    uint8_t *frame = room_of(length);
+    octets(w[11], frame, length);
+    uint32_t status = macsec_seal(key, sci, number(w[8]), number(w[9]) != 0, (size_t)number(w[10]), frame, length);
+    print_octets(frame, length);
+    return status;
 }
 
 static uint32_t options(const macsec_endpoint *e) {
@@ -513,7 +525,9 @@ static uint32_t call(macsec_endpoint *e, const char *name, char **w, int count) 
     if (strcmp(name, "send_uncontrolled") == 0)
         return send_uncontrolled(e, w[0]);
     if (strcmp(name, "install_key") == 0)
-        return key(e, w);
+        return macsec_install_key(e, sealed_key(w));
+    if (strcmp(name, "seal") == 0)
+        return seal_frame(w);
     if (strcmp(name, "get_options") == 0)
         return options(e);
     if (strcmp(name, "keys_left") == 0)

@@ -124,6 +124,14 @@ class Calls:
         offset = self.pick((0, 0, 0, 0, 30, 50, 31, 255))
         return self.handle(), octets, self.SALT, self.pick(self.SSCIS), suite, number, length, offset
 
+    def sealing(self):
+        """A frame of a tester: of a client, or any octets, with a SecTAG or other octets and space for an ICV."""
+        client = self.client_frame()
+        tag = self.random.randbytes(self.pick((8, 16, 16, 0, 3, 24)))
+        frame = client[:12] + tag + client[12:] + bytes(self.pick((16, 16, 16, 0, 15, 17)))
+        head = self.pick((12 + len(tag),) * 4 + (0, 1, len(frame) - 16 & 2**64 - 1, len(frame), 2**64 - 1))
+        return *self.key(), self.sci(), self.pick(self.PNS), self.pick((0, 1)), head, frame
+
     def word(self, field):
         """A word of a line."""
         pick = self.pick
@@ -192,6 +200,7 @@ class Calls:
             "journal_compacted": lambda: (h(), self.journal()),
             "send": lambda: (pick((0, 0, 0, 0, 0, 1, 2)), self.client_frame()),
             "send_uncontrolled": lambda: (h(), self.client_frame()),
+            "seal": self.sealing,
             "receive": lambda: (pick((1, 1, 1, 1, 1, 0, 2)), self.link_frame()),
             "set_protect": lambda: (h(), pick((0, 1, 1))),
             "set_validation": lambda: (h(), pick((0, 1, 1, 2, 2, 2, 3, 2**32 - 1))),
@@ -223,7 +232,7 @@ class Calls:
         "get_options": 8, "keys_left": 8, "get_counters": 20, "get_tx_counters": 10, "get_rx_counters": 15,
         "get_rx_sa_counters": 15, "get_removed_counters": 10, "get_rx_sc": 6, "get_tx_sa": 10, "get_rx_sa": 15, "reserve_open": 4,
         "reserve_configure": 4, "reserve_wanted": 15, "reserve_to_save": 10, "reserve_granted": 15, "journal_header": 1,
-        "journal_compacted": 5,
+        "journal_compacted": 5, "seal": 25,
     }  # fmt: skip
 
     def paired(self):
@@ -447,7 +456,7 @@ class Calls:
 
     def meet(self, name, words):
         """Notes the suites that a call names."""
-        place = {"new": 2, "reserve_open": 2, "install_key": 4}.get(name)
+        place = {"new": 2, "reserve_open": 2, "install_key": 4, "seal": 4}.get(name)
         for it, value in CONSTANTS.items():
             if place and it.startswith("SUITE_") and value == words[place]:
                 self.model.met[it] += 1

@@ -24,7 +24,11 @@ SUITES |= {CONSTANTS["SUITE_GCM_AES_XPN_" + it]: "xpn" + it for it in ("128", "2
 FORMS = {CONSTANTS["FORM_" + it.upper()]: it for it in expected.FORMS}
 MODES = {CONSTANTS["MODE_" + it.upper()]: it for it in expected.MODES}
 # The calls that a handle without an endpoint does not refuse.
-HANDLE_FREE = ("new", "configure", "reserve_open", "reserve_configure", "free", "journal_header", "journal_compacted")
+HANDLE_FREE = (
+    "new", "configure", "reserve_open", "reserve_configure", "free", "journal_header", "journal_compacted", "seal",
+)  # fmt: skip
+# The most octets of a frame that is sealed.
+MOST_SEALED = 2**36 - 32
 ALL_COUNTERS = expected.SECY_COUNTERS[:11]
 TX_COUNTERS = expected.SECY_COUNTERS[11:]
 
@@ -296,6 +300,21 @@ class Model:
         sci, an = row or (bytes(8), 0)
         told = f"{int(row is not None)} {sci.hex()} {an} {int(delivered is not None)} {hex_of(delivered or b'')}"
         return f" {CONSTANTS[verdict]} {told}"
+
+    def call_seal(self, handle, octets, salt, ssci, suite, number, length, offset, sci, pn, conf, head, frame):
+        lengths = {it: expected.SUITES[name][0] for it, name in SUITES.items()}
+        for status, applies in (
+            ("E_NO_SUCH_SUITE", suite not in SUITES), ("E_NO_SUCH_KEY_OCTETS", length not in (16, 32)),
+            ("E_KEY_LENGTH", lengths.get(suite) != length), ("E_PN_RANGE", pn >> (64 if suite > 2 else 32)),
+            ("E_FRAME_SHORT", len(frame) < head + 16), ("E_FRAME_LONG", len(frame) > MOST_SEALED),
+        ):  # fmt: skip
+            if applies:
+                raise Status(status, f" {hex_of(frame)}")
+        key = expected.Key(octets[:length], offset, SUITES[suite], struct.pack(">I", ssci), salt)
+        data = frame[head:-16]
+        clear = head + (min(offset, len(data)) if conf else len(data))
+        iv = expected.Endpoint.iv(None, key, sci, key.ssci, pn)
+        return f" {(frame[:clear] + expected.seal(key.octets, iv, frame[:clear], frame[clear:-16])).hex()}"
 
     # Commands.
 

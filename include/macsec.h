@@ -526,6 +526,31 @@ uint32_t macsec_reserve_to_save(const macsec_endpoint *e, const uint8_t sci[8], 
  * has changed. */
 uint32_t macsec_reserve_granted(macsec_endpoint *e, const macsec_record *record);
 
+/* ---- Frames for tests ---- */
+
+uint32_t macsec_seal_raw(const macsec_sak *key, const uint8_t sci[8], uint64_t pn, bool conf, size_t head,
+                         uint8_t *frame, size_t length);
+/* For testers alone: seals a frame in place, whatever its SecTAG is, so that a receiver that drops it has judged the
+ * tag and not the ICV. It knows no packet numbers: told the same key, SCI (or SSCI) and `pn` twice, it repeats an IV,
+ * which breaks GCM. Never give it a key that an endpoint uses outside a test.
+ *
+ * `frame` has `head` octets (destination, source and SecTAG, of any content and number), the data, and 16 octets into
+ * which the ICV is written. Octets that are to follow the ICV are no part of it. With `conf`, the data after the first
+ * key->offset octets are encrypted; all octets before them are only authenticated, without `conf` all but the ICV
+ * (10.5, 14.5). The IV is `sci` and the 32 bits of `pn` (14.5, 14.6); with extended packet numbers the exclusive or of
+ * key->salt with key->ssci and the 64 bits of `pn` (14.7, 14.8). Nothing is read from the SecTAG: E, C, PN and SCI in
+ * it can say something else. `pn` can be 0, key->offset any number; key->number is not used.
+ *
+ * The first that applies, and then the frame is unchanged: MACSEC_E_NO_SUCH_SUITE (there is no default),
+ * MACSEC_E_NO_SUCH_KEY_OCTETS, MACSEC_E_KEY_LENGTH, MACSEC_E_PN_RANGE (`pn` is above the suite's last),
+ * MACSEC_E_FRAME_SHORT (`length` is below `head` + 16), MACSEC_E_FRAME_LONG (above 2^36 - 32). Proved: else the frame
+ * is as said here (crates/macsec_c/specs/Sealing.antt), by AES-GCM as crates/macsec_gcm/specs defines it. */
+static inline uint32_t macsec_seal(const macsec_sak *key, const uint8_t sci[8], uint64_t pn, bool conf, size_t head,
+                                   uint8_t *frame, size_t length) {
+    uint8_t none;
+    return macsec_seal_raw(key, sci, pn, conf, head, length == 0 ? &none : frame, length);
+}
+
 /* ---- Names, as the program `macsec` prints them; "unknown" for a number without a meaning ---- */
 
 static inline const char *macsec_status_name(uint32_t status) {

@@ -11,6 +11,9 @@
 //! state after the borrow is known. A handle owns its endpoint: `macsec_free_raw` leaves a handle without one, and
 //! nothing is used after it is freed, or freed twice. No clause says that the memory is given back.
 //!
+//! `macsec_seal_raw` has no handle: it seals a frame for a test as `protect_in_place` would, whatever its SecTAG is
+//! (`specs/Sealing.antt`).
+//!
 //! No export has a `requires`. The caller in C has to ensure what references and handles mean. Each pointer leads to a
 //! value of its type, or to as many octets as the length beside it says, and nothing else points there. A handle begins
 //! as zeros, and only these calls write to it.
@@ -23,6 +26,7 @@ mod endpoint;
 mod loose;
 mod receiving;
 mod reserving;
+mod sealing;
 mod sending;
 mod showing;
 mod version;

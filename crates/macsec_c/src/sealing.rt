@@ -1,0 +1,110 @@
+//! Frames for tests: any SecTAG, with a valid ICV (IEEE 802.1AE, 10.5 and 14.5 to 14.8).
+
+ghost use Rattle.std.specs.Prelude.{◌≡◌, ◌≤◌, ◌+◌, length, min, if◌then◌else◌};
+ghost use Rattle.macsec_aes.specs.Keys.{key_bytes};
+ghost use Rattle.macsec_gcm.specs.Gcm.{max_plaintext_len};
+ghost use Rattle.macsec_suite.specs.InPlace.{protected_octets};
+ghost use Rattle.macsec_suite.specs.Keys.{prepared_from};
+ghost use Rattle.macsec_c_numbers.specs.Arguments.{sci_of};
+ghost use Rattle.macsec_c.specs.Sealing.{seal_fault, sealed};
+
+use crate::commands::Sak;
+use macsec_aes::Key;
+use macsec_c_numbers::{DONE, key_of, status_of_frame_fault, suite_of};
+use macsec_gcm::GcmKey;
+use macsec_secy::{FrameFault, Refusal, Sci, Suite};
+use macsec_suite::iv_of;
+use macsec_tag::ICV_LENGTH;
+
+/// The most octets of a frame that is sealed: as many as a plaintext can have, 2^36 - 32 (SP 800-38D, 5.2.1.1).
+const LONGEST: usize = (1 << 36) - 32;
+
+/// The octets of a key.
+fn octets_of(key: &Key) -> &[u8]
+    ensures { result.now ≡ key_bytes key.now }
+{
+    match key {
+        Key::K128(octets) => octets,
+        Key::K256(octets) => octets,
+    }
+}
+
+/// How many of `len` octets of data are not encrypted.
+fn clear_length(offset: u8, conf: bool, len: usize) -> usize
+    ensures { result ≡ (if conf then min offset len else len) }
+{
+    if conf { len.min(offset as usize) } else { len }
+}
+
+/// The first status that applies, if a frame cannot be sealed.
+fn seal_fault(suite: Suite, key: &Key, pn: u64, head: usize, frame: &[u8]) -> Option<u32>
+    ensures { result ≡ seal_fault suite key.now pn head frame.now }
+{
+    if octets_of(key).len() != suite.key_length() {
+        return Some(u32::from(Refusal::KeyLength.number()));
+    }
+    if pn > suite.last() {
+        return Some(u32::from(Refusal::PnRange.number()));
+    }
+    if frame.len() < ICV_LENGTH || frame.len() - ICV_LENGTH < head {
+        return Some(status_of_frame_fault(FrameFault::Short));
+    }
+    if frame.len() > LONGEST {
+        return Some(status_of_frame_fault(FrameFault::Long));
+    }
+    None
+}
+
+/// Seals a frame in place. Its data begin after `head` octets, and its last 16 octets are for the ICV. No clause says
+/// what the octets before the data are.
+fn seal_in_place(
+    suite: Suite,
+    key: Key,
+    offset: u8,
+    iv: &[u8; 12],
+    conf: bool,
+    head: usize,
+    frame: &mut [u8],
+)
+    requires room { head + 16 ≤ length frame.old }
+    requires frame_length { length frame.old ≤ max_plaintext_len }
+    ensures { frame.new ≡ protected_octets (prepared_from suite key offset) iv.now conf head frame.old }
+{
+    let gcm_key = GcmKey::new(key);
+    let end = frame.len() - ICV_LENGTH;
+    let clear = head + clear_length(offset, conf, end - head);
+    let (body, icv) = frame.split_at_mut(end);
+    let (aad, text) = body.split_at_mut(clear);
+    let tag = gcm_key.seal(iv, aad, text);
+    icv.copy_from_slice(&tag);
+}
+
+/// Seals a frame in place, whatever its SecTAG is. `macsec_seal` of the header calls this with a frame that is not null.
+///
+/// No contract prevents a caller from using an IV twice under a key.
+#[unsafe(no_mangle)]
+pub extern "C" fn macsec_seal_raw(
+    key: &Sak,
+    sci: &[u8; 8],
+    pn: u64,
+    conf: bool,
+    head: usize,
+    frame: &mut [u8],
+) -> u32
+    ensures { (result, frame.new) ≡ sealed key.now (sci_of sci.now) pn conf head frame.old }
+{
+    let suite = match suite_of(key.suite) {
+        Ok(suite) => suite,
+        Err(fault) => return fault.status(),
+    };
+    let octets = match key_of(&key.bytes, key.length) {
+        Ok(octets) => octets,
+        Err(fault) => return fault.status(),
+    };
+    if let Some(status) = seal_fault(suite, &octets, pn, head, frame) {
+        return status;
+    }
+    let iv = iv_of(suite, Sci(*sci), key.ssci, key.salt, pn);
+    seal_in_place(suite, octets, key.offset, &iv, conf, head, frame);
+    DONE
+}
