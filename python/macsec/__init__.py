@@ -22,11 +22,13 @@
 13 NoSa
 """
 
-from .errors import CaptureError, FrameFault, MacsecError, NotFound, Refused, TextFault, UsageError
+from .errors import CaptureError, FrameFault, JournalFault, MacsecError, NotFound, Refused, TextFault, UsageError
 from .names import Fate, Form, Mode, Status, Suite, Verdict
-from .secy import Options, Received, RxSa, SecY, Sent, TxSa, version
+from .sealing import seal
+from .secy import Options, Received, RxSa, SecY, Sent, TxSa, journal_compacted, journal_header, version
 
 __all__ = [
-    "CaptureError", "Fate", "Form", "FrameFault", "MacsecError", "Mode", "NotFound", "Options", "Received", "Refused",
-    "RxSa", "SecY", "Sent", "Status", "Suite", "TextFault", "TxSa", "UsageError", "Verdict", "version",
+    "CaptureError", "Fate", "Form", "FrameFault", "JournalFault", "MacsecError", "Mode", "NotFound", "Options",
+    "Received", "Refused", "RxSa", "SecY", "Sent", "Status", "Suite", "TextFault", "TxSa", "UsageError", "Verdict",
+    "journal_compacted", "journal_header", "seal", "version",
 ]  # fmt: skip

@@ -85,10 +85,15 @@ class RxSa(ctypes.Structure):
     ]  # fmt: skip
 
 
+class Record(ctypes.Structure):
+    _fields_ = [("octets", c_uint8 * 64)]
+
+
 # The structures by their names in the header without macsec_.
 STRUCTURES = {
     "endpoint": Endpoint, "config": Config, "sak": Sak, "sent": Sent, "received": Received, "options": Options,
     "counters": Counters, "tx_counters": TxCounters, "rx_counters": RxCounters, "tx_sa": TxSa, "rx_sa": RxSa,
+    "record": Record,
 }  # fmt: skip
 
 # The arguments of each call after the handle. An SCI and a frame are octets that the call only reads.
@@ -128,6 +133,17 @@ CALLS = {
     "get_rx_sc": (c_size_t, _TO_FILL),
     "get_tx_sa": (c_uint8, _TO_FILL),
     "get_rx_sa": (_SCI, c_uint8, _TO_FILL),
+    "reserve_open_raw": (_TO_FILL, c_char_p, c_size_t),
+    "reserve_configure_raw": (c_char_p, c_size_t, c_char_p, c_size_t, _TO_FILL),
+    "reserve_wanted": (c_uint8, c_uint64, _TO_FILL),
+    "reserve_to_save": (_SCI, c_uint8, _TO_FILL),
+    "reserve_granted": (c_char_p,),
+}
+# The calls without a handle.
+FREE_CALLS = {
+    "journal_header": (c_char_p, _TO_FILL),
+    "journal_compacted_raw": (c_char_p, c_size_t, _TO_FILL, c_size_t, _TO_FILL),
+    "seal_raw": (_TO_FILL, _SCI, c_uint64, c_bool, c_size_t, _TO_FILL, c_size_t),
 }
 
 
@@ -148,8 +164,11 @@ def load() -> ctypes.CDLL:
     library.macsec_version.restype, library.macsec_version.argtypes = c_uint32, []
     if library.macsec_version() >= 2_000_000:
         raise ImportError(f"{path()} has version {library.macsec_version()}; this package needs one below 2000000")
-    for name, arguments in CALLS.items():
-        call = getattr(library, f"macsec_{name}")
-        call.argtypes = [c_void_p, *arguments]
+    taken = {**{name: (c_void_p, *arguments) for name, arguments in CALLS.items()}, **FREE_CALLS}
+    for name, arguments in taken.items():
+        call = getattr(library, f"macsec_{name}", None)
+        if call is None:
+            raise ImportError(f"{path()} has no macsec_{name}: it is older than this package")
+        call.argtypes = list(arguments)
         call.restype = None if name == "free_raw" else c_uint32
     return library

@@ -48,6 +48,8 @@ MEANINGS = {
     Status.Ends: "the line is in a wrong place, or its tag form does not fit its SCI",
     Status.LineLong: "the line has more than 20000 octets",
     Status.ScriptLong: "the text has more than 1048576 octets or 65536 lines",
+    Status.NotJournal: "the octets are not a journal, or one of another version",
+    Status.NotRecord: "the octets are not a record of a journal",
 }
 
 
@@ -69,6 +71,10 @@ class Refused(MacsecError):
 
 class TextFault(MacsecError):
     """A line or a text is at fault (statuses 46 to 52)."""
+
+
+class JournalFault(MacsecError):
+    """Octets are not a journal, or not a record of one (statuses 53 and 54)."""
 
 
 class FrameFault(MacsecError):
@@ -99,6 +105,8 @@ def error(status: int, line: Optional[int] = None) -> MacsecError:
         return Refused(status, line)
     if status in (Status.Short, Status.Long):
         return FrameFault(status, line)
-    if status >= Status.Word:
+    if Status.Word <= status <= Status.ScriptLong:
         return TextFault(status, line)
+    if status in (Status.NotJournal, Status.NotRecord):
+        return JournalFault(status, line or None)
     return (NotFound if status == Status.NotFound else MacsecError)(status, line)

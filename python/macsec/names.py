@@ -69,6 +69,8 @@ class Status(_Number):
     Ends = 50
     LineLong = 51
     ScriptLong = 52
+    NotJournal = 53
+    NotRecord = 54
 
 
 class Suite(IntEnum):
@@ -115,6 +117,7 @@ class Fate(_Number):
     Plain = 2
     NoSA = 3
     TooLong = 4
+    NoReservation = 5
 
 
 class Verdict(_Number):

@@ -10,7 +10,7 @@ from typing import Any, Dict, List, NamedTuple, Optional, Union
 
 from . import _library
 from .errors import error
-from .names import ENDPOINT_COUNTERS, RX_COUNTERS, TX_COUNTERS, Fate, Form, Mode, Suite, Verdict
+from .names import ENDPOINT_COUNTERS, RX_COUNTERS, TX_COUNTERS, Fate, Form, Mode, Status, Suite, Verdict
 
 # A frame or a text: anything with octets, as a packet of Scapy has by `__bytes__`.
 Octets = Union[bytes, bytearray, memoryview, Any]
@@ -107,7 +107,7 @@ def sci_of(value: SciLike) -> bytes:
     return octets
 
 
-def _number(value: int, bits: int, what: str) -> int:
+def number_of(value: int, bits: int, what: str) -> int:
     """A number that fits into so many bits; the library says whether it means something."""
     number = operator.index(value)
     if not 0 <= number < 1 << bits:
@@ -115,9 +115,26 @@ def _number(value: int, bits: int, what: str) -> int:
     return number
 
 
-def _named(kind: Any, value: Union[int, str]) -> int:
+def named(kind: Any, value: Union[int, str]) -> int:
     """A number of an enumeration, given as its name too."""
-    return int(kind[value]) if isinstance(value, str) else _number(value, 32, kind.__name__)
+    return int(kind[value]) if isinstance(value, str) else number_of(value, 32, kind.__name__)
+
+
+def sak_of(
+    key: Octets, *, number: int, offset: int, suite: Union[Suite, int, str], ssci: int, salt: Octets
+) -> "_library.Sak":
+    """A key as the library takes it."""
+    octets, salt = octets_of(key), octets_of(salt)
+    if len(salt) != 12:
+        raise ValueError(f"a salt has 12 octets, not {len(salt)}")
+    # The library says which lengths keys have.
+    sak = _library.Sak(
+        ssci=number_of(ssci, 32, "ssci"), suite=named(Suite, suite), number=number_of(number, 16, "number"),
+        length=min(len(octets), 255), offset=number_of(offset, 8, "offset"),
+    )  # fmt: skip
+    _memmove(ctypes.addressof(sak), octets, min(len(octets), 32))
+    _memmove(ctypes.addressof(sak) + _library.Sak.salt.offset, salt, 12)
+    return sak
 
 
 class SecY:
@@ -149,12 +166,17 @@ class SecY:
         suite: Union[Suite, int, str] = Suite.gcm128,
         form: Union[Form, int, str] = Form.sci,
         max_frame: int = 9248,
+        journal: Optional[Octets] = None,
     ) -> None:
         self._begin()
         config = _library.Config(
-            _library.Sci(*sci_of(sci)), _named(Suite, suite), _named(Form, form), _number(max_frame, 32, "max_frame")
+            _library.Sci(*sci_of(sci)), named(Suite, suite), named(Form, form), number_of(max_frame, 32, "max_frame")
         )
-        status = self._library.macsec_new(self._handle, ctypes.byref(config))
+        if journal is None:
+            status = self._library.macsec_new(self._handle, ctypes.byref(config))
+        else:
+            octets = octets_of(journal)
+            status = self._library.macsec_reserve_open_raw(self._handle, ctypes.byref(config), octets, len(octets))
         if status:
             raise error(status)
 
@@ -169,8 +191,11 @@ class SecY:
         self._send_raw, self._receive_raw = self._library.macsec_send_raw, self._library.macsec_receive_raw
 
     @classmethod
-    def configure(cls, text: Union[str, Octets]) -> "SecY":
+    def configure(cls, text: Union[str, Octets], journal: Optional[Octets] = None) -> "SecY":
         """The endpoint of the text of a CONFIG. A fault or a refused line raises, with its line, and makes nothing.
+
+        With a journal, all octets of its file, the endpoint uses only the packet numbers that a record reserves, and
+        begins at none that an earlier run reserved. include/macsec.h says how to keep the file.
 
         >>> SecY.configure("end A gcm128 0200000000010001 1546 sci\\nA txon 0\\n")
         Traceback (most recent call last):
@@ -180,7 +205,13 @@ class SecY:
         made = cls.__new__(cls)
         made._begin()
         octets, line = _text(text), ctypes.c_uint32()
-        status = made._library.macsec_configure_raw(made._handle, octets, len(octets), ctypes.byref(line))
+        if journal is None:
+            status = made._library.macsec_configure_raw(made._handle, octets, len(octets), ctypes.byref(line))
+        else:
+            kept = octets_of(journal)
+            status = made._library.macsec_reserve_configure_raw(
+                made._handle, octets, len(octets), kept, len(kept), ctypes.byref(line)
+            )
         if status:
             raise error(status, line.value)
         return made
@@ -255,15 +286,15 @@ class SecY:
 
     def set_validation(self, mode: Union[Mode, int, str]) -> None:
         """Sets how received frames are validated."""
-        self._call("set_validation", _named(Mode, mode))
+        self._call("set_validation", named(Mode, mode))
 
     def set_replay(self, on: bool, window: int = 0) -> None:
         """Drops late frames or not, and sets the replay window."""
-        self._call("set_replay", bool(on), _number(window, 64, "window"))
+        self._call("set_replay", bool(on), number_of(window, 64, "window"))
 
     def set_tag_form(self, form: Union[Form, int, str]) -> None:
         """Sets the tag form."""
-        self._call("set_tag_form", _named(Form, form))
+        self._call("set_tag_form", named(Form, form))
 
     def install_key(
         self,
@@ -276,37 +307,28 @@ class SecY:
         salt: Octets = bytes(12),
     ) -> None:
         """Installs a key (SAK). SSCI, the endpoint's own, and salt are for extended packet numbers."""
-        octets, salt = octets_of(key), octets_of(salt)
-        if len(salt) != 12:
-            raise ValueError(f"a salt has 12 octets, not {len(salt)}")
-        # The library says which lengths keys have.
-        sak = _library.Sak(
-            ssci=_number(ssci, 32, "ssci"), suite=_named(Suite, suite), number=_number(number, 16, "number"),
-            length=min(len(octets), 255), offset=_number(offset, 8, "offset"),
-        )  # fmt: skip
-        _memmove(ctypes.addressof(sak), octets, min(len(octets), 32))
-        _memmove(ctypes.addressof(sak) + _library.Sak.salt.offset, salt, 12)
+        sak = sak_of(key, number=number, offset=offset, suite=suite, ssci=ssci, salt=salt)
         self._call("install_key", ctypes.byref(sak))
 
     def retire_key(self, number: int) -> None:
         """Retires a key that no association uses."""
-        self._call("retire_key", _number(number, 16, "number"))
+        self._call("retire_key", number_of(number, 16, "number"))
 
     def add_tx_sa(self, an: int, key: int, pn: int, conf: bool) -> None:
         """Creates a transmit association, disabled. It encrypts if `conf`. `pn` must be above all that the key used."""
-        self._call("add_tx_sa", _number(an, 8, "an"), _number(key, 16, "key"), _number(pn, 64, "pn"), bool(conf))
+        self._call("add_tx_sa", number_of(an, 8, "an"), number_of(key, 16, "key"), number_of(pn, 64, "pn"), bool(conf))
 
     def enable_tx_sa(self, an: int) -> None:
         """Enables a transmit association, and disables every other one."""
-        self._call("enable_tx_sa", _number(an, 8, "an"))
+        self._call("enable_tx_sa", number_of(an, 8, "an"))
 
     def disable_tx_sa(self, an: int) -> None:
         """Disables a transmit association."""
-        self._call("disable_tx_sa", _number(an, 8, "an"))
+        self._call("disable_tx_sa", number_of(an, 8, "an"))
 
     def delete_tx_sa(self, an: int) -> None:
         """Deletes a transmit association."""
-        self._call("delete_tx_sa", _number(an, 8, "an"))
+        self._call("delete_tx_sa", number_of(an, 8, "an"))
 
     def add_rx_sc(self, sci: SciLike) -> None:
         """Creates a receive channel, of another endpoint's SCI."""
@@ -318,24 +340,47 @@ class SecY:
 
     def add_rx_sa(self, sci: SciLike, an: int, key: int, pn: int, ssci: int = 0) -> None:
         """Creates a receive association, disabled. `pn` is its lowest acceptable packet number, `ssci` the sender's."""
-        numbers = _number(an, 8, "an"), _number(key, 16, "key"), _number(ssci, 32, "ssci"), _number(pn, 64, "pn")
-        self._call("add_rx_sa", sci_of(sci), *numbers)
+        numbers = number_of(an, 8, "an"), number_of(key, 16, "key"), number_of(ssci, 32, "ssci")
+        self._call("add_rx_sa", sci_of(sci), *numbers, number_of(pn, 64, "pn"))
 
     def enable_rx_sa(self, sci: SciLike, an: int) -> None:
         """Enables a receive association."""
-        self._call("enable_rx_sa", sci_of(sci), _number(an, 8, "an"))
+        self._call("enable_rx_sa", sci_of(sci), number_of(an, 8, "an"))
 
     def disable_rx_sa(self, sci: SciLike, an: int) -> None:
         """Disables a receive association."""
-        self._call("disable_rx_sa", sci_of(sci), _number(an, 8, "an"))
+        self._call("disable_rx_sa", sci_of(sci), number_of(an, 8, "an"))
 
     def set_lowest_pn(self, sci: SciLike, an: int, pn: int) -> None:
         """Raises the lowest acceptable packet number of a receive association."""
-        self._call("set_lowest_pn", sci_of(sci), _number(an, 8, "an"), _number(pn, 64, "pn"))
+        self._call("set_lowest_pn", sci_of(sci), number_of(an, 8, "an"), number_of(pn, 64, "pn"))
 
     def delete_rx_sa(self, sci: SciLike, an: int) -> None:
         """Deletes a receive association."""
-        self._call("delete_rx_sa", sci_of(sci), _number(an, 8, "an"))
+        self._call("delete_rx_sa", sci_of(sci), number_of(an, 8, "an"))
+
+    # Reservations. include/macsec.h says in which order a caller makes these calls and writes its file.
+
+    def reserve_wanted(self, an: int, amount: int) -> Optional[bytes]:
+        """The record to write next for a transmit association: it reserves `amount` packet numbers. None if there is no
+        such association, or if half of `amount` are still reserved."""
+        try:
+            words = number_of(an, 8, "an"), number_of(amount, 64, "amount")
+            return bytes(self._shown(_library.Record, "reserve_wanted", *words).octets)
+        except LookupError:
+            return None
+
+    def reserve_to_save(self, sci: SciLike, an: int) -> bytes:
+        """The record that saves the lowest acceptable packet number of a receive association."""
+        shown = self._shown(_library.Record, "reserve_to_save", sci_of(sci), number_of(an, 8, "an"))
+        return bytes(shown.octets)
+
+    def reserve_granted(self, record: Octets) -> None:
+        """A record is on the disk, where every later run will read it."""
+        octets = octets_of(record)
+        if len(octets) != ctypes.sizeof(_library.Record):
+            raise error(Status.NotRecord)
+        self._call("reserve_granted", octets)
 
     # What an endpoint shows.
 
@@ -365,7 +410,7 @@ class SecY:
         """The counters of a receive channel, or of one of its associations."""
         if an is None:
             return _counters(self._shown(_library.RxCounters, "get_rx_counters", sci_of(sci)), RX_COUNTERS)
-        words = sci_of(sci), _number(an, 8, "an")
+        words = sci_of(sci), number_of(an, 8, "an")
         return _counters(self._shown(_library.RxCounters, "get_rx_sa_counters", *words), RX_COUNTERS)
 
     def removed_counters(self, sci: SciLike) -> Dict[str, int]:
@@ -374,7 +419,7 @@ class SecY:
 
     def rx_sc(self, place: int) -> bytes:
         """The SCI of the receive channel at this place in the order of creation."""
-        return bytes(self._shown(_library.Sci, "get_rx_sc", _number(place, 64, "place")))
+        return bytes(self._shown(_library.Sci, "get_rx_sc", number_of(place, 64, "place")))
 
     def rx_scs(self) -> List[bytes]:
         """The SCIs of the receive channels, in the order of creation."""
@@ -387,12 +432,12 @@ class SecY:
 
     def tx_sa(self, an: int) -> TxSa:
         """A transmit association."""
-        it = self._shown(_library.TxSa, "get_tx_sa", _number(an, 8, "an"))
+        it = self._shown(_library.TxSa, "get_tx_sa", number_of(an, 8, "an"))
         return TxSa(it.key, it.next_high << 64 | it.next, it.conf, it.on)
 
     def rx_sa(self, sci: SciLike, an: int) -> RxSa:
         """A receive association."""
-        it = self._shown(_library.RxSa, "get_rx_sa", sci_of(sci), _number(an, 8, "an"))
+        it = self._shown(_library.RxSa, "get_rx_sa", sci_of(sci), number_of(an, 8, "an"))
         return RxSa(it.key, it.next_high << 64 | it.next, it.lowest_high << 64 | it.lowest, it.ssci, it.on)
 
 
@@ -404,6 +449,32 @@ def _text(text: Union[str, Octets]) -> bytes:
 def _counters(shown: Any, names: "tuple[str, ...]") -> Dict[str, int]:
     """Counters by their names."""
     return {name: getattr(shown, field[0]) for name, field in zip(names, shown._fields_)}
+
+
+def journal_header(salt: Octets) -> bytes:
+    """The header of a new journal. `salt` is 32 random octets: other journals name the same key otherwise.
+
+    >>> len(journal_header(bytes(32)))
+    64
+    """
+    octets = octets_of(salt)
+    if len(octets) != 32:
+        raise ValueError(f"the salt of a journal has 32 octets, not {len(octets)}")
+    made = _library.Record()
+    _library.load().macsec_journal_header(octets, ctypes.byref(made))
+    return bytes(made.octets)
+
+
+def journal_compacted(journal: Octets) -> bytes:
+    """A journal that reserves the same, with one record for each name."""
+    octets, written = octets_of(journal), ctypes.c_size_t()
+    out = ctypes.create_string_buffer(len(octets) + 1)
+    status = _library.load().macsec_journal_compacted_raw(
+        octets, len(octets), ctypes.addressof(out), len(octets), ctypes.byref(written)
+    )
+    if status:
+        raise error(status)
+    return out.raw[: written.value]
 
 
 def version() -> int:

@@ -8,11 +8,13 @@ from __future__ import annotations
 import sys
 from typing import Callable, Dict, List, Optional
 
-from macsec import MacsecError, SecY
+from macsec import MacsecError, SecY, journal_compacted, journal_header, sealing
+from macsec.errors import error
+from macsec.secy import sak_of
 from macsec.names import ENDPOINT_COUNTERS, RX_COUNTERS, TX_COUNTERS
 
 handles: "List[Optional[SecY]]" = [None] * 4
-EMPTY, TAKEN = 32, 33
+EMPTY, TAKEN, NOT_FOUND = 32, 33, 40
 
 
 def octets(word: str) -> bytes:
@@ -43,6 +45,32 @@ def install_key(it: SecY, *words: str) -> str:
     chosen = {"suite": int(suite), "ssci": int(ssci), "salt": octets(salt), "offset": int(offset)}
     it.install_key(int(number), octets(key)[: int(length)], **chosen)  # type: ignore[arg-type]
     return ""
+
+
+def wanted(it: SecY, an: str, amount: str) -> str:
+    record = it.reserve_wanted(int(an), int(amount))
+    if record is None:
+        raise error(NOT_FOUND)
+    return f" {record.hex()}"
+
+
+def seal(*words: str) -> "tuple[str, int]":
+    key, salt, ssci, suite, number, length, offset, sci, pn, conf, head, frame = words
+    sak = sak_of(
+        octets(key)[: int(length)], number=int(number), offset=int(offset), suite=int(suite), ssci=int(ssci),
+        salt=octets(salt),
+    )  # fmt: skip
+    status, made = sealing.sealed(sak, sci, int(pn), conf != "0", int(head), octets(frame))
+    return f" {hex_of(made)}", status
+
+
+def compacted(journal: str) -> "tuple[str, int]":
+    given = octets(journal)
+    try:
+        made = journal_compacted(given)
+    except MacsecError as why:
+        return f" 7 {hex_of(bytes([7]) * len(given))}", why.number
+    return f" {len(made)} {hex_of(made + bytes([7]) * (len(given) - len(made)))}", 0
 
 
 def options(it: SecY) -> str:
@@ -106,14 +134,37 @@ CALLS: "Dict[str, Callable[..., str]]" = {
     "get_rx_sc": lambda it, place: f" {it.rx_sc(int(place)).hex()}",
     "get_tx_sa": tx_sa,
     "get_rx_sa": rx_sa,
+    "reserve_wanted": wanted,
+    "reserve_to_save": lambda it, sci, an: f" {it.reserve_to_save(sci, int(an)).hex()}",
+    "reserve_granted": done(lambda it, record: it.reserve_granted(octets(record))),
+}
+# The calls without a handle.
+FREE_CALLS: "Dict[str, Callable[..., tuple[str, int]]]" = {
+    "seal": seal,
+    "journal_header": lambda salt: (f" {journal_header(octets(salt)).hex()}", 0),
+    "journal_compacted": compacted,
 }
 # What fuzz/calls.c shows if a call does nothing: the values before it.
 UNSHOWN = {
     "send": " 0 0 -", "receive": f" 0 0 {'00' * 8} 0 0 -", "get_options": " 7 7 7 0 0", "keys_left": " 7",
     "get_counters": " 7" * 11, "get_tx_counters": " 7" * 4, "get_rx_counters": " 7" * 6, "get_rx_sa_counters": " 7" * 6,
     "get_removed_counters": " 7" * 6, "get_rx_sc": " " + "07" * 8, "get_tx_sa": f" {wide(7 << 64 | 7)} 7 0 0",
-    "get_rx_sa": f" {wide(7 << 64 | 7)} {wide(7 << 64 | 7)} 7 7 0",
+    "get_rx_sa": f" {wide(7 << 64 | 7)} {wide(7 << 64 | 7)} 7 7 0", "reserve_wanted": " " + "07" * 64,
+    "reserve_to_save": " " + "07" * 64,
 }  # fmt: skip
+
+
+MAKES = ("new", "configure", "reserve_open", "reserve_configure")
+
+
+def made(name: str, words: "List[str]") -> SecY:
+    """The endpoint that a call makes."""
+    if name == "configure":
+        return SecY.configure(octets(words[0]))
+    if name == "reserve_configure":
+        return SecY.configure(octets(words[0]), octets(words[1]))
+    sci, suite, form, most, *journal = words
+    return SecY(sci, int(suite), int(form), int(most), *map(octets, journal))
 
 
 def creation(name: str, handle: int, words: "List[str]") -> "tuple[str, int]":
@@ -128,15 +179,11 @@ def creation(name: str, handle: int, words: "List[str]") -> "tuple[str, int]":
                 assert why.number == EMPTY
         handles[handle] = None
         return "", 0
-    line = " 0" if name == "configure" else ""
+    line = " 0" if name.endswith("configure") else ""
     if handles[handle] is not None:
         return line, TAKEN
     try:
-        if name == "configure":
-            handles[handle] = SecY.configure(octets(words[0]))
-        else:
-            sci, suite, form, most = words
-            handles[handle] = SecY(sci, int(suite), int(form), int(most))
+        handles[handle] = made(name, words)
     except MacsecError as why:
         return f" {why.line or 0}" if line else "", why.number
     return line, 0
@@ -144,8 +191,10 @@ def creation(name: str, handle: int, words: "List[str]") -> "tuple[str, int]":
 
 def answer(name: str, handle: int, words: "List[str]") -> "tuple[str, int]":
     """What a call shows, and its status."""
-    if name in ("new", "configure", "free"):
+    if name in (*MAKES, "free"):
         return creation(name, handle, words)
+    if name in FREE_CALLS:
+        return FREE_CALLS[name](*words)
     it = handles[handle]
     if it is None:
         return UNSHOWN.get(name, ""), EMPTY

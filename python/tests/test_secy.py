@@ -157,6 +157,57 @@ class Errors(unittest.TestCase):
                 self.assertRaises(TypeError, copied, a)
 
 
+class Journals(unittest.TestCase):
+    """What a file would hold is a list of octets here."""
+
+    def test_no_packet_number_twice(self) -> None:
+        journal, frames, numbers, last = macsec.journal_header(bytes(range(32))), client_frames(9), [], 0
+        for _ in range(2):
+            with SecY(SENDER, journal=journal) as a:
+                a.install_key(0, KEYS[0])
+                if last:
+                    with self.assertRaises(macsec.Refused) as why:
+                        a.add_tx_sa(0, 0, last, True)
+                    self.assertEqual(why.exception.name, "PnFloor")
+                a.add_tx_sa(0, 0, last + 1, True)
+                a.enable_tx_sa(0)
+                self.assertEqual(a.send(frames[0]), (Fate.NoReservation, None, None))
+                record = a.reserve_wanted(0, 4)
+                assert record is not None
+                journal += record
+                a.reserve_granted(record)
+                self.assertIsNone(a.reserve_wanted(0, 4))
+                numbers += [it.frame[16:20] for it in map(a.send, frames) if it.frame is not None]
+                last = a.tx_sa(0).next - 1
+        self.assertEqual(numbers, [it.to_bytes(4, "big") for it in range(1, last + 1)])
+        self.assertGreaterEqual(last, 8)
+        self.assertEqual(len(macsec.journal_compacted(journal)), 128)
+
+    def test_faults(self) -> None:
+        journal = macsec.journal_header(bytes(32))
+        config = f"end A gcm128 {SENDER} 1546 sci\n"
+        for call in (
+            lambda: SecY(SENDER, journal=journal[1:]), lambda: SecY.configure(config, b""),
+            lambda: macsec.journal_compacted(bytes(64)),
+            lambda: SecY.configure(config, journal).reserve_granted(bytes(64)),
+            lambda: SecY.configure(config, journal).reserve_granted(bytes(63)),
+        ):  # fmt: skip
+            self.assertRaises(macsec.JournalFault, call)
+        self.assertRaises(ValueError, macsec.journal_header, bytes(31))
+
+    def test_to_save(self) -> None:
+        with receiver(Suite.gcm128, KEYS[0]) as b:
+            for link in protected(client_frames(3)):
+                b.receive(link)
+            record = b.reserve_to_save(SENDER, 0)
+            self.assertRaises(macsec.NotFound, b.reserve_to_save, SENDER, 1)
+        with SecY(RECEIVER, journal=macsec.journal_header(bytes(32)) + record) as b:
+            b.install_key(0, KEYS[0])
+            b.add_rx_sc(SENDER)
+            self.assertRaises(macsec.Refused, b.add_rx_sa, SENDER, 0, 0, 3)
+            b.add_rx_sa(SENDER, 0, 0, 4)
+
+
 class Options(unittest.TestCase):
     def test_options_by_name_and_number(self) -> None:
         with SecY(SENDER) as a:
