@@ -12,7 +12,7 @@ from typing import List, Tuple
 from .helpers import CAPTURES, ROOT, InFolder
 
 PAGE = ROOT / "docs" / "PYTHON.md"
-COMMANDS = ("why", "decrypt", "config")
+COMMANDS = ("why", "decrypt", "config", "forge")
 
 
 def commands(page: str) -> "List[Tuple[str, str]]":

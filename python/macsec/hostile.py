@@ -1,0 +1,212 @@
+"""Frames for tests: a SecTAG of any content, sealed by the library, and a list of frames that a receiver must judge."""
+
+from __future__ import annotations
+
+from typing import Callable, Iterator, List, NamedTuple, Optional
+
+from .names import Suite, Verdict
+from .sealing import ICV_OCTETS, seal
+
+MACSEC = b"\x88\xe5"
+BITS = {"V": 0x80, "ES": 0x40, "SC": 0x20, "SCB": 0x10, "E": 0x08, "C": 0x04}
+# SL says the length of data that are shorter than this.
+SHORT = 48
+
+
+class Source(NamedTuple):
+    """Who a frame claims to be from: key, IV and association. `pn` is the packet number of the first frame."""
+
+    key: bytes
+    suite: Suite
+    sci: bytes
+    an: int = 0
+    pn: int = 1
+    offset: int = 0
+    ssci: int = 0
+    salt: bytes = bytes(12)
+
+
+class Tag(NamedTuple):
+    """The fields of a SecTAG, of any content. `sci` is None or any octets; `octet` is that of TCI and AN."""
+
+    octet: int
+    sl: int
+    pn: int
+    sci: Optional[bytes]
+    ethertype: bytes = MACSEC
+
+    def octets(self) -> bytes:
+        """The SecTAG.
+
+        >>> Tag(0x2C, 0, 1, bytes.fromhex("0200000000010001")).octets().hex()
+        '88e52c00000000010200000000010001'
+        """
+        fixed = bytes([self.octet, self.sl]) + (self.pn & 0xFFFF_FFFF).to_bytes(4, "big")
+        return self.ethertype + fixed + (self.sci or b"")
+
+
+class Shape(NamedTuple):
+    """A frame to make: what its client sent, its SecTAG, how it is sealed, and what becomes of it then.
+
+    `tag` are the octets of the SecTAG. With `conf` the data are encrypted. `icv` is None for the valid ICV, else what is
+    added to it bit by bit. `pad` are octets after the ICV, and `cut` is how many of the last octets are left out.
+    """
+
+    client: bytes
+    tag: bytes
+    pn: int
+    conf: bool = True
+    icv: Optional[bytes] = None
+    pad: bytes = b""
+    cut: int = 0
+    iv_sci: Optional[bytes] = None
+    offset: Optional[int] = None
+
+    def frame(self, source: Source) -> bytes:
+        """The octets of the frame."""
+        head = self.client[:12] + self.tag
+        made = seal(
+            head + self.client[12:], len(head), key=source.key, suite=source.suite, sci=self.iv_sci or source.sci,
+            pn=self.pn, conf=self.conf, offset=source.offset if self.offset is None else self.offset,
+            ssci=source.ssci, salt=source.salt,
+        )  # fmt: skip
+        if self.icv is not None:
+            icv = bytes(a ^ b for a, b in zip(made[-ICV_OCTETS:], self.icv.rjust(ICV_OCTETS, b"\0")))
+            made = made[:-ICV_OCTETS] + icv
+        made += self.pad
+        return made[: len(made) - self.cut]
+
+
+def short_length(data: int) -> int:
+    """SL for so many octets of data."""
+    return data if data < SHORT else 0
+
+
+def ordinary_tag(source: Source, pn: int, data: int) -> Tag:
+    """The SecTAG of an encrypted frame with the SCI."""
+    return Tag(BITS["SC"] | BITS["E"] | BITS["C"] | source.an & 3, short_length(data), pn, source.sci)
+
+
+def client_frame(source: Source, data: int = 46) -> bytes:
+    """A client's frame from the source's address, with so many octets after the addresses. Its EtherType is one for
+    experiments."""
+    return (bytes.fromhex("02000000000f") + source.sci[:6] + b"\x88\xb5" + bytes(range(256)) * 40)[: 12 + data]
+
+
+class Hostile(NamedTuple):
+    """A frame of the list: its name, what is unusual, the verdict of this endpoint in mode strict, and the frame."""
+
+    name: str
+    what: str
+    verdict: Verdict
+    shape: Shape
+
+
+_Change = Callable[[Source, Tag, Shape], Shape]
+
+
+class _Case(NamedTuple):
+    """An entry of the list before it has a source: how many octets of data, and what is changed."""
+
+    name: str
+    what: str
+    verdict: Verdict
+    change: _Change
+    data: int = 46
+
+
+def _tag(**fields: object) -> _Change:
+    """Other fields of the SecTAG."""
+    return lambda source, tag, shape: shape._replace(tag=tag._replace(**fields).octets())
+
+
+def _bits(text: str, conf: bool = True, keep_sci: bool = True) -> _Change:
+    """Other bits of the TCI: those that are named, and no others. The AN stays."""
+    octet = sum(BITS[it] for it in text.split())
+
+    def change(source: Source, tag: Tag, shape: Shape) -> Shape:
+        changed = tag._replace(octet=octet | tag.octet & 3, sci=tag.sci if keep_sci else None)
+        return shape._replace(tag=changed.octets(), conf=conf)
+
+    return change
+
+
+def _shape(**fields: object) -> _Change:
+    """Another way to seal the frame, or to alter it then."""
+    return lambda source, tag, shape: shape._replace(**fields)
+
+
+def _other(sci: bytes) -> bytes:
+    """Another SCI: of another port."""
+    return sci[:6] + bytes([sci[6], sci[7] ^ 2])
+
+
+def _from_other(source: Source, tag: Tag, shape: Shape) -> Shape:
+    other = _other(source.sci)
+    return shape._replace(tag=tag._replace(sci=other).octets(), iv_sci=other)
+
+
+def _other_an(source: Source, tag: Tag, shape: Shape) -> Shape:
+    return shape._replace(tag=tag._replace(octet=tag.octet ^ 1).octets())
+
+
+def _number_0(source: Source, tag: Tag, shape: Shape) -> Shape:
+    return shape._replace(tag=tag._replace(pn=0).octets(), pn=0)
+
+
+def _other_number_in_iv(source: Source, tag: Tag, shape: Shape) -> Shape:
+    return shape._replace(pn=shape.pn ^ 0x100)
+
+
+CASES = (
+    _Case("ordinary", "an encrypted frame with the SCI", Verdict.OK, _shape()),
+    _Case("long", "SL 0 and 48 octets of data", Verdict.OK, _shape(), 48),
+    _Case("integrity", "E and C clear", Verdict.OK, _bits("SC", conf=False)),
+    _Case("c-without-e", "C set, E clear: integrity alone", Verdict.OK, _bits("SC C", conf=False)),
+    _Case("padded", "20 octets after the ICV", Verdict.OK, _shape(pad=bytes(20))),
+    _Case("one-octet", "SL 1", Verdict.OK, _shape(), 1),
+    _Case("v", "the version bit set", Verdict.BadTag, _bits("V SC E C")),
+    _Case("es-and-sc", "ES set beside an SCI", Verdict.BadTag, _bits("ES SC E C")),
+    _Case("scb-and-sc", "SCB set beside an SCI", Verdict.BadTag, _bits("SCB SC E C")),
+    _Case("sl-48", "SL 48, as many octets of data", Verdict.BadTag, _tag(sl=48), 48),
+    _Case("sl-63", "SL 63, as many octets of data", Verdict.BadTag, _tag(sl=63), 63),
+    _Case("sl-bit-6", "a reserved bit beside SL", Verdict.BadTag, _tag(sl=0x40 | 46)),
+    _Case("sl-bit-7", "a reserved bit beside SL", Verdict.BadTag, _tag(sl=0x80 | 46)),
+    _Case("sl-long", "SL 47, 46 octets of data", Verdict.BadTag, _tag(sl=47)),
+    _Case("sl-short", "SL 45, 46 octets of data", Verdict.NotValid, _tag(sl=45)),
+    _Case("sl-0", "SL 0, 46 octets of data", Verdict.BadTag, _tag(sl=0)),
+    _Case("no-data", "SL 0, no data", Verdict.BadTag, _shape(), 0),
+    _Case("e-without-c", "E set, C clear", Verdict.Reserved, _bits("SC E")),
+    _Case("encrypted-no-e", "E clear, data encrypted", Verdict.NotValid, _bits("SC")),
+    _Case("clear-with-e", "E set, data not encrypted", Verdict.NotValid, _shape(conf=False)),
+    _Case("an", "another AN", Verdict.NoSAError, _other_an),
+    _Case("sci", "another SCI, in the SecTAG and in the IV", Verdict.NoSAError, _from_other),
+    _Case("pn-0", "packet number 0", Verdict.BadTag, _number_0),
+    _Case("iv-pn", "another packet number in the IV", Verdict.NotValid, _other_number_in_iv),
+    _Case("icv", "the last bit of the ICV changed", Verdict.NotValid, _shape(icv=b"\1")),
+    _Case("icv-0", "the first bit of the ICV changed", Verdict.NotValid, _shape(icv=b"\x80" + bytes(15))),
+    _Case("icv-cut", "the last octet of the ICV left out", Verdict.BadTag, _shape(cut=1)),
+    _Case("long-and-more", "SL 0, an octet after the ICV", Verdict.NotValid, _shape(pad=b"\0"), 60),
+    _Case("tag-cut", "the frame ends within the SecTAG", Verdict.BadTag, _shape(cut=16 + 46 + 1)),
+    _Case("ethertype", "EtherType 88e6", Verdict.NoTag, _tag(ethertype=b"\x88\xe6")),
+    _Case("last", "an ordinary frame: after all of these it still opens", Verdict.OK, _shape()),
+)  # fmt: skip
+
+
+def hostile_frames(source: Source) -> "Iterator[Hostile]":
+    """The list, for a receiver that has one association for the source and takes its packet number. With extended
+    packet numbers above 2^32 number 0 can be Late, or another number in the IV than in the receiver's."""
+    for number, case in enumerate(CASES):
+        pn = source.pn + number
+        client = client_frame(source, case.data)
+        tag = ordinary_tag(source, pn, case.data)
+        shape = case.change(source, tag, Shape(client, tag.octets(), pn))
+        yield Hostile(case.name, case.what, case.verdict, shape)
+
+
+def hostile_list(source: Source) -> "List[tuple[Hostile, bytes]]":
+    """The list with its frames. The last is the first one again."""
+    made = [(it, it.shape.frame(source)) for it in hostile_frames(source)]
+    first = made[0]
+    again = Hostile("again", "the first frame again", Verdict.Late, first[0].shape)
+    return [*made, (again, first[1])]

@@ -1,0 +1,207 @@
+"""Frames for tests: what is sealed, which verdict each frame gets, and the command."""
+
+from __future__ import annotations
+
+import os
+import re
+import subprocess
+import unittest
+
+import macsec
+from macsec import SecY, Suite, Verdict, capture, forge, hostile, lines, seal
+
+from .helpers import KEYS, LONG_KEY, RECEIVER, ROOT, SALT, SENDER, InFolder, client_frames, main_of, protected
+
+SCI = bytes.fromhex(SENDER)
+CONFIG = (
+    f"end A gcm128 {RECEIVER} 1546 sci\nA key 0 {KEYS[0].hex()} 0\n"
+    f"A rxsc {SENDER}\nA rxsa {SENDER} 0 0 5\nA rxon {SENDER} 0\n"
+)
+
+
+def source(suite: Suite = Suite.gcm128, pn: int = 5, offset: int = 0) -> hostile.Source:
+    key = LONG_KEY if suite.key_octets == 32 else KEYS[0]
+    extended = (1, SALT) if suite.is_extended else (0, bytes(12))
+    return hostile.Source(key, suite, SCI, 0, pn, offset, *extended)
+
+
+def verdicts(of: hostile.Source, key: "bytes | None" = None) -> "dict[str, tuple[Verdict, Verdict]]":
+    """The verdict of an endpoint on each frame of the list, and the one that the list names."""
+    with SecY(RECEIVER, of.suite) as secy:
+        secy.install_key(0, key or of.key, offset=of.offset, ssci=of.ssci ^ 2, salt=of.salt)
+        secy.add_rx_sc(SCI)
+        secy.add_rx_sa(SCI, of.an, 0, of.pn, of.ssci)
+        secy.enable_rx_sa(SCI, of.an)
+        return {it.name: (secy.receive(frame).verdict, it.verdict) for it, frame in hostile.hostile_list(of)}
+
+
+class Sealed(unittest.TestCase):
+    def test_a_frame_of_annex_c(self) -> None:
+        """The integrity-protected frame of 54 octets of IEEE Std 802.1AE, Annex C, in the two suites without XPN."""
+        data = bytes.fromhex("08000f10") + bytes(range(0x11, 0x35)) + b"\0\1"
+        head = bytes.fromhex("d609b1f056637a0d46df998d88e5222ab2c2846512153524c0895e81")
+        for suite, key, icv in (
+            (Suite.gcm128, KEYS[0], "f09478a9b09007d06f46e9b6a1da25dd"),
+            (
+                Suite.gcm256,
+                bytes.fromhex("e3c08a8f06c6e3ad95a70557b23f75483ce33021a9c72b7025666204c69c0b72"),
+                "2f0bc5af409e06d609ea8b7d0fa5ea50",
+            ),
+        ):
+            frame = seal(
+                head + data, len(head), key=key, sci="12153524c0895e81", pn=0xB2C28465, suite=suite, conf=False
+            )
+            self.assertEqual(frame.hex(), (head + data).hex() + icv)
+
+    def test_as_an_endpoint_sends(self) -> None:
+        for suite in (Suite.gcm128, Suite.gcm256, Suite.xpn128, Suite.xpn256):
+            for offset in (0,) if suite.is_extended else (0, 30, 50):
+                of, frames = source(suite, offset=offset), client_frames(3)
+                sent = protected(frames, suite=suite, key=of.key, pn=5, offset=offset)
+                for number, (client, link) in enumerate(zip(frames, sent)):
+                    tag = hostile.ordinary_tag(of, 5 + number, len(client) - 12)
+                    self.assertEqual(hostile.Shape(client, tag.octets(), 5 + number).frame(of), link)
+
+    def test_statuses(self) -> None:
+        for name, words in (
+            ("KeyLength", {"key": LONG_KEY}), ("NoSuchKeyOctets", {"key": b""}), ("NoSuchSuite", {"suite": 0}),
+            ("PnRange", {"pn": 2**32}), ("Short", {"head": 61}),
+        ):  # fmt: skip
+            how = {"key": KEYS[0], "sci": SENDER, "pn": 1, "head": 20, **words}
+            with self.assertRaises(macsec.MacsecError) as why:
+                seal(bytes(60), **how)  # type: ignore[arg-type]
+            self.assertEqual(why.exception.name, name)
+        self.assertRaises(ValueError, seal, bytes(60), -1, key=KEYS[0], sci=SENDER, pn=1)
+
+
+class Judged(unittest.TestCase):
+    def test_each_frame_gets_its_verdict(self) -> None:
+        for suite in (Suite.gcm128, Suite.gcm256, Suite.xpn128, Suite.xpn256):
+            for name, (given, expected) in verdicts(source(suite)).items():
+                self.assertEqual(given, expected, f"{suite.name}, {name}")
+
+    def test_extended_numbers_above_32_bits(self) -> None:
+        found = verdicts(source(Suite.xpn128, 3 << 32 | 5))
+        self.assertEqual({name for name, (given, expected) in found.items() if given != expected}, {"pn-0"})
+
+    def test_a_wrong_key_shows_which_verdicts_are_the_tags(self) -> None:
+        """The frames that are dropped for their ICV are those that no longer open; the others are dropped as before."""
+        found = verdicts(source(), KEYS[1])
+        changed = {name for name, (given, expected) in found.items() if given != expected}
+        opened = {it.name for it in hostile.CASES if it.verdict == Verdict.OK}
+        self.assertEqual(changed, opened | {"again"})
+        self.assertEqual({found[name][0] for name in changed}, {Verdict.NotValid})
+
+    def test_as_the_pages_say(self) -> None:
+        pages = {name: (ROOT / "docs" / f"{name}.md").read_text() for name in ("INTEROP", "HOSTILE")}
+        by_name = {it.name: it.verdict.name for it in hostile.CASES}
+        for title, names in (
+            ("SL from 48 to 63", ("sl-48", "sl-63")), ("E set and C clear", ("e-without-c",)),
+        ):  # fmt: skip
+            (said,) = re.findall(rf"\*\*{title}\.\*\*.*?Here it is\s+`(\w+)`", pages["INTEROP"], re.S)
+            self.assertEqual({by_name[it] for it in names}, {said})
+        self.assertIn("Here padding after the ICV is ignored", pages["INTEROP"])
+        self.assertEqual(by_name["padded"], "OK")
+        # The verdicts that come before the ICV do not depend on it.
+        (bad, reserved) = re.findall(r"each value of the octet of TCI.*?(\d+) `BadTag`, (\d+) `Reserved`", pages["HOSTILE"])[0]
+        status, text, _ = main_of(forge.main, "-", "--key", KEYS[0].hex(), "--sci", SENDER, "--each", "octet")
+        self.assertEqual(status, 0)
+        with SecY.configure(CONFIG) as secy:
+            given = [secy.receive(frame).verdict for _, frame in lines.frames_of_text(text)]
+        self.assertEqual((len(given), given.count(Verdict.BadTag)), (256, int(bad)))
+        self.assertEqual(given.count(Verdict.Reserved), int(reserved))
+        self.assertNotIn(Verdict.NotValid, given)
+
+
+class Command(InFolder):
+    def forged(self, *words: object) -> "list[capture.Packet]":
+        out = self.folder / f"{len(self.names())}.pcapng"
+        status, printed, error = main_of(forge.main, out, *words)
+        self.assertEqual((status, printed, error), (0, "", ""))
+        return list(capture.read(str(out)))
+
+    def test_from_a_config(self) -> None:
+        config = self.put("config", CONFIG)
+        (ordinary,) = self.forged("--config", config, "--data", 60)
+        client = hostile.client_frame(source(), 60)
+        self.assertEqual(ordinary.frame, protected([client], pn=5)[0])
+        status, printed, _ = main_of(forge.main, "-", "--config", config, "--hostile")
+        named = dict(re.findall(r"^# ([\w-]+): .*; here (\w+)$", printed, re.M))
+        self.assertEqual(status, 0)
+        self.assertEqual(named, {**{it.name: it.verdict.name for it in hostile.CASES}, "again": "Late"})
+        self.assertEqual(len(self.forged("--config", config, "--hostile")), len(named))
+
+    def test_of_what_an_end_sends(self) -> None:
+        text = f"end A gcm128 {SENDER} 1546 sci\nA key 0 {KEYS[0].hex()} 0\nA txsa 1 0 1f conf\nA txon 1\n"
+        (made,) = self.forged("--config", self.put("config", text))
+        self.assertEqual(made.frame[14:20].hex(), "2d2e0000001f")
+
+    def test_fields(self) -> None:
+        base = ("--key", KEYS[0].hex(), "--sci", SENDER, "--an", 1)
+        for words, tag in (
+            ((), "88e52d2e00000001" + SENDER),
+            (("--bits", "V,ES"), "88e5c12e00000001"),
+            (("--bits", "none", "--pn", "ff"), "88e5012e000000ff"),
+            (("--octet", "ff", "--sl", "255"), "88e5ffff00000001" + SENDER),
+            (("--tag-pn", "7", "--tag-sci", "0102"), "88e52d2e000000070102"),
+            (("--ethertype", "88e6", "--tag-sci", "none"), "88e62d2e00000001"),
+            (("--tag", "88e5"), "88e5"),
+        ):
+            (made,) = self.forged(*base, *words)
+            self.assertEqual(made.frame[12 : 12 + len(tag) // 2].hex(), tag)
+            self.assertEqual(len(made.frame), 12 + len(tag) // 2 + 46 + 16)
+
+    def test_the_icv(self) -> None:
+        base = ("--config", self.put("config", CONFIG))
+        ordinary, wrong, padded, cut, clear = (
+            self.forged(*base, *words)[0].frame
+            for words in ((), ("--icv", "01"), ("--pad", 3), ("--cut", 5), ("--int", "--bits", "SC"))
+        )
+        self.assertEqual((wrong[:-1], wrong[-1] ^ 1), (ordinary[:-1], ordinary[-1]))
+        self.assertEqual((padded, cut), (ordinary + bytes(3), ordinary[:-5]))
+        self.assertEqual(clear[28:-16], hostile.client_frame(source())[12:])
+
+    def test_clients_of_a_capture(self) -> None:
+        frames = client_frames(3)
+        config = self.put("config", CONFIG)
+        made = self.forged("--config", config, "--client", self.put("in.pcap", frames))
+        self.assertEqual([it.frame for it in made], protected(frames, pn=5))
+        self.assertEqual(len(self.forged("--config", config, "--each", "sl")), 256)
+
+    def test_captures_and_lines(self) -> None:
+        frames = client_frames(4)
+        status, text, _ = main_of(forge.main, "-", "--capture", self.put("in.pcap", frames))
+        self.assertEqual((status, text), (0, "".join(f"inject {it.hex()}\n" for it in frames)))
+        back = self.forged("--text", self.put("lines", "# frames\n" + text + "A counters\n"))
+        self.assertEqual([it.frame for it in back], frames)
+
+    @unittest.skipUnless(os.environ.get("MACSEC_PROGRAM"), "the program is not built")
+    def test_the_program_judges_the_lines(self) -> None:
+        """The list as a script: the program prints the verdicts of the list."""
+        _, text, _ = main_of(forge.main, "-", "--config", self.put("config", CONFIG), "--hostile")
+        count = len(hostile.CASES) + 1
+        script = CONFIG.replace("\n", f"\nend B gcm128 {SENDER} 1546 sci\n", 1) + text
+        script += "".join(f"A deliver {number}\n" for number in range(count))
+        ran = subprocess.run([os.environ["MACSEC_PROGRAM"], "run", self.put("s", script)], stdout=subprocess.PIPE, text=True)
+        told = [line.split()[1] for line in ran.stdout.splitlines()[-count:]]
+        self.assertEqual(told, [*(it.verdict.name for it in hostile.CASES), "Late"])
+
+    def test_faults(self) -> None:
+        key = ("--key", KEYS[0].hex(), "--sci", SENDER)
+        for words, status in (
+            ((), 2), (("--config", self.put("config", CONFIG), "--an", 3), 2), ((*key, "--bits", "X"), 2),
+            ((*key, "--octet", "100"), 2), ((*key, "--sl", 256), 2), ((*key, "--icv", "00" * 17), 2),
+            ((*key, "--pn", "100000000"), 2), ((*key, "--tag", "0g"), 2), ((*key, "--pad", -1), 2),
+            (("--capture", "nothing"), 1), (("--key", KEYS[0].hex()), 2), ((*key, "--suite", "gcm256"), 2),
+            (("--text", self.put("odd", "inject 0\n")), 2),
+        ):  # fmt: skip
+            ended, printed, error = main_of(forge.main, self.folder / "out", *words)
+            self.assertEqual((ended, printed), (status, ""), words)
+            self.assertRegex(error, r"^macsec-forge: ")
+        self.assertEqual(self.names(), ["config", "odd"])
+        taken = self.put("taken", b"")
+        self.assertEqual(main_of(forge.main, taken, *key)[0], 1)
+
+
+if __name__ == "__main__":
+    unittest.main()
