@@ -9,7 +9,9 @@
 # make kept          proves the program's libraries and keeps the work where rt takes it, before a crate is changed
 # make install       copies the program, its manual pages, the libraries for C, their header and pkg-config file to
 #                    PREFIX, /usr/local by default, under DESTDIR
+# make install-python copies the Python package to PREFIX/lib/macsec/python, its commands and their manual pages
 # make dist          makes build/dist: macsec-VERSION.tar.gz and the Debian packages macsec, libmacsec1, libmacsec-dev
+#                    and python3-macsec
 # make check         the gate
 # make edits         checks that each must-fail edit still applies, and that docs/MISTAKES.md lists it
 # make pictures      draws docs/pictures again, from crates.txt and docs/PERFORMANCE.md
@@ -81,6 +83,14 @@ install: build/macsec build/libmacsec.a
 	    install -D -m 644 -t "$(DESTDIR)$(PREFIX)/lib/$(HWCAPS)" build/$(HWCAPS)/libmacsec.so.1; fi
 	sed 's|@PREFIX@|$(PREFIX)|; s|@VERSION@|'"$$(cat VERSION)"'|' include/macsec.pc.in \
 	    > "$(DESTDIR)$(PREFIX)/lib/pkgconfig/macsec.pc"
+
+.PHONY: install-python
+
+install-python:
+	install -D -m 644 -t "$(DESTDIR)$(PREFIX)/lib/macsec/python/macsec" python/macsec/*.py python/macsec/py.typed
+	for each in config decrypt forge why; do \
+	    install -D -m 644 -t "$(DESTDIR)$(PREFIX)/share/man/man1" "man/macsec-$$each.1" && \
+	    install -D -m 755 python/command.py "$(DESTDIR)$(PREFIX)/bin/macsec-$$each" || exit 1; done
 
 dist: build/macsec build/libmacsec.a build/$(HWCAPS)/libmacsec.a
 	tools/dist

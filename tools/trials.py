@@ -14,15 +14,18 @@ from crates import ROOT
 
 TRIPLET = "x86_64-linux-gnu"
 HWCAPS = "glibc-hwcaps/x86-64-v3"
-NAMES = ["libmacsec1", "libmacsec-dev", "macsec"]
+NAMES = ["libmacsec1", "libmacsec-dev", "macsec", "python3-macsec"]
 DOC, LIBRARIES = "/usr/share/doc", f"/usr/lib/{TRIPLET}"
+# Below /usr: the folder of the package for Python. Its commands:
+PYTHON = "lib/python3/dist-packages"
+PYTHON_COMMANDS = ["macsec-config", "macsec-decrypt", "macsec-forge", "macsec-why"]
 COMPLETION = "/usr/share/bash-completion/completions/macsec"
 # Nothing of the toolchain is on this path.
 ENVIRONMENT = {"PATH": "/usr/sbin:/usr/bin:/sbin:/bin", "LANG": "C.UTF-8"}
 
 # A root of Debian in which the packages are tried.
 SUITE = "bookworm"
-INCLUDED = "gcc,libc6-dev,pkg-config,man-db,bash-completion"
+INCLUDED = "gcc,libc6-dev,pkg-config,man-db,bash-completion,python3"
 # Below it, what installing anything leaves: the records of dpkg, logs and caches.
 RECORDS = ("var/lib/dpkg/", "var/log/", "var/cache/", "etc/ld.so.cache", "tmp/")
 
@@ -90,12 +93,29 @@ def tried_in_c(where: str, do: "Callable[..., str]", at: str, room: str, flags: 
     see(f"{where}, the loader takes ..{expected}", len(loaded) == 1 and loaded[0].endswith(expected))
 
 
+def tried_in_python(where: str, do: "Callable[..., str]", at: str, room: str) -> None:
+    """Runs the commands of the package for Python, and an example over it."""
+    captures, doc = f"{at}{DOC}/macsec/examples/captures", f"{at}{DOC}/python3-macsec"
+    call = lambda name, *words: do(f"{at}/usr/bin/macsec-{name}", *words)
+    keys = [f"--key={key}" for key in re.findall(r"--key (\w{32})", text("docs/PYTHON.md"))[:3]]
+    told = call("decrypt", f"{captures}/rekey.pcap", f"{room}/clear.pcapng", *keys)
+    see(f"{where}, macsec-decrypt opens a capture with rekeys", told.endswith("5 frames opened\n"))
+    do("sh", "-c", f"{at}/usr/bin/macsec-config --capture {captures}/link.pcap {keys[0]} > {room}/config")
+    told = call("why", f"{room}/config", f"{captures}/link.pcap")
+    see(f"{where}, macsec-why opens a capture by the CONFIG of macsec-config", told.endswith(": OK 3\n"))
+    told = call("forge", "-", "--config", f"{room}/config", "--bits", "SC,E")
+    see(f"{where}, macsec-forge makes a frame that the library judges", told.startswith("# here Reserved\ninject "))
+    told = do("python3", "-B", f"{doc}/examples/python/dissect.py")
+    see(f"{where}, an example in Python prints its text", told == text("examples/python/dissect.txt"))
+
+
 def tried(where: str, do: "Callable[..., str]", at: str, room: str, flags: "list[str]") -> None:
     """Tries what the packages of Debian install: `do` runs a command, `at` is before each path of them, and `room` is a
     folder for what is made."""
     told = do(f"{at}/usr/bin/macsec", "run", f"{at}{DOC}/macsec/examples/tour.macsec")
     see(f"{where}, the tour prints its text", told == text("crates/macsec_examples/data/tour.txt"))
     tried_in_c(where, do, at, room, flags)
+    tried_in_python(where, do, at, room)
     do("touch", f"{room}/frames.pcap")
     for words, expected in COMPLETED.items():
         script = f"cd {room}\n. {at}{COMPLETION}\n" + COMPLETE.format(words=words, last=len(words.split()) - 1)
@@ -104,9 +124,9 @@ def tried(where: str, do: "Callable[..., str]", at: str, room: str, flags: "list
 
 def manuals(where: str, do: "Callable[..., str]", words: str) -> None:
     """Sees that `man` finds and formats the pages."""
-    for section in ("1", "5"):
-        told = do("sh", "-c", f"man {words} {section} macsec 2> /dev/null")
-        see(f"{where}, man {section} macsec prints the page", f"macsec({section})" in told.lower())
+    for name, section in (("macsec", "1"), ("macsec", "5"), *((it, "1") for it in PYTHON_COMMANDS)):
+        told = do("sh", "-c", f"man {words} {section} {name} 2> /dev/null")
+        see(f"{where}, man {section} {name} prints the page", f"{name}({section})" in told.lower())
 
 
 def outside(environment: "dict[str, str]") -> "Callable[..., str]":
@@ -120,7 +140,7 @@ def tried_below(where: str, root: str) -> None:
     flags = outside(asks)("pkg-config", "--cflags", "--libs", "macsec").split()
     room = f"{root}/tried"
     os.mkdir(room)
-    do = outside({"LD_LIBRARY_PATH": f"{root}{LIBRARIES}"})
+    do = outside({"LD_LIBRARY_PATH": f"{root}{LIBRARIES}", "PYTHONPATH": f"{root}/usr/{PYTHON}"})
     tried(where, do, root, room, flags)
     if shutil.which("man"):
         manuals(where, do, f"-M {root}/usr/share/man")
