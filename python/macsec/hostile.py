@@ -48,8 +48,8 @@ class Tag(NamedTuple):
 class Shape(NamedTuple):
     """A frame to make: what its client sent, its SecTAG, how it is sealed, and what becomes of it then.
 
-    `tag` are the octets of the SecTAG. With `conf` the data are encrypted. `icv` is None for the valid ICV, else what is
-    added to it bit by bit. `pad` are octets after the ICV, and `cut` is how many of the last octets are left out.
+    `tag` are the octets of the SecTAG. With `conf` the data are encrypted. `icv` is what is added to the ICV bit by bit,
+    or None. `pad` are octets after the ICV, and `cut` is how many of the last octets are left out.
     """
 
     client: bytes
@@ -106,13 +106,20 @@ _Change = Callable[[Source, Tag, Shape], Shape]
 
 
 class _Case(NamedTuple):
-    """An entry of the list before it has a source: how many octets of data, and what is changed."""
+    """An entry of the list before it has a source: how many octets of data, what is changed, and the port of the SCI
+    that the SecTAG means, if it means one."""
 
     name: str
     what: str
     verdict: Verdict
     change: _Change
     data: int = 46
+    port: Optional[int] = None
+
+    def verdict_for(self, source: Source) -> Verdict:
+        """The verdict, for a source of any port."""
+        is_other = self.port is not None and int.from_bytes(source.sci[6:], "big") != self.port
+        return Verdict.NoSAError if is_other else self.verdict
 
 
 def _tag(**fields: object) -> _Change:
@@ -189,6 +196,10 @@ CASES = (
     _Case("long-and-more", "SL 0, an octet after the ICV", Verdict.NotValid, _shape(pad=b"\0"), 60),
     _Case("tag-cut", "the frame ends within the SecTAG", Verdict.BadTag, _shape(cut=16 + 46 + 1)),
     _Case("ethertype", "EtherType 88e6", Verdict.NoTag, _tag(ethertype=b"\x88\xe6")),
+    _Case("no-sci", "no SCI, ES and SCB clear", Verdict.OK, _bits("E C", keep_sci=False)),
+    _Case("es", "no SCI, ES set", Verdict.OK, _bits("ES E C", keep_sci=False), port=1),
+    _Case("scb", "no SCI, SCB set", Verdict.OK, _bits("SCB E C", keep_sci=False), port=0),
+    _Case("es-and-scb", "no SCI, ES and SCB set", Verdict.OK, _bits("ES SCB E C", keep_sci=False), port=0),
     _Case("last", "an ordinary frame: after all of these it still opens", Verdict.OK, _shape()),
 )  # fmt: skip
 
@@ -201,7 +212,7 @@ def hostile_frames(source: Source) -> "Iterator[Hostile]":
         client = client_frame(source, case.data)
         tag = ordinary_tag(source, pn, case.data)
         shape = case.change(source, tag, Shape(client, tag.octets(), pn))
-        yield Hostile(case.name, case.what, case.verdict, shape)
+        yield Hostile(case.name, case.what, case.verdict_for(source), shape)
 
 
 def hostile_list(source: Source) -> "List[tuple[Hostile, bytes]]":

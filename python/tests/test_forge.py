@@ -29,10 +29,15 @@ def verdicts(of: hostile.Source, key: "bytes | None" = None) -> "dict[str, tuple
     """The verdict of an endpoint on each frame of the list, and the one that the list names."""
     with SecY(RECEIVER, of.suite) as secy:
         secy.install_key(0, key or of.key, offset=of.offset, ssci=of.ssci ^ 2, salt=of.salt)
-        secy.add_rx_sc(SCI)
-        secy.add_rx_sa(SCI, of.an, 0, of.pn, of.ssci)
-        secy.enable_rx_sa(SCI, of.an)
+        secy.add_rx_sc(of.sci)
+        secy.add_rx_sa(of.sci, of.an, 0, of.pn, of.ssci)
+        secy.enable_rx_sa(of.sci, of.an)
         return {it.name: (secy.receive(frame).verdict, it.verdict) for it, frame in hostile.hostile_list(of)}
+
+
+def named(of: hostile.Source) -> "dict[str, str]":
+    """The verdicts that the list names."""
+    return {it.name: it.verdict.name for it, _ in hostile.hostile_list(of)}
 
 
 class Sealed(unittest.TestCase):
@@ -80,6 +85,19 @@ class Judged(unittest.TestCase):
             for name, (given, expected) in verdicts(source(suite)).items():
                 self.assertEqual(given, expected, f"{suite.name}, {name}")
 
+    def test_another_port(self) -> None:
+        """A SecTAG without an SCI means port 0001 with ES, 0000 with SCB."""
+        for port, opened in (
+            ("0000", {"no-sci", "scb", "es-and-scb"}),
+            ("0001", {"no-sci", "es"}),
+            ("0002", {"no-sci"}),
+        ):
+            of = source()._replace(sci=bytes.fromhex(SENDER[:12] + port))
+            found = verdicts(of)
+            self.assertEqual({name for name, (given, expected) in found.items() if given != expected}, set())
+            without = {name for name in ("no-sci", "es", "scb", "es-and-scb") if found[name][0] == Verdict.OK}
+            self.assertEqual(without, opened)
+
     def test_extended_numbers_above_32_bits(self) -> None:
         found = verdicts(source(Suite.xpn128, 3 << 32 | 5))
         self.assertEqual({name for name, (given, expected) in found.items() if given != expected}, {"pn-0"})
@@ -88,13 +106,13 @@ class Judged(unittest.TestCase):
         """The frames that are dropped for their ICV are those that no longer open; the others are dropped as before."""
         found = verdicts(source(), KEYS[1])
         changed = {name for name, (given, expected) in found.items() if given != expected}
-        opened = {it.name for it in hostile.CASES if it.verdict == Verdict.OK}
+        opened = {name for name, (_, expected) in found.items() if expected == Verdict.OK}
         self.assertEqual(changed, opened | {"again"})
         self.assertEqual({found[name][0] for name in changed}, {Verdict.NotValid})
 
     def test_as_the_pages_say(self) -> None:
         pages = {name: (ROOT / "docs" / f"{name}.md").read_text() for name in ("INTEROP", "HOSTILE")}
-        by_name = {it.name: it.verdict.name for it in hostile.CASES}
+        by_name = named(source())
         for title, names in (
             ("SL from 48 to 63", ("sl-48", "sl-63")), ("E set and C clear", ("e-without-c",)),
         ):  # fmt: skip
@@ -103,7 +121,8 @@ class Judged(unittest.TestCase):
         self.assertIn("Here padding after the ICV is ignored", pages["INTEROP"])
         self.assertEqual(by_name["padded"], "OK")
         # The verdicts that come before the ICV do not depend on it.
-        (bad, reserved) = re.findall(r"each value of the octet of TCI.*?(\d+) `BadTag`, (\d+) `Reserved`", pages["HOSTILE"])[0]
+        told = r"each value of the octet of TCI.*?(\d+) `BadTag`, (\d+) `Reserved`"
+        ((bad, reserved),) = re.findall(told, pages["HOSTILE"])
         status, text, _ = main_of(forge.main, "-", "--key", KEYS[0].hex(), "--sci", SENDER, "--each", "octet")
         self.assertEqual(status, 0)
         with SecY.configure(CONFIG) as secy:
@@ -126,10 +145,9 @@ class Command(InFolder):
         client = hostile.client_frame(source(), 60)
         self.assertEqual(ordinary.frame, protected([client], pn=5)[0])
         status, printed, _ = main_of(forge.main, "-", "--config", config, "--hostile")
-        named = dict(re.findall(r"^# ([\w-]+): .*; here (\w+)$", printed, re.M))
-        self.assertEqual(status, 0)
-        self.assertEqual(named, {**{it.name: it.verdict.name for it in hostile.CASES}, "again": "Late"})
-        self.assertEqual(len(self.forged("--config", config, "--hostile")), len(named))
+        found = dict(re.findall(r"^# ([\w-]+): .*; here (\w+)$", printed, re.M))
+        self.assertEqual((status, found), (0, named(source())))
+        self.assertEqual(len(self.forged("--config", config, "--hostile")), len(found))
 
     def test_of_what_an_end_sends(self) -> None:
         text = f"end A gcm128 {SENDER} 1546 sci\nA key 0 {KEYS[0].hex()} 0\nA txsa 1 0 1f conf\nA txon 1\n"
@@ -179,12 +197,14 @@ class Command(InFolder):
     def test_the_program_judges_the_lines(self) -> None:
         """The list as a script: the program prints the verdicts of the list."""
         _, text, _ = main_of(forge.main, "-", "--config", self.put("config", CONFIG), "--hostile")
-        count = len(hostile.CASES) + 1
+        expected = named(source())
+        count = len(expected)
         script = CONFIG.replace("\n", f"\nend B gcm128 {SENDER} 1546 sci\n", 1) + text
         script += "".join(f"A deliver {number}\n" for number in range(count))
-        ran = subprocess.run([os.environ["MACSEC_PROGRAM"], "run", self.put("s", script)], stdout=subprocess.PIPE, text=True)
+        program = os.environ["MACSEC_PROGRAM"]
+        ran = subprocess.run([program, "run", self.put("s", script)], stdout=subprocess.PIPE, text=True)
         told = [line.split()[1] for line in ran.stdout.splitlines()[-count:]]
-        self.assertEqual(told, [*(it.verdict.name for it in hostile.CASES), "Late"])
+        self.assertEqual(told, list(expected.values()))
 
     def test_faults(self) -> None:
         key = ("--key", KEYS[0].hex(), "--sci", SENDER)
