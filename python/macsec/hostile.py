@@ -27,7 +27,7 @@ class Source(NamedTuple):
 
 
 class Tag(NamedTuple):
-    """The fields of a SecTAG, of any content. `sci` is None or any octets; `octet` is that of TCI and AN."""
+    """The fields of a SecTAG, of any content. `sci` is None or any octets; `octet` has TCI and AN."""
 
     octet: int
     sl: int
