@@ -12,7 +12,8 @@ from typing import Dict, List
 from macsecd_world import Failed, call
 from mka_world import CAK, CKN, World, stopped
 
-FAULTS = re.compile("Late|NotValid|Invalid|Delayed|BadTag|NoSCI")  # not frames that came before their SA
+# Frames that come before the machine has their channel or SA are no fault: the key server sends first.
+FAULTS = re.compile("Late|NotValid|Invalid|Delayed|BadTag")
 ADDRESS, MAC = "10.9.0.9", "02:00:00:00:00:09"
 PACKAGES = ["wpasupplicant", "libnl-3-200", "libnl-genl-3-200", "libnl-route-3-200", "libpcsclite1"]
 MODULES = ["virtio_pci", "virtio_net", "gcm", "ghash_generic", "ctr", "crypto_null", "seqiv", "macsec", "af_packet"]
