@@ -102,7 +102,8 @@ def check_port(end: End, peer: End) -> None:
     for name in ("device PortOut", "device PortIn", f"{peer.sci} InPktsOK"):
         report(after[name] >= before[name] + 2, f"the port is off: {name} goes from {before[name]} to {after[name]}")
     end.carry_out("port on")
-    report(has_carrier(end) and ping(end) == 3, "a port that was off for a moment: no carrier, or no replies")
+    replies = until(lambda: ping(end, seconds=1) == 3)
+    report(has_carrier(end) and replies, "a port that was off for a moment: no carrier, or no replies")
     end.carry_out("port off")
     report(until(lambda: not has_carrier(end)), "TAP has carrier while the port is off")
     end.carry_out("port on")
@@ -125,6 +126,7 @@ def check_owner(end: End) -> None:
     owner.close()
     report(until(lambda: "the owner has gone" in end.log()), "no message when the owner has gone")
     report(ping(end, 2, seconds=0.1) == 0, "frames pass without the owner")
-    report(ask(other, b"port on") == "ok\n" and ping(end) == 3, "no replies after `port on` of another client")
+    replies = ask(other, b"port on") == "ok\n" and until(lambda: ping(end, seconds=1) == 3)
+    report(replies, "no replies after `port on` of another client")
     report(ask(other, b"own\0") == "fault Word\n", "a request with a zero")
     other.close()

@@ -59,8 +59,8 @@ def build(out: pathlib.Path, library: pathlib.Path, options: List[str], source: 
     return out
 
 
-def until(holds: Callable[[], bool], seconds: float = 3.0) -> bool:
-    """Waits until something holds. Returns whether it does within this time."""
+def until(holds: Callable[[], bool], seconds: float = 15.0) -> bool:
+    """Waits until something holds. Returns whether it does within this time, which is long for a machine under load."""
     end = time.monotonic() + seconds
     while not holds():
         if time.monotonic() > end:
@@ -130,6 +130,26 @@ def protected(frames: List[bytes], sci: str) -> List[bytes]:
     return [it for it in frames if it[12:14] == b"\x88\xe5" and it[20:28].hex() == sci]
 
 
+def numbers_of(frames: List[bytes]) -> "List[Tuple[int, int]]":
+    """The association and the packet number of each frame."""
+    return [(it[14] & 3, int.from_bytes(it[16:20], "big")) for it in frames]
+
+
+def places_of(pid: int, octets: bytes) -> "List[List[str]]":
+    """The flags of those parts of a process's memory that have these octets."""
+    found, start, end, readable = [], 0, 0, False
+    with open(f"/proc/{pid}/smaps", encoding="utf-8") as maps, open(f"/proc/{pid}/mem", "rb") as memory:
+        for line in maps:
+            words = line.split()
+            if "-" in words[0] and not words[0].endswith(":"):
+                start, end = (int(it, 16) for it in words[0].split("-"))
+                readable = words[1].startswith("r") and words[-1] not in ("[vvar]", "[vsyscall]", "[vvar_vclock]")
+            if words[0] == "VmFlags:" and readable:
+                memory.seek(start)
+                found += [words[1:]] * memory.read(end - start).count(octets)
+    return found
+
+
 def connected(path: str, seconds: int) -> socket.socket:
     """A connection to a control socket. It waits while the queue is full; a connect with a timeout would fail there."""
     it = socket.socket(socket.AF_UNIX, socket.SOCK_SEQPACKET)
@@ -194,7 +214,7 @@ A rxon 02000000000{peer}0001 0
     def run(self, *words: str) -> subprocess.CompletedProcess:
         """Runs macsecd until it ends."""
         command = ["ip", "netns", "exec", self.namespace, str(self.program), *words]
-        return subprocess.run(command, stdin=subprocess.DEVNULL, capture_output=True, text=True, timeout=10,
+        return subprocess.run(command, stdin=subprocess.DEVNULL, capture_output=True, text=True, timeout=30,
                               env=self.environment)
 
     def create_journal(self) -> None:
@@ -256,7 +276,7 @@ A rxon 02000000000{peer}0001 0
             if not answer.startswith("ok"):
                 raise Failed(f"{line}: {answer}")
 
-    def ended(self, seconds: float = 3.0) -> Optional[int]:
+    def ended(self, seconds: float = 15.0) -> Optional[int]:
         """The exit status of macsecd, or None if it does not end."""
         assert self.process is not None
         with contextlib.suppress(subprocess.TimeoutExpired):
@@ -334,7 +354,7 @@ def checksum(octets: bytes) -> int:
     return ~((total & 0xFFFF) + (total >> 16)) & 0xFFFF
 
 
-def ping(end: End, count: int = 3, size: int = 56, seconds: float = 1.0, version: int = 4) -> int:
+def ping(end: End, count: int = 3, size: int = 56, seconds: float = 5.0, version: int = 4) -> int:
     """Sends echo requests that may not be fragmented, each after the reply to the last one. Returns the replies."""
     family, protocol = (socket.AF_INET, 1) if version == 4 else (socket.AF_INET6, 58)
     target = f"10.9.0.{3 - end.number}" if version == 4 else f"fd09::{3 - end.number}"
@@ -420,7 +440,7 @@ def tcp(end: End, octets: int) -> float:
         listener = socket.create_server(("0.0.0.0", 9010))
     with inside(end.namespace):
         sender = socket.socket(socket.AF_INET, socket.SOCK_STREAM)
-    listener.settimeout(5)
+    listener.settimeout(20)
     sender.settimeout(20)
     began = time.monotonic()
     sender.connect((f"10.9.0.{peer.number}", 9010))
