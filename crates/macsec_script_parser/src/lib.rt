@@ -22,5 +22,5 @@ mod words;
 
 pub use faults::ScriptFault;
 pub use lines::{Line, LineFault, parse_line};
-pub use script::{MAX_SCRIPT_LEN, parse_config, parse_script};
+pub use script::{MAX_SCRIPT_LEN, at_line, parse_config, parse_script};
 pub use text::read_text;

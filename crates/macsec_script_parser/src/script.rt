@@ -100,7 +100,7 @@ fn after_command(line: &Line) -> Option<Place>
 }
 
 /// The fault of a script whose line `n` has this fault. `Memory` has no line number.
-fn at_line(n: u32, fault: LineFault) -> ScriptFault
+pub fn at_line(n: u32, fault: LineFault) -> ScriptFault
     ensures { result ≡ at_line n fault }
 {
     match fault {

@@ -15,5 +15,5 @@ mod writing;
 
 pub use counters::{Label, print_counters};
 pub use numbers::print_numbers;
-pub use outcomes::{drop_text, print_outcome};
+pub use outcomes::{drop_text, print_outcome, refusal_name};
 pub use writing::write_fault;

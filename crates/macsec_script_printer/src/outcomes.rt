@@ -15,7 +15,8 @@ use macsec_script_parser::ScriptFault;
 use macsec_secy::{DropReason, Refusal, Verdict};
 use std::io::{self, Write};
 
-fn refusal_name(refusal: Refusal) -> &'static str
+/// The printed name of a refusal.
+pub fn refusal_name(refusal: Refusal) -> &'static str
     ensures { result.now ≡ refusal_name refusal }
 {
     match refusal {
