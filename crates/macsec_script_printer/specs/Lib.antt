@@ -3,3 +3,4 @@ pub mod Outcomes
 pub mod Counters
 pub mod Numbers
 pub mod Printing
+pub mod OneEnd
