@@ -138,7 +138,7 @@ peer: build/macsec
 kept-frames: toolchain
 	tools/kept-frames
 
-c-programs: build/libmacsec.a
+c-programs: build/libmacsec.a build/macsec
 	tools/c-programs --calls $(INPUTS) --seed $(SEED)
 
 journal: build/libmacsec.a

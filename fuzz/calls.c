@@ -159,7 +159,8 @@ void __wrap_free(void *block) {
 /* An endpoint has six blocks, and one more beside a journal with records. Only the calls that make one, a line and a
  * journal ask for blocks. */
 static void check_blocks(const char *name, unsigned handle, bool held_before) {
-    const char *reading[] = { "configure", "command_line", "reserve_open", "reserve_configure", "journal_compacted" };
+    const char *reading[] = { "configure",         "command_line",      "answer",
+                              "reserve_open", "reserve_configure", "journal_compacted" };
     bool beside = strncmp(name, "reserve_", strlen("reserve_")) == 0, may_ask = false;
     for (size_t i = 0; i < sizeof reading / sizeof reading[0]; i++)
         may_ask = may_ask || strcmp(name, reading[i]) == 0;
@@ -320,6 +321,19 @@ static uint32_t command_line(macsec_endpoint *e, const char *word) {
     size_t length;
     const uint8_t *text = sealed(word, &length);
     return macsec_command_line(e, text, length);
+}
+
+static uint32_t answer(macsec_endpoint *e, char **w) {
+    size_t length, room = (size_t)number(w[2]);
+    const uint8_t *text = sealed(w[1], &length);
+    uint8_t *out = room_of(room);
+    size_t *written = room_of(sizeof *written);
+    memset(out, 7, room);
+    *written = 7;
+    uint32_t status = macsec_answer(e, (uint32_t)number(w[0]), text, length, out, room, written);
+    print_number(*written);
+    print_octets(out, room);
+    return status;
 }
 
 static const macsec_sak *sealed_key(char **w) {
@@ -514,6 +528,8 @@ static uint32_t call(macsec_endpoint *e, const char *name, char **w, int count) 
         return configure(e, w[0]);
     if (strcmp(name, "command_line") == 0)
         return command_line(e, w[0]);
+    if (strcmp(name, "answer") == 0)
+        return answer(e, w);
     if (strcmp(name, "free") == 0) {
         macsec_free(e);
         return MACSEC_OK;

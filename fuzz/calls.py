@@ -165,6 +165,11 @@ class Calls:
             words = self.pick(("", "# A txon 0", "A numbers", "A send 00", end)).split()
         return (self.pick((" ", " ", " ", "  ", "\t")).join(words) + self.pick(("", "", "", " ", "\r"))).encode()
 
+    def asked(self):
+        """A line of a script, most often about end A."""
+        others = ("A counters", "A counters", "A numbers", "A send 00", "A deliver 0", "B counters", "pad 0", "A counters 1")
+        return self.line() if self.random.random() < 0.7 else self.pick(others).encode()
+
     def configuration(self, sci, suite, *lines):
         """The text of a configuration: of these commands after the line of the end."""
         return "\n".join([f"end A {SUITES[suite]} {sci.hex()} 1518 sci", *("A " + it for it in lines), ""]).encode()
@@ -191,6 +196,7 @@ class Calls:
             "new": self.new,
             "configure": lambda: (h(), self.text()),
             "command_line": lambda: (h(), self.line()),
+            "answer": lambda: (h(), pick((0, 1, 3, 65_536, 2**32 - 1)), self.asked(), pick((0, 63, 64, 64, 400, 9_000))),
             "free": lambda: (h(),),
             "reserve_open": lambda: (*self.new(), self.journal()),
             "reserve_configure": lambda: (h(), self.text(), self.journal()),
@@ -228,7 +234,7 @@ class Calls:
         "send": 200, "receive": 300, "send_uncontrolled": 5, "new": 12, "configure": 12, "free": 2, "set_protect": 4,
         "set_validation": 8, "set_replay": 8, "set_tag_form": 8, "install_key": 25, "retire_key": 6, "add_tx_sa": 20,
         "enable_tx_sa": 20, "disable_tx_sa": 2, "delete_tx_sa": 2, "add_rx_sc": 10, "delete_rx_sc": 2, "add_rx_sa": 30,
-        "enable_rx_sa": 25, "disable_rx_sa": 2, "set_lowest_pn": 10, "delete_rx_sa": 3, "command_line": 60,
+        "enable_rx_sa": 25, "disable_rx_sa": 2, "set_lowest_pn": 10, "delete_rx_sa": 3, "command_line": 60, "answer": 60,
         "get_options": 8, "keys_left": 8, "get_counters": 20, "get_tx_counters": 10, "get_rx_counters": 15,
         "get_rx_sa_counters": 15, "get_removed_counters": 10, "get_rx_sc": 6, "get_tx_sa": 10, "get_rx_sa": 15, "reserve_open": 4,
         "reserve_configure": 4, "reserve_wanted": 15, "reserve_to_save": 10, "reserve_granted": 15, "journal_header": 1,
@@ -490,7 +496,7 @@ def main():
     lines = collections.Counter(line.split()[0] for line in lines)
     print("calls: " + ", ".join(f"{name} {count}" for name, count in sorted(lines.items())))
     print("met: " + ", ".join(f"{name} {count}" for name, count in sorted(calls.model.met.items())))
-    others = re.compile("FATE_NONE|VERDICT_NONE|E_MEMORY|FRAME_M..|VERSION_NUMBER|RECORD_LENGTH|.*_COUNT")
+    others = re.compile("FATE_NONE|VERDICT_NONE|E_MEMORY|FRAME_M..|VERSION_NUMBER|RECORD_LENGTH|ANSWER_MIN|.*_COUNT")
     unmet = [it for it in CONSTANTS if not calls.model.met[it] and not others.fullmatch(it)]
     missing = [it for it in Calls.WEIGHTS if it not in lines]
     if asked.calls >= asked.met_from and (unmet or missing):

@@ -26,6 +26,7 @@ MODES = {CONSTANTS["MODE_" + it.upper()]: it for it in expected.MODES}
 # The calls that a handle without an endpoint does not refuse.
 HANDLE_FREE = (
     "new", "configure", "reserve_open", "reserve_configure", "free", "journal_header", "journal_compacted", "seal",
+    "answer",
 )  # fmt: skip
 # The most octets of a frame that is sealed.
 MOST_SEALED = 2**36 - 32
@@ -160,6 +161,19 @@ def parsed(text, told):
     except expected.ScriptFault as fault:
         name, line = fault.args
         raise Status(FAULTS[name], told(line)) from None
+
+
+def asked(line):
+    """The fault of a line, or its keyword and values, if it is about end A alone. A skipped line has no keyword."""
+    ends = b"end A gcm128 0200000000010001 1518 sci\nend B gcm128 0200000000020001 1518 sci\n"
+    try:
+        _, _, *lines = expected.parse(ends + line, is_config=False)
+    except expected.ScriptFault as fault:
+        return fault.args[0], None, ()
+    for _, keyword, end, values in lines:
+        is_alone = end == "A" and keyword in {*expected.COMMANDS, "counters", "numbers"}
+        return None if is_alone else "Ends", keyword, values
+    return None, None, ()
 
 
 def hex_of(octets):
@@ -382,6 +396,27 @@ class Model:
         _, *commands = parsed(b"end A gcm128 0200000000010001 1518 sci\n" + line, lambda _: "")
         for _, keyword, _, values in commands:
             self.command(handle, keyword, *values)
+
+    def call_answer(self, handle, number, line, room):
+        """The text that a script prints for the line, and octets of 7 after it."""
+        end, least = self.ends[handle], CONSTANTS["ANSWER_MIN"]
+        shown = lambda length, text=b"": f" {length} {hex_of(text + bytes([7]) * (room - len(text)))}"
+        if end is None:
+            raise Status("E_EMPTY", shown(0))
+        fault, keyword, values = asked(line)
+        status, text, needed = "OK", b"", least
+        if fault:
+            status, text = FAULTS[fault], f"macsec: line {number}: {fault}\n".encode()
+        elif keyword in ("counters", "numbers"):
+            text = expected.text_of(end.counter_lines(number) if keyword == "counters" else end.number_lines(number))
+            needed = max(least, len(text))
+        if room < needed:
+            raise Status("E_ANSWER_LONG", shown(needed))
+        if keyword in expected.COMMANDS and not fault:
+            result = expected.command_result(end, keyword, values)
+            text = f"{number} {result}\n".encode()
+            status = "OK" if result == "done" else "E_" + constant_name(result.split()[2])
+        raise Status(status, shown(len(text), text))
 
     # What an endpoint shows. The program sets all that it has room for to 7 before the call.
 

@@ -31,21 +31,22 @@
  *            writes them: an SCI is the six octets of a MAC address and two of a port number.
  * STATUS     Each call with a handle, except macsec_free, returns a status: MACSEC_OK, or why nothing was done
  *            (MACSEC_E_..). In the second case nothing has changed, and the caller's output structs are unchanged,
- *            except that a macsec_sent, a macsec_received and the line of macsec_configure and of
- *            macsec_reserve_configure are always filled in. The handle is tested first (MACSEC_E_EMPTY,
- *            MACSEC_E_TAKEN), then the arguments (MACSEC_E_NO_SUCH_..), then the rest. If several statuses of arguments
- *            apply, or several refusals of a command, the call returns the lowest; but MACSEC_E_PN_FLOOR comes first
- *            where a journal is the reason.
+ *            except that a macsec_sent, a macsec_received, the line of macsec_configure and of
+ *            macsec_reserve_configure, and the answer of macsec_answer are always filled in. The handle is tested first
+ *            (MACSEC_E_EMPTY, MACSEC_E_TAKEN), then the arguments (MACSEC_E_NO_SUCH_..), then the rest. If several
+ *            statuses of arguments apply, or several refusals of a command, the call returns the lowest; but
+ *            MACSEC_E_PN_FLOOR comes first where a journal is the reason.
  * MEMORY     macsec_new allocates six blocks by malloc, 17.9 MB in all: four for 4,096 keys, one for a frame, one for
  *            the rest. macsec_free frees them. macsec_configure allocates the same, and so do macsec_reserve_open and
  *            macsec_reserve_configure, with one more for a journal that has records. macsec_configure,
- *            macsec_reserve_configure and macsec_command_line also allocate while they read their text, and
- *            macsec_journal_compacted while it works, and free that before they return. No other call allocates, so no
- *            other call runs out of memory. malloc and realloc must align a block to each power of two up to 16 that
- *            divides its size, as all C libraries do. They must return: no exception may be thrown through the
- *            library, which has no unwinding tables. The memory is not wiped: keys may stay in it, and on the stack.
- *            Give each call 160 KB of stack: macsec_new took 115 KB on x86-64, the other calls that create an endpoint
- *            113, the rest a fraction of that (measured, not proved).
+ *            macsec_reserve_configure, macsec_command_line and macsec_answer also allocate while they read their text,
+ *            macsec_answer while it composes counters and packet numbers, and macsec_journal_compacted while it works,
+ *            and free that before they return. No other call allocates, so no other call runs out of memory. malloc
+ *            and realloc must align a block to each power of two up to 16 that divides its size, as all C libraries do.
+ *            They must return: no exception may be thrown through the library, which has no unwinding tables. The
+ *            memory is not wiped: keys may stay in it, and on the stack. Give each call 160 KB of stack: macsec_new
+ *            took 115 KB on x86-64, the other calls that create an endpoint 113, the rest a fraction of that (measured,
+ *            not proved).
  * PROCESSOR  An x86-64 processor with SSSE3 (every x86-64-v2 has it). The library does not test for it: on another one
  *            the process ends with SIGILL.
  * HANDLES    A handle is the caller's memory, initialized with MACSEC_ENDPOINT_INIT (all zero). Do not copy, move or
@@ -103,6 +104,8 @@ extern "C" {
 #define MACSEC_OVERHEAD_MAX 32
 /* The octets of a record of a journal, and of a journal's header. */
 #define MACSEC_RECORD_LENGTH 64
+/* The fewest octets of a buffer for macsec_answer. */
+#define MACSEC_ANSWER_MIN 64
 /* Association numbers, key numbers and places of receive channels are below these. */
 #define MACSEC_AN_COUNT 4
 #define MACSEC_KEY_COUNT 4096
@@ -153,7 +156,8 @@ enum {
     MACSEC_E_LINE_LONG = 51,          /* the line has more than 20,000 octets */
     MACSEC_E_CONFIG_LONG = 52,        /* the configuration has more than 1,048,576 octets or 65,536 lines */
     MACSEC_E_NOT_JOURNAL = 53,        /* the octets are not a journal, or one of another version */
-    MACSEC_E_NOT_RECORD = 54          /* the octets are not a record of a journal */
+    MACSEC_E_NOT_RECORD = 54,         /* the octets are not a record of a journal */
+    MACSEC_E_ANSWER_LONG = 55         /* the buffer is too small for the answer to the line */
 };
 
 /* Cipher suites (clause 14). Only a key can have the default: the suite of the endpoint's configuration. */
@@ -443,6 +447,27 @@ static inline uint32_t macsec_command_line(macsec_endpoint *e, const uint8_t *te
     return macsec_command_line_raw(e, macsec_octets(text, length), length);
 }
 
+uint32_t macsec_answer_raw(macsec_endpoint *e, uint32_t number, const uint8_t *text, size_t text_length, uint8_t *out,
+                           size_t out_length, size_t *written);
+/* The same with the text that `macsec run` prints, and `A counters` and `A numbers` too: carries out line `number` of a
+ * script at end A, and writes its text to `out`, which has `room` octets. `written` is how many octets are written; no
+ * zero octet is added. The text depends on the number and on the endpoint, and on nothing else.
+ *
+ *     a command               `3 done`, or `3 refused 5 NoKey` with the status of the refusal
+ *     A counters, A numbers   a line for each counter, or for each association
+ *     a skipped line          nothing
+ *     a wrong line            `macsec: line 3: Word`, with the status that macsec_command_line has for it
+ *     any other line          `macsec: line 3: Ends`, with MACSEC_E_LINE_ENDS: lines of B, of frames (send, sendu,
+ *                             deliver) and of the link (alter, pad, inject), and `end` lines, are in a wrong place
+ *
+ * MACSEC_E_ANSWER_LONG if `room` is below MACSEC_ANSWER_MIN or too small for the counters or packet numbers: then
+ * `written` is the octets that the answer needs. After it and MACSEC_E_MEMORY nothing is written. */
+static inline uint32_t macsec_answer(macsec_endpoint *e, uint32_t number, const uint8_t *line, size_t length,
+                                     uint8_t *out, size_t room, size_t *written) {
+    uint8_t none;
+    return macsec_answer_raw(e, number, macsec_octets(line, length), length, room == 0 ? &none : out, room, written);
+}
+
 /* ---- What an endpoint shows; nothing changes. MACSEC_E_NOT_FOUND if there is no such channel or association ---- */
 
 uint32_t macsec_get_options(const macsec_endpoint *e, macsec_options *out);
@@ -599,6 +624,7 @@ static inline const char *macsec_status_name(uint32_t status) {
         case MACSEC_E_CONFIG_LONG: return "ScriptLong";
         case MACSEC_E_NOT_JOURNAL: return "NotJournal";
         case MACSEC_E_NOT_RECORD: return "NotRecord";
+        case MACSEC_E_ANSWER_LONG: return "AnswerLong";
         default: return "unknown";
     }
 }

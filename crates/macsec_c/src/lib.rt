@@ -6,10 +6,11 @@
 //! `specs/ReceivedParts.antt`, `specs/Shown.antt`, `specs/Reserving.antt`). A reader that finds nothing leaves its
 //! output unchanged. `macsec_configure_raw` creates the endpoint of a text's lines, as `parse_config` reads them, after
 //! the steps of all their commands, or none; `macsec_command_line_raw` is the step of a line's command
-//! (`specs/Texts.antt`). A handle without an endpoint is refused first, then numbers and lengths that name nothing, with
-//! separate statuses (`macsec_c_numbers`). A returned frame is in the endpoint or is the caller's, and the endpoint's
-//! state after the borrow is known. A handle owns its endpoint: `macsec_free_raw` leaves a handle without one, and
-//! nothing is used after it is freed, or freed twice. No clause says that the memory is given back.
+//! (`specs/Texts.antt`); `macsec_answer_raw` gives the answer of `macsec_answers` to a line (`specs/Answering.antt`). A
+//! handle without an endpoint is refused first, then numbers and lengths that name nothing, with separate statuses
+//! (`macsec_c_numbers`). A returned frame is in the endpoint or is the caller's, and the endpoint's state after the
+//! borrow is known. A handle owns its endpoint: `macsec_free_raw` leaves a handle without one, and nothing is used after
+//! it is freed, or freed twice. No clause says that the memory is given back.
 //!
 //! `macsec_seal_raw` has no handle: it seals a frame for a test as `protect_in_place` would, whatever its SecTAG is
 //! (`specs/Sealing.antt`).
@@ -19,6 +20,7 @@
 //! as zeros, and only these calls write to it.
 #![tactic(auto)]
 
+mod answering;
 mod commands;
 mod configuring;
 mod creating;

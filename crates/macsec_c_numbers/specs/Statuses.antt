@@ -36,6 +36,10 @@ not_journal_status = 53
 abbrev pub not_record_status : ℕ
 not_record_status = 54
 
+-- the buffer is too small for the answer to a line
+abbrev pub answer_long_status : ℕ
+answer_long_status = 55
+
 abbrev pub status_of_argument_fault : ArgumentFault → ℕ
 status_of_argument_fault argument.Suite = 34
 status_of_argument_fault argument.Form = 35

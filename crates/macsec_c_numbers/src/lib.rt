@@ -11,7 +11,7 @@ pub use arguments::{
     ArgumentFault, an_of, form_of, key_number_of, key_of, key_suite_of, mode_of, suite_of,
 };
 pub use statuses::{
-    DONE, EMPTY, FATE_NO_RESERVATION, FATE_NO_SA, FATE_NONE, FATE_PLAIN, FATE_PROTECTED,
-    FATE_TOO_LONG, NONE, NOT_JOURNAL, NOT_RECORD, TAKEN, number_of_verdict, status_of_frame_fault,
-    status_of_line_fault, status_of_new_fault, status_of_script_fault,
+    ANSWER_LONG, DONE, EMPTY, FATE_NO_RESERVATION, FATE_NO_SA, FATE_NONE, FATE_PLAIN,
+    FATE_PROTECTED, FATE_TOO_LONG, NONE, NOT_JOURNAL, NOT_RECORD, TAKEN, number_of_verdict,
+    status_of_frame_fault, status_of_line_fault, status_of_new_fault, status_of_script_fault,
 };

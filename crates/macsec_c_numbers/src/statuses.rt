@@ -24,6 +24,9 @@ pub const NOT_JOURNAL: u32 = 53;
 /// The octets are not a record of a journal.
 pub const NOT_RECORD: u32 = 54;
 
+/// The buffer is too small for the answer to a line.
+pub const ANSWER_LONG: u32 = 55;
+
 /// No client frame was taken: the status is not 0.
 pub const FATE_NONE: u32 = 0;
 
