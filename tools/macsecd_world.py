@@ -296,6 +296,17 @@ A rxon 02000000000{peer}0001 0
         return status
 
 
+def expect(end: End, what: str, status: int, text: str) -> None:
+    """macsecd must end at its start with this status and say this."""
+    try:
+        ended = end.run("macsec0")
+    except subprocess.TimeoutExpired:
+        report(False, f"{what}: macsecd runs")
+        return
+    holds = ended.returncode == status and text in ended.stderr
+    report(holds, f"{what}: {ended.returncode}, {ended.stderr.strip()!r}, and not {status}, {text!r}")
+
+
 class World:
     """Two namespaces, joined by a virtual Ethernet link whose ends are named link0."""
 
