@@ -91,8 +91,8 @@ def made_review(review: str, sizes: str) -> str:
     return PART.sub(lambda it: f"{it[1]}\n{sizes}\n\n{it[3]}", review)
 
 
-def made(page: str, tables: "dict[str, Any]", vectors: "dict[str, Any]") -> str:
-    """The page with its parts made again."""
+def made(page: str, tables: "dict[str, Any]", vectors: "dict[str, Any]", linux: str) -> str:
+    """The page with its parts made again. `linux` is the table of what Linux does otherwise."""
     rows = [row for it in tables["clauses"].values() for row in it["rows"]]
     parts = {name: table(it["rows"]) for name, it in tables["clauses"].items()}
     parts["count"] = counted(rows)
@@ -100,6 +100,7 @@ def made(page: str, tables: "dict[str, Any]", vectors: "dict[str, Any]") -> str:
     parts["counters"] = names(tables["names"]["counters"], ("here", "here"))
     parts["objects"] = names(tables["names"]["objects"], ("here", "here"))
     parts["vectors"] = vector_groups(vectors)
+    parts["linux"] = linux
     found = {it[1] for it in PART.findall(page)}
     if found != set(parts):
         raise ValueError(f"docs/CONFORMANCE.md has the parts {sorted(found)}, and not {sorted(parts)}")
