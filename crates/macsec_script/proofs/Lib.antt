@@ -1,5 +1,6 @@
 pub mod Examples
 pub mod GoodEnds
+pub mod OneEnd
 pub mod TextOfWorlds
 pub mod Promised
 pub mod Runs

@@ -1,3 +1,4 @@
 pub mod Printed
 pub mod Promised
 pub mod Runs
+pub mod OneEnd

@@ -2,7 +2,9 @@
 
 ghost use Rattle.std.specs.Prelude.{ℕ, List};
 ghost use Rattle.macsec_link.specs.World.{WorldState};
+ghost use Rattle.macsec_script_parser.specs.declared.lines.Line.{Line};
 ghost use Rattle.macsec_script_parser.specs.Scripts.{NumberedLine};
+ghost use Rattle.macsec_script.specs.OneEnd.{NeedsOneEnd};
 ghost use Rattle.macsec_script.specs.Promised.{HasNoneOrEnds, IsTextOfWorlds};
 
 /// A script without a fault has no lines, or its first two configure the ends.
@@ -14,4 +16,10 @@ pub fn script_has_ends()
 /// worlds of one list of events. `run_script` ensures the promises over that list.
 pub fn prints_of_worlds()
     ensures { (w : WorldState) (before : List NumberedLine) (line : NumberedLine) (more : List NumberedLine) → IsTextOfWorlds w before line more }
+{}
+
+/// What a line about end A alone prints follows from the endpoint of A, whatever else there is in the world: a management
+/// command at A, or a line that shows its counters or its packet numbers. End B and the link stay as they are.
+pub fn prints_of_end_a()
+    ensures { (w : WorldState) (n : ℕ) (said : Line) → NeedsOneEnd w n said }
 {}

@@ -1,0 +1,30 @@
+-- The endpoint of end A decides what a line about it alone prints: by the kind of line, and by the refusal of a command.
+use Rattle.std.proofs.Common.{◌≡◌, ℕ, refl, ap, Option, Some, None}
+use Rattle.macsec_suite.specs.declared.refusal.Refusal.{Refusal}
+use Rattle.macsec_commands.specs.declared.event.End.TheVariants.{A}
+use Rattle.macsec_commands.specs.declared.event.Event.TheVariants as event
+use Rattle.macsec_secy.specs.Step.{operator_command, command_output, step}
+use Rattle.macsec_secy.specs.Commands.{refusal}
+use Rattle.macsec_link.specs.World.{WorldState, with_end}
+use Rattle.macsec_link.specs.Step.{reaction}
+use Rattle.macsec_link_logs.specs.Ends.{EndState, end_after}
+use Rattle.macsec_script_parser.specs.declared.lines.Line.{Line}
+use Rattle.macsec_script_parser.specs.declared.lines.Line.TheVariants as line
+use Rattle.macsec_script_printer.specs.OneEnd.{command_text}
+use Rattle.macsec_script.specs.Printed.{text_and_world}
+use Rattle.macsec_script.specs.OneEnd.{NeedsOneEnd}
+
+-- a command is refused or done
+told : (w : WorldState) (n : ℕ) (e : EndState) (r : Option Refusal) →
+    text_and_world n (reaction (with_end w A e) (command_output r)) ≡ (command_text n (command_output r), with_end w A e)
+told w n e None = refl
+told w n e (Some r) = refl
+
+pub needs_one_end : (w : WorldState) (n : ℕ) (said : Line) → NeedsOneEnd w n said
+needs_one_end w n (line.Event (event.Command A c)) =
+    let input = operator_command c in
+    let is = told w n (end_after w.a input (step w.a.state input)) (refusal w.a.state c) in
+    record { text = ap (λ it. it.0) is; state = ap (λ it. it.1.a.state) is; other_end = ap (λ it. it.1.b) is; link = ap (λ it. it.1.frames) is }
+needs_one_end w n (line.Counters A) = record { text = refl; state = refl; other_end = refl; link = refl }
+needs_one_end w n (line.Numbers A) = record { text = refl; state = refl; other_end = refl; link = refl }
+needs_one_end w n other = tt
