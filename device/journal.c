@@ -172,7 +172,7 @@ static int put_new_file(const struct journal *journal, const uint8_t *octets, si
 
 int journal_create(const char *path, struct journal_fault *fault) {
     struct journal journal;
-    uint8_t salt[32];
+    uint8_t salt[24];
     macsec_record header;
     uint32_t status;
     int file, result;

@@ -20,7 +20,7 @@ static int configure(struct device *d) {
     if (status == MACSEC_OK)
         return 0;
     if (status == MACSEC_E_NOT_JOURNAL)
-        message("the journal is none, or one of another version");
+        message("the journal is none, one of another version, or its header is damaged");
     else if (status == MACSEC_E_MEMORY)
         message("out of memory");
     else

@@ -280,7 +280,7 @@ static uint32_t journal_header(const char *word) {
     size_t length;
     const uint8_t *salt = sealed(word, &length);
     macsec_record *out = room_of(sizeof *out);
-    if (length != 32)
+    if (length != 24)
         fail("a salt has another length");
     memset(out, 7, sizeof *out);
     uint32_t status = macsec_journal_header(salt, out);

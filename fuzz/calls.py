@@ -38,7 +38,8 @@ class Calls:
     NUMBERS = [0, 1, 2, 3, 4, 5, 4095, 4096, 65535]
     SSCIS = [0, 1, 2, 2**32 - 1]
     SALT = bytes(range(0xA0, 0xAC))
-    JOURNAL = journals.header(bytes(range(32)))
+    JOURNAL_SALT = bytes(range(24))
+    JOURNAL = journals.header(JOURNAL_SALT)
     AMOUNTS = [0, 1, 2, 2, 3, 3, 8, 64, 2**32, 2**63, 2**64 - 1]
     # The lines of commands, by what their words are.
     LINES = (
@@ -112,7 +113,9 @@ class Calls:
     def journal(self):
         """Most often a journal with records that were shown, and a part of one."""
         if self.random.random() < 0.1:
-            return self.pick((b"", self.JOURNAL[:63], self.random.randbytes(64), self.JOURNAL.replace(b"1", b"2")))
+            damaged = bytearray(self.JOURNAL)
+            damaged[self.random.randrange(journals.RECORD)] ^= 1 << self.random.randrange(8)
+            return self.pick((b"", self.JOURNAL[:63], self.random.randbytes(64), bytes(damaged)))
         records = [self.record() for _ in range(self.pick((0, 1, 2, 5)))]
         return self.JOURNAL + b"".join(records) + self.record()[: self.pick((0, 0, 1, 63))]
 
@@ -202,7 +205,9 @@ class Calls:
             "reserve_configure": lambda: (h(), self.text(), self.journal()),
             "reserve_wanted": lambda: (pick((0, 0, 0, 1, 2)), self.an(), pick(self.AMOUNTS)),
             "reserve_granted": lambda: (pick((0, 0, 0, 1, 2)), self.record()),
-            "journal_header": lambda: (h(), self.random.randbytes(32)),
+            "reserve_tx_floor": lambda: (pick((0, 0, 0, 1, 2)), pick(self.NUMBERS)),
+            "reserve_rx_floor": lambda: (pick((0, 1, 1, 1, 2)), self.sci(), self.an(), pick(self.NUMBERS)),
+            "journal_header": lambda: (h(), self.random.randbytes(24)),
             "journal_compacted": lambda: (h(), self.journal()),
             "send": lambda: (pick((0, 0, 0, 0, 0, 1, 2)), self.client_frame()),
             "send_uncontrolled": lambda: (h(), self.client_frame()),
@@ -303,9 +308,9 @@ class Calls:
         """What random calls over journals seldom come to."""
         own, other = self.SCIS[2], self.SCIS[0]
         key = (self.keys[0], self.SALT, 1, 1, 0, 16, 0)
-        saved = journals.receiving_name(journals.sending_name(bytes(range(32)), self.keys[0][:16]), other, 1), 7
+        saved = journals.receiving_name(journals.sending_name(self.JOURNAL_SALT, self.keys[0][:16]), other, 1), 7
         yield "free", (2,)
-        for journal in (b"", self.JOURNAL[:63], b"M" + self.JOURNAL[1:]):
+        for journal in (b"", self.JOURNAL[:63], b"M" + self.JOURNAL[1:], self.JOURNAL[:16] + b"s" + self.JOURNAL[17:]):
             yield "reserve_open", (2, own, 1, 1, 1518, journal)
             yield "reserve_configure", (2, self.configuration(own, 1), journal)
             yield "journal_compacted", (2, journal)

@@ -53,7 +53,7 @@ class Endpoint(expected.Endpoint):
     def __init__(self, suite, sci, max_frame, form, journal=None):
         super().__init__(suite, sci, max_frame, form)
         self.keeps = journal is not None
-        self.salt = journals.salt_of(journal) if self.keeps else bytes(32)
+        self.salt = journals.salt_of(journal) if self.keeps else bytes(24)
         self.before = list(journals.reservations(journal)) if self.keeps else []
         # An entry for each key that was installed before the last report: its name, and the last number reserved.
         self.granted = []

@@ -9,7 +9,7 @@ from typing import Dict, Iterator, List, Tuple
 
 RECORD = 64
 LAST = 2**64 - 1
-TITLE = b"macsec packet numbers, version 1"
+TITLE = b"macsec journal 1"
 
 # A reservation: a name of 32 octets, and the last packet number that may have been used under it.
 Reservation = Tuple[bytes, int]
@@ -45,17 +45,17 @@ def read_record(octets: bytes) -> "Reservation | None":
 
 def header(salt: bytes) -> bytes:
     """The first octets of a journal."""
-    return TITLE + salt
+    return TITLE + salt + digest(b"macsec reserve: header", TITLE, salt)[:24]
 
 
 def is_journal(octets: bytes) -> bool:
-    """Is a file with these octets a journal: does it begin with a whole header?"""
-    return len(octets) >= RECORD and octets[:32] == TITLE
+    """Is a file with these octets a journal: does it begin with the header of its salt?"""
+    return len(octets) >= RECORD and octets[:RECORD] == header(salt_of(octets))
 
 
 def salt_of(journal: bytes) -> bytes:
     """The salt of a journal."""
-    return journal[32:RECORD]
+    return journal[16:40]
 
 
 def reservations(octets: bytes) -> Iterator[Reservation]:

@@ -155,7 +155,7 @@ enum {
     MACSEC_E_LINE_ENDS = 50,          /* the line is in a wrong place, or its tag form does not fit its SCI */
     MACSEC_E_LINE_LONG = 51,          /* the line has more than 20,000 octets */
     MACSEC_E_CONFIG_LONG = 52,        /* the configuration has more than 1,048,576 octets or 65,536 lines */
-    MACSEC_E_NOT_JOURNAL = 53,        /* the octets are not a journal, or one of another version */
+    MACSEC_E_NOT_JOURNAL = 53,        /* no journal, one of another version, or one with a damaged header */
     MACSEC_E_NOT_RECORD = 54,         /* the octets are not a record of a journal */
     MACSEC_E_ANSWER_LONG = 55         /* the buffer is too small for the answer to the line */
 };
@@ -509,9 +509,9 @@ uint32_t macsec_get_rx_sa(const macsec_endpoint *e, const uint8_t sci[8], uint8_
  *
  * Choose `amount` by the rate of frames, a second's worth or more: a run that ends loses up to so many numbers. */
 
-/* The header of a new journal, with a salt of 32 random octets: in journals of different salts the records of one key
- * have different names. Returns MACSEC_OK. */
-uint32_t macsec_journal_header(const uint8_t salt[32], macsec_record *out);
+/* The header of a new journal, with a salt of 24 random octets and a check: in journals of different salts the records
+ * of one key have different names. Returns MACSEC_OK. */
+uint32_t macsec_journal_header(const uint8_t salt[24], macsec_record *out);
 
 uint32_t macsec_journal_compacted_raw(const uint8_t *journal, size_t journal_length, uint8_t *out, size_t out_length,
                                       size_t *written);

@@ -89,7 +89,7 @@ static bool is_full(const uint8_t *octets, size_t count) {
 
 /* Each allocation refused of a call that makes an endpoint beside a journal, and of one that shortens a journal. */
 static void beside_a_journal(macsec_endpoint *e) {
-    const uint8_t salt[32] = { 1 };
+    const uint8_t salt[24] = { 1 };
     uint8_t journal[2 * MACSEC_RECORD_LENGTH], shorter[sizeof journal];
     macsec_config config = { { 0 }, MACSEC_SUITE_GCM_AES_128, MACSEC_FORM_SCI, 1518 };
     macsec_record record;

@@ -98,7 +98,7 @@ pub extern "C" fn macsec_reserve_granted(e: &mut Endpoint, record: &Record) -> u
 
 /// Shows the header of a new journal with this salt.
 #[unsafe(no_mangle)]
-pub extern "C" fn macsec_journal_header(salt: &[u8; 32], out: &mut Record) -> u32
+pub extern "C" fn macsec_journal_header(salt: &[u8; 24], out: &mut Record) -> u32
     ensures status { result ≡ done_status }
     ensures shown { out.new.octets ≡ header salt.now }
 {

@@ -3,11 +3,11 @@ use Rattle.std.proofs.Common.{◌≡◌, ℕ, zero, suc, ◌+◌, ◌-◌, ◌*�
 use Rattle.std.specs.Prelude.{◌^◌, max, nat_le, slice_range, if◌then◌else◌}
 use Rattle.std.specs.Int.{w64, from_be_bytes}
 use Rattle.std.proofs.lemmas.Bool.{and_from, and_parts, le-leb, leb-true}
-use Rattle.std.proofs.lemmas.List.{drop-drop, drop_at, length-take-le, take_at, take-append-drop, take-append-le, take-take}
+use Rattle.std.proofs.lemmas.List.{drop-drop, drop_at, length-take-le, take_at, take-append-drop}
 use Rattle.std.proofs.lemmas.List.Elements.{All-append, All-cons, All-drop, All-from_get_or, All-head, All-nil, All-tail, All-take}
 use Rattle.macsec_gcm.specs.Octets.{same_octets}
 use Rattle.macsec_reserve.specs.declared.reservation.Reservation.{Reservation}
-use Rattle.macsec_reserve.specs.Journal.{check_of, highest, is_journal, record_of, records_of, reservations, reserved_in, reserved_within, salt_of, title}
+use Rattle.macsec_reserve.specs.Journal.{check_of, header, highest, is_journal, record_of, records_of, reservations, reserved_in, reserved_within, salt_of}
 use Rattle.macsec_reserve.specs.Compaction.{IsCompacted, compacted}
 use Rattle.macsec_reserve.specs.Crashes.{IsReservation}
 use Rattle.macsec_reserve.specs.Entries.{reduced}
@@ -111,19 +111,19 @@ count_within (suc n) octets =
 pub are_octets : (xs : List ℕ) → ((i : ℕ) → Fits w8 (get_or xs i 0)) → All (λ x. x < 256) xs
 are_octets xs fits = All-from_get_or (λ x. x < 256) xs 0 (λ i inside. omega (arith, fits i))
 
-same_piece : (journal : List ℕ) → 64 ≤ length journal → slice_range (take 64 journal) 32 64 ≡ slice_range journal 32 64
+same_piece : (journal : List ℕ) → 64 ≤ length journal → slice_range (take 64 journal) 16 40 ≡ slice_range journal 16 40
 same_piece journal long =
     let whole : take 64 journal ++ drop 64 journal ≡ journal = take-append-drop 64 journal in
-    let enough : 64 ≤ length (take 64 journal) = omega (arith, length-take-le 64 journal long) in
-    sym (range-append (take 64 journal) (drop 64 journal) 32 64 (omega arith) enough) ∙ ap (λ xs. slice_range xs 32 64) whole
+    let enough : 40 ≤ length (take 64 journal) = omega (arith, length-take-le 64 journal long) in
+    sym (range-append (take 64 journal) (drop 64 journal) 16 40 (omega arith) enough) ∙ ap (λ xs. slice_range xs 16 40) whole
 
 salt_stays : (journal more : List ℕ) → 64 ≤ length journal → salt_of (take 64 journal ++ more) ≡ salt_of journal
 salt_stays journal more long =
-    range-append (take 64 journal) more 32 64 (omega arith) (omega (arith, length-take-le 64 journal long)) ∙ same_piece journal long
+    range-append (take 64 journal) more 16 40 (omega arith) (omega (arith, length-take-le 64 journal long)) ∙ same_piece journal long
 
 pub is_compacted : (journal : List ℕ) → All (λ x. x < 256) journal → is_journal journal ≡ true → IsCompacted journal (compacted journal)
 is_compacted journal small is =
-    let tests = and_parts (nat_le 64 (length journal)) (same_octets (take 32 journal) title) is in
+    let tests = and_parts (nat_le 64 (length journal)) (same_octets (take 64 journal) (header (salt_of journal))) is in
     let long : 64 ≤ length journal = leb-true 64 (length journal) tests.0 in
     let head : List ℕ = take 64 journal in
     let entries : List Reservation = reduced (reservations (drop 64 journal)) in
@@ -131,8 +131,9 @@ is_compacted journal small is =
     let are : All IsReservation entries =
     reduced_are (reservations (drop 64 journal)) (reservations_are (drop 64 journal) (All-drop (λ x. x < 256) 64 journal small)) in
     let written = reads_records entries are in
-    let title_stays : take 32 (head ++ records_of entries) ≡ take 32 journal =
-    take-append-le 32 head (records_of entries) (omega (arith, head_long)) ∙ take-take 32 64 journal (omega arith) in
+    let header_stays : same_octets (take 64 (head ++ records_of entries)) (header (salt_of (head ++ records_of entries))) ≡ same_octets head (header (salt_of journal)) =
+    ap (λ xs. same_octets xs (header (salt_of (head ++ records_of entries)))) (take_at head (records_of entries) 64 head_long)
+    ∙ ap (λ s. same_octets head (header s)) (salt_stays journal (records_of entries) long) in
     let longer : 64 ≤ length (head ++ records_of entries) = omega (arith, length-append head (records_of entries), head_long) in
     let read : reservations (head ++ records_of entries) ≡ reserved_in head ++ entries =
     reservations_split (head ++ records_of entries) longer
@@ -140,8 +141,8 @@ is_compacted journal small is =
     ∙ ap (λ xs. reserved_in head ++ reservations xs) (drop_at head (records_of entries) 64 head_long)
     ∙ ap (λ rs. reserved_in head ++ rs) written.0 in
     record {
-      is = and_from (nat_le 64 (length (head ++ records_of entries))) (same_octets (take 32 (head ++ records_of entries)) title) (le-leb 64 (length (head ++ records_of entries)) longer)
-          (ap (λ xs. same_octets xs title) title_stays ∙ tests.1);
+      is = and_from (nat_le 64 (length (head ++ records_of entries))) (same_octets (take 64 (head ++ records_of entries)) (header (salt_of (head ++ records_of entries))))
+          (le-leb 64 (length (head ++ records_of entries)) longer) (header_stays ∙ tests.1);
       salt = salt_stays journal (records_of entries) long;
       same = λ name.
           ap (λ rs. highest rs name) read

@@ -31,7 +31,7 @@ opened config journal =
 
 -- as it is made without a journal
 abbrev pub alone : EndConfig → Keeping
-alone config = record { secy = start config; keeps = false; salt = replicate 32 0; before = []; granted = [] }
+alone config = record { secy = start config; keeps = false; salt = replicate 24 0; before = []; granted = [] }
 
 -- the name of the key of this number for sending
 abbrev pub key_name : List ℕ → List InstalledKey → ℕ → List ℕ

@@ -56,7 +56,7 @@ pub struct Keeper {
     /// Has it a journal?
     keeps: bool,
     /// The journal's salt, or zeros.
-    salt: [u8; 32],
+    salt: [u8; 24],
     /// What the journal reserved when the run began, one entry for each name.
     before: Vec<Reservation>,
     /// What was reported durable since, an entry for each key that was installed before the last report.
@@ -119,7 +119,7 @@ impl Keeper {
         Ok(Keeper {
             secy,
             keeps: false,
-            salt: [0; 32],
+            salt: [0; 24],
             before: Vec::new(alloc),
             granted,
             names,
@@ -359,7 +359,7 @@ impl Keeper {
 
 /// What is reserved for a key.
 fn reserved_for(
-    salt: &[u8; 32],
+    salt: &[u8; 24],
     names: &[NamedKey],
     before: &[Reservation],
     granted: &[Reservation],
@@ -385,7 +385,7 @@ fn is_reserved(at: AtHand, row: TxRow) -> bool
 }
 
 /// The name of the key of this number, or the name of no octets.
-fn name_of(salt: &[u8; 32], names: &[NamedKey], key: KeyNumber) -> [u8; 32]
+fn name_of(salt: &[u8; 24], names: &[NamedKey], key: KeyNumber) -> [u8; 32]
     ensures { result ≡ name_or_none salt.now (name_row names.now key) }
 {
     for named in names {
@@ -411,7 +411,7 @@ fn was_reserved(before: &[Reservation], name: &[u8; 32], number: u64) -> bool
 }
 
 /// The name of a key for sending.
-fn name_of_key(salt: &[u8; 32], key: Key) -> [u8; 32]
+fn name_of_key(salt: &[u8; 24], key: Key) -> [u8; 32]
     ensures { result ≡ sending_name salt.now (key_bytes key) }
 {
     match key {
@@ -421,7 +421,7 @@ fn name_of_key(salt: &[u8; 32], key: Key) -> [u8; 32]
 }
 
 /// Notes the name of the key that a command has installed, if it is such a command.
-fn note_key(salt: &[u8; 32], names: &mut Vec<NamedKey>, command: &Command)
+fn note_key(salt: &[u8; 24], names: &mut Vec<NamedKey>, command: &Command)
     requires { length (names_after salt.now names.old.items command.now) ≤ vec_capacity names.old }
     ensures items { names.new.items ≡ names_after salt.now names.old.items command.now }
     ensures room { vec_capacity names.old ≤ vec_capacity names.new }

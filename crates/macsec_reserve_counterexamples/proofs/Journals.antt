@@ -1,21 +1,24 @@
--- The journals of worked runs: a header whose salt begins with eight zeros, so that it reserves nothing even if it
--- reads as a record, and whole records.
+-- The journals of worked runs: a header whose salt ends with eight zeros, so that it reserves nothing even if it reads as
+-- a record, and whole records.
 use Rattle.std.proofs.Common.{◌≡◌, ℕ, ◌≤◌, Bool, true, false, List, [], ◌∷◌, ◌++◌, length, take, drop, refl, ap, ◌∙◌, arith, length-append, All}
-use Rattle.std.specs.Prelude.{replicate, slice_range, max, nat_le, if◌then◌else◌}
+use Rattle.std.specs.Prelude.{codes, replicate, slice_range, max, nat_le, if◌then◌else◌}
 use Rattle.std.specs.Int.{w64, from_be_bytes}
 use Rattle.std.proofs.lemmas.Bool.{and_from, le-leb}
-use Rattle.std.proofs.lemmas.List.{drop_at, take_at}
+use Rattle.std.proofs.lemmas.List.{drop_at, length-take-le, take_at}
+use Rattle.sha2.specs.Sha256.{sha256}
+use Rattle.sha2.proofs.Facts256.{length-sha256}
 use Rattle.macsec_gcm.specs.Octets.{same_octets}
 use Rattle.macsec_reserve.specs.declared.reservation.Reservation.{Reservation}
 use Rattle.macsec_reserve.specs.Crashes.{IsReservation}
-use Rattle.macsec_reserve.specs.Journal.{check_of, header, highest, is_journal, records_of, reservations, reserved_in, salt_of, title}
+use Rattle.macsec_reserve.specs.Journal.{check_of, check_of_header, header, highest, is_journal, records_of, reservations, reserved_in, salt_of, title}
 use Rattle.macsec_reserve.proofs.ShorterJournals.{reads_records, reservations_split}
 use Rattle.macsec_reserve.proofs.HighestOf.{highest-append}
+use Rattle.macsec_reserve.proofs.Written.{same_octets-refl}
 
 -- two salts
 abbrev pub salt : Bool → List ℕ
-salt false = replicate 32 0
-salt true = replicate 31 0 ++ 1 ∷ []
+salt false = replicate 24 0
+salt true = 1 ∷ replicate 23 0
 
 abbrev pub journal : Bool → List Reservation → List ℕ
 journal other rs = header (salt other) ++ records_of rs
@@ -36,9 +39,15 @@ in_header true name =
     zero_if (same_octets (slice_range (header (salt true)) 40 64) (check_of (take 32 (header (salt true))) (slice_range (header (salt true)) 32 40)))
     (take 32 (header (salt true))) name (from_be_bytes w64 (slice_range (header (salt true)) 32 40)) refl
 
+front : (other : Bool) → length (title ++ salt other) ≡ 40
+front false = refl
+front true = refl
+
 long : (other : Bool) → length (header (salt other)) ≡ 64
-long false = refl
-long true = refl
+long other =
+    let said : List ℕ = codes "macsec reserve: header" ++ title ++ salt other in
+    let check : length (check_of_header (salt other)) ≡ 24 = length-take-le 24 (sha256 said) (omega (arith, length-sha256 said)) in
+    omega (arith, length-append (title ++ salt other) (check_of_header (salt other)), front other, check)
 
 -- a journal says what its records say
 pub says : (other : Bool) (rs : List Reservation) → All IsReservation rs → (name : List ℕ) → highest (reservations (journal other rs)) name ≡ highest rs name
@@ -56,12 +65,14 @@ pub salt_is : (other : Bool) (rs : List Reservation) → salt_of (journal other 
 salt_is false rs = refl
 salt_is true rs = refl
 
-title_is : (other : Bool) (rs : List Reservation) → same_octets (take 32 (journal other rs)) title ≡ true
-title_is false rs = refl
-title_is true rs = refl
+header_is : (other : Bool) (rs : List Reservation) → same_octets (take 64 (journal other rs)) (header (salt_of (journal other rs))) ≡ true
+header_is other rs =
+    ap (λ xs. same_octets xs (header (salt_of (journal other rs)))) (take_at (header (salt other)) (records_of rs) 64 (long other))
+    ∙ ap (λ s. same_octets (header (salt other)) (header s)) (salt_is other rs)
+    ∙ same_octets-refl (header (salt other))
 
 -- it is a journal
 pub is_one : (other : Bool) (rs : List Reservation) → is_journal (journal other rs) ≡ true
 is_one other rs =
     let longer : 64 ≤ length (journal other rs) = omega (arith, length-append (header (salt other)) (records_of rs), long other) in
-    and_from (nat_le 64 (length (journal other rs))) (same_octets (take 32 (journal other rs)) title) (le-leb 64 (length (journal other rs)) longer) (title_is other rs)
+    and_from (nat_le 64 (length (journal other rs))) (same_octets (take 64 (journal other rs)) (header (salt_of (journal other rs)))) (le-leb 64 (length (journal other rs)) longer) (header_is other rs)

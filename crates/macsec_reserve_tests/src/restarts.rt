@@ -20,7 +20,7 @@ const CONFIG: EndConfig = EndConfig {
 
 const OCTETS: [u8; 16] = [9; 16];
 
-const SALT: [u8; 32] = [5; 32];
+const SALT: [u8; 24] = [5; 24];
 
 /// How many packet numbers are reserved at once.
 const AMOUNT: u64 = 8;
@@ -58,7 +58,7 @@ fn sent(rt: &impl Abort, keeper: &mut Keeper) -> Option<u32> {
     }
 }
 
-fn new_journal(alloc: Global, salt: &[u8; 32]) -> Result<Vec<u8>, AllocError> {
+fn new_journal(alloc: Global, salt: &[u8; 24]) -> Result<Vec<u8>, AllocError> {
     let mut journal = Vec::new(alloc);
     journal.extend_from_slice(&header(salt))?;
     Ok(journal)
@@ -145,13 +145,18 @@ fn refuses_another_file(rt: HostRuntime) {
         assert!(rt; fault == Some(OpenFault::NotJournal), "{length}");
     }
     assert!(rt; compacted(alloc, &octets[..63]).err() == Some(CompactFault::NotJournal));
-    let other = [b'x'; 64];
-    assert!(rt; Keeper::open(alloc, CONFIG, &other).err() == Some(OpenFault::NotJournal));
+    // No octet of a header can be altered unnoticed, so no journal loses its records by another salt.
+    for k in 0..64usize {
+        let mut other = octets;
+        other[k] ^= 1;
+        let fault = Keeper::open(alloc, CONFIG, &other).err();
+        assert!(rt; fault == Some(OpenFault::NotJournal), "{k}");
+    }
 }
 
 #[test]
 fn names_differ_by_salt(rt: HostRuntime) {
-    assert!(rt; sending_name(&SALT, &OCTETS) != sending_name(&[6; 32], &OCTETS));
+    assert!(rt; sending_name(&SALT, &OCTETS) != sending_name(&[6; 24], &OCTETS));
 }
 
 /// The record of a name of equal octets.

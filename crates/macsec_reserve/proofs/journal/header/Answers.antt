@@ -1,5 +1,12 @@
-use Rattle.std.proofs.Common.{rules}
+use Rattle.std.proofs.Common.{◌≡◌, length, refl, ap, ◌∙◌, arith}
+use Rattle.std.specs.Prelude.{◌++◌, replicate}
+use Rattle.macsec_reserve.specs.Journal.{title}
+use Rattle.macsec_reserve.proofs.WrittenRecords.{over_end}
 use Rattle.macsec_reserve.proofs.journal.header.Goals as goal
 
 pub returns : goal.returns
-returns c = search rules
+returns c =
+    let long : length c.copy_from_slice.new.self ≡ 40 = omega (arith, c.copy_from_slice.auto.self) in
+    over_end 40 24 c.copy_from_slice.new.self (replicate 24 0) c.copy_from_slice-2.new.self long refl
+    ∙ ap (λ xs. xs ++ c.copy_from_slice-2.new.self) (c.copy_from_slice.ensures.after ∙ c.as_slice.ensures ∙ c.title_and_salt.ensures)
+    ∙ ap (λ xs. title ++ c.args.salt.now ++ xs) (c.copy_from_slice-2.ensures.after ∙ c.as_slice-2.ensures ∙ c.check_of_header-check.ensures)
