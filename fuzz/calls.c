@@ -156,7 +156,7 @@ void __wrap_free(void *block) {
     __real_free(block);
 }
 
-/* An endpoint has six blocks, and one more beside a journal with records. Only the calls that make one, a line and a
+/* An endpoint has seven blocks, and one more beside a journal with records. Only the calls that make one, a line and a
  * journal ask for blocks. */
 static void check_blocks(const char *name, unsigned handle, bool held_before) {
     const char *reading[] = { "configure",         "command_line",      "answer",
@@ -165,9 +165,9 @@ static void check_blocks(const char *name, unsigned handle, bool held_before) {
     for (size_t i = 0; i < sizeof reading / sizeof reading[0]; i++)
         may_ask = may_ask || strcmp(name, reading[i]) == 0;
     int changed = made[handle] == held_before ? 0 : held_before ? -blocks[handle] : held;
-    if (held != changed || (changed > 0 && held != 6 && (held != 7 || !beside)))
+    if (held != changed || (changed > 0 && held != 7 && (held != 8 || !beside)))
         fail("the library holds another number of blocks");
-    if (!may_ask && asked != (changed > 0 ? 6u : 0u))
+    if (!may_ask && asked != (changed > 0 ? 7u : 0u))
         fail("the library asked for another number of blocks");
     if (changed > 0)
         blocks[handle] = held;

@@ -36,7 +36,7 @@
  *            (MACSEC_E_EMPTY, MACSEC_E_TAKEN), then the arguments (MACSEC_E_NO_SUCH_..), then the rest. If several
  *            statuses of arguments apply, or several refusals of a command, the call returns the lowest; but
  *            MACSEC_E_PN_FLOOR comes first where a journal is the reason.
- * MEMORY     macsec_new allocates six blocks by malloc, 17.9 MB in all: four for 4,096 keys, one for a frame, one for
+ * MEMORY     macsec_new allocates seven blocks by malloc, 17.9 MB in all: four for 4,096 keys, one for a frame, two for
  *            the rest. macsec_free frees them. macsec_configure allocates the same, and so do macsec_reserve_open and
  *            macsec_reserve_configure, with one more for a journal that has records. macsec_configure,
  *            macsec_reserve_configure, macsec_command_line and macsec_answer also allocate while they read their text,
@@ -44,8 +44,8 @@
  *            and free that before they return. No other call allocates, so no other call runs out of memory. malloc
  *            and realloc must align a block to each power of two up to 16 that divides its size, as all C libraries do.
  *            They must return: no exception may be thrown through the library, which has no unwinding tables. The
- *            memory is not wiped: keys may stay in it, and on the stack. Give each call 160 KB of stack: macsec_new
- *            took 115 KB on x86-64, the other calls that create an endpoint 113, the rest a fraction of that (measured,
+ *            memory is not wiped: keys may stay in it, and on the stack. Give each call 96 KB of stack: macsec_new
+ *            took 59 KB on x86-64, the other calls that create an endpoint 57, the rest a fraction of that (measured,
  *            not proved).
  * PROCESSOR  An x86-64 processor with SSSE3 (every x86-64-v2 has it). The library does not test for it: on another one
  *            the process ends with SIGILL.

@@ -1,11 +1,11 @@
 -- What a step of a keeping endpoint keeps.
-use Rattle.std.proofs.Common.{◌≡◌, ℕ, ◌≤◌, Bool, true, false, List, [], ◌∷◌, refl, ◌∙◌, arith}
-use Rattle.std.specs.Prelude.{max, if◌then◌else◌}
+use Rattle.std.proofs.Common.{◌≡◌, ℕ, ◌≤◌, Bool, true, false, List, [], ◌∷◌, refl, ap, ◌∙◌, arith}
+use Rattle.std.specs.Prelude.{◌||◌, not, max, if◌then◌else◌}
 use Rattle.macsec_suite.specs.declared.refusal.Refusal.TheVariants.{PnFloor}
 use Rattle.macsec_secy.specs.Kept.{KeysStay}
 use Rattle.macsec_secy.specs.Sound.{IsSound}
 use Rattle.macsec_secy.specs.State.{State}
-use Rattle.macsec_secy.specs.Step.{Output, refused, step}
+use Rattle.macsec_secy.specs.Step.{Output, link_frame, refused, step}
 use Rattle.macsec_reserve.specs.Journal.{highest}
 use Rattle.macsec_reserve.specs.Keeping.{Keeping, KeepingInput, KeepingOutput, endpoint_input, endpoint_output, now_durable, dropped_no_reservation, for_each_key, is_below_floor, may_go, keeping_after, keeping_step, with_step}
 use Rattle.macsec_reserve.specs.Histories.{reported_in}
@@ -52,6 +52,14 @@ stays_on s t u first second = record {
 abbrev pub by_tests : Bool → Bool → Keeping → Output × State → KeepingOutput × Keeping
 by_tests below go k answer =
     if below then (endpoint_output (refused PnFloor), k) else if go then with_step k answer else (dropped_no_reservation, k)
+
+or_true : (b : Bool) → b || true ≡ true
+or_true true = refl
+or_true false = refl
+
+-- a frame from the link is the machine's step
+pub received_step : (k : Keeping) (frame : List ℕ) → keeping_step k (endpoint_input (link_frame frame)) ≡ with_step k (step k.secy (link_frame frame))
+received_step k frame = ap (λ (b : Bool). by_tests false b k (step k.secy (link_frame frame))) (or_true (not k.keeps))
 
 keys_by_tests : (below go : Bool) (k : Keeping) (answer : Output × State) → KeysStay k.secy answer.1 → KeysStay k.secy (by_tests below go k answer).1.secy
 keys_by_tests true go k answer stay = stays_itself k.secy

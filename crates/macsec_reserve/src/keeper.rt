@@ -1,12 +1,14 @@
 //! The keeping endpoint.
 
-ghost use Rattle.std.specs.Prelude.{◌≡◌, ◌≤◌, ◌+◌, ◌++◌, ◌==◌, ◌&&◌, List, ℕ, true, drop, length, map, option_and_then, option_map, Some, ◌-◌, ◌^◌, min, IfOk, nat_lt, nat_le, vec_capacity, vec_len};
+ghost use Rattle.std.specs.Prelude.{◌≡◌, ◌≤◌, ◌+◌, ◌++◌, ◌==◌, ◌&&◌, List, ℕ, true, drop, length, map, option_and_then, option_map, Some, None, Err, IfErr, ◌-◌, ◌^◌, min, IfOk, nat_lt, nat_le, vec_capacity, vec_len};
 ghost use Rattle.std.specs.Borrow.{sem};
 ghost use Rattle.macsec_aes.specs.Keys.{key_bytes};
 ghost use Rattle.macsec_tx.specs.Transmit.{tx_row};
 ghost use Rattle.macsec_rx.specs.Channels.{rx_row};
-ghost use Rattle.macsec_secy.specs.Answers.{output_of_command, output_of_frame, output_of_received};
+ghost use Rattle.macsec_commands.specs.Configs.{config_fault};
+ghost use Rattle.macsec_secy.specs.Answers.{MakesEndpoint, output_of_command, output_of_frame, output_of_received};
 ghost use Rattle.macsec_secy.specs.Sound.{IsSound};
+ghost use Rattle.macsec_secy.specs.State.{start};
 ghost use Rattle.macsec_secy.specs.Step.{client_frame, link_frame, operator_command, uncontrolled_frame};
 ghost use Rattle.macsec_reserve.specs.Answers.{MakesAlone, MakesKeeper, output_of_kept};
 ghost use Rattle.macsec_reserve.specs.Journal.{highest, sending_name};
@@ -52,7 +54,8 @@ struct AtHand {
 /// An endpoint that uses a packet number only if it has reserved it; without a journal it uses any, as `Secy`.
 #[derive(Drop)]
 pub struct Keeper {
-    pub(crate) secy: Secy,
+    /// The endpoint, in a block of its own: so a keeper that is made or moved takes little of the stack.
+    pub(crate) secy: Box<Secy, Global>,
     /// Has it a journal?
     keeps: bool,
     /// The journal's salt, or zeros.
@@ -74,10 +77,10 @@ impl Model for Keeper {
 
     ghost Value = { Keeping };
 
-    ghost view = { λ k. record { secy = k.secy; keeps = k.keeps; salt = k.salt; before = k.before.items; granted = k.granted.items } };
+    ghost view = { λ k. record { secy = k.secy.value; keeps = k.keeps; salt = k.salt; before = k.before.items; granted = k.granted.items } };
 
     // The endpoint's keys have these names, it is sound, and there is capacity for all keys that it can have.
-    ghost invariant = { λ k. IsKept k.secy k.salt k.names.items (vec_capacity k.names) (vec_capacity k.granted)
+    ghost invariant = { λ k. IsKept k.secy.value k.salt k.names.items (vec_capacity k.names) (vec_capacity k.granted)
         × IsAtHand k.salt k.names.items k.before.items k.granted.items k.at_hand };
 }
 
@@ -106,10 +109,7 @@ impl Keeper {
         ensures result { MakesAlone config result }
         ensures sound { IfOk result (λ k. IsSound k.secy) }
     {
-        let secy = match Secy::new(alloc, config) {
-            Ok(secy) => secy,
-            Err(fault) => return Err(fault),
-        };
+        let secy = boxed_endpoint(alloc, config)?;
         let Ok(granted) = Vec::with_capacity(alloc, KEY_COUNT) else {
             return Err(NewFault::Memory);
         };
@@ -135,7 +135,7 @@ impl Keeper {
         if !is_journal(journal) {
             return Err(OpenFault::NotJournal);
         }
-        let secy = match Secy::new(alloc, config) {
+        let secy = match boxed_endpoint(alloc, config) {
             Ok(secy) => secy,
             Err(fault) => return Err(OpenFault::Endpoint(fault)),
         };
@@ -355,6 +355,23 @@ impl Keeper {
             }
         }
     }
+}
+
+/// An endpoint of this configuration on the heap.
+fn boxed_endpoint(alloc: Global, config: EndConfig) -> Result<Box<Secy, Global>, NewFault>
+    ensures made { IfOk result (λ secy. (config_fault config ≡ None) × (secy.value ≡ start config)) }
+    ensures fault { IfErr result (λ fault. MakesEndpoint config (Err fault)) }
+    ensures sound { IfOk result (λ secy. IsSound secy.value) }
+{
+    // `?` and a second `match` would need twice the stack for the endpoint.
+    let secy = match Secy::new(alloc, config) {
+        Ok(secy) => secy,
+        Err(fault) => return Err(fault),
+    };
+    let Ok(secy) = Box::new(alloc, secy) else {
+        return Err(NewFault::Memory);
+    };
+    Ok(secy)
 }
 
 /// What is reserved for a key.

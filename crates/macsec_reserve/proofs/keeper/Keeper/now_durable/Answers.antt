@@ -12,7 +12,7 @@ use Rattle.macsec_reserve.proofs.keeper.Keeper.now_durable.Goals as goal
 pub add_entries-requires : goal.add_entries-requires
 add_entries-requires c =
     let count : length c.as_slice.result.now ≡ length c.self.inside.names.items = ap length c.as_slice.ensures.value in
-    let fit = names_fit c.self.inside.salt c.self.inside.secy.keys c.self.inside.names.items (vec_capacity c.self.inside.granted) c.self.invariant.0.sound.keys c.self.invariant.0.names c.self.invariant.0.granted_room in
+    let fit = names_fit c.self.inside.salt c.self.inside.secy.value.keys c.self.inside.names.items (vec_capacity c.self.inside.granted) c.self.invariant.0.sound.keys c.self.invariant.0.names c.self.invariant.0.granted_room in
     omega (arith, count, fit)
 
 pub returns-clause-after : goal.returns-clause-after

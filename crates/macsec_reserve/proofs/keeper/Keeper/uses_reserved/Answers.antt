@@ -1,6 +1,8 @@
 -- An association would protect the frame: the test of its number, by the name of its key.
 use Rattle.std.proofs.Common.{◌∙◌, ap}
 use Rattle.std.specs.Prelude.{◌&&◌, nat_lt, nat_le}
+use Rattle.macsec_secy.specs.State.{State}
+use Rattle.macsec_secy.specs.Laws.{number_used}
 use Rattle.macsec_secy.specs.Step.{client_frame}
 use Rattle.macsec_reserve.specs.contracts.keeper.Keeper.{the_view}
 use Rattle.macsec_reserve.specs.Journal.{highest}
@@ -15,9 +17,9 @@ returns-in-Some c =
     let k = the_view c.self.inside in
     let row = c.in-Some.row in
     let name = c.name_of-name.result in
-    one_used k (client_frame c.args.frame.now) row name (name_or_none k.salt (name_row c.self.inside.names.items row.key)) c.may_use.result c.in-Some.ensures
+    one_used k (client_frame c.args.frame.now) row name (name_or_none k.salt (name_row c.self.inside.names.items row.key)) c.may_use.result (c.in-Some.ensures ∙ ap (λ (s : State). number_used s (client_frame c.args.frame.now)) c.deref.ensures)
     (c.name_of-name.ensures ∙ ap (λ ns. name_or_none k.salt (name_row ns row.key)) c.as_slice.ensures.value)
-    (found_name k.salt c.self.inside.secy.keys c.self.inside.names.items row.key c.self.invariant.0.names)
+    (found_name k.salt c.self.inside.secy.value.keys c.self.inside.names.items row.key c.self.invariant.0.names)
     (c.may_use.ensures
     ∙ ap (λ before. nat_lt (highest before name) row.next && nat_le row.next (highest c.as_slice-in-Some-2.result.now name)) c.as_slice-in-Some.ensures.value
     ∙ ap (λ granted. nat_lt (highest k.before name) row.next && nat_le row.next (highest granted name)) c.as_slice-in-Some-2.ensures.value)
