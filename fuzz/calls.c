@@ -299,6 +299,18 @@ static uint32_t record(const macsec_endpoint *e, const char *name, char **w) {
     return status;
 }
 
+/* The floor of a key, or of a receive association under a key. */
+static uint32_t reserved_floor(const macsec_endpoint *e, const char *name, char **w) {
+    uint64_t *out = room_of(sizeof *out);
+    *out = 7;
+    uint32_t status = strcmp(name, "reserve_tx_floor") == 0
+                          ? macsec_reserve_tx_floor(e, (uint16_t)number(w[0]), out)
+                          : macsec_reserve_rx_floor(e, sealed_sci(w[0]), (uint8_t)number(w[1]),
+                                                    (uint16_t)number(w[2]), out);
+    print_number(*out);
+    return status;
+}
+
 static uint32_t granted(macsec_endpoint *e, const char *word) {
     macsec_record *record = room_of(sizeof *record);
     if (octets(word, record->octets, sizeof record->octets) != sizeof record->octets)
@@ -512,6 +524,8 @@ static uint32_t reservation(macsec_endpoint *e, const char *name, char **w) {
         return reserve_open(e, w);
     if (strcmp(name, "reserve_configure") == 0)
         return reserve_configure(e, w);
+    if (strstr(name, "_floor") != NULL)
+        return reserved_floor(e, name, w);
     if (strcmp(name, "reserve_granted") == 0)
         return granted(e, w[0]);
     if (strcmp(name, "journal_header") == 0)

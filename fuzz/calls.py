@@ -242,8 +242,8 @@ class Calls:
         "enable_rx_sa": 25, "disable_rx_sa": 2, "set_lowest_pn": 10, "delete_rx_sa": 3, "command_line": 60, "answer": 60,
         "get_options": 8, "keys_left": 8, "get_counters": 20, "get_tx_counters": 10, "get_rx_counters": 15,
         "get_rx_sa_counters": 15, "get_removed_counters": 10, "get_rx_sc": 6, "get_tx_sa": 10, "get_rx_sa": 15, "reserve_open": 4,
-        "reserve_configure": 4, "reserve_wanted": 15, "reserve_to_save": 10, "reserve_granted": 15, "journal_header": 1,
-        "journal_compacted": 5, "seal": 25,
+        "reserve_configure": 4, "reserve_wanted": 15, "reserve_to_save": 10, "reserve_granted": 15,
+        "reserve_tx_floor": 6, "reserve_rx_floor": 6, "journal_header": 1, "journal_compacted": 5, "seal": 25,
     }  # fmt: skip
 
     def paired(self):
@@ -294,6 +294,7 @@ class Calls:
         end = self.model.ends[0]
         for pn in (1, 1 + journals.highest(end.before, end.key_name(suite))):
             yield "add_tx_sa", (0, an, suite, min(pn, journals.LAST), self.random.randrange(2))
+        yield "reserve_tx_floor", (0, suite)
         yield "enable_tx_sa", (0, an)
         for _ in range(self.pick((1, 2, 5))):
             amount = self.pick((2, 3, 8))
@@ -318,6 +319,10 @@ class Calls:
         yield "reserve_wanted", (2, 0, 4)
         yield "reserve_open", (2, own, 1, 1, 1518, self.JOURNAL + journals.record(saved) + b"torn")
         yield "install_key", (2, *key)
+        for number in (0, 1, 4_096):
+            yield "reserve_tx_floor", (2, number)
+            for an in (0, 1, 4):
+                yield "reserve_rx_floor", (2, other, an, number)
         yield "add_rx_sc", (2, other)
         yield "add_rx_sa", (2, other, 1, 0, 0, 7)
         yield "add_rx_sa", (2, other, 1, 0, 0, 8)

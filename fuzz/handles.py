@@ -266,6 +266,25 @@ class Model:
     def call_reserve_to_save(self, handle, sci, an):
         return self.shown_record(self.ends[handle].to_save(sci, an_of(an)))
 
+    def unshown_reserve_tx_floor(self):
+        return " 7"
+
+    unshown_reserve_rx_floor = unshown_reserve_tx_floor
+
+    def shown_floor(self, handle, number, name_of):
+        """The highest number that the journal had when the endpoint was made, under the name made of the key's."""
+        end = self.ends[handle]
+        if number not in end.keys:
+            raise Status("E_NOT_FOUND")
+        return f" {journals.highest(end.before, name_of(end.key_name(number)))}"
+
+    def call_reserve_tx_floor(self, handle, number):
+        return self.shown_floor(handle, key_number_of(number), lambda name: name)
+
+    def call_reserve_rx_floor(self, handle, sci, an, number):
+        an, number = an_of(an), key_number_of(number)
+        return self.shown_floor(handle, number, lambda name: journals.receiving_name(name, sci, an))
+
     def call_reserve_granted(self, handle, octets):
         read = journals.read_record(octets)
         if read is None:

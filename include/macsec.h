@@ -547,6 +547,12 @@ static inline uint32_t macsec_reserve_configure(macsec_endpoint *e, const uint8_
 uint32_t macsec_reserve_wanted(const macsec_endpoint *e, uint8_t an, uint64_t amount, macsec_record *out);
 /* The record that saves the lowest acceptable packet number of a receive association, or MACSEC_E_NOT_FOUND. */
 uint32_t macsec_reserve_to_save(const macsec_endpoint *e, const uint8_t sci[8], uint8_t an, macsec_record *out);
+/* The floor of a key, and of a receive association under a key: the highest packet number that earlier runs reserved or
+ * saved, 0 if none. An association that begins at it or below is refused. It stays the same as long as the endpoint
+ * lives. MACSEC_E_NOT_FOUND if there is no such key. */
+uint32_t macsec_reserve_tx_floor(const macsec_endpoint *e, uint16_t key, uint64_t *out);
+uint32_t macsec_reserve_rx_floor(const macsec_endpoint *e, const uint8_t sci[8], uint8_t an, uint16_t key,
+                                 uint64_t *out);
 /* A record is on the disk, where every later run will read it. MACSEC_E_NOT_RECORD if its octets are none: then nothing
  * has changed. */
 uint32_t macsec_reserve_granted(macsec_endpoint *e, const macsec_record *record);

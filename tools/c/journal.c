@@ -27,8 +27,6 @@
 enum { FRAME_LENGTH = 64, KEYS = 2, TURN = 16, HELD = 16, LINK_MAX = 256 };
 
 static const uint8_t sender[8] = { 2, 0, 0, 0, 0, 1, 0, 1 }, receiver[8] = { 2, 0, 0, 0, 0, 2, 0, 1 };
-/* The greatest packet number that is not extended. */
-static const uint64_t last_number = 0xffffffff;
 
 static void fail(const char *what) {
     perror(what);
@@ -145,26 +143,26 @@ static uint32_t add_receiving(macsec_endpoint *e, uint8_t an, uint64_t lowest) {
     return macsec_add_rx_sa(e, sender, an, an, sender[5], lowest);
 }
 
-static uint32_t delete_receiving(macsec_endpoint *e, uint8_t an) {
-    return macsec_delete_rx_sa(e, sender, an);
+static uint64_t sending_floor(const macsec_endpoint *e, uint8_t an) {
+    uint64_t floor = 0;
+    must("tx_floor", macsec_reserve_tx_floor(e, an, &floor));
+    return floor;
 }
 
-/* Creates an association at the lowest packet number that is not refused. */
-static void add_lowest(macsec_endpoint *e, uint8_t an, uint32_t (*add)(macsec_endpoint *, uint8_t, uint64_t),
-                       uint32_t (*delete)(macsec_endpoint *, uint8_t)) {
-    uint64_t low = 1, high = last_number;
-    while (low < high) {
-        uint64_t middle = low + (high - low) / 2;
-        uint32_t status = add(e, an, middle);
-        if (status == MACSEC_E_PN_FLOOR) {
-            low = middle + 1;
-        } else {
-            must("add", status);
-            must("delete", delete(e, an));
-            high = middle;
-        }
+static uint64_t receiving_floor(const macsec_endpoint *e, uint8_t an) {
+    uint64_t floor = 0;
+    must("rx_floor", macsec_reserve_rx_floor(e, sender, an, an, &floor));
+    return floor;
+}
+
+/* Creates an association above its floor. At the floor it is refused. */
+static void add_lowest(macsec_endpoint *e, uint8_t an, uint64_t floor,
+                       uint32_t (*add)(macsec_endpoint *, uint8_t, uint64_t)) {
+    if (floor != 0 && add(e, an, floor) != MACSEC_E_PN_FLOOR) {
+        fprintf(stderr, "journal: an association begins at its floor\n");
+        exit(1);
     }
-    must("add", add(e, an, low));
+    must("add", add(e, an, floor + 1));
 }
 
 /* ---- send ---- */
@@ -204,7 +202,7 @@ static int run_send(char **words) {
     must("reserve_open", make_endpoint(&e, sender, (uint32_t)number_of(words[2]), &journal));
     file = create_capture(words[5]);
     for (uint8_t an = 0; an < KEYS; an++) {
-        add_lowest(&e, an, add_sending, macsec_delete_tx_sa);
+        add_lowest(&e, an, sending_floor(&e, an), add_sending);
         reserve(&journal, &e, an, amount, &counts);
     }
     for (uint64_t it = 0; frames == 0 || it < frames; it++) {
@@ -297,7 +295,7 @@ static int run_receive(int count, char **words) {
     file = create_capture(words[3]);
     must("add_rx_sc", macsec_add_rx_sc(&e, sender));
     for (uint8_t an = 0; an < KEYS; an++) {
-        add_lowest(&e, an, add_receiving, delete_receiving);
+        add_lowest(&e, an, receiving_floor(&e, an), add_receiving);
         must("enable_rx_sa", macsec_enable_rx_sa(&e, sender, an));
     }
     for (int at = 4; at < count; at++) {
@@ -332,10 +330,15 @@ static void write_file(const char *name, const uint8_t *octets, size_t length) {
         fail(name);
 }
 
-/* How many of the numbers, from the first on, are refused as the first one of an association. */
+/* How many of the numbers, from the first on, are refused as the first one of an association: those up to the floor. */
 static int count_refused(macsec_endpoint *e, uint8_t an, int count, char **numbers) {
     for (int it = 0; it < count; it++) {
-        uint32_t status = add_sending(e, an, number_of(numbers[it]));
+        uint64_t number = number_of(numbers[it]);
+        uint32_t status = add_sending(e, an, number);
+        if ((status == MACSEC_E_PN_FLOOR) != (number <= sending_floor(e, an))) {
+            fprintf(stderr, "journal: %" PRIu64 " is refused, and the floor is lower, or the reverse\n", number);
+            exit(1);
+        }
         if (status == MACSEC_OK) {
             must("delete", macsec_delete_tx_sa(e, an));
             return it;

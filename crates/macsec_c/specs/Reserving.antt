@@ -1,5 +1,5 @@
 -- What the calls for reservations return.
-use Rattle.std.specs.Prelude.{◌≡◌, ℕ, List, [], ◌∷◌, ◌++◌, drop, length, true, false, Option, Some, None, option_and_then, option_map}
+use Rattle.std.specs.Prelude.{◌≡◌, ℕ, List, [], ◌∷◌, ◌++◌, drop, length, true, false, Option, Some, None, option_and_then, option_map, Ok, Err}
 use Rattle.macsec_commands.specs.declared.fault.NewFault.TheVariants.{Memory}
 use Rattle.macsec_tag.specs.declared.identifiers.Sci.{Sci}
 use Rattle.macsec_tx.specs.Transmit.{tx_row}
@@ -11,6 +11,7 @@ use Rattle.macsec_reserve.specs.Compaction.{compacted}
 use Rattle.macsec_reserve.specs.Journal.{is_journal}
 use Rattle.macsec_reserve.specs.Keeping.{Keeping, keeping_step, now_durable, wanted_for}
 use Rattle.macsec_reserve.specs.Replay.{saved_for}
+use Rattle.macsec_c_numbers.specs.Arguments.{Named}
 use Rattle.macsec_c_numbers.specs.Statuses.{done_status, empty_status, not_journal_status, not_record_status, status_of_new_fault}
 
 -- the reservation that the transmit SA of this number needs next, if it exists and needs one
@@ -20,6 +21,11 @@ wanted_at amount k an = option_and_then (wanted_for k amount) (tx_row k.secy.tx 
 -- what is to be saved of the receive SA of this SCI and number, if it exists
 abbrev pub saved_at : Sci → Keeping → ℕ → Option Reservation
 saved_at sci k an = option_map (saved_for k.salt k.secy) (rx_row k.secy.rx.rows sci an)
+
+-- a key number after an AN: the fault of the AN comes first
+abbrev pub key_after : Named ℕ → Named ℕ → Named ℕ
+key_after (Ok an) key = key
+key_after (Err f) key = Err f
 
 -- the status of a report that what some octets reserve is durable, and what the handle holds after it: nothing changes if
 -- the octets are no record

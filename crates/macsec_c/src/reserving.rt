@@ -2,13 +2,16 @@
 
 ghost use Rattle.std.specs.Prelude.{◌≡◌, IfNone, IfSome};
 ghost use Rattle.macsec_reserve.specs.Journal.{header, record_of, reserved_in};
-ghost use Rattle.macsec_c_numbers.specs.Arguments.{an_of, sci_of};
+ghost use Rattle.macsec_reserve.specs.Keeping.{rx_floor, tx_floor};
+ghost use Rattle.macsec_c_numbers.specs.Arguments.{an_of, key_number_of, sci_of};
 ghost use Rattle.macsec_c_numbers.specs.Statuses.{done_status};
-ghost use Rattle.macsec_c.specs.Reserving.{Compacts, reported, saved_at, wanted_at};
+ghost use Rattle.macsec_c.specs.Reserving.{Compacts, key_after, reported, saved_at, wanted_at};
 ghost use Rattle.macsec_c.specs.Shown.{found_at, status_of_an};
 
 use crate::endpoint::Endpoint;
-use macsec_c_numbers::{DONE, EMPTY, NONE, NOT_JOURNAL, NOT_RECORD, an_of, status_of_new_fault};
+use macsec_c_numbers::{
+    DONE, EMPTY, NONE, NOT_JOURNAL, NOT_RECORD, an_of, key_number_of, status_of_new_fault,
+};
 use macsec_reserve::{Reservation, compacted, header, is_journal};
 use macsec_secy::{NewFault, Sci};
 use std::alloc::Global;
@@ -73,6 +76,64 @@ pub extern "C" fn macsec_reserve_to_save(
     match e.keeper().to_save(Sci(*sci), an) {
         Some(reservation) => {
             out.octets = reservation.to_octets();
+            DONE
+        }
+        None => NONE,
+    }
+}
+
+/// Shows the highest packet number that an earlier run may have used to send under the key of this number.
+#[unsafe(no_mangle)]
+pub extern "C" fn macsec_reserve_tx_floor(e: &mut Endpoint, key: u16, out: &mut u64) -> u32
+    ensures status { result ≡ status_of_an e.old.state (key_number_of key) tx_floor }
+    ensures same { e.new.state ≡ e.old.state }
+    ensures shown { IfSome (found_at e.old.state (key_number_of key) tx_floor) (λ floor. out.new ≡ floor) }
+    ensures kept { IfNone (found_at e.old.state (key_number_of key) tx_floor) (out.new ≡ out.old) }
+{
+    if !e.is_made() {
+        return EMPTY;
+    }
+    let key = match key_number_of(key) {
+        Ok(key) => key,
+        Err(fault) => return fault.status(),
+    };
+    match e.keeper().tx_floor(key) {
+        Some(floor) => {
+            *out = floor;
+            DONE
+        }
+        None => NONE,
+    }
+}
+
+/// Shows the highest packet number that was saved of the receive SA with this SCI and AN under the key of this number.
+#[unsafe(no_mangle)]
+pub extern "C" fn macsec_reserve_rx_floor(
+    e: &mut Endpoint,
+    sci: &[u8; 8],
+    an: u8,
+    key: u16,
+    out: &mut u64,
+) -> u32
+    ensures status { result ≡ status_of_an e.old.state (key_after (an_of an) (key_number_of key)) (rx_floor (sci_of sci.now) an) }
+    ensures same { e.new.state ≡ e.old.state }
+    ensures shown { IfSome (found_at e.old.state (key_after (an_of an) (key_number_of key)) (rx_floor (sci_of sci.now) an)) (λ floor. out.new ≡ floor) }
+    ensures kept { IfNone (found_at e.old.state (key_after (an_of an) (key_number_of key)) (rx_floor (sci_of sci.now) an)) (out.new ≡ out.old) }
+{
+    if !e.is_made() {
+        return EMPTY;
+    }
+    let an = match an_of(an) {
+        Ok(an) => an,
+        Err(fault) => return fault.status(),
+    };
+    let key = match key_number_of(key) {
+        Ok(key) => key,
+        Err(fault) => return fault.status(),
+    };
+    match e.keeper().rx_floor(Sci(*sci), an, key) {
+        Some(floor) => {
+            *out = floor;
             DONE
         }
         None => NONE,

@@ -2,7 +2,8 @@
 -- reserved. Without a journal it keeps nothing, and is the machine.
 use Rattle.std.specs.Prelude.{ℕ, ◌+◌, ◌-◌, ◌/◌, ◌^◌, min, option_map, List, [], ◌∷◌, ◌++◌, map, drop, length, replicate, nat_lt, nat_le, not, ◌&&◌, ◌||◌, Bool, true, false, if◌then◌else◌, Option, Some, None}
 use Rattle.std.specs.List.{list_any}
-use Rattle.macsec_suite.specs.KeyRows.{InstalledKey, the_key}
+use Rattle.macsec_suite.specs.KeyRows.{InstalledKey, key_row, the_key}
+use Rattle.macsec_tag.specs.declared.identifiers.Sci.{Sci}
 use Rattle.macsec_suite.specs.declared.refusal.Refusal.TheVariants.{PnFloor}
 use Rattle.macsec_commands.specs.declared.command.Command.{Command}
 use Rattle.macsec_commands.specs.declared.command.Command.TheVariants.{TxSa, RxSa}
@@ -76,6 +77,16 @@ was_reserved before (Some it) = nat_lt 0 it.1 && nat_le it.1 (highest before it.
 abbrev pub is_below_floor : Keeping → Input → Bool
 is_below_floor k (operator_command c) = k.keeps && was_reserved k.before (begins_at k.salt k.secy c)
 is_below_floor k input = false
+
+-- the highest packet number that an earlier run may have used under the key of this number, if there is such a key: in
+-- frames that the endpoint sent
+abbrev pub tx_floor : Keeping → ℕ → Option ℕ
+tx_floor k key = option_map (λ (row : InstalledKey). highest k.before (sending_name k.salt row.bytes)) (key_row k.secy.keys key)
+
+-- and in frames from this SCI that the receive association of this number accepted
+abbrev pub rx_floor : Sci → ℕ → Keeping → ℕ → Option ℕ
+rx_floor sci an k key =
+    option_map (λ (row : InstalledKey). highest k.before (receiving_name (sending_name k.salt row.bytes) sci an)) (key_row k.secy.keys key)
 
 -- ---- steps
 

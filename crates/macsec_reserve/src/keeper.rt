@@ -12,7 +12,7 @@ ghost use Rattle.macsec_secy.specs.State.{start};
 ghost use Rattle.macsec_secy.specs.Step.{client_frame, link_frame, operator_command, uncontrolled_frame};
 ghost use Rattle.macsec_reserve.specs.Answers.{MakesAlone, MakesKeeper, output_of_kept};
 ghost use Rattle.macsec_reserve.specs.Journal.{highest, sending_name};
-ghost use Rattle.macsec_reserve.specs.Keeping.{begins_at, endpoint_input, endpoint_output, is_below_floor, keeping_step, may_go, now_durable, uses_reserved, wanted_for, wanted_last, was_reserved};
+ghost use Rattle.macsec_reserve.specs.Keeping.{begins_at, endpoint_input, endpoint_output, is_below_floor, keeping_step, may_go, now_durable, rx_floor, tx_floor, uses_reserved, wanted_for, wanted_last, was_reserved};
 ghost use Rattle.macsec_reserve.specs.Names.{IsAtHand, entry_of, name_or_none, name_row, names_after};
 ghost use Rattle.macsec_reserve.specs.Replay.{saved_for};
 ghost use Rattle.macsec_reserve.specs.Rests.{RestsAs};
@@ -201,6 +201,31 @@ impl Keeper {
         let name = receiving_name(&key, row.sci, row.an);
         let last = up_to(row.lowest);
         Some(Reservation { name, last })
+    }
+
+    /// The highest packet number that an earlier run may have used to send under the key of this number, if there is
+    /// such a key: 0 if none. A transmit association begins above it.
+    pub fn tx_floor(&self, key: KeyNumber) -> Option<u64>
+        ensures { result ≡ tx_floor self.now key }
+    {
+        match named_key(self.names.as_slice(), key) {
+            None => None,
+            Some(named) => Some(highest(self.before.as_slice(), &named.name)),
+        }
+    }
+
+    /// The highest packet number that was saved of the receive association of this channel and of this number under
+    /// the key of this number, if there is such a key: 0 if none was. The receive association begins above it.
+    pub fn rx_floor(&self, sci: Sci, an: An, key: KeyNumber) -> Option<u64>
+        ensures { result ≡ rx_floor sci an self.now key }
+    {
+        match named_key(self.names.as_slice(), key) {
+            None => None,
+            Some(named) => {
+                let name = receiving_name(&named.name, sci, an);
+                Some(highest(self.before.as_slice(), &name))
+            }
+        }
     }
 
     /// Transmits a client frame, as `Secy::send`, if it uses no packet number that is not reserved.
@@ -405,12 +430,22 @@ fn is_reserved(at: AtHand, row: TxRow) -> bool
 fn name_of(salt: &[u8; 24], names: &[NamedKey], key: KeyNumber) -> [u8; 32]
     ensures { result ≡ name_or_none salt.now (name_row names.now key) }
 {
+    match named_key(names, key) {
+        None => sending_name(salt, &[]),
+        Some(named) => named.name,
+    }
+}
+
+/// The name of the key of this number, if there is such a key.
+fn named_key(names: &[NamedKey], key: KeyNumber) -> Option<NamedKey>
+    ensures { result ≡ name_row names.now key }
+{
     for named in names {
         if named.number == key {
-            return named.name;
+            return Some(*named);
         }
     }
-    sending_name(salt, &[])
+    None
 }
 
 /// Was this packet number not used by an earlier run, and is it reserved?

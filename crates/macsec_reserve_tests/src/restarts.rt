@@ -111,6 +111,7 @@ fn numbers_rise_over_all_runs(rt: HostRuntime) -> Result<(), Fail> {
         let before = reservations(alloc, &journal)?;
         let floor = highest(before.as_slice(), &sending_name(&SALT, &OCTETS));
         assert!(rt; u64::from(last) <= floor, "run {run}");
+        assert!(rt; keeper.tx_floor(key(&rt).number) == Some(floor), "run {run}");
         starts_behind(&rt, &mut keeper, an, floor);
         // Nothing is reserved yet.
         assert!(rt; sent(&rt, &mut keeper).is_none(), "run {run}");
