@@ -165,7 +165,7 @@ durability_needed law =
     refuted (run_of Short false []) (run_of Short false []) (use_of Short) (use_of Short) _ _ short_goes short_goes refl refl
     (law (holds_but IsDurable Short Short false [] _ _ _ _ short_goes short_goes refl refl (λ d. refl) (λ d xpn. refl) (λ d. refl) (λ d. absurd (d refl))))
 
--- the number that a record says of its own name
+-- the record of a name reserves its number
 own_number : (w : Sender) → highest (after w) (sending_name (salt false) bytes) ≡ number_of w
 own_number w = highest_of_one (reserves w (salt false)) (sending_name (salt false) bytes) true (same_octets-refl (sending_name (salt false) bytes))
 

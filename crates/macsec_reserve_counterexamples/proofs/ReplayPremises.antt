@@ -1,10 +1,13 @@
--- The second promise needs each premise: without it there are two runs that meet the others, of which the later one
--- delivers the frame that the earlier one accepted.
+-- The second promise needs each premise: without it there are two runs that meet the others, and the later run delivers
+-- the frame that the earlier one accepted.
 use Rattle.std.proofs.Common.{◌≡◌, ◌≢◌, ℕ, ◌+◌, ◌<◌, ◌≤◌, Bool, true, false, List, [], ◌∷◌, ◌++◌, refl, ap, sym, subst, ◌∙◌, arith, All, Contains}
 use Rattle.std.specs.Prelude.{◌==◌, max, Some, if◌then◌else◌}
 use Rattle.std.proofs.lemmas.List.Elements.{All-cons, All-nil}
 use Rattle.macsec_gcm.specs.Octets.{same_octets}
+use Rattle.sha2.specs.Sha256.{compress, digest_bytes, first_words, hash_after, rounds, schedule, sha256}
 use Rattle.sha2.proofs.Facts256.{length-sha256}
+use Rattle.macsec_tag.specs.declared.identifiers.Sci.{Sci}
+use Rattle.macsec_suite.specs.KeyRows.{the_key}
 use Rattle.macsec_commands.specs.declared.command.Command.TheVariants.{RxDel, RxSa}
 use Rattle.macsec_rx.specs.declared.RxRow.{RxRow}
 use Rattle.macsec_rx.specs.Channels.{rx_row}
@@ -19,12 +22,13 @@ use Rattle.macsec_reserve.specs.declared.reservation.Reservation.{Reservation}
 use Rattle.macsec_reserve.specs.Crashes.{IsReservation}
 use Rattle.macsec_reserve.specs.Entries.{reduced}
 use Rattle.macsec_reserve.specs.Histories.{KeepsDurable, Run, StaysSound, opening, reported}
-use Rattle.macsec_reserve.specs.Journal.{highest, reservations, salt_of}
+use Rattle.macsec_reserve.specs.Journal.{highest, receiving_name, reservations, salt_of, sending_name}
 use Rattle.macsec_reserve.specs.Keeping.{Keeping, KeepingInput, endpoint_input, keeping_after, keeping_step, now_durable}
 use Rattle.macsec_reserve.specs.Replay.{HasSaved, IsAccepted, KeepsAssociation, row_name, saved_for}
+use Rattle.macsec_reserve.proofs.HighestOf.{highest_of_one}
 use Rattle.macsec_reserve.proofs.Reduced.{reduced_reserves}
 use Rattle.macsec_link_counterexamples.proofs.Exchange.{client, first_opens, first_tag}
-use Rattle.macsec_link_counterexamples.proofs.WorkedEnds.{gcm_b, rx_from, sci_a}
+use Rattle.macsec_link_counterexamples.proofs.WorkedEnds.{bytes, gcm_b, rx_from, sci_a}
 use Rattle.macsec_reserve_counterexamples.proofs.Goes.{Goes, command, command_seals, command_step, ended, is_new, link_seals, link_step, next_goes}
 use Rattle.macsec_reserve_counterexamples.proofs.Journals.{journal, salt, salt_is, says}
 use Rattle.macsec_reserve_counterexamples.proofs.Receivers.{Off, Plain, Receiver, Wide, channels_are, frame, goes, heard, heard_sound, inputs, is_heard, judged, judged_as, keys_are, lowest_of, name_of, ready, ready_sound, row_is, verdict_of}
@@ -280,3 +284,50 @@ association_needed =
     (saved_but KeepsTheAssociation Plain deletes again (in_state created) (record (rx_from 1) { on = false }) refl (omega arith) again_goes
     (λ d. absurd (d refl)) (λ d. refl) refl refl (λ d. (0, omega arith, refl)))
     (saves_0 KeepsTheAssociation deletes refl)
+
+-- ---- the later run's journal has another salt
+
+-- the promise of key octets without the premise that the journal keeps its salt
+abbrev pub LawWithoutSameSalt : Run → Run → List ℕ → Sci → ℕ → ℕ → Type 0
+LawWithoutSameSalt run later octets sci an n =
+    HasSaved run (receiving_name (sending_name (salt_of run.journal) octets) sci an) n → KeepsDurable run later →
+    (inputs : List KeepingInput) (frame : List ℕ) (row : RxRow) (delivered : List ℕ) →
+    let s = (keeping_after (opening later) inputs).secy in
+    StaysSound (opening later) inputs → s.options.replay ≡ true → (judgement_of s frame).row ≡ Some row → (judgement_of s frame).delivered ≡ Some delivered →
+    (the_key s.keys row.key).bytes ≡ octets → row.sci ≡ sci → row.an ≡ an → n < (judgement_of s frame).number
+
+-- the journal with the record of the earlier run after a header with the other salt
+abbrev salted : Run
+salted = record { journal = journal true (only_name 1 ∷ []); config = gcm_b; inputs = [] }
+
+salted_names_differ : same_octets name (name_of (salt true)) ≡ false
+unfolding first_words schedule rounds compress hash_after digest_bytes sha256
+salted_names_differ = refl
+
+plain_has_saved : HasSaved (run_with [] (reports Plain 1)) (receiving_name (sending_name (salt_of (journal false [])) bytes) sci_a 0) 1
+plain_has_saved =
+    let it = plain_saved IsDurable in
+    subst (λ (s : List ℕ). HasSaved (run_with [] (reports Plain 1)) (receiving_name (sending_name s bytes) sci_a 0) 1) (sym (salt_is false []))
+    (premises_suffice IsDurable (run_with [] (reports Plain 1)) name 1 it (it.keeps (λ same. cc)) (it.window (λ same. cc)) (it.durable (λ same. cc)))
+
+salted_goes : Goes (opening salted) (inputs Plain) [] (kept (salt true) (reduced (reservations (journal true (only_name 1 ∷ [])))) [] (ready Plain))
+salted_goes =
+    let rs : List Reservation = only_name 1 ∷ [] in
+    let are : All IsReservation rs = is_reservation 1 (omega arith) in
+    let before : List Reservation = reduced (reservations (journal true rs)) in
+    let above : highest before (name_of (salt true)) < lowest_of Plain =
+    omega (arith, reduced_reserves (reservations (journal true rs)) (name_of (salt true)), says true rs are (name_of (salt true)), highest_of_one (only_name 1) (name_of (salt true)) false salted_names_differ) in
+    subst (λ (s : List ℕ). Goes (record (opening salted) { salt = s }) (inputs Plain) [] (kept (salt true) before [] (ready Plain))) (sym (salt_is true rs)) (goes (salt true) before Plain above)
+
+pub same_salt_needed : LawWithoutSameSalt (run_with [] (reports Plain 1)) salted bytes sci_a 0 1 → ⊥
+same_salt_needed law =
+    let it = salted_goes in
+    let s = (keeping_after (opening salted) (inputs Plain)).secy in
+    let same : s ≡ ready Plain = ap (λ (k : Keeping). k.secy) it.ends in
+    let is : judgement_of s (frame first_tag) ≡ judged_as Plain = ap (λ (s' : State). judgement_of s' (frame first_tag)) same ∙ judged Plain first_tag first_opens in
+    let less : 1 < (judgement_of s (frame first_tag)).number =
+    law plain_has_saved (λ n. omega (arith, says true (only_name 1 ∷ []) (is_reservation 1 (omega arith)) n)) (inputs Plain) (frame first_tag) (rx_from 1) (client 1) it.sound
+    (ap (λ (s' : State). s'.options.replay) same) (ap (λ (j : Judgement). j.row) is) (ap (λ (j : Judgement). j.delivered) is)
+    (ap (λ (s' : State). (the_key s'.keys (rx_from 1).key).bytes) same) refl refl in
+    let one : (judgement_of s (frame first_tag)).number ≡ 1 = ap (λ (j : Judgement). j.number) is in
+    omega (arith, less, one)

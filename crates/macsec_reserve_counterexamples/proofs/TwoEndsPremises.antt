@@ -32,7 +32,7 @@ Agree x y SameSuite = x.suite ≡ y.suite
 Agree x y SameKeySalt = is_xpn x.suite ≡ true → x.salt ≡ y.salt
 Agree x y OtherSscis = is_xpn x.suite ≡ true → x.ssci ≢ y.ssci
 
--- of a run of one end and a run of the other, but for one premise
+-- the premises on a run of each end, without one of them
 pub record AreOfTwoEndsBut (left_out : Premise) (run other : Run) : Type 0 where
   pub sci : OtherScis ≢ left_out → run.config.sci ≢ other.config.sci
   pub keys : (p : Premise) → p ≢ left_out → (x y : InstalledKey) → Contains (closing run).secy.keys x → Contains (closing other).secy.keys y → x.bytes ≡ y.bytes → Agree x y p
