@@ -111,7 +111,10 @@ fn numbers_rise_over_all_runs(rt: HostRuntime) -> Result<(), Fail> {
         let before = reservations(alloc, &journal)?;
         let floor = highest(before.as_slice(), &sending_name(&SALT, &OCTETS));
         assert!(rt; u64::from(last) <= floor, "run {run}");
-        assert!(rt; keeper.tx_floor(key(&rt).number) == Some(floor), "run {run}");
+        assert!(rt;
+            keeper.tx_floor(key(&rt).number) == Some(floor),
+            "run {run}"
+        );
         starts_behind(&rt, &mut keeper, an, floor);
         // Nothing is reserved yet.
         assert!(rt; sent(&rt, &mut keeper).is_none(), "run {run}");
@@ -142,12 +145,22 @@ fn refuses_another_file(rt: HostRuntime) {
     assert!(rt; Keeper::open(alloc, CONFIG, &octets).is_ok());
     // A file is created with its header, so a part of it is no journal.
     for length in [0usize, 1, 32, 63] {
-        let fault = Keeper::open(alloc, CONFIG, &octets[..length]).err();
+        let part = &octets[..length];
+        let fault = Keeper::open(alloc, CONFIG, part).err();
         assert!(rt; fault == Some(OpenFault::NotJournal), "{length}");
+        assert!(rt;
+            compacted(alloc, part).err() == Some(CompactFault::NotJournal),
+            "{length}"
+        );
     }
-    assert!(rt; compacted(alloc, &octets[..63]).err() == Some(CompactFault::NotJournal));
-    // No octet of a header can be altered unnoticed, so no journal loses its records by another salt.
-    for k in 0..64usize {
+}
+
+/// No octet of a header can be altered unnoticed, so no journal loses its records by another salt.
+#[test]
+fn refuses_an_altered_header(rt: HostRuntime) {
+    let alloc = rt.alloc();
+    let octets = header(&SALT);
+    for k in 0..octets.len() {
         let mut other = octets;
         other[k] ^= 1;
         let fault = Keeper::open(alloc, CONFIG, &other).err();
