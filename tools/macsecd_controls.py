@@ -53,6 +53,10 @@ CONTROLS: "Dict[str, List[Tuple[str, str, str]]]" = {
                ("config.c", "        explicit_bzero(c->text, c->room);\n", "        c->text[0] = 0;\n"),
                ("confine.c", "syscall(SYS_capset, &header, none) != 0", "0"),
                ("confine.c", "result = restrict_files(state, run);", "(void)restrict_files;")],
+    "soak": [("control.c", "    d->counts.requests++;\n",
+              "    d->counts.requests++;\n    answer[0] = *(char *)memset(__builtin_malloc(4096), 1, 4096);\n"),
+             ("frames.c", "if (got.delivered && deliver(d, &got) == GONE)",
+              "if (got.delivered && d->counts.link_in % 1000 && deliver(d, &got) == GONE)")],
     "hostile": [("control.c", "static char request[REQUEST + 1]", "static char request[64]")],
 }
 

@@ -5,12 +5,16 @@ import contextlib
 import json
 import secrets
 import subprocess
+import threading
 import time
 from typing import Dict, Iterator, List, Tuple
 
 from macsecd_world import End, Failed, Packets, Stream, World, connected, ping, protected, report
 
 KEYS = 4096
+
+# After so many changes of keys a journal is so long that rewriting it can take longer than TAP's queue lasts.
+MANY = 1000
 
 
 class Client:
@@ -105,6 +109,33 @@ def periods(frames: "List[bytes]") -> int:
     return count
 
 
+class Recorder:
+    """The frames on a link with a SecTAG of this SCI, in a thread, until it is stopped."""
+
+    def __init__(self, end: End, sci: str) -> None:
+        self.link, self.sci, self.frames, self.goes_on = Packets(end.namespace, "link0"), sci, [], True
+        self.thread = threading.Thread(target=self.run)
+        self.thread.start()
+
+    def run(self) -> None:
+        """Reads, and keeps the beginning of each frame."""
+        while self.goes_on:
+            self.frames += [it[:20] for it in protected(self.link.frames(0.05), self.sci)]
+
+    def stop(self) -> "List[bytes]":
+        """Stops it. Returns the frames."""
+        self.goes_on = False
+        self.thread.join()
+        self.link.close()
+        return self.frames
+
+
+def dropped(end: End) -> int:
+    """The frames that the client's device dropped before macsecd could read them."""
+    shown = json.loads(end.ip("-j", "-s", "link", "show", "macsec0"))[0]
+    return shown["stats64"]["tx"]["dropped"]
+
+
 def losses(end: End) -> "Dict[str, int]":
     """The counters of frames that were dropped, of those that should be 0."""
     names = ("Late", "NotValid", "NoSAError", "NoSA ", "BadTag", "NoReservation", "Lost", "Refused", "NoEndpoint",
@@ -115,8 +146,8 @@ def losses(end: End) -> "Dict[str, int]":
 def run_rekeys(world: World, rekeys: int, first: int) -> None:
     """Rekeys while datagrams are sent in both directions. Each has to arrive, and each frame has to be counted."""
     a, b = world.ends
-    link = Packets(b.namespace, "link0")
-    before = [losses(end) for end in world.ends]
+    recorder = Recorder(b, a.sci)
+    before, full = [losses(end) for end in world.ends], [dropped(end) for end in world.ends]
     streams = [Stream(a, 0.0005), Stream(b, 0.0005, port=9011)]
     with clients(world) as pair:
         began = time.monotonic()
@@ -125,17 +156,17 @@ def run_rekeys(world: World, rekeys: int, first: int) -> None:
         seconds = time.monotonic() - began
         slowest = max(it.slowest for it in pair)
     counts = [it.stop() for it in streams]
-    frames = protected(link.frames(), a.sci)
-    link.close()
-    for sent, arrived in counts:
-        report(sent == arrived and sent > 100, f"{sent} datagrams were sent and {arrived} arrived")
-    count = periods(frames)
+    full = [dropped(end) - old for end, old in zip(world.ends, full)]
+    for (sent, arrived), lost in zip(counts, full):
+        report(sent == arrived + lost and sent > 100, f"{sent} datagrams were sent, {arrived} arrived, {lost} dropped")
+        report(lost == 0 or rekeys > MANY, f"the client's device has dropped {lost} frames")
+    count = periods(recorder.stop())
     report(rekeys // 2 < count <= rekeys + 1, f"frames of {count} associations in turn, for {rekeys} new keys")
     for end, old in zip(world.ends, before):
         report(losses(end) == old, f"{end.number}: frames were dropped: {losses(end)}, and before {old}")
     taken = [end.log().count("a second one goes on") for end in world.ends]
     print(f"handover: {rekeys} rekeys in {seconds:.1f} s, {taken} second endpoints, {sum(it[0] for it in counts)} "
-          f"datagrams, slowest answer {1000 * slowest:.1f} ms", flush=True)
+          f"datagrams, {full} dropped by a full TAP, slowest answer {1000 * slowest:.1f} ms", flush=True)
 
 
 def check_life_of_keys(world: World, short: bool) -> None:
@@ -151,7 +182,7 @@ def check_life_of_keys(world: World, short: bool) -> None:
             report(next_of(client.end) < number + 1000, "a refused key has changed a packet number")
     report(ping(a) == 3, "no replies while no key is left")
     before = [end.counters() for end in world.ends]
-    run_rekeys(world, 40 if short else 5000, 0)
+    run_rekeys(world, 40 if short else 2500, 0)
     for end, old in zip(world.ends, before):
         report("a second one goes on" in end.log(), "no second endpoint has taken over")
         now = end.counters()

@@ -11,8 +11,8 @@ from macsecd_world import IN, OUT, RX, End, Packets, Stream, World, protected, r
 
 REKEYS = 60
 
-# The octets of an endpoint's memory that a key takes: those of its 4,096 keys are allocated, and first used by a key.
-KEY = 17_900_000 / 4096
+# By how many kB the memory may grow: that of the journal, which is longer after each change of keys.
+JOURNAL = 64
 
 # Words of control lines. None of them forms a line that the endpoint carries out.
 WORDS = "A B key txsa txon rxsa rxsc numbers counters json metrics load own rx tx 0 1 3 4096 ffffffffffffffff #".split()
@@ -56,11 +56,12 @@ class Noise:
         self.injector.close()
 
 
-def memory_of(end: End) -> int:
-    """The resident memory of its macsecd, in kB."""
+def memory_of(end: End, name: str = "VmData:") -> int:
+    """The memory that its macsecd has allocated, or another amount, in kB. What is resident grows as buffers and the
+    places of keys are first used; what is allocated may not."""
     assert end.process is not None
     status = pathlib.Path(f"/proc/{end.process.pid}/status").read_text()
-    return next(int(line.split()[1]) for line in status.splitlines() if line.startswith("VmRSS:"))
+    return next(int(line.split()[1]) for line in status.splitlines() if line.startswith(name))
 
 
 def files_of(end: End) -> int:
@@ -133,10 +134,9 @@ def check_soak(world: World, minutes: float, seed: str) -> None:
         report(sent == arrived and sent > 1000, f"{sent} datagrams were sent and {arrived} arrived")
         print(f"soak: {sent} datagrams were sent and {arrived} arrived", flush=True)
     check_counts(world, before, noise)
-    taken = 2 * (REKEYS - 10) * KEY / 1000
     for end, first, last in zip(world.ends, memory[9], memory[-1]):
-        report(last <= first + taken + 64, f"{end.number}: the memory has grown from {first} to {last} kB")
-        print(f"soak: {end.number}: memory {first} kB after 10 changes of keys and {last} kB after {REKEYS}, of which "
-              f"{taken:.0f} kB are for the keys between", flush=True)
+        report(last <= first + JOURNAL, f"{end.number}: the memory has grown from {first} to {last} kB")
+        print(f"soak: {end.number}: {first} kB were allocated after 10 changes of keys and {last} kB after {REKEYS}; "
+              f"{memory_of(end, 'VmRSS:')} kB are resident", flush=True)
     print(f"soak: {sum(it.requests for it in noise)} requests, slowest answer {1000 * slowest:.1f} ms, files {files}, "
           f"dropped {[losses(end) for end in world.ends]}", flush=True)
