@@ -34,7 +34,7 @@ void message_of_errno(const char *form, ...) __attribute__((format(printf, 1, 2)
 
 /* ---- words.c: the words of a line ---- */
 
-/* The most words of a line that are found, the octets of a word that is copied, and those of an SCI as text. */
+/* The most words of a line that are found, and the octets of a word that is copied and of an SCI as text. */
 enum { WORDS = 9, WORD = 64, SCI_TEXT = 17 };
 
 struct words {
@@ -207,7 +207,7 @@ void numbers_close(struct numbers *n, macsec_endpoint *e);
 
 /* Allocates locked memory. Returns 0, or the exit status after a message. */
 int keys_open(void);
-/* To be called when a line was carried out: keeps the line of a key, and wipes that of a retired one. */
+/* To be called when a line was carried out: keeps the line of a new key, and wipes the line of a retired one. */
 void keys_note(const struct words *w);
 /* Is there a key of this number that is not retired? */
 bool keys_has(uint64_t number);
@@ -215,16 +215,16 @@ bool keys_has(uint64_t number);
 const char *keys_line(size_t number, size_t *length);
 void keys_wipe(void);
 
-/* ---- totals.c: the endpoint's counters, with those of the endpoints from which it has taken over ---- */
+/* ---- totals.c: counters over all endpoints that have taken over from each other ---- */
 
 enum { OWN_COUNTERS = 11, TX_COUNTERS = 4, RX_COUNTERS = 6 };
 
 /* The values of the endpoint's counters and of its transmit channel's, in the order of the library's structs; 0 if
  * there is no endpoint. */
 void totals_own(const macsec_endpoint *e, uint64_t own[OWN_COUNTERS], uint64_t tx[TX_COUNTERS]);
-/* Those of a receive channel, or, if `an` is not -1, of an association. Returns the library's status. */
+/* The values of a receive channel, or, if `an` is not -1, of an association. Returns the library's status. */
 uint32_t totals_rx(const macsec_endpoint *e, const uint8_t sci[8], int an, uint64_t values[RX_COUNTERS]);
-/* Adds the counters of an endpoint that ends to those of the next one. */
+/* Keeps the counters of an endpoint that ends, so that the next one's are added to them. */
 void totals_carry(const macsec_endpoint *e);
 /* To be called when a line was carried out: a channel or an association that was deleted counts no more. */
 void totals_note(const struct words *w);
@@ -282,7 +282,7 @@ void answer_metrics(struct text *t, const struct device *d);
 
 /* ---- requests.c: requests and their answers ---- */
 
-/* The most octets of a request: those of `load` with its lines. */
+/* The most octets of a request, which is `load` with its lines. */
 enum { REQUEST_MAX = 128 * 1024 };
 
 /* Answers a request of a client, which ends with a zero and may have others. */

@@ -1,5 +1,5 @@
-"""A second endpoint takes over: after the last key of an endpoint's life, and for lines of which all are carried out or
-none."""
+"""A second endpoint takes over: after the last key of an endpoint's life, and for lines that are all carried out, or
+none is."""
 
 import contextlib
 import json
@@ -33,7 +33,7 @@ class Client:
         return answer
 
     def carry_out(self, *lines: str) -> None:
-        """Carries out lines, each of which has to be done."""
+        """Carries out lines. None may be refused."""
         for line in lines:
             answer = self.ask(line)
             if not answer.startswith("ok"):
@@ -191,7 +191,7 @@ def check_life_of_keys(world: World, short: bool) -> None:
 
 
 def channel_is_sum(end: End) -> None:
-    """The counters of associations: those of a new one begin at 0, and the channel's have all."""
+    """The counters of a new association begin at 0, and the channel's have all."""
     peer = f"02000000000{3 - end.number}0001"
     c = end.counters()
     of_sas = sum(value for name, value in c.items() if name.startswith(peer) and name.endswith(" InPktsOK"))
@@ -205,7 +205,7 @@ def next_of(end: End) -> int:
 
 
 def check_load(a: End, macsecctl: "List[str]") -> None:
-    """Lines of which all are carried out or none."""
+    """Lines that are all carried out, or none is."""
     peer = a.world.ends[2 - a.number]
     with contextlib.closing(connected(a.socket, 5)) as it:
 
@@ -251,7 +251,7 @@ def check_load(a: End, macsecctl: "List[str]") -> None:
 
 
 def check_macsecctl(a: End, macsecctl: "List[str]") -> None:
-    """macsecctl with lines, of which all are carried out or none."""
+    """macsecctl with lines that are all carried out, or none is."""
     def told(lines: str, *words: str) -> "Tuple[int, str]":
         it = subprocess.run([*macsecctl, *words], input=lines, capture_output=True, text=True)
         return it.returncode, it.stdout

@@ -11,7 +11,7 @@ from macsecd_world import IN, OUT, RX, End, Packets, Stream, World, protected, r
 
 REKEYS = 60
 
-# By how many kB the memory may grow: that of the journal, which is longer after each change of keys.
+# By how many kB the memory may grow, since the journal is longer after each change of keys.
 JOURNAL = 64
 
 # Words of control lines. None of them forms a line that the endpoint carries out.
@@ -104,7 +104,7 @@ def check_counts(world: World, before: "List[Dict[str, int]]", noise: "List[Nois
 
 
 def check_soak(world: World, minutes: float, seed: str) -> None:
-    """The run. Datagrams, all of which have to arrive, 60 changes of keys, and noise in both directions."""
+    """The run: datagrams, which all have to arrive, 60 changes of keys, and noise in both directions."""
     a, b = world.ends
     link = Packets(b.namespace, "link0")
     streams = [Stream(a, 0.002, 400), Stream(b, 0.002, 400, port=9011)]
