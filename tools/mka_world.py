@@ -296,14 +296,15 @@ class Ping:
             thread.start()
 
     def send(self) -> None:
-        """Sends until it is stopped. What the system refuses has no reply either."""
+        """Sends until it is stopped, and catches up if it is late. What the system refuses has no reply either."""
+        begun = time.monotonic()
         while self.goes_on:
             octets = struct.pack("!BBHHHI", 8, 0, 0, self.name, self.sent & 0xFFFF, self.sent) + bytes(48)
             octets = octets[:2] + struct.pack("!H", checksum(octets)) + octets[4:]
             with contextlib.suppress(OSError):
                 self.socket.sendto(octets, (self.target, 0))
             self.sent += 1
-            time.sleep(self.interval)
+            time.sleep(max(0.0005, begun + self.sent * self.interval - time.monotonic()))
 
     def receive(self) -> None:
         """Notes replies until it is stopped, and for a second longer."""
