@@ -231,7 +231,7 @@ class World:
         return self
 
     def forward_eapol(self, forwards: bool) -> None:
-        """Lets the bridge forward frames to 01-80-c2-00-00-03, or drop them, as it does unless it is told."""
+        """Lets the bridge forward frames to 01-80-c2-00-00-03, or drop them, as it does by default."""
         mask = "8" if forwards else "0"
         call("ip", "-n", self.hub, "link", "set", "hub0", "type", "bridge", "group_fwd_mask", mask)
 

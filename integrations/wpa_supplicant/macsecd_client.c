@@ -60,8 +60,8 @@ static void macsecd_try_later(struct macsecd_client *c)
 }
 
 
-/* An answer that comes late must not be taken for that of a later request, so
- * a connection without an answer is of no use any more. */
+/* An answer that comes late must not be taken for the answer to a later
+ * request, so a connection without an answer is of no use any more. */
 void macsecd_lost(struct macsecd_client *c, const char *why)
 {
 	wpa_msg(c->ctx, MSG_ERROR, "macsecd: %s: %s", c->path, why);
