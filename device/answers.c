@@ -58,6 +58,33 @@ void answer_result(struct text *t, const struct result *r) {
         text_add(t, "fault %s\n", macsec_status_name(r->status));
 }
 
+/* ---- What the library prints ---- */
+
+/* Takes the number 1 and the space from the beginning of each line. */
+static size_t without_number(char *octets, size_t length) {
+    size_t kept = 0;
+    bool begins = true;
+    for (size_t i = 0; i < length; i++) {
+        if (begins && i + 1 < length && octets[i] == '1' && octets[i + 1] == ' ')
+            i += 2;
+        begins = i < length && octets[i] == '\n';
+        if (i < length)
+            octets[kept++] = octets[i];
+    }
+    return kept;
+}
+
+void answer_line(struct text *t, macsec_endpoint *e, const char *line) {
+    char *octets = t->octets + t->length;
+    size_t written = 0, room = t->room - t->length;
+    struct result r = { NULL, MACSEC_OK, 0 };
+    r.status = macsec_answer(e, 1, (const uint8_t *)line, strlen(line), (uint8_t *)octets, room, &written);
+    if (r.status == MACSEC_OK)
+        t->length += without_number(octets, written);
+    else
+        answer_result(t, &r);
+}
+
 /* ---- Lines ---- */
 
 static void add_lines(struct text *t, const char *before, const char *const *names, const uint64_t *values, int count) {
@@ -113,15 +140,6 @@ uint32_t answer_rx_number(struct text *t, const macsec_endpoint *e, const uint8_
     number_text(sa.lowest, sa.lowest_high, lowest);
     text_add(t, "rx %s %u %u %s %s %s\n", name, an, sa.key, next, lowest, sa.on ? "on" : "off");
     return status;
-}
-
-void answer_numbers(struct text *t, const macsec_endpoint *e) {
-    uint8_t sci[8];
-    for (uint8_t an = 0; an < MACSEC_AN_COUNT; an++)
-        (void)answer_tx_number(t, e, an); /* nothing is added for one that does not exist */
-    for (size_t place = 0; macsec_get_rx_sc(e, place, sci) == MACSEC_OK; place++)
-        for (uint8_t an = 0; an < MACSEC_AN_COUNT; an++)
-            (void)answer_rx_number(t, e, sci, an);
 }
 
 void answer_counts(struct text *t, const struct counts *c) {

@@ -268,9 +268,10 @@ void text_add(struct text *t, const char *form, ...) __attribute__((format(print
 void sci_text(const uint8_t sci[8], char text[SCI_TEXT]);
 /* The answer to a command. */
 void answer_result(struct text *t, const struct result *r);
-/* Counters and packet numbers, as docs/SCRIPT.md has them, without the number of a line. */
+/* What `macsec run` prints for the line `A counters` or `A numbers`, without the number of the line. */
+void answer_line(struct text *t, macsec_endpoint *e, const char *line);
+/* The same by the device, with the counters of endpoints from which this one has taken over. */
 void answer_counters(struct text *t, const macsec_endpoint *e);
-void answer_numbers(struct text *t, const macsec_endpoint *e);
 /* The line of one association. Returns the library's status. */
 uint32_t answer_tx_number(struct text *t, const macsec_endpoint *e, uint8_t an);
 uint32_t answer_rx_number(struct text *t, const macsec_endpoint *e, const uint8_t sci[8], uint8_t an);

@@ -25,12 +25,8 @@ static void answer_one_number(struct device *d, struct text *t, const struct wor
 
 /* Adds the lines of all associations. */
 static void answer_all_numbers(struct device *d, struct text *t) {
-    const struct result none = { NULL, MACSEC_E_EMPTY, 0 };
     size_t before = t->length;
-    if (!endpoint_is_open(d))
-        answer_result(t, &none);
-    else
-        answer_numbers(t, d->endpoint);
+    answer_line(t, d->endpoint, "A numbers");
     if (t->length == before && !t->full)
         text_add(t, "none\n"); /* an answer without octets would look like the end of the connection */
 }
@@ -42,7 +38,7 @@ static bool answer_reader(struct device *d, struct text *t, const struct words *
     else if (words_is(w, 0, "numbers") && (words_is(w, 1, "tx") || words_is(w, 1, "rx")))
         answer_one_number(d, t, w);
     else if (words_are(w, 2, "A", "counters"))
-        answer_counters(t, d->endpoint);
+        answer_line(t, d->endpoint, "A counters");
     else if (w->count != 1)
         return false;
     else if (words_is(w, 0, "json"))
