@@ -138,6 +138,9 @@ CALLS = {
     "reserve_wanted": (c_uint8, c_uint64, _TO_FILL),
     "reserve_to_save": (_SCI, c_uint8, _TO_FILL),
     "reserve_granted": (c_char_p,),
+    "reserve_tx_floor": (c_uint16, _TO_FILL),
+    "reserve_rx_floor": (_SCI, c_uint8, c_uint16, _TO_FILL),
+    "answer_raw": (c_uint32, c_char_p, c_size_t, _TO_FILL, c_size_t, _TO_FILL),
 }
 # The calls without a handle.
 FREE_CALLS = {

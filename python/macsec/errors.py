@@ -48,8 +48,9 @@ MEANINGS = {
     Status.Ends: "the line is in a wrong place, or its tag form does not fit its SCI",
     Status.LineLong: "the line has more than 20000 octets",
     Status.ScriptLong: "the text has more than 1048576 octets or 65536 lines",
-    Status.NotJournal: "the octets are not a journal, or one of another version",
+    Status.NotJournal: "the octets are no journal, one of another version, or one with a damaged header",
     Status.NotRecord: "the octets are not a record of a journal",
+    Status.AnswerLong: "the buffer is too small for the answer to the line",
 }
 
 

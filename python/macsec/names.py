@@ -71,6 +71,7 @@ class Status(_Number):
     ScriptLong = 52
     NotJournal = 53
     NotRecord = 54
+    AnswerLong = 55
 
 
 class Suite(IntEnum):

@@ -280,6 +280,31 @@ class SecY:
         octets = _text(line)
         self._call("command_line_raw", octets, len(octets))
 
+    def answer(self, line: Union[str, Octets], number: int = 1) -> str:
+        """Carries out a line of a script at end A, and returns what `macsec run` prints for it as line `number`: for a
+        command, `A counters`, `A numbers` or a blank line. A line that is wrong or refused changes nothing, and its
+        text says so.
+
+        >>> SecY("0200000000010001").answer("A txon 0", 7)
+        '7 refused 13 NoSa\\n'
+        """
+        octets, of = _text(line), number_of(number, 32, "number")
+        status, written, out = self.answer_within(of, octets, 4096)
+        while status == Status.AnswerLong:
+            status, written, out = self.answer_within(of, octets, written)
+        if status in (Status.Empty, Status.Memory):
+            raise error(status)
+        return out[:written].decode("ascii")
+
+    def answer_within(self, number: int, line: bytes, room: int) -> "tuple[int, int, bytes]":
+        """The status of the line, how many octets its answer has or needs, and the buffer of so many octets."""
+        out, written = ctypes.create_string_buffer(room + 1), ctypes.c_size_t()
+        with self._lock:
+            status = self._library.macsec_answer_raw(
+                self._handle, number, line, len(line), ctypes.addressof(out), room, ctypes.byref(written)
+            )
+        return status, written.value, out.raw[:room]
+
     def set_protect(self, on: bool) -> None:
         """Protects client frames, or sends them as they are."""
         self._call("set_protect", bool(on))
@@ -375,6 +400,15 @@ class SecY:
         shown = self._shown(_library.Record, "reserve_to_save", sci_of(sci), number_of(an, 8, "an"))
         return bytes(shown.octets)
 
+    def reserve_tx_floor(self, key: int) -> int:
+        """The highest packet number that earlier runs reserved under a key, 0 if none. An association begins above it."""
+        return int(self._shown(ctypes.c_uint64, "reserve_tx_floor", number_of(key, 16, "key")).value)
+
+    def reserve_rx_floor(self, sci: SciLike, an: int, key: int) -> int:
+        """The highest packet number that earlier runs saved of a receive association under a key, 0 if none."""
+        words = sci_of(sci), number_of(an, 8, "an"), number_of(key, 16, "key")
+        return int(self._shown(ctypes.c_uint64, "reserve_rx_floor", *words).value)
+
     def reserve_granted(self, record: Octets) -> None:
         """A record is on the disk, where every later run will read it."""
         octets = octets_of(record)
@@ -452,14 +486,14 @@ def _counters(shown: Any, names: "tuple[str, ...]") -> Dict[str, int]:
 
 
 def journal_header(salt: Octets) -> bytes:
-    """The header of a new journal. `salt` is 32 random octets: other journals name the same key otherwise.
+    """The header of a new journal. `salt` is 24 random octets: other journals name the same key otherwise.
 
-    >>> len(journal_header(bytes(32)))
+    >>> len(journal_header(bytes(24)))
     64
     """
     octets = octets_of(salt)
-    if len(octets) != 32:
-        raise ValueError(f"the salt of a journal has 32 octets, not {len(octets)}")
+    if len(octets) != 24:
+        raise ValueError(f"the salt of a journal has 24 octets, not {len(octets)}")
     made = _library.Record()
     _library.load().macsec_journal_header(octets, ctypes.byref(made))
     return bytes(made.octets)

@@ -14,7 +14,7 @@ from macsec.secy import sak_of
 from macsec.names import ENDPOINT_COUNTERS, RX_COUNTERS, TX_COUNTERS
 
 handles: "List[Optional[SecY]]" = [None] * 4
-EMPTY, TAKEN, NOT_FOUND = 32, 33, 40
+EMPTY, TAKEN, NOT_FOUND, MEMORY, ANSWER_LONG = 32, 33, 40, 41, 55
 
 
 def octets(word: str) -> bytes:
@@ -102,6 +102,16 @@ def done(call: "Callable[..., object]") -> "Callable[..., str]":
     return made
 
 
+def answered(it: "Optional[SecY]", number: str, line: str, room: str) -> "tuple[str, int]":
+    """The answer to a line, with octets of 7 where nothing is written."""
+    size = int(room)
+    if it is None:
+        return f" 0 {hex_of(bytes([7]) * size)}", EMPTY
+    status, length, out = it.answer_within(int(number), octets(line), size)
+    text = b"" if status in (MEMORY, ANSWER_LONG) else out[:length]
+    return f" {length} {hex_of(text + bytes([7]) * (size - len(text)))}", status
+
+
 CALLS: "Dict[str, Callable[..., str]]" = {
     "send": send,
     "receive": receive,
@@ -137,6 +147,8 @@ CALLS: "Dict[str, Callable[..., str]]" = {
     "reserve_wanted": wanted,
     "reserve_to_save": lambda it, sci, an: f" {it.reserve_to_save(sci, int(an)).hex()}",
     "reserve_granted": done(lambda it, record: it.reserve_granted(octets(record))),
+    "reserve_tx_floor": lambda it, key: f" {it.reserve_tx_floor(int(key))}",
+    "reserve_rx_floor": lambda it, sci, an, key: f" {it.reserve_rx_floor(sci, int(an), int(key))}",
 }
 # The calls without a handle.
 FREE_CALLS: "Dict[str, Callable[..., tuple[str, int]]]" = {
@@ -150,7 +162,7 @@ UNSHOWN = {
     "get_counters": " 7" * 11, "get_tx_counters": " 7" * 4, "get_rx_counters": " 7" * 6, "get_rx_sa_counters": " 7" * 6,
     "get_removed_counters": " 7" * 6, "get_rx_sc": " " + "07" * 8, "get_tx_sa": f" {wide(7 << 64 | 7)} 7 0 0",
     "get_rx_sa": f" {wide(7 << 64 | 7)} {wide(7 << 64 | 7)} 7 7 0", "reserve_wanted": " " + "07" * 64,
-    "reserve_to_save": " " + "07" * 64,
+    "reserve_to_save": " " + "07" * 64, "reserve_tx_floor": " 7", "reserve_rx_floor": " 7",
 }  # fmt: skip
 
 
@@ -196,6 +208,8 @@ def answer(name: str, handle: int, words: "List[str]") -> "tuple[str, int]":
     if name in FREE_CALLS:
         return FREE_CALLS[name](*words)
     it = handles[handle]
+    if name == "answer":
+        return answered(it, *words)
     if it is None:
         return UNSHOWN.get(name, ""), EMPTY
     try:
