@@ -401,7 +401,7 @@ class SecY:
         return bytes(shown.octets)
 
     def reserve_tx_floor(self, key: int) -> int:
-        """The highest packet number that earlier runs reserved under a key, 0 if none. An association begins above it."""
+        """The highest packet number that earlier runs reserved under a key, 0 if none. Associations begin above it."""
         return int(self._shown(ctypes.c_uint64, "reserve_tx_floor", number_of(key, 16, "key")).value)
 
     def reserve_rx_floor(self, sci: SciLike, an: int, key: int) -> int:

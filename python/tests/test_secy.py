@@ -161,7 +161,7 @@ class Journals(unittest.TestCase):
     """What a file would hold is a list of octets here."""
 
     def test_no_packet_number_twice(self) -> None:
-        journal, frames, numbers, last = macsec.journal_header(bytes(range(32))), client_frames(9), [], 0
+        journal, frames, numbers, last = macsec.journal_header(bytes(range(24))), client_frames(9), [], 0
         for _ in range(2):
             with SecY(SENDER, journal=journal) as a:
                 a.install_key(0, KEYS[0])
@@ -184,7 +184,7 @@ class Journals(unittest.TestCase):
         self.assertEqual(len(macsec.journal_compacted(journal)), 128)
 
     def test_faults(self) -> None:
-        journal = macsec.journal_header(bytes(32))
+        journal = macsec.journal_header(bytes(24))
         config = f"end A gcm128 {SENDER} 1546 sci\n"
         for call in (
             lambda: SecY(SENDER, journal=journal[1:]), lambda: SecY.configure(config, b""),
@@ -193,7 +193,7 @@ class Journals(unittest.TestCase):
             lambda: SecY.configure(config, journal).reserve_granted(bytes(63)),
         ):  # fmt: skip
             self.assertRaises(macsec.JournalFault, call)
-        self.assertRaises(ValueError, macsec.journal_header, bytes(31))
+        self.assertRaises(ValueError, macsec.journal_header, bytes(23))
 
     def test_to_save(self) -> None:
         with receiver(Suite.gcm128, KEYS[0]) as b:
@@ -201,7 +201,7 @@ class Journals(unittest.TestCase):
                 b.receive(link)
             record = b.reserve_to_save(SENDER, 0)
             self.assertRaises(macsec.NotFound, b.reserve_to_save, SENDER, 1)
-        with SecY(RECEIVER, journal=macsec.journal_header(bytes(32)) + record) as b:
+        with SecY(RECEIVER, journal=macsec.journal_header(bytes(24)) + record) as b:
             b.install_key(0, KEYS[0])
             b.add_rx_sc(SENDER)
             self.assertRaises(macsec.Refused, b.add_rx_sa, SENDER, 0, 0, 3)
