@@ -542,7 +542,7 @@ static inline uint32_t macsec_reserve_configure(macsec_endpoint *e, const uint8_
                                         macsec_octets(journal, length), length, line);
 }
 
-/* The record to write next for a transmit association: it reserves `amount` numbers from its next one on.
+/* The record to write next for a transmit association: it reserves the numbers up to its next one plus `amount`.
  * MACSEC_E_NOT_FOUND if there is no such association, or if half of `amount` are still reserved for it. */
 uint32_t macsec_reserve_wanted(const macsec_endpoint *e, uint8_t an, uint64_t amount, macsec_record *out);
 /* The record that saves the lowest acceptable packet number of a receive association, or MACSEC_E_NOT_FOUND. */

@@ -387,8 +387,8 @@ class SecY:
     # Reservations. include/macsec.h says in which order a caller makes these calls and writes its file.
 
     def reserve_wanted(self, an: int, amount: int) -> Optional[bytes]:
-        """The record to write next for a transmit association: it reserves `amount` packet numbers. None if there is no
-        such association, or if half of `amount` are still reserved."""
+        """The record to write next for a transmit association: it reserves the packet numbers up to its next one plus
+        `amount`. None if there is no such association, or if half of `amount` are still reserved."""
         try:
             words = number_of(an, 8, "an"), number_of(amount, 64, "amount")
             return bytes(self._shown(_library.Record, "reserve_wanted", *words).octets)
