@@ -1,11 +1,6 @@
-//! Tests of scripts, of captures, and of the whole program except `main`. They check what no clause of
-//! `macsec_script_parser`, `macsec_script_printer`, `macsec_script`, `macsec_capture`, `macsec_cli_runs` and
-//! `macsec_cli_args` says, and use only public calls.
+//! Tests of the sentences of faults and refusals, which no clause states and the program does not print. Whatever it
+//! prints is in `macsec_examples` and in `tools/runs`.
 #![tactic(auto)]
 
 #[cfg(test)]
-mod captures;
-#[cfg(test)]
-mod program;
-#[cfg(test)]
-mod scripts;
+mod sentences;
