@@ -1,12 +1,10 @@
-//! Tests of two ends over a link. They test what no clause of `macsec_link` states and no script shows: that worlds,
-//! steps and runs do not return `Memory` if there is memory; a full link; the logs; and a hostile link that alters each
-//! bit of a frame.
+//! Tests of two ends over a link. They test what no clause of `macsec_link` states and no script shows: that worlds and
+//! steps do not return `Memory` if there is memory; a full link; and the logs. `tools/altered-frames` alters each bit of
+//! a frame.
 #![tactic(auto)]
 
 #[cfg(test)]
 mod fixture;
-#[cfg(test)]
-mod hostile;
 #[cfg(test)]
 mod limits;
 #[cfg(test)]

@@ -1,25 +1,23 @@
 //! A full link, and the creation of a world.
 
-use crate::fixture::{
-    A, B, Protection, an, associated, client, frame, make, result_of, run_of, send, verdict_on,
-    world_of,
-};
-use macsec_link::{
-    End, EndConfig, Event, NewFault, Outcome, Suite, TagForm, Verdict, World, WorldFault,
-};
+use crate::fixture::{A, B, world_after};
+use macsec_link::{An, End, EndConfig, Event, Frame, NewFault, TagForm, World, WorldFault};
+use macsec_script_parser::{Line, parse_line};
 use macsec_secy::{Counters, RxCounters, RxRow, TxCounters, TxRow};
 use std::alloc::Global;
 use std::process::Abort;
 use std::test::Fail;
 
-/// The fault of creating a world with these ends.
-fn fault_of_new(alloc: Global, a: EndConfig, b: EndConfig) -> Option<WorldFault> {
-    world_of(alloc, a, b).err()
-}
-
-/// The fault of a run with these ends and no events.
-fn fault_of_run(alloc: Global, a: EndConfig, b: EndConfig) -> Option<WorldFault> {
-    run_of(alloc, a, b, &[]).err()
+/// The faults of creating a world with these ends, and of a run with these ends and no events.
+fn faults_of(
+    alloc: Global,
+    a: EndConfig,
+    b: EndConfig,
+) -> (Option<WorldFault>, Option<WorldFault>) {
+    (
+        World::new(alloc, a, b).err(),
+        World::run(alloc, a, b, &[]).err(),
+    )
 }
 
 /// A's fault comes before B's.
@@ -37,36 +35,31 @@ fn creations(rt: HostRuntime) {
         (A, small_b, End::B, NewFault::MaxFrame),
     ] {
         let wanted = Some(WorldFault::Make(end, fault));
-        assert!(rt; fault_of_new(rt.alloc(), a, b) == wanted);
-        assert!(rt; fault_of_run(rt.alloc(), a, b) == wanted);
+        assert!(rt; faults_of(rt.alloc(), a, b) == (wanted, wanted));
     }
 }
 
-/// Puts a frame of one octet on the link, where it gets this number.
-fn inject(rt: &impl Abort, alloc: Global, world: &mut World, n: u32) -> Result<(), Fail> {
-    let event = Event::Inject(frame(alloc, &[0])?);
-    make(rt, world, &event, n);
-    Ok(())
-}
+/// A frame is encrypted at A, and passes at B.
+const PASSED: &str = "end A gcm128 12153524c0895e81 1518 sci
+end B gcm128 0000000000000002 1518 auto
+A key 0 ad7a2bd03eac835a6f620fdcb506b345 0
+A txsa 0 0 1 conf
+A txon 0
+B key 0 ad7a2bd03eac835a6f620fdcb506b345 0
+B rxsc 12153524c0895e81
+B rxsa 12153524c0895e81 0 0 1
+B rxon 12153524c0895e81 0
+A send ffffffffffff0200000000010800
+B deliver 0
+";
 
-/// Sends a frame over the SA and delivers it, then fills the link to 65,536 frames with 65,535 frames of one octet.
-fn fill(rt: &impl Abort, alloc: Global, world: &mut World) -> Result<(), Fail> {
-    send(rt, alloc, world, 0, 0)?;
-    let passed = verdict_on(rt, world, 0)?;
-    assert!(rt; passed == (Verdict::Passed, true));
-    for n in 1..65536 {
-        inject(rt, alloc, world, n)?;
+/// Fills the link, which has one frame, to 65,536 frames with frames of one octet. Returns whether all were put on it.
+fn fill(world: &mut World, octet: &Event) -> bool {
+    let mut is_done = true;
+    for _ in 1..65536 {
+        is_done = is_done && world.step(octet).is_ok();
     }
-    Ok(())
-}
-
-fn is_fault(got: &Result<Outcome, WorldFault>, fault: WorldFault) -> bool {
-    matches!(got, Err(found) if *found == fault)
-}
-
-/// This event fails with this fault.
-fn assert_fault(rt: &impl Abort, world: &mut World, event: &Event, fault: WorldFault) {
-    assert!(rt; is_fault(&result_of(world, event), fault));
+    is_done
 }
 
 /// What an end shows: its counters, and the packet numbers of the SA.
@@ -80,84 +73,72 @@ struct Shown {
     rx_row: Option<RxRow>,
 }
 
-fn state_of(rt: &impl Abort, world: &World, end: End) -> Shown {
+fn state_of(world: &World, end: End, an: An) -> Shown {
     let secy = world.end(end);
     Shown {
         counters: secy.counters(),
         tx_counters: secy.tx_counters(),
         rx_counters: secy.rx_counters(A.sci),
-        rx_sa_counters: secy.rx_sa_counters(A.sci, an(rt, 0)),
-        tx_row: secy.tx_row(an(rt, 0)),
-        rx_row: secy.rx_row(A.sci, an(rt, 0)),
+        rx_sa_counters: secy.rx_sa_counters(A.sci, an),
+        tx_row: secy.tx_row(an),
+        rx_row: secy.rx_row(A.sci, an),
     }
 }
 
-/// One frame was encrypted at A, and passed at B.
-fn assert_counted(rt: &impl Abort, a: &Shown, b: &Shown) {
-    assert!(rt; a.tx_counters.out_pkts_encrypted == 1);
-    assert!(rt; matches!(a.tx_row, Some(row) if row.next == 2));
-    assert!(rt; matches!(b.rx_counters, Some(counters) if counters.in_pkts_ok == 1));
-    assert!(rt; b.rx_sa_counters == b.rx_counters);
-    assert!(rt; matches!(b.rx_row, Some(row) if row.next == 2));
+/// Whether one frame was encrypted at A, and passed at B.
+fn are_counted(a: &Shown, b: &Shown) -> bool {
+    a.tx_counters.out_pkts_encrypted == 1
+        && matches!(a.tx_row, Some(row) if row.next == 2)
+        && matches!(b.rx_counters, Some(counters) if counters.in_pkts_ok == 1)
+        && b.rx_sa_counters == b.rx_counters
+        && matches!(b.rx_row, Some(row) if row.next == 2)
 }
 
-/// Frames of no octet and of one octet are not put on the link.
-fn assert_no_room(rt: &impl Abort, alloc: Global, world: &mut World) -> Result<(), Fail> {
-    let octet = Event::Inject(frame(alloc, &[0])?);
-    assert_fault(rt, world, &octet, WorldFault::LinkFull);
-    let nothing = Event::Inject(frame(alloc, &[])?);
-    assert_fault(rt, world, &nothing, WorldFault::Short);
-    Ok(())
+/// The events of a full link and their faults: no frame is put on it, no client of A can send, and no client of B, which
+/// has no SA to send on.
+const FAULTS: [(&str, WorldFault); 9] = [
+    ("inject 00", WorldFault::LinkFull),
+    ("B deliver 65536", WorldFault::NoFrame),
+    ("B deliver 1", WorldFault::Short),
+    ("alter 1 1 00", WorldFault::AlterRange),
+    ("alter 0 0 01", WorldFault::LinkFull),
+    ("pad 0", WorldFault::LinkFull),
+    ("A send ffffffffffff0200000000010800", WorldFault::LinkFull),
+    ("A sendu ffffffffffff0200000000010800", WorldFault::LinkFull),
+    ("B send ffffffffffff0200000000010800", WorldFault::LinkFull),
+];
+
+/// The fault of the event of this line.
+fn fault_of(alloc: Global, world: &mut World, line: &str) -> Option<WorldFault> {
+    match parse_line(alloc, line.as_bytes()) {
+        Ok(Some(Line::Event(event))) => world.step(&event).err(),
+        _ => None,
+    }
 }
 
-/// No client of A can send, and no client of B, which has no SA to send on.
-fn assert_unsent(rt: &impl Abort, alloc: Global, world: &mut World) -> Result<(), Fail> {
-    let controlled = Event::Send(End::A, frame(alloc, &client(0))?);
-    assert_fault(rt, world, &controlled, WorldFault::LinkFull);
-    let uncontrolled = Event::SendUncontrolled(End::A, frame(alloc, &client(0))?);
-    assert_fault(rt, world, &uncontrolled, WorldFault::LinkFull);
-    let unassociated = Event::Send(End::B, frame(alloc, &client(0))?);
-    assert_fault(rt, world, &unassociated, WorldFault::LinkFull);
-    Ok(())
-}
-
-/// Each fault of a full link, in its order.
-fn assert_full(rt: &impl Abort, alloc: Global, world: &mut World) -> Result<(), Fail> {
-    assert_no_room(rt, alloc, world)?;
-    assert_fault(
-        rt,
-        world,
-        &Event::Deliver(End::B, 65536),
-        WorldFault::NoFrame,
-    );
-    assert_fault(rt, world, &Event::Deliver(End::B, 1), WorldFault::Short);
-    assert_fault(rt, world, &Event::Alter(1, 1, 0), WorldFault::AlterRange);
-    assert_fault(rt, world, &Event::Alter(0, 0, 1), WorldFault::LinkFull);
-    assert_fault(rt, world, &Event::Pad(0), WorldFault::LinkFull);
-    assert_unsent(rt, alloc, world)
-}
-
-fn are_shown(rt: &impl Abort, world: &World, a: &Shown, b: &Shown) -> bool {
-    state_of(rt, world, End::A) == *a && state_of(rt, world, End::B) == *b
-}
-
-/// Two ends with an SA from A to B, over a full link: no fault changes a counter or a packet number.
-fn check_full(rt: &impl Abort, alloc: Global, world: &mut World) -> Result<(), Fail> {
-    fill(rt, alloc, world)?;
-    let (a, b) = (state_of(rt, world, End::A), state_of(rt, world, End::B));
-    assert_counted(rt, &a, &b);
-    assert_full(rt, alloc, world)?;
-    assert!(rt; are_shown(rt, world, &a, &b));
-    Ok(())
+fn assert_faults(rt: &impl Abort, alloc: Global, world: &mut World) {
+    for (line, fault) in FAULTS {
+        assert!(rt; fault_of(alloc, world, line) == Some(fault), "{line}");
+    }
+    let nothing = Event::Inject(Frame::new(Vec::new(alloc)));
+    assert!(rt; world.step(&nothing).err() == Some(WorldFault::Short));
 }
 
 /// Each fault in its order; no counter and no packet number changes.
+fn check_full(rt: &impl Abort, alloc: Global, world: &mut World) {
+    let an = An::new(0).expect(rt, "an association number");
+    let (a, b) = (state_of(world, End::A, an), state_of(world, End::B, an));
+    assert!(rt; are_counted(&a, &b));
+    assert_faults(rt, alloc, world);
+    let after = (state_of(world, End::A, an), state_of(world, End::B, an));
+    assert!(rt; after == (a, b));
+}
+
 #[test]
 fn full_link(rt: HostRuntime) -> Result<(), Fail> {
-    let protection = Protection {
-        suite: Suite::Gcm128,
-        conf: true,
-    };
-    let mut world = associated(&rt, rt.alloc(), protection)?;
-    check_full(&rt, rt.alloc(), &mut world)
+    let octet = Event::Inject(Frame::new([0].to_vec(rt.alloc())?));
+    let mut world = world_after(&rt, rt.alloc(), PASSED)?;
+    assert!(&rt; fill(&mut world, &octet));
+    check_full(&rt, rt.alloc(), &mut world);
+    Ok(())
 }
