@@ -3,10 +3,6 @@
 mod ends;
 mod records;
 mod runs;
-mod tasks;
-
-use std::alloc::{AllocError, Global};
-use std::test::Fail;
 
 /// A script without a fault.
 const SCRIPT: &str = "end A gcm128 12153524c0895e81 1518 sci\n\
@@ -33,38 +29,21 @@ const RECEIVER: &str = "end A gcm128 0000000000000002 1518 auto\n\
     A rxsa 0200000000010001 0 0 1\n\
     A rxon 0200000000010001 0\n";
 
-/// The header of a capture file in microseconds, and the record of a client frame of 14 octets.
-const HEADER: &str = "d4c3b2a1020004000000000000000000ffff000001000000";
+/// A capture file in microseconds with a client frame of 14 octets twice: a header of 24 octets, and two records of 30.
+const CLIENT: &[u8] =
+    b"\xd4\xc3\xb2\xa1\x02\x00\x04\x00\x00\x00\x00\x00\x00\x00\x00\x00\xff\xff\x00\x00\x01\x00\x00\x00\
+    \x00\x00\x00\x00\x00\x00\x00\x00\x0e\x00\x00\x00\x0e\x00\x00\x00\xff\xff\xff\xff\xff\xff\x02\x00\
+    \x00\x00\x00\x01\x08\x00\
+    \x00\x00\x00\x00\x00\x00\x00\x00\x0e\x00\x00\x00\x0e\x00\x00\x00\xff\xff\xff\xff\xff\xff\x02\x00\
+    \x00\x00\x00\x01\x08\x00";
 
-const RECORD: &str = "00000000000000000e0000000e000000ffffffffffff0200000000010800";
-
-/// The records of what is sent for the client frame with packet numbers 1 and 2. OpenSSL computed their ICVs.
-const SENT_1: &str =
-    "00000000000000002e0000002e000000ffffffffffff02000000000188e5200200000001020000000001000108008e3d3a0bba9402aac21a039e881269e6";
-
-const SENT_2: &str =
-    "00000000000000002e0000002e000000ffffffffffff02000000000188e520020000000202000000000100010800711a359b8f9a2b7c880dca1196f41d67";
-
-/// A capture file with the client frame twice, of 84 octets.
-fn client_file(alloc: Global) -> Result<Vec<u8>, Fail> {
-    octets(alloc, &[HEADER, RECORD, RECORD])
-}
-
-/// A capture file of what is sent for these two frames, of 148 octets.
-fn link_file(alloc: Global) -> Result<Vec<u8>, Fail> {
-    octets(alloc, &[HEADER, SENT_1, SENT_2])
-}
-
-/// The octets of pieces of hex, one after another.
-fn octets(alloc: Global, pieces: &[&str]) -> Result<Vec<u8>, Fail> {
-    let mut text = String::new(alloc);
-    push_all(&mut text, pieces)?;
-    Ok(hex::decode(alloc, text.as_str())?)
-}
-
-fn push_all(text: &mut String, pieces: &[&str]) -> Result<(), AllocError> {
-    for piece in pieces {
-        text.push_str(piece)?;
-    }
-    Ok(())
-}
+/// A capture file of what is sent for these two frames, with packet numbers 1 and 2: a header, and two records of 62.
+/// OpenSSL computed their ICVs.
+const LINK: &[u8] =
+    b"\xd4\xc3\xb2\xa1\x02\x00\x04\x00\x00\x00\x00\x00\x00\x00\x00\x00\xff\xff\x00\x00\x01\x00\x00\x00\
+    \x00\x00\x00\x00\x00\x00\x00\x00\x2e\x00\x00\x00\x2e\x00\x00\x00\xff\xff\xff\xff\xff\xff\x02\x00\
+    \x00\x00\x00\x01\x88\xe5\x20\x02\x00\x00\x00\x01\x02\x00\x00\x00\x00\x01\x00\x01\x08\x00\x8e\x3d\
+    \x3a\x0b\xba\x94\x02\xaa\xc2\x1a\x03\x9e\x88\x12\x69\xe6\
+    \x00\x00\x00\x00\x00\x00\x00\x00\x2e\x00\x00\x00\x2e\x00\x00\x00\xff\xff\xff\xff\xff\xff\x02\x00\
+    \x00\x00\x00\x01\x88\xe5\x20\x02\x00\x00\x00\x02\x02\x00\x00\x00\x00\x01\x00\x01\x08\x00\x71\x1a\
+    \x35\x9b\x8f\x9a\x2b\x7c\x88\x0d\xca\x11\x96\xf4\x1d\x67";

@@ -1,66 +1,113 @@
 //! Runs of scripts and captures with one failing device.
 
-use super::tasks::{Stop, Task};
+use super::{CLIENT, LINK, RECEIVER, SCRIPT, SCRIPT_TEXT, SENDER};
 use macsec_capture::{CaptureFault, Direction, run_capture};
 use macsec_failing_io::{FailingReader, FailingWriter, Fails};
-use macsec_script::{ScriptFault, run_script};
+use macsec_script::run_script;
+use macsec_vectors::{COUNTERS_OF_TWO_RECEIVED, COUNTERS_OF_TWO_SENT};
 use std::alloc::Global;
 use std::process::Abort;
-use std::test::Fail;
 
-/// The devices of a script and of a capture.
-#[derive(Clone, Copy, Debug, PartialEq, Eq)]
+/// A run of a script, or of a capture in a direction: its source, which is the script or the configuration, the capture
+/// file, and what a complete run writes: the output, the text before the counters, and the counters.
+struct Run {
+    direction: Option<Direction>,
+    source: &'static str,
+    input: &'static [u8],
+    output: &'static [u8],
+    lines: &'static str,
+    counters: &'static str,
+}
+
+const OF_SCRIPT: Run = Run {
+    direction: None,
+    source: SCRIPT,
+    input: &[],
+    output: &[],
+    lines: SCRIPT_TEXT,
+    counters: "",
+};
+
+const OF_PROTECTION: Run = Run {
+    direction: Some(Direction::Protect),
+    source: SENDER,
+    input: CLIENT,
+    output: LINK,
+    lines: "2 done\n3 done\n4 done\nrecord 0 link 46\nrecord 1 link 46\n",
+    counters: COUNTERS_OF_TWO_SENT,
+};
+
+const OF_VALIDATION: Run = Run {
+    direction: Some(Direction::Validate),
+    source: RECEIVER,
+    input: LINK,
+    output: CLIENT,
+    lines: "2 done\n3 done\n4 done\n5 done\nrecord 0 OK 14\nrecord 1 OK 14\n",
+    counters: COUNTERS_OF_TWO_RECEIVED,
+};
+
+/// The devices of a run.
+#[derive(Clone, Copy, PartialEq, Eq)]
 enum Place {
-    Script,
-    Config,
+    Source,
     Input,
     Output,
     Text,
 }
 
-/// A device: the part and the name of its fault, and its calls. An entry `(calls, steps)` is that many calls; if one of
-/// them fails, the run is at the stop after that many steps.
-type Device = (Place, &'static str, &'static str, &'static [(usize, usize)]);
+/// The fault of a run: its part and its name.
+type Answer = (&'static str, &'static str);
+
+/// What a run has written when a call fails: how many octets of the output and of the text. Of the device that fails
+/// only a beginning of the whole is written.
+type Stop = (usize, usize);
+
+/// A device: its fault, and its calls. An entry is a number of calls, and where the run is if one of them fails.
+type Device = (Place, Answer, &'static [(usize, Stop)]);
 
 /// A read returns at most 16 octets, and the last one none. The header of a file is written by one call, a record by
 /// two, and a line of a script by one. In a line of a capture each piece (such as `3` and ` done`) and each octet in hex
-/// is one call.
-const OF_SCRIPT: [Device; 2] = [
-    (Place::Script, "script", "Read", &[(13, 0)]),
-    (Place::Text, "script", "Write", &[(4, 0)]),
+/// is one call. The stops of a capture are after the configuration, the header, and each record.
+const DEVICES_OF_SCRIPT: [Device; 2] = [
+    (Place::Source, ("script", "Read"), &[(13, (0, 0))]),
+    (Place::Text, ("script", "Write"), &[(4, (0, 0))]),
 ];
 
-const OF_PROTECTION: [Device; 4] = [
-    (Place::Config, "script", "Read", &[(8, 0)]),
+const DEVICES_OF_PROTECTION: [Device; 4] = [
+    (Place::Source, ("script", "Read"), &[(8, (0, 0))]),
     (
         Place::Input,
-        "pcap",
-        "Read",
-        &[(2, 1), (2, 2), (2, 3), (1, 4)],
+        ("pcap", "Read"),
+        &[(2, (0, 21)), (2, (24, 21)), (2, (86, 38)), (1, (148, 55))],
     ),
-    (Place::Output, "pcap", "Write", &[(1, 1), (2, 3), (2, 4)]),
+    (
+        Place::Output,
+        ("pcap", "Write"),
+        &[(1, (0, 21)), (2, (0, 38)), (2, (0, 55))],
+    ),
     (
         Place::Text,
-        "script",
-        "Write",
-        &[(6, 0), (5, 2), (5, 3), (90, 4)],
+        ("script", "Write"),
+        &[(6, (0, 0)), (5, (24, 0)), (5, (86, 0)), (90, (148, 0))],
     ),
 ];
 
-const OF_VALIDATION: [Device; 4] = [
-    (Place::Config, "script", "Read", &[(12, 0)]),
+const DEVICES_OF_VALIDATION: [Device; 4] = [
+    (Place::Source, ("script", "Read"), &[(12, (0, 0))]),
     (
         Place::Input,
-        "pcap",
-        "Read",
-        &[(2, 1), (4, 2), (4, 3), (1, 4)],
+        ("pcap", "Read"),
+        &[(2, (0, 28)), (4, (24, 28)), (4, (54, 43)), (1, (84, 58))],
     ),
-    (Place::Output, "pcap", "Write", &[(1, 1), (2, 3), (2, 4)]),
+    (
+        Place::Output,
+        ("pcap", "Write"),
+        &[(1, (0, 28)), (2, (0, 43)), (2, (0, 58))],
+    ),
     (
         Place::Text,
-        "script",
-        "Write",
-        &[(8, 0), (7, 2), (7, 3), (282, 4)],
+        ("script", "Write"),
+        &[(8, (0, 0)), (7, (24, 0)), (7, (54, 0)), (282, (84, 0))],
     ),
 ];
 
@@ -68,7 +115,7 @@ const OF_VALIDATION: [Device; 4] = [
 /// SA, at the end of a validation.
 const CHECKED_CALLS: usize = 112;
 
-/// The devices of a run. The source is the script, or the configuration of the capture.
+/// The devices of a run.
 #[derive(Drop)]
 struct Devices<'a> {
     source: FailingReader<'a>,
@@ -77,52 +124,35 @@ struct Devices<'a> {
     text: FailingWriter,
 }
 
-/// The fault of a run: its part and its name.
-#[derive(Clone, Copy, PartialEq, Eq)]
-struct Answer(&'static str, &'static str);
-
 /// `fails` if the failing device is this one, else no failure.
 fn if_at(place: Place, other: Place, fails: Fails) -> Fails {
     if place == other { fails } else { Fails::Never }
 }
 
-fn of_script(done: Result<(), ScriptFault>) -> Answer {
-    match done {
-        Ok(()) => Answer("", ""),
-        Err(fault) => Answer("script", fault.name()),
-    }
-}
-
-fn of_capture(done: Result<(), CaptureFault>) -> Answer {
-    match done {
-        Ok(()) => Answer("", ""),
-        Err(CaptureFault::Script(fault)) => Answer("script", fault.name()),
-        Err(CaptureFault::Pcap(fault)) => Answer("pcap", fault.name()),
-    }
-}
-
-/// The place of a task's source.
-fn source_of(task: Task) -> Place {
-    match task {
-        Task::Script => Place::Script,
-        Task::Capture(_) => Place::Config,
-    }
-}
-
 /// The devices of a run. Only the one at this place fails.
-fn devices_of(alloc: Global, task: Task, file: &[u8], place: Place, fails: Fails) -> Devices<'_> {
-    let source = task.source().as_bytes();
-    let of_source = if_at(place, source_of(task), fails);
+fn devices_of(alloc: Global, run: &Run, place: Place, fails: Fails) -> Devices<'static> {
+    let source = run.source.as_bytes();
     Devices {
-        source: FailingReader::new(source, 16, of_source),
-        input: FailingReader::new(file, 16, if_at(place, Place::Input, fails)),
+        source: FailingReader::new(source, 16, if_at(place, Place::Source, fails)),
+        input: FailingReader::new(run.input, 16, if_at(place, Place::Input, fails)),
         output: FailingWriter::new(alloc, if_at(place, Place::Output, fails), false),
         text: FailingWriter::new(alloc, if_at(place, Place::Text, fails), false),
     }
 }
 
 fn script_run(alloc: Global, devices: &mut Devices<'_>) -> Answer {
-    of_script(run_script(alloc, &mut devices.source, &mut devices.text))
+    match run_script(alloc, &mut devices.source, &mut devices.text) {
+        Ok(()) => ("", ""),
+        Err(fault) => ("script", fault.name()),
+    }
+}
+
+fn of_capture(done: Result<(), CaptureFault>) -> Answer {
+    match done {
+        Ok(()) => ("", ""),
+        Err(CaptureFault::Script(fault)) => ("script", fault.name()),
+        Err(CaptureFault::Pcap(fault)) => ("pcap", fault.name()),
+    }
 }
 
 fn capture_run(alloc: Global, direction: Direction, devices: &mut Devices<'_>) -> Answer {
@@ -136,277 +166,97 @@ fn capture_run(alloc: Global, direction: Direction, devices: &mut Devices<'_>) -
     ))
 }
 
-fn run_over(alloc: Global, task: Task, devices: &mut Devices<'_>) -> Answer {
-    match task {
-        Task::Script => script_run(alloc, devices),
-        Task::Capture(direction) => capture_run(alloc, direction, devices),
+fn run_over(alloc: Global, run: &Run, devices: &mut Devices<'_>) -> Answer {
+    match run.direction {
+        None => script_run(alloc, devices),
+        Some(direction) => capture_run(alloc, direction, devices),
     }
 }
 
 /// The number of calls of the device at this place, and the number of calls after it failed or was at its end.
 fn calls_of(devices: &Devices<'_>, place: Place) -> (usize, usize) {
     match place {
-        Place::Script | Place::Config => (devices.source.calls(), devices.source.calls_after()),
+        Place::Source => (devices.source.calls(), devices.source.calls_after()),
         Place::Input => (devices.input.calls(), devices.input.calls_after()),
         Place::Output => (devices.output.calls(), devices.output.calls_after()),
         Place::Text => (devices.text.calls(), devices.text.calls_after()),
     }
 }
 
-/// Whether a run wrote what the stop has. What the failing device got has to be only a prefix of what it gets in a
-/// complete run.
-fn is_at(devices: &Devices<'_>, place: Place, stop: &Stop, end: &Stop) -> bool {
+/// Whether this is a beginning of the text of a run.
+fn is_begun(text: &[u8], run: &Run) -> bool {
+    match text.strip_prefix(run.lines.as_bytes()) {
+        Some(rest) => run.counters.as_bytes().starts_with(rest),
+        None => run.lines.as_bytes().starts_with(text),
+    }
+}
+
+/// Whether this is the whole text of a run.
+fn is_whole(text: &[u8], run: &Run) -> bool {
+    text.strip_prefix(run.lines.as_bytes()) == Some(run.counters.as_bytes())
+}
+
+/// Whether a run whose device at this place failed is at this stop.
+fn is_at(devices: &Devices<'_>, run: &Run, place: Place, stop: Stop) -> bool {
     let output = devices.output.written();
     let text = devices.text.written();
-    match place {
-        Place::Output => is_begun(output, end.output.as_slice()) && text == stop.text.as_bytes(),
-        Place::Text => output == stop.output.as_slice() && is_begun(text, end.text.as_bytes()),
-        _ => output == stop.output.as_slice() && text == stop.text.as_bytes(),
-    }
+    run.output.starts_with(output)
+        && is_begun(text, run)
+        && (place == Place::Output || output.len() == stop.0)
+        && (place == Place::Text || text.len() == stop.1)
 }
 
-fn is_begun(part: &[u8], whole: &[u8]) -> bool {
-    whole.starts_with(part)
-}
-
-/// The total number of these calls.
-fn count_of(calls: &[(usize, usize)]) -> usize {
-    let mut count: usize = 0;
-    for (more, _) in calls {
-        count = count.saturating_add(*more);
-    }
-    count
-}
-
-/// The number of steps before the stop of a run whose call of this number fails, or 0.
-fn stop_of(calls: &[(usize, usize)], at: usize) -> usize {
-    let mut left = at;
-    for (more, stop) in calls {
-        if left < *more {
-            return *stop;
-        }
-        left -= *more;
-    }
-    0
-}
-
-/// The failing call of a device, the expected fault of the run, and its stop.
-#[derive(Clone, Copy)]
-struct Call<'a> {
-    task: Task,
-    file: &'a [u8],
-    place: Place,
-    answer: Answer,
-    at: usize,
-    stop: &'a Stop,
-    end: &'a Stop,
-}
-
-/// Checks that the run has the expected fault and is at the expected stop, and that its device was not called again.
-fn assert_failed(rt: &impl Abort, devices: &Devices<'_>, answer: Answer, call: &Call<'_>) {
-    let (place, at) = (call.place, call.at);
-    let calls = calls_of(devices, place);
-    let is_failed = answer == call.answer && calls == (at.saturating_add(1), 0);
-    assert!(rt; is_failed, "{place:?} at {at}");
-    assert!(rt;
-        is_at(devices, place, call.stop, call.end),
-        "{place:?} at {at}"
-    );
-}
-
-/// Checks that the run ends with the fault of its device, whether this call fails alone or with all calls after it.
-fn check_call(rt: &impl Abort, alloc: Global, call: &Call<'_>) {
-    for fails in [Fails::At(call.at), Fails::From(call.at)] {
-        let mut devices = devices_of(alloc, call.task, call.file, call.place, fails);
-        let answer = run_over(alloc, call.task, &mut devices);
-        assert_failed(rt, &devices, answer, call);
-    }
-}
-
-/// Checks the octets that a run wrote. `place` is the device under test.
-fn assert_written(rt: &impl Abort, place: Place, written: &[u8], wanted: &[u8]) {
-    assert_eq!(rt; written, wanted, "{place:?}");
-}
-
-/// Checks that a run without a failing call is complete, and the number of its device's calls.
-fn check_end(
-    rt: &impl Abort,
-    alloc: Global,
-    task: Task,
-    place: Place,
-    devices: &mut Devices<'_>,
-    count: usize,
-    end: &Stop,
-) {
-    let answer = run_over(alloc, task, devices);
-    assert!(rt; answer == Answer("", ""), "{place:?}");
-    let (calls, _) = calls_of(devices, place);
-    assert_eq!(rt; calls, count, "{place:?}");
-    assert_written(rt, place, devices.output.written(), end.output.as_slice());
-    assert_written(rt, place, devices.text.written(), end.text.as_bytes());
-}
-
-fn check_device(
-    rt: &impl Abort,
-    alloc: Global,
-    task: Task,
-    file: &[u8],
-    device: &Device,
-    end: &Stop,
-) -> Result<(), Fail> {
-    let (place, of, name, calls) = *device;
-    let count = count_of(calls);
-    for fails in [Fails::Never, Fails::At(count)] {
-        let mut devices = devices_of(alloc, task, file, place, fails);
-        check_end(rt, alloc, task, place, &mut devices, count, end);
-    }
-    // At each stop of the run a call is made to fail.
-    let last = count.min(CHECKED_CALLS).saturating_sub(1);
-    assert_eq!(rt;
-        stop_of(calls, last),
-        stop_of(calls, count.saturating_sub(1)),
-        "{place:?}"
-    );
-    for at in 0..count.min(CHECKED_CALLS) {
-        let stop = Stop::behind(alloc, task.steps(), stop_of(calls, at))?;
-        check_call(
-            rt,
-            alloc,
-            &Call {
-                task,
-                file,
-                place,
-                answer: Answer(of, name),
-                at,
-                stop: &stop,
-                end,
-            },
+/// Checks that a run ends with the fault of its device if this call fails, alone or with all calls after it: the run is
+/// at its stop, and the device was not called again.
+fn check_call(rt: &impl Abort, alloc: Global, run: &Run, device: &Device, at: usize, stop: Stop) {
+    let (place, fault, _) = *device;
+    for fails in [Fails::At(at), Fails::From(at)] {
+        let mut devices = devices_of(alloc, run, place, fails);
+        let answer = run_over(alloc, run, &mut devices);
+        let calls = calls_of(&devices, place);
+        assert!(rt;
+            answer == fault && calls == (at.saturating_add(1), 0),
+            "{at}"
         );
+        assert!(rt; is_at(&devices, run, place, stop), "{at}");
     }
-    Ok(())
 }
 
-fn check_devices(
-    rt: &impl Abort,
-    alloc: Global,
-    task: Task,
-    devices: &[Device],
-) -> Result<(), Fail> {
-    let file = task.input(alloc)?;
-    let end = Stop::behind(alloc, task.steps(), task.steps().len())?;
+/// Checks that a run whose device has this many calls is complete if none of them fails.
+fn check_end(rt: &impl Abort, alloc: Global, run: &Run, place: Place, count: usize) {
+    for fails in [Fails::Never, Fails::At(count)] {
+        let mut devices = devices_of(alloc, run, place, fails);
+        let answer = run_over(alloc, run, &mut devices);
+        let (calls, _) = calls_of(&devices, place);
+        assert!(rt; answer == ("", "") && calls == count, "{count}");
+        assert!(rt; devices.output.written() == run.output, "{count}");
+        assert!(rt; is_whole(devices.text.written(), run), "{count}");
+    }
+}
+
+fn check_device(rt: &impl Abort, alloc: Global, run: &Run, device: &Device) {
+    let (place, _, entries) = *device;
+    let mut at: usize = 0;
+    for (calls, stop) in entries {
+        for _ in 0..*calls {
+            if at < CHECKED_CALLS {
+                check_call(rt, alloc, run, device, at, *stop);
+            }
+            at = at.saturating_add(1);
+        }
+    }
+    check_end(rt, alloc, run, place, at);
+}
+
+fn check_devices(rt: &impl Abort, alloc: Global, run: &Run, devices: &[Device]) {
     for device in devices {
-        check_device(rt, alloc, task, file.as_slice(), device, &end)?;
-    }
-    Ok(())
-}
-
-#[test]
-fn devices_of_a_script(rt: HostRuntime) -> Result<(), Fail> {
-    check_devices(&rt, rt.alloc(), Task::Script, &OF_SCRIPT)
-}
-
-#[test]
-fn devices_of_a_protection(rt: HostRuntime) -> Result<(), Fail> {
-    let task = Task::Capture(Direction::Protect);
-    check_devices(&rt, rt.alloc(), task, &OF_PROTECTION)
-}
-
-#[test]
-fn devices_of_a_validation(rt: HostRuntime) -> Result<(), Fail> {
-    let task = Task::Capture(Direction::Validate);
-    check_devices(&rt, rt.alloc(), task, &OF_VALIDATION)
-}
-
-/// The writer whose flush fails.
-#[derive(Clone, Copy, Debug, PartialEq, Eq)]
-enum Flush {
-    OfOutput,
-    OfText,
-}
-
-/// The devices of a capture with a failing flush.
-fn flushing<'a>(alloc: Global, config: &'a str, file: &'a [u8], flush: Flush) -> Devices<'a> {
-    Devices {
-        source: FailingReader::new(config.as_bytes(), 16, Fails::Never),
-        input: FailingReader::new(file, 16, Fails::Never),
-        output: FailingWriter::new(alloc, Fails::Never, flush == Flush::OfOutput),
-        text: FailingWriter::new(alloc, Fails::Never, flush == Flush::OfText),
+        check_device(rt, alloc, run, device);
     }
 }
 
-/// Checks that a run whose flush fails is at this stop, and has flushed the output once and the text never.
-fn assert_flushed(rt: &impl Abort, devices: &Devices<'_>, flush: Flush, stop: &Stop) {
-    assert_eq!(rt;
-        devices.output.written(),
-        stop.output.as_slice(),
-        "{flush:?}"
-    );
-    assert_eq!(rt; devices.text.written(), stop.text.as_bytes(), "{flush:?}");
-    let flushes = (devices.output.flushes(), devices.text.flushes());
-    assert!(rt; flushes == (1, 0), "{flush:?}");
-}
-
-/// Checks that a run whose flush fails has this fault, and is at the stop after this many steps.
-fn check_flush(
-    rt: &impl Abort,
-    alloc: Global,
-    direction: Direction,
-    file: &[u8],
-    flush: Flush,
-    (wanted, steps): (Answer, usize),
-) -> Result<(), Fail> {
-    let task = Task::Capture(direction);
-    let stop = Stop::behind(alloc, task.steps(), steps)?;
-    let mut devices = flushing(alloc, task.source(), file, flush);
-    let answer = capture_run(alloc, direction, &mut devices);
-    assert!(rt; answer == wanted, "{flush:?}");
-    assert_flushed(rt, &devices, flush, &stop);
-    Ok(())
-}
-
-fn check_flushes(
-    rt: &impl Abort,
-    alloc: Global,
-    direction: Direction,
-    file: &[u8],
-) -> Result<(), Fail> {
-    let cut = &file[..file.len().saturating_sub(1)];
-    for (file, flush, wanted) in [
-        (file, Flush::OfOutput, (Answer("pcap", "Write"), 4)),
-        (cut, Flush::OfOutput, (Answer("pcap", "CutRecord"), 3)),
-        (file, Flush::OfText, (Answer("", ""), 5)),
-    ] {
-        check_flush(rt, alloc, direction, file, flush, wanted)?;
-    }
-    Ok(())
-}
-
-/// If the output can't be flushed after the records, there are no counters. The output is flushed even if a record ends
-/// the run, and then the fault of the input is returned, not the fault of the flush. The text is not flushed.
 #[test]
-fn flushes_of_a_capture(rt: HostRuntime) -> Result<(), Fail> {
-    let alloc = rt.alloc();
-    for direction in [Direction::Protect, Direction::Validate] {
-        let file = Task::Capture(direction).input(alloc)?;
-        check_flushes(&rt, alloc, direction, file.as_slice())?;
-    }
-    Ok(())
-}
-
-/// The fault of a run of a script of 1,100,000 line feeds, read 1,024 at a time, and the number of reads.
-fn long_script_run(alloc: Global) -> Result<(Answer, usize), Fail> {
-    let script = vec![in alloc; b'\n'; 1_100_000]?;
-    let mut source = FailingReader::new(script.as_slice(), 1024, Fails::Never);
-    let mut text = FailingWriter::new(alloc, Fails::Never, false);
-    let answer = of_script(run_script(alloc, &mut source, &mut text));
-    Ok((answer, source.calls()))
-}
-
-/// Reading stops at the call that makes the script too long: 1,024 calls give 1,048,576 octets, and one more is made.
-#[test]
-fn scripts_that_are_too_long(rt: HostRuntime) -> Result<(), Fail> {
-    let (answer, calls) = long_script_run(rt.alloc())?;
-    assert!(&rt; answer == Answer("script", "ScriptLong"));
-    assert_eq!(&rt; calls, 1025);
-    Ok(())
+fn devices_that_fail(rt: HostRuntime) {
+    check_devices(&rt, rt.alloc(), &OF_SCRIPT, &DEVICES_OF_SCRIPT);
+    check_devices(&rt, rt.alloc(), &OF_PROTECTION, &DEVICES_OF_PROTECTION);
+    check_devices(&rt, rt.alloc(), &OF_VALIDATION, &DEVICES_OF_VALIDATION);
 }
