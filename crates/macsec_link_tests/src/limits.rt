@@ -53,15 +53,6 @@ A send ffffffffffff0200000000010800
 B deliver 0
 ";
 
-/// Fills the link, which has one frame, to 65,536 frames with frames of one octet. Returns whether all were put on it.
-fn fill(world: &mut World, octet: &Event) -> bool {
-    let mut is_done = true;
-    for _ in 1..65536 {
-        is_done = is_done && world.step(octet).is_ok();
-    }
-    is_done
-}
-
 /// What an end shows: its counters, and the packet numbers of the SA.
 #[derive(Clone, Copy, PartialEq, Eq)]
 struct Shown {
@@ -116,6 +107,15 @@ fn fault_of(alloc: Global, world: &mut World, line: &str) -> Option<WorldFault> 
     }
 }
 
+/// Fills the link, which has one frame, to 65,536 frames with frames of one octet. Returns whether all were put on it.
+fn fill(alloc: Global, world: &mut World) -> bool {
+    let mut is_done = true;
+    for _ in 1..65536 {
+        is_done = is_done && fault_of(alloc, world, "inject 00").is_none();
+    }
+    is_done
+}
+
 fn assert_faults(rt: &impl Abort, alloc: Global, world: &mut World) {
     for (line, fault) in FAULTS {
         assert!(rt; fault_of(alloc, world, line) == Some(fault), "{line}");
@@ -136,9 +136,8 @@ fn check_full(rt: &impl Abort, alloc: Global, world: &mut World) {
 
 #[test]
 fn full_link(rt: HostRuntime) -> Result<(), Fail> {
-    let octet = Event::Inject(Frame::new([0].to_vec(rt.alloc())?));
     let mut world = world_after(&rt, rt.alloc(), PASSED)?;
-    assert!(&rt; fill(&mut world, &octet));
+    assert!(&rt; fill(rt.alloc(), &mut world));
     check_full(&rt, rt.alloc(), &mut world);
     Ok(())
 }

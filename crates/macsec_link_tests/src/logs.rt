@@ -74,14 +74,16 @@ fn is_log(log: Option<&[Vec<u8>]>, clients: Option<&[u8]>) -> bool {
     }
 }
 
-/// The frames that an end sent under a key.
-fn sent(world: &World, end: End, key: u8) -> Option<&[Vec<u8>]> {
-    Some(world.sent(end, KeyNumber::new(u16::from(key))?))
+fn key_number(number: u8) -> KeyNumber {
+    KeyNumber::new(u16::from(number)).unwrap()
 }
 
 fn assert_logs(rt: &impl Abort, world: &World) {
     for (end, key, clients) in SENT {
-        assert!(rt; is_log(sent(world, end, key), Some(clients)), "{key}");
+        assert!(rt;
+            is_log(Some(world.sent(end, key_number(key))), Some(clients)),
+            "{key}"
+        );
     }
     for (end, number, clients) in DELIVERED {
         assert!(rt; is_log(world.delivered(end, number), clients), "{number}");
