@@ -36,8 +36,8 @@ fn told_to(device: &mut FailingWriter, failure: Failure<'_>) -> (u8, bool) {
 fn check_line(rt: &impl Abort, alloc: Global, failure: Failure<'_>, status: u8, line: &str) {
     let mut device = FailingWriter::new(alloc, Fails::Never, false);
     let told = told_to(&mut device, failure);
-    assert!(rt; told == (status, true) && device.calls() == 1, "{line}");
-    assert_eq!(rt; device.written(), line.as_bytes());
+    let is_written = told == (status, true) && device.written() == line.as_bytes();
+    assert!(rt; is_written && device.calls() == 1, "{line}");
 }
 
 fn check_full(rt: &impl Abort, alloc: Global, failure: Failure<'_>, status: u8) {

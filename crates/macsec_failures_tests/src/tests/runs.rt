@@ -193,7 +193,10 @@ fn is_begun(text: &[u8], run: &Run) -> bool {
 
 /// Whether this is the whole text of a run.
 fn is_whole(text: &[u8], run: &Run) -> bool {
-    text.strip_prefix(run.lines.as_bytes()) == Some(run.counters.as_bytes())
+    match text.strip_prefix(run.lines.as_bytes()) {
+        Some(rest) => rest == run.counters.as_bytes(),
+        None => false,
+    }
 }
 
 /// Whether a run whose device at this place failed is at this stop.
