@@ -1,23 +1,5 @@
 //! The counters that a run over a capture prints at its end, for frames whose data have 2 octets. The sender protects
-//! for integrity only; the receiver has one SC with one SA. Several crates compare their output with these texts, so
-//! the names and the order of the counters are only here.
-
-/// No frame was sent or received, and there is no SC.
-pub const COUNTERS_OF_NONE: &str = "end InPktsUntagged 0\n\
-    end InPktsNoTag 0\n\
-    end InPktsBadTag 0\n\
-    end InPktsReserved 0\n\
-    end InPktsNoSA 0\n\
-    end InPktsNoSAError 0\n\
-    end InOctetsValidated 0\n\
-    end InOctetsDecrypted 0\n\
-    end OutPktsUntagged 0\n\
-    end OutPktsTooLong 0\n\
-    end OutPktsNoSA 0\n\
-    end OutPktsProtected 0\n\
-    end OutPktsEncrypted 0\n\
-    end OutOctetsProtected 0\n\
-    end OutOctetsEncrypted 0\n";
+//! for integrity only; the receiver has one SC with one SA. `macsec_failures_tests` compares its output with these.
 
 /// Two frames were sent.
 pub const COUNTERS_OF_TWO_SENT: &str = "end InPktsUntagged 0\n\

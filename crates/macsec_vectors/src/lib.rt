@@ -5,7 +5,7 @@
 
 mod counters;
 
-pub use counters::{COUNTERS_OF_NONE, COUNTERS_OF_TWO_RECEIVED, COUNTERS_OF_TWO_SENT};
+pub use counters::{COUNTERS_OF_TWO_RECEIVED, COUNTERS_OF_TWO_SENT};
 
 /// The 128-bit key.
 pub const KEY_128: [u8; 16] = [
