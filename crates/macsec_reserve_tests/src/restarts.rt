@@ -72,9 +72,28 @@ fn write(rt: &impl Abort, journal: &mut Vec<u8>, keeper: &mut Keeper, an: An) {
     keeper.now_durable(&wanted);
 }
 
+/// The command that creates the SA from a packet number on.
+fn association(rt: &impl Abort, an: An, next: u64) -> Command {
+    Command::TxSa {
+        an,
+        key: KeyNumber::new(7).expect(rt, "a key number"),
+        next,
+        conf: true,
+    }
+}
+
+/// Gives the endpoint a command, and compares the refusal.
+fn assert_refusal(
+    rt: &impl Abort,
+    keeper: &mut Keeper,
+    command: &Command,
+    wanted: Option<Refusal>,
+) {
+    assert!(rt; refusal(keeper, command) == wanted);
+}
+
 /// Creates the association at 0, which is out of range, at what the journal reserved, and after that.
 fn starts_behind(rt: &impl Abort, keeper: &mut Keeper, an: An, floor: u64) {
-    let number = KeyNumber::new(7).expect(rt, "a key number");
     let at_floor = if floor == 0 {
         Refusal::PnRange
     } else {
@@ -85,108 +104,109 @@ fn starts_behind(rt: &impl Abort, keeper: &mut Keeper, an: An, floor: u64) {
         (floor, Some(at_floor)),
         (floor.saturating_add(1), None),
     ] {
-        let command = Command::TxSa {
-            an,
-            key: number,
-            next,
-            conf: true,
-        };
-        assert!(rt; refusal(keeper, &command) == wanted, "{next} of {floor}");
+        assert_refusal(rt, keeper, &association(rt, an, next), wanted);
     }
-    assert!(rt; refusal(keeper, &Command::TxOn(an)).is_none());
+    assert_refusal(rt, keeper, &Command::TxOn(an), None);
+}
+
+fn opened(rt: &impl Abort, alloc: Global, journal: &[u8]) -> Keeper {
+    match Keeper::open(alloc, CONFIG, journal) {
+        Ok(keeper) => keeper,
+        Err(_) => panic!(rt; "no endpoint"),
+    }
+}
+
+/// What a journal reserves under a name.
+fn reserved(rt: &impl Abort, alloc: Global, journal: &[u8], name: &[u8; 32]) -> u64 {
+    let found = reservations(alloc, journal).expect(rt, "memory");
+    highest(found.as_slice(), name)
+}
+
+/// Installs the key. Its floor is what the journal reserved, and is not below the last packet number. Nothing is
+/// reserved yet.
+fn begin(rt: &impl Abort, keeper: &mut Keeper, an: An, last: u32, floor: u64) {
+    let key = key(rt);
+    assert_refusal(rt, keeper, &Command::Key(key), None);
+    assert!(rt; u64::from(last) <= floor && keeper.tx_floor(key.number) == Some(floor));
+    starts_behind(rt, keeper, an, floor);
+    assert!(rt; sent(rt, keeper).is_none());
+}
+
+/// Sends frames, each with a packet number above the last, and reserves again when all reserved ones are used.
+fn send_frames(
+    rt: &impl Abort,
+    journal: &mut Vec<u8>,
+    keeper: &mut Keeper,
+    an: An,
+    last: u32,
+    count: usize,
+) -> u32 {
+    let mut last = last;
+    write(rt, journal, keeper, an);
+    for _ in 0..count {
+        match sent(rt, keeper) {
+            Some(number) => {
+                assert!(rt; last < number);
+                last = number;
+            }
+            None => write(rt, journal, keeper, an),
+        }
+    }
+    last
+}
+
+/// A run of the program, from what the run before left of the journal. Returns the last packet number.
+fn run(rt: &impl Abort, alloc: Global, journal: &mut Vec<u8>, last: u32, count: usize) -> u32 {
+    let an = An::new(0).expect(rt, "an association number");
+    let floor = reserved(rt, alloc, journal, &sending_name(&SALT, &OCTETS));
+    let mut keeper = opened(rt, alloc, journal);
+    begin(rt, &mut keeper, an, last, floor);
+    send_frames(rt, journal, &mut keeper, an, last, count)
+}
+
+/// The crash tears the next record, and leaves octets of this value.
+fn tear(journal: &mut Vec<u8>, octet: u8, count: usize) -> Result<(), AllocError> {
+    let torn = [octet; 100];
+    journal.extend_from_slice(&torn[..count.min(100)])
 }
 
 #[test]
 fn numbers_rise_over_all_runs(rt: HostRuntime) -> Result<(), Fail> {
-    let alloc = rt.alloc();
-    let an = An::new(0).ok_or("an association number")?;
-    let mut journal = new_journal(alloc, &SALT)?;
+    let mut journal = new_journal(rt.alloc(), &SALT)?;
     let mut last = 0;
-    for run in 0..40usize {
-        let mut keeper = match Keeper::open(alloc, CONFIG, &journal) {
-            Ok(keeper) => keeper,
-            Err(_) => panic!(rt; "no endpoint"),
-        };
-        assert!(rt; refusal(&mut keeper, &Command::Key(key(&rt))).is_none());
-        let before = reservations(alloc, &journal)?;
-        let floor = highest(before.as_slice(), &sending_name(&SALT, &OCTETS));
-        assert!(rt; u64::from(last) <= floor, "run {run}");
-        assert!(rt;
-            keeper.tx_floor(key(&rt).number) == Some(floor),
-            "run {run}"
-        );
-        starts_behind(&rt, &mut keeper, an, floor);
-        // Nothing is reserved yet.
-        assert!(rt; sent(&rt, &mut keeper).is_none(), "run {run}");
-        write(&rt, &mut journal, &mut keeper, an);
-        for _ in 0..run % 12 {
-            match sent(&rt, &mut keeper) {
-                Some(number) => {
-                    assert!(rt; last < number, "run {run}: {last}, then {number}");
-                    last = number;
-                }
-                // All that was reserved is used up.
-                None => write(&rt, &mut journal, &mut keeper, an),
-            }
-        }
-        // The crash tears the next record.
-        for k in 0..run * 7 % 100 {
-            journal.push((k * 37 % 256) as u8)?;
-        }
+    for n in 0..40usize {
+        last = run(&rt, rt.alloc(), &mut journal, last, n % 12);
+        tear(&mut journal, (n * 37 % 256) as u8, n * 7 % 100)?;
     }
-    assert!(rt; last > 100, "{last}");
+    assert!(&rt; last > 100, "{last}");
     Ok(())
 }
 
+/// Whether these octets are refused as no journal, by the endpoint and by compaction.
+fn is_refused(alloc: Global, octets: &[u8]) -> bool {
+    let fault = Keeper::open(alloc, CONFIG, octets).err();
+    let other = compacted(alloc, octets).err();
+    (fault, other) == (Some(OpenFault::NotJournal), Some(CompactFault::NotJournal))
+}
+
+/// A file is created with its header, so a part of it is no journal. No octet of a header can be altered unnoticed, so no
+/// journal loses its records by another salt.
 #[test]
 fn refuses_another_file(rt: HostRuntime) {
-    let alloc = rt.alloc();
     let octets = header(&SALT);
-    assert!(rt; Keeper::open(alloc, CONFIG, &octets).is_ok());
-    // A file is created with its header, so a part of it is no journal.
-    for length in [0usize, 1, 32, 63] {
-        let part = &octets[..length];
-        let fault = Keeper::open(alloc, CONFIG, part).err();
-        assert!(rt; fault == Some(OpenFault::NotJournal), "{length}");
-        assert!(rt;
-            compacted(alloc, part).err() == Some(CompactFault::NotJournal),
-            "{length}"
-        );
-    }
-}
-
-/// No octet of a header can be altered unnoticed, so no journal loses its records by another salt.
-#[test]
-fn refuses_an_altered_header(rt: HostRuntime) {
-    let alloc = rt.alloc();
-    let octets = header(&SALT);
+    assert!(rt; !is_refused(rt.alloc(), &octets));
     for k in 0..octets.len() {
+        assert!(rt; is_refused(rt.alloc(), &octets[..k]));
         let mut other = octets;
         other[k] ^= 1;
-        let fault = Keeper::open(alloc, CONFIG, &other).err();
-        assert!(rt; fault == Some(OpenFault::NotJournal), "{k}");
+        assert!(rt; is_refused(rt.alloc(), &other));
     }
-}
-
-#[test]
-fn names_differ_by_salt(rt: HostRuntime) {
-    assert!(rt; sending_name(&SALT, &OCTETS) != sending_name(&[6; 24], &OCTETS));
 }
 
 /// The record of a name of equal octets.
 fn record(octet: u8, last: u64) -> [u8; 64] {
     let name = [octet; 32];
     Reservation { name, last }.to_octets()
-}
-
-/// What a journal reserves under a name of equal octets.
-fn reserved(alloc: Global, journal: &[u8], octet: u8) -> Result<u64, AllocError> {
-    let found = reservations(alloc, journal)?;
-    Ok(highest(found.as_slice(), &[octet; 32]))
-}
-
-fn made_shorter(alloc: Global, journal: &[u8]) -> Option<Vec<u8>> {
-    compacted(alloc, journal).ok()
 }
 
 fn last_read(octets: &[u8; 64]) -> Option<u64> {
@@ -196,22 +216,28 @@ fn last_read(octets: &[u8; 64]) -> Option<u64> {
     }
 }
 
-#[test]
-fn compaction_keeps_the_highest(rt: HostRuntime) -> Result<(), Fail> {
-    let alloc = rt.alloc();
+/// A journal of five records under two names, with a torn end.
+fn journal_of_two(alloc: Global) -> Result<Vec<u8>, AllocError> {
     let mut journal = new_journal(alloc, &SALT)?;
     for (octet, last) in [(1u8, 3u64), (2, 4), (1, 9), (2, 2), (1, 8)] {
         journal.extend_from_slice(&record(octet, last))?;
     }
-    journal.extend_from_slice(&[0; 70])?;
-    let shorter = made_shorter(alloc, &journal).ok_or("no journal")?;
-    assert!(rt; shorter.len() == 192);
+    tear(&mut journal, 0, 70)?;
+    Ok(journal)
+}
+
+#[test]
+fn compaction_keeps_the_highest(rt: HostRuntime) -> Result<(), Fail> {
+    let journal = journal_of_two(rt.alloc())?;
+    let shorter = compacted(rt.alloc(), &journal).ok().ok_or("no journal")?;
+    assert!(&rt; shorter.len() == 192);
     for (octet, last) in [(1u8, 9u64), (2, 4), (3, 0)] {
-        assert!(rt; reserved(alloc, &shorter, octet)? == last, "{octet}");
+        assert!(&rt; reserved(&rt, rt.alloc(), &shorter, &[octet; 32]) == last);
     }
     Ok(())
 }
 
+/// A changed record is none. The name of a key is another under another salt.
 #[test]
 fn reads_its_own_record_and_no_other(rt: HostRuntime) {
     let last = 0x0123_4567_89ab_cdef;
@@ -220,29 +246,28 @@ fn reads_its_own_record_and_no_other(rt: HostRuntime) {
     for k in [0usize, 31, 32, 39, 40, 63] {
         let mut other = own;
         other[k] ^= 1;
-        assert!(rt; last_read(&other).is_none(), "{k}");
+        assert!(rt; last_read(&other).is_none());
+    }
+    assert!(rt; sending_name(&SALT, &OCTETS) != sending_name(&[6; 24], &OCTETS));
+}
+
+fn without_journal(rt: &impl Abort, alloc: Global) -> Keeper {
+    match Keeper::new(alloc, CONFIG) {
+        Ok(keeper) => keeper,
+        Err(_) => panic!(rt; "no endpoint"),
     }
 }
 
 #[test]
 fn without_a_journal_sends_at_once(rt: HostRuntime) -> Result<(), Fail> {
     let an = An::new(0).ok_or("an association number")?;
-    let number = KeyNumber::new(7).ok_or("a key number")?;
-    let mut keeper = match Keeper::new(rt.alloc(), CONFIG) {
-        Ok(keeper) => keeper,
-        Err(_) => panic!(rt; "no endpoint"),
-    };
-    let association = Command::TxSa {
-        an,
-        key: number,
-        next: 5,
-        conf: true,
-    };
-    for command in [Command::Key(key(&rt)), association, Command::TxOn(an)] {
-        assert!(rt; refusal(&mut keeper, &command).is_none());
+    let mut keeper = without_journal(&rt, rt.alloc());
+    let key = Command::Key(key(&rt));
+    for command in [key, association(&rt, an, 5), Command::TxOn(an)] {
+        assert_refusal(&rt, &mut keeper, &command, None);
     }
     for number in [5, 6, 7] {
-        assert!(rt; sent(&rt, &mut keeper) == Some(number));
+        assert!(&rt; sent(&rt, &mut keeper) == Some(number));
     }
     Ok(())
 }
