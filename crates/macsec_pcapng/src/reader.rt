@@ -9,6 +9,7 @@ ghost use Rattle.macsec_pcap.specs.Reading.{Answers, IsAfter, Opens};
 ghost use Rattle.macsec_pcapng.specs.contracts.reader.PcapngReader.{the_row};
 ghost use Rattle.macsec_pcapng.specs.Answers.{TakesHeader};
 ghost use Rattle.macsec_pcapng.specs.Files.{in_header, pcapng_of};
+ghost use Rattle.macsec_pcapng.specs.Reading.{begun};
 
 use crate::blocks::{ROOM_LEN, SECTION_HEADER, kept, take_block};
 use crate::section::Section;
@@ -71,20 +72,34 @@ impl<R: Read + Drop> PcapngReader<R> {
             return Err(PcapFault::Memory);
         };
         match read_header(&mut source, room.as_mut_slice()) {
-            Ok(section) => Ok(PcapngReader {
-                source,
-                section,
-                course: Course::Going,
-                places: MAX_RECORDS,
-                blocks: MAX_BLOCKS,
-                room,
-            }),
+            Ok(section) => Ok(PcapngReader::begun(source, section, MAX_RECORDS, MAX_BLOCKS, room)),
             Err(fault) => Err(fault),
         }
     }
 }
 
 impl<R: Read> PcapngReader<R> {
+    /// A reader at the first record after a section header. At most `places` records and `blocks` blocks can follow.
+    fn begun(
+        source: R,
+        section: Section,
+        places: u32,
+        blocks: u32,
+        room: Vec<u8>,
+    ) -> PcapngReader<R>
+        requires { length room.items ≡ 262164 }
+        ensures { result ≡ begun places blocks section (R.remaining source) }
+    {
+        PcapngReader {
+            source,
+            section,
+            course: Course::Going,
+            places,
+            blocks,
+            room,
+        }
+    }
+
     /// The unit of the times of the records: nanoseconds.
     pub fn resolution(&self) -> Resolution
         ensures { result ≡ self.now.resolution }

@@ -6,7 +6,7 @@ pub returns-in-Err-clause-opened : goal.returns-in-Err-clause-opened
 returns-in-Err-clause-opened g c = not_opened _ (g.R.Read.remaining c.read_header.new.source) c.in-Err.fault c.in-Err.ensures
 
 pub returns-in-Ok-read_header-clause-opened : goal.returns-in-Ok-read_header-clause-opened
-returns-in-Ok-read_header-clause-opened g c = opens _ _ c.in-Ok-read_header.section c.in-Ok-read_header.ensures
+returns-in-Ok-read_header-clause-opened g c = rw c.begun.ensures (opens _ _ c.in-Ok-read_header.section c.in-Ok-read_header.ensures)
 
 -- This proof is here for speed: a search would compute the length of the room.
 pub read_header-requires : goal.read_header-requires
