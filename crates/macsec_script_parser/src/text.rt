@@ -1,8 +1,11 @@
 //! Reads the text of a script.
 
-ghost use Rattle.std.specs.Prelude.{◌≡◌, ◌≤◌, length, IfSome, MatchResult};
+ghost use Rattle.std.specs.Prelude.{◌≡◌, ◌≤◌, length, IfErr, IfSome, MatchResult};
+ghost use Rattle.std.specs.Io.KnownBytes.{ReadConsumes};
+ghost use Rattle.std.specs.Io.{ReadsAtMost};
 ghost use Rattle.macsec_script_parser.specs.Limits.{max_script_len};
 ghost use Rattle.macsec_script_parser.specs.Readings.{IsInputFault, IsReadFault};
+ghost use Rattle.macsec_script_parser.specs.declared.faults.ScriptFault.TheVariants as by;
 
 use crate::faults::ScriptFault;
 use crate::script::MAX_SCRIPT_LEN;
@@ -19,9 +22,9 @@ pub fn read_text<R: Read>(alloc: Global, reader: &mut R) -> Result<Vec<u8>, Scri
     let mut text = Vec::new(alloc);
     let mut piece = [0u8; 4096];
     for _ in 0..1_048_577u32 {
-        let count = match reader.read(&mut piece) {
+        let count = match read_piece(reader, &mut piece) {
             Ok(count) => count,
-            Err(_) => return Err(ScriptFault::Read),
+            Err(fault) => return Err(fault),
         };
         if count == 0 {
             return Ok(text);
@@ -34,4 +37,16 @@ pub fn read_text<R: Read>(alloc: Global, reader: &mut R) -> Result<Vec<u8>, Scri
         }
     }
     unreachable!()
+}
+
+/// Reads some octets into `piece`, or returns `Read` if the read fails.
+fn read_piece<R: Read>(reader: &mut R, piece: &mut [u8]) -> Result<usize, ScriptFault>
+    ensures bound { ReadsAtMost result piece.new }
+    ensures octets { ReadConsumes (R.remaining reader.old) (R.remaining reader.new) result piece.new }
+    ensures fault { IfErr result (λ fault. fault ≡ by.Read) }
+{
+    match reader.read(piece) {
+        Ok(count) => Ok(count),
+        Err(_) => Err(ScriptFault::Read),
+    }
 }

@@ -1,6 +1,7 @@
 -- The words are read from left to right, as the table says for this kind.
-use Rattle.std.proofs.Common.{sym, ap, ◌∙◌, refl}
+use Rattle.std.proofs.Common.{arith, sym, ap, ◌∙◌, refl}
 use Rattle.std.specs.Prelude.{Err}
+use Rattle.std.proofs.lemmas.Grind.{common_steps}
 use Rattle.std.proofs.lemmas.Result.{err_from_is_err_and}
 use Rattle.macsec_script_parser.proofs.WordsInOrder.{of_two_words, taken, failed}
 use Rattle.macsec_script_parser.proofs.lines.options.replay.Goals as goal
@@ -11,12 +12,9 @@ returns-in_err-protect c =
     of_two_words _ c.args.words.now _ c.in-len2.len_at_least c.in-len2.len_below
     (p.1 ∙ ap Err p.2 ∙ failed _ (sym c.switch.ensures ∙ c.in_err-protect.was))
 
+-- by a tactic that names no step, so that a word read out of order breaks the goal and not a name
 pub returns-in_err-window : goal.returns-in_err-window
-returns-in_err-window c =
-    let p = err_from_is_err_and c.from_residual-in_err-window.result c.from_residual-in_err-window.ensures.1 in
-    of_two_words _ c.args.words.now _ c.in-len2.len_at_least c.in-len2.len_below
-    (p.1 ∙ ap Err p.2 ∙ taken _ (sym c.switch.ensures ∙ c.in_ok-protect.was)
-    (failed _ (sym c.decimal.ensures ∙ c.in_err-window.was)))
+returns-in_err-window c = grind (arith, common_steps)
 
 pub returns : goal.returns
 returns c =

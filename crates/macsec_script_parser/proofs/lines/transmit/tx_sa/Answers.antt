@@ -1,7 +1,6 @@
 -- The words are read from left to right, as the table says for this kind.
-use Rattle.std.proofs.Common.{arith, sym, ap, ◌∙◌, refl}
+use Rattle.std.proofs.Common.{sym, ap, ◌∙◌, refl}
 use Rattle.std.specs.Prelude.{Err}
-use Rattle.std.proofs.lemmas.Grind.{common_steps}
 use Rattle.std.proofs.lemmas.Result.{err_from_is_err_and}
 use Rattle.macsec_script_parser.proofs.WordsInOrder.{of_four_words, taken, failed}
 use Rattle.macsec_script_parser.proofs.lines.transmit.tx_sa.Goals as goal
@@ -27,9 +26,14 @@ returns-in_err-next c =
     (taken _ (sym c.key_number.ensures ∙ c.in_ok-key.was)
     (failed _ (sym c.packet_number.ensures ∙ c.in_err-next.was))))
 
--- by a tactic that names no step, so that a word read out of order breaks the goal and not a name
 pub returns-in_err-conf : goal.returns-in_err-conf
-returns-in_err-conf c = grind (arith, common_steps)
+returns-in_err-conf c =
+    let p = err_from_is_err_and c.from_residual-in_err-conf.result c.from_residual-in_err-conf.ensures.1 in
+    of_four_words _ c.args.words.now _ c.in-len4.len_at_least c.in-len4.len_below
+    (p.1 ∙ ap Err p.2 ∙ taken _ (sym c.association.ensures ∙ c.in_ok-an.was)
+    (taken _ (sym c.key_number.ensures ∙ c.in_ok-key.was)
+    (taken _ (sym c.packet_number.ensures ∙ c.in_ok-next.was)
+    (failed _ (sym c.protection.ensures ∙ c.in_err-conf.was)))))
 
 pub returns : goal.returns
 returns c =
