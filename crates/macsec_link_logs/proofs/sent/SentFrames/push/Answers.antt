@@ -1,0 +1,15 @@
+-- The frame is added to those of the log. By a term, so that the prover refuses a mutant quickly.
+use Rattle.std.proofs.Common.{◌∙◌, ℕ, List, ap}
+use Rattle.std.proofs.lemmas.List.{map-append}
+use Rattle.macsec_link_logs.specs.Kept.{KeptSentLog, frames_kept}
+use Rattle.macsec_link_logs.specs.Logs.{SentLog, log_sending}
+use Rattle.macsec_link_logs.proofs.sent.SentFrames.push.Goals as goal
+
+abbrev log_of : ℕ → List (List ℕ) → SentLog
+log_of key frames = record { key = key; frames = frames }
+
+pub returns : goal.returns
+returns c =
+    let pushed = rw c.unwrap.ensures at c.push.ensures.items in
+    ap (log_of c.self.inside.key) (ap frames_kept pushed ∙ map-append _ _ _)
+    ∙ ap (λ (kept : KeptSentLog). log_sending c.args.frame.items kept.log) c.self.view_is
