@@ -4,6 +4,7 @@ ghost use Rattle.std.specs.Prelude.{◌≡◌, map, OnOk};
 ghost use Rattle.macsec_reserve.specs.Entries.{has_entry, raised_by, with_one_more};
 
 use crate::Reservation;
+use crate::names::is_same_name;
 use std::alloc::AllocError;
 
 /// Takes one more reservation in: the entry of its name is raised to its number, or it becomes an entry.
@@ -24,7 +25,7 @@ fn has_entry(entries: &[Reservation], name: &[u8; 32]) -> bool
     ensures { result ≡ has_entry entries.now name.now }
 {
     for entry in entries {
-        if entry.name == *name {
+        if is_same_name(&entry.name, name) {
             return true;
         }
     }
@@ -44,7 +45,7 @@ pub(crate) fn raise(entries: &mut [Reservation], by: &Reservation)
 fn raised_by(entry: Reservation, by: &Reservation) -> Reservation
     ensures { result ≡ raised_by by.now entry }
 {
-    if entry.name == by.name {
+    if is_same_name(&entry.name, &by.name) {
         let name = entry.name;
         let last = entry.last.max(by.last);
         Reservation { name, last }

@@ -1,5 +1,5 @@
 use Rattle.std.proofs.Common.{rules}
 use Rattle.macsec_reserve.proofs.entries.raised_by.Goals as goal
 
-pub returns-then-eq : goal.returns-then-eq
-returns-then-eq c = search rules
+pub returns-then-is_same_name : goal.returns-then-is_same_name
+returns-then-is_same_name c = search rules
