@@ -1,15 +1,19 @@
--- The lowest acceptable packet number of each receive association stays above what the journal had saved for it.
-use Rattle.std.proofs.Common.{◌≡◌, ◌⊎◌, inl, inr, ℕ, suc, ◌<◌, ◌≤◌, Bool, true, false, List, [], ◌∷◌, map, get_or, refl, ap, sym, subst, ◌∙◌, arith, All, Contains}
-use Rattle.std.specs.Prelude.{◌==◌, ◌&&◌, nat_lt, nat_le, not, find, if◌then◌else◌, Option, Some, None, IsSome, unwrap_or}
-use Rattle.std.proofs.lemmas.Bool.{and_cases, and_parts, eqb-false, eqb-true, leb-false, ltb-false, or_parts}
-use Rattle.std.proofs.lemmas.List.Elements.{All-contains_itself, All-filter, All-head, All-map, All-push, All-tail, All-weaker}
-use Rattle.std.proofs.lemmas.Slice.Eq.{bytes_eq-Decides}
+-- The lowest acceptable packet number of each receive association stays above what the journal had saved for it. No
+-- more is known of the endpoint than that the rows of its tables agree.
+use Rattle.std.proofs.Common.{◌≡◌, ◌⊎◌, inl, inr, ℕ, ◌<◌, ◌≤◌, Bool, true, false, List, [], ◌∷◌, ◌++◌, map, get_or, refl, ap, sym, subst, ◌∙◌, arith, All}
+use Rattle.std.specs.Prelude.{◌-◌, ◌^◌, ◌==◌, ◌&&◌, nat_lt, nat_le, not, find, if◌then◌else◌, Option, Some, None, IsSome, unwrap_or}
+use Rattle.std.specs.List.{list_any}
+use Rattle.std.proofs.lemmas.Bool.{and_cases, eqb-false, false_from_ne_true, leb-false, ltb-false, or_parts}
+use Rattle.std.proofs.lemmas.List.Elements.{All-cons, All-filter, All-head, All-map, All-nil, All-push, All-tail, All-weaker}
 use Rattle.macsec_tag.specs.declared.identifiers.Sci.{Sci}
 use Rattle.macsec_suite.specs.declared.refusal.Refusal.{Refusal}
 use Rattle.macsec_suite.specs.declared.refusal.Refusal.TheVariants.{NoKey, KeyRetired, NoSc, NoSa, AnTaken, PnRange, PnLower, SsciOwn}
 use Rattle.macsec_suite.specs.Refusals.{first_refusal, holds_of, is_number_used, is_outside, is_retired}
-use Rattle.macsec_suite.specs.Suites.{last_of}
-use Rattle.macsec_suite.specs.KeyRows.{InstalledKey, key_row, no_key, the_key}
+use Rattle.macsec_suite.specs.declared.suite.Suite.{Suite}
+use Rattle.macsec_suite.specs.Suites.{is_xpn, last_of}
+use Rattle.macsec_suite.specs.KeyRows.{InstalledKey, at_number, key_row, no_key, retired_row, row_noting, the_key, with_key}
+use Rattle.macsec_tx.specs.declared.TxRow.{TxRow}
+use Rattle.macsec_tx.specs.Transmit.{keys_after}
 use Rattle.macsec_rx.specs.declared.RxRow.{RxRow}
 use Rattle.macsec_rx.specs.Channels.{at_place, is_at, rx_row, same_sci}
 use Rattle.macsec_rx.specs.Judge.{accepted_number, row_accepting, rows_accepting}
@@ -19,21 +23,24 @@ use Rattle.macsec_commands.specs.declared.command.Command.TheVariants.{Protect, 
 use Rattle.macsec_commands.specs.declared.command.Command.TheVariants.{TxDel, RxSc, RxScDel, RxSa, RxOn, RxOff, RxLow, RxDel}
 use Rattle.macsec_secy.specs.declared.fault.FrameFault.{FrameFault}
 use Rattle.macsec_secy.specs.Commands.{effect, refusal, unless_refused}
-use Rattle.macsec_secy.specs.Kept.{KeysStay, RxRowsAreApart}
-use Rattle.macsec_secy.specs.Sound.{IsSound}
+use Rattle.macsec_secy.specs.Agrees.{Agrees, NoTwo, same_place as is_same_place}
 use Rattle.macsec_secy.specs.State.{State}
 use Rattle.macsec_secy.specs.Reception.{judgement_of, state_after_receiving}
 use Rattle.macsec_secy.specs.Step.{Input, Output, operator_command, client_frame, uncontrolled_frame, link_frame, frame_fault, leaves, received_output, sending_of, sent_output, state_after_sending, step, unless_fault}
 use Rattle.macsec_reserve.specs.declared.reservation.Reservation.{Reservation}
 use Rattle.macsec_reserve.specs.Journal.{highest, receiving_name, sending_name}
 use Rattle.macsec_reserve.specs.Keeping.{Keeping, KeepingInput, endpoint_input, now_durable, begins_at, is_below_floor, keeping_after, keeping_step, key_name, may_go, was_reserved}
-use Rattle.macsec_reserve.specs.Histories.{StaysSound}
-use Rattle.macsec_reserve.proofs.EndpointLaws.{Laws}
+use Rattle.macsec_reserve.proofs.InTime.{same_place}
 use Rattle.macsec_reserve.proofs.Steps.{before_stays, by_tests, keeps_stays, salt_stays}
+
+-- what was saved under a name is below a packet number, and below the last one of 64 bits
+pub record IsSavedBelow (before : List Reservation) (name : List ℕ) (n : ℕ) : Type 0 where
+  pub below : highest before name < n
+  pub most : highest before name < 2 ^ 64 - 1
 
 -- the association's lowest acceptable packet number is above what was saved
 abbrev pub IsAbove : List ℕ → List Reservation → List InstalledKey → RxRow → Type 0
-IsAbove salt before keys row = highest before (receiving_name (key_name salt keys row.key) row.sci row.an) < row.lowest
+IsAbove salt before keys row = IsSavedBelow before (receiving_name (key_name salt keys row.key) row.sci row.an) row.lowest
 
 abbrev pub AreAbove : List ℕ → List Reservation → State → Type 0
 AreAbove salt before s = All (IsAbove salt before s.keys) s.rx.rows
@@ -53,7 +60,7 @@ above_after salt before keys row after raised above =
     ap (λ k. receiving_name (key_name salt keys k) after.sci after.an) raised.key
     ∙ ap (λ s. receiving_name (key_name salt keys row.key) s after.an) raised.sci
     ∙ ap (λ a. receiving_name (key_name salt keys row.key) row.sci a) raised.an in
-    subst (λ n. highest before n < after.lowest) (sym name) (omega (arith, above, raised.lowest))
+    subst (λ n. IsSavedBelow before n after.lowest) (sym name) (record { below = omega (arith, above.below, raised.lowest); most = above.most })
 
 itself : (row : RxRow) → IsRaised row row
 itself row = record { sci = refl; an = refl; key = refl; lowest = omega arith }
@@ -83,40 +90,94 @@ narrowed window row = record { sci = refl; an = refl; key = refl; lowest = omega
 accepting : (window number : ℕ) (row : RxRow) → IsRaised row (row_accepting window number row)
 accepting window number row = record { sci = refl; an = refl; key = refl; lowest = omega arith }
 
--- ---- raising: not below the lowest number of the association that is found, which is each at that place
+-- ---- raising: not below the lowest number of the association that is found, which is the only one at that place
 
-same_place : (sci other : Sci) (an n : ℕ) → same_sci sci other && an == n ≡ true → (sci ≡ other) × (an ≡ n)
-same_place sci other an n same =
-    let parts = and_parts (same_sci sci other) (an == n) same in
-    let octets : sci.0 ≡ other.0 = (bytes_eq-Decides sci.0 other.0).0 parts.0 in
-    (ap (λ (o : List ℕ). record { 0 = o }) octets, eqb-true an n parts.1)
+others_elsewhere : (sci : Sci) (an : ℕ) (row : RxRow) → is_at sci an row ≡ true → (others : List RxRow) → list_any (is_same_place row) others ≡ false →
+    All (λ r. is_at sci an r ≡ false) others
+others_elsewhere sci an row here [] none = All-nil (λ r. is_at sci an r ≡ false)
+others_elsewhere sci an row here (other ∷ others) none =
+    let parts = or_parts (is_same_place row other) (list_any (is_same_place row) others) none in
+    All-cons (λ r. is_at sci an r ≡ false) other others (false_from_ne_true (is_at sci an other) (differs parts.0)) (others_elsewhere sci an row here others parts.1)
+  where
+    differs : is_same_place row other ≡ false → is_at sci an other ≡ true → ⊥
+    differs apart there =
+        let same = same_place other.sci sci other.an an there in
+        let both : is_same_place row other ≡ true = ap (λ s. is_at s other.an row) same.0 ∙ ap (λ a. is_at sci a row) same.1 ∙ here in
+        let no = sym both ∙ apart in
+        cc
 
-raising : (rows : List RxRow) (sci : Sci) (an pn : ℕ) → RxRowsAreApart rows → is_below_lowest rows sci an pn ≡ false → (row : RxRow) → Contains rows row → IsRaised row (at_place (row_raised pn) sci an row)
-raising rows sci an pn apart low row there = by_test (is_at sci an row) refl
+-- the packet number is not below the lowest acceptable one of the association at that place
+abbrev IsNotBelow : Sci → ℕ → ℕ → RxRow → Type 0
+IsNotBelow sci an pn row = is_at sci an row ≡ true → row.lowest ≤ pn
+
+none_below : (sci : Sci) (an pn : ℕ) (rows : List RxRow) → NoTwo is_same_place rows → is_below_lowest rows sci an pn ≡ false → All (IsNotBelow sci an pn) rows
+none_below sci an pn [] apart not_below = All-nil (IsNotBelow sci an pn)
+none_below sci an pn (row ∷ rows) apart not_below = by_test (is_at sci an row) refl (none_below sci an pn rows apart.1) not_below
+  where
+    by_test : (b : Bool) → is_at sci an row ≡ b → (is_below_lowest rows sci an pn ≡ false → All (IsNotBelow sci an pn) rows) →
+        holds_of (λ r. nat_lt pn r.lowest) (if b then Some row else rx_row rows sci an) ≡ false → All (IsNotBelow sci an pn) (row ∷ rows)
+    by_test true here later fails =
+        All-cons (IsNotBelow sci an pn) row rows (λ h. ltb-false pn row.lowest fails)
+        (All-weaker (λ r. is_at sci an r ≡ false) (IsNotBelow sci an pn) (λ r elsewhere there. let no = sym there ∙ elsewhere in cc) rows (others_elsewhere sci an row here rows apart.0))
+    by_test false elsewhere later fails = All-cons (IsNotBelow sci an pn) row rows (λ here. let no = sym here ∙ elsewhere in cc) (later fails)
+
+raising : (sci : Sci) (an pn : ℕ) (row : RxRow) → IsNotBelow sci an pn row → IsRaised row (at_place (row_raised pn) sci an row)
+raising sci an pn row not_below = by_test (is_at sci an row) refl
   where
     by_test : (b : Bool) → is_at sci an row ≡ b → IsRaised row (if b then row_raised pn row else row)
     by_test false test = itself row
-    by_test true test =
-        let same = same_place row.sci sci row.an an test in
-        let found : rx_row rows sci an ≡ Some row = ap (λ s. rx_row rows s an) (sym same.0) ∙ ap (λ a. rx_row rows row.sci a) (sym same.1) ∙ apart row there in
-        let least : nat_lt pn row.lowest ≡ false = ap (λ r. holds_of (λ row'. nat_lt pn row'.lowest) r) (sym found) ∙ low in
-        record { sci = refl; an = refl; key = refl; lowest = ltb-false pn row.lowest least }
+    by_test true test = record { sci = refl; an = refl; key = refl; lowest = not_below test }
 
--- ---- keys
+-- ---- keys: each that is in the table stays, with its octets
 
-key_again : Laws → (salt : List ℕ) (s t : State) → IsSound s → IsSound t → KeysStay s t → (n : ℕ) → IsSome (key_row s.keys n) → key_name salt t.keys n ≡ key_name salt s.keys n
-key_again laws salt s t sound sound' stay n there =
-    let found = (laws.keys_apart s sound).found n there in
-    let then' = stay.keys (the_key s.keys n) found.there in
-    let number : then'.later.number ≡ n = then'.is_later.number ∙ found.number in
-    let row : key_row t.keys n ≡ Some then'.later = ap (λ m. key_row t.keys m) (sym number) ∙ (laws.keys_apart t sound').by_number then'.later then'.there in
-    let one : the_key t.keys n ≡ then'.later = ap (λ k. unwrap_or k no_key) row in
-    ap (λ (k : InstalledKey). sending_name salt k.bytes) one ∙ ap (sending_name salt) then'.is_later.bytes
+abbrev KeepsOctets : List InstalledKey → List InstalledKey → Type 0
+KeepsOctets keys after = (n : ℕ) → IsSome (key_row keys n) → (the_key after n).bytes ≡ (the_key keys n).bytes
 
-keys_above : Laws → (salt : List ℕ) (before : List Reservation) (s t : State) → IsSound s → IsSound t → KeysStay s t → AreAbove salt before s → All (IsAbove salt before t.keys) s.rx.rows
-keys_above laws salt before s t sound sound' stay above k d within =
+with_more : (keys more : List InstalledKey) → KeepsOctets keys (keys ++ more)
+with_more keys more n there = ap (λ (o : Option InstalledKey). (unwrap_or o no_key).bytes) (found keys there)
+  where
+    found : (ks : List InstalledKey) → IsSome (key_row ks n) → key_row (ks ++ more) n ≡ key_row ks n
+    found [] there' = cc
+    found (k ∷ ks) there' = by_test (k.number == n) (found ks) there'
+      where
+        by_test : (b : Bool) → (IsSome (key_row ks n) → key_row (ks ++ more) n ≡ key_row ks n) → IsSome (if b then Some k else key_row ks n) →
+            (if b then Some k else key_row (ks ++ more) n) ≡ (if b then Some k else key_row ks n)
+        by_test true later here = refl
+        by_test false later here = later here
+
+field_kept : {B : Type 0} (field : InstalledKey → B) (change : InstalledKey → InstalledKey) → ((k : InstalledKey) → field (change k) ≡ field k) → (test : Bool) (k : InstalledKey) →
+    field (if test then change k else k) ≡ field k
+field_kept field change same true k = same k
+field_kept field change same false k = refl
+
+-- a change that keeps numbers and octets
+changed : (f : InstalledKey → InstalledKey) → ((k : InstalledKey) → (f k).number ≡ k.number) → ((k : InstalledKey) → (f k).bytes ≡ k.bytes) →
+    (keys : List InstalledKey) (n : ℕ) → (the_key (map f keys) n).bytes ≡ (the_key keys n).bytes
+changed f number octets [] n = refl
+changed f number octets (k ∷ ks) n =
+    ap (λ (m : ℕ). (unwrap_or (if m == n then Some (f k) else key_row (map f ks) n) no_key).bytes) (number k) ∙ by_test (k.number == n) (changed f number octets ks n)
+  where
+    by_test : (b : Bool) → (the_key (map f ks) n).bytes ≡ (the_key ks n).bytes →
+        (unwrap_or (if b then Some (f k) else key_row (map f ks) n) no_key).bytes ≡ (unwrap_or (if b then Some k else key_row ks n) no_key).bytes
+    by_test true later = octets k
+    by_test false later = later
+
+one_changed : (change : InstalledKey → InstalledKey) → ((k : InstalledKey) → (change k).number ≡ k.number) → ((k : InstalledKey) → (change k).bytes ≡ k.bytes) →
+    (keys : List InstalledKey) (number : ℕ) → KeepsOctets keys (with_key change number keys)
+one_changed change same_number same_octets keys number n there =
+    changed (at_number change number)
+    (λ k. field_kept (λ (x : InstalledKey). x.number) change same_number (k.number == number) k)
+    (λ k. field_kept (λ (x : InstalledKey). x.bytes) change same_octets (k.number == number) k) keys n
+
+after_sent : (keys : List InstalledKey) (by : Option TxRow) → KeepsOctets keys (keys_after keys by)
+after_sent keys None n there = refl
+after_sent keys (Some row) n there = one_changed (row_noting row.next) (λ k. refl) (λ k. refl) keys row.key n there
+
+keys_above : (salt : List ℕ) (before : List Reservation) (s : State) (after : List InstalledKey) → Agrees s → KeepsOctets s.keys after → AreAbove salt before s →
+    All (IsAbove salt before after) s.rx.rows
+keys_above salt before s after agrees stay above k d within =
     let row = get_or s.rx.rows k d in
-    subst (λ name. highest before (receiving_name name row.sci row.an) < row.lowest) (sym (key_again laws salt s t sound sound' stay row.key (sound.rx_keys k d within))) (above k d within)
+    subst (λ octets. IsSavedBelow before (receiving_name (sending_name salt octets) row.sci row.an) row.lowest) (sym (stay row.key (agrees.other_sscis k d within).there)) (above k d within)
 
 -- ---- commands
 
@@ -135,6 +196,14 @@ fifth_of_six false false false true v u a b c d e f none = cc
 fifth_of_six false false false false true u a b c d e f none = cc
 fifth_of_six false false false false false u a b c d e f none = refl
 
+-- the last packet number of a suite has 64 bits
+last_bound : (suite : Suite) → last_of suite ≤ 2 ^ 64 - 1
+last_bound suite = by_test (is_xpn suite)
+  where
+    by_test : (b : Bool) → (if b then 2 ^ 64 - 1 else 2 ^ 32 - 1) ≤ 2 ^ 64 - 1
+    by_test true = omega arith
+    by_test false = omega arith
+
 -- a first number that is in range, and that no earlier run may have used
 first_is_new : (last first saved : ℕ) → is_outside last first ≡ false → (nat_lt 0 first && nat_le first saved) ≡ false → saved < first
 first_is_new last first saved inside new = by_part (and_cases (nat_lt 0 first) (nat_le first saved) new)
@@ -145,40 +214,48 @@ first_is_new last first saved inside new = by_part (and_cases (nat_lt 0 first) (
         absurd (eqb-false first 0 (or_parts (first == 0) (nat_lt last first) inside).0 zero')
     by_part (inr above) = leb-false first saved above
 
-effect_above : Laws → (salt : List ℕ) (before : List Reservation) (s : State) (c : Command) → IsSound s → RxRowsAreApart s.rx.rows → refusal s c ≡ None → IsSound (effect s c) → KeysStay s (effect s c) →
+begins_above : (suite : Suite) (first : ℕ) (before : List Reservation) (name : List ℕ) → is_outside (last_of suite) first ≡ false →
+    (nat_lt 0 first && nat_le first (highest before name)) ≡ false → IsSavedBelow before name first
+begins_above suite first before name inside new =
+    let fresh = first_is_new (last_of suite) first (highest before name) inside new in
+    let within : first ≤ last_of suite = ltb-false (last_of suite) first (or_parts (first == 0) (nat_lt (last_of suite) first) inside).1 in
+    record { below = fresh; most = omega (arith, fresh, within, last_bound suite) }
+
+effect_above : (salt : List ℕ) (before : List Reservation) (s : State) (c : Command) → Agrees s → refusal s c ≡ None →
     was_reserved before (begins_at salt s c) ≡ false → AreAbove salt before s → AreAbove salt before (effect s c)
-effect_above laws salt before s (Protect on) sound apart none sound' stay new above = above
-effect_above laws salt before s (Validate mode) sound apart none sound' stay new above = above
-effect_above laws salt before s (Replay protect window) sound apart none sound' stay new above = all_after salt before s.keys (row_narrowed window) s.rx.rows (each (row_narrowed window) (narrowed window) s.rx.rows) above
-effect_above laws salt before s (Tag form) sound apart none sound' stay new above = above
-effect_above laws salt before s (Key key) sound apart none sound' stay new above = keys_above laws salt before s (effect s (Key key)) sound sound' stay above
-effect_above laws salt before s (Retire key) sound apart none sound' stay new above = keys_above laws salt before s (effect s (Retire key)) sound sound' stay above
-effect_above laws salt before s (TxSa an key next conf) sound apart none sound' stay new above = above
-effect_above laws salt before s (TxOn an) sound apart none sound' stay new above = above
-effect_above laws salt before s (TxOff an) sound apart none sound' stay new above = above
-effect_above laws salt before s (TxDel an) sound apart none sound' stay new above = above
-effect_above laws salt before s (RxSc sci) sound apart none sound' stay new above = above
-effect_above laws salt before s (RxScDel sci) sound apart none sound' stay new above = All-filter (λ row. not (same_sci row.sci sci)) (IsAbove salt before s.keys) s.rx.rows above
-effect_above laws salt before s (RxSa sci an key ssci lowest) sound apart none sound' stay new above =
+effect_above salt before s (Protect on) agrees none new above = above
+effect_above salt before s (Validate mode) agrees none new above = above
+effect_above salt before s (Replay protect window) agrees none new above = all_after salt before s.keys (row_narrowed window) s.rx.rows (each (row_narrowed window) (narrowed window) s.rx.rows) above
+effect_above salt before s (Tag form) agrees none new above = above
+effect_above salt before s (Key key) agrees none new above = keys_above salt before s (effect s (Key key)).keys agrees (with_more s.keys _) above
+effect_above salt before s (Retire key) agrees none new above = keys_above salt before s (effect s (Retire key)).keys agrees (one_changed retired_row (λ k. refl) (λ k. refl) s.keys key) above
+effect_above salt before s (TxSa an key next conf) agrees none new above = above
+effect_above salt before s (TxOn an) agrees none new above = above
+effect_above salt before s (TxOff an) agrees none new above = above
+effect_above salt before s (TxDel an) agrees none new above = above
+effect_above salt before s (RxSc sci) agrees none new above = above
+effect_above salt before s (RxScDel sci) agrees none new above = All-filter (λ row. not (same_sci row.sci sci)) (IsAbove salt before s.keys) s.rx.rows above
+effect_above salt before s (RxSa sci an key ssci lowest) agrees none new above =
     All-push (IsAbove salt before s.keys) s.rx.rows (record { sci = sci; an = an; key = key; ssci = ssci; next = lowest; lowest = lowest; on = false }) above
-    (first_is_new (last_of (the_key s.keys key).suite) lowest (highest before (receiving_name (key_name salt s.keys key) sci an))
+    (begins_above (the_key s.keys key).suite lowest before (receiving_name (key_name salt s.keys key) sci an)
     (fifth_of_six (not (is_number_used s.keys key)) (is_retired s.keys key) (not (has_channel s.rx.scis sci)) (has_rx s.rx.rows sci an)
     (is_outside (last_of (the_key s.keys key).suite) lowest) (is_own_ssci (the_key s.keys key) ssci) NoKey KeyRetired NoSc AnTaken PnRange SsciOwn none) new)
-effect_above laws salt before s (RxOn sci an) sound apart none sound' stay new above =
+effect_above salt before s (RxOn sci an) agrees none new above =
     all_after salt before s.keys (at_place (row_switched true) sci an) s.rx.rows (each (at_place (row_switched true) sci an) (at_place_raises (row_switched true) (switched true) sci an) s.rx.rows) above
-effect_above laws salt before s (RxOff sci an) sound apart none sound' stay new above =
+effect_above salt before s (RxOff sci an) agrees none new above =
     all_after salt before s.keys (at_place (row_switched false) sci an) s.rx.rows (each (at_place (row_switched false) sci an) (at_place_raises (row_switched false) (switched false) sci an) s.rx.rows) above
-effect_above laws salt before s (RxLow sci an pn) sound apart none sound' stay new above =
+effect_above salt before s (RxLow sci an pn) agrees none new above =
     let low : is_below_lowest s.rx.rows sci an pn ≡ false = last_of_four (not (has_channel s.rx.scis sci)) (not (has_rx s.rx.rows sci an)) (is_outside_row s.keys s.rx.rows sci an pn) (is_below_lowest s.rx.rows sci an pn)
     NoSc NoSa PnRange PnLower none in
     all_after salt before s.keys (at_place (row_raised pn) sci an) s.rx.rows
-    (All-weaker (Contains s.rx.rows) (λ row. IsRaised row (at_place (row_raised pn) sci an row)) (raising s.rx.rows sci an pn apart low) s.rx.rows (All-contains_itself s.rx.rows)) above
-effect_above laws salt before s (RxDel sci an) sound apart none sound' stay new above = All-filter (λ row. not (is_at sci an row)) (IsAbove salt before s.keys) s.rx.rows above
+    (All-weaker (IsNotBelow sci an pn) (λ row. IsRaised row (at_place (row_raised pn) sci an row)) (raising sci an pn) s.rx.rows
+    (none_below sci an pn s.rx.rows agrees.rx_places low)) above
+effect_above salt before s (RxDel sci an) agrees none new above = All-filter (λ row. not (is_at sci an row)) (IsAbove salt before s.keys) s.rx.rows above
 
-command_above : Laws → (salt : List ℕ) (before : List Reservation) (s : State) (c : Command) → IsSound s → RxRowsAreApart s.rx.rows → (r : Option Refusal) → refusal s c ≡ r →
-    IsSound (unless_refused r s c) → KeysStay s (unless_refused r s c) → was_reserved before (begins_at salt s c) ≡ false → AreAbove salt before s → AreAbove salt before (unless_refused r s c)
-command_above laws salt before s c sound apart None is sound' stay new above = effect_above laws salt before s c sound apart is sound' stay new above
-command_above laws salt before s c sound apart (Some r) is sound' stay new above = above
+command_above : (salt : List ℕ) (before : List Reservation) (s : State) (c : Command) → Agrees s → (r : Option Refusal) → refusal s c ≡ r →
+    was_reserved before (begins_at salt s c) ≡ false → AreAbove salt before s → AreAbove salt before (unless_refused r s c)
+command_above salt before s c agrees None is new above = effect_above salt before s c agrees is new above
+command_above salt before s c agrees (Some r) is new above = above
 
 -- ---- frames
 
@@ -196,12 +273,10 @@ receiving_above salt before s frame o None above =
     accepting_above salt before s.keys s.options.window (accepted_number (judgement_of s frame)) (judgement_of s frame).row s.rx.rows above
 receiving_above salt before s frame o (Some f) above = above
 
-sending_above : Laws → (salt : List ℕ) (before : List Reservation) (s : State) (frame : List ℕ) (o : Output) (fault : Option FrameFault) → IsSound s →
-    IsSound (unless_fault fault s (o, state_after_sending s frame (sending_of s frame))).1 →
-    KeysStay s (unless_fault fault s (o, state_after_sending s frame (sending_of s frame))).1 → AreAbove salt before s →
+sending_above : (salt : List ℕ) (before : List Reservation) (s : State) (frame : List ℕ) (o : Output) (fault : Option FrameFault) → Agrees s → AreAbove salt before s →
     AreAbove salt before (unless_fault fault s (o, state_after_sending s frame (sending_of s frame))).1
-sending_above laws salt before s frame o None sound sound' stay above = keys_above laws salt before s (state_after_sending s frame (sending_of s frame)) sound sound' stay above
-sending_above laws salt before s frame o (Some f) sound sound' stay above = above
+sending_above salt before s frame o None agrees above = keys_above salt before s (keys_after s.keys (sending_of s frame).by) agrees (after_sent s.keys (sending_of s frame).by) above
+sending_above salt before s frame o (Some f) agrees above = above
 
 nothing_above : (salt : List ℕ) (before : List Reservation) (s : State) (o : Output) (fault : Option FrameFault) → AreAbove salt before s → AreAbove salt before (unless_fault fault s (o, s)).1
 nothing_above salt before s o None above = above
@@ -214,14 +289,11 @@ abbrev IsNew : List ℕ → List Reservation → State → Input → Type 0
 IsNew salt before s (operator_command c) = was_reserved before (begins_at salt s c) ≡ false
 IsNew salt before s input = Unit {0}
 
-step_above : Laws → (salt : List ℕ) (before : List Reservation) (s : State) (input : Input) → IsSound s → RxRowsAreApart s.rx.rows → IsSound (step s input).1 → IsNew salt before s input → AreAbove salt before s →
-    AreAbove salt before (step s input).1
-step_above laws salt before s (operator_command c) sound apart sound' new above =
-    command_above laws salt before s c sound apart (refusal s c) refl sound' (laws.keys_stay s (operator_command c) sound) new above
-step_above laws salt before s (client_frame frame) sound apart sound' new above =
-    sending_above laws salt before s frame (sent_output frame (sending_of s frame).leaving) (frame_fault frame) sound sound' (laws.keys_stay s (client_frame frame) sound) above
-step_above laws salt before s (uncontrolled_frame frame) sound apart sound' new above = nothing_above salt before s (leaves frame None) (frame_fault frame) above
-step_above laws salt before s (link_frame frame) sound apart sound' new above = receiving_above salt before s frame (received_output frame (judgement_of s frame)) (frame_fault frame) above
+step_above : (salt : List ℕ) (before : List Reservation) (s : State) (input : Input) → Agrees s → IsNew salt before s input → AreAbove salt before s → AreAbove salt before (step s input).1
+step_above salt before s (operator_command c) agrees new above = command_above salt before s c agrees (refusal s c) refl new above
+step_above salt before s (client_frame frame) agrees new above = sending_above salt before s frame (sent_output frame (sending_of s frame).leaving) (frame_fault frame) agrees above
+step_above salt before s (uncontrolled_frame frame) agrees new above = nothing_above salt before s (leaves frame None) (frame_fault frame) above
+step_above salt before s (link_frame frame) agrees new above = receiving_above salt before s frame (received_output frame (judgement_of s frame)) (frame_fault frame) above
 
 if_keeps : (keeps b : Bool) → keeps ≡ true → keeps && b ≡ false → b ≡ false
 if_keeps true b is new = new
@@ -236,20 +308,38 @@ is_new k (link_frame frame) keeps new = tt
 abbrev pub KeepsFloors : Keeping → Type 0
 KeepsFloors k = AreAbove k.salt k.before k.secy
 
-tests_above : Laws → (k : Keeping) (input : Input) → k.keeps ≡ true → IsSound k.secy → RxRowsAreApart k.secy.rx.rows → (below go : Bool) → is_below_floor k input ≡ below →
-    IsSound (by_tests below go k (step k.secy input)).1.secy → KeepsFloors k → KeepsFloors (by_tests below go k (step k.secy input)).1
-tests_above laws k input keeps sound apart true go is sound' above = above
-tests_above laws k input keeps sound apart false false is sound' above = above
-tests_above laws k input keeps sound apart false true is sound' above = step_above laws k.salt k.before k.secy input sound apart sound' (is_new k input keeps is) above
+tests_above : (k : Keeping) (input : Input) → k.keeps ≡ true → Agrees k.secy → (below go : Bool) → is_below_floor k input ≡ below → KeepsFloors k →
+    KeepsFloors (by_tests below go k (step k.secy input)).1
+tests_above k input keeps agrees true go is above = above
+tests_above k input keeps agrees false false is above = above
+tests_above k input keeps agrees false true is above = step_above k.salt k.before k.secy input agrees (is_new k input keeps is) above
 
-keeping_step_above : Laws → (k : Keeping) (input : KeepingInput) → k.keeps ≡ true → IsSound k.secy → RxRowsAreApart k.secy.rx.rows → IsSound (keeping_step k input).1.secy → KeepsFloors k → KeepsFloors (keeping_step k input).1
-keeping_step_above laws k (now_durable r) keeps sound apart sound' above = above
-keeping_step_above laws k (endpoint_input input) keeps sound apart sound' above = tests_above laws k input keeps sound apart (is_below_floor k input) (may_go k input) refl sound' above
+keeping_step_above : (k : Keeping) (input : KeepingInput) → k.keeps ≡ true → Agrees k.secy → KeepsFloors k → KeepsFloors (keeping_step k input).1
+keeping_step_above k (now_durable r) keeps agrees above = above
+keeping_step_above k (endpoint_input input) keeps agrees above = tests_above k input keeps agrees (is_below_floor k input) (may_go k input) refl above
 
-pub keeps_floors : Laws → ((s : State) → IsSound s → RxRowsAreApart s.rx.rows) → (inputs : List KeepingInput) (k : Keeping) → k.keeps ≡ true → StaysSound k inputs → KeepsFloors k → KeepsFloors (keeping_after k inputs)
-keeps_floors laws apart [] k keeps sound above = above
-keeps_floors laws apart (input ∷ inputs) k keeps sound above =
-    keeps_floors laws apart inputs (keeping_step k input).1 (keeps_stays k input ∙ keeps) (λ n. sound (suc n)) (keeping_step_above laws k input keeps (sound 0) (apart k.secy (sound 0)) (sound 1) above)
+-- ---- the rows of its tables agree at each moment
+
+abbrev pub StaysAgreed : Type 0
+StaysAgreed = (s : State) (input : Input) → Agrees s → Agrees (step s input).1
+
+agree_by_tests : (below go : Bool) (k : Keeping) (answer : Output × State) → Agrees k.secy → Agrees answer.1 → Agrees (by_tests below go k answer).1.secy
+agree_by_tests true go k answer now then' = now
+agree_by_tests false true k answer now then' = then'
+agree_by_tests false false k answer now then' = now
+
+pub agree_next : StaysAgreed → (k : Keeping) (input : KeepingInput) → Agrees k.secy → Agrees (keeping_step k input).1.secy
+agree_next stay k (now_durable r) agrees = agrees
+agree_next stay k (endpoint_input input) agrees = agree_by_tests (is_below_floor k input) (may_go k input) k (step k.secy input) agrees (stay k.secy input agrees)
+
+pub agree_after : StaysAgreed → (inputs : List KeepingInput) (k : Keeping) → Agrees k.secy → Agrees (keeping_after k inputs).secy
+agree_after stay [] k agrees = agrees
+agree_after stay (input ∷ inputs) k agrees = agree_after stay inputs (keeping_step k input).1 (agree_next stay k input agrees)
+
+pub keeps_floors : StaysAgreed → (inputs : List KeepingInput) (k : Keeping) → k.keeps ≡ true → Agrees k.secy → KeepsFloors k → KeepsFloors (keeping_after k inputs)
+keeps_floors stay [] k keeps agrees above = above
+keeps_floors stay (input ∷ inputs) k keeps agrees above =
+    keeps_floors stay inputs (keeping_step k input).1 (keeps_stays k input ∙ keeps) (agree_next stay k input agrees) (keeping_step_above k input keeps agrees above)
 
 pub before_stays_after : (inputs : List KeepingInput) (k : Keeping) → (keeping_after k inputs).before ≡ k.before
 before_stays_after [] k = refl

@@ -1,48 +1,58 @@
--- What is delivered is above all that the journal had saved.
-use Rattle.std.proofs.Common.{◌≡◌, ℕ, ◌+◌, ◌<◌, ◌≤◌, Bool, true, false, List, [], ◌∷◌, length, suc, refl, ap, sym, ◌∙◌, subst, arith, All}
-use Rattle.std.specs.Prelude.{◌^◌, ◌||◌, max, not, if◌then◌else◌, unwrap_or, Option, Some}
+-- What is delivered is above all that the journal had saved. No more is known of an endpoint than that the rows of its
+-- tables agree at each moment, whatever the inputs are.
+use Rattle.std.proofs.Common.{◌≡◌, ℕ, ◌+◌, ◌≤◌, Bool, true, false, List, [], ◌∷◌, refl, ap, sym, ◌∙◌, subst, arith, All}
+use Rattle.std.specs.Prelude.{◌^◌, ◌&&◌, ◌||◌, max, not, if◌then◌else◌, unwrap_or, Option, Some}
 use Rattle.std.proofs.lemmas.Bool.{eq-eqb}
 use Rattle.macsec_gcm.specs.Octets.{same_octets}
 use Rattle.macsec_tag.specs.declared.identifiers.Sci.{Sci}
-use Rattle.std.proofs.lemmas.List.{take_all}
 use Rattle.std.proofs.lemmas.List.Elements.{All-cons, All-contains, All-head, All-nil, All-tail, All-weaker}
 use Rattle.macsec_rx.specs.declared.RxRow.{RxRow}
+use Rattle.macsec_commands.specs.declared.config.EndConfig.{EndConfig}
 use Rattle.macsec_rx.specs.Channels.{is_at, rx_row}
 use Rattle.macsec_rx.specs.Rows.{AreRxRows}
-use Rattle.macsec_secy.specs.Delivers.{DeliversFrom}
 use Rattle.macsec_secy.specs.declared.fault.FrameFault.{FrameFault}
-use Rattle.macsec_secy.specs.Kept.{IsAbove as IsAboveAt, RxRowStays, RxRowsAreApart}
+use Rattle.macsec_secy.specs.Agrees.{Agrees}
+use Rattle.macsec_secy.specs.Kept.{IsAbove as IsAboveAt, RxRowStays}
 use Rattle.macsec_secy.specs.Step.{Input, Output, link_frame, received_output, step, unless_fault}
 use Rattle.macsec_secy.specs.Reception.{judgement_of, state_after_receiving}
-use Rattle.macsec_secy.specs.Sound.{IsSound}
-use Rattle.macsec_secy.specs.State.{State}
+use Rattle.macsec_secy.specs.State.{State, start}
 use Rattle.macsec_reserve.specs.declared.reservation.Reservation.{Reservation}
 use Rattle.macsec_reserve.specs.Entries.{reduced}
 use Rattle.macsec_reserve.specs.Journal.{highest, receiving_name, reservations, salt_of, sending_name}
 use Rattle.macsec_reserve.specs.Keeping.{Keeping, KeepingInput, KeepingOutput, dropped_no_reservation, endpoint_input, now_durable, is_below_floor, keeping_after, keeping_step, may_go, with_step}
 use Rattle.macsec_reserve.specs.Histories.{Run, opening, reported}
 use Rattle.macsec_reserve.specs.Replay.{DeliversAbove, KeepsAssociation, NeverDeliversAgain, NeverDeliversAgainUnder, SavesAccepted, row_name, saved_for}
-use Rattle.macsec_reserve.proofs.EndpointLaws.{Laws}
+use Rattle.macsec_reserve.proofs.InTime.{accepted_above, delivered_in_time}
 use Rattle.macsec_reserve.proofs.Steps.{by_tests}
-use Rattle.macsec_reserve.proofs.FloorsKept.{IsAbove, all_found, before_stays_after, keeps_floors, salt_stays_after}
+use Rattle.macsec_reserve.proofs.FloorsKept.{IsAbove, IsSavedBelow, StaysAgreed, agree_after, agree_next, all_found, before_stays_after, keeps_floors, salt_stays_after}
 use Rattle.macsec_reserve.proofs.Reduced.{reduced_reserves}
 
 abbrev pub RowsStay : Type 0
 RowsStay = (s : State) (input : Input) (sci : Sci) (an n : ℕ) → RxRowStays s input sci an n
 
-pub delivers_above : Laws → ((s : State) → IsSound s → RxRowsAreApart s.rx.rows) → ((s : State) (frame : List ℕ) (row : RxRow) (delivered : List ℕ) → DeliversFrom s frame row delivered) →
-    (run : Run) (inputs : List KeepingInput) (frame : List ℕ) (row : RxRow) (delivered : List ℕ) → DeliversAbove run inputs frame row delivered
-delivers_above laws apart delivers run inputs frame row delivered sound replay is_row is_delivered =
+abbrev pub StartAgrees : Type 0
+StartAgrees = (config : EndConfig) → Agrees (start config)
+
+-- what the journal had saved for the association is below the frame's packet number, and below the last one of 64 bits
+delivered_above : StartAgrees → StaysAgreed → (run : Run) (inputs : List KeepingInput) (frame : List ℕ) (row : RxRow) (delivered : List ℕ) →
+    let s = (keeping_after (opening run) inputs).secy in
+    s.options.replay ≡ true → (judgement_of s frame).row ≡ Some row → (judgement_of s frame).delivered ≡ Some delivered →
+    IsSavedBelow (reservations run.journal) (row_name (salt_of run.journal) s row) (judgement_of s frame).number
+delivered_above begins stay run inputs frame row delivered replay is_row is_delivered =
     let k = keeping_after (opening run) inputs in
     let s = k.secy in
-    let sound' : IsSound s = subst (λ (is : List KeepingInput). IsSound (keeping_after (opening run) is).secy) (take_all (length inputs) inputs (omega arith)) (sound (length inputs)) in
-    let it = delivers s frame row delivered sound' is_row is_delivered in
-    let above = keeps_floors laws apart inputs (opening run) refl sound (All-nil (IsAbove (opening run).salt (opening run).before (opening run).secy.keys)) in
-    let own : IsAbove k.salt k.before s.keys row = all_found (IsAbove k.salt k.before s.keys) (λ r. is_at row.sci row.an r) s.rx.rows row above it.at_place in
+    let it = delivered_in_time s frame row delivered is_row is_delivered in
+    let above = keeps_floors stay inputs (opening run) refl (begins run.config) (All-nil (IsAbove (opening run).salt (opening run).before (opening run).secy.keys)) in
+    let own : IsAbove k.salt k.before s.keys row = all_found (IsAbove k.salt k.before s.keys) (λ r. is_at row.sci row.an r && r.on) s.rx.rows row above it.used in
     let saved : IsAbove (salt_of run.journal) (reduced (reservations run.journal)) s.keys row =
     subst (λ (salt : List ℕ). IsAbove salt (reduced (reservations run.journal)) s.keys row) (salt_stays_after inputs (opening run))
     (subst (λ (before : List Reservation). IsAbove k.salt before s.keys row) (before_stays_after inputs (opening run)) own) in
-    omega (arith, saved, reduced_reserves (reservations run.journal) (row_name (salt_of run.journal) s row), it.on_time replay)
+    let same = reduced_reserves (reservations run.journal) (row_name (salt_of run.journal) s row) in
+    record { below = omega (arith, saved.below, same, it.on_time replay); most = omega (arith, saved.most, same) }
+
+pub delivers_above : StartAgrees → StaysAgreed → (run : Run) (inputs : List KeepingInput) (frame : List ℕ) (row : RxRow) (delivered : List ℕ) → DeliversAbove run inputs frame row delivered
+delivers_above begins stay run inputs frame row delivered replay is_row is_delivered =
+    (delivered_above begins stay run inputs frame row delivered replay is_row is_delivered).below
 
 found_bound : (scis : List Sci) (rows : List RxRow) (sci : Sci) (an : ℕ) (row : RxRow) → AreRxRows scis rows → rx_row rows sci an ≡ Some row → row.next ≤ 2 ^ 64
 found_bound scis [] sci an row are found = cc
@@ -112,45 +122,43 @@ has_highest (y ∷ ys) =
     later x true less = omega (arith, less)
     later x false less = less
 
-pub never_delivers_again : Laws → ((s : State) → IsSound s → RxRowsAreApart s.rx.rows) → RowsStay → ((s : State) (frame : List ℕ) (row : RxRow) (delivered : List ℕ) → DeliversFrom s frame row delivered) →
-    (run later : Run) (name : List ℕ) (n : ℕ) → NeverDeliversAgain run later name n
-never_delivers_again laws apart stay delivers run later name n saved durable inputs frame row delivered sound replay is_row is_delivered is_name =
+pub never_delivers_again : StartAgrees → StaysAgreed → RowsStay → (run later : Run) (name : List ℕ) (n : ℕ) → NeverDeliversAgain run later name n
+never_delivers_again begins stay rows_stay run later name n saved durable inputs frame row delivered replay is_row is_delivered is_name =
     let k = keeping_after (opening run) saved.before in
-    let it = delivers k.secy saved.frame saved.from saved.accepted.delivered (saved.sound 0) saved.accepted.row saved.accepted.gives in
+    let j = judgement_of k.secy saved.frame in
+    let link = endpoint_input (link_frame saved.frame) in
+    let it = delivered_in_time k.secy saved.frame saved.from saved.accepted.delivered saved.accepted.row saved.accepted.gives in
     let stepped : IsAboveAt (step k.secy (link_frame saved.frame)).1.rx.rows saved.from.sci saved.from.an (n + 1) =
     subst (λ (m : ℕ). IsAboveAt (step k.secy (link_frame saved.frame)).1.rx.rows saved.from.sci saved.from.an (m + 1)) saved.number
     (subst (λ (f : Option FrameFault). IsAboveAt
-    (unless_fault f k.secy (received_output saved.frame (judgement_of k.secy saved.frame), state_after_receiving k.secy saved.frame (judgement_of k.secy saved.frame))).1.rx.rows
-    saved.from.sci saved.from.an ((judgement_of k.secy saved.frame).number + 1)) (sym saved.accepted.fits) (it.accepted saved.accepted.step)) in
-    let first : IsAboveAt (keeping_step k (endpoint_input (link_frame saved.frame))).1.secy.rx.rows saved.from.sci saved.from.an (n + 1) =
+    (unless_fault f k.secy (received_output saved.frame j, state_after_receiving k.secy saved.frame j)).1.rx.rows
+    saved.from.sci saved.from.an (j.number + 1)) (sym saved.accepted.fits)
+    (accepted_above k.secy.options.window j k.secy.rx.rows saved.from saved.accepted.row saved.accepted.step it.used)) in
+    let first : IsAboveAt (keeping_step k link).1.secy.rx.rows saved.from.sci saved.from.an (n + 1) =
     subst (λ (a : KeepingOutput × Keeping). IsAboveAt a.1.secy.rx.rows saved.from.sci saved.from.an (n + 1)) (sym (link_step k saved.frame)) stepped in
-    let then' = above_on stay saved.then_on (keeping_step k (endpoint_input (link_frame saved.frame))).1 saved.from.sci saved.from.an (n + 1) saved.keeps first in
+    let then' = above_on rows_stay saved.then_on (keeping_step k link).1 saved.from.sci saved.from.an (n + 1) saved.keeps first in
     let at_last : IsAboveAt saved.last.secy.rx.rows saved.from.sci saved.from.an (n + 1) =
     subst (λ (k' : Keeping). IsAboveAt k'.secy.rx.rows saved.from.sci saved.from.an (n + 1)) (sym saved.last_is) then' in
     let one : at_last.row ≡ saved.row = ap (λ (r : Option RxRow). unwrap_or r saved.row) (sym at_last.there ∙ saved.there) in
     let next : n + 1 ≤ saved.row.next = subst (λ (r : RxRow). n + 1 ≤ r.next) one at_last.above in
-    let last_sound : IsSound saved.last.secy = subst (λ (k' : Keeping). IsSound k'.secy) (sym saved.last_is)
-    (subst (λ (is : List KeepingInput). IsSound (keeping_after (keeping_step k (endpoint_input (link_frame saved.frame))).1 is).secy) (take_all (length saved.then_on) saved.then_on (omega arith))
-    (saved.sound (suc (length saved.then_on)))) in
-    let covered : n ≤ (saved_for saved.last.salt saved.last.secy saved.row).last =
-    saves_accepted saved.last.salt saved.last.secy saved.from.sci saved.from.an saved.row n last_sound saved.window saved.there (omega (arith, next)) in
+    let agrees : Agrees saved.last.secy = subst (λ (k' : Keeping). Agrees k'.secy) (sym saved.last_is)
+    (agree_after stay saved.then_on (keeping_step k link).1 (agree_next stay k link (agree_after stay saved.before (opening run) (begins run.config)))) in
+    let within : saved.row.next ≤ saved.row.lowest + saved.last.secy.options.window =
+    all_found (λ (r : RxRow). r.next ≤ r.lowest + saved.last.secy.options.window) (λ r. is_at saved.from.sci saved.from.an r) saved.last.secy.rx.rows saved.row agrees.within_window saved.there in
     let granted : (saved_for saved.last.salt saved.last.secy saved.row).last ≤ highest (reported run) (row_name saved.last.salt saved.last.secy saved.row) =
     All-contains (λ (x : Reservation). x.last ≤ highest (reported run) x.name) (reported run) (saved_for saved.last.salt saved.last.secy saved.row)
     (has_highest (reported run)) saved.durable in
     let kept = durable (row_name saved.last.salt saved.last.secy saved.row) in
     let s = (keeping_after (opening later) inputs).secy in
-    let above : highest (reservations later.journal) (row_name (salt_of later.journal) s row) < (judgement_of s frame).number =
-    delivers_above laws apart delivers later inputs frame row delivered sound replay is_row is_delivered in
-    let above' : highest (reservations later.journal) (row_name saved.last.salt saved.last.secy saved.row) < (judgement_of s frame).number =
-    subst (λ (m : List ℕ). highest (reservations later.journal) m < (judgement_of s frame).number) (is_name ∙ sym saved.name_is) above in
-    omega (arith, covered, granted, kept, above')
+    let above : IsSavedBelow (reservations later.journal) (row_name saved.last.salt saved.last.secy saved.row) (judgement_of s frame).number =
+    subst (λ (m : List ℕ). IsSavedBelow (reservations later.journal) m (judgement_of s frame).number) (is_name ∙ sym saved.name_is)
+    (delivered_above begins stay later inputs frame row delivered replay is_row is_delivered) in
+    omega (arith, next, within, saved.window, granted, kept, above.below, above.most)
 
-pub never_delivers_again_under : Laws → ((s : State) → IsSound s → RxRowsAreApart s.rx.rows) → RowsStay →
-    ((s : State) (frame : List ℕ) (row : RxRow) (delivered : List ℕ) → DeliversFrom s frame row delivered) →
-    (run later : Run) (bytes : List ℕ) (sci : Sci) (an n : ℕ) → NeverDeliversAgainUnder run later bytes sci an n
-never_delivers_again_under laws apart stay delivers run later bytes sci an n saved salt durable inputs frame row delivered sound replay is_row is_delivered is_key is_sci is_an =
-    never_delivers_again laws apart stay delivers run later (receiving_name (sending_name (salt_of run.journal) bytes) sci an) n saved durable
-    inputs frame row delivered sound replay is_row is_delivered
+pub never_delivers_again_under : StartAgrees → StaysAgreed → RowsStay → (run later : Run) (bytes : List ℕ) (sci : Sci) (an n : ℕ) → NeverDeliversAgainUnder run later bytes sci an n
+never_delivers_again_under begins stay rows_stay run later bytes sci an n saved salt durable inputs frame row delivered replay is_row is_delivered is_key is_sci is_an =
+    never_delivers_again begins stay rows_stay run later (receiving_name (sending_name (salt_of run.journal) bytes) sci an) n saved durable
+    inputs frame row delivered replay is_row is_delivered
     (ap (λ (b : List ℕ). receiving_name (sending_name (salt_of later.journal) b) row.sci row.an) is_key
     ∙ ap (λ (s : List ℕ). receiving_name (sending_name s bytes) row.sci row.an) salt
     ∙ ap (λ (x : Sci). receiving_name (sending_name (salt_of run.journal) bytes) x row.an) is_sci

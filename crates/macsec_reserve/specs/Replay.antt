@@ -1,6 +1,6 @@
 -- The second promise: what was accepted before a saved number is not delivered again by a later run that drops late
 -- frames.
-use Rattle.std.specs.Prelude.{◌≡◌, ◌<◌, ◌≤◌, ◌-◌, ◌^◌, ◌==◌, ℕ, List, ◌∷◌, min, Some, None, true, false, Contains}
+use Rattle.std.specs.Prelude.{◌≡◌, ◌<◌, ◌≤◌, ◌-◌, ◌^◌, ◌==◌, ℕ, List, min, Some, None, true, false, Contains}
 use Rattle.std.specs.List.{All}
 use Rattle.macsec_tag.specs.declared.identifiers.Sci.{Sci}
 use Rattle.macsec_rx.specs.declared.RxRow.{RxRow}
@@ -13,7 +13,7 @@ use Rattle.macsec_secy.specs.Reception.{judgement_of}
 use Rattle.macsec_secy.specs.State.{State}
 use Rattle.macsec_reserve.specs.declared.reservation.Reservation.{Reservation}
 use Rattle.macsec_reserve.specs.Journal.{highest, receiving_name, reservations, salt_of, sending_name}
-use Rattle.macsec_reserve.specs.Histories.{KeepsDurable, Run, SameSalt, StaysSound, opening, reported}
+use Rattle.macsec_reserve.specs.Histories.{KeepsDurable, Run, SameSalt, opening, reported}
 use Rattle.macsec_reserve.specs.Keeping.{Keeping, KeepingInput, endpoint_input, now_durable, keeping_after, keeping_step, key_name}
 
 -- the name under which the numbers of a receive association are saved
@@ -35,7 +35,7 @@ SavesAccepted salt s sci an row n =
 abbrev pub DeliversAbove : Run → List KeepingInput → List ℕ → RxRow → List ℕ → Type 0
 DeliversAbove run inputs frame row delivered =
     let s = (keeping_after (opening run) inputs).secy in
-    StaysSound (opening run) inputs → s.options.replay ≡ true → (judgement_of s frame).row ≡ Some row → (judgement_of s frame).delivered ≡ Some delivered →
+    s.options.replay ≡ true → (judgement_of s frame).row ≡ Some row → (judgement_of s frame).delivered ≡ Some delivered →
     highest (reservations run.journal) (row_name (salt_of run.journal) s row) < (judgement_of s frame).number
 
 -- ---- over two runs
@@ -63,7 +63,6 @@ pub record HasSaved (run : Run) (name : List ℕ) (n : ℕ) : Type 0 where
   pub number : (judgement_of (keeping_after (opening run) before).secy frame).number ≡ n
   pub then_on : List KeepingInput
   pub keeps : All (KeepsAssociation from.sci from.an) then_on
-  pub sound : StaysSound (keeping_after (opening run) before) (endpoint_input (link_frame frame) ∷ then_on)
   pub last : Keeping
   pub last_is : last ≡ keeping_after (keeping_step (keeping_after (opening run) before) (endpoint_input (link_frame frame))).1 then_on
   pub window : last.secy.options.window ≡ 0
@@ -78,7 +77,7 @@ abbrev pub NeverDeliversAgain : Run → Run → List ℕ → ℕ → Type 0
 NeverDeliversAgain run later name n =
     HasSaved run name n → KeepsDurable run later → (inputs : List KeepingInput) (frame : List ℕ) (row : RxRow) (delivered : List ℕ) →
     let s = (keeping_after (opening later) inputs).secy in
-    StaysSound (opening later) inputs → s.options.replay ≡ true → (judgement_of s frame).row ≡ Some row → (judgement_of s frame).delivered ≡ Some delivered →
+    s.options.replay ≡ true → (judgement_of s frame).row ≡ Some row → (judgement_of s frame).delivered ≡ Some delivered →
     row_name (salt_of later.journal) s row ≡ name → n < (judgement_of s frame).number
 
 -- the same of key octets, an SCI and a number, where the journal keeps its salt
@@ -87,5 +86,5 @@ NeverDeliversAgainUnder run later bytes sci an n =
     HasSaved run (receiving_name (sending_name (salt_of run.journal) bytes) sci an) n → SameSalt run later → KeepsDurable run later →
     (inputs : List KeepingInput) (frame : List ℕ) (row : RxRow) (delivered : List ℕ) →
     let s = (keeping_after (opening later) inputs).secy in
-    StaysSound (opening later) inputs → s.options.replay ≡ true → (judgement_of s frame).row ≡ Some row → (judgement_of s frame).delivered ≡ Some delivered →
+    s.options.replay ≡ true → (judgement_of s frame).row ≡ Some row → (judgement_of s frame).delivered ≡ Some delivered →
     (the_key s.keys row.key).bytes ≡ bytes → row.sci ≡ sci → row.an ≡ an → n < (judgement_of s frame).number

@@ -15,7 +15,7 @@ ghost use Rattle.macsec_reserve.specs.Transparent.{IsTheMachine, IsTheMachineAlo
 ghost use Rattle.macsec_reserve.specs.TwoEnds.{RepeatsNoIvAtBoth, RepeatsNoIvAtBothAfterCrashes};
 ghost use Rattle.macsec_reserve.specs.Unique.{RepeatsNoIv, RepeatsNoIvAfterCrashes};
 
-use macsec_secy::laws::{delivers_in_time, keys_stay, protects_frames, rx_rows_stay};
+use macsec_secy::laws::{keys_stay, protects_frames, rows_agree, rx_rows_stay};
 use macsec_suite::laws::equal_ivs;
 
 /// Over all runs of a history, whatever the moment at which each ended, no two frames are sealed with the same key
@@ -60,12 +60,8 @@ pub fn reduces()
 pub fn delivers_above()
     ensures { (run : Run) (inputs : List KeepingInput) (frame : List ℕ) (row : RxRow) (delivered : List ℕ) → DeliversAbove run inputs frame row delivered }
 {
-    // Laws that the proof cites; the calls do nothing.
-    equal_ivs();
-    keys_stay();
-    protects_frames();
-    rx_rows_stay();
-    delivers_in_time();
+    // A law that the proof cites; the call does nothing.
+    rows_agree();
 }
 
 /// While the replay window is 0, what is to be saved of a receive association covers each packet number that it has
@@ -82,11 +78,8 @@ pub fn never_delivers_again()
     ensures keyed { (run later : Run) (bytes : List ℕ) (sci : Sci) (an n : ℕ) → NeverDeliversAgainUnder run later bytes sci an n }
 {
     // Laws that the proof cites; the calls do nothing.
-    equal_ivs();
-    keys_stay();
-    protects_frames();
+    rows_agree();
     rx_rows_stay();
-    delivers_in_time();
 }
 
 /// A keeping endpoint is the machine with an empty journal, where the packet numbers that an input uses are reserved;

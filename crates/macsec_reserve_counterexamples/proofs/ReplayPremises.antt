@@ -21,7 +21,7 @@ use Rattle.macsec_secy.proofs.StaysSound.{after_effect}
 use Rattle.macsec_reserve.specs.declared.reservation.Reservation.{Reservation}
 use Rattle.macsec_reserve.specs.Crashes.{IsReservation}
 use Rattle.macsec_reserve.specs.Entries.{reduced}
-use Rattle.macsec_reserve.specs.Histories.{KeepsDurable, Run, StaysSound, opening, reported}
+use Rattle.macsec_reserve.specs.Histories.{KeepsDurable, Run, opening, reported}
 use Rattle.macsec_reserve.specs.Journal.{highest, receiving_name, reservations, salt_of, sending_name}
 use Rattle.macsec_reserve.specs.Keeping.{Keeping, KeepingInput, endpoint_input, keeping_after, keeping_step, now_durable}
 use Rattle.macsec_reserve.specs.Replay.{HasSaved, IsAccepted, KeepsAssociation, row_name, saved_for}
@@ -34,7 +34,7 @@ use Rattle.macsec_reserve_counterexamples.proofs.Journals.{journal, salt, salt_i
 use Rattle.macsec_reserve_counterexamples.proofs.Receivers.{Off, Plain, Receiver, Wide, channels_are, frame, goes, heard, heard_sound, inputs, is_heard, judged, judged_as, keys_are, lowest_of, name_of, ready, ready_sound, row_is, verdict_of}
 use Rattle.macsec_reserve_counterexamples.proofs.Senders.{kept}
 
--- the names of the premises that a run can break although each of its calls keeps its contract
+-- the names of the premises
 pub data Premise : Type 0 where
   KeepsTheAssociation : Premise
   WindowOf0 : Premise
@@ -51,7 +51,6 @@ pub record HasSavedBut (left_out : Premise) (run : Run) (name : List ℕ) (n : �
   pub number : (judgement_of (keeping_after (opening run) before).secy frame).number ≡ n
   pub then_on : List KeepingInput
   pub keeps : KeepsTheAssociation ≢ left_out → All (KeepsAssociation from.sci from.an) then_on
-  pub sound : StaysSound (keeping_after (opening run) before) (endpoint_input (link_frame frame) ∷ then_on)
   pub last : Keeping
   pub last_is : last ≡ keeping_after (keeping_step (keeping_after (opening run) before) (endpoint_input (link_frame frame))).1 then_on
   pub window : WindowOf0 ≢ left_out → last.secy.options.window ≡ 0
@@ -71,7 +70,6 @@ premises_suffice left_out run name n it keeps window durable = record {
   number = it.number;
   then_on = it.then_on;
   keeps = keeps;
-  sound = it.sound;
   last = it.last;
   last_is = it.last_is;
   window = window;
@@ -86,7 +84,7 @@ abbrev pub LawWithout : Premise → Run → Run → List ℕ → ℕ → Type 0
 LawWithout left_out run later name n =
     HasSavedBut left_out run name n → (IsDurable ≢ left_out → KeepsDurable run later) → (inputs : List KeepingInput) (frame : List ℕ) (row : RxRow) (delivered : List ℕ) →
     let s = (keeping_after (opening later) inputs).secy in
-    StaysSound (opening later) inputs → (DropsLate ≢ left_out → s.options.replay ≡ true) → (judgement_of s frame).row ≡ Some row →
+    (DropsLate ≢ left_out → s.options.replay ≡ true) → (judgement_of s frame).row ≡ Some row →
     (judgement_of s frame).delivered ≡ Some delivered → row_name (salt_of later.journal) s row ≡ name → n < (judgement_of s frame).number
 
 -- ---- a run with a worked journal
@@ -124,7 +122,7 @@ later_refutes left_out r run rs are free drops named saved durable law =
     let same : s ≡ ready r = ap (λ (k : Keeping). k.secy) it.ends in
     let is : judgement_of s (frame first_tag) ≡ judged_as r = ap (λ (s' : State). judgement_of s' (frame first_tag)) same ∙ judged r first_tag first_opens in
     let less : 1 < (judgement_of s (frame first_tag)).number =
-    law saved durable (inputs r) (frame first_tag) (rx_from (lowest_of r)) (client 1) it.sound
+    law saved durable (inputs r) (frame first_tag) (rx_from (lowest_of r)) (client 1)
     (λ d. ap (λ (s' : State). s'.options.replay) same ∙ drops d)
     (ap (λ (j : Judgement). j.row) is) (ap (λ (j : Judgement). j.delivered) is)
     (ap (λ (x : List ℕ). row_name x s (rx_from (lowest_of r))) (salt_is false rs) ∙ ap (λ (s' : State). row_name (salt false) s' (rx_from (lowest_of r))) same ∙ named) in
@@ -175,7 +173,6 @@ saved_but left_out r all then_on last row passed free rest keeps window there na
       number = ap (λ (k : Keeping). (judgement_of k.secy (frame first_tag)).number) it.ends ∙ ap (λ (j : Judgement). j.number) (judged r first_tag first_opens);
       then_on = then_on;
       keeps = keeps;
-      sound = subst (λ (k : Keeping). StaysSound k (link ∷ then_on)) (sym it.ends) both.sound;
       last = last;
       last_is = sym (ap (λ (k : Keeping). keeping_after (keeping_step k link).1 then_on) it.ends ∙ both.ends);
       window = window;
@@ -293,7 +290,7 @@ LawWithoutSameSalt run later octets sci an n =
     HasSaved run (receiving_name (sending_name (salt_of run.journal) octets) sci an) n → KeepsDurable run later →
     (inputs : List KeepingInput) (frame : List ℕ) (row : RxRow) (delivered : List ℕ) →
     let s = (keeping_after (opening later) inputs).secy in
-    StaysSound (opening later) inputs → s.options.replay ≡ true → (judgement_of s frame).row ≡ Some row → (judgement_of s frame).delivered ≡ Some delivered →
+    s.options.replay ≡ true → (judgement_of s frame).row ≡ Some row → (judgement_of s frame).delivered ≡ Some delivered →
     (the_key s.keys row.key).bytes ≡ octets → row.sci ≡ sci → row.an ≡ an → n < (judgement_of s frame).number
 
 -- the journal with the record of the earlier run after a header with the other salt
@@ -326,7 +323,7 @@ same_salt_needed law =
     let same : s ≡ ready Plain = ap (λ (k : Keeping). k.secy) it.ends in
     let is : judgement_of s (frame first_tag) ≡ judged_as Plain = ap (λ (s' : State). judgement_of s' (frame first_tag)) same ∙ judged Plain first_tag first_opens in
     let less : 1 < (judgement_of s (frame first_tag)).number =
-    law plain_has_saved (λ n. omega (arith, says true (only_name 1 ∷ []) (is_reservation 1 (omega arith)) n)) (inputs Plain) (frame first_tag) (rx_from 1) (client 1) it.sound
+    law plain_has_saved (λ n. omega (arith, says true (only_name 1 ∷ []) (is_reservation 1 (omega arith)) n)) (inputs Plain) (frame first_tag) (rx_from 1) (client 1)
     (ap (λ (s' : State). s'.options.replay) same) (ap (λ (j : Judgement). j.row) is) (ap (λ (j : Judgement). j.delivered) is)
     (ap (λ (s' : State). (the_key s'.keys (rx_from 1).key).bytes) same) refl refl in
     let one : (judgement_of s (frame first_tag)).number ≡ 1 = ap (λ (j : Judgement). j.number) is in
