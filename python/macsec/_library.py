@@ -6,6 +6,7 @@ import ctypes
 import functools
 import os
 from ctypes import c_bool, c_char_p, c_size_t, c_uint8, c_uint16, c_uint32, c_uint64, c_void_p
+from typing import Any, Tuple
 
 SONAME = "libmacsec.so.1"
 Sci = c_uint8 * 8
@@ -175,3 +176,13 @@ def load() -> ctypes.CDLL:
         call.argtypes = list(arguments)
         call.restype = None if name == "free_raw" else c_uint32
     return library
+
+
+@functools.lru_cache(maxsize=None)
+def frame_calls() -> "Tuple[Any, Any]":
+    """macsec_send_raw and macsec_receive_raw for arguments that are octets or objects of ctypes. A conversion of each
+    argument takes longer than the rest of the call."""
+    library = load()
+    send, receive = library["macsec_send_raw"], library["macsec_receive_raw"]
+    send.restype = receive.restype = c_uint32
+    return send, receive

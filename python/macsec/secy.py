@@ -21,19 +21,20 @@ _FATES = {int(it): it for it in Fate}
 _VERDICTS = {int(it): it for it in Verdict}
 _SENT_OCTETS = ctypes.c_char * ctypes.sizeof(_library.Sent)
 _RECEIVED_OCTETS = ctypes.c_char * ctypes.sizeof(_library.Received)
-# The members of both before `reserved`, read at once.
-_SENT_MEMBERS, _RECEIVED_MEMBERS = struct.Struct("=QQIIH"), struct.Struct("=QQII8sB??")
+# The members of both after `frame` and before `reserved`, read at once.
+_SENT_MEMBERS, _RECEIVED_MEMBERS = struct.Struct("=8xQ4xIH"), struct.Struct("=20xI8sB??")
 _sent_of, _received_of = _SENT_MEMBERS.unpack_from, _RECEIVED_MEMBERS.unpack_from
 # Answers that name no frame, as MACSEC_SENT_INIT and MACSEC_RECEIVED_INIT are.
 _NOTHING = ctypes.create_string_buffer(1)
 _NO_SENT = bytes(_library.Sent(frame=ctypes.addressof(_NOTHING)))
 _NO_RECEIVED = bytes(_library.Received(frame=ctypes.addressof(_NOTHING)))
-_NO_SA = (None, None)
 _memmove = ctypes.memmove
-# The octets at an address, as ctypes.string_at returns them in more time.
-_octets_at = ctypes.PYFUNCTYPE(ctypes.py_object, ctypes.c_void_p, ctypes.c_ssize_t)(
-    ("PyBytes_FromStringAndSize", ctypes.pythonapi)
-)
+# The octets at an address, as ctypes.string_at returns them in more time. Both arguments are objects of ctypes, which
+# need no conversion.
+_octets_at: Any = ctypes.pythonapi["PyBytes_FromStringAndSize"]
+_octets_at.restype = ctypes.py_object
+# Makes a named tuple in less time than its class does.
+_new: Any = tuple.__new__
 
 
 class Sent(NamedTuple):
@@ -137,6 +138,11 @@ def sak_of(
     return sak
 
 
+def _frame_of(made: Any, kind: Any) -> Any:
+    """Address and length of the frame in a structure, as they are whenever they are used."""
+    return ctypes.c_void_p.from_buffer(made, kind.frame.offset), ctypes.c_size_t.from_buffer(made, kind.length.offset)
+
+
 class SecY:
     """An endpoint. It protects its client's frames, validates those from the link, and counts both.
 
@@ -187,8 +193,11 @@ class SecY:
         self._endpoint = _library.Endpoint()
         self._handle = ctypes.addressof(self._endpoint)
         self._sent, self._received = _SENT_OCTETS(), _RECEIVED_OCTETS()
-        self._sent_at, self._received_at = ctypes.addressof(self._sent), ctypes.addressof(self._received)
-        self._send_raw, self._receive_raw = self._library.macsec_send_raw, self._library.macsec_receive_raw
+        # What the calls for frames take, and where they put a frame: objects that are made once.
+        self._endpoint_at, self._length = ctypes.byref(self._endpoint), ctypes.c_size_t()
+        self._sent_at, self._received_at = ctypes.byref(self._sent), ctypes.byref(self._received)
+        self._link, self._client = _frame_of(self._sent, _library.Sent), _frame_of(self._received, _library.Received)
+        self._send_raw, self._receive_raw = _library.frame_calls()
 
     @classmethod
     def configure(cls, text: Union[str, Octets], journal: Optional[Octets] = None) -> "SecY":
@@ -241,24 +250,27 @@ class SecY:
         octets = frame if type(frame) is bytes else octets_of(frame)
         with self._lock:
             self._sent.raw = _NO_SENT
-            status = self._send_raw(self._handle, octets, len(octets), self._sent_at)
+            self._length.value = len(octets)
+            status = self._send_raw(self._endpoint_at, octets, self._length, self._sent_at)
             if status:
                 raise error(status)
-            at, length, _, fate, key = _sent_of(self._sent)
-            link = _octets_at(at, length) if length else None
-        return Sent(_FATES.get(fate) or Fate(fate), link, key if fate == 1 else None)
+            length, fate, key = _sent_of(self._sent)
+            link = _octets_at(*self._link) if length else None
+        return _new(Sent, (_FATES.get(fate) or Fate(fate), link, key if fate == 1 else None))  # type: ignore[no-any-return]
 
     def receive(self, frame: Octets) -> Received:
         """What becomes of a frame from the link."""
         octets = frame if type(frame) is bytes else octets_of(frame)
         with self._lock:
             self._received.raw = _NO_RECEIVED
-            status = self._receive_raw(self._handle, octets, len(octets), self._received_at)
+            self._length.value = len(octets)
+            status = self._receive_raw(self._endpoint_at, octets, self._length, self._received_at)
             if status:
                 raise error(status)
-            at, length, _, verdict, sci, an, has_sa, is_delivered = _received_of(self._received)
-            client = _octets_at(at, length) if is_delivered else None
-        return Received(_VERDICTS.get(verdict) or Verdict(verdict), client, *((sci, an) if has_sa else _NO_SA))
+            verdict, sci, an, has_sa, is_delivered = _received_of(self._received)
+            client = _octets_at(*self._client) if is_delivered else None
+        verdict = _VERDICTS.get(verdict) or Verdict(verdict)
+        return _new(Received, (verdict, client, sci, an) if has_sa else (verdict, client, None, None))  # type: ignore[no-any-return]
 
     def send_uncontrolled(self, frame: Octets) -> bytes:
         """A client frame of the uncontrolled port, which is to be transmitted as it is."""

@@ -1,13 +1,11 @@
-/* Prints how many nanoseconds macsec_send and macsec_receive take for a frame of so many octets, of the fastest of
- * rounds: cost LENGTH COUNT. tools/python --cost compares it with Python. */
+/* Prints, for each line that it reads, how many nanoseconds macsec_send and macsec_receive take for a frame of so many
+ * octets, from a round of COUNT calls: cost LENGTH COUNT. tools/python --cost compares it with Python. */
 #define _POSIX_C_SOURCE 200809L
 #include "macsec.h"
 #include <stdio.h>
 #include <stdlib.h>
 #include <string.h>
 #include <time.h>
-
-enum { ROUNDS = 200 };
 
 static const char sender[] = "end A gcm128 0200000000010001 9248 sci\n"
                              "A key 0 ad7a2bd03eac835a6f620fdcb506b345 0\nA txsa 0 0 1 conf\nA txon 0\n";
@@ -28,10 +26,11 @@ int main(int argc, char **argv) {
     macsec_sent sent;
     macsec_received received;
     uint32_t line;
+    char asked[8];
     if (argc != 3)
         return 2;
     size_t length = strtoul(argv[1], NULL, 10), count = strtoul(argv[2], NULL, 10);
-    if (length < MACSEC_FRAME_MIN || length > MACSEC_FRAME_MAX - MACSEC_OVERHEAD_MAX)
+    if (length < MACSEC_FRAME_MIN || count == 0 || length > MACSEC_FRAME_MAX - MACSEC_OVERHEAD_MAX)
         return 2;
     if (macsec_configure(&a, (const uint8_t *)sender, strlen(sender), &line) != MACSEC_OK ||
         macsec_configure(&b, (const uint8_t *)receiver, strlen(receiver), &line) != MACSEC_OK)
@@ -40,8 +39,7 @@ int main(int argc, char **argv) {
         return 1;
     size_t link_length = sent.length;
     memcpy(link, sent.frame, link_length);
-    double sending = 1e18, receiving = 1e18;
-    for (int round = 0; round < ROUNDS; round++) {
+    while (fgets(asked, sizeof asked, stdin) != NULL) {
         double begin = now();
         for (size_t i = 0; i < count; i++) {
             if (macsec_send(&a, frame, length, &sent) != MACSEC_OK)
@@ -55,12 +53,10 @@ int main(int argc, char **argv) {
             memcpy(kept, received.frame, received.length);
         }
         double end = now();
-        if ((middle - begin) / (double)count < sending)
-            sending = (middle - begin) / (double)count;
-        if ((end - middle) / (double)count < receiving)
-            receiving = (end - middle) / (double)count;
+        if (printf("%.0f %.0f\n", (middle - begin) / (double)count, (end - middle) / (double)count) < 0 ||
+            fflush(stdout) != 0)
+            return 1;
     }
-    printf("%.0f %.0f\n", sending, receiving);
     macsec_free(&a);
     macsec_free(&b);
     return 0;

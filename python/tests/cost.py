@@ -5,6 +5,7 @@ from __future__ import annotations
 import subprocess
 import sys
 import time
+from typing import List
 
 from macsec import SecY
 
@@ -24,13 +25,30 @@ COUNT, ROUNDS = 500, 200
 
 
 def nanoseconds(call: "object", frame: bytes) -> float:
-    """The time of a call, of the fastest of some rounds."""
-    best = 1e18
-    for _ in range(ROUNDS):
-        begin = time.process_time_ns()
-        for _ in range(COUNT):
-            call(frame)  # type: ignore[operator]
-        best = min(best, (time.process_time_ns() - begin) / COUNT)
+    """The time of a call, from a round of them."""
+    begin = time.process_time_ns()
+    for _ in range(COUNT):
+        call(frame)  # type: ignore[operator]
+    return (time.process_time_ns() - begin) / COUNT
+
+
+def costs(program: str, length: int) -> "List[float]":
+    """What a frame of this length costs: to send in C and in Python, and to receive in C and in Python. The rounds of
+    both take turns, so that what else the machine does slows both."""
+    best = [1e18] * 4
+    words = [program, str(length), str(COUNT)]
+    with subprocess.Popen(words, stdin=subprocess.PIPE, stdout=subprocess.PIPE, text=True) as it:
+        assert it.stdin is not None and it.stdout is not None
+        with SecY.configure(SENDER) as a, SecY.configure(RECEIVER) as b:
+            frame = bytes(length)
+            link = a.send(frame).frame or b""
+            for _ in range(ROUNDS):
+                it.stdin.write("\n")
+                it.stdin.flush()
+                sending, receiving = map(float, it.stdout.readline().split())
+                made = [sending, nanoseconds(a.send, frame), receiving, nanoseconds(b.receive, link)]
+                best = [min(each) for each in zip(best, made)]
+        it.stdin.close()
     return best
 
 
@@ -42,11 +60,5 @@ def main(program: str) -> None:
     )
     print("octets      send: C  Python    more   receive: C  Python    more")
     for length in (64, 512, 1500):
-        told = subprocess.run([program, str(length), str(COUNT)], stdout=subprocess.PIPE, text=True, check=True).stdout
-        sending, receiving = map(float, told.split())
-        with SecY.configure(SENDER) as a, SecY.configure(RECEIVER) as b:
-            frame = bytes(length)
-            link = a.send(frame).frame or b""
-            send, receive = nanoseconds(a.send, frame), nanoseconds(b.receive, link)
-        more = send - sending, receive - receiving
-        print(f"{length:6} {sending:12.0f} {send:7.0f} {more[0]:7.0f} {receiving:12.0f} {receive:7.0f} {more[1]:7.0f}")
+        a, b, c, d = costs(program, length)
+        print(f"{length:6} {a:12.0f} {b:7.0f} {b - a:7.0f} {c:12.0f} {d:7.0f} {d - c:7.0f}")
