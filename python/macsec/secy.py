@@ -28,6 +28,7 @@ _sent_of, _received_of = _SENT_MEMBERS.unpack_from, _RECEIVED_MEMBERS.unpack_fro
 _NOTHING = ctypes.create_string_buffer(1)
 _NO_SENT = bytes(_library.Sent(frame=ctypes.addressof(_NOTHING)))
 _NO_RECEIVED = bytes(_library.Received(frame=ctypes.addressof(_NOTHING)))
+_NO_SA = (None, None)
 _memmove = ctypes.memmove
 # The octets at an address, as ctypes.string_at returns them in more time. Both arguments are objects of ctypes, which
 # need no conversion.
@@ -256,7 +257,8 @@ class SecY:
                 raise error(status)
             length, fate, key = _sent_of(self._sent)
             link = _octets_at(*self._link) if length else None
-        return _new(Sent, (_FATES.get(fate) or Fate(fate), link, key if fate == 1 else None))  # type: ignore[no-any-return]
+        made: Sent = _new(Sent, (_FATES.get(fate) or Fate(fate), link, key if fate == 1 else None))
+        return made
 
     def receive(self, frame: Octets) -> Received:
         """What becomes of a frame from the link."""
@@ -269,8 +271,9 @@ class SecY:
                 raise error(status)
             verdict, sci, an, has_sa, is_delivered = _received_of(self._received)
             client = _octets_at(*self._client) if is_delivered else None
-        verdict = _VERDICTS.get(verdict) or Verdict(verdict)
-        return _new(Received, (verdict, client, sci, an) if has_sa else (verdict, client, None, None))  # type: ignore[no-any-return]
+        sa = (sci, an) if has_sa else _NO_SA
+        made: Received = _new(Received, (_VERDICTS.get(verdict) or Verdict(verdict), client, *sa))
+        return made
 
     def send_uncontrolled(self, frame: Octets) -> bytes:
         """A client frame of the uncontrolled port, which is to be transmitted as it is."""
