@@ -87,7 +87,7 @@ class Scan:
             )
         found += [f"{frames_text(count)} of EtherType {kind} without a SecTAG" for kind, count in self.others.items()]
         if self.vlan:
-            found.append(f"{frames_text(self.vlan)} with a VLAN tag before the SecTAG: macsec-decrypt takes it out")
+            found.append(f"{frames_text(self.vlan)} with a VLAN tag before the SecTAG: macsec-decrypt opens these")
         if self.fcs:
             found.append(f"{frames_text(self.fcs)} with a frame check sequence: macsec-decrypt cuts it off")
         if self.partial:

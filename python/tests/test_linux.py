@@ -34,6 +34,8 @@ class Linux(InFolder):
             status, text, error = main_of(config.main, *source)
             self.assertEqual((status, error), (0, ""), text)
             made.append(self.put(f"{len(made)}.config", text))
+        note = "28 frames with a VLAN tag before the SecTAG: macsec-decrypt opens these"
+        self.assertEqual(note in text, name != "above")
         return made
 
     def opened(self, name: str, tags: str, causes: "Dict[Tuple[str, ...], int]") -> None:
