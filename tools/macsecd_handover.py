@@ -9,6 +9,7 @@ import threading
 import time
 from typing import Dict, Iterator, List, Tuple
 
+from macsecd_requests import state_of
 from macsecd_world import End, Failed, Packets, Stream, World, connected, ping, protected, report
 
 KEYS = 4096
@@ -256,12 +257,16 @@ def check_macsecctl(a: End, macsecctl: "List[str]") -> None:
         it = subprocess.run([*macsecctl, *words], input=lines, capture_output=True, text=True)
         return it.returncode, it.stdout
 
-    state = a.ask("numbers")
+    state = state_of(a)
     got = told("# a comment\n\nA txoff 1\nA txon 1\nA txon 2\nA txoff 1\n")
-    report(got == (2, "5 refused 13 NoSa\n") and a.ask("numbers") == state, f"macsecctl with a wrong line: {got}")
+    report(got == (2, "5 refused 13 NoSa\n") and state_of(a) == state, f"macsecctl with a wrong line: {got}")
     got = told("# a comment\n\nA txoff 1\nA txon 1\n")
     report(got == (0, "3 ok\n4 ok\n"), f"macsecctl with lines: {got}")
     path = a.folder / "lines"
+    path.write_text("A txoff 1\nA txonn 1\n")
+    state = state_of(a)
+    got = told("", "load", str(path))
+    report(got == (2, "2 fault Word\n") and state_of(a) == state, f"macsecctl load with a wrong line: {got}")
     path.write_text("A txon 1\nA txon 1\n")
     got = told("", "load", str(path))
     report(got == (0, "1 ok\n2 ok\n"), f"macsecctl load: {got}")
