@@ -22,13 +22,17 @@ static int ask(const struct life *f, int index) {
         struct nlmsghdr header;
         struct ifinfomsg about;
     } request;
+    ssize_t sent;
     memset(&request, 0, sizeof request);
     request.header.nlmsg_len = sizeof request;
     request.header.nlmsg_type = RTM_GETLINK;
     request.header.nlmsg_flags = NLM_F_REQUEST;
     request.about.ifi_family = AF_UNSPEC;
     request.about.ifi_index = index;
-    if (send(f->socket, &request, sizeof request, 0) == (ssize_t)sizeof request)
+    do
+        sent = send(f->socket, &request, sizeof request, 0);
+    while (sent < 0 && errno == EINTR);
+    if (sent == (ssize_t)sizeof request)
         return 0;
     message_of_errno("rtnetlink");
     return ENDS_FAILED;

@@ -409,7 +409,7 @@ class Stream:
         with inside(end.namespace):
             self.sender = socket.socket(socket.AF_INET, socket.SOCK_DGRAM)
         self.target, self.interval, self.size = (f"10.9.0.{peer.number}", port), interval, size
-        self.sent, self.goes_on = 0, True
+        self.sent, self.received, self.goes_on = 0, 0, True
         self.arrived: "Set[bytes]" = set()
         self.threads = [threading.Thread(target=each) for each in (self.send, self.receive)]
         for thread in self.threads:
@@ -430,6 +430,7 @@ class Stream:
         while True:
             try:
                 self.arrived.add(self.receiver.recv(65536)[:8])
+                self.received += 1
             except socket.timeout:
                 if not self.threads[0].is_alive():
                     return
