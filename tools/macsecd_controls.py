@@ -49,6 +49,7 @@ CONTROLS: "Dict[str, List[Tuple[str, str, str]]]" = {
                 ("tap.c", "while (written < 0 && errno == EINTR);", "while (false);"),
                 ("link.c", "} else if (errno != EINTR) {", "} else {")],
     "losses": [("link.c", "c->link_lost += lost.tp_drops;", "c->link_lost += lost.tp_drops / 2;"),
+               ("link.c", "return BUSY;", "waiting_first++;"),
                ("frames.c", "++*too_long;", ";")],
     "service": [("loop.c", "    service_notify(\"WATCHDOG=1\");\n", "")],
     "rights": [("confine.c", "setrlimit(RLIMIT_CORE, &none) == 0 && ", "sizeof none > 0 && "),

@@ -445,8 +445,8 @@ class Stream:
         return self.sent, len(self.arrived)
 
 
-def tcp(end: End, octets: int) -> float:
-    """Sends so many octets by TCP. Returns the seconds that it took."""
+def tcp_pair(end: End) -> "Tuple[socket.socket, socket.socket]":
+    """A TCP connection from one client to the other: the socket that sends, and the one that receives."""
     peer = end.world.ends[2 - end.number]
     with inside(peer.namespace):
         listener = socket.create_server(("0.0.0.0", 9010))
@@ -454,11 +454,17 @@ def tcp(end: End, octets: int) -> float:
         sender = socket.socket(socket.AF_INET, socket.SOCK_STREAM)
     listener.settimeout(20)
     sender.settimeout(20)
-    began = time.monotonic()
     sender.connect((f"10.9.0.{peer.number}", 9010))
     receiver, _ = listener.accept()
     receiver.settimeout(20)
+    listener.close()
+    return sender, receiver
+
+
+def transfer(sender: socket.socket, receiver: socket.socket, octets: int) -> float:
+    """Sends so many octets over a connection, and ends it. Returns the seconds that it took."""
     block = bytes(1 << 16)
+    began = time.monotonic()
 
     def send() -> None:
         for _ in range(octets // len(block)):
@@ -474,8 +480,13 @@ def tcp(end: End, octets: int) -> float:
             break
         got += len(part)
     thread.join()
-    for each in (listener, sender, receiver):
+    for each in (sender, receiver):
         each.close()
     if got != octets // len(block) * len(block):
         raise Failed(f"TCP: {got} octets arrived of {octets}")
     return time.monotonic() - began
+
+
+def tcp(end: End, octets: int) -> float:
+    """Sends so many octets by TCP. Returns the seconds that it took."""
+    return transfer(*tcp_pair(end), octets)
