@@ -28,8 +28,8 @@ INTERRUPT(ssize_t, pread, (int file, void *to, size_t length, off_t at), file, t
 INTERRUPT(ssize_t, pwrite, (int file, const void *from, size_t length, off_t at), file, from, length, at)
 INTERRUPT(ssize_t, recv, (int file, void *to, size_t length, int flags), file, to, length, flags)
 INTERRUPT(ssize_t, send, (int file, const void *from, size_t length, int flags), file, from, length, flags)
-INTERRUPT(ssize_t, recvfrom, (int file, void *to, size_t length, int flags, struct sockaddr *from, socklen_t *room), file,
-          to, length, flags, from, room)
+INTERRUPT(ssize_t, recvfrom, (int file, void *to, size_t length, int flags, struct sockaddr *from, socklen_t *room),
+          file, to, length, flags, from, room)
 INTERRUPT(int, recvmmsg, (int file, struct mmsghdr *to, unsigned count, int flags, struct timespec *limit), file, to,
           count, flags, limit)
 INTERRUPT(int, sendmmsg, (int file, struct mmsghdr *from, unsigned count, int flags), file, from, count, flags)

@@ -100,7 +100,8 @@ def check_slow_link(world: World) -> None:
     full = dropped(a) - full
     out, got = (after[it][name] - before[it][name] for it, name in ((0, "device LinkOut"), (1, "device LinkIn")))
     print(f"losses: TCP over a slow LINK, {seconds:.1f} s; {out} frames sent, {full} dropped by a full TAP", flush=True)
-    report(full > 0 and sent <= arrived + full, f"{sent} datagrams were sent, {arrived} arrived and {full} were dropped")
+    holds = full > 0 and sent <= arrived + full
+    report(holds, f"{sent} datagrams were sent, {arrived} arrived and {full} were dropped")
     report(out == got, f"a slow LINK: {out} frames were sent and {got} read")
     report(after[0]["device LinkRefused"] == 0, f"a slow LINK refused {after[0]['device LinkRefused']} frames")
     for end in (a, b):

@@ -1,4 +1,4 @@
-"""Signals to macsecd at any moment: those that end it, those that mean nothing, and those that interrupt what it does."""
+"""Signals to macsecd at any moment: those that end it, those that mean nothing, and those that interrupt a call."""
 
 import os
 import pathlib
@@ -31,8 +31,8 @@ def check_end(world: World, number: int, seconds: float) -> None:
 
 def interrupted(out: pathlib.Path, library: pathlib.Path, source: pathlib.Path) -> pathlib.Path:
     """Builds macsecd so that every third call that can be interrupted is. Returns the folder of the programs."""
-    wrapped = [f"-Wl,--wrap={name}" for name in CALLS]
-    return build(out, library, [*wrapped, str(ROOT / "tools/macsecd_interrupts.c"), "-O0", "-Wno-error"], source)
+    wrapped = [*(f"-Wl,--wrap={name}" for name in CALLS), str(ROOT / "tools/macsecd_interrupts.c")]
+    return build(out, library, ["-O0", "-Wno-error"], source, wrapped)
 
 
 def check_stops(world: World, programs: pathlib.Path, stops: int) -> None:
@@ -60,6 +60,7 @@ def check_stops(world: World, programs: pathlib.Path, stops: int) -> None:
     for end, peer in ((a, b), (b, a)):
         c = end.counters()
         report(losses(end) == {}, f"signals: {end.number}: frames were dropped: {losses(end)}")
-        out, delivered = c["device LinkOut"], c[f"{peer.sci} {RX[0]}"]
-        report(out == c["device TapIn"], f"signals: {end.number}: {c['device TapIn']} frames of TAP, {out} sent")
-        report(delivered == c["device TapOut"], f"signals: {end.number}: {delivered} valid, {c['device TapOut']} delivered")
+        read, out = c["device TapIn"], c["device LinkOut"]
+        report(read == out, f"signals: {end.number}: {read} frames of TAP, {out} sent")
+        valid, delivered = c[f"{peer.sci} {RX[0]}"], c["device TapOut"]
+        report(valid == delivered, f"signals: {end.number}: {valid} valid frames, {delivered} delivered")

@@ -11,7 +11,7 @@ import struct
 import subprocess
 import threading
 import time
-from typing import Callable, Dict, Iterator, List, Optional, Set, Tuple
+from typing import Callable, Dict, Iterator, List, Optional, Sequence, Set, Tuple
 
 ROOT = pathlib.Path(__file__).resolve().parent.parent
 LIBC = ctypes.CDLL(None, use_errno=True)
@@ -49,12 +49,14 @@ def call(*words: str) -> str:
     return ended.stdout
 
 
-def build(out: pathlib.Path, library: pathlib.Path, options: List[str], source: pathlib.Path) -> pathlib.Path:
-    """Builds macsecd and macsecctl of a folder of sources. Returns the folder of the programs."""
+def build(out: pathlib.Path, library: pathlib.Path, options: List[str], source: pathlib.Path,
+          wrapped: Sequence[str] = ()) -> pathlib.Path:
+    """Builds macsecd and macsecctl of a folder of sources. What wraps calls is for macsecd alone. Returns the folder of
+    the programs."""
     out.mkdir(parents=True, exist_ok=True)
     include = ["-I", str(ROOT / "include"), "-I", str(source)]
     files = [str(path) for path in sorted(source.glob("*.c")) if path.name != "macsecctl.c"]
-    call("gcc", *WARNINGS, "-O2", *options, *include, "-o", str(out / "macsecd"), *files, str(library))
+    call("gcc", *WARNINGS, "-O2", *options, *wrapped, *include, "-o", str(out / "macsecd"), *files, str(library))
     call("gcc", *WARNINGS, "-O2", *options, *include, "-o", str(out / "macsecctl"), str(source / "macsecctl.c"))
     return out
 
