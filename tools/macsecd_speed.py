@@ -1,66 +1,106 @@
-"""The speed of macsecd, beside the same program without the cipher."""
+"""The speed of macsecd: what a frame costs beside the library's calls alone, and TCP beside macsecd without the cipher.
+
+Two processors of the system can be threads of one core. While the other thread is busy, with a client or with the
+other macsecd, a call of the library takes up to 1.8 times as long. So a clock around each call of macsecd measures the
+frames, and the tenth of the calls that take least are compared."""
 
 import os
 import pathlib
+import socket
+import subprocess
 from typing import Dict, List, Tuple
 
-from macsecd_world import ROOT, WARNINGS, End, World, build, call, report, tcp
+from macsecd_losses import settled
+from macsecd_world import ROOT, WARNINGS, End, Failed, World, build, call, inside, report, tcp
 
-TICK = os.sysconf("SC_CLK_TCK")
+# The octets of a datagram whose Ethernet frame has 1,400.
+DATAGRAM = 1400 - 14 - 20 - 8
+
+CLOCKED = ["macsec_send_raw", "macsec_receive_raw", "read", "write", "recvmmsg", "sendmmsg", "epoll_wait"]
+CLOCK = [*(f"-Wl,--wrap={name}" for name in CLOCKED), str(ROOT / "tools/macsecd_clock.c")]
+RELAY = [*(f"-Wl,--wrap={name}" for name in CLOCKED[:2]), str(ROOT / "tools/macsecd_relay.c")]
 
 
-def processor_time(end: End) -> "Tuple[float, float]":
-    """The seconds of a processor that its macsecd has used, and those that the system has used for it."""
+def clocked(text: str) -> "List[float]":
+    """What the clock has printed, in microseconds: to seal, a tenth and half of the calls; to open, the same; between
+    calls, for a frame."""
+    for line in text.splitlines():
+        if line.startswith("clock "):
+            return [int(it) / 1000 for it in line.split()[1:]]
+    raise Failed(f"the clock has printed nothing: {text}")
+
+
+def library_alone(folder: pathlib.Path, library: pathlib.Path) -> "List[float]":
+    """The times of the library's calls, one after the other."""
+    program = str(folder / "cost")
+    include = ["-I", str(ROOT / "include"), "-o", program, str(ROOT / "tools/macsecd_cost.c")]
+    call("gcc", *WARNINGS, "-O2", *CLOCK, *include, str(library))
+    return clocked(subprocess.run([program], capture_output=True, text=True, check=True).stderr)
+
+
+def frames_one_way(folder: pathlib.Path, programs: pathlib.Path, frames: int) -> "Tuple[List[float], List[float]]":
+    """Frames of 1,400 octets from one client to the other, as fast as it can. Returns the times of both ends."""
+    with World(folder, programs) as world:
+        world.start()
+        a, b = world.ends
+        with inside(a.namespace):
+            sender = socket.socket(socket.AF_INET, socket.SOCK_DGRAM)
+        for _ in range(frames):
+            sender.sendto(bytes(DATAGRAM), ("10.9.0.2", 9))
+        sender.close()
+        settled(a, b)
+        for end in world.ends:
+            report(end.stop() == 0, f"{end.number}: {end.log()}")
+        return clocked(a.log()), clocked(b.log())
+
+
+def processor_time(end: End) -> float:
+    """The microseconds of a processor that its macsecd has used, with those of the system for it."""
     assert end.process is not None
-    words = pathlib.Path(f"/proc/{end.process.pid}/stat").read_text().rsplit(") ", 1)[1].split()
-    return int(words[11]) / TICK, int(words[12]) / TICK
+    return int(pathlib.Path(f"/proc/{end.process.pid}/schedstat").read_text().split()[0]) / 1000
 
 
-def sample(world: World) -> "List[Tuple[Dict[str, int], Tuple[float, float]]]":
-    """Counters and processor time of both ends."""
-    return [(end.counters(), processor_time(end)) for end in world.ends]
-
-
-def run_tcp(folder: pathlib.Path, programs: pathlib.Path, octets: int) -> "Tuple[float, List[float]]":
-    """TCP from one client to the other. Returns the octets a second, and the microseconds of processor time for a frame
-    of data, with the acknowledgements beside it: of the sending macsecd and of the system for it, and of the other."""
+def run_tcp(folder: pathlib.Path, programs: pathlib.Path, octets: int) -> "List[float]":
+    """TCP from one client to the other. Returns the million octets a second, and the microseconds of a processor for a
+    frame of data, with the acknowledgements and with the system: of the sending macsecd, and of the other."""
     with World(folder, programs) as world:
         world.start()
         tcp(world.ends[0], octets // 8)
-        before = sample(world)
+        before, used = settled(*world.ends), [processor_time(end) for end in world.ends]
         seconds = tcp(world.ends[0], octets)
-        after = sample(world)
-    grown = [{name: now[name] - old[name] for name in now} for (now, _), (old, _) in zip(after, before)]
+        times = [processor_time(end) - old for end, old in zip(world.ends, used)]
+        after = settled(*world.ends)
+    grown = [{name: now[name] - old[name] for name in now} for now, old in zip(after, before)]
     frames = grown[0]["device LinkOut"]
     lost = [it["device LinkLost"] + it["device LinkRefused"] + it["device TapRefused"] for it in grown]
     report(lost == [0, 0], f"frames were lost: {lost}")
-    times = [1e6 * (y - x) / frames for (_, now), (_, old) in zip(after, before) for x, y in zip(old, now)]
-    return octets / seconds, times
-
-
-def cost(folder: pathlib.Path, library: pathlib.Path) -> "List[float]":
-    """The microseconds that the library's calls take to seal a frame of 1,400 octets, and to open it."""
-    program = folder / "cost"
-    source = str(ROOT / "tools/macsecd_cost.c")
-    call("gcc", *WARNINGS, "-O2", "-I", str(ROOT / "include"), "-o", str(program), source, str(library))
-    return [int(it) / 1000 for it in call(str(program)).split()]
+    return [octets / seconds / 1e6, *(it / frames for it in times)]
 
 
 def measure(folder: pathlib.Path, library: pathlib.Path, rounds: int = 5, octets: int = 200 << 20) -> None:
-    """Rounds of both, one after the other, and the best of each."""
-    wrapped = ["-Wl,--wrap=macsec_send_raw", "-Wl,--wrap=macsec_receive_raw", str(ROOT / "tools/macsecd_relay.c")]
-    programs = {"macsecd": build(folder / "full", library, [], ROOT / "device"),
-                "relay": build(folder / "relay", library, wrapped, ROOT / "device")}
-    best: "Dict[str, Tuple[float, List[float]]]" = {}
+    """Rounds of each, one after the other, and the best of each."""
+    device = ROOT / "device"
+    programs = {"macsecd": build(folder / "full", library, [], device),
+                "relay": build(folder / "relay", library, [], device, RELAY)}
+    with_clock = build(folder / "clock", library, [], device, CLOCK)
+    alone: "List[List[float]]" = []
+    ends: "Tuple[List[List[float]], List[List[float]]]" = ([], [])
+    best: "Dict[str, float]" = {}
     for number in range(rounds):
-        own = cost(folder, library)
-        print(f"speed: load {os.getloadavg()[0]:.1f}; the library alone: seal {own[0]:.2f} us, open {own[1]:.2f} us",
-              flush=True)
-        for name, folder_of in programs.items():
-            speed, times = run_tcp(folder / f"{name}{number}", folder_of, octets)
-            print(f"speed: {name}: TCP {speed / 1e6:.1f} million octets a second; a frame takes {times[0]:.2f} us and "
-                  f"{times[1]:.2f} us of the system to be sent, {times[2]:.2f} and {times[3]:.2f} us to be received",
-                  flush=True)
-            if name not in best or speed > best[name][0]:
-                best[name] = speed, times
-    print(f"speed: the best: macsecd has {best['macsecd'][0] / best['relay'][0]:.2f} of relay's speed", flush=True)
+        print(f"speed: load {os.getloadavg()[0]:.1f}", flush=True)
+        alone.append(library_alone(folder, library))
+        for rows, times in zip(ends, frames_one_way(folder / f"clock{number}", with_clock, 100000)):
+            rows.append(times)
+        for name, each in programs.items():
+            speed, sent, received = run_tcp(folder / f"{name}{number}", each, octets)
+            print(f"speed: {name}: TCP {speed:.1f} million octets a second; with the system, to send a frame takes "
+                  f"{sent:.2f} us, and to receive it {received:.2f} us", flush=True)
+            best[name] = max(speed, best.get(name, 0))
+    for what, rows, at in (("seal", ends[0], 0), ("open", ends[1], 2)):
+        one, two = min(it[at] for it in alone), min(it[at] for it in rows)
+        own = min(it[4] for it in rows)
+        print(f"speed: to {what} a frame of 1,400 octets takes {one:.2f} us in the library alone; in macsecd {two:.2f} "
+              f"us, and {own:.2f} us between calls, which is {(two + own) / one:.2f} times as much", flush=True)
+        print(f"speed: half of the calls take at most {min(it[at + 1] for it in alone):.2f} us alone, and "
+              f"{min(it[at + 1] for it in rows):.2f} us in macsecd", flush=True)
+    print(f"speed: TCP through macsecd has {best['macsecd'] / best['relay']:.2f} of relay's speed", flush=True)
