@@ -6,7 +6,8 @@ import signal
 import time
 
 from macsecd_handover import Recorder, losses
-from macsecd_world import ROOT, RX, Stream, World, build, numbers_of, report, until
+from macsecd_losses import settled
+from macsecd_world import ROOT, RX, Stream, World, build, numbers_of, report
 
 # The calls of macsecd that a signal can interrupt.
 CALLS = ["read", "write", "pread", "pwrite", "recv", "send", "recvfrom", "recvmmsg", "sendmmsg", "epoll_wait"]
@@ -41,6 +42,7 @@ def check_stops(world: World, programs: pathlib.Path, stops: int) -> None:
         end.program = programs / "macsecd"
     world.start()
     a, b = world.ends
+    before, dropped = settled(a, b), [losses(end) for end in world.ends]
     recorder = Recorder(b, a.sci)
     streams = [Stream(a, 0.0005), Stream(b, 0.0005, port=9011)]
     for _ in range(stops):
@@ -54,13 +56,12 @@ def check_stops(world: World, programs: pathlib.Path, stops: int) -> None:
         sent, arrived = stream.stop()
         report(sent == arrived == stream.received > 100, f"signals: {sent} datagrams were sent, {arrived} arrived, "
                f"and {stream.received} with repeated ones")
-    until(lambda: a.counters()["device LinkOut"] == b.counters()["device LinkIn"])
+    after = settled(a, b)
     frames = [number for _, number in numbers_of(recorder.stop())]
     report(frames == list(range(frames[0], frames[0] + len(frames))), "signals: packet numbers do not rise by 1")
-    for end, peer in ((a, b), (b, a)):
-        c = end.counters()
-        report(losses(end) == {}, f"signals: {end.number}: frames were dropped: {losses(end)}")
-        read, out = c["device TapIn"], c["device LinkOut"]
+    for number, (end, peer) in enumerate(((a, b), (b, a))):
+        names = "device TapIn", "device LinkOut", f"{peer.sci} {RX[0]}", "device TapOut"
+        read, out, valid, delivered = (after[number][name] - before[number][name] for name in names)
         report(read == out, f"signals: {end.number}: {read} frames of TAP, {out} sent")
-        valid, delivered = c[f"{peer.sci} {RX[0]}"], c["device TapOut"]
         report(valid == delivered, f"signals: {end.number}: {valid} valid frames, {delivered} delivered")
+        report(losses(end) == dropped[number], f"signals: {end.number}: frames were dropped: {losses(end)}")
