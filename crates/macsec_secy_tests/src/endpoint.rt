@@ -1,5 +1,6 @@
 //! What no clause states and no script can show: the faults of configurations and of frames, the options, the key under
-//! which a frame is sent, the SA of a received frame, and the counters of deleted SAs.
+//! which a frame is sent, the SA of a received frame, and the counters of deleted SAs. Also the test frames of IEEE
+//! 802.1AE, Annex C, sent and received.
 
 use macsec_secy::{
     An, Command, DropReason, EndConfig, FrameFault, Key, KeyNumber, Mode, NewFault, NewKey,
@@ -27,21 +28,21 @@ const OF_3: Option<(Sci, u8)> = Some((Sci(SCI), 3));
 const TOO_LONG: Answer = Answer::Dropped(DropReason::TooLong);
 
 /// The result for a client frame: for a sent one its octets and its key.
-#[derive(Clone, Copy, PartialEq, Eq, Debug)]
+#[derive(Clone, Copy, PartialEq, Eq)]
 enum Answer {
     Sent(usize, Option<u16>),
     Dropped(DropReason),
     Fault(FrameFault),
 }
 
-fn key_number() -> KeyNumber {
-    KeyNumber::new(4095).unwrap()
+fn key_number(rt: &impl Abort) -> KeyNumber {
+    KeyNumber::new(4095).expect(rt, "a key number")
 }
 
 /// The key of the test frames, at the sender. Its salt and SSCI and `EXTENDED_NUMBER` give the IV of the test frames.
-fn senders_key() -> NewKey {
+fn senders_key(rt: &impl Abort) -> NewKey {
     NewKey {
-        number: key_number(),
+        number: key_number(rt),
         bytes: Key::K128(KEY_128),
         salt: [0x12, 0x15, 0x35, 0x25, 0xc0, 0x89, 0x5e, 0x80, 0, 0, 0, 0],
         ssci: 1,
@@ -76,6 +77,42 @@ fn answer_to(secy: &mut Secy, client: &[u8]) -> Answer {
     }
 }
 
+/// The commands that enable an SA with the sender's key.
+fn sending(rt: &impl Abort, an: An, next: u64, conf: bool) -> [Command; 3] {
+    let association = Command::TxSa {
+        an,
+        key: key_number(rt),
+        next,
+        conf,
+    };
+    [
+        Command::Key(senders_key(rt)),
+        association,
+        Command::TxOn(an),
+    ]
+}
+
+/// Whether a client frame is sent as this link frame.
+fn is_sent_as(secy: &mut Secy, client: &[u8], link: &[u8]) -> bool {
+    match secy.send(client) {
+        Ok(Sent::Link { frame, .. }) => frame == link,
+        _ => false,
+    }
+}
+
+#[test]
+fn frames_of_the_standard(rt: HostRuntime) {
+    let frames: [(bool, &[u8], &[u8]); 2] = [
+        (false, &CLIENT_54, &LINK_54),
+        (true, &CLIENT_60, &LINK_60),
+    ];
+    for (conf, client, link) in frames {
+        let commands = sending(&rt, an(&rt, 2), 0xb2c2_8465, conf);
+        let mut secy = endpoint(&rt, rt.alloc(), SENDER, &commands);
+        assert!(rt; is_sent_as(&mut secy, client, link));
+    }
+}
+
 #[test]
 fn configurations(rt: HostRuntime) {
     let es = TagForm::Es;
@@ -99,12 +136,8 @@ fn configurations(rt: HostRuntime) {
             form,
             ..SENDER
         };
-        assert!(rt;
-            config.fault() == wanted,
-            "{max_frame} octets, port {port:x}"
-        );
         let fault = Secy::new(rt.alloc(), config).err();
-        assert!(rt; fault == wanted, "{max_frame} octets, port {port:x}");
+        assert!(rt; (fault, config.fault()) == (wanted, wanted));
     }
 }
 
@@ -131,7 +164,7 @@ fn assert_length(rt: &impl Abort, secy: &mut Secy, protect: bool, length: usize,
     let octets = [0; 9249];
     carry_out(rt, secy, &Command::Protect(protect));
     let client = octets.get(..length).expect(rt, "so many octets");
-    assert!(rt; answer_to(secy, client) == wanted, "{length} octets");
+    assert!(rt; answer_to(secy, client) == wanted);
     let fault = match wanted {
         Answer::Fault(fault) => Some(fault),
         _ => None,
@@ -145,17 +178,7 @@ fn lengths_of_frames(rt: HostRuntime) {
         max_frame: 9248,
         ..SENDER
     };
-    let an = an(&rt, 0);
-    let commands = [
-        Command::Key(senders_key()),
-        Command::TxSa {
-            an,
-            key: key_number(),
-            next: 1,
-            conf: true,
-        },
-        Command::TxOn(an),
-    ];
+    let commands = sending(&rt, an(&rt, 0), 1, true);
     let mut secy = endpoint(&rt, rt.alloc(), config, &commands);
     for (protect, length, wanted) in [
         (true, 13, Answer::Fault(FrameFault::Short)),
@@ -213,7 +236,7 @@ fn receiver(rt: &impl Abort, alloc: Global) -> Secy {
     let key = NewKey {
         ssci: 2,
         suite: Some(Suite::Xpn128),
-        ..senders_key()
+        ..senders_key(rt)
     };
     let sci = SENDER.sci;
     let (two, three) = (an(rt, 2), an(rt, 3));
@@ -223,7 +246,7 @@ fn receiver(rt: &impl Abort, alloc: Global) -> Secy {
         Command::RxSa {
             sci,
             an: two,
-            key: key_number(),
+            key: key_number(rt),
             ssci: 1,
             lowest: EXTENDED_NUMBER,
         },
@@ -231,7 +254,7 @@ fn receiver(rt: &impl Abort, alloc: Global) -> Secy {
         Command::RxSa {
             sci,
             an: three,
-            key: key_number(),
+            key: key_number(rt),
             ssci: 1,
             lowest: u64::MAX,
         },
@@ -254,8 +277,7 @@ fn received<'a>(secy: &'a mut Secy, link: &'a [u8]) -> Option<(Wanted<'a>, &'a [
 
 /// Gives the endpoint a link frame, checks the result, and that the frame is shown unchanged at the uncontrolled port.
 fn assert_received(rt: &impl Abort, secy: &mut Secy, link: &[u8], wanted: Wanted<'_>) {
-    let (verdict, _, _) = wanted;
-    assert!(rt; received(secy, link) == Some((wanted, link)), "{verdict:?}");
+    assert!(rt; received(secy, link) == Some((wanted, link)));
 }
 
 const STRICT: Command = Command::Validate(Mode::Strict);
@@ -370,62 +392,23 @@ fn assert_case(rt: &impl Abort, secy: &mut Secy, case: &Case) {
     assert_received(rt, secy, link, *wanted);
 }
 
-/// A frame has an SA from the recovery of its packet number on, even if no packet number is recovered.
+fn passed_and_late(counters: Option<RxCounters>) -> Option<(u64, u64)> {
+    let counters = counters?;
+    Some((counters.in_pkts_ok, counters.in_pkts_late))
+}
+
+/// A frame has an SA from the recovery of its packet number on, even if no packet number is recovered. The counters of a
+/// deleted SA stay with its SC.
 #[test]
 fn associations_of_frames(rt: HostRuntime) {
     let mut secy = receiver(&rt, rt.alloc());
     for case in &CASES {
         assert_case(&rt, &mut secy, case);
     }
-}
-
-fn passed_and_late(counters: Option<RxCounters>) -> Option<(u64, u64)> {
-    let counters = counters?;
-    Some((counters.in_pkts_ok, counters.in_pkts_late))
-}
-
-/// Checks the numbers of passed and late frames in the sender's SC, in its SA 2, and in its deleted SAs.
-fn assert_counted(
-    rt: &impl Abort,
-    secy: &Secy,
-    channel: (u64, u64),
-    association: Option<(u64, u64)>,
-    removed: (u64, u64),
-) {
-    let sci = SENDER.sci;
-    let of_channel = passed_and_late(secy.rx_counters(sci));
-    let of_association = passed_and_late(secy.rx_sa_counters(sci, an(rt, 2)));
-    let of_removed = passed_and_late(secy.rx_removed(sci));
-    let counted = (of_channel, of_association, of_removed);
-    assert!(rt; counted == (Some(channel), association, Some(removed)));
-}
-
-/// The counters of a deleted SA stay with its SC, and a new SA with its number starts at 0.
-#[test]
-fn counters_of_deleted_associations(rt: HostRuntime) {
-    let mut secy = receiver(&rt, rt.alloc());
     let sci = SENDER.sci;
     let two = an(&rt, 2);
-    let passed = (Verdict::Passed, OF_2, Some(&CLIENT_60[..]));
-    assert_received(&rt, &mut secy, &LINK_60, passed);
-    assert_received(&rt, &mut secy, &LINK_54, (Verdict::Late, OF_2, None));
-    assert_counted(&rt, &secy, (1, 1), Some((1, 1)), (0, 0));
     carry_out(&rt, &mut secy, &Command::RxDel(sci, two));
-    assert_counted(&rt, &secy, (1, 1), None, (1, 1));
-    let again = Command::RxSa {
-        sci,
-        an: two,
-        key: key_number(),
-        ssci: 1,
-        lowest: EXTENDED_NUMBER,
-    };
-    carry_out(&rt, &mut secy, &again);
-    carry_out(&rt, &mut secy, &Command::RxOn(sci, two));
-    assert_counted(&rt, &secy, (1, 1), Some((0, 0)), (1, 1));
-    assert_received(&rt, &mut secy, &LINK_60, passed);
-    assert_counted(&rt, &secy, (2, 1), Some((1, 0)), (1, 1));
-    carry_out(&rt, &mut secy, &Command::RxScDel(sci));
-    assert!(&rt; secy.rx_removed(sci).is_none());
-    carry_out(&rt, &mut secy, &Command::RxSc(sci));
-    assert_counted(&rt, &secy, (0, 0), None, (0, 0));
+    assert!(rt; secy.rx_sa_counters(sci, two).is_none());
+    assert!(rt; passed_and_late(secy.rx_removed(sci)) == Some((1, 1)));
+    assert!(rt; passed_and_late(secy.rx_counters(sci)) == Some((1, 1)));
 }
