@@ -1,72 +1,28 @@
-//! Files in the format pcap. What a reader returns is compared as one text: the unit of the times, then the answers of
-//! `next` one after another.
+//! Files in the format pcap.
 
-use crate::words::{Row, assert_text, octets, tell_answer};
+use crate::words::{Row, compare, compare_prefixes, octets};
 use macsec_pcap::{PcapFault, PcapReader, PcapWriter, Resolution};
-use std::alloc::{AllocError, Global};
-use std::fmt::Write;
+use std::alloc::Global;
 use std::io::{self, Read};
-use std::process::Abort;
 use std::test::Fail;
 
-/// Appends the unit of a reader's times, and the reader's answers, up to two calls after the last record.
-fn tell_records<R: Read + Drop>(
-    alloc: Global,
-    reader: &mut PcapReader<R>,
-    text: &mut String,
-) -> Result<(), Fail> {
-    let unit = match reader.resolution() {
-        Resolution::Micro => " Micro",
-        Resolution::Nano => " Nano",
-    };
-    text.push_str(unit)?;
-    let mut has_ended = false;
-    for _ in 0..8 {
-        let goes_on = tell_answer(alloc, reader.next(), text)?;
-        if has_ended && !goes_on {
-            break;
-        }
-        has_ended = !goes_on;
-    }
-    Ok(())
-}
-
-/// Appends the unit and the answers of a reader of this file, or the fault of creating one.
-fn tell_file<R: Read + Drop>(alloc: Global, source: R, text: &mut String) -> Result<(), Fail> {
-    match PcapReader::new(alloc, source) {
-        Ok(mut reader) => tell_records(alloc, &mut reader, text),
-        Err(fault) => Ok(write!(text, " {}", fault.name())?),
-    }
-}
-
-/// The unit and the answers of a reader of this file, as text.
-fn told(alloc: Global, file: &[u8]) -> Result<String, Fail> {
-    let mut text = String::new(alloc);
-    tell_file(alloc, file, &mut text)?;
-    Ok(text)
-}
-
-/// Checks the unit and the answers of a reader of this file. A failure prints the index of the case.
-fn assert_told(
-    rt: &impl Abort,
-    alloc: Global,
-    file: &[u8],
-    wanted: &str,
-    place: usize,
-) -> Result<(), Fail> {
-    let text = told(alloc, file)?;
-    assert_text(rt, alloc, text.as_str(), wanted, place)
-}
-
 /// Files in each byte order and unit, with whole, partial and empty records, and with each fault of the format.
-const FILES: [Row; 24] = [
+const FILES: [Row; 26] = [
     ("micro", "Micro end end"),
     ("micro record record", "Micro told told end end"),
-    ("nano_big", "Nano end end"),
+    ("nano_big", "end end"),
     // A record, big endian: time 1.2, five octets captured of five.
     (
         "nano_big 00000001000000020000000500000005 0102030405",
-        "Nano 1.2:0102030405 end end",
+        "1.2:0102030405 end end",
+    ),
+    (
+        "micro record 04030201080706050000000000000000",
+        "Micro told 16909060.84281096: end end",
+    ),
+    (
+        "nano record 04030201080706050000000000000000",
+        "told 16909060.84281096: end end",
     ),
     // The other two forms.
     (
@@ -75,7 +31,7 @@ const FILES: [Row; 24] = [
     ),
     (
         "4d3cb2a1020004000000000000000000ffff000001000000",
-        "Nano end end",
+        "end end",
     ),
     // Time zone, accuracy and snapshot length are not checked.
     (
@@ -150,133 +106,58 @@ const FILES: [Row; 24] = [
 
 #[test]
 fn files(rt: HostRuntime) -> Result<(), Fail> {
-    for (place, (file, wanted)) in FILES.iter().enumerate() {
-        let file = octets(rt.alloc(), file)?;
-        assert_told(&rt, rt.alloc(), file.as_slice(), wanted, place)?;
-    }
-    Ok(())
+    compare(&rt, rt.alloc(), &FILES)
 }
 
-/// The expected text for the first `len` octets of a file of two records.
-fn told_of_prefix(len: usize) -> &'static str {
-    match len {
-        0..24 => "CutHeader",
-        24 => "Micro end end",
-        25..54 => "Micro CutRecord CutRecord",
-        54 => "Micro told end end",
-        55..84 => "Micro told CutRecord CutRecord",
-        _ => "Micro told told end end",
-    }
-}
+/// The texts for the prefixes of a file of two records.
+const PREFIXES: [(usize, &str); 6] = [
+    (24, "CutHeader"),
+    (25, "Micro end end"),
+    (54, "Micro CutRecord CutRecord"),
+    (55, "Micro told end end"),
+    (84, "Micro told CutRecord CutRecord"),
+    (85, "Micro told told end end"),
+];
 
-/// Every prefix of a file of two records.
 #[test]
 fn prefixes(rt: HostRuntime) -> Result<(), Fail> {
-    let file = octets(rt.alloc(), "micro record record")?;
-    let file = file.as_slice();
-    assert_eq!(&rt; file.len(), 84);
-    for len in 0..=file.len() {
-        assert_told(&rt, rt.alloc(), &file[..len], told_of_prefix(len), len)?;
-    }
-    Ok(())
+    compare_prefixes(&rt, rt.alloc(), "micro record record", &PREFIXES)
 }
 
-fn answer_to(
-    writer: &mut PcapWriter<'_, Vec<u8>>,
-    seconds: u32,
-    fraction: u32,
-    frame: &[u8],
-) -> Result<(), PcapFault> {
-    writer.write(seconds, fraction, frame)
-}
-
-/// Writes a file of two frames with these times.
-fn write_two(file: &mut Vec<u8>, resolution: Resolution, frame: &[u8]) -> Result<(), PcapFault> {
+/// Writes a file of two frames: one of 14 octets at time 0, and an empty one.
+fn write_two(file: &mut Vec<u8>, resolution: Resolution) -> Result<(), PcapFault> {
+    let frame = [0xff, 0xff, 0xff, 0xff, 0xff, 0xff, 2, 0, 0, 0, 0, 1, 8, 0];
     let mut writer = PcapWriter::new(file, resolution)?;
-    answer_to(&mut writer, 0, 0, frame)?;
-    answer_to(&mut writer, 0x0102_0304, 0x0506_0708, &[])
+    writer.write(0, 0, &frame)?;
+    writer.write(0x0102_0304, 0x0506_0708, &[])
 }
 
-/// The file of two frames with these times.
-fn written(alloc: Global, resolution: Resolution, frame: &[u8]) -> Result<Vec<u8>, Fail> {
+/// The file of two frames is written with these octets.
+fn is_written(alloc: Global, resolution: Resolution, words: &str) -> Result<bool, Fail> {
     let mut file = Vec::new(alloc);
-    write_two(&mut file, resolution, frame)?;
-    Ok(file)
+    write_two(&mut file, resolution)?;
+    let wanted = octets(alloc, words)?;
+    Ok(file.as_slice() == wanted.as_slice())
 }
 
-fn assert_octets(rt: &impl Abort, alloc: Global, file: &[u8], wanted: &str) -> Result<(), Fail> {
-    let wanted = octets(alloc, wanted)?;
-    assert_eq!(rt; file, wanted.as_slice());
-    Ok(())
-}
-
-/// The written file in each unit, and the text of its reader.
-const WRITTEN: [(Resolution, &str, &str); 2] = [
+/// The written file in each unit.
+const WRITTEN: [(Resolution, &str); 2] = [
     (
         Resolution::Micro,
         "micro record 04030201080706050000000000000000",
-        "Micro told 16909060.84281096: end end",
     ),
     (
         Resolution::Nano,
-        "4d3cb2a1020004000000000000000000ffff000001000000 record 04030201080706050000000000000000",
-        "Nano told 16909060.84281096: end end",
+        "nano record 04030201080706050000000000000000",
     ),
 ];
 
-/// Both headers and two records, as they are written and as they are read.
 #[test]
 fn files_are_written(rt: HostRuntime) -> Result<(), Fail> {
-    let frame = [0xff, 0xff, 0xff, 0xff, 0xff, 0xff, 2, 0, 0, 0, 0, 1, 8, 0];
-    for (resolution, octets, wanted) in WRITTEN {
-        let file = written(rt.alloc(), resolution, &frame)?;
-        assert_octets(&rt, rt.alloc(), file.as_slice(), octets)?;
-        assert_told(&rt, rt.alloc(), file.as_slice(), wanted, 0)?;
+    for (resolution, words) in &WRITTEN {
+        assert!(&rt; is_written(rt.alloc(), *resolution, words)?);
     }
     Ok(())
-}
-
-fn answer_to_length(
-    alloc: Global,
-    writer: &mut PcapWriter<'_, Vec<u8>>,
-    len: usize,
-) -> Result<Result<(), PcapFault>, AllocError> {
-    let frame = vec![in alloc; 0x5a; len]?;
-    Ok(answer_to(writer, 1, 2, frame.as_slice()))
-}
-
-/// Checks that a frame of 262,144 octets is written, that one of 262,145 is not, and that no frame is after that.
-fn assert_answers(rt: &impl Abort, alloc: Global, file: &mut Vec<u8>) -> Result<(), Fail> {
-    let mut writer = PcapWriter::new(file, Resolution::Micro)?;
-    for (len, answer) in [
-        (262_144, Ok(())),
-        (262_145, Err(PcapFault::RecordLength)),
-        (0, Err(PcapFault::RecordLength)),
-    ] {
-        assert_eq!(rt; answer_to_length(alloc, &mut writer, len)?, answer);
-    }
-    Ok(())
-}
-
-/// The expected text for a file of one frame of `len` octets 5a.
-fn told_of_frame(alloc: Global, len: usize) -> Result<String, AllocError> {
-    let mut text = String::new(alloc);
-    text.push_str("Micro 1.2:")?;
-    for _ in 0..len {
-        text.push_str("5a")?;
-    }
-    text.push_str(" end end")?;
-    Ok(text)
-}
-
-/// A frame of 262,144 octets is written and read. One of 262,145 octets is not written, and no frame is after that.
-#[test]
-fn longest_frame(rt: HostRuntime) -> Result<(), Fail> {
-    let mut file = Vec::new(rt.alloc());
-    assert_answers(&rt, rt.alloc(), &mut file)?;
-    assert_eq!(&rt; file.len(), 24 + 16 + 262_144);
-    let wanted = told_of_frame(rt.alloc(), 262_144)?;
-    assert_told(&rt, rt.alloc(), file.as_slice(), wanted.as_str(), 0)
 }
 
 /// A file of empty records at time 0: its header, and then this many octets of 0.

@@ -1,67 +1,12 @@
-//! Files in the format pcapng, given block by block. What a reader returns is compared as one text: the answers of
-//! `next` one after another, up to two calls after the last record.
+//! Files in the format pcapng, given block by block.
 
-use crate::words::{Row, assert_text, octets, spelled, tell_answer};
+use crate::words::{
+    Row, assert_text, assert_told, compare_all, compare_prefixes, octets, spelled, told,
+};
 use macsec_failing_io::{FailingReader, Fails};
-use macsec_pcap::{Body, PcapFault};
-use macsec_pcapng::{CaptureReader, PcapngReader};
-use std::alloc::{AllocError, Global};
-use std::fmt::Write;
-use std::io::Read;
+use std::alloc::Global;
 use std::process::Abort;
 use std::test::Fail;
-
-/// Appends the answers of a reader, up to two calls after the last record.
-fn tell_records<R: Read + Drop>(
-    alloc: Global,
-    reader: &mut CaptureReader<R>,
-    text: &mut String,
-) -> Result<(), Fail> {
-    let mut has_ended = false;
-    for _ in 0..16 {
-        let goes_on = tell_answer(alloc, reader.next(), text)?;
-        if has_ended && !goes_on {
-            break;
-        }
-        has_ended = !goes_on;
-    }
-    Ok(())
-}
-
-/// Appends the answers of a reader of this file, or the fault of creating one.
-fn tell_file<R: Read + Drop>(alloc: Global, source: R, text: &mut String) -> Result<(), Fail> {
-    match CaptureReader::new(alloc, source) {
-        Ok(mut reader) => tell_records(alloc, &mut reader, text),
-        Err(fault) => Ok(write!(text, " {}", fault.name())?),
-    }
-}
-
-/// The answers of a reader of this file, as text.
-fn told<R: Read + Drop>(alloc: Global, source: R) -> Result<String, Fail> {
-    let mut text = String::new(alloc);
-    tell_file(alloc, source, &mut text)?;
-    Ok(text)
-}
-
-/// Checks the answers of a reader of this file. A failure prints the index of the case.
-fn assert_told(
-    rt: &impl Abort,
-    alloc: Global,
-    file: &[u8],
-    wanted: &str,
-    place: usize,
-) -> Result<(), Fail> {
-    let text = told(alloc, file)?;
-    assert_text(rt, alloc, text.as_str(), wanted, place)
-}
-
-fn compare(rt: &impl Abort, alloc: Global, rows: &[Row]) -> Result<(), Fail> {
-    for (place, (file, wanted)) in rows.iter().enumerate() {
-        let file = octets(alloc, file)?;
-        assert_told(rt, alloc, file.as_slice(), wanted, place)?;
-    }
-    Ok(())
-}
 
 /// Files of one section and of several, with packets of all kinds, and blocks that are skipped.
 const FILES: [Row; 20] = [
@@ -162,11 +107,6 @@ const FILES: [Row; 20] = [
     ),
 ];
 
-#[test]
-fn files(rt: HostRuntime) -> Result<(), Fail> {
-    compare(&rt, rt.alloc(), &FILES)
-}
-
 /// Packets at 1,537 units on interfaces with many resolutions in one section; and the largest times.
 const RESOLUTIONS: [Row; 8] = [
     // Microseconds, thousandths, 1/1024 of a second (1.5009765625), seconds, and 10^-12 of a second (1.537 ns).
@@ -233,92 +173,63 @@ const RESOLUTIONS: [Row; 8] = [
     ),
 ];
 
-#[test]
-fn resolutions(rt: HostRuntime) -> Result<(), Fail> {
-    compare(&rt, rt.alloc(), &RESOLUTIONS)
-}
-
-/// The answers for a file of these words.
-fn told_of(alloc: Global, words: &str) -> Result<String, Fail> {
-    let file = octets(alloc, words)?;
-    told(alloc, file.as_slice())
-}
-
-/// Checks that two files give the same answers. Each has two records, and the second is partial.
-fn assert_alike(rt: &impl Abort, alloc: Global, one: &str, other: &str) -> Result<(), Fail> {
-    let one = told_of(alloc, one)?;
-    let other = told_of(alloc, other)?;
-    assert_eq!(rt; other.as_str(), one.as_str());
-    assert!(rt; other.as_str().ends_with(" partial end end"));
-    Ok(())
-}
-
-/// A pcap file with times in seconds and nanoseconds, and a pcapng file with the same times in units of its resolution.
-const ALIKE: [Row; 9] = [
+/// Packets at 3 or 3.5 seconds in units of nine resolutions: a whole one, and a partial one.
+const UNITS: [Row; 9] = [
     (
-        "nano 0300000000000000 whole_record 0300000000000000 partial_record",
         "little resolution 00 resolved
          060000003000000000000000 0000000003000000 whole_record end_of_14
          060000003000000000000000 0000000003000000 partial_record end_of_14",
+        "3.0:ffffffffffff0200000000010800 3.0 partial end end",
     ),
     (
-        "nano 030000000065cd1d whole_record 030000000065cd1d partial_record",
         "little resolution 03 resolved
          060000003000000000000000 00000000ac0d0000 whole_record end_of_14
          060000003000000000000000 00000000ac0d0000 partial_record end_of_14",
+        "3.500000000:ffffffffffff0200000000010800 3.500000000 partial end end",
     ),
     (
-        "nano 030000000065cd1d whole_record 030000000065cd1d partial_record",
         "little resolution 06 resolved
          060000003000000000000000 00000000e0673500 whole_record end_of_14
          060000003000000000000000 00000000e0673500 partial_record end_of_14",
+        "3.500000000:ffffffffffff0200000000010800 3.500000000 partial end end",
     ),
     (
-        "nano 030000000065cd1d whole_record 030000000065cd1d partial_record",
         "little resolution 09 resolved
          060000003000000000000000 0000000000c39dd0 whole_record end_of_14
          060000003000000000000000 0000000000c39dd0 partial_record end_of_14",
+        "3.500000000:ffffffffffff0200000000010800 3.500000000 partial end end",
     ),
     (
-        "nano 030000000065cd1d whole_record 030000000065cd1d partial_record",
         "little resolution 0c resolved
          060000003000000000000000 2e03000000b841e8 whole_record end_of_14
          060000003000000000000000 2e03000000b841e8 partial_record end_of_14",
+        "3.500000000:ffffffffffff0200000000010800 3.500000000 partial end end",
     ),
     (
-        "nano 030000000065cd1d whole_record 030000000065cd1d partial_record",
         "little resolution 8a resolved
          060000003000000000000000 00000000000e0000 whole_record end_of_14
          060000003000000000000000 00000000000e0000 partial_record end_of_14",
+        "3.500000000:ffffffffffff0200000000010800 3.500000000 partial end end",
     ),
     (
-        "nano 030000000065cd1d whole_record 030000000065cd1d partial_record",
         "little resolution 94 resolved
          060000003000000000000000 0000000000003800 whole_record end_of_14
          060000003000000000000000 0000000000003800 partial_record end_of_14",
+        "3.500000000:ffffffffffff0200000000010800 3.500000000 partial end end",
     ),
     (
-        "nano 030000000065cd1d whole_record 030000000065cd1d partial_record",
         "little resolution 9e resolved
          060000003000000000000000 00000000000000e0 whole_record end_of_14
          060000003000000000000000 00000000000000e0 partial_record end_of_14",
+        "3.500000000:ffffffffffff0200000000010800 3.500000000 partial end end",
     ),
     (
-        "nano 030000000065cd1d whole_record 030000000065cd1d partial_record",
         "little resolution a0 resolved
          060000003000000000000000 0300000000000080 whole_record end_of_14
          060000003000000000000000 0300000000000080 partial_record end_of_14",
+        "3.500000000:ffffffffffff0200000000010800 3.500000000 partial end end",
     ),
 ];
-
-/// A pcap file in nanoseconds and a pcapng file of the same records give the same records.
-#[test]
-fn either_format(rt: HostRuntime) -> Result<(), Fail> {
-    for (pcap, pcapng) in ALIKE {
-        assert_alike(&rt, rt.alloc(), pcap, pcapng)?;
-    }
-    Ok(())
-}
 
 /// Each fault of the format.
 const FAULTS: [Row; 30] = [
@@ -434,11 +345,6 @@ const FAULTS: [Row; 30] = [
     ),
 ];
 
-#[test]
-fn faults(rt: HostRuntime) -> Result<(), Fail> {
-    compare(&rt, rt.alloc(), &FAULTS)
-}
-
 /// Files that Wireshark's editcap and mergecap (4.0.17) wrote from two pcap files. One has frames at 1.000002 and
 /// 1700000000.999999, in microseconds. The other has frames at 3.000000007 and 1700000001.999999999, in nanoseconds;
 /// the last was captured with 19 octets of 30. The option that names a machine is left out.
@@ -466,33 +372,32 @@ const FILES_OF_WIRESHARK: [Row; 2] = [
     ),
 ];
 
+const TABLES: [&[Row]; 5] = [&FILES, &RESOLUTIONS, &UNITS, &FAULTS, &FILES_OF_WIRESHARK];
+
 #[test]
-fn files_of_wireshark(rt: HostRuntime) -> Result<(), Fail> {
-    compare(&rt, rt.alloc(), &FILES_OF_WIRESHARK)
+fn files(rt: HostRuntime) -> Result<(), Fail> {
+    compare_all(&rt, rt.alloc(), &TABLES)
 }
 
-/// The expected answers for the first `len` octets of the file in `prefixes`.
-fn told_of_prefix(len: usize) -> &'static str {
-    match len {
-        0..28 => "CutHeader",
-        28 | 48 => "end end",
-        29..48 | 49..96 => "CutRecord CutRecord",
-        96 | 124 | 144 => "told end end",
-        _ => "told CutRecord CutRecord",
-    }
-}
+/// The texts for the prefixes of a file with a section header, an interface, a packet, a second section header and its
+/// interface, of 28, 20, 48, 28 and 20 octets.
+const PREFIXES: [(usize, &str); 10] = [
+    (28, "CutHeader"),
+    (29, "end end"),
+    (48, "CutRecord CutRecord"),
+    (49, "end end"),
+    (96, "CutRecord CutRecord"),
+    (97, "told end end"),
+    (124, "told CutRecord CutRecord"),
+    (125, "told end end"),
+    (144, "told CutRecord CutRecord"),
+    (145, "told end end"),
+];
 
-/// Every prefix of a file with a section header, an interface, a packet, a second section header and its interface, of
-/// 28, 20, 48, 28 and 20 octets.
 #[test]
 fn prefixes(rt: HostRuntime) -> Result<(), Fail> {
-    let file = octets(rt.alloc(), "little ethernet packet big ethernet_big")?;
-    let file = file.as_slice();
-    assert_eq!(&rt; file.len(), 144);
-    for len in 0..=file.len() {
-        assert_told(&rt, rt.alloc(), &file[..len], told_of_prefix(len), len)?;
-    }
-    Ok(())
+    let words = "little ethernet packet big ethernet_big";
+    compare_prefixes(&rt, rt.alloc(), words, &PREFIXES)
 }
 
 /// The expected answers for a file of one packet if the read of this number fails. With 7 octets a call, the first 24
@@ -561,25 +466,16 @@ const LONGEST: [(&str, usize); 11] = [
     ("packet", 1),
 ];
 
-/// The number of octets in the next record, and the last of them; for a partial record 0 and none.
-fn next_octets(reader: &mut PcapngReader<&[u8]>) -> Result<Option<(usize, Option<u8>)>, PcapFault> {
-    match reader.next()? {
-        Some(record) => match record.body {
-            Body::Whole(frame) => Ok(Some((frame.len(), frame.last().copied()))),
-            Body::Partial | Body::OtherLink(_) => Ok(Some((0, None))),
-        },
-        None => Ok(None),
-    }
-}
+/// The end of the text for that file.
+const LAST: &str = "005a 0.0:ffffffffffff0200000000010800 end end";
 
 /// A skipped block that is longer than a frame can be, and a packet with the longest frame and with options after it.
 #[test]
 fn longest_blocks(rt: HostRuntime) -> Result<(), Fail> {
     let file = repeated(rt.alloc(), &LONGEST)?;
-    let mut reader = PcapngReader::new(rt.alloc(), file.as_slice())?;
-    for wanted in [Some((262_144, Some(0x5a))), Some((14, Some(0))), None] {
-        assert_eq!(&rt; next_octets(&mut reader), Ok(wanted));
-    }
+    let text = told(rt.alloc(), file.as_slice())?;
+    assert!(&rt; text.as_str().ends_with(LAST));
+    assert_eq!(&rt; text.as_str().len(), 5 + 2 * 262_142 + LAST.len());
     Ok(())
 }
 

@@ -1,9 +1,11 @@
 //! Files are given as hex, and what a reader returns as text. Both are written in words; some words are abbreviations
 //! (`WORDS`).
 
-use macsec_pcap::{Body, PcapFault, Record};
+use macsec_pcap::{Body, PcapFault, Record, Resolution};
+use macsec_pcapng::CaptureReader;
 use std::alloc::{AllocError, Global};
 use std::fmt::Write;
+use std::io::Read;
 use std::process::Abort;
 use std::test::Fail;
 
@@ -76,21 +78,26 @@ pub fn spelled(word: &str) -> &str {
     word
 }
 
-fn tell_record(alloc: Global, text: &mut String, record: Record<'_>) -> Result<(), Fail> {
-    let (seconds, fraction) = (record.seconds, record.fraction);
-    match record.body {
+fn tell_body(alloc: Global, text: &mut String, body: Body<'_>) -> Result<(), Fail> {
+    match body {
         Body::Whole(frame) => {
-            let frame = hex::encode(alloc, frame)?;
-            write!(text, " {seconds}.{fraction}:{frame}")?;
+            text.push_str(":")?;
+            text.push_str(hex::encode(alloc, frame)?.as_str())?;
         }
-        Body::Partial => write!(text, " {seconds}.{fraction} partial")?,
-        Body::OtherLink(number) => write!(text, " {seconds}.{fraction} linktype {number}")?,
+        Body::Partial => text.push_str(" partial")?,
+        Body::OtherLink(number) => write!(text, " linktype {number}")?,
     }
     Ok(())
 }
 
+fn tell_record(alloc: Global, text: &mut String, record: Record<'_>) -> Result<(), Fail> {
+    let (seconds, fraction) = (record.seconds, record.fraction);
+    write!(text, " {seconds}.{fraction}")?;
+    tell_body(alloc, text, record.body)
+}
+
 /// Appends the answer of a call of `next` as text. Returns whether it is a record.
-pub fn tell_answer(
+fn tell_answer(
     alloc: Global,
     answer: Result<Option<Record<'_>>, PcapFault>,
     text: &mut String,
@@ -123,6 +130,42 @@ pub fn octets(alloc: Global, words: &str) -> Result<Vec<u8>, Fail> {
     Ok(hex::decode(alloc, text.as_str())?)
 }
 
+/// Appends the answers of a reader, up to two calls after the last record.
+fn tell_records<R: Read + Drop>(
+    alloc: Global,
+    reader: &mut CaptureReader<R>,
+    text: &mut String,
+) -> Result<(), Fail> {
+    let mut has_ended = false;
+    for _ in 0..16 {
+        let goes_on = tell_answer(alloc, reader.next(), text)?;
+        if has_ended && !goes_on {
+            break;
+        }
+        has_ended = !goes_on;
+    }
+    Ok(())
+}
+
+/// The answers of a reader of this file as text, after `Micro` if its times are in microseconds; or the fault of
+/// creating the reader.
+pub fn told<R: Read + Drop>(alloc: Global, source: R) -> Result<String, Fail> {
+    let mut text = String::new(alloc);
+    match CaptureReader::new(alloc, source) {
+        Ok(mut reader) => {
+            if reader.resolution() == Resolution::Micro {
+                text.push_str(" Micro")?;
+            }
+            tell_records(alloc, &mut reader, &mut text)?;
+        }
+        Err(fault) => {
+            text.push_str(" ")?;
+            text.push_str(fault.name())?;
+        }
+    }
+    Ok(text)
+}
+
 /// Checks the text for a file. A failure prints the index of the case.
 pub fn assert_text(
     rt: &impl Abort,
@@ -133,5 +176,60 @@ pub fn assert_text(
 ) -> Result<(), Fail> {
     let wanted = spelled_out(alloc, wanted, " ")?;
     assert_eq!(rt; text, wanted.as_str(), "at {place}");
+    Ok(())
+}
+
+/// Checks the answers of a reader of this file. A failure prints the index of the case.
+pub fn assert_told(
+    rt: &impl Abort,
+    alloc: Global,
+    file: &[u8],
+    wanted: &str,
+    place: usize,
+) -> Result<(), Fail> {
+    let text = told(alloc, file)?;
+    assert_text(rt, alloc, text.as_str(), wanted, place)
+}
+
+/// Checks the answers for each file of each table.
+pub fn compare_all(rt: &impl Abort, alloc: Global, tables: &[&[Row]]) -> Result<(), Fail> {
+    for rows in tables {
+        compare(rt, alloc, rows)?;
+    }
+    Ok(())
+}
+
+/// Checks the answers for each file.
+pub fn compare(rt: &impl Abort, alloc: Global, rows: &[Row]) -> Result<(), Fail> {
+    for (place, (file, wanted)) in rows.iter().enumerate() {
+        let file = octets(alloc, file)?;
+        assert_told(rt, alloc, file.as_slice(), wanted, place)?;
+    }
+    Ok(())
+}
+
+/// The text of the first row with a greater length than this.
+fn text_at<'a>(rows: &[(usize, &'a str)], len: usize) -> &'a str {
+    for (end, text) in rows {
+        if len < *end {
+            return text;
+        }
+    }
+    "no row"
+}
+
+/// Checks the answers for every prefix of a file. Each row has the text for the prefixes below a length, and not below
+/// that of the row before.
+pub fn compare_prefixes(
+    rt: &impl Abort,
+    alloc: Global,
+    words: &str,
+    rows: &[(usize, &str)],
+) -> Result<(), Fail> {
+    let file = octets(alloc, words)?;
+    let file = file.as_slice();
+    for len in 0..=file.len() {
+        assert_told(rt, alloc, &file[..len], text_at(rows, len), len)?;
+    }
     Ok(())
 }
