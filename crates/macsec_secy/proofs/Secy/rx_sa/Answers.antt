@@ -1,6 +1,6 @@
 -- The state after the command is the defined one, and sound. The contract of `RxChannels::rx_sa` gives the SCs, the
 -- contract of `add_association` and `changed_again` give their counters, and `after_effect` the rest.
-use Rattle.std.proofs.Common.{◌≡◌, ◌∙◌, ap, map, length, subst, sym}
+use Rattle.std.proofs.Common.{◌≡◌, ◌∙◌, ap, map, length, rules, subst, sym}
 use Rattle.std.specs.List.{refill}
 use Rattle.macsec_rx.specs.Rows.{AreChannels}
 use Rattle.macsec_commands.specs.declared.command.Command.TheVariants as by
@@ -39,3 +39,13 @@ returns-clause-after c =
 
 pub returns-clause-sound : goal.returns-clause-sound
 returns-clause-sound c = (invariant_of-self-2 c).sound
+
+-- By search alone. Without these proofs the prover tries other tactics on a mutant, which takes longer.
+pub returns-in_err-rx_sa-clause-refusal : goal.returns-in_err-rx_sa-clause-refusal
+returns-in_err-rx_sa-clause-refusal c = search rules
+
+pub returns-in_err-rx_sa-clause-after : goal.returns-in_err-rx_sa-clause-after
+returns-in_err-rx_sa-clause-after c = search rules
+
+pub returns-clause-refusal : goal.returns-clause-refusal
+returns-clause-refusal c = search rules
