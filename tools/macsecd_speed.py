@@ -10,6 +10,7 @@ import socket
 import subprocess
 from typing import Dict, List, Tuple
 
+from macsecd_controls import altered
 from macsecd_losses import settled
 from macsecd_world import ROOT, WARNINGS, End, Failed, World, build, call, inside, report, tcp
 
@@ -18,6 +19,8 @@ DATAGRAM = 1400 - 14 - 20 - 8
 
 CLOCKED = ["macsec_send_raw", "macsec_receive_raw", "read", "write", "recvmmsg", "sendmmsg", "epoll_wait"]
 CLOCK = [*(f"-Wl,--wrap={name}" for name in CLOCKED), str(ROOT / "tools/macsecd_clock.c")]
+# macsecd without batches: relay-single takes one frame at a time.
+SINGLE = ("device.h", "enum { BATCH = 64 };", "enum { BATCH = 1 };")
 RELAY = [*(f"-Wl,--wrap={name}" for name in CLOCKED[:2]), str(ROOT / "tools/macsecd_relay.c")]
 
 
@@ -80,8 +83,10 @@ def run_tcp(folder: pathlib.Path, programs: pathlib.Path, octets: int) -> "List[
 def measure(folder: pathlib.Path, library: pathlib.Path, rounds: int = 5, octets: int = 200 << 20) -> None:
     """Rounds of each, one after the other, and the best of each."""
     device = ROOT / "device"
+    single = altered(folder / "single", SINGLE, device)
     programs = {"macsecd": build(folder / "full", library, [], device),
-                "relay": build(folder / "relay", library, [], device, RELAY)}
+                "relay": build(folder / "relay", library, [], device, RELAY),
+                "relay-single": build(folder / "relay-single", library, [], single, RELAY)}
     with_clock = build(folder / "clock", library, [], device, CLOCK)
     alone: "List[List[float]]" = []
     ends: "Tuple[List[List[float]], List[List[float]]]" = ([], [])
@@ -103,4 +108,5 @@ def measure(folder: pathlib.Path, library: pathlib.Path, rounds: int = 5, octets
               f"us, and {own:.2f} us between calls, which is {(two + own) / one:.2f} times as much", flush=True)
         print(f"speed: half of the calls take at most {min(it[at + 1] for it in alone):.2f} us alone, and "
               f"{min(it[at + 1] for it in rows):.2f} us in macsecd", flush=True)
-    print(f"speed: TCP through macsecd has {best['macsecd'] / best['relay']:.2f} of relay's speed", flush=True)
+    for name in ("relay", "relay-single"):
+        print(f"speed: TCP through macsecd has {best['macsecd'] / best[name]:.2f} of the speed of {name}", flush=True)
