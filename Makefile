@@ -29,8 +29,10 @@
 # make kept-frames   sees that callers which keep a frame over the next call are refused
 # make c-programs    builds the library for C and the programs over it, runs them, and makes 100,000 random calls
 # make lanes-used    sees that the cipher is built of its lanes, powers and pieces
-# make device        builds the MACsec device build/macsecd, and build/macsecctl, over the library for C
-# make install-device copies both, their manual pages and the unit for systemd to PREFIX, as make install does
+# make device        builds the MACsec device build/macsecd, and build/macsecctl, over the library for C; with
+#                    CPU=x86-64-v3 build/macsecd-x86-64-v3
+# make install-device copies both, their manual pages and the unit for systemd to PREFIX, as make install does; the
+#                    device of CPU becomes macsecd there
 # make macsecd       runs the device in network namespaces, which needs root's rights
 # make clean         removes what make has built
 # install, pages, conformance, fuzz, failures, stored-runs, controls and peer prove and build the program first;
@@ -45,6 +47,8 @@ BUILT := build/macsec$(if $(filter x86-64-v3,$(CPU)),-x86-64-v3)
 DEVICE_FLAGS := -std=c11 -Wall -Wextra -Werror -pedantic -Iinclude -O2 -fstack-protector-strong -D_FORTIFY_SOURCE=2 \
     -fPIE -pie -Wl,-z,relro -Wl,-z,now -Wl,-z,noexecstack
 HWCAPS := glibc-hwcaps/x86-64-v3
+DEVICE := build/macsecd$(if $(filter x86-64-v3,$(CPU)),-x86-64-v3)
+DEVICE_SOURCES := $(filter-out device/macsecctl.c,$(wildcard device/*.c))
 
 .PHONY: all try test run lib kept install dist check edits pictures reference pages bench fuzz moves failures stored-runs \
     controls peer kept-frames c-programs journal lanes-used toolchain clean
@@ -149,10 +153,11 @@ lanes-used: toolchain
 
 .PHONY: device install-device macsecd conformance
 
-device: build/macsecd build/macsecctl
+device: $(DEVICE) build/macsecctl
 
 install-device: device
-	install -D -m 755 -t "$(DESTDIR)$(PREFIX)/sbin" build/macsecd build/macsecctl
+	install -D -m 755 -t "$(DESTDIR)$(PREFIX)/sbin" build/macsecctl
+	install -m 755 $(DEVICE) "$(DESTDIR)$(PREFIX)/sbin/macsecd"
 	install -D -m 644 -t "$(DESTDIR)$(PREFIX)/share/man/man8" man/macsecd.8 man/macsecctl.8
 	install -d "$(DESTDIR)$(PREFIX)/lib/systemd/system"
 	sed 's|/usr/local|$(PREFIX)|' device/macsecd@.service > "$(DESTDIR)$(PREFIX)/lib/systemd/system/macsecd@.service"
@@ -177,7 +182,10 @@ build/libmacsec.a: $(SOURCES) tools/merged-library tools/libmacsec.map | toolcha
 	@tools/prove libmacsec_c.a
 	tools/merged-library build/libmacsec_c.a $@
 
-build/macsecd: $(filter-out device/macsecctl.c,$(wildcard device/*.c)) build/libmacsec.a $(wildcard device/*.h)
+build/macsecd: $(DEVICE_SOURCES) build/libmacsec.a $(wildcard device/*.h)
+	$(CC) $(DEVICE_FLAGS) -o $@ $(filter %.c %.a,$^)
+
+build/macsecd-x86-64-v3: $(DEVICE_SOURCES) build/$(HWCAPS)/libmacsec.a $(wildcard device/*.h)
 	$(CC) $(DEVICE_FLAGS) -o $@ $(filter %.c %.a,$^)
 
 build/macsecctl: device/macsecctl.c
