@@ -4,7 +4,7 @@ import contextlib
 import json
 import random
 import socket
-from typing import Callable
+from typing import Callable, Dict
 
 from macsecd_world import IN, OUT, RX, End, connected, ping, report, until
 
@@ -29,6 +29,27 @@ def check_answers(end: End) -> None:
     check_formats(end, peer)
 
 
+def counters_of_json(end: End) -> "Dict[str, int]":
+    """The endpoint's counters in JSON, under the names of `A counters`."""
+    shown = json.loads(end.ask("json"))
+    found = {**shown["counters"], **shown["transmit_counters"]}
+    for channel in shown["receive"]:
+        found.update({f"{channel['sci']} {name}": n for name, n in channel["counters"].items()})
+        for it in channel["associations"]:
+            found.update({f"{channel['sci']} {it['an']} {name}": n for name, n in it["counters"].items()})
+    return found
+
+
+def sorted_lines(text: str) -> str:
+    """The lines of a text, in the order of the alphabet."""
+    return "\n".join(sorted(text.splitlines()))
+
+
+def lines_of(counters: "Dict[str, int]") -> str:
+    """Counters as `A counters` writes them, in the order of the alphabet."""
+    return sorted_lines("\n".join(f"{name} {n}" for name, n in counters.items()))
+
+
 def check_formats(end: End, peer: str) -> None:
     """JSON, and the text format of Prometheus."""
 
@@ -38,8 +59,9 @@ def check_formats(end: End, peer: str) -> None:
 
     shown = json.loads(end.ask("json"))
     report(shown["receive"][0]["sci"] == peer and shown["link"] == "link0" and shown["up"] is True, f"json: {shown}")
-    agree(lambda: str(json.loads(end.ask("json"))["transmit_counters"]["OutPktsEncrypted"]),
-          lambda: str(end.counters()["OutPktsEncrypted"]), "json")
+    agree(lambda: lines_of(counters_of_json(end)), lambda: sorted_lines(end.ask("A counters")), "json")
+    agree(lambda: lines_of({name: n for name, n in end.counters().items() if not name.startswith("device ")}),
+          lambda: sorted_lines(end.ask("A counters")), "`counters`")
     agree(lambda: sample().split()[1], lambda: str(end.counters()["OutPktsEncrypted"]), "metrics")
     metrics = end.ask("metrics")
     report("macsec_in_pkts_no_sa_error_total{" in metrics, metrics[:300])
