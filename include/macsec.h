@@ -42,11 +42,13 @@
  *            macsec_reserve_configure, macsec_command_line and macsec_answer also allocate while they read their text,
  *            macsec_answer while it composes counters and packet numbers, and macsec_journal_compacted while it works,
  *            and free that before they return. No other call allocates, so no other call runs out of memory. malloc
- *            and realloc must align a block to each power of two up to 16 that divides its size, as all C libraries do.
- *            They must return: no exception may be thrown through the library, which has no unwinding tables. The
- *            memory is not wiped: keys may stay in it, and on the stack. Give each call 96 KB of stack: macsec_new
- *            took 59 KB on x86-64, the other calls that create an endpoint 57, the rest a fraction of that (measured,
- *            not proved).
+ *            must align a block to each power of two up to 16 that divides its size, as all C libraries do. It must
+ *            return: no exception may be thrown through the library, which has no unwinding tables. The library
+ *            overwrites a block before it frees it. For blocks of 1 MB or more it asks the kernel for new pages
+ *            (madvise), and overwrites them if the kernel refuses. The calls that take a key, a text or an association
+ *            overwrite the stack that they used. A retired key stays in its endpoint until macsec_free. Registers,
+ *            swap, core dumps and the caller's own copies are not covered. Give each call 96 KB of stack: the calls
+ *            that create an endpoint took 66 KB on x86-64, the others 33 KB or less (measured, not proved).
  * PROCESSOR  An x86-64 processor with SSSE3 (every x86-64-v2 has it). The library does not test for it: on another one
  *            the process ends with SIGILL.
  * HANDLES    A handle is the caller's memory, initialized with MACSEC_ENDPOINT_INIT (all zero). Do not copy, move or
@@ -77,7 +79,8 @@
  * (crates/macsec_secy/specs/Step.antt; with a journal, crates/macsec_reserve/specs/Keeping.antt), or reads its state,
  * for the arguments that C gave; or it takes the steps that the lines of a text say. Each call reads and writes only
  * what it was given, and returns. A reader that finds nothing leaves its output struct unchanged. Measured or tested,
- * not proved: sizes and stack, that macsec_free frees each block, and which calls allocate. Not proved: this header and
+ * not proved: sizes and stack, that macsec_free frees each block, that memory is overwritten, and which calls allocate.
+ * Not proved: this header and
  * its inline functions, which a script compares with the library's source; C's side of what it says; malloc; the
  * compilers. No call takes constant time.
  */

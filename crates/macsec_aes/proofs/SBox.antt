@@ -1,5 +1,8 @@
 -- The S-box table of the code is the S-box, by the table of inverses.
-use Rattle.std.proofs.Common.{◌≡◌, ℕ, ◌<◌, map, get_or, refl, sym, ap, ◌∙◌}
+use Rattle.std.proofs.Common.{◌≡◌, ℕ, ◌<◌, ◌≤◌, ◌+◌, ◌/◌, map, get_or, refl, sym, ap, ◌∙◌, inl, inr, arith, bit_xor}
+use Rattle.std.proofs.lemmas.Nat.{xor_lt}
+use Rattle.std.proofs.lemmas.Bool.Decides.{eqb_tells}
+use Rattle.std.specs.Int.Bits.{xor_zero_r, xor_zero_l, xor_assoc, xor_self}
 use Rattle.std.proofs.lemmas.List.FromFn.{fill_by_all}
 use Rattle.std.specs.List.{range_with_len}
 use Rattle.macsec_aes.specs.declared.TheConstants.{S_BOX}
@@ -17,3 +20,18 @@ S_BOX_at a la = S_BOX-by_entry a la ∙ ap affine_transformation (sym (inverse_i
 
 pub S_BOX_lem : S_BOX ≡ map s_box (range_with_len 0 256)
 S_BOX_lem = fill_by_all s_box S_BOX 256 0 refl S_BOX_at
+
+-- ---- whether two bytes differ, as a number
+
+different_sum : (i a : ℕ) → (i ≡ a → ⊥) → 1 ≤ bit_xor i a
+different_sum i a other =
+    elim (eqb_tells (bit_xor i a) 0) [
+      | inl none ↦ absurd (other (sym (xor_zero_r i) ∙ ap (bit_xor i) (sym (xor_self a)) ∙ sym (xor_assoc i a a) ∙ ap (λ (s : ℕ). bit_xor s a) none.1 ∙ xor_zero_l a))
+      | inr some ↦ grind (arith, some.1)
+    ]
+
+pub differ_is_0 : (i a : ℕ) → i ≡ a → (bit_xor i a + 255) / 256 ≡ 0
+differ_is_0 i a same = rw (same, xor_self a) refl
+
+pub differ_is_1 : (i a : ℕ) → i < 256 → a < 256 → (i ≡ a → ⊥) → (bit_xor i a + 255) / 256 ≡ 1
+differ_is_1 i a li la other = omega (arith, different_sum i a other, xor_lt 8 i a li la)

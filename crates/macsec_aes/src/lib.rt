@@ -5,11 +5,11 @@
 //! transformation of the inverse. The inverse is the byte whose product with the given one is 1, and 0 for 0. The law
 //! `laws::one_inverse` says that each byte but 0 has exactly one inverse.
 //!
-//! `Schedule::round_key` requires a round that the key has. No contract is about time. `encrypt` and `Schedule::expand`
-//! look up the S-box in a table.
+//! `Schedule::round_key` requires a round that the key has. No contract is about time. In the source no branch and no
+//! address depends on a key or a block: `sub` reads its whole table.
 #![tactic(auto)]
 
-ghost use Rattle.std.specs.Prelude.{◌≡◌, ◌+◌, ◌*◌, ◌/◌, ◌%◌, ◌<◌, ◌≤◌, ◌⊎◌, length, bit_xor, slice_index};
+ghost use Rattle.std.specs.Prelude.{◌≡◌, ◌+◌, ◌*◌, ◌/◌, ◌%◌, ◌<◌, ◌≤◌, ◌⊎◌, ◌==◌, if◌then◌else◌, length, bit_xor, slice_index};
 ghost use Rattle.macsec_aes.specs.Field.{byte_product, s_box};
 ghost use Rattle.macsec_aes.specs.Aes.{mixed_entry, word, add_round_key, added_word, aes, mix_columns, schedule_of};
 ghost use Rattle.macsec_aes.specs.Aes.{round_key, rounds_of, shift_rows, sub_bytes, sub_word, sum_of_words};
@@ -154,12 +154,25 @@ const S_BOX: [u8; 256] = [
     0x8c, 0xa1, 0x89, 0x0d, 0xbf, 0xe6, 0x42, 0x68, 0x41, 0x99, 0x2d, 0x0f, 0xb0, 0x54, 0xbb, 0x16,
 ];
 
+/// `entry` if the bytes `i` and `a` are equal, otherwise 0. It computes both cases alike: `differ` is 0 or 1.
+#[inline(always)]
+fn entry_if_same(entry: u8, i: u8, a: u8) -> u8
+    ensures { result ≡ (if i == a then entry else 0) }
+{
+    let differ = ((i ^ a) as u16 + 255) >> 8;
+    entry * (1 - differ as u8)
+}
+
 /// The S-box (FIPS 197, 5.1.1): the affine transformation of the byte's inverse in the field of bytes (4.2), or of 0
-/// for 0.
+/// for 0. It reads every entry of the table, so that no address depends on `a`.
 pub fn sub(a: u8) -> u8
     ensures { result ≡ s_box a }
 {
-    S_BOX[a as usize]
+    let mut found = 0;
+    'entries: for i in 0..256 {
+        found ^= entry_if_same(S_BOX[i], i as u8, a);
+    }
+    found
 }
 
 /// The first bytes of the round constants: the powers of x from x^0 (FIPS 197, 5.2).

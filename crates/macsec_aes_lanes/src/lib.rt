@@ -4,8 +4,8 @@
 //! AES is as `macsec_aes` defines it and as its `encrypt` computes it. Contracts see a `LaneSchedule` as its key's
 //! bytes, so round keys of another key cannot take its place.
 //!
-//! No contract is about time. The only table that the code looks up is the one in `macsec_aes`, when a schedule is
-//! expanded.
+//! No contract is about time. No table is looked up by secret data. `macsec_aes`, which expands a schedule, reads its
+//! table whole.
 #![tactic(auto)]
 
 ghost use Rattle.std.specs.Prelude.{◌≡◌, ℕ, ◌<◌, [], length, map, slice_index_or};

@@ -3,20 +3,36 @@ use Rattle.std.specs.Prelude.{◌≡◌, ℕ, List, true, false, None, Result, O
 use Rattle.macsec_commands.specs.Configs.{config_fault}
 use Rattle.macsec_commands.specs.declared.config.EndConfig.{EndConfig}
 use Rattle.macsec_secy.specs.declared.fault.FrameFault.{FrameFault}
-use Rattle.macsec_secy.specs.Answers.{MakesEndpoint, output_of_sent}
+use Rattle.macsec_secy.specs.Answers.{MakesEndpoint, PlansOutput, output_of_sent}
+use Rattle.macsec_secy.specs.Step.{Output}
+use Rattle.macsec_suite.specs.KeyRows.{InstalledKey}
+use Rattle.macsec_reserve.specs.declared.keeper.KeptPlan.{KeptPlan}
+use Rattle.macsec_reserve.specs.declared.keeper.KeptPlan.TheVariants as plan
 use Rattle.macsec_reserve.specs.declared.keeper.KeptSent.{KeptSent}
 use Rattle.macsec_reserve.specs.declared.keeper.KeptSent.TheVariants.{Sent, NoReservation}
 use Rattle.macsec_reserve.specs.declared.keeper.OpenFault.{OpenFault}
 use Rattle.macsec_reserve.specs.declared.keeper.OpenFault.TheVariants.{Endpoint, NotJournal, Memory}
 use Rattle.macsec_reserve.specs.Journal.{is_journal}
 use Rattle.macsec_commands.specs.declared.fault.NewFault.{NewFault}
-use Rattle.macsec_reserve.specs.Keeping.{Keeping, alone, opened, KeepingOutput, dropped_no_reservation, endpoint_output}
+use Rattle.macsec_reserve.specs.Keeping.{Keeping, alone, opened, KeepingOutput, dropped_no_reservation, endpoint_output, noted}
 
 -- of `send`
 abbrev pub output_of_kept : Result KeptSent FrameFault → KeepingOutput
 output_of_kept (Ok (Sent sent)) = endpoint_output (output_of_sent (Ok sent))
 output_of_kept (Ok NoReservation) = dropped_no_reservation
 output_of_kept (Err f) = endpoint_output (output_of_sent (Err f))
+
+-- the output is one of the endpoint, of which this holds
+abbrev pub IfEndpoint : KeepingOutput → (Output → Type 0) → Type 0
+IfEndpoint (endpoint_output output) holds = holds output
+IfEndpoint dropped_no_reservation holds = ⊥
+IfEndpoint noted holds = ⊥
+
+-- of `plan_send`: the plan says what is sent
+abbrev pub PlansKept : Result KeptPlan FrameFault → List InstalledKey → List ℕ → KeepingOutput → Type 0
+PlansKept (Ok (plan.Plan planned)) keys frame output = IfEndpoint output (PlansOutput (Ok planned) keys frame)
+PlansKept (Ok plan.NoReservation) keys frame output = output ≡ dropped_no_reservation
+PlansKept (Err f) keys frame output = IfEndpoint output (PlansOutput (Err f) keys frame)
 
 -- of `open`: a file that is no journal, or no endpoint, or out of memory, or the keeping endpoint as it is opened
 abbrev pub MakesKeeper : EndConfig → List ℕ → Result Keeping OpenFault → Type 0

@@ -10,7 +10,9 @@ ghost use Rattle.macsec_secy.specs.Answers.{MakesEndpoint, output_of_command, ou
 ghost use Rattle.macsec_secy.specs.Sound.{IsSound};
 ghost use Rattle.macsec_secy.specs.State.{start};
 ghost use Rattle.macsec_secy.specs.Step.{client_frame, link_frame, operator_command, uncontrolled_frame};
-ghost use Rattle.macsec_reserve.specs.Answers.{MakesAlone, MakesKeeper, output_of_kept};
+ghost use Rattle.macsec_reserve.specs.Answers.{MakesAlone, MakesKeeper, PlansKept, output_of_kept};
+ghost use Rattle.macsec_secy.specs.Jobs.{OpensFrame};
+ghost use Rattle.macsec_tag.specs.Limits.{max_frame_len};
 ghost use Rattle.macsec_reserve.specs.Journal.{highest, sending_name};
 ghost use Rattle.macsec_reserve.specs.Keeping.{begins_at, endpoint_input, endpoint_output, is_below_floor, keeping_step, may_go, now_durable, rx_floor, tx_floor, uses_reserved, wanted_for, wanted_last, was_reserved};
 ghost use Rattle.macsec_reserve.specs.Names.{IsAtHand, entry_of, name_or_none, name_row, names_after};
@@ -22,8 +24,8 @@ use crate::journal::{entries_of, salt_of};
 use crate::{Reservation, highest, is_journal, receiving_name, sending_name};
 use macsec_aes::Key;
 use macsec_secy::{
-    An, Command, EndConfig, FrameFault, KeyNumber, NewFault, Received, Refusal, RxRow, Sci, Secy,
-    Sent, TxRow,
+    An, Command, EndConfig, FrameFault, KeyNumber, NewFault, OpenedFrame, Planned, Received,
+    Refusal, RxRow, Sci, Secy, Sent, TxRow,
 };
 use std::alloc::Global;
 use std::marker::Model;
@@ -88,6 +90,15 @@ impl Model for Keeper {
 pub enum KeptSent<'a> {
     /// What the endpoint made of it.
     Sent(Sent<'a>),
+    /// It is dropped: its packet number is not reserved. Nothing changes.
+    NoReservation,
+}
+
+/// The plan for a client frame.
+#[derive(Drop)]
+pub enum KeptPlan<'a> {
+    /// What the endpoint plans.
+    Plan(Planned<'a>),
     /// It is dropped: its packet number is not reserved. Nothing changes.
     NoReservation,
 }
@@ -241,6 +252,37 @@ impl Keeper {
             Ok(sent) => Ok(KeptSent::Sent(sent)),
             Err(fault) => Err(fault),
         }
+    }
+
+    /// Plans a client frame, as `Secy::plan_send`, if it uses no packet number that is not reserved.
+    pub fn plan_send<'a>(&mut self, frame: &'a [u8]) -> Result<KeptPlan<'a>, FrameFault>
+        ensures after { self.new ≡ (keeping_step self.old (endpoint_input (client_frame frame.now))).1 }
+        ensures output { PlansKept result self.new.secy.keys frame.now (keeping_step self.old (endpoint_input (client_frame frame.now))).0 }
+        ensures sound { IsSound self.new.secy }
+    {
+        if !self.may_go(frame) {
+            return Ok(KeptPlan::NoReservation);
+        }
+        match self.secy.plan_send(frame) {
+            Ok(planned) => Ok(KeptPlan::Plan(planned)),
+            Err(fault) => Err(fault),
+        }
+    }
+
+    /// Receives a link frame that was opened before, or not, as `Secy::finish_receive`.
+    pub fn finish_receive<'a>(
+        &mut self,
+        frame: &'a [u8],
+        opened: &Option<OpenedFrame>,
+        out: &'a mut [u8],
+    ) -> Result<Received<'a>, FrameFault>
+        requires room { max_frame_len ≤ length out.old }
+        requires opened { OpensFrame opened.now self.old.secy.keys frame.now out.old }
+        ensures after { self.new ≡ (keeping_step self.old (endpoint_input (link_frame frame.now))).1 }
+        ensures output { endpoint_output (output_of_received result) ≡ (keeping_step self.old (endpoint_input (link_frame frame.now))).0 }
+        ensures sound { IsSound self.new.secy }
+    {
+        self.secy.finish_receive(frame, opened, out)
     }
 
     /// Transmits a client frame of the uncontrolled port, as `Secy::send_uncontrolled`.

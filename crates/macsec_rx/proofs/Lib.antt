@@ -2,6 +2,7 @@ pub mod Opened
 pub mod Pieces
 pub mod Placed
 pub mod Recovered
+pub mod Reopened
 pub mod Room
 pub mod RowIndex
 pub mod RxRows

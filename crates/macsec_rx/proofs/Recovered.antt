@@ -10,6 +10,7 @@ use Rattle.macsec_rx.specs.declared.RxRow.{RxRow}
 use Rattle.macsec_rx.specs.declared.RxOptions.{RxOptions}
 use Rattle.macsec_rx.specs.Judge.{judge_number, judge_row, number_of_frame, plaintext_of}
 use Rattle.macsec_rx.specs.Delivered.{frame_with, opened_under}
+use Rattle.macsec_rx.specs.Opened.{job_number, job_row}
 
 pub judged : (options : RxOptions) (keys : List InstalledKey) (p : MpduParts) (row : RxRow) (key : KeyRow) (first_unused number : ℕ) →
     key_row keys row.key ≡ Some (row_shown key first_unused) →
@@ -31,3 +32,13 @@ no_plaintext key first_unused row number p own none =
     by_parts : (o : Option (List ℕ)) → option_map (frame_with key.suite_key p) o ≡ None → o ≡ None
     by_parts None e = refl
     by_parts (Some plaintext) e = cc
+
+-- the opening under the key that is found, with the recovered packet number
+pub job_found : (options : RxOptions) (keys : List InstalledKey) (p : MpduParts) (row : RxRow) (key : KeyRow) (first_unused number : ℕ) →
+    key_row keys row.key ≡ Some (row_shown key first_unused) →
+    Some number ≡ number_of_frame key.suite_key.suite row.lowest p.tag.pn →
+    job_number options (row_shown key first_unused) row (Some number) ≡ job_row options keys p (Some row)
+job_found options keys p row key first_unused number there is =
+    let found : the_key keys row.key ≡ row_shown key first_unused = ap (λ o. unwrap_or o no_key) there in
+    ap (job_number options (row_shown key first_unused) row) is
+    ∙ ap (λ k. job_number options k row (number_of_frame k.suite row.lowest p.tag.pn)) (sym found)

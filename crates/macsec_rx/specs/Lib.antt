@@ -7,3 +7,4 @@ pub mod Judge
 pub mod Judged
 pub mod Delivered
 pub mod Verdicts
+pub mod Opened

@@ -5,11 +5,13 @@ ghost use Rattle.macsec_gcm.specs.Gcm.{max_plaintext_len};
 ghost use Rattle.macsec_tag.specs.Tag.{encoding};
 ghost use Rattle.macsec_rx.specs.Limits.{unpadded_length};
 ghost use Rattle.macsec_rx.specs.Judge.{bare_frame, octets_at};
+ghost use Rattle.macsec_rx.specs.Opened.{IsOpenedBy};
 ghost use Rattle.macsec_rx.specs.Delivered.{HasFixedLengths, IsInPlace, LeavesReceived, delivered_place, frame_with, opened_under, received_octets};
 
+use crate::{OpenJob, OpenedFrame};
 use macsec_gcm::laws::{open_undoes_seal, sealed_lengths};
 use macsec_suite::laws::parts_in_place;
-use macsec_suite::{SuiteKey, validate_in_place};
+use macsec_suite::{KeyNumber, SuiteKey, validate_in_place};
 use macsec_tag::{ADDRESSES_LENGTH, Mpdu};
 
 /// Writes a part after the first `at` octets of `out`, and returns where it ends.
@@ -91,5 +93,30 @@ pub fn deliver_opened(
         Some(deliver(mpdu, out))
     } else {
         None
+    }
+}
+
+impl OpenJob {
+    /// The number of the key that the job needs.
+    pub fn key(&self) -> KeyNumber
+        ensures { result ≡ self.now.key }
+    {
+        self.key
+    }
+
+    /// Opens the frame. `key` is the prepared key of the job's number. If the ICV is valid, the frame to deliver is in
+    /// `out` afterwards; otherwise no decrypted octet of the frame is.
+    pub fn open(&self, key: &SuiteKey, mpdu: &Mpdu<'_>, out: &mut [u8]) -> OpenedFrame
+        requires data_length { length mpdu.now.secure_data ≤ max_plaintext_len }
+        requires room { unpadded_length mpdu.now ≤ length out.old }
+        ensures job { (result.key ≡ self.now.key) × (result.iv ≡ self.now.iv) }
+        ensures opened { IsOpenedBy result key.now mpdu.now out.new }
+        ensures undelivered { IfNone result.delivered (LeavesReceived out.old out.new mpdu.now) }
+    {
+        OpenedFrame {
+            key: self.key,
+            iv: self.iv,
+            delivered: deliver_opened(key, &self.iv, mpdu, out),
+        }
     }
 }

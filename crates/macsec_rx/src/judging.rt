@@ -16,10 +16,11 @@ ghost use Rattle.macsec_rx.specs.Delivered.{IsInPlace, LeavesReceived, frame_wit
 ghost use Rattle.macsec_rx.specs.Rows.{AreChannels};
 ghost use Rattle.macsec_rx.specs.Judged.{ShowsJudgement, ShowsOutcome};
 ghost use Rattle.macsec_rx.specs.Index.{row_of_found};
+ghost use Rattle.macsec_rx.specs.Opened.{IfOpened, IfOpenedUnder, job_number, job_row, job_tagged};
 
 use crate::channels::Found;
 use crate::delivering::{deliver_bare, deliver_opened};
-use crate::{Judged, Mode, RxChannels, RxOptions, RxRow, Verdict};
+use crate::{Judged, Mode, OpenJob, OpenedFrame, RxChannels, RxOptions, RxRow, Verdict};
 use macsec_suite::{KeyRow, KeyTable, Suite, iv_of};
 use macsec_tag::Mpdu;
 
@@ -71,15 +72,18 @@ impl RxChannels {
     /// Judges a tagged frame of at most `MAX_FRAME_LEN` octets without padding. If its packet number is accepted, the
     /// packet numbers of its SA change. The delivered frame is in `out`, which has `MAX_FRAME_LEN` octets or more. If
     /// nothing is delivered, `out` is unchanged, except that it may begin with the frame as received. The key of each
-    /// SA must be in the table.
+    /// SA must be in the table. `opened` is what an `OpenJob` gave for the frame, if one was made; it is used if the
+    /// frame is still to be opened under the job's key and IV, and ignored otherwise.
     pub fn judge(
         &mut self,
         keys: &KeyTable,
         options: &RxOptions,
         mpdu: &Mpdu<'_>,
+        opened: &Option<OpenedFrame>,
         out: &mut [u8],
     ) -> Judged
         requires keys_there { HaveRxKeys keys.now self.old.rows }
+        requires opened { IfOpened opened.now keys.now mpdu.now out.old }
         requires frame { unpadded_length mpdu.now ≤ max_frame_len }
         requires room { max_frame_len ≤ length out.old }
         ensures judged { ShowsJudgement result out.new (judge_tagged options.now keys.now self.old mpdu.now) }
@@ -91,13 +95,74 @@ impl RxChannels {
     {
         let found = self.in_use(mpdu);
         let row = row_of(&found);
-        let outcome = judge_tagged_row(keys, options, &row, mpdu, out);
+        let outcome = judge_tagged_row(keys, options, &row, mpdu, opened, out);
         self.accept_at(&found, outcome.accepted, options.window);
         Judged {
             channel: channel_of(&found),
             ..outcome.judged
         }
     }
+}
+
+impl RxChannels {
+    /// The opening that `judge` would do now for a tagged frame, if it would open it. Nothing changes. `judge` does not
+    /// rely on it: if the frame is to be opened under another key or IV by then, `judge` opens it itself.
+    pub fn plan_open(
+        &self,
+        keys: &KeyTable,
+        options: &RxOptions,
+        mpdu: &Mpdu<'_>,
+    ) -> Option<OpenJob>
+        requires keys_there { HaveRxKeys keys.now self.now.rows }
+        ensures { result ≡ job_tagged options.now keys.now self.now mpdu.now }
+    {
+        let tag = mpdu.tag();
+        let is_reserved = tag.e() && !tag.c();
+        if is_reserved {
+            return None;
+        }
+        let found = self.in_use(mpdu);
+        job_row(keys, options, &row_of(&found), mpdu)
+    }
+}
+
+/// The opening of a frame whose SecTAG is valid. `row` is the SA that is enabled for the frame, if any.
+fn job_row(
+    keys: &KeyTable,
+    options: &RxOptions,
+    row: &Option<RxRow>,
+    mpdu: &Mpdu<'_>,
+) -> Option<OpenJob>
+    requires key_there { IfSome row.now (λ r. IsSome (key_row keys.now r.key)) }
+    ensures { result ≡ job_row options.now keys.now mpdu.now row.now }
+{
+    match row {
+        Some(row) => job_known(keys, options, row, mpdu),
+        None => None,
+    }
+}
+
+/// The opening of a frame of an SA.
+fn job_known(keys: &KeyTable, options: &RxOptions, row: &RxRow, mpdu: &Mpdu<'_>) -> Option<OpenJob>
+    requires key_there { IsSome (key_row keys.now row.now.key) }
+    ensures { result ≡ job_row options.now keys.now mpdu.now (Some row.now) }
+{
+    let key = keys.key(row.key).unwrap();
+    let pn = mpdu.tag().pn();
+    let number = number_of_frame(key.suite_key.suite(), row, pn)?;
+    job_number(key, options, row, number)
+}
+
+/// The opening of a frame of an SA with this packet number.
+fn job_number(key: &KeyRow, options: &RxOptions, row: &RxRow, number: u64) -> Option<OpenJob>
+    requires number { number ≤ last_of key.now.suite_key.suite }
+    ensures { (first_unused : ℕ) → result ≡ job_number options.now (row_shown key.now first_unused) row.now (Some number) }
+{
+    if is_dropped_late(options, row, number) || is_disabled(options.mode) {
+        return None;
+    }
+    let iv = iv_of_frame(key, row, number);
+    Some(OpenJob { key: row.key, iv })
 }
 
 /// The SA that was found, without its positions.
@@ -157,15 +222,31 @@ fn number_of_frame(suite: Suite, row: &RxRow, pn: u32) -> Option<u64>
     row.numbers().recover(suite.is_xpn(), pn)
 }
 
+/// The IV of a frame of an SA with this packet number.
+fn iv_of_frame(key: &KeyRow, row: &RxRow, number: u64) -> [u8; 12]
+    requires { number ≤ last_of key.now.suite_key.suite }
+    ensures { result ≡ iv_of key.now.suite_key.suite row.now.sci row.now.ssci key.now.key.salt number }
+{
+    iv_of(
+        key.suite_key.suite(),
+        row.sci,
+        row.ssci,
+        key.key.salt,
+        number,
+    )
+}
+
 /// The verdict. `row` is the SA that is enabled for the frame, if any.
 fn judge_tagged_row(
     keys: &KeyTable,
     options: &RxOptions,
     row: &Option<RxRow>,
     mpdu: &Mpdu<'_>,
+    opened: &Option<OpenedFrame>,
     out: &mut [u8],
 ) -> Outcome
     requires key_there { IfSome row.now (λ r. IsSome (key_row keys.now r.key)) }
+    requires opened { IfOpened opened.now keys.now mpdu.now out.old }
     requires frame { unpadded_length mpdu.now ≤ max_frame_len }
     requires room { max_frame_len ≤ length out.old }
     ensures outcome { ShowsOutcome result out.new (judge_tagged_row options.now keys.now mpdu.now row.now) }
@@ -178,7 +259,7 @@ fn judge_tagged_row(
     if tag.e() && !tag.c() {
         return Outcome::without_row(Verdict::Reserved, None);
     }
-    judge_row(keys, options, row, mpdu, out)
+    judge_row(keys, options, row, mpdu, opened, out)
 }
 
 /// The verdict on a frame whose SecTAG is valid, with or without an SA.
@@ -187,9 +268,11 @@ fn judge_row(
     options: &RxOptions,
     row: &Option<RxRow>,
     mpdu: &Mpdu<'_>,
+    opened: &Option<OpenedFrame>,
     out: &mut [u8],
 ) -> Outcome
     requires key_there { IfSome row.now (λ r. IsSome (key_row keys.now r.key)) }
+    requires opened { IfOpened opened.now keys.now mpdu.now out.old }
     requires frame { unpadded_length mpdu.now ≤ max_frame_len }
     requires room { max_frame_len ≤ length out.old }
     ensures outcome { ShowsOutcome result out.new (judge_row options.now keys.now mpdu.now row.now) }
@@ -199,7 +282,7 @@ fn judge_row(
     ensures undelivered { IfNone result.judged.delivered (LeavesReceived out.old out.new mpdu.now) }
 {
     match row {
-        Some(row) => judge_known(keys, options, row, mpdu, out),
+        Some(row) => judge_known(keys, options, row, mpdu, opened, out),
         None => judge_unknown(options, mpdu, out),
     }
 }
@@ -225,9 +308,11 @@ fn judge_known(
     options: &RxOptions,
     row: &RxRow,
     mpdu: &Mpdu<'_>,
+    opened: &Option<OpenedFrame>,
     out: &mut [u8],
 ) -> Outcome
     requires key_there { IsSome (key_row keys.now row.now.key) }
+    requires opened { IfOpened opened.now keys.now mpdu.now out.old }
     requires frame { unpadded_length mpdu.now ≤ max_frame_len }
     requires room { max_frame_len ≤ length out.old }
     ensures outcome { ShowsOutcome result out.new (judge_row options.now keys.now mpdu.now (Some row.now)) }
@@ -240,7 +325,7 @@ fn judge_known(
     let Some(number) = number_of_frame(key.suite_key.suite(), row, mpdu.tag().pn()) else {
         return Outcome::at_row(row, Verdict::BadTag, None, None);
     };
-    judge_number(key, options, row, number, mpdu, out)
+    judge_number(key, options, row, number, mpdu, opened, out)
 }
 
 fn is_late(row: &RxRow, number: u64) -> bool
@@ -263,10 +348,12 @@ fn judge_number(
     row: &RxRow,
     number: u64,
     mpdu: &Mpdu<'_>,
+    opened: &Option<OpenedFrame>,
     out: &mut [u8],
 ) -> Outcome
     requires own_key { HasOwnKey key.now }
     requires number { number ≤ last_of key.now.suite_key.suite }
+    requires opened { IfOpenedUnder opened.now key.now mpdu.now out.old }
     requires frame { unpadded_length mpdu.now ≤ max_frame_len }
     requires room { max_frame_len ≤ length out.old }
     ensures outcome { (first_unused : ℕ) → ShowsOutcome result out.new (judge_number options.now (row_shown key.now first_unused) row.now mpdu.now (Some number)) }
@@ -289,7 +376,7 @@ fn judge_number(
         };
         return Outcome::at_row(row, verdict, Some(deliver_bare(mpdu, out)), None);
     }
-    judge_validated(key, options, row, number, mpdu, out)
+    judge_validated(key, options, row, number, mpdu, opened, out)
 }
 
 /// The verdict on a frame of an SA with this packet number, after validation.
@@ -299,10 +386,12 @@ fn judge_validated(
     row: &RxRow,
     number: u64,
     mpdu: &Mpdu<'_>,
+    opened: &Option<OpenedFrame>,
     out: &mut [u8],
 ) -> Outcome
     requires own_key { HasOwnKey key.now }
     requires number { number ≤ last_of key.now.suite_key.suite }
+    requires opened { IfOpenedUnder opened.now key.now mpdu.now out.old }
     requires frame { unpadded_length mpdu.now ≤ max_frame_len }
     requires room { max_frame_len ≤ length out.old }
     ensures outcome { (first_unused : ℕ) → ShowsOutcome result out.new (judge_validated options.now (row_shown key.now first_unused) row.now number mpdu.now) }
@@ -311,7 +400,7 @@ fn judge_validated(
     ensures place { IsInPlace result.judged.delivered mpdu.now }
     ensures undelivered { IfNone result.judged.delivered (LeavesReceived out.old out.new mpdu.now) }
 {
-    match open(key, row, number, mpdu, out) {
+    match open(key, row, number, mpdu, opened, out) {
         Some(delivered) => {
             let verdict = if is_late(row, number) {
                 Verdict::Delayed
@@ -330,9 +419,11 @@ fn open(
     row: &RxRow,
     number: u64,
     mpdu: &Mpdu<'_>,
+    opened: &Option<OpenedFrame>,
     out: &mut [u8],
 ) -> Option<(usize, usize)>
     requires number { number ≤ last_of key.now.suite_key.suite }
+    requires opened { IfOpenedUnder opened.now key.now mpdu.now out.old }
     requires frame { unpadded_length mpdu.now ≤ max_frame_len }
     requires room { max_frame_len ≤ length out.old }
     ensures octets { let iv = iv_of key.now.suite_key.suite row.now.sci row.now.ssci key.now.key.salt number in
@@ -342,13 +433,12 @@ fn open(
     ensures place { IsInPlace result mpdu.now }
     ensures undelivered { IfNone result (LeavesReceived out.old out.new mpdu.now) }
 {
-    let iv = iv_of(
-        key.suite_key.suite(),
-        row.sci,
-        row.ssci,
-        key.key.salt,
-        number,
-    );
+    let iv = iv_of_frame(key, row, number);
+    if let Some(opened) = opened {
+        if opened.key == key.key.number && opened.iv == iv {
+            return opened.delivered;
+        }
+    }
     deliver_opened(&key.suite_key, &iv, mpdu, out)
 }
 

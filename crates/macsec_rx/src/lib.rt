@@ -14,6 +14,11 @@
 //! decrypted octet of the frame. No clause says what is left outside a delivered frame. `judge` requires parts of at
 //! most 9,248 octets together and a slice of 9,248 or more. `judge` and `rx_low` require that each SA's key is in the
 //! table.
+//!
+//! Proved: the cipher's work for a frame may be done before and elsewhere. `plan_open` returns the `OpenJob` that a
+//! frame needs now, if it needs one: the number of a key, and the IV. `OpenJob::open` does the job with the prepared
+//! key, and needs no SA. `judge` compares the key and the IV of what was opened with its own, and opens the frame
+//! itself if they differ. So it judges and delivers the same, whether a frame was opened before or not.
 #![tactic(auto)]
 
 ghost use Rattle.std.specs.Prelude.{◌≡◌, Some};
@@ -155,4 +160,24 @@ pub struct Judged {
     pub channel: usize,
     /// The position and length, in octets, of the delivered frame in the caller's slice.
     pub delivered: Option<(usize, usize)>,
+}
+
+/// The opening of one tagged frame: all that the cipher needs besides the prepared key and the frame.
+#[derive(Clone, Copy, PartialEq, Eq, Debug)]
+pub struct OpenJob {
+    /// The number of the key.
+    pub(crate) key: KeyNumber,
+    /// The IV.
+    pub(crate) iv: [u8; 12],
+}
+
+/// What a job gave for a frame. The delivered frame is in the slice that the job was given.
+#[derive(Clone, Copy, PartialEq, Eq, Debug)]
+pub struct OpenedFrame {
+    /// The number of the job's key.
+    pub(crate) key: KeyNumber,
+    /// The job's IV.
+    pub(crate) iv: [u8; 12],
+    /// The position and length, in octets, of the frame with its plaintext; `None` if the ICV is invalid.
+    pub(crate) delivered: Option<(usize, usize)>,
 }

@@ -2,6 +2,7 @@ pub mod KeysKept
 pub mod RxKeysKept
 pub mod Lent
 pub mod AddedCounters
+pub mod JobsStay
 pub mod JudgedRow
 pub mod ChannelsCounted
 pub mod Steps

@@ -4,10 +4,10 @@ use Rattle.std.specs.Prelude.{nat_lt, if◌then◌else◌, Option, Some, None}
 use Rattle.macsec_suite.specs.Suites.{last_of}
 use Rattle.macsec_suite.specs.KeyRows.{AreKeyRows, InstalledKey, the_key}
 use Rattle.macsec_tx.specs.declared.TxOptions.{TxOptions}
-use Rattle.macsec_tx.specs.declared.TxResult.{TxResult}
-use Rattle.macsec_tx.specs.declared.TxResult.TheVariants.{Plain, Made, NoSa, TooLong}
+use Rattle.macsec_tx.specs.declared.TxPlan.{TxPlan}
+use Rattle.macsec_tx.specs.declared.TxPlan.TheVariants.{Plain, Job, NoSa, TooLong}
 use Rattle.macsec_tx.specs.declared.TxRow.{TxRow}
-use Rattle.macsec_tx.specs.Answers.{IfMade, ShowsLeaving}
+use Rattle.macsec_tx.specs.Answers.{IfJob, PlansLeaving}
 use Rattle.macsec_tx.specs.Rows.{AreTxRows}
 use Rattle.macsec_tx.specs.Transmit.{Leaving, plain, protected, no_sa, too_long, Sending, keys_after, not_protected}
 use Rattle.macsec_tx.specs.Transmit.{octets_added, row_on, rows_after, sending, sending_by, tag_sent}
@@ -65,12 +65,12 @@ as_before s sent needs sound leaving same unprotected =
     let none : sent.by ≡ None = needs (subst (λ l. IsProtected l → ⊥) (sym same) unprotected) in
     subst (TablesAfter s) (sym none) (record { keys = sound.keys; tx = sound.tx })
 
-by_result : (s : State) (sent : Sending) → NeedsNone sent → IsSound s → (result : TxResult) (out : List ℕ) → ShowsLeaving result out sent.leaving →
-    IfMade result (AreTxRows (rows_after s.tx sent.by)) → IfMade result (AreKeyRows (keys_after s.keys sent.by)) → TablesAfter s sent.by
-by_result s sent needs sound Plain out shows tx keys = as_before s sent needs sound plain shows (λ h. h)
-by_result s sent needs sound (Made len key) out shows tx keys = record { keys = keys; tx = tx }
-by_result s sent needs sound NoSa out shows tx keys = as_before s sent needs sound no_sa shows (λ h. h)
-by_result s sent needs sound TooLong out shows tx keys = as_before s sent needs sound too_long shows (λ h. h)
+by_plan : (s : State) (sent : Sending) → NeedsNone sent → IsSound s → (plan : TxPlan) (keys : List InstalledKey) (frame : List ℕ) → PlansLeaving plan keys frame sent.leaving →
+    IfJob plan (λ job. AreTxRows (rows_after s.tx sent.by)) → IfJob plan (λ job. AreKeyRows (keys_after s.keys sent.by)) → TablesAfter s sent.by
+by_plan s sent needs sound Plain after frame plans tx keys = as_before s sent needs sound plain plans (λ h. h)
+by_plan s sent needs sound (Job job) after frame plans tx keys = record { keys = keys; tx = tx }
+by_plan s sent needs sound NoSa after frame plans tx keys = as_before s sent needs sound no_sa plans (λ h. h)
+by_plan s sent needs sound TooLong after frame plans tx keys = as_before s sent needs sound too_long plans (λ h. h)
 
 tables_after : (s : State) (frame : List ℕ) → IsSound s → TablesAfter s (sending_of s frame).by → TablesHold (step s (client_frame frame)).1
 tables_after s frame sound hold = by_fault (frame_fault frame)
@@ -79,13 +79,13 @@ tables_after s frame sound hold = by_fault (frame_fault frame)
     by_fault None = record { keys = hold.keys; tx = hold.tx; rx = sound.rx }
     by_fault (Some f) = record { keys = sound.keys; tx = sound.tx; rx = sound.rx }
 
--- the machine's state after a frame, given the transmit SC's result
+-- the machine's state after a frame, given the transmit SC's plan
 pub sound_after : (before now : State) (frame : List ℕ) → before ≡ now → IsSound before → (options : TxOptions) → options ≡ tx_options before →
-    (result : TxResult) (out : List ℕ) (rows : List TxRow) (keys : List InstalledKey) → ShowsLeaving result out (sending options before.keys before.tx frame).leaving →
+    (plan : TxPlan) (rows : List TxRow) (keys : List InstalledKey) → PlansLeaving plan keys frame (sending options before.keys before.tx frame).leaving →
     rows ≡ rows_after before.tx (sending options before.keys before.tx frame).by → keys ≡ keys_after before.keys (sending options before.keys before.tx frame).by →
-    IfMade result (AreTxRows rows) → IfMade result (AreKeyRows keys) → IsSound (step now (client_frame frame)).1
-sound_after before now frame same sound options o result out rows keys shows r k are_rows are_keys =
-    let hold = by_result before (sending options before.keys before.tx frame) (by_none options before.keys before.tx frame) sound result out shows
-    (subst (λ x. IfMade result (AreTxRows x)) r are_rows) (subst (λ x. IfMade result (AreKeyRows x)) k are_keys) in
+    IfJob plan (λ job. AreTxRows rows) → IfJob plan (λ job. AreKeyRows keys) → IsSound (step now (client_frame frame)).1
+sound_after before now frame same sound options o plan rows keys plans r k are_rows are_keys =
+    let hold = by_plan before (sending options before.keys before.tx frame) (by_none options before.keys before.tx frame) sound plan keys frame plans
+    (subst (λ x. IfJob plan (λ job. AreTxRows x)) r are_rows) (subst (λ x. IfJob plan (λ job. AreKeyRows x)) k are_keys) in
     subst (λ s. IsSound (step s (client_frame frame)).1) same
     (after_client_frame before frame (tables_after before frame sound (subst (λ p. TablesAfter before (sending p before.keys before.tx frame).by) o hold)) sound)

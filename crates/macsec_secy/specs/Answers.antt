@@ -1,5 +1,5 @@
 -- The results of an endpoint's calls, as outputs of the machine.
-use Rattle.std.specs.Prelude.{◌≡◌, ℕ, List, Option, Some, None, Result, Ok, Err, option_and_then, option_map, find}
+use Rattle.std.specs.Prelude.{◌≡◌, ◌≤◌, ◌+◌, length, IsSome, ℕ, List, Option, Some, None, Result, Ok, Err, option_and_then, option_map, find}
 use Rattle.std.specs.Borrow.{Bor}
 use Rattle.macsec_suite.specs.declared.refusal.Refusal.{Refusal}
 use Rattle.macsec_commands.specs.declared.config.EndConfig.{EndConfig}
@@ -8,7 +8,14 @@ use Rattle.macsec_commands.specs.declared.fault.NewFault.{NewFault}
 use Rattle.macsec_commands.specs.declared.fault.NewFault.TheVariants.{Memory, MaxFrame, SciForm}
 use Rattle.macsec_secy.specs.declared.answers.Received.{Received}
 use Rattle.macsec_secy.specs.declared.answers.Sent.{Sent}
-use Rattle.macsec_secy.specs.declared.answers.Sent.TheVariants.{Link, Dropped}
+use Rattle.macsec_secy.specs.declared.answers.Sent.TheVariants as sent
+use Rattle.macsec_secy.specs.declared.answers.Planned.{Planned}
+use Rattle.macsec_secy.specs.declared.answers.Planned.TheVariants.{Plain, Job, Dropped}
+use Rattle.macsec_tag.specs.Limits.{max_frame_len, min_frame_len}
+use Rattle.macsec_suite.specs.KeyRows.{InstalledKey, key_row, prepared_key, the_key}
+use Rattle.macsec_tx.specs.declared.SealJob.{SealJob}
+use Rattle.macsec_tx.specs.Answers.{frame_sealed}
+use Rattle.macsec_tx.specs.Transmit.{octets_added}
 use Rattle.macsec_secy.specs.declared.answers.DropReason.{DropReason}
 use Rattle.macsec_secy.specs.declared.answers.DropReason.TheVariants.{NoSa, TooLong}
 use Rattle.macsec_tag.specs.declared.identifiers.Sci.{Sci}
@@ -30,9 +37,23 @@ drop_output NoSa = dropped_no_sa
 drop_output TooLong = dropped_too_long
 
 abbrev pub output_of_sent : Result Sent FrameFault → Output
-output_of_sent (Ok (Link frame under)) = leaves frame.now under
-output_of_sent (Ok (Dropped reason)) = drop_output reason
+output_of_sent (Ok (sent.Link frame under)) = leaves frame.now under
+output_of_sent (Ok (sent.Dropped reason)) = drop_output reason
 output_of_sent (Err f) = fault f
+
+-- the key of the job's number is in the table, and with it the job seals what is sent, of at most 9,248 octets
+pub record SealsOutput (job : SealJob) (keys : List InstalledKey) (frame : List ℕ) (output : Output) : Type 0 where
+  pub there : IsSome (key_row keys job.key)
+  pub sends : output ≡ leaves (frame_sealed (prepared_key (the_key keys job.key)) job frame) (Some job.key)
+  pub fits : length frame + octets_added job.tag ≤ max_frame_len
+  pub least : min_frame_len ≤ length frame
+
+-- the plan says what is sent
+abbrev pub PlansOutput : Result Planned FrameFault → List InstalledKey → List ℕ → Output → Type 0
+PlansOutput (Ok (Plain planned)) keys frame output = output ≡ leaves planned.now None
+PlansOutput (Ok (Job job)) keys frame output = SealsOutput job keys frame output
+PlansOutput (Ok (Dropped reason)) keys frame output = output ≡ drop_output reason
+PlansOutput (Err f) keys frame output = output ≡ fault f
 
 abbrev pub output_of_received : Result Received FrameFault → Output
 output_of_received (Ok r) = received r.verdict r.row r.uncontrolled.now (option_map (λ (f : Bor (List ℕ)). f.now) r.controlled)

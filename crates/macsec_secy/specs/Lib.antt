@@ -17,3 +17,4 @@ pub mod Accepts
 pub mod Kept
 pub mod Protects
 pub mod Delivers
+pub mod Jobs

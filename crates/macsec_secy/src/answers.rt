@@ -1,6 +1,6 @@
 //! What the endpoint returns for a frame.
 
-use crate::{Sci, Verdict};
+use crate::{Sci, SealJob, Verdict};
 
 /// Why nothing is sent for a client frame.
 #[derive(Clone, Copy, PartialEq, Eq, Debug)]
@@ -17,6 +17,17 @@ pub enum Sent<'a> {
     /// This frame is sent. If it is protected, `under` is the number of the key, 0 to 4,095; otherwise the frame is
     /// unchanged and `under` is `None`. The frame borrows from the endpoint's buffer or from the caller's frame.
     Link { frame: &'a [u8], under: Option<u16> },
+    /// Nothing is sent.
+    Dropped(DropReason),
+}
+
+/// The plan for a client frame.
+#[derive(Drop)]
+pub enum Planned<'a> {
+    /// This frame is sent unchanged.
+    Plain(&'a [u8]),
+    /// The protected frame that this job makes is sent.
+    Job(SealJob),
     /// Nothing is sent.
     Dropped(DropReason),
 }

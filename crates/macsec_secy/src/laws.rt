@@ -8,11 +8,15 @@ ghost use Rattle.macsec_commands.specs.declared.config.EndConfig.{EndConfig};
 ghost use Rattle.macsec_secy.specs.State.{State, start};
 ghost use Rattle.macsec_secy.specs.Agrees.{Agrees};
 ghost use Rattle.macsec_secy.specs.Sound.{IsSound};
-ghost use Rattle.macsec_secy.specs.Step.{Input, client_frame, step};
+ghost use Rattle.macsec_secy.specs.Step.{Input, Output, client_frame, step};
 ghost use Rattle.macsec_secy.specs.Frames.{HasFrameLengths, HasLengthsFrom};
 ghost use Rattle.macsec_secy.specs.Laws.{UsesNoNumberTwice, UsesRisingNumbers};
 ghost use Rattle.macsec_secy.specs.Accepts.{AcceptsSent};
 ghost use Rattle.macsec_secy.specs.Kept.{KeysAreApart, KeysStay, RxRowStays, RxRowsAreApart};
+ghost use Rattle.macsec_rx.specs.declared.OpenJob.{OpenJob};
+ghost use Rattle.macsec_rx.specs.declared.OpenedFrame.{OpenedFrame};
+ghost use Rattle.macsec_tx.specs.declared.SealJob.{SealJob};
+ghost use Rattle.macsec_secy.specs.Jobs.{KeyStaysPrepared, OpensLater, SealsLater};
 ghost use Rattle.macsec_secy.specs.Protects.{Protects};
 ghost use Rattle.macsec_secy.specs.Delivers.{DeliversFrom};
 
@@ -104,4 +108,12 @@ pub fn protects_frames()
 /// and the cipher opened what is delivered (IEEE 802.1AE, 10.6).
 pub fn delivers_in_time()
     ensures { (s : State) (frame : List ℕ) (row : RxRow) (delivered : List ℕ) → DeliversFrom s frame row delivered }
+{}
+
+/// Whatever the endpoint does between a plan and its job: a key stays as it was prepared, a job seals the frame that it
+/// was planned for, and what was opened with the job's key can be used by `finish_receive`.
+pub fn jobs_stay()
+    ensures keys { (s : State) (inputs : List Input) (n : ℕ) → KeyStaysPrepared s inputs n }
+    ensures seals { (s : State) (inputs : List Input) (job : SealJob) (frame : List ℕ) (output : Output) → SealsLater s inputs job frame output }
+    ensures opens { (s : State) (inputs : List Input) (opened : OpenedFrame) (job : OpenJob) (frame out : List ℕ) → OpensLater s inputs opened job frame out }
 {}

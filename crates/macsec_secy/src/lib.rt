@@ -10,6 +10,12 @@
 //! deletes a receive SC can change that sum (`AddsFrames`). The calls that make or change an endpoint also state what
 //! holds of it at all times (`IsSound`, which includes `Agrees`). By its type only `new` takes an allocator.
 //!
+//! Proved: the cipher's work for a frame can be left to another thread. `plan_send` is the step of `send` and returns a
+//! `SealJob`, which makes the frame that `send` would return. `plan_receive` changes nothing and returns the `OpenJob`
+//! that a link frame needs now; `finish_receive` is the step of `receive`, with the result of that job or without one.
+//! `prepared` returns the key of a job. The law `jobs_stay`: whatever the endpoint does between a plan and its job, the
+//! result of the job is the same.
+//!
 //! Laws of the machine (`laws`). `uses_no_number_twice`: for every list of inputs, the packet numbers of the frames
 //! sent protected under one key number rise in the order of sending. `accepts_sent`: a frame that another endpoint
 //! protected gets the verdict `OK` and gives the client frame if the conditions of `specs/Accepts.antt` hold; if its SL
@@ -18,10 +24,13 @@
 //! that protects or delivers a frame.
 #![tactic(auto)]
 
-ghost use Rattle.std.specs.Prelude.{◌≡◌, IfOk};
+ghost use Rattle.std.specs.Prelude.{◌≡◌, ◌≤◌, IfOk, IfSome, length, option_map};
+ghost use Rattle.macsec_tag.specs.Limits.{max_frame_len};
+ghost use Rattle.macsec_secy.specs.Jobs.{IsOfJob, OpensFrame, job_of_frame};
+ghost use Rattle.macsec_suite.specs.KeyRows.{key_row, prepared_key};
 ghost use Rattle.std.specs.Borrow.{sem};
 ghost use Rattle.macsec_secy.specs.Step.{client_frame, frame_fault, link_frame, operator_command, step, uncontrolled_frame};
-ghost use Rattle.macsec_secy.specs.Answers.{MakesEndpoint, output_of_command, output_of_frame, output_of_received, output_of_sent};
+ghost use Rattle.macsec_secy.specs.Answers.{MakesEndpoint, output_of_command, output_of_frame, output_of_received, output_of_sent, PlansOutput};
 ghost use Rattle.macsec_secy.specs.Laws.{number_of_row, number_used};
 ghost use Rattle.macsec_secy.specs.Rests.{RestsAs};
 ghost use Rattle.macsec_secy.specs.Sound.{IsSound};
@@ -38,7 +47,7 @@ mod options;
 mod receiving;
 mod showing;
 
-pub use answers::{DropReason, Received, Sent};
+pub use answers::{DropReason, Planned, Received, Sent};
 use arrayvec::ArrayVec;
 use associations::count_at_row;
 pub use counters::{ChannelCounters, Counters, RxCounters, TxCounters};
@@ -48,13 +57,13 @@ pub use macsec_commands::{
     Sci, Suite, TagForm,
 };
 use macsec_rx::{MAX_CHANNEL_COUNT, RxChannels};
-pub use macsec_rx::{RxRow, Verdict};
-use macsec_suite::KeyTable;
+pub use macsec_rx::{OpenJob, OpenedFrame, RxRow, Verdict};
 pub use macsec_suite::Refusal;
+use macsec_suite::{KeyTable, SuiteKey};
 use macsec_tag::reading::read;
 use macsec_tag::{ADDRESSES_LENGTH, MIN_FRAME_LEN, Read};
-pub use macsec_tx::TxRow;
-use macsec_tx::{TxChannel, TxResult};
+pub use macsec_tx::{SealJob, TxRow};
+use macsec_tx::{TxChannel, TxPlan};
 pub use options::Options;
 use receiving::{delivered_octets, delivered_untagged, sci_and_number, verdict_on_untagged};
 use std::alloc::Global;
@@ -211,35 +220,61 @@ impl Secy {
         ensures sum { AddsFrames self.old (client_frame frame.now) }
         ensures sound { IsSound (step self.old (client_frame frame.now)).1 }
     {
+        match self.plan_send(frame) {
+            Ok(Planned::Plain(frame)) => Ok(Sent::Link { frame, under: None }),
+            Ok(Planned::Job(job)) => {
+                let key = job.key();
+                let suite_key = &self.keys.key(key).unwrap().suite_key;
+                let len = job.seal(suite_key, frame, self.room.as_mut_slice());
+                let frame = &self.room.as_slice()[..len];
+                let under = Some(key.number());
+                Ok(Sent::Link { frame, under })
+            }
+            Ok(Planned::Dropped(reason)) => Ok(Sent::Dropped(reason)),
+            Err(fault) => Err(fault),
+        }
+    }
+
+    /// Does all of `send` but the work of the cipher. The packet number of a protected frame is taken and the frame is
+    /// counted. `SealJob::seal` then makes the frame, whatever the endpoint does in the meantime.
+    pub fn plan_send<'a>(&mut self, frame: &'a [u8]) -> Result<Planned<'a>, FrameFault>
+        ensures after { self.new ≡ (step self.old (client_frame frame.now)).1 }
+        ensures output { PlansOutput result self.new.keys frame.now (step self.old (client_frame frame.now)).0 }
+        ensures sum { AddsFrames self.old (client_frame frame.now) }
+        ensures sound { IsSound self.new }
+    {
         if let Some(fault) = self.frame_fault(frame) {
             return Err(fault);
         }
         let encrypts = self.encrypts();
         let options = self.tx_options();
-        let result = self
-            .tx
-            .next_frame(&mut self.keys, &options, frame, self.room.as_mut_slice());
-        match result {
-            TxResult::Plain => {
+        match self.tx.plan_frame(&mut self.keys, &options, frame) {
+            TxPlan::Plain => {
                 self.counters.count_plain();
-                Ok(Sent::Link { frame, under: None })
+                Ok(Planned::Plain(frame))
             }
-            TxResult::Made { len, key } => {
+            TxPlan::Job(job) => {
                 self.tx_counters
                     .count(encrypts, (frame.len() - ADDRESSES_LENGTH) as u64);
-                let frame = &self.room.as_slice()[..len];
-                let under = Some(key.number());
-                Ok(Sent::Link { frame, under })
+                Ok(Planned::Job(job))
             }
-            TxResult::NoSa => {
+            TxPlan::NoSa => {
                 self.counters.count_no_sa();
-                Ok(Sent::Dropped(DropReason::NoSa))
+                Ok(Planned::Dropped(DropReason::NoSa))
             }
-            TxResult::TooLong => {
+            TxPlan::TooLong => {
                 self.counters.count_too_long();
-                Ok(Sent::Dropped(DropReason::TooLong))
+                Ok(Planned::Dropped(DropReason::TooLong))
             }
         }
+    }
+
+    /// The prepared key of this number, for `SealJob::seal`. It stays the same while the endpoint exists.
+    pub fn prepared(&self, number: KeyNumber) -> Option<&SuiteKey>
+        ensures { option_map (λ key. key.now) result ≡ option_map prepared_key (key_row self.now.keys number) }
+    {
+        let row = self.keys.key(number)?;
+        Some(&row.suite_key)
     }
 
     /// The association by which `send` would protect this client frame, with the packet number that it would use. `None`
@@ -301,9 +336,13 @@ impl Secy {
                 })
             }
             Read::Tagged(mpdu) => {
-                let judged = self
-                    .rx
-                    .judge(&self.keys, &options, &mpdu, self.room.as_mut_slice());
+                let judged = self.rx.judge(
+                    &self.keys,
+                    &options,
+                    &mpdu,
+                    &None,
+                    self.room.as_mut_slice(),
+                );
                 let octets = mpdu.secure_data().len() as u64;
                 self.counters
                     .count_tagged(options.mode, judged.verdict, mpdu.tag().e(), octets);
@@ -313,6 +352,78 @@ impl Secy {
                     row: sci_and_number(judged.row),
                     uncontrolled: frame,
                     controlled: delivered_octets(&judged, self.room.as_slice()),
+                })
+            }
+        }
+    }
+
+    /// The opening that `finish_receive` would need for this frame now, if it would need one. Nothing changes, and
+    /// nothing depends on the result: `finish_receive` opens a frame itself if it was opened under another key or IV.
+    pub fn plan_receive(&self, frame: &[u8]) -> Option<OpenJob>
+        ensures { result ≡ job_of_frame self.now frame.now }
+    {
+        if self.frame_fault(frame).is_some() {
+            return None;
+        }
+        let options = self.rx_options();
+        match read(frame) {
+            Read::Tagged(mpdu) => self.rx.plan_open(&self.keys, &options, &mpdu),
+            Read::Untagged | Read::Bad(_) => None,
+        }
+    }
+
+    /// Receives a link frame as `receive` does, with what `open_frame` gave for it, if anything. The delivered frame is
+    /// in `out`, which has `MAX_FRAME_LEN` octets or more, and was not changed since. If the frame is now to be opened
+    /// under another key or IV, or not at all, what was opened is not used.
+    pub fn finish_receive<'a>(
+        &mut self,
+        frame: &'a [u8],
+        opened: &Option<OpenedFrame>,
+        out: &'a mut [u8],
+    ) -> Result<Received<'a>, FrameFault>
+        requires room { max_frame_len ≤ length out.old }
+        requires opened { OpensFrame opened.now self.old.keys frame.now out.old }
+        ensures after { self.new ≡ (step self.old (link_frame frame.now)).1 }
+        ensures output { output_of_received result ≡ (step self.old (link_frame frame.now)).0 }
+        ensures sum { AddsFrames self.old (link_frame frame.now) }
+        ensures sound { IsSound self.new }
+    {
+        if let Some(fault) = self.frame_fault(frame) {
+            return Err(fault);
+        }
+        let options = self.rx_options();
+        match read(frame) {
+            Read::Untagged => {
+                let verdict = verdict_on_untagged(options.mode);
+                self.counters.count_packet(verdict);
+                Ok(Received {
+                    verdict,
+                    row: None,
+                    uncontrolled: frame,
+                    controlled: delivered_untagged(options.mode, frame),
+                })
+            }
+            Read::Bad(_) => {
+                let controlled = None;
+                self.counters.count_packet(Verdict::BadTag);
+                Ok(Received {
+                    verdict: Verdict::BadTag,
+                    row: None,
+                    uncontrolled: frame,
+                    controlled,
+                })
+            }
+            Read::Tagged(mpdu) => {
+                let judged = self.rx.judge(&self.keys, &options, &mpdu, opened, out);
+                let octets = mpdu.secure_data().len() as u64;
+                self.counters
+                    .count_tagged(options.mode, judged.verdict, mpdu.tag().e(), octets);
+                count_at_row(self.rx_counters.as_mut_slice(), &judged);
+                Ok(Received {
+                    verdict: judged.verdict,
+                    row: sci_and_number(judged.row),
+                    uncontrolled: frame,
+                    controlled: delivered_octets(&judged, out),
                 })
             }
         }
@@ -333,5 +444,23 @@ impl Secy {
             return Some(FrameFault::Long);
         }
         None
+    }
+}
+
+/// Opens a frame for `Secy::finish_receive`, without the endpoint. `key` is the prepared key of the job's number. If
+/// the ICV is valid, the frame to deliver is in `out` afterwards, which has `MAX_FRAME_LEN` octets or more.
+pub fn open_frame(
+    job: &OpenJob,
+    key: &SuiteKey,
+    frame: &[u8],
+    out: &mut [u8],
+) -> Option<OpenedFrame>
+    requires fits { length frame.now ≤ max_frame_len }
+    requires room { max_frame_len ≤ length out.old }
+    ensures { IfSome result (λ o. IsOfJob o job.now key.now frame.now out.new) }
+{
+    match read(frame) {
+        Read::Tagged(mpdu) => Some(job.open(key, &mpdu, out)),
+        Read::Untagged | Read::Bad(_) => None,
     }
 }

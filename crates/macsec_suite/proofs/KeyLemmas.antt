@@ -1,5 +1,5 @@
 -- Lemmas on the rows of a table of keys.
-use Rattle.std.proofs.Common.{◌≡◌, ℕ, ◌<◌, ◌≤◌, Bool, true, false, cond, List, [], ◌∷◌, ◌++◌, map, length, refl, sym, ap, subst, arith, eqb, ◌||◌, inl, inr}
+use Rattle.std.proofs.Common.{◌≡◌, ℕ, zero, suc, ◌+◌, ◌<◌, ◌≤◌, Bool, true, false, cond, List, [], ◌∷◌, ◌++◌, map, take, get_or, length, refl, sym, ap, ◌∙◌, subst, arith, add-one, eqb, ◌||◌, ◌&&◌, inl, inr}
 use Rattle.std.specs.Prelude.{Option, Some, None, ◌==◌, if◌then◌else◌}
 use Rattle.std.specs.List.{All, IsDistinct, AllByRecursion, list_any}
 use Rattle.std.proofs.lemmas.List.{map-append, length-map}
@@ -123,3 +123,35 @@ AreStoredKeys-push keys new h free new_is own = (
 pub is_repeated-map : (keys : List StoredKey) (bytes : List ℕ) → is_repeated (map stored_row keys) bytes ≡ list_any (λ key. same_octets (stored_row key).bytes bytes) keys
 is_repeated-map [] bytes = refl
 is_repeated-map (key ∷ keys) bytes = ap (λ rest. same_octets (stored_row key).bytes bytes || rest) (is_repeated-map keys bytes)
+
+-- comparing one more octet of each
+and_of_three : (p q r : Bool) → (p && (q && r)) ≡ ((p && q) && r)
+and_of_three true q r = refl
+and_of_three false q r = refl
+
+and_of_true : (p : Bool) → (p && true) ≡ p
+and_of_true true = refl
+and_of_true false = refl
+
+same_octets-suc : (xs ys : List ℕ) (i : ℕ) → i < length xs → i < length ys →
+    same_octets (take (suc i) xs) (take (suc i) ys) ≡ (same_octets (take i xs) (take i ys) && (get_or xs i 0 == get_or ys i 0))
+same_octets-suc [] ys i lt lt' = absurd (omega arith)
+same_octets-suc (x ∷ xs) [] i lt lt' = absurd (omega arith)
+same_octets-suc (x ∷ xs) (y ∷ ys) zero lt lt' = and_of_true (x == y)
+same_octets-suc (x ∷ xs) (y ∷ ys) (suc i) lt lt' =
+    ap (λ rest. (x == y) && rest) (same_octets-suc xs ys i (omega arith) (omega arith))
+    ∙ and_of_three (x == y) (same_octets (take i xs) (take i ys)) (get_or xs i 0 == get_or ys i 0)
+
+pub same_octets-more : (xs ys : List ℕ) (i : ℕ) → i < length xs → i < length ys →
+    same_octets (take (i + 1) xs) (take (i + 1) ys) ≡ (same_octets (take i xs) (take i ys) && (get_or xs i 0 == get_or ys i 0))
+same_octets-more xs ys i lt lt' = rw add-one (same_octets-suc xs ys i lt lt')
+
+pub lengths_differ : (xs ys : List ℕ) → (length xs ≡ length ys → ⊥) → same_octets xs ys ≡ false
+lengths_differ [] [] other = absurd (other refl)
+lengths_differ [] (y ∷ ys) other = refl
+lengths_differ (x ∷ xs) [] other = refl
+lengths_differ (x ∷ xs) (y ∷ ys) other = rw (lengths_differ xs ys (λ e. other (ap suc e))) (and_of_false (x == y))
+  where
+    and_of_false : (p : Bool) → (p && false) ≡ false
+    and_of_false true = refl
+    and_of_false false = refl

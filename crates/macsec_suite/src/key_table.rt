@@ -203,14 +203,16 @@ impl KeyTable {
         usize::from(self.places[usize::from(number.number())])
     }
 
-    /// Whether a key with these bytes was installed, retired or not.
+    /// Whether a key with these bytes was installed, retired or not. It compares every row.
     fn has_bytes(&self, bytes: Key) -> bool
         ensures { result ≡ is_repeated self.now (key_bytes bytes) }
     {
-        self.rows
-            .as_slice()
-            .iter()
-            .any(|stored| stored.has_bytes(bytes))
+        let rows = self.rows.as_slice();
+        let mut found = false;
+        'rows: for i in 0..rows.len() {
+            found |= rows[i].has_bytes(bytes);
+        }
+        found
     }
 
     /// Appends a row, in the space that `new` reserved.
@@ -250,6 +252,20 @@ impl StoredKey {
     fn has_bytes(&self, bytes: Key) -> bool
         ensures { result ≡ same_octets (stored_row self.now).bytes (key_bytes bytes) }
     {
-        octets_of(&self.row.key.bytes) == octets_of(&bytes)
+        are_same(octets_of(&self.row.key.bytes), octets_of(&bytes))
     }
+}
+
+/// Whether the octets are the same. It compares all of them, if they are as many.
+fn are_same(a: &[u8], b: &[u8]) -> bool
+    ensures { result ≡ same_octets a.now b.now }
+{
+    if a.len() != b.len() {
+        return false;
+    }
+    let mut same = true;
+    'octets: for i in 0..a.len() {
+        same &= a[i] == b[i];
+    }
+    same
 }

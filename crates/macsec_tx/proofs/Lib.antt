@@ -1,4 +1,5 @@
 pub mod ChangedRows
+pub mod Plans
 pub mod ReadAgain
 pub mod Sealing
 pub mod SentTags

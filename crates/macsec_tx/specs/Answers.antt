@@ -1,26 +1,32 @@
--- What the transmit SC returns, and the frame that it writes to its caller's slice.
-use Rattle.std.specs.Prelude.{◌≡◌, ◌≤◌, ℕ, List, take, length}
-use Rattle.macsec_tx.specs.declared.TxResult.{TxResult}
-use Rattle.macsec_tx.specs.declared.TxResult.TheVariants.{Plain, Made, NoSa, TooLong}
-use Rattle.macsec_tx.specs.Transmit.{Leaving, plain, protected, no_sa, too_long}
+-- What the transmit SC plans for a client frame, and the frame that a job seals.
+use Rattle.std.specs.Prelude.{◌≡◌, ℕ, List, IsSome}
+use Rattle.macsec_tag.specs.Frame.{in_a_row}
+use Rattle.macsec_suite.specs.Keys.{PreparedKey}
+use Rattle.macsec_suite.specs.KeyRows.{InstalledKey, key_row, prepared_key, the_key}
+use Rattle.macsec_tx.specs.declared.SealJob.{SealJob}
+use Rattle.macsec_tx.specs.declared.TxPlan.{TxPlan}
+use Rattle.macsec_tx.specs.declared.TxPlan.TheVariants.{Plain, Job, NoSa, TooLong}
+use Rattle.macsec_tx.specs.Transmit.{Leaving, parts_under, plain, protected, no_sa, too_long}
 
--- the result says what is sent, and a protected frame is at the start of `out`
-abbrev pub ShowsLeaving : TxResult → List ℕ → Leaving → Type 0
-ShowsLeaving Plain out leaving = leaving ≡ plain
-ShowsLeaving (Made len key) out leaving = (leaving ≡ protected key (take len out)) × (len ≤ length out)
-ShowsLeaving NoSa out leaving = leaving ≡ no_sa
-ShowsLeaving TooLong out leaving = leaving ≡ too_long
+-- the frame that a job seals from a client frame with a prepared key
+abbrev pub frame_sealed : PreparedKey → SealJob → List ℕ → List ℕ
+frame_sealed key job frame = in_a_row (parts_under key job.iv job.tag frame)
 
--- if a protected frame was made, this holds
-abbrev pub IfMade : TxResult → Type 0 → Type 0
-IfMade Plain holds = Unit {0}
-IfMade (Made len key) holds = holds
-IfMade NoSa holds = Unit {0}
-IfMade TooLong holds = Unit {0}
+-- the key of the job's number is in the table, and with it the job seals what is sent
+pub record Seals (job : SealJob) (keys : List InstalledKey) (frame : List ℕ) (leaving : Leaving) : Type 0 where
+  pub there : IsSome (key_row keys job.key)
+  pub sends : leaving ≡ protected job.key (frame_sealed (prepared_key (the_key keys job.key)) job frame)
 
--- if no protected frame was made, this holds
-abbrev pub IfUnmade : TxResult → Type 0 → Type 0
-IfUnmade Plain holds = holds
-IfUnmade (Made len key) holds = Unit {0}
-IfUnmade NoSa holds = holds
-IfUnmade TooLong holds = holds
+-- the plan says what is sent
+abbrev pub PlansLeaving : TxPlan → List InstalledKey → List ℕ → Leaving → Type 0
+PlansLeaving Plain keys frame leaving = leaving ≡ plain
+PlansLeaving (Job job) keys frame leaving = Seals job keys frame leaving
+PlansLeaving NoSa keys frame leaving = leaving ≡ no_sa
+PlansLeaving TooLong keys frame leaving = leaving ≡ too_long
+
+-- if a frame is to be sealed, this holds of the job
+abbrev pub IfJob : TxPlan → (SealJob → Type 0) → Type 0
+IfJob Plain holds = Unit {0}
+IfJob (Job job) holds = holds job
+IfJob NoSa holds = Unit {0}
+IfJob TooLong holds = Unit {0}

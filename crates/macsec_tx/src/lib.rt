@@ -2,10 +2,12 @@
 //!
 //! Proved: a `TxChannel` is the list of its SAs, which have different association numbers. `tx_sa`, `tx_on`, `tx_off`
 //! and `tx_del` refuse with the first refusal of their lists that applies, and then change nothing; otherwise they do
-//! what `specs/Commands.antt` says. `next_frame` is the transmission of `specs/Transmit.antt`: what is sent, octet for
-//! octet, and under which key. The SA and its key use a packet number exactly if a protected frame is made.
-//! `next_frame` requires a client frame of 14 to 9,248 octets, a largest frame of at most 9,248 octets, and a slice of
-//! at least 9,248 octets. Like `tx_on`, it requires that the key of each SA is in the table.
+//! what `specs/Commands.antt` says. `plan_frame` is the transmission of `specs/Transmit.antt` without the cipher's
+//! work: what is sent, and under which key. The SA and its key use a packet number exactly if a protected frame is
+//! planned. Such a plan is a `SealJob`. `SealJob::seal` makes the protected frame of the prepared key and the client
+//! frame. It needs no SA, so the result is the same whatever the transmit SC did in between. By its type a job is
+//! sealed at most once. `plan_frame` requires a client frame of 14 to 9,248 octets. Like `tx_on`, it requires that the
+//! key of each SA is in the table.
 //!
 //! The law `laws::read_as_sent`: take a client frame of 14 octets or more, an SCI of 8 octets and an association number
 //! from 0 to 3. The protected frame then reads as the parts that were sent, and is as long as the client frame, SecTAG
@@ -19,7 +21,7 @@ mod sending;
 pub use channel::TxChannel;
 pub use macsec_commands::TagForm;
 use macsec_suite::KeyNumber;
-use macsec_tag::{An, Sci};
+use macsec_tag::{An, Sci, SecTag};
 
 /// The options of transmission.
 #[derive(Clone, Copy, PartialEq, Eq, Debug)]
@@ -51,15 +53,27 @@ pub struct TxRow {
     pub on: bool,
 }
 
-/// How a client frame is sent, or why it is dropped.
-#[derive(Clone, Copy, PartialEq, Eq, Debug)]
-pub enum TxResult {
+/// How a client frame will be sent, or why it is dropped. A protected frame is not made yet.
+#[derive(Drop)]
+pub enum TxPlan {
     /// It is sent unchanged.
     Plain,
-    /// It is sent protected under this key, in the first `len` octets of the caller's slice.
-    Made { len: usize, key: KeyNumber },
+    /// It is sent protected, as this job makes it.
+    Job(SealJob),
     /// It is dropped: no SA is enabled, or the enabled SA is exhausted.
     NoSa,
     /// It is dropped: the frame to send would be longer than the largest frame.
     TooLong,
+}
+
+/// The protection of one client frame: all that the cipher needs besides the prepared key and the frame. `seal` takes
+/// the job, and it cannot be copied, so that its IV is used at most once.
+#[derive(Drop)]
+pub struct SealJob {
+    /// The number of the key.
+    pub(crate) key: KeyNumber,
+    /// The IV.
+    pub(crate) iv: [u8; 12],
+    /// The SecTAG.
+    pub(crate) tag: SecTag,
 }

@@ -11,58 +11,78 @@ ghost use Rattle.macsec_tx.specs.Tags.{es_sent, is_own, scb_sent, sci_sent, sl_o
 ghost use Rattle.macsec_tx.specs.Transmit.{keys_after, octets_added, parts_under, rows_after, sending, sending_by, tag_sent};
 ghost use Rattle.macsec_tx.specs.Commands.{HaveKeys};
 ghost use Rattle.macsec_tx.specs.Rows.{AreTxRows};
-ghost use Rattle.macsec_tx.specs.Answers.{IfMade, IfUnmade, ShowsLeaving};
+ghost use Rattle.macsec_tx.specs.Answers.{IfJob, PlansLeaving, frame_sealed};
 
-use crate::{TagForm, TxChannel, TxOptions, TxResult, TxRow};
+use crate::{SealJob, TagForm, TxChannel, TxOptions, TxPlan, TxRow};
 use macsec_pn::TxNumbers;
 use macsec_suite::laws::parts_in_place;
-use macsec_suite::{KeyRow, KeyTable, SuiteKey, iv_of, protect_in_place};
+use macsec_suite::{KeyNumber, KeyRow, KeyTable, SuiteKey, iv_of, protect_in_place};
 use macsec_tag::{ADDRESSES_LENGTH, ICV_LENGTH, Sci, SecTag, write_tag};
 
 impl TxChannel {
-    /// Decides how a client frame of `MIN_FRAME_LEN` to `MAX_FRAME_LEN` octets is sent. A protected frame is written to
-    /// the start of `out`, which has `MAX_FRAME_LEN` octets or more. If there is none, `out` is unchanged. The key of
-    /// each SA must be in the table. `max_frame` is at most `MAX_FRAME_LEN`.
-    pub fn next_frame(
-        &mut self,
-        keys: &mut KeyTable,
-        options: &TxOptions,
-        frame: &[u8],
-        out: &mut [u8],
-    ) -> TxResult
+    /// Decides how a client frame of `MIN_FRAME_LEN` to `MAX_FRAME_LEN` octets is sent, and takes the packet number of a
+    /// protected frame. `SealJob::seal` makes that frame later. The key of each SA must be in the table.
+    pub fn plan_frame(&mut self, keys: &mut KeyTable, options: &TxOptions, frame: &[u8]) -> TxPlan
         requires keys_there { HaveKeys keys.old self.old }
         requires frame_long { min_frame_len ≤ length frame.now }
         requires frame_short { length frame.now ≤ max_frame_len }
-        requires limit { options.now.max_frame ≤ max_frame_len }
-        requires room { max_frame_len ≤ length out.old }
-        ensures leaving { ShowsLeaving result out.new (sending options.now keys.old self.old frame.now).leaving }
+        ensures leaving { PlansLeaving result keys.new frame.now (sending options.now keys.old self.old frame.now).leaving }
+        ensures fits { IfJob result (λ job. length frame.now + octets_added job.tag ≤ options.now.max_frame) }
         ensures associations { self.new ≡ rows_after self.old (sending options.now keys.old self.old frame.now).by }
         ensures keys { keys.new ≡ keys_after keys.old (sending options.now keys.old self.old frame.now).by }
-        ensures kept { IfUnmade result (out.new ≡ out.old) }
-        ensures rows { IfMade result (AreTxRows self.new) }
-        ensures key_rows { IfMade result (AreKeyRows keys.new) }
+        ensures rows { IfJob result (λ job. AreTxRows self.new) }
+        ensures key_rows { IfJob result (λ job. AreKeyRows keys.new) }
     {
         if !options.protect {
             return plain(options, frame);
         }
         let Some(row) = self.row_on() else {
-            return TxResult::NoSa;
+            return TxPlan::NoSa;
         };
         let key = keys.key(row.key).unwrap();
         let Some(pn) = number_of_frame(key, &row) else {
-            return TxResult::NoSa;
+            return TxPlan::NoSa;
         };
-        let result = frame_under(keys, options, &row, pn, frame, out);
-        if let TxResult::Made { .. } = result {
+        let plan = plan_under(keys, options, &row, pn, frame);
+        if let TxPlan::Job(_) = &plan {
             keys.note_used(row.key, pn);
             self.use_number(row.an);
         }
-        result
+        plan
+    }
+}
+
+impl SealJob {
+    /// The number of the key that the job needs.
+    pub fn key(&self) -> KeyNumber
+        ensures { result ≡ self.now.key }
+    {
+        self.key
+    }
+
+    /// The length of the protected frame of a client frame of `len` octets.
+    pub fn length(&self, len: usize) -> usize
+        requires { len ≤ max_frame_len }
+        ensures { result ≡ len + octets_added self.now.tag }
+    {
+        len + self.tag.length() + ICV_LENGTH
+    }
+
+    /// Writes the protected frame to the start of `out`, and returns its length. `key` is the prepared key of the job's
+    /// number, and `frame` the client frame that was planned. A job is sealed once: its IV serves for one frame.
+    pub fn seal(self, key: &SuiteKey, frame: &[u8], out: &mut [u8]) -> usize
+        requires frame_long { min_frame_len ≤ length frame.now }
+        requires frame_short { length frame.now ≤ max_frame_len }
+        requires room { length frame.now + octets_added self.tag ≤ length out.old }
+        ensures length { result ≡ length frame.now + octets_added self.tag }
+        ensures octets { take result out.new ≡ frame_sealed key.now self frame.now }
+    {
+        write_frame(key, &self.iv, &self.tag, frame, out)
     }
 }
 
 impl TxChannel {
-    /// The association by which `next_frame` would protect a client frame, if it would; nothing changes.
+    /// The association by which `plan_frame` would protect a client frame, if it would; nothing changes.
     pub fn next_row(&self, keys: &KeyTable, options: &TxOptions, frame: &[u8]) -> Option<TxRow>
         requires keys_there { HaveKeys keys.now self.now }
         requires frame_long { min_frame_len ≤ length frame.now }
@@ -92,43 +112,37 @@ fn is_too_long(options: &TxOptions, tag: &SecTag, frame: &[u8]) -> bool
 }
 
 /// How the frame is sent if protection is off.
-fn plain(options: &TxOptions, frame: &[u8]) -> TxResult
-    ensures { result ≡ (if nat_lt options.now.max_frame (length frame.now) then TxResult.TooLong else TxResult.Plain) }
+fn plain(options: &TxOptions, frame: &[u8]) -> TxPlan
+    ensures { result ≡ (if nat_lt options.now.max_frame (length frame.now) then TxPlan.TooLong else TxPlan.Plain) }
 {
     if frame.len() > options.max_frame as usize {
-        TxResult::TooLong
+        TxPlan::TooLong
     } else {
-        TxResult::Plain
+        TxPlan::Plain
     }
 }
 
 /// How the enabled SA sends the frame. `pn` is its next packet number and not past the last one.
-fn frame_under(
-    keys: &KeyTable,
-    options: &TxOptions,
-    row: &TxRow,
-    pn: u64,
-    frame: &[u8],
-    out: &mut [u8],
-) -> TxResult
+fn plan_under(keys: &KeyTable, options: &TxOptions, row: &TxRow, pn: u64, frame: &[u8]) -> TxPlan
     requires key_there { IsSome (key_row keys.now row.now.key) }
     requires next { pn ≡ row.now.next }
     requires left { pn ≤ last_of (the_key keys.now row.now.key).suite }
     requires frame_long { min_frame_len ≤ length frame.now }
     requires frame_short { length frame.now ≤ max_frame_len }
-    requires limit { options.now.max_frame ≤ max_frame_len }
-    requires room { max_frame_len ≤ length out.old }
-    ensures leaving { ShowsLeaving result out.new (sending_by options.now keys.now frame.now (Some row.now)).leaving }
-    ensures kept { IfUnmade result (out.new ≡ out.old) }
+    ensures leaving { PlansLeaving result keys.now frame.now (sending_by options.now keys.now frame.now (Some row.now)).leaving }
+    ensures fits { IfJob result (λ job. length frame.now + octets_added job.tag ≤ options.now.max_frame) }
 {
     let key = keys.key(row.key).unwrap();
     let tag = tag_of(options, row, pn, frame);
     if is_too_long(options, &tag, frame) {
-        return TxResult::TooLong;
+        return TxPlan::TooLong;
     }
     let iv = iv_of_frame(options, key, pn);
-    let len = write_frame(&key.suite_key, &iv, &tag, frame, out);
-    TxResult::Made { len, key: row.key }
+    TxPlan::Job(SealJob {
+        key: row.key,
+        iv,
+        tag,
+    })
 }
 
 /// The packet number of the SA's next frame, or `None` if the SA is exhausted.

@@ -5,6 +5,7 @@ use Rattle.std.specs.Prelude.{IfSome, Some}
 use Rattle.macsec_suite.specs.KeyRows.{the_key}
 use Rattle.macsec_rx.specs.Judged.{ShowsOutcome}
 use Rattle.macsec_rx.proofs.Recovered.{judged}
+use Rattle.macsec_rx.proofs.Reopened.{opened_with_found}
 use Rattle.macsec_rx.proofs.judging.judge_known.Goals as goal
 
 pub returns-clause-outcome : goal.returns-clause-outcome
@@ -31,3 +32,9 @@ returns-in_default-clause-outcome c =
     let there = rw c.unwrap-key.ensures at c.key.ensures.row in
     let number = rw (c.suite.ensures, c.pn.ensures, c.tag.ensures) at c.in_default.ensures.number in
     rw (there, ← number) (search rules)
+
+pub judge_number-requires-clause-opened : goal.judge_number-requires-clause-opened
+judge_number-requires-clause-opened c =
+    let there = rw c.unwrap-key.ensures at c.key.ensures.row in
+    let own = rw c.unwrap-key.ensures at c.key.ensures.prepared in
+    opened_with_found c.args.opened.now c.args.keys.now c.args.row.now.key c.unwrap-key.result.now _ c.args.mpdu.now c.args.out.now there own c.requires.opened

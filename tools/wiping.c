@@ -1,0 +1,74 @@
+/* The allocation calls of the library for C: blocks come from the program's malloc and are overwritten before free.
+ * tools/merged-library links this in place of the toolchain's part. The 16 octets before a block hold its length. */
+#define _DEFAULT_SOURCE
+#include <stddef.h>
+#include <stdint.h>
+#include <stdlib.h>
+#include <string.h>
+#ifdef __linux__
+#include <sys/mman.h>
+#endif
+
+enum { HEAD = 16, PAGE = 4096, LARGE = 1 << 20 };
+
+/* What the library expects of a call that allocates: 1 and a block, or 0. */
+typedef struct {
+    uint64_t is_given;
+    void *block;
+} allocated;
+
+static char nothing;
+
+/* The compiler must not drop the write because free follows. */
+static void clear(uint8_t *from, size_t length) {
+    memset(from, 0, length);
+    __asm__ volatile("" : : "r"(from) : "memory");
+}
+
+/* The table of keys has space for 4,096 keys, most of it never written. The kernel takes its pages back at once, where
+ * clearing them would first make them resident. Pages that are locked are cleared, and pages that are shared, where
+ * the mark stays. */
+static void overwrite(uint8_t *from, size_t length) {
+#ifdef __linux__
+    if (length >= LARGE) {
+        size_t before = -(uintptr_t)from % PAGE, whole = (length - before) / PAGE * PAGE;
+        volatile uint8_t *mark = from + before;
+        *mark = 1;
+        if (madvise(from + before, whole, MADV_DONTNEED) == 0 && *mark == 0) {
+            clear(from, before);
+            clear(from + before + whole, length - before - whole);
+            return;
+        }
+    }
+#endif
+    clear(from, length);
+}
+
+allocated rattle_alloc(size_t length, size_t align) {
+    uint8_t *whole;
+    if (length == 0)
+        length = align;
+    whole = length > SIZE_MAX - HEAD ? NULL : malloc(HEAD + length);
+    if (whole == NULL)
+        return (allocated){ 0, &nothing };
+    memcpy(whole, &length, sizeof length);
+    return (allocated){ 1, whole + HEAD };
+}
+
+void rattle_dealloc(void *block) {
+    size_t length;
+    if (block == NULL)
+        return;
+    memcpy(&length, (uint8_t *)block - HEAD, sizeof length);
+    overwrite(block, length);
+    free((uint8_t *)block - HEAD);
+}
+
+allocated rattle_realloc(void *block, size_t old_length, size_t length, size_t align) {
+    allocated next = rattle_alloc(length, align);
+    if (next.is_given) {
+        memcpy(next.block, block, old_length < length ? old_length : length);
+        rattle_dealloc(block);
+    }
+    return next;
+}
