@@ -92,6 +92,8 @@ fn assert_logs(rt: &impl Abort, world: &World) {
 
 /// A receive SA that is created again starts a new log. A late frame and a frame from the uncontrolled port are in no
 /// log.
+///
+/// Finds the mistake: An event on the link always reports that it is out of memory.
 #[test]
 fn rollover(rt: HostRuntime) -> Result<(), Fail> {
     let world = world_after(&rt, rt.alloc(), ROLLOVER)?;

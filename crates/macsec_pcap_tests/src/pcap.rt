@@ -196,6 +196,8 @@ fn count_of<R: Read + Drop>(reader: &mut PcapReader<R>) -> (u32, Option<PcapFaul
 
 /// A file of 16,777,216 records is read. If one more octet follows, the fault is `RecordCount`, although that octet is
 /// not a record.
+///
+/// Finds the mistake: A file may have one record too many.
 #[test]
 fn most_records(rt: HostRuntime) -> Result<(), Fail> {
     let header = octets(rt.alloc(), "micro")?;

@@ -113,6 +113,11 @@ fn frames_of_the_standard(rt: HostRuntime) {
     }
 }
 
+/// Each configuration has this fault, or makes an endpoint if it has none.
+///
+/// Finds the mistake: A new endpoint always reports that it is out of memory.
+///
+/// Finds the mistake: The table of keys always reports that it is out of memory.
 #[test]
 fn configurations(rt: HostRuntime) {
     let es = TagForm::Es;

@@ -257,6 +257,11 @@ fn check_devices(rt: &impl Abort, alloc: Global, run: &Run, devices: &[Device]) 
     }
 }
 
+/// A run ends with the fault of the device that fails, at each of its calls, and is complete if none fails.
+///
+/// Finds the mistake: The run of a script always reports that memory, a read or a write failed.
+///
+/// Finds the mistake: The run of a capture always reports that memory, a read or a write failed.
 #[test]
 fn devices_that_fail(rt: HostRuntime) {
     check_devices(&rt, rt.alloc(), &OF_SCRIPT, &DEVICES_OF_SCRIPT);
