@@ -13,7 +13,7 @@
 # make dist          makes build/dist: macsec-VERSION.tar.gz and the Debian packages macsec, libmacsec1, libmacsec-dev
 #                    and python3-macsec
 # make check         the gate
-# make edits         checks that each must-fail edit still applies, and that docs/MISTAKES.md lists it
+# make edits         checks that each must-fail edit still applies, and that docs/MISTAKES.md is made of them
 # make pictures      draws docs/pictures again, from crates.txt and docs/PERFORMANCE.md
 # make reference     writes docs/reference again, from the sources
 # make pages         runs the examples of the pages, and checks their links
