@@ -92,9 +92,10 @@ install: build/macsec build/libmacsec.a
 
 install-python:
 	install -D -m 644 -t "$(DESTDIR)$(PREFIX)/lib/macsec/python/macsec" python/macsec/*.py python/macsec/py.typed
-	for each in config decrypt forge why; do \
-	    install -D -m 644 -t "$(DESTDIR)$(PREFIX)/share/man/man1" "man/macsec-$$each.1" && \
-	    install -D -m 755 python/command.py "$(DESTDIR)$(PREFIX)/bin/macsec-$$each" || exit 1; done
+	install -D -m 644 -t "$(DESTDIR)$(PREFIX)/lib/macsec/python/macsec/cli" python/macsec/cli/*.py
+	for each in $$(sed -n 's/^\(macsec-[a-z]*\) = .*/\1/p' python/pyproject.toml); do \
+	    install -D -m 644 -t "$(DESTDIR)$(PREFIX)/share/man/man1" "man/$$each.1" && \
+	    install -D -m 755 python/installed_command.py "$(DESTDIR)$(PREFIX)/bin/$$each" || exit 1; done
 
 dist: build/macsec build/libmacsec.a build/$(HWCAPS)/libmacsec.a
 	tools/dist

@@ -106,6 +106,6 @@ def table() -> str:
             row("must-fail edits", paths("crates/*/must-fail/*.edit"), "a weak contract is not noticed"),
             row("C: header, device, examples", device, "anything that they do: tested, not proved"),
             row("Python: rules and searches", paths("fuzz/*.py"), "a search finds less"),
-            row("Python: package `macsec`", paths("python/macsec/*.py"), "a cause is wrong; it judges no frame"),
+            row("Python: package `macsec`", paths("python/macsec/*.py") + paths("python/macsec/cli/*.py"), "a cause is wrong; it judges no frame"),
         ]
     )

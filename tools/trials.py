@@ -16,9 +16,8 @@ TRIPLET = "x86_64-linux-gnu"
 HWCAPS = "glibc-hwcaps/x86-64-v3"
 NAMES = ["libmacsec1", "libmacsec-dev", "macsec", "python3-macsec"]
 DOC, LIBRARIES = "/usr/share/doc", f"/usr/lib/{TRIPLET}"
-# Below /usr: the folder of the package for Python. Its commands:
+# Below /usr: the folder of the package for Python.
 PYTHON = "lib/python3/dist-packages"
-PYTHON_COMMANDS = ["macsec-config", "macsec-decrypt", "macsec-forge", "macsec-why"]
 COMPLETION = "/usr/share/bash-completion/completions/macsec"
 # Nothing of the toolchain is on this path.
 ENVIRONMENT = {"PATH": "/usr/sbin:/usr/bin:/sbin:/bin", "LANG": "C.UTF-8"}
@@ -58,6 +57,11 @@ def quietly(*words: str) -> None:
 def read(path: str) -> bytes:
     with open(path, "rb") as it:
         return it.read()
+
+
+def python_commands() -> "list[str]":
+    """The commands of the Python package, which python/pyproject.toml names."""
+    return re.findall("^(macsec-[a-z]+) = ", read(f"{ROOT}/python/pyproject.toml").decode(), re.M)
 
 
 def see(what: str, holds: bool) -> None:
@@ -124,7 +128,7 @@ def tried(where: str, do: "Callable[..., str]", at: str, room: str, flags: "list
 
 def manuals(where: str, do: "Callable[..., str]", words: str) -> None:
     """Sees that `man` finds and formats the pages."""
-    for name, section in (("macsec", "1"), ("macsec", "5"), *((it, "1") for it in PYTHON_COMMANDS)):
+    for name, section in (("macsec", "1"), ("macsec", "5"), *((it, "1") for it in python_commands())):
         told = do("sh", "-c", f"man {words} {section} {name} 2> /dev/null")
         see(f"{where}, man {section} {name} prints the page", f"{name}({section})" in told.lower())
 

@@ -5,7 +5,7 @@ from __future__ import annotations
 import itertools
 from typing import Dict, Iterator, List, NamedTuple, Optional, Sequence, Tuple
 
-from .configuration import Configuration, KeyLine
+from .endpoint_of_config import Configuration, KeyLine
 from .frames import read_tag, sender_of, without_vlan
 from .names import Suite, Verdict
 from .secy import RxSa

@@ -4,7 +4,7 @@ from __future__ import annotations
 
 from typing import List, NamedTuple, Optional
 
-from .configuration import Configuration
+from .endpoint_of_config import Configuration
 from .grammar import Command, parse
 
 

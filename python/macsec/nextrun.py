@@ -5,7 +5,7 @@ from __future__ import annotations
 import re
 from typing import Dict
 
-from .configuration import Configuration
+from .endpoint_of_config import Configuration
 from .errors import UsageError
 
 

@@ -5,7 +5,7 @@ from __future__ import annotations
 import dataclasses
 from typing import Dict, List, Optional
 
-from .configuration import Configuration
+from .endpoint_of_config import Configuration
 from .errors import UsageError
 from .names import Suite
 from .trial import own_sci

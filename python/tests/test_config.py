@@ -12,8 +12,8 @@ import unittest
 from typing import Counter, List
 
 from macsec import MacsecError, SecY, Suite, capture, grammar
-from macsec.config import main
-from macsec.configuration import Configuration
+from macsec.cli.config import main
+from macsec.endpoint_of_config import Configuration
 
 from .helpers import CAPTURES, KEYS, OTHER, ROOT, SALT, SENDER, InFolder, client_frames, main_of, protected
 

@@ -12,7 +12,7 @@ import zlib
 from typing import Iterator, List
 
 from macsec import Suite, capture
-from macsec.decrypt import main
+from macsec.cli.decrypt import main
 
 from .helpers import CAPTURES, KEYS, LONG_KEY, OTHER, ROOT, SALT, START, InFolder, client_frames, main_of, protected
 

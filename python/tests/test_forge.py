@@ -8,7 +8,8 @@ import subprocess
 import unittest
 
 import macsec
-from macsec import SecY, Suite, Verdict, capture, forge, hostile, lines, seal
+from macsec import SecY, Suite, Verdict, capture, hostile, script_frames, seal
+from macsec.cli import forge
 
 from .helpers import KEYS, LONG_KEY, RECEIVER, ROOT, SALT, SENDER, InFolder, client_frames, main_of, protected
 
@@ -126,7 +127,7 @@ class Judged(unittest.TestCase):
         status, text, _ = main_of(forge.main, "-", "--key", KEYS[0].hex(), "--sci", SENDER, "--each", "octet")
         self.assertEqual(status, 0)
         with SecY.configure(CONFIG) as secy:
-            given = [secy.receive(frame).verdict for _, frame in lines.frames_of_text(text)]
+            given = [secy.receive(frame).verdict for _, frame in script_frames.frames_of_text(text)]
         self.assertEqual((len(given), given.count(Verdict.BadTag)), (256, int(bad)))
         self.assertEqual(given.count(Verdict.Reserved), int(reserved))
         self.assertNotIn(Verdict.NotValid, given)

@@ -9,7 +9,8 @@ import shutil
 import unittest
 from typing import Counter, Dict, List, Tuple
 
-from macsec import capture, config, decrypt, why
+from macsec import capture
+from macsec.cli import config, decrypt, why
 
 from .helpers import ROOT, InFolder, main_of
 

@@ -12,7 +12,7 @@ from typing import List, Tuple
 from .helpers import CAPTURES, ROOT, InFolder
 
 PAGE = ROOT / "docs" / "PYTHON.md"
-COMMANDS = ("why", "decrypt", "config", "forge")
+COMMANDS = re.findall("^macsec-([a-z]+) = ", (ROOT / "python" / "pyproject.toml").read_text(), re.M)
 
 
 def commands(page: str) -> "List[Tuple[str, str]]":
@@ -36,7 +36,7 @@ class Page(InFolder):
         folder.mkdir()
         for name in COMMANDS:
             path = folder / f"macsec-{name}"
-            path.write_text(f'#!/bin/sh\nexec "{sys.executable}" -m macsec.{name} "$@"\n')
+            path.write_text(f'#!/bin/sh\nexec "{sys.executable}" -m macsec.cli.{name} "$@"\n')
             path.chmod(0o755)
         environment = {**os.environ, "PATH": f"{folder}:{os.environ['PATH']}", "PYTHONPATH": str(ROOT / "python")}
         has_tshark = shutil.which("tshark") is not None

@@ -7,7 +7,7 @@ import unittest
 from typing import List, Set
 
 from macsec import SecY, Suite
-from macsec.why import main
+from macsec.cli.why import main
 
 from .helpers import CAPTURES, KEYS, OTHER, RECEIVER, SALT, SENDER, InFolder, client_frames, main_of, protected
 

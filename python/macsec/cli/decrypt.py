@@ -8,14 +8,14 @@ import json
 import sys
 from typing import Counter, List, Optional, Sequence
 
-from . import capture
-from .commands import run
-from .errors import UsageError
-from .names import Suite
-from .opener import Opener
-from .summary import frames_text
-from .trial import KeyArgument, key_argument
-from .wpalog import keys_of
+from .. import capture
+from . import run
+from ..errors import UsageError
+from ..names import Suite
+from ..opener import Opener
+from ..summary import frames_text
+from ..trial import KeyArgument, key_argument
+from ..wpalog import keys_of
 
 
 def key_arguments(asked: argparse.Namespace) -> "List[KeyArgument]":

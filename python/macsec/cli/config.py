@@ -7,19 +7,19 @@ import json
 import sys
 from typing import List, Optional, Sequence
 
-from .commands import run
-from .configuration import Configuration
+from . import run
+from ..endpoint_of_config import Configuration
 from .decrypt import add_key_options, key_arguments
-from .errors import UsageError
-from .iproute import Devices, address_of, commands_of, plan_of_json
-from .lint import lint
-from .names import Suite
-from .nextrun import next_config
-from .plan import Plan, plan_of
-from .scan import scan
-from .secy import sci_of
-from .trial import KeyArgument
-from .wpalog import plan_of_log
+from ..errors import UsageError
+from ..iproute import Devices, address_of, commands_of, plan_of_json
+from ..lint import lint
+from ..names import Suite
+from ..nextrun import next_config
+from ..plan import Plan, plan_of
+from ..scan import scan
+from ..secy import sci_of
+from ..trial import KeyArgument
+from ..wpalog import plan_of_log
 
 _SENDS = (
     "# This end sends. If the same SCI sent these packet numbers under its key before, or another endpoint does, IVs\n"

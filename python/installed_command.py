@@ -13,4 +13,4 @@ sys.path.insert(0, os.path.join(PREFIX, "lib", "macsec", "python"))
 
 if __name__ == "__main__":
     name = os.path.basename(sys.argv[0])[len("macsec-") :]
-    sys.exit(importlib.import_module(f"macsec.{name}").main())
+    sys.exit(importlib.import_module(f"macsec.cli.{name}").main())

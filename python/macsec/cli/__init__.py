@@ -1,4 +1,4 @@
-"""What the commands share: how they end."""
+"""The commands of the package, a module each, and how each one ends (`run`)."""
 
 from __future__ import annotations
 
@@ -6,7 +6,7 @@ import os
 import sys
 from typing import Callable
 
-from .errors import CaptureError, MacsecError, UsageError
+from ..errors import CaptureError, MacsecError, UsageError
 
 
 def run(name: str, work: Callable[[], int]) -> int:

@@ -8,15 +8,15 @@ import json
 import sys
 from typing import Dict, List, NamedTuple, Optional, Sequence, Tuple
 
-from . import capture
-from .causes import Change, Found, Search, Setting
-from .commands import run
-from .configuration import Configuration
-from .errors import FrameFault, UsageError
-from .frames import ethertype, read_tag, without_vlan
-from .names import Verdict
-from .summary import Summary, frames_text, ranges
-from .trial import OPENED, Key, Trial, key_argument
+from .. import capture
+from ..causes import Change, Found, Search, Setting
+from . import run
+from ..endpoint_of_config import Configuration
+from ..errors import FrameFault, UsageError
+from ..frames import ethertype, read_tag, without_vlan
+from ..names import Verdict
+from ..summary import Summary, frames_text, ranges
+from ..trial import OPENED, Key, Trial, key_argument
 
 _DELIVERED_AS_SENT = (Verdict.OK, Verdict.Delayed)
 # How many frames of a kind, and of all kinds, other settings are searched for; and how many of a kind are kept.
