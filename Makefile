@@ -57,7 +57,7 @@ all: $(BUILT)
 
 try: toolchain
 	@tools/unproved macsec
-	@build/unproved/macsec $(or $(ARGS),run - < crates/macsec_examples/data/tour.macsec)
+	@build/unproved/macsec $(or $(ARGS),run - < examples/scripts/tour.macsec)
 	@echo "make try: nothing of this build is proved; make run proves it" >&2
 
 test: toolchain
@@ -65,7 +65,7 @@ test: toolchain
 	@tools/tests
 
 run: build/macsec
-	@build/macsec run - < crates/macsec_examples/data/tour.macsec
+	@build/macsec run - < examples/scripts/tour.macsec
 
 lib: build/libmacsec.a $(if $(filter x86-64-v3,$(CPU)),build/$(HWCAPS)/libmacsec.a)
 

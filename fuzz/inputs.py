@@ -17,7 +17,7 @@ import made
 import promises
 
 ROOT = pathlib.Path(__file__).resolve().parent.parent
-DATA = ROOT / "crates/macsec_examples/data"
+DATA = ROOT / "examples/scripts"
 # A client frame of 14 octets, the minimum.
 SHORTEST = bytes.fromhex("ffffffffffff0200000000010800")
 

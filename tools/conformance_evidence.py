@@ -12,7 +12,7 @@ import subprocess
 import tempfile
 
 ROOT = os.path.dirname(os.path.dirname(os.path.realpath(__file__)))
-SCRIPTS = f"{ROOT}/crates/macsec_examples/data"
+SCRIPTS = f"{ROOT}/examples/scripts"
 CAPTURES = f"{ROOT}/examples/captures"
 SECONDS = 60
 
@@ -101,10 +101,10 @@ class Runs:
         return ran.returncode, (ran.stdout + ran.stderr).decode(errors="replace")
 
     def test_script(self, name: str) -> "str | None":
-        """A script of macsec_examples: what it prints is stored beside it."""
+        """A script of examples/scripts: what it prints is stored beside it."""
         script, expected = (text_of(f"{SCRIPTS}/{name}.{it}") for it in ("macsec", "txt"))
         if script is None or expected is None:
-            return f"crates/macsec_examples/data has no {name}.macsec with a {name}.txt"
+            return f"examples/scripts has no {name}.macsec with a {name}.txt"
         status, printed = self.printed(["run", "-"], script)
         wanted = self.replaced.get(name, expected)
         if status or printed != wanted:

@@ -117,7 +117,7 @@ def tried(where: str, do: "Callable[..., str]", at: str, room: str, flags: "list
     """Tries what the packages of Debian install: `do` runs a command, `at` is before each path of them, and `room` is a
     folder for what is made."""
     told = do(f"{at}/usr/bin/macsec", "run", f"{at}{DOC}/macsec/examples/tour.macsec")
-    see(f"{where}, the tour prints its text", told == text("crates/macsec_examples/data/tour.txt"))
+    see(f"{where}, the tour prints its text", told == text("examples/scripts/tour.txt"))
     tried_in_c(where, do, at, room, flags)
     tried_in_python(where, do, at, room)
     do("touch", f"{room}/frames.pcap")
