@@ -1,6 +1,0 @@
-//! Tests of the sentences of faults and refusals, which no clause states and the program does not print. Whatever it
-//! prints is in `examples/scripts/` and in `tools/runs`.
-#![tactic(auto)]
-
-#[cfg(test)]
-mod sentences;
