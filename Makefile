@@ -21,7 +21,7 @@
 # make bench         measures the cipher and frames
 # make fuzz          gives mutated inputs to the program as both compilers build it
 # make moves         tries all lists of three moves over the rules in Python
-# make failures      makes files and streams fail, refuses memory, and lists the calls that take it
+# make failures      makes files and streams fail, refuses memory, and lists the calls of an endpoint that take it
 # make stored-runs   compares the program's answers with stored ones
 # make controls      sees that the tools that compare report something wrong
 # make peer          compares frames with Scapy's and with what tshark reads; both have to be installed
@@ -128,13 +128,13 @@ fuzz: build/macsec build/macsec-rattle
 moves:
 	python3 fuzz/moves.py
 
-failures: build/macsec build/macsec-failures
+failures: build/macsec
 	tools/failures
 
 stored-runs: build/macsec
 	tools/stored-runs
 
-controls: build/macsec build/macsec-rattle build/macsec-failures build/libmacsec.a
+controls: build/macsec build/macsec-rattle build/libmacsec.a
 	tools/controls
 
 peer: build/macsec
@@ -172,9 +172,8 @@ build/macsec: $(SOURCES) | toolchain
 	@echo "proving and building build/macsec: from nothing many minutes, with a line for each crate" >&2
 	@tools/prove
 
-# The program for processors with vectors of 256 bits, as Rattle's own compiler builds it, and the one whose calls meet
-# refused allocations.
-build/macsec-x86-64-v3 build/macsec-rattle build/macsec-failures: $(SOURCES) | toolchain build/macsec
+# The program for processors with vectors of 256 bits, and as Rattle's own compiler builds it.
+build/macsec-x86-64-v3 build/macsec-rattle: $(SOURCES) | toolchain build/macsec
 	@tools/prove $(notdir $@)
 
 # The library for C, with what it must be linked with.
