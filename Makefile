@@ -78,7 +78,7 @@ install: build/macsec build/libmacsec.a
 	install -m 755 build/macsec "$(DESTDIR)$(PREFIX)/bin/macsec"
 	install -m 644 man/macsec.1 "$(DESTDIR)$(PREFIX)/share/man/man1/macsec.1"
 	install -m 644 man/macsec.5 "$(DESTDIR)$(PREFIX)/share/man/man5/macsec.5"
-	install -D -m 644 tools/completion.bash "$(DESTDIR)$(PREFIX)/share/bash-completion/completions/macsec"
+	install -D -m 644 tools/packaging/completion.bash "$(DESTDIR)$(PREFIX)/share/bash-completion/completions/macsec"
 	install -m 644 include/macsec.h "$(DESTDIR)$(PREFIX)/include/macsec.h"
 	install -m 644 build/libmacsec.a build/libmacsec.so.1 "$(DESTDIR)$(PREFIX)/lib"
 	ln -sfn libmacsec.so.1 "$(DESTDIR)$(PREFIX)/lib/libmacsec.so"
@@ -116,7 +116,7 @@ pages: build/macsec
 	tools/pages
 
 conformance: build/macsec
-	tools/conformance --json build/conformance.json
+	conformance/conformance --json build/conformance.json
 
 bench: toolchain
 	cd crates/macsec_bench && rt run -- measure
@@ -128,25 +128,25 @@ moves:
 	python3 fuzz/moves.py
 
 failures: build/macsec build/macsec-failures
-	tools/failures
+	tests/program/failures
 
 stored-runs: build/macsec
-	tools/stored-runs
+	tests/program/stored-runs
 
 controls: build/macsec build/macsec-rattle build/macsec-failures build/libmacsec.a
-	tools/controls
+	tests/program/controls
 
 peer: build/macsec
-	tools/peer
+	tests/program/peer
 
 kept-frames: toolchain
 	tools/kept-frames
 
 c-programs: build/libmacsec.a build/macsec
-	tools/c-programs --calls $(INPUTS) --seed $(SEED)
+	tests/library/c-programs --calls $(INPUTS) --seed $(SEED)
 
 journal: build/libmacsec.a
-	tools/journal --seed $(SEED)
+	device/tests/journal --seed $(SEED)
 
 lanes-used: toolchain
 	tools/lanes-used
@@ -163,8 +163,8 @@ install-device: device
 	sed 's|/usr/local|$(PREFIX)|' device/macsecd@.service > "$(DESTDIR)$(PREFIX)/lib/systemd/system/macsecd@.service"
 
 macsecd: build/libmacsec.a
-	tools/macsecd --seed $(SEED)
-	tools/macsecd --short --controls
+	device/tests/macsecd --seed $(SEED)
+	device/tests/macsecd --short --controls
 
 # The program, proved and then built by LLVM.
 build/macsec: $(SOURCES) | toolchain
@@ -177,7 +177,7 @@ build/macsec-x86-64-v3 build/macsec-rattle build/macsec-failures: $(SOURCES) | t
 	@tools/prove $(notdir $@)
 
 # The library for C, with what it must be linked with.
-build/libmacsec.a: $(SOURCES) tools/merged-library tools/libmacsec.map | toolchain
+build/libmacsec.a: $(SOURCES) tools/merged-library tools/library/libmacsec.map | toolchain
 	@echo "proving and building build/libmacsec.a: from nothing many minutes, with a line for each crate" >&2
 	@tools/prove libmacsec_c.a
 	tools/merged-library build/libmacsec_c.a $@
