@@ -1,6 +1,6 @@
 /* The calls that take keys: when the library returns, what it left on the stack is overwritten. tools/merged-library
  * gives the library's own calls the prefix uncleared_ and links this above them. */
-#include "../include/macsec.h"
+#include "../../include/macsec.h"
 #include <string.h>
 
 /* As much as these calls use, measured: 26 kilooctets, and 60 where an endpoint is made. */
