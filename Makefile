@@ -37,8 +37,8 @@ DEVICE := build/macsecd$(if $(filter x86-64-v3,$(CPU)),-x86-64-v3)
 DEVICE_SOURCES := $(filter-out device/macsecctl.c,$(wildcard device/*.c))
 
 # The checks that make a program or a library first, and the others.
-OVER_PROGRAM := altered-frames conformance conformance-controls examples pages peer planted stored-runs
-OVER_LIBRARY := c-programs journal macsecd macsecd-controls python
+OVER_PROGRAM := altered-frames conformance conformance-controls examples peer planted stored-runs
+OVER_LIBRARY := c-programs journal macsecd macsecd-controls pages python
 CHECKS := $(OVER_PROGRAM) $(OVER_LIBRARY) against allocators any-order c-cost c-header controls device-kernel edits \
     failures fuzz kept-frames kernel-captures lanes-used mka moves needed packages table version
 
@@ -112,7 +112,7 @@ $(OVER_PROGRAM): build/macsec
 fuzz: build/macsec build/macsec-rattle
 failures: build/macsec build/macsec-failures
 $(OVER_LIBRARY): build/libmacsec.a
-c-programs python: build/macsec
+c-programs pages python: build/macsec
 packages: build/macsec build/libmacsec.a build/$(HWCAPS)/libmacsec.a
 controls: build/macsec build/macsec-rattle build/macsec-failures build/libmacsec.a
 

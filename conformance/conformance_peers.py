@@ -21,7 +21,6 @@ from __future__ import annotations
 import collections
 import copy
 import json
-import os
 import pathlib
 import sys
 from typing import Any

@@ -6,7 +6,6 @@ rules give. vectors/schema.json describes the file, and docs/CONFORMANCE.md how 
 from __future__ import annotations
 
 import json
-import os
 import re
 import subprocess
 import sys

@@ -12,25 +12,16 @@ import time
 from concurrent.futures import ThreadPoolExecutor
 from typing import Callable, Dict, Iterator, List, NamedTuple, Optional, Set, Tuple
 
-from house import ROOT
+from house import ROOT, captures
+from house.compiling import INCLUDED, SANITIZED, WARNINGS
+from house.reporting import report
 
-FLAGS = ["-std=c11", "-Wall", "-Wextra", "-Werror", "-O2", "-I", str(ROOT / "include"), "-I", str(ROOT / "device")]
+FLAGS = [*WARNINGS, "-O2", *INCLUDED, "-I", f"{ROOT}/device"]
 RECORD = 64
 ANS = (0, 1)
 SECONDS = 60
-# After so many lines nothing more is printed of what is wrong.
-MANY = 20
 
 Frame = Tuple[bytes, int, int]  # SCI, association number, packet number
-wrong: List[str] = []
-
-
-def report(holds: bool, line: str) -> None:
-    """Notes and prints what is wrong."""
-    if not holds:
-        wrong.append(line)
-        if len(wrong) <= MANY:
-            print(f"WRONG: {line}", flush=True)
 
 
 class Options(NamedTuple):
@@ -54,13 +45,12 @@ def build(library: pathlib.Path, folder: pathlib.Path, memory: bool) -> Tuple[pa
     sources = [str(ROOT / "device/tests/journal.c"), str(ROOT / "device/journal.c")]
     model = str(ROOT / "device/tests/journal_disk.c")
     sources += ["-Wl,--wrap=malloc", "-Wl,--wrap=realloc"]
-    sanitizers = ["-g", "-fsanitize=address,undefined", "-fno-sanitize-recover=all"]
     commands = [
         ["gcc", *FLAGS, "-pedantic", "-o", str(program), *sources, str(library)],
         ["gcc", *FLAGS, "-shared", "-fPIC", "-o", str(disk), model],
     ]
     if memory:
-        commands.append(["gcc", *FLAGS, *sanitizers, "-o", str(sanitized), *sources, model, str(library)])
+        commands.append(["gcc", *FLAGS, *SANITIZED, "-o", str(sanitized), *sources, model, str(library)])
     with ThreadPoolExecutor(len(commands)) as pool:
         if any(pool.map(subprocess.call, commands)):
             sys.exit("device/tests/journal: a program was not built")
@@ -115,14 +105,8 @@ def receive_words(journal: pathlib.Path, out: pathlib.Path, captures: List[pathl
 
 def frames_of(capture: pathlib.Path) -> List[Frame]:
     """The SCI, association number and packet number of each whole frame of a capture."""
-    octets = capture.read_bytes() if capture.is_file() else b""
-    at, found = 24, []
-    while at + 16 <= len(octets):
-        length = int.from_bytes(octets[at + 8 : at + 12], "little")
-        frame = octets[at + 16 : at + 16 + length]
-        at += 16 + length
-        if len(frame) < length:
-            break
+    found = []
+    for frame in captures.frames_so_far(capture) if capture.is_file() else []:
         if frame[12:14] != b"\x88\xe5" or not frame[14] & 0x20:
             raise ValueError(f"{capture}: a frame without a SecTAG with an SCI")
         found.append((frame[20:28], frame[14] & 3, int.from_bytes(frame[16:20], "big")))

@@ -6,7 +6,8 @@ import secrets
 import socket
 from typing import List
 
-from macsecd_world import End, Packets, World, connected, ping, protected, report, until
+from house.reporting import report, until
+from macsecd_world import End, Packets, World, connected, ping, protected
 
 # A line that weakens the protection, and what the configuration has to allow for it.
 WEAKER = [("A protect off", "protect off"), ("A validate check", "validate check"),

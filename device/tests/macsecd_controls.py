@@ -4,7 +4,7 @@ import pathlib
 import shutil
 from typing import Dict, List, Tuple
 
-from macsecd_world import Failed
+from house.reporting import Failed
 
 # The name of a check, and its mistakes: a file of device/, a text that is there once, and what is written for it.
 CONTROLS: "Dict[str, List[Tuple[str, str, str]]]" = {

@@ -9,8 +9,9 @@ import threading
 import time
 from typing import Dict, Iterator, List, Tuple
 
+from house.reporting import Failed, report
 from macsecd_requests import state_of
-from macsecd_world import End, Failed, Packets, Stream, World, connected, ping, protected, report
+from macsecd_world import End, Packets, Stream, World, connected, ping, protected
 
 KEYS = 4096
 

@@ -6,8 +6,9 @@ import subprocess
 import time
 from typing import Dict, Tuple
 
+from house.reporting import Failed, report, until
 from macsecd_handover import dropped
-from macsecd_world import IN, OUT, RX, End, Failed, Stream, World, report, tcp, tcp_pair, transfer, until
+from macsecd_world import IN, OUT, RX, End, Stream, World, tcp, tcp_pair, transfer
 
 
 def count_all(end: End) -> None:

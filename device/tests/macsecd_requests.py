@@ -6,7 +6,8 @@ import random
 import socket
 from typing import Callable, Dict
 
-from macsecd_world import IN, OUT, RX, End, connected, ping, report, until
+from house.reporting import report, until
+from macsecd_world import IN, OUT, RX, End, connected, ping
 
 
 def agree(answer: Callable[[], str], other: Callable[[], str], what: str) -> None:

@@ -5,9 +5,11 @@ import pathlib
 import signal
 import time
 
+from house import ROOT
+from house.reporting import report
 from macsecd_handover import Recorder, losses
 from macsecd_losses import settled
-from macsecd_world import ROOT, RX, Stream, World, build, numbers_of, report
+from macsecd_world import RX, Stream, World, build, numbers_of
 
 # The calls of macsecd that a signal can interrupt.
 CALLS = ["read", "write", "pread", "pwrite", "recv", "send", "recvfrom", "recvmmsg", "sendmmsg", "epoll_wait"]

@@ -6,8 +6,9 @@ import threading
 import time
 from typing import Dict, List
 
+from house.reporting import report
 from macsecd_handover import clients, losses, rekey
-from macsecd_world import IN, OUT, RX, End, Packets, Stream, World, protected, report
+from macsecd_world import IN, OUT, RX, End, Packets, Stream, World, protected
 
 REKEYS = 60
 

@@ -10,9 +10,12 @@ import socket
 import subprocess
 from typing import Dict, List, Tuple
 
+from house import ROOT
+from house.compiling import INCLUDED, WARNINGS
+from house.reporting import Failed, call, report
 from macsecd_controls import altered
 from macsecd_losses import settled
-from macsecd_world import ROOT, WARNINGS, End, Failed, World, build, call, inside, report, tcp
+from macsecd_world import End, World, build, inside, tcp
 
 # The octets of a datagram whose Ethernet frame has 1,400.
 DATAGRAM = 1400 - 14 - 20 - 8
@@ -36,8 +39,8 @@ def clocked(text: str) -> "List[float]":
 def library_alone(folder: pathlib.Path, library: pathlib.Path) -> "List[float]":
     """The times of the library's calls, one after the other."""
     program = str(folder / "cost")
-    include = ["-I", str(ROOT / "include"), "-o", program, str(ROOT / "device/tests/macsecd_cost.c")]
-    call("gcc", *WARNINGS, "-O2", *CLOCK, *include, str(library))
+    words = ["gcc", *WARNINGS, "-pedantic", "-O2", *CLOCK, *INCLUDED]
+    call(*words, "-o", program, str(ROOT / "device/tests/macsecd_cost.c"), str(library))
     return clocked(subprocess.run([program], capture_output=True, text=True, check=True).stderr)
 
 

@@ -11,13 +11,14 @@ import struct
 import subprocess
 import threading
 import time
-from typing import Callable, Dict, Iterator, List, Optional, Sequence, Set, Tuple
+from typing import Dict, Iterator, List, Optional, Sequence, Set, Tuple
 
-from house import ROOT
+from house import compiling
+from house.compiling import INCLUDED, WARNINGS, device_sources
+from house.reporting import Failed, call, report, until
 
 LIBC = ctypes.CDLL(None, use_errno=True)
-WARNINGS = ["-std=c11", "-Wall", "-Wextra", "-Werror", "-pedantic"]
-SANITIZED = ["-g", "-O1", "-fsanitize=address,undefined", "-fno-sanitize-recover=all", "-DMACSECD_UNFILTERED"]
+SANITIZED = [*compiling.SANITIZED, "-O1", "-DMACSECD_UNFILTERED"]
 ALL_FRAMES = socket.htons(3)
 SOL_PACKET, PACKET_AUXDATA, VLAN_VALID = 263, 8, 1 << 4
 SALT = "0102030405060708090a0b0c"
@@ -27,49 +28,16 @@ RX = ["InPktsOK", "InPktsUnchecked", "InPktsDelayed", "InPktsLate", "InPktsInval
 IN = ["InPktsUntagged", "InPktsNoTag", "InPktsBadTag", "InPktsReserved", "InPktsNoSA", "InPktsNoSAError"]
 OUT = ["OutPktsUntagged", "OutPktsTooLong", "OutPktsNoSA", "OutPktsProtected", "OutPktsEncrypted"]
 
-# What does not hold.
-wrong: List[str] = []
-
-
-def report(holds: bool, what: str) -> None:
-    """Notes and prints what does not hold."""
-    if not holds:
-        wrong.append(what)
-        print(f"WRONG: {what}", flush=True)
-
-
-class Failed(Exception):
-    """Something of the test itself failed, such as a command."""
-
-
-def call(*words: str) -> str:
-    """Runs a command, which has to succeed. Returns what it prints."""
-    ended = subprocess.run(words, stdin=subprocess.DEVNULL, capture_output=True, text=True)
-    if ended.returncode:
-        raise Failed(f"{' '.join(words)}: {ended.stdout}{ended.stderr}")
-    return ended.stdout
-
 
 def build(out: pathlib.Path, library: pathlib.Path, options: List[str], source: pathlib.Path,
           wrapped: Sequence[str] = ()) -> pathlib.Path:
     """Builds macsecd and macsecctl of a folder of sources. What wraps calls is for macsecd alone. Returns the folder of
     the programs."""
     out.mkdir(parents=True, exist_ok=True)
-    include = ["-I", str(ROOT / "include"), "-I", str(source)]
-    files = [str(path) for path in sorted(source.glob("*.c")) if path.name != "macsecctl.c"]
-    call("gcc", *WARNINGS, "-O2", *options, *wrapped, *include, "-o", str(out / "macsecd"), *files, str(library))
-    call("gcc", *WARNINGS, "-O2", *options, *include, "-o", str(out / "macsecctl"), str(source / "macsecctl.c"))
+    words = ["gcc", *WARNINGS, "-pedantic", "-O2", *options, *INCLUDED, "-I", str(source)]
+    call(*words, *wrapped, "-o", str(out / "macsecd"), *device_sources(source), str(library))
+    call(*words, "-o", str(out / "macsecctl"), str(source / "macsecctl.c"))
     return out
-
-
-def until(holds: Callable[[], bool], seconds: float = 15.0) -> bool:
-    """Waits until something holds. Returns whether it does within this time, which is long for a machine under load."""
-    end = time.monotonic() + seconds
-    while not holds():
-        if time.monotonic() > end:
-            return False
-        time.sleep(0.01)
-    return True
 
 
 @contextlib.contextmanager
@@ -83,7 +51,7 @@ def inside(namespace: str) -> Iterator[None]:
         yield
     finally:
         if LIBC.setns(own, 0x40000000):
-            raise SystemExit("device/tests/macsecd: cannot return to its namespace")
+            raise SystemExit("macsecd: cannot return to its namespace")
         os.close(own)
         os.close(other)
 

@@ -13,7 +13,9 @@ import threading
 import time
 from typing import Dict, List, NamedTuple, Optional, Pattern, Set, Tuple
 
-from macsecd_world import ALL_FRAMES, Failed, call, checksum, connected, inside, until
+from house import captures
+from house.reporting import Failed, call, until
+from macsecd_world import ALL_FRAMES, checksum, connected, inside
 
 CAK, CKN = secrets.token_hex(16), secrets.token_hex(32)
 MACSEC, EAPOL = "88e5", "888e"
@@ -171,22 +173,15 @@ class Capture(threading.Thread):
     def run(self) -> None:
         """Writes until it is closed."""
         with open(self.path, "wb", buffering=0) as out:
-            out.write(struct.pack("<IHHiIII", 0xA1B2C3D4, 2, 4, 0, 0, 65535, 1))
+            out.write(captures.pcap_header())
             while self.goes_on:
                 with contextlib.suppress(socket.timeout):
                     frame = self.socket.recv(65536)
-                    now = time.time_ns() // 1000
-                    about = struct.pack("<IIII", now // 1000000, now % 1000000, len(frame), len(frame))
-                    out.write(about + frame)
+                    out.write(captures.pcap_record(time.time_ns(), frame))
 
     def frames(self) -> List[bytes]:
         """The frames so far."""
-        octets, at, found = self.path.read_bytes(), 24, []
-        while at + 16 <= len(octets):
-            length = int.from_bytes(octets[at + 8 : at + 12], "little")
-            found.append(octets[at + 16 : at + 16 + length])
-            at += 16 + length
-        return found
+        return captures.frames_so_far(self.path)
 
     def close(self) -> int:
         """Ends it. Returns how many frames its socket had no space for."""
