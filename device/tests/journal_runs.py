@@ -45,10 +45,8 @@ def build(library: pathlib.Path, folder: pathlib.Path, memory: bool) -> Tuple[pa
     sources = [str(ROOT / "device/tests/journal.c"), str(ROOT / "device/journal.c")]
     model = str(ROOT / "device/tests/journal_disk.c")
     sources += ["-Wl,--wrap=malloc", "-Wl,--wrap=realloc"]
-    commands = [
-        ["gcc", *FLAGS, "-pedantic", "-o", str(program), *sources, str(library)],
-        ["gcc", *FLAGS, "-shared", "-fPIC", "-o", str(disk), model],
-    ]
+    commands = [["gcc", *FLAGS, "-pedantic", "-o", str(program), *sources, str(library)],
+                ["gcc", *FLAGS, "-shared", "-fPIC", "-o", str(disk), model]]
     if memory:
         commands.append(["gcc", *FLAGS, *SANITIZED, "-o", str(sanitized), *sources, model, str(library)])
     with ThreadPoolExecutor(len(commands)) as pool:
@@ -75,14 +73,9 @@ def run(
 ) -> Ended:
     """Runs the program to its end."""
     try:
-        ended = subprocess.run(
-            [*under, str(program), *words],
-            env={**os.environ, **(env or {})},
-            stdin=subprocess.DEVNULL,
-            stdout=subprocess.PIPE,
-            stderr=subprocess.PIPE,
-            timeout=SECONDS,
-        )
+        ended = subprocess.run([*under, str(program), *words], env={**os.environ, **(env or {})},
+                               stdin=subprocess.DEVNULL, stdout=subprocess.PIPE, stderr=subprocess.PIPE,
+                               timeout=SECONDS)
     except subprocess.TimeoutExpired:
         return Ended(-1, "", f"no end within {SECONDS} seconds")
     return Ended(ended.returncode, ended.stdout.decode(), ended.stderr.decode(errors="replace"))
