@@ -8,7 +8,6 @@ import random
 import subprocess
 import sys
 import tempfile
-import time
 from concurrent.futures import ThreadPoolExecutor
 from typing import Callable, Dict, Iterator, List, NamedTuple, Optional, Set, Tuple
 
@@ -142,16 +141,6 @@ def work_folder(parent: Optional[pathlib.Path] = None) -> Iterator[pathlib.Path]
     memory = "/dev/shm" if os.access("/dev/shm", os.W_OK) else None
     with tempfile.TemporaryDirectory(dir=parent or memory, prefix="journal-") as name:
         yield pathlib.Path(name)
-
-
-def wait_for(holds: Callable[[], bool], seconds: float = 10) -> bool:
-    """Waits until something holds."""
-    end = time.monotonic() + seconds
-    while not holds():
-        if time.monotonic() > end:
-            return False
-        time.sleep(0.002)
-    return True
 
 
 def has_frames(capture: pathlib.Path, more_than: int = 24) -> Callable[[], bool]:

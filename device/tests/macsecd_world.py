@@ -130,17 +130,11 @@ def connected(path: str, seconds: int) -> socket.socket:
     return it
 
 
-class End:
-    """A namespace with a macsecd in it."""
+class Namespace:
+    """A namespace, and a folder with the files of a macsecd in it."""
 
-    def __init__(self, world: "World", number: int) -> None:
-        self.world, self.number = world, number
-        self.namespace = f"macsecd-{os.getpid()}-{world.folder.name}-{number}"
-        self.folder = world.folder / str(number)
-        self.sci = f"02000000000{number}0001"
-        self.process: Optional[subprocess.Popen] = None
-        self.program = world.programs / "macsecd"
-        self.prefix: List[str] = []
+    def __init__(self, namespace: str, folder: pathlib.Path) -> None:
+        self.namespace, self.folder = namespace, folder
         self.more_environment: Dict[str, str] = {}
         for each in ("conf", "state", "run"):
             (self.folder / each).mkdir(parents=True)
@@ -157,14 +151,40 @@ class End:
         return {**os.environ, **more, "ASAN_OPTIONS": "detect_leaks=0", **self.more_environment}
 
     @property
-    def config(self) -> pathlib.Path:
-        """The path of its configuration."""
-        return self.folder / "conf/macsec0.conf"
-
-    @property
     def socket(self) -> str:
         """The path of its control socket."""
         return str(self.folder / "run/macsec0.sock")
+
+    def ask(self, *requests: str) -> str:
+        """Makes requests over one connection. Returns the last answer."""
+        got = b""
+        with connected(self.socket, 10) as it:
+            for request in requests:
+                it.send(request.encode())
+                got = it.recv(1 << 20)
+        return got.decode()
+
+    def counters(self) -> Dict[str, int]:
+        """The answer to `counters`."""
+        lines = (line.rsplit(" ", 1) for line in self.ask("counters").splitlines())
+        return {name: int(value) for name, value in lines}
+
+
+class End(Namespace):
+    """A namespace with a macsecd in it."""
+
+    def __init__(self, world: "World", number: int) -> None:
+        super().__init__(f"macsecd-{os.getpid()}-{world.folder.name}-{number}", world.folder / str(number))
+        self.world, self.number = world, number
+        self.sci = f"02000000000{number}0001"
+        self.process: Optional[subprocess.Popen] = None
+        self.program = world.programs / "macsecd"
+        self.prefix: List[str] = []
+
+    @property
+    def config(self) -> pathlib.Path:
+        """The path of its configuration."""
+        return self.folder / "conf/macsec0.conf"
 
     def write_config(self, suite: str = "gcm128", more: str = "", device: str = "device link link0\n") -> None:
         """Writes a configuration: it sends under its own key, on association 0, and receives under the peer's."""
@@ -225,20 +245,6 @@ A rxon 02000000000{peer}0001 0
     def log(self) -> str:
         """What it said."""
         return (self.folder / "log").read_text(errors="replace")
-
-    def ask(self, *requests: str) -> str:
-        """Makes requests over one connection. Returns the last answer."""
-        got = b""
-        with connected(self.socket, 10) as it:
-            for request in requests:
-                it.send(request.encode())
-                got = it.recv(1 << 20)
-        return got.decode()
-
-    def counters(self) -> Dict[str, int]:
-        """The answer to `counters`."""
-        lines = (line.rsplit(" ", 1) for line in self.ask("counters").splitlines())
-        return {name: int(value) for name, value in lines}
 
     def carry_out(self, *lines: str) -> None:
         """Carries out lines, each of which has to be done."""

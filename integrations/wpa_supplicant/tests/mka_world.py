@@ -15,7 +15,7 @@ from typing import Dict, List, NamedTuple, Optional, Pattern, Set, Tuple
 
 from house import captures
 from house.reporting import Failed, call, until
-from macsecd_world import ALL_FRAMES, checksum, connected, inside
+from macsecd_world import ALL_FRAMES, Namespace, checksum, connected, inside
 
 CAK, CKN = secrets.token_hex(16), secrets.token_hex(32)
 MACSEC, EAPOL = "88e5", "888e"
@@ -34,41 +34,25 @@ def stopped(process: "Optional[subprocess.Popen[bytes]]", number: int = signal.S
         process.wait()
 
 
-class End:
+class End(Namespace):
     """A namespace with a macsecd and a wpa_supplicant that drives it."""
 
     def __init__(self, world: "World", number: int, settings: Dict[str, str]) -> None:
-        self.world, self.number, self.settings = world, number, settings
         self.name = "abc"[number - 1]
-        self.namespace = f"{world.prefix}{self.name}"
-        self.folder = world.folder / self.name
+        super().__init__(f"{world.prefix}{self.name}", world.folder / self.name)
+        self.world, self.number, self.settings = world, number, settings
         self.address, self.mac = f"10.9.0.{number}", f"02:00:00:00:00:0{number}"
         self.sci = f"02000000000{number}0001"
-        self.environment: Dict[str, str] = {}
         self.allow: List[str] = []
         self.relay: Optional[Relay] = None
         self.device: "Optional[subprocess.Popen[bytes]]" = None
         self.wpa: "Optional[subprocess.Popen[bytes]]" = None
-        for each in ("conf", "state", "run"):
-            (self.folder / each).mkdir(parents=True)
-
-    @property
-    def socket(self) -> str:
-        """The path of macsecd's control socket."""
-        return str(self.folder / "run/macsec0.sock")
-
-    def ip(self, *words: str) -> str:
-        """Runs `ip` in the namespace."""
-        return call("ip", "-n", self.namespace, *words)
 
     def spawn(self, log: str, *words: str) -> "subprocess.Popen[bytes]":
         """Starts a program in the namespace."""
-        folders = {"CONFIGURATION_DIRECTORY": "conf", "STATE_DIRECTORY": "state", "RUNTIME_DIRECTORY": "run"}
-        more = {name: str(self.folder / each) for name, each in folders.items()}
         with open(self.folder / log, "ab") as it:
             command = ["ip", "netns", "exec", self.namespace, *words]
-            return subprocess.Popen(command, stdin=subprocess.DEVNULL, stdout=it, stderr=it,
-                                    env={**os.environ, **more, **self.environment})
+            return subprocess.Popen(command, stdin=subprocess.DEVNULL, stdout=it, stderr=it, env=self.environment)
 
     def start_device(self) -> None:
         """Starts macsecd, and gives its TAP an address."""
@@ -110,17 +94,6 @@ class End:
         """Starts both."""
         self.start_device()
         self.start_wpa()
-
-    def ask(self, request: str) -> str:
-        """Makes a request of macsecd."""
-        with connected(self.socket, 5) as it:
-            it.send(request.encode())
-            return it.recv(1 << 20).decode()
-
-    def counters(self) -> Dict[str, int]:
-        """macsecd's answer to `counters`."""
-        lines = (line.rsplit(" ", 1) for line in self.ask("counters").splitlines())
-        return {name: int(value) for name, value in lines}
 
     def is_open(self) -> bool:
         """Is the controlled port on?"""

@@ -3,29 +3,9 @@
  * wrong lines, to lines about more than end A, to small buffers and without memory. Linked so that the library's calls
  * of malloc and realloc come here first. */
 #include "macsec.h"
+#include "refusing.h"
 #include <stdio.h>
-#include <stdlib.h>
 #include <string.h>
-
-void *__real_malloc(size_t size);
-void *__wrap_malloc(size_t size);
-void *__real_realloc(void *block, size_t size);
-void *__wrap_realloc(void *block, size_t size);
-
-static unsigned asked, refused; /* how often the library asked for memory, and from which time on it gets none */
-
-static bool is_refused(void) {
-    asked++;
-    return refused != 0 && asked >= refused;
-}
-
-void *__wrap_malloc(size_t size) {
-    return is_refused() ? NULL : __real_malloc(size);
-}
-
-void *__wrap_realloc(void *block, size_t size) {
-    return is_refused() ? NULL : __real_realloc(block, size);
-}
 
 enum { FIRST = 3, ROOM = 8192 };
 
