@@ -15,7 +15,7 @@ from house import ROOT
 # How long a stopped command has to end before it is killed.
 GRACE = 5.0
 # What a command prints if it leaves something out.
-LEFT_OUT = re.compile(r"nothing is tested|not tried|cannot be tried|not checked|\bskipped\b|not installed")
+LEFT_OUT = re.compile(r"nothing is tested|not tried|cannot be tried|not checked|commands skipped|skipped=|not installed")
 COUNTS = re.compile(r"(\d+) passed, (\d+) failed")
 
 
