@@ -132,7 +132,7 @@ def listed() -> str:
     """The table for a terminal, and after it the checks without a control."""
     lines = []
     for it in CHECKS:
-        when = [name for name, arguments in (("test", it.test), ("gate", it.gate), ("by hand", it.hand))
+        when = [name for name, arguments in (("test", it.test), ("gate", it.gate), ("manually", it.hand))
                 if arguments is not None]
         lines.append(f"{it.name:21} {', '.join(when):20} {it.seconds:5} s  {it.needs:20} {it.does}")
     without = [it.name for it in CHECKS if it.control is None]
