@@ -17,8 +17,12 @@ KEY_256 = "e3c08a8f06c6e3ad95a70557b23f75483ce33021a9c72b7025666204c69c0b72"
 SALT = "a0a1a2a3a4a5a6a7a8a9aaab"
 SENDER, RECEIVER = "0200000000010001", "0200000000020001"
 ADDRESS = "020000000001"
-SUITES = {"GCM-AES-128": ("gcm128", KEY_128), "GCM-AES-256": ("gcm256", KEY_256),
-          "GCM-AES-XPN-128": ("xpn128", KEY_128), "GCM-AES-XPN-256": ("xpn256", KEY_256)}
+SUITES = {
+    "GCM-AES-128": ("gcm128", KEY_128),
+    "GCM-AES-256": ("gcm256", KEY_256),
+    "GCM-AES-XPN-128": ("xpn128", KEY_128),
+    "GCM-AES-XPN-256": ("xpn256", KEY_256),
+}
 
 # IEEE Std 802.1AE, Annex C: the client frames of 54 and 60 octets, and what is sent for them.
 ANNEX_C_SCI, ANNEX_C_PN = "12153524c0895e81", "b2c28465"
@@ -38,8 +42,13 @@ ANNEX_C = {
 
 # FIPS 197, appendix C: key and result of one block.
 AES_BLOCK = "00112233445566778899aabbccddeeff"
-AES = {"C.1": ("000102030405060708090a0b0c0d0e0f", "69c4e0d86a7b0430d8cdb78070b4c55a"),
-       "C.3": ("000102030405060708090a0b0c0d0e0f101112131415161718191a1b1c1d1e1f", "8ea2b7ca516745bfeafc49904b496089")}
+AES = {
+    "C.1": ("000102030405060708090a0b0c0d0e0f", "69c4e0d86a7b0430d8cdb78070b4c55a"),
+    "C.3": (
+        "000102030405060708090a0b0c0d0e0f101112131415161718191a1b1c1d1e1f",
+        "8ea2b7ca516745bfeafc49904b496089",
+    ),
+}
 
 # The GCM specification behind SP 800-38D, appendix B: test cases with IVs of 96 bits and the key lengths used here.
 TEXT = (
@@ -49,14 +58,16 @@ TEXT = (
 AAD, IV = "feedfacedeadbeeffeedfacedeadbeefabaddad2", "cafebabefacedbaddecaf888"
 KEY_HALF = "feffe9928665731c6d6a8f9467308308"
 ZEROS = "00" * 16
-GCM = {"1": (ZEROS, "00" * 12, "", "", "58e2fccefa7e3061367f1d57a4e7455a"),
-       "2": (ZEROS, "00" * 12, "", ZEROS, "ab6e47d42cec13bdf53a67b21257bddf"),
-       "3": (KEY_HALF, IV, "", TEXT, "4d5c2af327cd64a62cf35abd2ba6fab4"),
-       "4": (KEY_HALF, IV, AAD, TEXT[:-8], "5bc94fbc3221a5db94fae95ae7121a47"),
-       "13": (ZEROS * 2, "00" * 12, "", "", "530f8afbc74536b9a963b4f1c4cb738b"),
-       "14": (ZEROS * 2, "00" * 12, "", ZEROS, "d0d1c8a799996bf0265b98b5d48ab919"),
-       "15": (KEY_HALF * 2, IV, "", TEXT, "b094dac5d93471bdec1a502270e3cc6c"),
-       "16": (KEY_HALF * 2, IV, AAD, TEXT[:-8], "76fc6ece0f4e1768cddf8853bb2d551b")}
+GCM = {
+    "1": (ZEROS, "00" * 12, "", "", "58e2fccefa7e3061367f1d57a4e7455a"),
+    "2": (ZEROS, "00" * 12, "", ZEROS, "ab6e47d42cec13bdf53a67b21257bddf"),
+    "3": (KEY_HALF, IV, "", TEXT, "4d5c2af327cd64a62cf35abd2ba6fab4"),
+    "4": (KEY_HALF, IV, AAD, TEXT[:-8], "5bc94fbc3221a5db94fae95ae7121a47"),
+    "13": (ZEROS * 2, "00" * 12, "", "", "530f8afbc74536b9a963b4f1c4cb738b"),
+    "14": (ZEROS * 2, "00" * 12, "", ZEROS, "d0d1c8a799996bf0265b98b5d48ab919"),
+    "15": (KEY_HALF * 2, IV, "", TEXT, "b094dac5d93471bdec1a502270e3cc6c"),
+    "16": (KEY_HALF * 2, IV, AAD, TEXT[:-8], "76fc6ece0f4e1768cddf8853bb2d551b"),
+}
 
 
 def same(found: str, published: str) -> str:
@@ -316,20 +327,22 @@ def tag_faults() -> "list[Vector]":
     """Frames whose SecTAG has a fault, each with a valid ICV, so that the ICV is not why they are dropped."""
     suite = "GCM-AES-128"
     good = forged(suite, 1, 0x2C, 20)
-    cases = {"version": ("V is set", forged(suite, 1, 0xAC, 20)),
-             "sc-and-es": ("SC and ES are set", forged(suite, 1, 0x6C, 20)),
-             "sc-and-scb": ("SC and SCB are set", forged(suite, 1, 0x3C, 20)),
-             "sl-bit-7": ("bit 7 of SL is set", forged(suite, 1, 0x2C, 20, sl=0x80 | 20)),
-             "sl-bit-6": ("bit 6 of SL is set", forged(suite, 1, 0x2C, 20, sl=0x40 | 20)),
-             "sl-48": ("SL is 48, as many as the octets", forged(suite, 1, 0x2C, 48, sl=48)),
-             "sl-63": ("SL is 63, as many as the octets", forged(suite, 1, 0x2C, 63, sl=63)),
-             "sl-0-short": ("SL is 0 with 20 octets", forged(suite, 1, 0x2C, 20, sl=0)),
-             "sl-long": ("SL is one more than the octets", forged(suite, 1, 0x2C, 20, sl=21)),
-             "pn-0": ("PN is 0", forged(suite, 0, 0x2C, 20)),
-             "e-without-c": ("E is set and C is clear", forged(suite, 1, 0x28, 20)),
-             "cut-in-tag": ("the frame ends in the PN", good[:36]),
-             "cut-in-sci": ("the frame ends in the SCI", good[:54]),
-             "cut-in-icv": ("the last octet is missing", good[:-2])}
+    cases = {
+        "version": ("V is set", forged(suite, 1, 0xAC, 20)),
+        "sc-and-es": ("SC and ES are set", forged(suite, 1, 0x6C, 20)),
+        "sc-and-scb": ("SC and SCB are set", forged(suite, 1, 0x3C, 20)),
+        "sl-bit-7": ("bit 7 of SL is set", forged(suite, 1, 0x2C, 20, sl=0x80 | 20)),
+        "sl-bit-6": ("bit 6 of SL is set", forged(suite, 1, 0x2C, 20, sl=0x40 | 20)),
+        "sl-48": ("SL is 48, as many as the octets", forged(suite, 1, 0x2C, 48, sl=48)),
+        "sl-63": ("SL is 63, as many as the octets", forged(suite, 1, 0x2C, 63, sl=63)),
+        "sl-0-short": ("SL is 0 with 20 octets", forged(suite, 1, 0x2C, 20, sl=0)),
+        "sl-long": ("SL is one more than the octets", forged(suite, 1, 0x2C, 20, sl=21)),
+        "pn-0": ("PN is 0", forged(suite, 0, 0x2C, 20)),
+        "e-without-c": ("E is set and C is clear", forged(suite, 1, 0x28, 20)),
+        "cut-in-tag": ("the frame ends in the PN", good[:36]),
+        "cut-in-sci": ("the frame ends in the SCI", good[:54]),
+        "cut-in-icv": ("the last octet is missing", good[:-2]),
+    }
     made = []
     for name, (about, link) in cases.items():
         for mode in ("strict", "check"):
@@ -400,19 +413,23 @@ def padding() -> "list[Vector]":
     return made
 
 
-ABOUT = {"aes": (aes, "AES of FIPS 197, one block"),
-         "gcm": (gcm, "GCM of SP 800-38D, with IVs of 12 octets and tags of 16"),
-         "annex-c": (annex_c, "the frames of IEEE Std 802.1AE, Annex C"),
-         "lengths": (lengths, "data of 2 to 1,502 octets, each suite, integrity alone and encrypted"),
-         "offsets": (offsets, "confidentiality offsets 30 and 50"),
-         "tag-forms": (tag_forms, "SecTAGs with and without the SCI"),
-         "extended": (extended, "extended packet numbers"),
-         "last-numbers": (last_numbers, "the last packet number of 32 bits"), "replay": (replay, "the replay window"),
-         "tag-faults": (tag_faults, "SecTAGs with a fault, under a valid ICV"),
-         "c-without-e": (c_without_e, "C without E"), "alterations": (alterations, "each octet of a frame altered"),
-         "validation": (validation, "modes of validation"),
-         "no-association": (no_association, "frames for which no SA is enabled"),
-         "padding": (padding, "octets after the ICV")}
+ABOUT = {
+    "aes": (aes, "AES of FIPS 197, one block"),
+    "gcm": (gcm, "GCM of SP 800-38D, with IVs of 12 octets and tags of 16"),
+    "annex-c": (annex_c, "the frames of IEEE Std 802.1AE, Annex C"),
+    "lengths": (lengths, "data of 2 to 1,502 octets, each suite, integrity alone and encrypted"),
+    "offsets": (offsets, "confidentiality offsets 30 and 50"),
+    "tag-forms": (tag_forms, "SecTAGs with and without the SCI"),
+    "extended": (extended, "extended packet numbers"),
+    "last-numbers": (last_numbers, "the last packet number of 32 bits"),
+    "replay": (replay, "the replay window"),
+    "tag-faults": (tag_faults, "SecTAGs with a fault, under a valid ICV"),
+    "c-without-e": (c_without_e, "C without E"),
+    "alterations": (alterations, "each octet of a frame altered"),
+    "validation": (validation, "modes of validation"),
+    "no-association": (no_association, "frames for which no SA is enabled"),
+    "padding": (padding, "octets after the ICV"),
+}
 
 
 def groups() -> "list[Vector]":

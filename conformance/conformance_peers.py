@@ -209,8 +209,12 @@ TESTS = {"aes": test_cipher, "gcm": test_cipher, "protect": test_protect, "recei
 def controls(named: "dict[str, Vector]") -> int:
     """Plants wrong vectors: another tag, link frame, verdict and client frame."""
     wrong = 0
-    for name, key, change in (("gcm/4", "tag", "00" * 16), ("annex-c/128-60/protect", "link", "00"),
-                              ("replay/in-order-on-0", "verdict", "NotValid"), ("padding/minimum", "client", "00")):
+    for name, key, change in (
+        ("gcm/4", "tag", "00" * 16),
+        ("annex-c/128-60/protect", "link", "00"),
+        ("replay/in-order-on-0", "verdict", "NotValid"),
+        ("padding/minimum", "client", "00"),
+    ):
         vector = copy.deepcopy(named[name])
         frame = vector.get("cipher") or vector["frames"][0]
         frame[key] = frame[key][:-2] + change if key == "link" else change

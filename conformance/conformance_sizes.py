@@ -15,8 +15,14 @@ CITED = re.compile(r"^use (?:denote )?Rattle\.(macsec_\w+)\.specs\.(\w+)", re.M)
 MACHINE = [*(f"macsec_secy/{it}" for it in ("Step", "Answers", "Rests")), "macsec_suite/KeyNumbers"]
 PROMISES = [f"macsec_link/{it}" for it in ("Step", "Beginnings", "UniqueIvs", "Origin", "Window", "Acceptance")]
 RESTARTS = [f"macsec_reserve/{it}" for it in ("Unique", "TwoEnds", "Replay", "Crashes")]
-TEXTS = ["macsec_script/Printed", "macsec_script/Promised", "macsec_script_parser/Scripts", "macsec_capture/Captured",
-         "macsec_pcapng/Captures", "macsec_cli_runs/Failures"]
+TEXTS = [
+    "macsec_script/Printed",
+    "macsec_script/Promised",
+    "macsec_script_parser/Scripts",
+    "macsec_capture/Captured",
+    "macsec_pcapng/Captures",
+    "macsec_cli_runs/Failures",
+]
 IN_C = [
     f"macsec_c/{it}"
     for it in ("Answers", "Configs", "Keys", "SentParts", "ReceivedParts", "Shown", "Texts", "Reserving")
@@ -88,16 +94,19 @@ def table() -> str:
     code = [it for it in paths("crates/*/src/**/*.rt") if "_tests/" not in it and "_bench/" not in it]
     device = paths("device/*.[ch]", "include/macsec.h", "examples/c/*.c")
     return "\n".join(
-        ["| what | lines | if it is wrong |", "|---|---|---|",
-         row("definitions of the machine", of_definitions(machine), "the theorem says something else than MACsec"),
-         row("definitions that the promises add", of_definitions(promises), "a promise says less than its name"),
-         row("definitions that restarts add", of_definitions(restarts), "an IV repeats after a crash"),
-         row("definitions of texts and files", of_definitions(texts), "a printed text means something else"),
-         row("definitions for the library for C", of_definitions(in_c), "a call does not do what the header says"),
-         row("code in Rattle", code, "the prover refuses it, as far as its contracts say"),
-         row("proofs", paths("crates/*/proofs/**/*.antt"), "the prover refuses it"),
-         row("must-fail edits", paths("crates/*/must-fail/*.edit"), "a weak contract is not noticed"),
-         row("C: header, device, examples", device, "anything that they do: tested, not proved"),
-         row("Python: rules and searches", paths("fuzz/*.py"), "a search finds less"),
-         row("Python: package `macsec`", paths("python/macsec/*.py"), "a cause is wrong; it judges no frame")]
+        [
+            "| what | lines | if it is wrong |",
+            "|---|---|---|",
+            row("definitions of the machine", of_definitions(machine), "the theorem says something else than MACsec"),
+            row("definitions that the promises add", of_definitions(promises), "a promise says less than its name"),
+            row("definitions that restarts add", of_definitions(restarts), "an IV repeats after a crash"),
+            row("definitions of texts and files", of_definitions(texts), "a printed text means something else"),
+            row("definitions for the library for C", of_definitions(in_c), "a call does not do what the header says"),
+            row("code in Rattle", code, "the prover refuses it, as far as its contracts say"),
+            row("proofs", paths("crates/*/proofs/**/*.antt"), "the prover refuses it"),
+            row("must-fail edits", paths("crates/*/must-fail/*.edit"), "a weak contract is not noticed"),
+            row("C: header, device, examples", device, "anything that they do: tested, not proved"),
+            row("Python: rules and searches", paths("fuzz/*.py"), "a search finds less"),
+            row("Python: package `macsec`", paths("python/macsec/*.py"), "a cause is wrong; it judges no frame"),
+        ]
     )

@@ -21,7 +21,12 @@ import expected
 from conformance_frames import groups
 
 # What a script calls each suite and each tag form.
-SUITES = {"GCM-AES-128": "gcm128", "GCM-AES-256": "gcm256", "GCM-AES-XPN-128": "xpn128", "GCM-AES-XPN-256": "xpn256"}
+SUITES = {
+    "GCM-AES-128": "gcm128",
+    "GCM-AES-256": "gcm256",
+    "GCM-AES-XPN-128": "xpn128",
+    "GCM-AES-XPN-256": "xpn256",
+}
 SECONDS = 60
 Vector = "dict[str, Any]"
 

@@ -44,8 +44,10 @@ def build(library: pathlib.Path, folder: pathlib.Path, memory: bool) -> Tuple[pa
     sources = [str(ROOT / "device/tests/journal.c"), str(ROOT / "device/journal.c")]
     model = str(ROOT / "device/tests/journal_disk.c")
     sources += ["-Wl,--wrap=malloc", "-Wl,--wrap=realloc"]
-    commands = [["gcc", *FLAGS, "-pedantic", "-o", str(program), *sources, str(library)],
-                ["gcc", *FLAGS, "-shared", "-fPIC", "-o", str(disk), model]]
+    commands = [
+        ["gcc", *FLAGS, "-pedantic", "-o", str(program), *sources, str(library)],
+        ["gcc", *FLAGS, "-shared", "-fPIC", "-o", str(disk), model],
+    ]
     if memory:
         commands.append(["gcc", *FLAGS, *SANITIZED, "-o", str(sanitized), *sources, model, str(library)])
     with ThreadPoolExecutor(len(commands)) as pool:

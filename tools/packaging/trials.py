@@ -30,8 +30,12 @@ INCLUDED = "gcc,libc6-dev,pkg-config,man-db,bash-completion,python3"
 RECORDS = ("var/lib/dpkg/", "var/log/", "var/cache/", "etc/ld.so.cache", "tmp/")
 
 # What is completed: the words of a command line, the last one begun, in a folder with a file `frames.pcap`.
-COMPLETED = {"macsec pro": "protect", "macsec run fra": "frames.pcap", "macsec protect CONFIG IN fra": "frames.pcap",
-             "macsec protect CONFIG IN OUT fra": ""}
+COMPLETED = {
+    "macsec pro": "protect",
+    "macsec run fra": "frames.pcap",
+    "macsec protect CONFIG IN fra": "frames.pcap",
+    "macsec protect CONFIG IN OUT fra": "",
+}
 COMPLETE = """
 COMP_WORDS=({words}) COMP_CWORD={last}
 _macsec 2> /dev/null
