@@ -7,36 +7,22 @@
 # make lib           proves and builds the library for C of the header include/macsec.h: build/libmacsec.a and
 #                    build/libmacsec.so.1; with CPU=x86-64-v3 also those of build/glibc-hwcaps/x86-64-v3
 # make kept          proves the program's libraries and keeps the work where rt takes it, before a crate is changed
+# make device        builds the MACsec device build/macsecd, and build/macsecctl, over the library for C; with
+#                    CPU=x86-64-v3 build/macsecd-x86-64-v3
 # make install       copies the program, its manual pages, the libraries for C, their header and pkg-config file to
 #                    PREFIX, /usr/local by default, under DESTDIR
+# make install-device copies the device's programs, their manual pages and the unit for systemd to PREFIX, as make
+#                    install does; the device of CPU becomes macsecd there
 # make install-python copies the Python package to PREFIX/lib/macsec/python, its commands and their manual pages
 # make dist          makes build/dist: macsec-VERSION.tar.gz and the Debian packages macsec, libmacsec1, libmacsec-dev
 #                    and python3-macsec
 # make check         the gate
-# make edits         checks that each must-fail edit still applies, and that docs/MISTAKES.md is made of them
 # make pictures      draws docs/pictures again, from crates.txt and docs/PERFORMANCE.md
 # make reference     writes docs/reference again, from the sources
-# make pages         runs the examples of the pages, and checks their links
-# make conformance   runs the table of docs/CONFORMANCE.md and the test vectors, and reports each row
 # make bench         measures the cipher and frames
-# make fuzz          gives mutated inputs to the program as both compilers build it
-# make moves         tries all lists of three moves over the rules in Python
-# make failures      makes files and streams fail, refuses memory, and lists the calls of an endpoint that take it
-# make stored-runs   compares the program's answers with stored ones
-# make controls      sees that the tools that compare report something wrong
-# make peer          compares frames with Scapy's and with what tshark reads; both have to be installed
-# make journal       kills, stops and fails a program with a journal of packet numbers, and reads what it sent
-# make kept-frames   sees that callers which keep a frame over the next call are refused
-# make c-programs    builds the library for C and the programs over it, runs them, and makes 100,000 random calls
-# make lanes-used    sees that the cipher is built of its lanes, powers and pieces
-# make device        builds the MACsec device build/macsecd, and build/macsecctl, over the library for C; with
-#                    CPU=x86-64-v3 build/macsecd-x86-64-v3
-# make install-device copies both, their manual pages and the unit for systemd to PREFIX, as make install does; the
-#                    device of CPU becomes macsecd there
-# make macsecd       runs the device in network namespaces, which needs root's rights
 # make clean         removes what make has built
-# install, pages, conformance, fuzz, failures, stored-runs, controls and peer prove and build the program first;
-# install, controls, c-programs and journal the library for C. All of them work in any order in one checkout.
+# make help          prints this list and the checks, each of which is a target: make NAME runs it over what is built,
+#                    and proves and builds that first
 RT := $(shell command -v rt 2>/dev/null)
 SOURCES := crates.txt $(shell find crates -name out -prune -o -type f \( -name '*.rt' -o -name '*.antt' \) -print)
 INPUTS := 100000
@@ -50,8 +36,14 @@ HWCAPS := glibc-hwcaps/x86-64-v3
 DEVICE := build/macsecd$(if $(filter x86-64-v3,$(CPU)),-x86-64-v3)
 DEVICE_SOURCES := $(filter-out device/macsecctl.c,$(wildcard device/*.c))
 
-.PHONY: all try test run lib kept install dist check edits pictures reference pages bench fuzz moves failures stored-runs \
-    controls peer kept-frames c-programs journal lanes-used toolchain clean
+# The checks that make a program or a library first, and the others.
+OVER_PROGRAM := altered-frames conformance conformance-controls examples peer planted stored-runs
+OVER_LIBRARY := c-programs journal macsecd macsecd-controls pages python
+CHECKS := $(OVER_PROGRAM) $(OVER_LIBRARY) against allocators any-order c-cost c-header controls device-kernel edits \
+    failures fuzz kept-frames kernel-captures lanes-used mka moves needed packages table version
+
+.PHONY: all try test run lib kept device install install-device install-python dist check pictures reference bench \
+    toolchain clean help $(CHECKS)
 
 all: $(BUILT)
 
@@ -61,8 +53,7 @@ try: toolchain
 	@echo "make try: nothing of this build is proved; make run proves it" >&2
 
 test: toolchain
-	@tools/needed
-	@tools/tests
+	@tools/check --when test
 
 run: build/macsec
 	@build/macsec run - < examples/scripts/tour.macsec
@@ -78,7 +69,7 @@ install: build/macsec build/libmacsec.a
 	install -m 755 build/macsec "$(DESTDIR)$(PREFIX)/bin/macsec"
 	install -m 644 man/macsec.1 "$(DESTDIR)$(PREFIX)/share/man/man1/macsec.1"
 	install -m 644 man/macsec.5 "$(DESTDIR)$(PREFIX)/share/man/man5/macsec.5"
-	install -D -m 644 tools/completion.bash "$(DESTDIR)$(PREFIX)/share/bash-completion/completions/macsec"
+	install -D -m 644 tools/packaging/completion.bash "$(DESTDIR)$(PREFIX)/share/bash-completion/completions/macsec"
 	install -m 644 include/macsec.h "$(DESTDIR)$(PREFIX)/include/macsec.h"
 	install -m 644 build/libmacsec.a build/libmacsec.so.1 "$(DESTDIR)$(PREFIX)/lib"
 	ln -sfn libmacsec.so.1 "$(DESTDIR)$(PREFIX)/lib/libmacsec.so"
@@ -87,8 +78,6 @@ install: build/macsec build/libmacsec.a
 	    install -D -m 644 -t "$(DESTDIR)$(PREFIX)/lib/$(HWCAPS)" build/$(HWCAPS)/libmacsec.so.1; fi
 	sed 's|@PREFIX@|$(PREFIX)|; s|@VERSION@|'"$$(cat VERSION)"'|' include/macsec.pc.in \
 	    > "$(DESTDIR)$(PREFIX)/lib/pkgconfig/macsec.pc"
-
-.PHONY: install-python
 
 install-python:
 	install -D -m 644 -t "$(DESTDIR)$(PREFIX)/lib/macsec/python/macsec" python/macsec/*.py python/macsec/py.typed
@@ -101,58 +90,32 @@ dist: build/macsec build/libmacsec.a build/$(HWCAPS)/libmacsec.a
 	tools/dist
 
 check: toolchain
-	@tools/check
+	@tools/check --when gate
 
-edits:
-	@tools/edits
-
-# What is made from the sources, and the examples and links of the pages.
+# What is made from the sources.
 pictures:
 	tools/pictures
 
 reference:
 	tools/reference
 
-pages: build/macsec
-	tools/pages
-
-conformance: build/macsec
-	tools/conformance --json build/conformance.json
-
 bench: toolchain
 	cd crates/macsec_bench && rt run -- measure
 
+help:
+	@sed -n '/^RT/q; s/^# //p' Makefile; tools/check --targets
+
+$(CHECKS):
+	@tools/check --inputs $(INPUTS) --seed $(SEED) $@
+
+kept-frames lanes-used any-order: toolchain
+$(OVER_PROGRAM): build/macsec
 fuzz: build/macsec build/macsec-rattle
-	python3 fuzz/fuzz.py --inputs $(INPUTS) --seed $(SEED)
-
-moves:
-	python3 fuzz/moves.py
-
 failures: build/macsec
-	tools/failures
-
-stored-runs: build/macsec
-	tools/stored-runs
-
+$(OVER_LIBRARY): build/libmacsec.a
+c-programs pages python: build/macsec
+packages: build/macsec build/libmacsec.a build/$(HWCAPS)/libmacsec.a
 controls: build/macsec build/macsec-rattle build/libmacsec.a
-	tools/controls
-
-peer: build/macsec
-	tools/peer
-
-kept-frames: toolchain
-	tools/kept-frames
-
-c-programs: build/libmacsec.a build/macsec
-	tools/c-programs --calls $(INPUTS) --seed $(SEED)
-
-journal: build/libmacsec.a
-	tools/journal --seed $(SEED)
-
-lanes-used: toolchain
-	tools/lanes-used
-
-.PHONY: device install-device macsecd conformance
 
 device: $(DEVICE) build/macsecctl
 
@@ -162,10 +125,6 @@ install-device: device
 	install -D -m 644 -t "$(DESTDIR)$(PREFIX)/share/man/man8" man/macsecd.8 man/macsecctl.8
 	install -d "$(DESTDIR)$(PREFIX)/lib/systemd/system"
 	sed 's|/usr/local|$(PREFIX)|' device/macsecd@.service > "$(DESTDIR)$(PREFIX)/lib/systemd/system/macsecd@.service"
-
-macsecd: build/libmacsec.a
-	tools/macsecd --seed $(SEED)
-	tools/macsecd --short --controls
 
 # The program, proved and then built by LLVM.
 build/macsec: $(SOURCES) | toolchain
@@ -177,7 +136,7 @@ build/macsec-x86-64-v3 build/macsec-rattle: $(SOURCES) | toolchain build/macsec
 	@tools/prove $(notdir $@)
 
 # The library for C, with what it must be linked with.
-build/libmacsec.a: $(SOURCES) tools/merged-library tools/libmacsec.map | toolchain
+build/libmacsec.a: $(SOURCES) tools/merged-library $(wildcard tools/library/*) | toolchain
 	@echo "proving and building build/libmacsec.a: from nothing many minutes, with a line for each crate" >&2
 	@tools/prove libmacsec_c.a
 	tools/merged-library build/libmacsec_c.a $@

@@ -7,10 +7,15 @@ The program MACSEC protects the frames; times and client frames are fixed, so th
 linux.pcap was captured from the driver of Linux 6.1, configured as docs/INTEROP.md says ("A worked pair")."""
 
 import os
+import pathlib
 import struct
 import subprocess
 import sys
 import tempfile
+
+sys.dont_write_bytecode = True
+sys.path.insert(0, str(pathlib.Path(__file__).resolve().parents[2] / "python"))
+from macsec import capture
 
 Record = "tuple[int, bytes]"  # microseconds after START, and a frame
 
@@ -24,7 +29,6 @@ KEYS = [
 ]
 SALT = "a0a1a2a3a4a5a6a7a8a9aaab"
 START = 1_700_000_000
-HEADER = struct.pack("<IHHiIII", 0xA1B2C3D4, 2, 4, 0, 0, 65535, 1)
 
 # A frame of LLDP, which is not protected.
 LLDP = bytes.fromhex("0180c200000e020000000009" "88cc" "0207040200000000090403653000" "06020078" "0000")
@@ -54,24 +58,13 @@ def ping(kind: int, sender: "tuple[bytes, bytes]", target: "tuple[bytes, bytes]"
 
 
 def write(path: str, records: "list[Record]") -> None:
-    """Writes a pcap file."""
-    with open(path, "wb") as file:
-        file.write(HEADER)
-        for time, frame in records:
-            seconds, fraction = START + time // 1_000_000, time % 1_000_000
-            file.write(struct.pack("<IIII", seconds, fraction, len(frame), len(frame)) + frame)
+    """Writes a pcap file, with times in microseconds."""
+    capture.write_pcap(path, ((START * 10**9 + time * 1000, frame) for time, frame in records), 1000)
 
 
 def read(path: str) -> "list[Record]":
     """The records of a pcap file that the program wrote."""
-    with open(path, "rb") as file:
-        octets = file.read()
-    at, records = len(HEADER), []
-    while at < len(octets):
-        seconds, fraction, length, _ = struct.unpack("<IIII", octets[at : at + 16])
-        records.append(((seconds - START) * 1_000_000 + fraction, octets[at + 16 : at + 16 + length]))
-        at += 16 + length
-    return records
+    return [(it.time // 1000 - START * 10**6, it.frame) for it in capture.read(path)]
 
 
 def config(sci: str, key: str, an: int, pn: str, suite: str = "gcm128", extended: str = "", form: str = "sci") -> str:

@@ -156,13 +156,24 @@ def _packet(number: int, kind: int, body: bytes, order: str, interfaces: List[_I
     return Packet(number, time, body[at : at + captured], length, of.link_type, fcs or of.fcs)
 
 
-def write_pcap(path: str, packets: "Iterable[Tuple[int, bytes]]") -> None:
+def pcap_header(unit: int = 1) -> bytes:
+    """The header of a pcap file whose times are in units of 1 or 1000 nanoseconds."""
+    magic = next(it for it, nanoseconds in _MAGIC.items() if nanoseconds == unit)
+    return struct.pack("<IHHiIII", magic, 2, 4, 0, 0, 65535, ETHERNET)
+
+
+def pcap_record(time: int, frame: bytes, unit: int = 1) -> bytes:
+    """A frame with its time in nanoseconds, as a record of such a file."""
+    seconds, rest = divmod(time, 10**9)
+    return struct.pack("<IIII", seconds, rest // unit, len(frame), len(frame)) + frame
+
+
+def write_pcap(path: str, packets: "Iterable[Tuple[int, bytes]]", unit: int = 1) -> None:
     """Writes frames with their times in nanoseconds as a pcap file."""
     with open(path, "wb") as file:
-        file.write(struct.pack("<IHHiIII", 0xA1B23C4D, 2, 4, 0, 0, 65535, ETHERNET))
+        file.write(pcap_header(unit))
         for time, frame in packets:
-            seconds, rest = divmod(time, 10**9)
-            file.write(struct.pack("<IIII", seconds, rest, len(frame), len(frame)) + frame)
+            file.write(pcap_record(time, frame, unit))
 
 
 class PcapngFile:

@@ -1,1 +1,1 @@
-"""The tests of the package: tools/python runs them."""
+"""The tests of the package: python/tests/run runs them."""

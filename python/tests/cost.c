@@ -1,5 +1,5 @@
 /* Prints, for each line that it reads, how many nanoseconds macsec_send and macsec_receive take for a frame of so many
- * octets, from a round of COUNT calls: cost LENGTH COUNT. tools/python --cost compares it with Python. */
+ * octets, from a round of COUNT calls: cost LENGTH COUNT. python/tests/run --cost compares it with Python. */
 #define _POSIX_C_SOURCE 200809L
 #include "macsec.h"
 #include <stdio.h>

@@ -1,4 +1,4 @@
-"""Compares what a frame costs through the package with what it costs in C: tools/python --cost."""
+"""Compares what a frame costs through the package with what it costs in C: python/tests/run --cost."""
 
 from __future__ import annotations
 

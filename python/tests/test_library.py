@@ -44,7 +44,7 @@ class Library(unittest.TestCase):
         self.assertEqual(set(errors.MEANINGS), set(names.Status) - {names.Status.OK})
 
     def test_structures(self) -> None:
-        text = (ROOT / "tools" / "c" / "layout.txt").read_text()
+        text = (ROOT / "tests/library/c/layout.txt").read_text()
         for block, kind in _library.STRUCTURES.items():
             found = re.search(rf"^macsec_{block}: (\d+)\n((?:    .*\n)+)", text, re.M)
             assert found

@@ -1,4 +1,4 @@
-"""Captures of Linux with VLAN tags and frame check sequences, which tools/kernel-captures made, are opened without any
+"""Captures of Linux with VLAN tags and frame check sequences, which kernel-captures made, are opened without any
 CONFIG but those that macsec-config writes."""
 
 from __future__ import annotations

@@ -1,7 +1,7 @@
 //! The program `macsec`: runs a script for two MACsec endpoints, or protects or validates the frames of a capture file.
 //!
 //! Proved: `main` is safe and returns. No clause says that it passes on the process's arguments, the line and the exit
-//! status; `tools/stored-runs` compares them.
+//! status; `tests/program/stored-runs` compares them.
 #![tactic(auto)]
 
 use macsec_cli_args::run_program;

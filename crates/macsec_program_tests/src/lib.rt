@@ -5,8 +5,8 @@
 //! - `sentences`: the sentences of faults and refusals, which the program does not print.
 //! - `worlds`: worlds and steps do not return `Memory` if there is memory; a full link; and the logs.
 //!
-//! What the program prints is in `examples/scripts/` and `tools/runs`. `tools/altered-frames` alters each bit of a
-//! frame.
+//! What the program prints is in `examples/scripts/` and `tests/program/runs`. `tests/program/altered-frames` alters
+//! each bit of a frame.
 #![tactic(auto)]
 
 #[cfg(test)]

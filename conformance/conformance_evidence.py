@@ -1,0 +1,180 @@
+"""What a row of the table names as evidence: definitions, contracts, scripts, stored runs, captures, tests, vectors.
+
+A name is looked up in the files of the project. Scripts, stored runs, captures and vectors are also run, each once, and
+what they print is compared. A function here returns None if the evidence is good, or else what is wrong with it."""
+
+from __future__ import annotations
+
+import functools
+import os
+import re
+import subprocess
+import tempfile
+
+from house import ROOT
+
+SCRIPTS = f"{ROOT}/examples/scripts"
+CAPTURES = f"{ROOT}/examples/captures"
+SECONDS = 60
+
+# A definition, and the function or law of a contract.
+DEFINITION = re.compile(r"^(?:abbrev|unfoldable) pub (\w+) :|^pub (?:record|data) (\w+)\b", re.M)
+FUNCTION = re.compile(r"^\s*(?:pub(?:\(crate\))? )?fn (\w+)\b")
+CLAUSE = re.compile(r"^\s*ensures\*? (?:(\w+) )?\{")
+
+
+def text_of(path: str) -> "str | None":
+    """A text file of the project, None if it is not there."""
+    if not os.path.isfile(path):
+        return None
+    with open(path, encoding="utf-8") as it:
+        return it.read()
+
+
+@functools.lru_cache(None)
+def definitions(crate: str, name: str) -> "frozenset[str]":
+    """The names that a file of definitions defines."""
+    text = text_of(f"{ROOT}/crates/{crate}/specs/{name}.antt")
+    return frozenset(a or b for a, b in DEFINITION.findall(text or ""))
+
+
+@functools.lru_cache(None)
+def clauses(crate: str, name: str) -> "frozenset[str]":
+    """The clauses of the functions of a source file: FUNCTION.CLAUSE, or FUNCTION for one without a name."""
+    found: "set[str]" = set()
+    function = ""
+    for line in (text_of(f"{ROOT}/crates/{crate}/src/{name}.rt") or "").split("\n"):
+        begins, clause = FUNCTION.match(line), CLAUSE.match(line)
+        if begins:
+            function = begins[1]
+        elif clause and function:
+            found.add(f"{function}.{clause[1]}" if clause[1] else function)
+        elif line.strip() in ("{", "{}"):
+            function = ""
+    return frozenset(found)
+
+
+def test_definition(reference: str) -> "str | None":
+    """CRATE/FILE.NAME: a definition."""
+    parts = re.fullmatch(r"(\w+)/(\w+)\.(\w+)", reference)
+    if not parts:
+        return f"{reference} does not have the form CRATE/FILE.NAME"
+    if parts[3] not in definitions(parts[1], parts[2]):
+        return f"crates/{parts[1]}/specs/{parts[2]}.antt does not define {parts[3]}"
+    return None
+
+
+def test_contract(reference: str) -> "str | None":
+    """CRATE/FILE FUNCTION.CLAUSE, or CRATE/FILE FUNCTION: a clause of a contract."""
+    parts = re.fullmatch(r"(\w+)/(\w+) ([\w.]+)", reference)
+    if not parts:
+        return f"{reference} does not have the form CRATE/FILE FUNCTION.CLAUSE"
+    if parts[3] not in clauses(parts[1], parts[2]):
+        return f"crates/{parts[1]}/src/{parts[2]}.rt has no clause {parts[3]}"
+    return None
+
+
+class Runs:
+    """Runs what rows name, over one program."""
+
+    def __init__(self, program: str, captures: "dict[str, dict[str, str]]", vectors: "dict[str, list[str]]") -> None:
+        """Takes the program, the captures, and what is wrong with each group of vectors."""
+        self.program = program
+        self.captures = captures
+        # The groups of vectors, and what is wrong with each.
+        self.vectors = vectors
+        self.known: "dict[str, str | None]" = {}
+        # Expected texts that the controls have replaced.
+        self.replaced: "dict[str, str]" = {}
+
+    def test(self, reference: str) -> "str | None":
+        """What is wrong with a script, a stored run, a capture, a test or a group of vectors."""
+        if reference not in self.known:
+            kind, _, name = reference.partition(" ")
+            test = getattr(self, f"test_{kind}", None)
+            self.known[reference] = test(name) if test and name else f"{reference} has no kind that is known"
+        return self.known[reference]
+
+    def printed(self, words: "list[str]", text: str = "", folder: "str | None" = None) -> "tuple[int, str]":
+        """The exit status of the program, and what it prints on standard output and standard error."""
+        streams = {"capture_output": True, "timeout": SECONDS, "cwd": folder}
+        ran = subprocess.run([self.program, *words], input=text.encode(), **streams)
+        return ran.returncode, (ran.stdout + ran.stderr).decode(errors="replace")
+
+    def test_script(self, name: str) -> "str | None":
+        """A script of examples/scripts: what it prints is stored beside it."""
+        script, expected = (text_of(f"{SCRIPTS}/{name}.{it}") for it in ("macsec", "txt"))
+        if script is None or expected is None:
+            return f"examples/scripts has no {name}.macsec with a {name}.txt"
+        status, printed = self.printed(["run", "-"], script)
+        wanted = self.replaced.get(name, expected)
+        if status or printed != wanted:
+            return f"script {name}: {first_difference(printed, wanted)}, status {status}"
+        return None
+
+    @functools.lru_cache(None)
+    def stored(self) -> "dict[str, str]":
+        """What tests/program/stored-runs says of each stored run."""
+        words = [f"{ROOT}/tests/program/stored-runs", "--program", self.program]
+        ran = subprocess.run(words, capture_output=True, text=True)
+        lines = (re.fullmatch(r"  (?:WRONG: )?([\w-]+): (.*)", it) for it in ran.stdout.split("\n"))
+        return {it[1]: it[2] for it in lines if it}
+
+    def test_run(self, name: str) -> "str | None":
+        """A run of tests/program/runs."""
+        if name not in self.stored():
+            return f"tests/program/runs has no {name}"
+        said = self.stored()[name]
+        return None if said == "as stored" else f"run {name}: {said}"
+
+    def test_capture(self, name: str) -> "str | None":
+        """A run over a capture of examples/captures: OUT is another of these captures, or the lines are as listed."""
+        if name not in self.captures:
+            return f"conformance/captures.json has no {name}"
+        it = self.captures[name]
+        with tempfile.TemporaryDirectory() as folder:
+            out = f"{folder}/out.pcap"
+            status, printed = self.printed([it["command"], it["config"], it["in"], out], folder=CAPTURES)
+            lines = " ".join(re.findall(r"^record \d+ (\w+)", printed, re.M))
+            if status or lines != it["verdicts"]:
+                return f"capture {name}: {lines}, and not {it['verdicts']}; status {status}"
+            if "out" in it and octets_of(out) != octets_of(f"{CAPTURES}/{it['out']}"):
+                return f"capture {name}: OUT is not {it['out']}"
+        return None
+
+    def test_test(self, name: str) -> "str | None":
+        """CRATE::FUNCTION: a test that the gate runs. Only that it is there is tested here."""
+        crate, _, function = name.partition("::")
+        for folder, _, files in os.walk(f"{ROOT}/crates/{crate}/src"):
+            for file in files:
+                text = text_of(f"{folder}/{file}") or ""
+                if re.search(rf"#\[test\]\s+(?:pub )?fn {function}\b", text):
+                    return None
+        return f"crates/{crate}/src has no test {function}"
+
+    def test_tool(self, name: str) -> "str | None":
+        """A tool that the gate or a reader runs. Only that it is there is tested here."""
+        return None if os.access(f"{ROOT}/{name}", os.R_OK) else f"there is no {name}"
+
+    def test_vectors(self, name: str) -> "str | None":
+        """A group of vectors."""
+        if name not in self.vectors:
+            return f"vectors/macsec-vectors.json has no group {name}"
+        wrong = self.vectors[name]
+        return f"vectors {name}: {wrong[0]}, {len(wrong)} wrong" if wrong else None
+
+
+def octets_of(path: str) -> bytes:
+    """The octets of a file."""
+    with open(path, "rb") as it:
+        return it.read()
+
+
+def first_difference(found: str, wanted: str) -> str:
+    """The first line that differs."""
+    lines, others = found.split("\n"), wanted.split("\n")
+    for number in range(max(len(lines), len(others))):
+        line, other = ("".join(it[number : number + 1]) for it in (lines, others))
+        if line != other:
+            return f"line {number + 1} is {line[:60]!r}, and not {other[:60]!r}"
+    return "no line differs"

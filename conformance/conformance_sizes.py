@@ -1,0 +1,112 @@
+"""Measures the sizes in docs/REVIEW.md: definitions to trust, code and proofs, and what is only tested."""
+
+from __future__ import annotations
+
+import functools
+import glob
+import os
+import re
+from typing import Iterable
+
+from house import ROOT
+
+CITED = re.compile(r"^use (?:denote )?Rattle\.(macsec_\w+)\.specs\.(\w+)", re.M)
+# Files of definitions, as CRATE/FILE: where each part of what is proved begins.
+MACHINE = [*(f"macsec_secy/{it}" for it in ("Step", "Answers", "Rests")), "macsec_suite/KeyNumbers"]
+PROMISES = [f"macsec_link/{it}" for it in ("Step", "Beginnings", "UniqueIvs", "Origin", "Window", "Acceptance")]
+RESTARTS = [f"macsec_reserve/{it}" for it in ("Unique", "TwoEnds", "Replay", "Crashes")]
+TEXTS = [
+    "macsec_script/Printed",
+    "macsec_script/Promised",
+    "macsec_script_parser/Scripts",
+    "macsec_capture/Captured",
+    "macsec_pcapng/Captures",
+    "macsec_cli_runs/Failures",
+]
+IN_C = [
+    f"macsec_c/{it}"
+    for it in ("Answers", "Configs", "Keys", "SentParts", "ReceivedParts", "Shown", "Texts", "Reserving")
+]
+
+
+@functools.lru_cache(None)
+def cited(name: str) -> "tuple[str, ...]":
+    """The files of definitions that one cites."""
+    crate, file = name.split("/")
+    path = f"{ROOT}/crates/{crate}/specs/{file}.antt"
+    if not os.path.isfile(path):
+        return ()
+    with open(path, encoding="utf-8") as it:
+        found = [f"{a}/{b}" for a, b in CITED.findall(it.read())]
+    return tuple(it for it in found if os.path.isfile(f"{ROOT}/crates/{it.replace('/', '/specs/')}.antt"))
+
+
+def below(names: "Iterable[str]") -> "set[str]":
+    """These files, and all that they cite, directly or not."""
+    found: "set[str]" = set()
+    left = list(names)
+    while left:
+        name = left.pop()
+        if name not in found:
+            found.add(name)
+            left += cited(name)
+    return found
+
+
+def lines(paths: "Iterable[str]") -> int:
+    """The number of lines that are not empty."""
+    count = 0
+    for path in paths:
+        with open(path, encoding="utf-8", errors="replace") as it:
+            count += sum(bool(line.strip()) for line in it)
+    return count
+
+
+def rounded(count: int) -> int:
+    """A number with two digits that are not 0, so that small changes do not change the page."""
+    unit = 10 ** max(0, len(str(count)) - 2)
+    return (count + unit // 2) // unit * unit
+
+
+def paths(*patterns: str) -> "list[str]":
+    """The files of these patterns."""
+    found = (it for pattern in patterns for it in glob.glob(f"{ROOT}/{pattern}", recursive=True))
+    return sorted(it for it in found if os.path.isfile(it))
+
+
+def row(what: str, files: "list[str]", wrong: str) -> str:
+    """A row of the table."""
+    return f"| {what} | {rounded(lines(files)):,} | {wrong} |"
+
+
+def of_definitions(names: "set[str]") -> "list[str]":
+    """The paths of files of definitions."""
+    return [f"{ROOT}/crates/{it.replace('/', '/specs/')}.antt" for it in sorted(names)]
+
+
+def table() -> str:
+    """The table of sizes."""
+    machine = below(MACHINE)
+    promises = below(PROMISES) - machine
+    restarts = below(RESTARTS) - machine - promises
+    texts = below(TEXTS) - machine - promises
+    in_c = below(IN_C) - machine - restarts - promises - texts
+    code = [it for it in paths("crates/*/src/**/*.rt") if "_tests/" not in it and "_bench/" not in it]
+    device = paths("device/*.[ch]", "include/macsec.h", "examples/c/*.c")
+    return "\n".join(
+        [
+            "| what | lines | if it is wrong |",
+            "|---|---|---|",
+            row("definitions of the machine", of_definitions(machine), "the theorem says something else than MACsec"),
+            row("definitions that the promises add", of_definitions(promises), "a promise says less than its name"),
+            row("definitions that restarts add", of_definitions(restarts), "an IV repeats after a crash"),
+            row("definitions of texts and files", of_definitions(texts), "a printed text means something else"),
+            row("definitions for the library for C", of_definitions(in_c), "a call does not do what the header says"),
+            row("code in Rattle", code, "the prover refuses it, as far as its contracts say"),
+            row("proofs", paths("crates/*/proofs/**/*.antt"), "the prover refuses it"),
+            row("must-fail edits", paths("crates/*/must-fail/*.edit"), "a weak contract is not noticed"),
+            row("C: header, device, examples", device, "anything that they do: tested, not proved"),
+            row("Python: rules and searches", paths("fuzz/*.py"), "a search finds less"),
+            row("Python: package `macsec`", paths("python/macsec/*.py") + paths("python/macsec/cli/*.py"), "a cause is wrong; it judges no frame"),
+        ]
+    )

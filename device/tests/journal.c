@@ -1,0 +1,430 @@
+/* An endpoint beside a journal on a disk. device/tests/journal kills it, starts it again, and reads what it captured.
+ *
+ *     journal create JOURNAL
+ *     journal send JOURNAL LIMIT SUITE AMOUNT FRAMES CAPTURE
+ *     journal keys JOURNAL LIMIT COUNT
+ *     journal receive JOURNAL LIMIT SUITE CAPTURE IN..
+ *     journal floors JOURNAL PREFIX STEP SEED NUMBER..
+ *     journal amounts
+ *
+ * send protects frames under two keys, one after another, and writes each to CAPTURE before it protects the next
+ * one. It ends after FRAMES of them, or never if FRAMES is 0. keys makes four reservations for each of COUNT keys.
+ * receive gives all frames of IN to an endpoint with a replay window of 0. It writes those that the endpoint
+ * delivers to CAPTURE, once their packet numbers are saved. floors writes each prefix of JOURNAL to PREFIX, alone
+ * and followed by random octets, and opens it. It prints how many of the NUMBERs, from the first on, are refused as
+ * the first of each key. With a STEP of 5 it does so for every fifth prefix, and for those around the end of a
+ * record. amounts prints reservations. The status is 3 if the journal can't be created or opened. */
+#define _GNU_SOURCE
+#include "journal.h"
+#include <errno.h>
+#include <fcntl.h>
+#include <inttypes.h>
+#include <stdio.h>
+#include <stdlib.h>
+#include <string.h>
+#include <unistd.h>
+
+enum { FRAME_LENGTH = 64, KEYS = 2, TURN = 16, HELD = 16, LINK_MAX = 256 };
+
+static const uint8_t sender[8] = { 2, 0, 0, 0, 0, 1, 0, 1 }, receiver[8] = { 2, 0, 0, 0, 0, 2, 0, 1 };
+
+static void fail(const char *what) {
+    perror(what);
+    exit(1);
+}
+
+static void must(const char *what, uint32_t status) {
+    if (status != MACSEC_OK) {
+        fprintf(stderr, "journal: %s: %s\n", what, macsec_status_name(status));
+        exit(1);
+    }
+}
+
+static void print_fault(const char *what, const struct journal_fault *fault) {
+    fprintf(stderr, "journal: %s: %s: %s", what, journal_step_name(fault->step), strerror(fault->error));
+    if (fault->status != MACSEC_OK)
+        fprintf(stderr, " (%s)", macsec_status_name(fault->status));
+    fprintf(stderr, "\n");
+}
+
+static uint64_t number_of(const char *word) {
+    char *end;
+    unsigned long long number = strtoull(word, &end, 10);
+    if (*word == '\0' || *end != '\0') {
+        fprintf(stderr, "journal: %s is no number\n", word);
+        exit(2);
+    }
+    return number;
+}
+
+/* ---- Memory: the allocation of the number in REFUSED, counted from 1, fails ---- */
+
+void *__real_malloc(size_t size);
+void *__real_realloc(void *old, size_t size);
+void *__wrap_malloc(size_t size);
+void *__wrap_realloc(void *old, size_t size);
+
+static bool is_refused(void) {
+    static unsigned long made;
+    const char *number = getenv("REFUSED");
+    return number != NULL && ++made == strtoul(number, NULL, 10);
+}
+
+void *__wrap_malloc(size_t size) {
+    return is_refused() ? NULL : __real_malloc(size);
+}
+
+void *__wrap_realloc(void *old, size_t size) {
+    return is_refused() ? NULL : __real_realloc(old, size);
+}
+
+/* ---- Captures ---- */
+
+static int create_capture(const char *name) {
+    static const uint32_t header[6] = { 0xa1b2c3d4, 0x00040002, 0, 0, 65535, 1 };
+    int file = open(name, O_WRONLY | O_CREAT | O_TRUNC | O_CLOEXEC, 0600);
+    if (file < 0 || write(file, header, sizeof header) != sizeof header)
+        fail(name);
+    return file;
+}
+
+/* Writes a frame by one call, so that no buffer is lost when the process is killed. */
+static void capture(int file, const uint8_t *frame, size_t length) {
+    uint8_t record[16 + LINK_MAX] = { 0 };
+    const uint32_t lengths[2] = { (uint32_t)length, (uint32_t)length };
+    if (length > LINK_MAX)
+        exit(1);
+    memcpy(record + 8, lengths, sizeof lengths);
+    memcpy(record + 16, frame, length);
+    if (write(file, record, 16 + length) != (ssize_t)(16 + length))
+        fail("capture");
+}
+
+/* Reads the next frame of a capture. False at its end, also in the middle of a frame. */
+static bool next_frame(FILE *file, uint8_t *frame, size_t *length) {
+    uint32_t header[4];
+    if (fread(header, 1, sizeof header, file) != sizeof header)
+        return false;
+    *length = header[2];
+    return *length <= LINK_MAX && fread(frame, 1, *length, file) == *length;
+}
+
+/* ---- Endpoints ---- */
+
+static void open_journal(struct journal *journal, const char *name, size_t limit) {
+    struct journal_fault fault;
+    if (journal_open(journal, name, limit, &fault) != 0) {
+        print_fault("open", &fault);
+        exit(3);
+    }
+}
+
+/* Creates an endpoint with its keys beside a journal. Key and association have the same number. */
+static uint32_t make_endpoint(macsec_endpoint *e, const uint8_t *sci, uint32_t suite, const struct journal *journal) {
+    macsec_config config = { { 0 }, suite, MACSEC_FORM_SCI, 1600 };
+    bool wide = suite == MACSEC_SUITE_GCM_AES_256 || suite == MACSEC_SUITE_GCM_AES_XPN_256;
+    uint32_t status;
+    memcpy(config.sci, sci, sizeof config.sci);
+    status = macsec_reserve_open(e, &config, journal->octets, journal->length);
+    for (uint16_t it = 0; status == MACSEC_OK && it < KEYS; it++) {
+        macsec_sak key = { { 0 }, { 0 }, sci[5], MACSEC_SUITE_DEFAULT, it, wide ? 32 : 16, 0 };
+        memset(key.bytes, 0xa0 + it, sizeof key.bytes); /* only for this test */
+        memset(key.salt, 0xb0 + it, sizeof key.salt);
+        must("install_key", macsec_install_key(e, &key));
+    }
+    return status;
+}
+
+static uint32_t add_sending(macsec_endpoint *e, uint8_t an, uint64_t next) {
+    return macsec_add_tx_sa(e, an, an, next, true);
+}
+
+static uint32_t add_receiving(macsec_endpoint *e, uint8_t an, uint64_t lowest) {
+    return macsec_add_rx_sa(e, sender, an, an, sender[5], lowest);
+}
+
+static uint64_t sending_floor(const macsec_endpoint *e, uint8_t an) {
+    uint64_t floor = 0;
+    must("tx_floor", macsec_reserve_tx_floor(e, an, &floor));
+    return floor;
+}
+
+static uint64_t receiving_floor(const macsec_endpoint *e, uint8_t an) {
+    uint64_t floor = 0;
+    must("rx_floor", macsec_reserve_rx_floor(e, sender, an, an, &floor));
+    return floor;
+}
+
+/* Creates an association above its floor. At the floor it is refused. */
+static void add_lowest(macsec_endpoint *e, uint8_t an, uint64_t floor,
+                       uint32_t (*add)(macsec_endpoint *, uint8_t, uint64_t)) {
+    if (floor != 0 && add(e, an, floor) != MACSEC_E_PN_FLOOR) {
+        fprintf(stderr, "journal: an association begins at its floor\n");
+        exit(1);
+    }
+    must("add", add(e, an, floor + 1));
+}
+
+/* ---- send ---- */
+
+struct counts {
+    uint64_t sent, dropped, failures;
+};
+
+static void reserve(struct journal *journal, macsec_endpoint *e, uint8_t an, uint64_t amount, struct counts *counts) {
+    struct journal_fault fault;
+    if (journal_reserve(journal, e, an, amount, &fault) != 0 && counts->failures++ == 0)
+        print_fault("reserve", &fault);
+}
+
+static void send_frame(macsec_endpoint *e, int file, struct counts *counts) {
+    static const uint8_t frame[FRAME_LENGTH] = { 2, 0, 0, 0, 0, 9, 2, 0, 0, 0, 0, 8, 0x88, 0xb5 };
+    macsec_sent sent;
+    must("send", macsec_send(e, frame, sizeof frame, &sent));
+    if (sent.fate == MACSEC_FATE_PROTECTED) {
+        capture(file, sent.frame, sent.length);
+        counts->sent++;
+    } else if (sent.fate == MACSEC_FATE_NO_RESERVATION) {
+        counts->dropped++;
+    } else {
+        fprintf(stderr, "journal: send: %s\n", macsec_fate_name(sent.fate));
+        exit(1);
+    }
+}
+
+static int run_send(char **words) {
+    const uint64_t amount = number_of(words[3]), frames = number_of(words[4]);
+    struct counts counts = { 0, 0, 0 };
+    struct journal journal;
+    macsec_endpoint e = MACSEC_ENDPOINT_INIT;
+    int file;
+    open_journal(&journal, words[0], (size_t)number_of(words[1]));
+    must("reserve_open", make_endpoint(&e, sender, (uint32_t)number_of(words[2]), &journal));
+    file = create_capture(words[5]);
+    for (uint8_t an = 0; an < KEYS; an++) {
+        add_lowest(&e, an, sending_floor(&e, an), add_sending);
+        reserve(&journal, &e, an, amount, &counts);
+    }
+    for (uint64_t it = 0; frames == 0 || it < frames; it++) {
+        uint8_t an = it / TURN % KEYS;
+        if (it % TURN == 0)
+            must("enable_tx_sa", macsec_enable_tx_sa(&e, an));
+        reserve(&journal, &e, an, amount, &counts);
+        send_frame(&e, file, &counts);
+    }
+    printf("sent %" PRIu64 " dropped %" PRIu64 " failures %" PRIu64 "\n", counts.sent, counts.dropped, counts.failures);
+    macsec_free(&e);
+    journal_close(&journal);
+    return close(file) == 0 ? 0 : 1;
+}
+
+/* ---- keys ---- */
+
+static int run_keys(char **words) {
+    const uint64_t keys = number_of(words[2]);
+    struct counts counts = { 0, 0, 0 };
+    struct journal journal;
+    macsec_endpoint e = MACSEC_ENDPOINT_INIT;
+    open_journal(&journal, words[0], (size_t)number_of(words[1]));
+    must("reserve_open", make_endpoint(&e, sender, MACSEC_SUITE_GCM_AES_128, &journal));
+    for (uint16_t it = KEYS; it < KEYS + keys; it++) {
+        macsec_sak key = { { 0xc0, (uint8_t)(it >> 8), (uint8_t)it }, { 0 }, 0, MACSEC_SUITE_DEFAULT, it, 16, 0 };
+        must("install_key", macsec_install_key(&e, &key));
+        must("add_tx_sa", macsec_add_tx_sa(&e, 0, it, 1, true));
+        for (uint64_t times = 1; times <= 27; times *= 3)
+            reserve(&journal, &e, 0, times * (100 + it), &counts);
+        must("delete_tx_sa", macsec_delete_tx_sa(&e, 0));
+    }
+    macsec_free(&e);
+    journal_close(&journal);
+    return counts.failures == 0 ? 0 : 1;
+}
+
+/* ---- receive ---- */
+
+/* Frames that were received and are not yet delivered to the client. */
+struct held {
+    uint8_t frames[HELD][LINK_MAX];
+    size_t lengths[HELD];
+    size_t count;
+};
+
+/* Delivers the frames that are held, once their packet numbers are saved: so none of them is delivered again. */
+static void deliver(struct journal *journal, macsec_endpoint *e, struct held *held, int file, struct counts *counts) {
+    struct journal_fault fault;
+    for (uint8_t an = 0; an < KEYS; an++)
+        if (journal_save(journal, e, sender, an, &fault) != 0) {
+            if (counts->failures++ == 0)
+                print_fault("save", &fault);
+            held->count = 0;
+        }
+    for (size_t at = 0; at < held->count; at++)
+        capture(file, held->frames[at], held->lengths[at]);
+    counts->sent += held->count;
+    held->count = 0;
+}
+
+static void receive_all(struct journal *journal, macsec_endpoint *e, FILE *in, int file, struct held *held,
+                        struct counts *counts) {
+    uint8_t frame[LINK_MAX];
+    size_t length;
+    macsec_received got;
+    if (fseek(in, 24, SEEK_SET) != 0)
+        fail("capture");
+    while (next_frame(in, frame, &length)) {
+        must("receive", macsec_receive(e, frame, length, &got));
+        if (!got.delivered) {
+            counts->dropped++;
+            continue;
+        }
+        memcpy(held->frames[held->count], frame, length);
+        held->lengths[held->count++] = length;
+        if (held->count == HELD)
+            deliver(journal, e, held, file, counts);
+    }
+}
+
+static int run_receive(int count, char **words) {
+    static struct held held;
+    struct counts counts = { 0, 0, 0 };
+    struct journal journal;
+    macsec_endpoint e = MACSEC_ENDPOINT_INIT;
+    int file;
+    open_journal(&journal, words[0], (size_t)number_of(words[1]));
+    must("reserve_open", make_endpoint(&e, receiver, (uint32_t)number_of(words[2]), &journal));
+    file = create_capture(words[3]);
+    must("add_rx_sc", macsec_add_rx_sc(&e, sender));
+    for (uint8_t an = 0; an < KEYS; an++) {
+        add_lowest(&e, an, receiving_floor(&e, an), add_receiving);
+        must("enable_rx_sa", macsec_enable_rx_sa(&e, sender, an));
+    }
+    for (int at = 4; at < count; at++) {
+        FILE *in = fopen(words[at], "r");
+        if (in == NULL)
+            fail(words[at]);
+        receive_all(&journal, &e, in, file, &held, &counts);
+        fclose(in);
+    }
+    deliver(&journal, &e, &held, file, &counts);
+    printf("delivered %" PRIu64 " dropped %" PRIu64 " failures %" PRIu64 "\n", counts.sent, counts.dropped,
+           counts.failures);
+    macsec_free(&e);
+    journal_close(&journal);
+    return close(file) == 0 ? 0 : 1;
+}
+
+/* ---- floors ---- */
+
+static uint64_t random_state;
+
+static uint8_t random_octet(void) {
+    random_state ^= random_state << 13;
+    random_state ^= random_state >> 7;
+    random_state ^= random_state << 17;
+    return (uint8_t)(random_state >> 32);
+}
+
+static void write_file(const char *name, const uint8_t *octets, size_t length) {
+    int file = open(name, O_WRONLY | O_CREAT | O_TRUNC | O_CLOEXEC, 0600);
+    if (file < 0 || write(file, octets, length) != (ssize_t)length || close(file) != 0)
+        fail(name);
+}
+
+/* How many of the numbers, from the first on, are refused as the first one of an association: those up to the floor. */
+static int count_refused(macsec_endpoint *e, uint8_t an, int count, char **numbers) {
+    for (int it = 0; it < count; it++) {
+        uint64_t number = number_of(numbers[it]);
+        uint32_t status = add_sending(e, an, number);
+        if ((status == MACSEC_E_PN_FLOOR) != (number <= sending_floor(e, an))) {
+            fprintf(stderr, "journal: %" PRIu64 " is refused, and the floor is lower, or the reverse\n", number);
+            exit(1);
+        }
+        if (status == MACSEC_OK) {
+            must("delete", macsec_delete_tx_sa(e, an));
+            return it;
+        }
+        if (status != MACSEC_E_PN_FLOOR)
+            must("add", status);
+    }
+    return count;
+}
+
+/* Opens a journal of these octets, and prints a line. */
+static void print_floors(const char *name, const uint8_t *octets, size_t length, int count, char **numbers) {
+    struct journal journal;
+    struct journal_fault fault;
+    macsec_endpoint e = MACSEC_ENDPOINT_INIT;
+    uint32_t status;
+    write_file(name, octets, length);
+    if (journal_open(&journal, name, JOURNAL_LIMIT, &fault) != 0) {
+        printf(" %s", journal_step_name(fault.step));
+        return;
+    }
+    status = make_endpoint(&e, sender, MACSEC_SUITE_GCM_AES_128, &journal);
+    if (status != MACSEC_OK)
+        printf(" %s", macsec_status_name(status));
+    else
+        printf(" %d,%d", count_refused(&e, 0, count, numbers), count_refused(&e, 1, count, numbers));
+    macsec_free(&e);
+    journal_close(&journal);
+}
+
+static int run_floors(int count, char **words) {
+    static uint8_t octets[1 << 16];
+    const size_t step = (size_t)number_of(words[2]);
+    size_t length, random;
+    FILE *file = fopen(words[0], "r");
+    if (file == NULL)
+        fail(words[0]);
+    length = fread(octets, 1, sizeof octets / 2, file);
+    fclose(file);
+    random_state = number_of(words[3]);
+    for (size_t at = length; at <= length; at--) {
+        size_t around = (at + 2) % MACSEC_RECORD_LENGTH;
+        if (at % step != 0 && around > 4)
+            continue;
+        printf("%zu", at);
+        print_floors(words[1], octets, at, count - 4, words + 4);
+        random = 1 + random_octet();
+        for (size_t it = 0; it < random; it++)
+            octets[at + it] = random_octet();
+        print_floors(words[1], octets, at + random, count - 4, words + 4);
+        printf("\n");
+    }
+    return 0;
+}
+
+/* ---- */
+
+static int run_create(const char *name) {
+    struct journal_fault fault;
+    if (journal_create(name, &fault) == 0)
+        return 0;
+    print_fault("create", &fault);
+    return 3;
+}
+
+static int run_amounts(void) {
+    const uint64_t half = UINT64_MAX / 2;
+    const uint64_t rates[] = { 0, 1, 32767, 32768, 40000, 14880952, half, half + 1, UINT64_MAX };
+    for (size_t at = 0; at < sizeof rates / sizeof rates[0]; at++)
+        printf("%" PRIu64 " %" PRIu64 "\n", rates[at], journal_amount(rates[at]));
+    return 0;
+}
+
+int main(int count, char **words) {
+    if (count == 3 && strcmp(words[1], "create") == 0)
+        return run_create(words[2]);
+    if (count == 8 && strcmp(words[1], "send") == 0)
+        return run_send(words + 2);
+    if (count == 5 && strcmp(words[1], "keys") == 0)
+        return run_keys(words + 2);
+    if (count >= 6 && strcmp(words[1], "receive") == 0)
+        return run_receive(count - 2, words + 2);
+    if (count >= 6 && strcmp(words[1], "floors") == 0)
+        return run_floors(count - 2, words + 2);
+    if (count == 2 && strcmp(words[1], "amounts") == 0)
+        return run_amounts();
+    fprintf(stderr, "usage: journal create|send|keys|receive|floors|amounts ..: see device/tests/journal.c\n");
+    return 2;
+}

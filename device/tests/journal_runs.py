@@ -1,0 +1,238 @@
+"""Runs of a program with a journal (journal.c), what it captured, and the disk that a power failure leaves."""
+
+import contextlib
+import hashlib
+import os
+import pathlib
+import random
+import subprocess
+import sys
+import tempfile
+from concurrent.futures import ThreadPoolExecutor
+from typing import Callable, Dict, Iterator, List, NamedTuple, Optional, Set, Tuple
+
+from house import ROOT, captures
+from house.compiling import INCLUDED, SANITIZED, WARNINGS
+from house.reporting import report
+
+FLAGS = [*WARNINGS, "-O2", *INCLUDED, "-I", f"{ROOT}/device"]
+RECORD = 64
+ANS = (0, 1)
+SECONDS = 60
+
+Frame = Tuple[bytes, int, int]  # SCI, association number, packet number
+
+
+class Options(NamedTuple):
+    """What the tool was started with, and what it has built."""
+
+    short: bool
+    seed: str
+    program: pathlib.Path
+    sanitized: pathlib.Path
+    disk: pathlib.Path
+    folder: pathlib.Path  # on a real disk
+
+
+# ---- Programs
+
+
+def build(library: pathlib.Path, folder: pathlib.Path, memory: bool) -> Tuple[pathlib.Path, pathlib.Path, pathlib.Path]:
+    """Builds the program, the library that makes its calls fail, and for `memory` the program with sanitizers."""
+    folder.mkdir(parents=True, exist_ok=True)
+    program, sanitized, disk = folder / "journal", folder / "journal-sanitized", folder / "journal_disk.so"
+    sources = [str(ROOT / "device/tests/journal.c"), str(ROOT / "device/journal.c")]
+    model = str(ROOT / "device/tests/journal_disk.c")
+    sources += ["-Wl,--wrap=malloc", "-Wl,--wrap=realloc"]
+    commands = [
+        ["gcc", *FLAGS, "-pedantic", "-o", str(program), *sources, str(library)],
+        ["gcc", *FLAGS, "-shared", "-fPIC", "-o", str(disk), model],
+    ]
+    if memory:
+        commands.append(["gcc", *FLAGS, *SANITIZED, "-o", str(sanitized), *sources, model, str(library)])
+    with ThreadPoolExecutor(len(commands)) as pool:
+        if any(pool.map(subprocess.call, commands)):
+            sys.exit("device/tests/journal: a program was not built")
+    return program, sanitized, disk
+
+
+class Ended(NamedTuple):
+    """What became of a run of the program."""
+
+    status: int
+    out: str
+    error: str
+
+    def count(self, name: str) -> int:
+        """The number after this word."""
+        words = self.out.split()
+        return int(words[words.index(name) + 1]) if name in words else 0
+
+
+def run(
+    program: pathlib.Path, words: List[str], env: Optional[Dict[str, str]] = None, under: Tuple[str, ...] = ()
+) -> Ended:
+    """Runs the program to its end."""
+    try:
+        ended = subprocess.run([*under, str(program), *words], env={**os.environ, **(env or {})},
+                               stdin=subprocess.DEVNULL, stdout=subprocess.PIPE, stderr=subprocess.PIPE,
+                               timeout=SECONDS)
+    except subprocess.TimeoutExpired:
+        return Ended(-1, "", f"no end within {SECONDS} seconds")
+    return Ended(ended.returncode, ended.stdout.decode(), ended.stderr.decode(errors="replace"))
+
+
+def send_words(
+    journal: pathlib.Path, capture: pathlib.Path, limit: int, amount: int, frames: int, suite: int = 1
+) -> List[str]:
+    """The arguments of a sender."""
+    return ["send", str(journal), str(limit), str(suite), str(amount), str(frames), str(capture)]
+
+
+def receive_words(journal: pathlib.Path, out: pathlib.Path, captures: List[pathlib.Path], suite: int = 1) -> List[str]:
+    """The arguments of a receiver."""
+    return ["receive", str(journal), "1024", str(suite), str(out), *map(str, captures)]
+
+
+# ---- Captures and journals
+
+
+def frames_of(capture: pathlib.Path) -> List[Frame]:
+    """The SCI, association number and packet number of each whole frame of a capture."""
+    found = []
+    for frame in captures.frames_so_far(capture) if capture.is_file() else []:
+        if frame[12:14] != b"\x88\xe5" or not frame[14] & 0x20:
+            raise ValueError(f"{capture}: a frame without a SecTAG with an SCI")
+        found.append((frame[20:28], frame[14] & 3, int.from_bytes(frame[16:20], "big")))
+    return found
+
+
+def add_new(seen: Set[Frame], frames: List[Frame], what: str) -> None:
+    """Notes frames, of which none may be there already."""
+    for frame in frames:
+        if frame in seen:
+            report(False, f"{what}: packet number {frame[2]} of association {frame[1]} occurs again")
+            return
+        seen.add(frame)
+
+
+def is_record(octets: bytes) -> bool:
+    """Are these 64 octets a record: name, number, and the check of both?"""
+    return octets[40:] == hashlib.sha256(b"macsec reserve: check" + octets[:40]).digest()[:24]
+
+
+def records_of(octets: bytes) -> List[Tuple[bytes, int]]:
+    """The name and the number of each record of a journal."""
+    places = (octets[at : at + RECORD] for at in range(RECORD, len(octets) - RECORD + 1, RECORD))
+    return [(it[:32], int.from_bytes(it[32:40], "big")) for it in places if is_record(it)]
+
+
+def highest(octets: bytes, name: bytes) -> int:
+    """The greatest number that a journal reserves for a name."""
+    return max((number for each, number in records_of(octets) if each == name), default=0)
+
+
+def names_of(octets: bytes) -> List[bytes]:
+    """The names of a sender's journal, in the order of its associations."""
+    return list(dict.fromkeys(name for name, _ in records_of(octets)))
+
+
+@contextlib.contextmanager
+def work_folder(parent: Optional[pathlib.Path] = None) -> Iterator[pathlib.Path]:
+    """A folder for a while: in memory, if no other place is named."""
+    memory = "/dev/shm" if os.access("/dev/shm", os.W_OK) else None
+    with tempfile.TemporaryDirectory(dir=parent or memory, prefix="journal-") as name:
+        yield pathlib.Path(name)
+
+
+def has_frames(capture: pathlib.Path, more_than: int = 24) -> Callable[[], bool]:
+    """Has a capture more than so many octets?"""
+    return lambda: capture.is_file() and capture.stat().st_size > more_than
+
+
+# ---- The disk
+
+
+class State(NamedTuple):
+    """The files that a power failure leaves, by their names."""
+
+    files: Dict[str, bytes]
+
+
+After = Callable[[pathlib.Path], State]
+
+
+class Chain:
+    """Runs of a sender one after another on the disk of journal_disk.c, with a power failure after each."""
+
+    LIMIT, AMOUNT, FRAMES = 320, 8, 48
+
+    def __init__(self, options: Options, start: bytes, names: List[bytes], what: str) -> None:
+        self.options, self.names, self.what = options, names, what
+        self.state = State({"journal": start})
+        self.seen: Set[Frame] = set()
+        self.last = {an: 0 for an in ANS}
+
+    def restore(self, folder: pathlib.Path) -> None:
+        """Puts the files of the state into a folder, durably."""
+        (folder / "files").mkdir()
+        (folder / "disk").mkdir()
+        names = []
+        for name, octets in self.state.files.items():
+            (folder / "files" / name).write_bytes(octets)
+            inode = (folder / "files" / name).stat().st_ino
+            (folder / "disk" / str(inode)).write_bytes(octets)
+            names.append(f"{inode} {name}\n")
+        (folder / "disk/names").write_text("".join(names))
+
+    def run(self, faults: str, words: Callable[[pathlib.Path], List[str]], after: After, **more: str) -> Ended:
+        """Runs the program on the state, and takes the power away at its end. `after` chooses what is left."""
+        with work_folder() as folder:
+            self.restore(folder)
+            env = {"LD_PRELOAD": str(self.options.disk), "DISK": str(folder / "disk"), "FAULTS": faults, **more}
+            ended = run(self.options.program, words(folder), env)
+            self.state = after(folder)
+            self.judge(frames_of(folder / "capture"))
+        return ended
+
+    def send(self, faults: str, after: After, **more: str) -> Ended:
+        """Runs the sender, with more variables in its environment."""
+        sizes = (self.LIMIT, self.AMOUNT, self.FRAMES)
+        return self.run(faults, lambda it: send_words(it / "files/journal", it / "capture", *sizes), after, **more)
+
+    def judge(self, frames: List[Frame]) -> None:
+        """Sees that no packet number is used again, and that each is reserved in what is left."""
+        add_new(self.seen, frames, self.what)
+        for _, an, number in frames:
+            self.last[an] = max(self.last[an], number)
+        octets = self.state.files.get("journal", b"")
+        for an in ANS:
+            reserved = highest(octets, self.names[an])
+            last = self.last[an]
+            report(last <= reserved, f"{self.what}: packet number {last} was sent, {reserved} is reserved")
+
+
+def disk_content(folder: pathlib.Path, inode: str) -> bytes:
+    """What the disk has of a file."""
+    path = folder / "disk" / inode
+    return path.read_bytes() if path.is_file() else b""
+
+
+def state_after(folder: pathlib.Path, renamed: bool, tail: str, seed: str) -> State:
+    """What a power failure leaves: the names that were made durable, or those that were there at last. Of each file,
+    what was made durable, and after the journal's octets some of those that were not, or random ones."""
+    names = {}
+    for line in (folder / "disk/names").read_text().splitlines():
+        inode, name = line.split(" ", 1)
+        names[name] = inode
+    if renamed:
+        names = {it.name: str(it.stat().st_ino) for it in (folder / "files").iterdir()}
+    files = {name: disk_content(folder, inode) for name, inode in names.items()}
+    rest = random.Random(seed)
+    octets = files.get("journal")
+    if octets is not None and tail == "random":
+        files["journal"] = octets + rest.randbytes(rest.randrange(1, 150))
+    elif octets is not None and tail == "written" and (folder / "files/journal").exists():
+        now = (folder / "files/journal").read_bytes()
+        files["journal"] = octets + now[len(octets) : len(octets) + rest.randrange(1, 3 * RECORD)]
+    return State(files)

@@ -1,0 +1,141 @@
+"""What a key agreement needs of macsecd: an endpoint made by command, and a limit to what it may weaken."""
+
+import contextlib
+import json
+import secrets
+import socket
+from typing import List
+
+from house.reporting import report, until
+from macsecd_world import End, Packets, World, connected, ping, protected
+
+# A line that weakens the protection, and what the configuration has to allow for it.
+WEAKER = [("A protect off", "protect off"), ("A validate check", "validate check"),
+          ("A validate disabled", "validate disabled"), ("A replay off 0", "replay off"),
+          ("A replay on 33", "replay 33"), ("A txsa 1 0 1 int", "int")]
+
+
+def asking(client: socket.socket, request: str) -> str:
+    """Makes a request over a connection."""
+    client.send(request.encode())
+    return client.recv(1 << 20).decode()
+
+
+def configure(end: End, *lines: str) -> None:
+    """Writes a configuration without an endpoint."""
+    end.config.write_text("\n".join(["device link link0", *lines, ""]))
+    end.config.chmod(0o600)
+
+
+def check_without(end: End) -> None:
+    """What a device without an endpoint answers."""
+    for request, answer in (("numbers", "fault Empty"), ("A numbers", "fault Empty"), ("numbers tx 0", "fault Empty"),
+                            ("A txon 0", "fault Empty"), ("port on", "fault Empty"), ("load\nA txon 0", "fault Empty"),
+                            ("port off", "ok"), ("port", "port off"), ("close", "ok"), ("A txonn", "fault Empty")):
+        got = end.ask(request)
+        report(got == answer + "\n", f"without an endpoint {request!r} is answered {got!r}, and not {answer!r}")
+    counters, shown = end.counters(), json.loads(end.ask("json"))
+    report(counters["InPktsNoTag"] == 0 and shown["keys_left"] == 0, f"json: {shown}")
+    report("macsec_port_on" in end.ask("metrics"), "metrics without an endpoint")
+
+
+def lines_of(end: End, keys: "List[str]") -> "List[str]":
+    """The lines of a key agreement: the peer's channel, and one key for each direction."""
+    peer = end.world.ends[2 - end.number]
+    own, other = keys[end.number - 1], keys[peer.number - 1]
+    return ["A protect on", "A replay on 0", "A validate strict", f"A rxsc {peer.sci}", f"A key 0 {own} 0",
+            f"A key 1 {other} 0", f"A rxsa {peer.sci} 0 1 1", f"A rxon {peer.sci} 0", "A txsa 0 0 1 conf", "A txon 0"]
+
+
+def agree(end: End, client: socket.socket, suite: str, keys: "List[str]") -> "List[str]":
+    """Makes an endpoint. Returns the answers."""
+    return [asking(client, line) for line in [f"open {end.sci} {suite}", *lines_of(end, keys), "port on"]]
+
+
+def check_open(world: World) -> None:
+    """Endpoints of two key agreements, one after the other."""
+    a, b = world.ends
+    owners = [connected(end.socket, 5) for end in world.ends]
+    link = Packets(b.namespace, "link0")
+    for owner in owners:
+        report(asking(owner, "own") == "ok\n", "`own` without an endpoint")
+    for suite, octets in (("gcm128", 16), ("gcm256", 32)):
+        keys = [secrets.token_hex(octets), secrets.token_hex(octets)]
+        for end, owner in zip(world.ends, owners):
+            got = agree(end, owner, suite, keys)
+            report(got == ["ok\n"] * len(got), f"{suite}: {got}")
+        report(until(lambda: ping(a) == 3) and ping(b) == 3, f"{suite}: no replies")
+        before = a.ask("numbers")
+        for wrong, answer in (("open", "fault Count"), (f"open {a.sci}", "fault Count"),
+                              ("open 00 gcm128", "fault Hex"), (f"open {a.sci} gcm512", "fault Word"),
+                              (f"open {a.sci} gcm128 scb", "fault Ends"),
+                              (f"open {a.sci} gcm128 sci 1", "fault Count"),
+                              (f"open {a.sci} gcm128\nA", "fault Word")):
+            got = asking(owners[0], wrong)
+            report(got == answer + "\n", f"{wrong!r} is answered {got!r}, and not {answer!r}")
+        report(len(a.ask("numbers")) == len(before) and a.ask("port") == "port on\n", "a wrong `open` has changed it")
+        again = agree(a, owners[0], suite, keys)
+        report(again[-4] == "ok\n" and again[-3].startswith("ok pn 000000000001"), f"the same keys again: {again}")
+        report(ping(a) == 3, f"{suite}: no replies with the same keys in another endpoint")
+        numbers = [int.from_bytes(it[16:20], "big") for it in protected(link.frames(), a.sci)]
+        report(numbers == sorted(set(numbers)) and len(numbers) > 6, f"{suite}: packet numbers {numbers}")
+    report(asking(owners[0], "open 0200000000010001 gcm128") == "ok\n" and a.ask("numbers") == "none\n", "`open` again")
+    report(a.ask("port") == "port off\n" and ping(a, 2, seconds=0.1) == 0, "`open` leaves the port on")
+    report(asking(owners[0], "close") == "ok\n", "`close`")
+    check_without_owned(a, b)
+    for owner in owners:
+        owner.close()
+    link.close()
+
+
+def check_without_owned(end: End, peer: End) -> None:
+    """Another client may change nothing, and frames that come without an endpoint are counted."""
+    for request in ("close", f"open {end.sci} gcm128", "port off", "load\n"):
+        report(end.ask(request) == "fault Owned\n", f"{request!r} of another client than the owner")
+    before = end.counters()["device NoEndpoint"]
+    ping(peer, 2, seconds=0.1)
+    report(until(lambda: end.counters()["device NoEndpoint"] >= before + 2), "frames without an endpoint: not counted")
+
+
+def forms(line: str) -> "List[str]":
+    """A line in other writings that the library takes too."""
+    first, rest = line.split(" ", 1)
+    return [line, line + "\r", f" \t{first}\t {rest}  ", line.replace(" ", "  ") + " \r", f"load\n#\n{line}\n"]
+
+
+def check_limits(world: World) -> None:
+    """What a client may weaken: only what the configuration allows."""
+    a = world.ends[0]
+    for allowed in [None, *WEAKER]:
+        a.write_config(device="device link link0\n" + (f"device allow {allowed[1]}\n" if allowed else ""))
+        a.start()
+        for line, _ in WEAKER:
+            for form in forms(line):
+                got = a.ask(form)
+                holds = ("NotAllowed" in got) != (allowed is not None and allowed[0] == line)
+                if allowed == ("A replay off 0", "replay off") and line == "A replay on 33":
+                    holds = got.endswith("ok\n")
+                report(holds, f"{form!r} with `device allow {allowed and allowed[1]}`: {got!r}")
+            a.ask("A txdel 1")
+        for line in ("A replay on 0", "A protect on", "A validate strict"):
+            report(a.ask(line) == "ok\n", f"{line} with `device allow {allowed and allowed[1]}`")
+        report(a.ask("A replay on 18446744073709551616") != "ok\n", "a window of 2^64")
+        a.stop()
+
+
+def check_agreement(world: World) -> None:
+    """A device whose endpoints a client makes, and what it may weaken."""
+    for end in world.ends:
+        configure(end)
+        end.create_journal()
+        end.start()
+        check_without(end)
+    check_open(world)
+    with contextlib.suppress(OSError):
+        report(until(lambda: "the owner has gone" in world.ends[0].log()), "no message when the owner has gone")
+    for end in world.ends:
+        report(end.stop() == 0, f"macsecd without an endpoint ends with another status: {end.log()[-300:]}")
+    configure(world.ends[0], "device allow nothing")
+    told = world.ends[0].run("macsec0")
+    report(told.returncode == 2 and "line 2: after `device allow`" in told.stderr, f"`device allow nothing`: {told}")
+    check_limits(world)

@@ -1,0 +1,77 @@
+"""Mistakes in macsecd, for each check of device/tests/macsecd at least one, which the check has to report."""
+
+import pathlib
+import shutil
+from typing import Dict, List, Tuple
+
+from house.reporting import Failed
+
+# The name of a check, and its mistakes: a file of device/, a text that is there once, and what is written for it.
+CONTROLS: "Dict[str, List[Tuple[str, str, str]]]" = {
+    "traffic": [("frames.c", "d->counts.tap_in++;", "d->counts.tap_in += 2;"),
+                ("tap.c", "frame - HEADER - MACSEC_OVERHEAD_MAX;", "frame - HEADER;")],
+    "rekey": [("frames.c", "if (sent.length > 0)", "if (sent.length > 0 && sent.key != 2)")],
+    "restart": [("numbers.c", "n->journal.octets, n->journal.length, &number)", "n->journal.octets, 0, &number)"),
+                ("numbers.c", "result = status == MACSEC_OK ? journal_save(&n->journal, e, sci, an, &fault) : 0;",
+                 "result = 0;")],
+    "files": [("config.c", "(status->st_mode & 077) != 0", "(status->st_mode & 0) != 0"),
+              ("link.c", "if (l->index == 0)", "if (l->index < 0)"),
+              ("config.c", "!words_copy(w, 2, name, sizeof name) || !config_is_name(name)",
+               "!(memset(name, 0, sizeof name), memcpy(name, w->at[2], w->length[2] > 15 ? 15 : w->length[2]))"),
+              ("macsecd.c", "macsec_status_name(status));\n    return status", "\"status\");\n    return status")],
+    "filter": [("tap.c", "result = ask(t->file, SIOCSIFHWADDR", "result = 0 && ask(t->file, SIOCSIFHWADDR"),
+               ("link.c", "SOCK_CLOEXEC, 0);", "SOCK_CLOEXEC, htons(ETH_P_ALL));\n    usleep(20000);"),
+               ("link.c", "result = join(l, PACKET_MR_ALLMULTI", "result = 0 && join(l, PACKET_MR_ALLMULTI")],
+    "vlan": [("handover.c", "status = macsec_set_validation(to, options.mode);", "status = MACSEC_OK;"),
+             ("link.c", "if (length < TAG_AT || !vlan_tag", "if (length < TAG_AT || true || !vlan_tag")],
+    "control": [("control.c", "request, REQUEST, MSG_DONTWAIT)", "request, 20000, MSG_DONTWAIT)"),
+                ("answers.c", "\"InPktsReserved\"", "\"InPktsOther\""),
+                ("answers.c", "\"refused %u %s\\n\", (unsigned)r->status, macsec_status_name(r->status)",
+                 "\"refused %u\\n\", (unsigned)r->status"),
+                ("requests.c", "words_split(&w, request, length);", "words_split(&w, request, strlen(request));"),
+                ("requests.c", "        return endpoint_command(d, line, length);",
+                 "        r = endpoint_command(d, line, length);\n    if (r.status != 0) __builtin_trap();")],
+    "port": [("port.c", "    port_set(d, false);\n", ""),
+             ("frames.c", "if (!d->port.off)", "if (d->port.off || true)")],
+    "agreement": [("limits.c", "window <= l->window;", "true;"), ("words.c", "line[length - 1] == '\\r'", "false"),
+                  ("endpoint.c", "    port_set(d, false);\n", ""), ("frames.c", "status == MACSEC_E_EMPTY;", "0;")],
+    "load": [("endpoint.c", "numbers_command(e, line, length, &r.raised);\n        fails",
+              "numbers_command(d->endpoint, line, length, &r.raised);\n        fails"),
+             ("endpoint.c", "            note_lines(lines, length);\n", ""),
+             ("macsecctl.c", "    result = load(file, lines);\n", "    result = load(file, lines) & 1;\n")],
+    "handover": [("handover.c", "sa.on ? macsec_enable_rx_sa(to, sci, an) : status", "!sa.on ? status : MACSEC_OK"),
+                 ("handover.c", "    totals_carry(before);\n", "")],
+    "life": [("life.c", "header->nlmsg_type == RTM_DELLINK) {", "header->nlmsg_type == RTM_DELLINK && !is_link) {"),
+             ("life.c", "    port_set_carrier(d);\n", "")],
+    "signals": [("loop.c", "got.ssi_signo == SIGTERM || got.ssi_signo == SIGINT)", "got.ssi_signo == SIGINT)"),
+                ("loop.c", "    sigaddset(&set, SIGUSR2);\n", ""),
+                ("loop.c", "count < 0 && errno != EINTR", "count < 0"),
+                ("tap.c", "while (written < 0 && errno == EINTR);", "while (false);"),
+                ("link.c", "} else if (errno != EINTR) {", "} else {")],
+    "losses": [("link.c", "c->link_lost += lost.tp_drops;", "c->link_lost += lost.tp_drops / 2;"),
+               ("link.c", "return BUSY;", "waiting_first++;"),
+               ("frames.c", "++*too_long;", ";")],
+    "service": [("loop.c", "    service_notify(\"WATCHDOG=1\");\n", "")],
+    "rights": [("confine.c", "setrlimit(RLIMIT_CORE, &none) == 0 && ", "sizeof none > 0 && "),
+               ("keys.c", "explicit_bzero(&keys[number], sizeof *keys);", "keys[number].lives = false;"),
+               ("keys.c", "mlock(keys, octets) != 0", "false"),
+               ("config.c", "        explicit_bzero(c->text, c->room);\n", "        c->text[0] = 0;\n"),
+               ("confine.c", "syscall(SYS_capset, &header, none) != 0", "0"),
+               ("confine.c", "result = restrict_files(state, run);", "(void)restrict_files;")],
+    "soak": [("control.c", "    d->counts.requests++;\n",
+              "    d->counts.requests++;\n    answer[0] = *(char *)memset(__builtin_malloc(4096), 1, 4096);\n"),
+             ("frames.c", "if (got.delivered && deliver(d, &got) == GONE)",
+              "if (got.delivered && d->counts.link_in % 1000 && deliver(d, &got) == GONE)")],
+    "hostile": [("control.c", "static char request[REQUEST + 1]", "static char request[64]")],
+}
+
+
+def altered(folder: pathlib.Path, edit: "Tuple[str, str, str]", source: pathlib.Path) -> pathlib.Path:
+    """A copy of the sources with one mistake."""
+    shutil.copytree(source, folder, ignore=shutil.ignore_patterns("built"))
+    name, old, new = edit
+    text = (folder / name).read_text()
+    if text.count(old) != 1:
+        raise Failed(f"{name} has {old!r} {text.count(old)} times")
+    (folder / name).write_text(text.replace(old, new))
+    return folder

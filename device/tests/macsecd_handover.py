@@ -1,0 +1,275 @@
+"""A second endpoint takes over: after the last key of an endpoint's life, and for lines that are all carried out, or
+none is."""
+
+import contextlib
+import json
+import secrets
+import subprocess
+import threading
+import time
+from typing import Dict, Iterator, List, Tuple
+
+from house.reporting import Failed, report
+from macsecd_requests import state_of
+from macsecd_world import End, Packets, Stream, World, connected, ping, protected
+
+KEYS = 4096
+
+# After so many changes of keys a journal is so long that rewriting it can take longer than TAP's queue lasts.
+MANY = 1000
+
+
+class Client:
+    """A connection to a control socket, for many lines."""
+
+    def __init__(self, end: End) -> None:
+        self.end, self.socket = end, connected(end.socket, 20)
+        self.slowest = 0.0
+
+    def ask(self, request: str) -> str:
+        """Makes a request."""
+        began = time.monotonic()
+        self.socket.send(request.encode())
+        answer = self.socket.recv(1 << 20).decode()
+        self.slowest = max(self.slowest, time.monotonic() - began)
+        return answer
+
+    def carry_out(self, *lines: str) -> None:
+        """Carries out lines. None may be refused."""
+        for line in lines:
+            answer = self.ask(line)
+            if not answer.startswith("ok"):
+                raise Failed(f"{line}: {answer}")
+
+    def keys_left(self) -> int:
+        """How many keys the endpoint can still take."""
+        return json.loads(self.ask("json"))["keys_left"]
+
+
+@contextlib.contextmanager
+def clients(world: World) -> "Iterator[Tuple[Client, Client]]":
+    """A connection to each end."""
+    a, b = (Client(end) for end in world.ends)
+    try:
+        yield a, b
+    finally:
+        a.socket.close()
+        b.socket.close()
+
+
+def use_up(client: Client, first: int, last: int) -> None:
+    """Installs and retires keys, which nothing uses. Many requests are under way at a time."""
+    for start in range(first, last, 32):
+        numbers = range(start, min(start + 32, last))
+        for number in numbers:
+            client.socket.send(f"A key {number} {secrets.token_hex(16)} 0".encode())
+            client.socket.send(f"A retire {number}".encode())
+        for number in numbers:
+            answers = client.socket.recv(100) + client.socket.recv(100)
+            if answers != b"ok\nok\n":
+                raise Failed(f"key {number}: {answers!r}")
+
+
+def wait_for_frame(client: Client, request: str) -> None:
+    """Waits for the first frame of a receive association. Earlier ones under older keys have been read then."""
+    end = time.monotonic() + 20
+    while int(client.ask(request).split()[4], 16) == 1:
+        if time.monotonic() > end:
+            raise Failed(f"{request}: no frame in 20 s")
+        time.sleep(0.0005)
+
+
+def rekey(pair: "Tuple[Client, Client]", phase: int, first: int) -> None:
+    """New keys for both directions: both ends receive under them first, then send, then the old ones go."""
+    an, old = phase % 4, (phase - 1) % 4
+    numbers = [(first + 2 * phase + it) % KEYS for it in (0, 1)]
+    before = [(first + 2 * (phase - 1) + it) % KEYS for it in (0, 1)] if phase > 1 else [0, 1]
+    keys = [secrets.token_hex(16), secrets.token_hex(16)]
+    for client, peer in (pair, pair[::-1]):
+        own = [keys[client.end.number - 1], keys[peer.end.number - 1]]
+        client.carry_out(f"A key {numbers[0]} {own[0]} 0", f"A key {numbers[1]} {own[1]} 0",
+                         f"A rxsa {peer.end.sci} {an} {numbers[1]} 1", f"A rxon {peer.end.sci} {an}")
+    for client in pair:
+        client.carry_out(f"A txsa {an} {numbers[0]} 1 conf", f"A txon {an}")
+    for client, peer in (pair, pair[::-1]):
+        wait_for_frame(client, f"numbers rx {peer.end.sci} {an}")
+    for client, peer in (pair, pair[::-1]):
+        client.carry_out(f"A txdel {old}", f"A rxdel {peer.end.sci} {old}", f"A retire {before[0]}",
+                         f"A retire {before[1]}")
+
+
+def periods(frames: "List[bytes]") -> int:
+    """How often the frames have another association number than the one before. Between, each is under one key, and
+    their packet numbers have to rise."""
+    last, count, rise = (-1, 0), 0, True
+    for frame in frames:
+        this = frame[14] & 3, int.from_bytes(frame[16:20], "big")
+        count += this[0] != last[0]
+        rise = rise and (this[0] != last[0] or this[1] > last[1])
+        last = this
+    report(rise, "packet numbers under one key do not rise")
+    return count
+
+
+class Recorder:
+    """The frames on a link with a SecTAG of this SCI, in a thread, until it is stopped."""
+
+    def __init__(self, end: End, sci: str) -> None:
+        self.link, self.sci, self.frames, self.goes_on = Packets(end.namespace, "link0"), sci, [], True
+        self.thread = threading.Thread(target=self.run)
+        self.thread.start()
+
+    def run(self) -> None:
+        """Reads, and keeps the beginning of each frame."""
+        while self.goes_on:
+            self.frames += [it[:20] for it in protected(self.link.frames(0.05), self.sci)]
+
+    def stop(self) -> "List[bytes]":
+        """Stops it. Returns the frames."""
+        self.goes_on = False
+        self.thread.join()
+        self.link.close()
+        return self.frames
+
+
+def dropped(end: End) -> int:
+    """The frames that the client's device dropped before macsecd could read them."""
+    shown = json.loads(end.ip("-j", "-s", "link", "show", "macsec0"))[0]
+    return shown["stats64"]["tx"]["dropped"]
+
+
+def losses(end: End) -> "Dict[str, int]":
+    """The counters of frames that were dropped, of those that should be 0."""
+    names = ("Late", "NotValid", "NoSAError", "NoSA ", "BadTag", "NoReservation", "Lost", "Refused", "NoEndpoint",
+             "Unchecked", "Delayed", "TooLong")
+    return {name: value for name, value in end.counters().items() if value and any(it in name + " " for it in names)}
+
+
+def run_rekeys(world: World, rekeys: int, first: int) -> None:
+    """Rekeys while datagrams are sent in both directions. Each has to arrive, and each frame has to be counted."""
+    a, b = world.ends
+    recorder = Recorder(b, a.sci)
+    before, full = [losses(end) for end in world.ends], [dropped(end) for end in world.ends]
+    streams = [Stream(a, 0.0005), Stream(b, 0.0005, port=9011)]
+    with clients(world) as pair:
+        began = time.monotonic()
+        for phase in range(1, rekeys + 1):
+            rekey(pair, phase, first)
+        seconds = time.monotonic() - began
+        slowest = max(it.slowest for it in pair)
+    counts = [it.stop() for it in streams]
+    full = [dropped(end) - old for end, old in zip(world.ends, full)]
+    for (sent, arrived), lost in zip(counts, full):
+        report(sent == arrived + lost and sent > 100, f"{sent} datagrams were sent, {arrived} arrived, {lost} dropped")
+        report(lost == 0 or rekeys > MANY, f"the client's device has dropped {lost} frames")
+    count = periods(recorder.stop())
+    report(rekeys // 2 < count <= rekeys + 1, f"frames of {count} associations in turn, for {rekeys} new keys")
+    for end, old in zip(world.ends, before):
+        report(losses(end) == old, f"{end.number}: frames were dropped: {losses(end)}, and before {old}")
+    taken = [end.log().count("a second one goes on") for end in world.ends]
+    print(f"handover: {rekeys} rekeys in {seconds:.1f} s, {taken} second endpoints, {sum(it[0] for it in counts)} "
+          f"datagrams, {full} dropped by a full TAP, slowest answer {1000 * slowest:.1f} ms", flush=True)
+
+
+def check_life_of_keys(world: World, short: bool) -> None:
+    """An endpoint takes all its keys, and a second one goes on."""
+    a, b = world.ends
+    with clients(world) as pair:
+        for client in pair:
+            use_up(client, 2, KEYS)
+            report(client.keys_left() == 0, f"{client.keys_left()} keys are left")
+            number, key = next_of(client.end), secrets.token_hex(16)
+            report(client.ask(f"A key 0 {key} 0") == "refused 3 KeyNumberUsed\n", "a number that is in use")
+            report(client.ask(f"A key 2 {key[1:]} 0") == "fault Hex\n", "a wrong line at the end of an endpoint's life")
+            report(next_of(client.end) < number + 1000, "a refused key has changed a packet number")
+    report(ping(a) == 3, "no replies while no key is left")
+    before = [end.counters() for end in world.ends]
+    run_rekeys(world, 40 if short else 2500, 0)
+    for end, old in zip(world.ends, before):
+        report("a second one goes on" in end.log(), "no second endpoint has taken over")
+        now = end.counters()
+        fell = [it for it in old if it in now and now[it] < old[it] and " 0 " not in it]
+        report(not fell, f"{end.number}: counters have fallen: {fell}")
+
+
+def channel_is_sum(end: End) -> None:
+    """The counters of a new association begin at 0, and the channel's have all."""
+    peer = f"02000000000{3 - end.number}0001"
+    c = end.counters()
+    of_sas = sum(value for name, value in c.items() if name.startswith(peer) and name.endswith(" InPktsOK"))
+    of_sas -= c[f"{peer} InPktsOK"]
+    report(0 < of_sas <= c[f"{peer} InPktsOK"], f"{of_sas} of {c[f'{peer} InPktsOK']} frames are of associations")
+
+
+def next_of(end: End) -> int:
+    """The next packet number of association 0."""
+    return int(end.ask("numbers tx 0").split()[3], 16)
+
+
+def check_load(a: End, macsecctl: "List[str]") -> None:
+    """Lines that are all carried out, or none is."""
+    peer = a.world.ends[2 - a.number]
+    with contextlib.closing(connected(a.socket, 5)) as it:
+
+        def load(*lines: str) -> str:
+            it.send("\n".join(["load", *lines]).encode())
+            return it.recv(1 << 20).decode()
+
+        def state() -> str:
+            shown = json.loads(a.ask("json"))
+            sas = [(sa["an"], sa["key"], sa["on"]) for sa in shown["transmit"]]
+            rx = [(sc["sci"], [(sa["an"], sa["key"], sa["on"]) for sa in sc["associations"]])
+                  for sc in shown["receive"]]
+            return f"{sas} {rx} {shown['keys_left']}"
+
+        key = [secrets.token_hex(16) for _ in range(4)]
+        good = [f"A key 2 {key[0]} 0", "# a comment", "", "A txsa 1 2 1 conf", f"A rxsc {'11' * 8}",
+                f"A rxsa {'11' * 8} 0 2 1", f"A rxdel {peer.sci} 0", "A txdel 0", "A retire 0", "A protect on"]
+        before, log = state(), a.log()
+        number = next_of(a)
+        for wrong, answer in (("A txon 3", "refused 13 NoSa"), ("A txonn 0", "fault Word"), ("B txon 0", "fault Ends"),
+                              (f"A key 1 {key[1]} 0", "refused 3 KeyNumberUsed"), ("A protect off", "fault NotAllowed"),
+                              ("port on", "fault Word"), ("A counters", "fault Ends"), ("x" * 20001, "fault LineLong")):
+            for place in (0, 4, len(good)):
+                got = load(*good[:place], wrong, *good[place:])
+                report(got == f"{place + 1} {answer}\n", f"load with {wrong[:30]!r} at {place}: {got!r}")
+                report(state() == before, f"load with {wrong[:30]!r} at {place}: {before} became {state()}")
+        report(next_of(a) < number + 1000 and ping(a) == 3, "a refused `load` has changed the endpoint")
+        report(a.log() == log, f"messages for a refused `load`: {a.log()[len(log):]}")
+        report(load("#") == "ok\n" == load(""), "`load` without a command")
+        report(load("A txon 0", "", "A txon 0") == "1 ok\n3 ok\n" and ping(a) == 3, "`load` of what is so already")
+        report(load("y" * 140000) == "fault LoadLong\n", "`load` that is too long")
+        counters = a.counters()
+        got = load(*good)
+        answers = "".join(f"{n} ok\n" for n in (1, 4, 5, 6, 7, 8, 9, 10))
+        report(got == answers and state() != before, f"load: {got!r}")
+        report(a.ask("numbers").split()[:6:5] == ["tx", "conf"] and a.ask("numbers tx 0") == "fault NotFound\n",
+               f"after `load`: {a.ask('numbers')}")
+        fell = [name for name, value in counters.items() if a.counters().get(name, value) < value]
+        report(not fell, f"counters have fallen: {fell}")
+        report(f"{peer.sci} 0 InPktsOK" not in a.counters(), "an association that was deleted still counts")
+        report(load(f"A key 0 {key[3]} 0") == "1 ok\n", "the number of a retired key in a second endpoint")
+    check_macsecctl(a, macsecctl)
+
+
+def check_macsecctl(a: End, macsecctl: "List[str]") -> None:
+    """macsecctl with lines that are all carried out, or none is."""
+    def told(lines: str, *words: str) -> "Tuple[int, str]":
+        it = subprocess.run([*macsecctl, *words], input=lines, capture_output=True, text=True)
+        return it.returncode, it.stdout
+
+    state = state_of(a)
+    got = told("# a comment\n\nA txoff 1\nA txon 1\nA txon 2\nA txoff 1\n")
+    report(got == (2, "5 refused 13 NoSa\n") and state_of(a) == state, f"macsecctl with a wrong line: {got}")
+    got = told("# a comment\n\nA txoff 1\nA txon 1\n")
+    report(got == (0, "3 ok\n4 ok\n"), f"macsecctl with lines: {got}")
+    path = a.folder / "lines"
+    path.write_text("A txoff 1\nA txonn 1\n")
+    state = state_of(a)
+    got = told("", "load", str(path))
+    report(got == (2, "2 fault Word\n") and state_of(a) == state, f"macsecctl load with a wrong line: {got}")
+    path.write_text("A txon 1\nA txon 1\n")
+    got = told("", "load", str(path))
+    report(got == (0, "1 ok\n2 ok\n"), f"macsecctl load: {got}")
+    report(told("", "load", str(path) + "x")[0] == 2, "macsecctl load of a file that is not there")
+    report(told("#" * 140000)[0] == 2, "macsecctl with too many octets")

@@ -1,0 +1,176 @@
+"""Requests to macsecd: what it answers to good ones, wrong ones, and many at a time."""
+
+import contextlib
+import json
+import random
+import socket
+from typing import Callable, Dict
+
+from house.reporting import report, until
+from macsecd_world import IN, OUT, RX, End, connected, ping
+
+
+def agree(answer: Callable[[], str], other: Callable[[], str], what: str) -> None:
+    """Two answers have to be the same, unless a frame comes between them."""
+    report(until(lambda: answer() == other()), f"{what}: {answer()!r} and {other()!r}")
+
+
+def check_answers(end: End) -> None:
+    """What the answers say."""
+    peer = f"02000000000{3 - end.number}0001"
+    numbers = end.ask("numbers")
+    report(numbers.splitlines()[0].startswith("tx 0 0 00000000000") and f"rx {peer} 0 1 " in numbers, numbers)
+    agree(lambda: end.ask("A numbers"), lambda: end.ask("numbers\n"), "`A numbers` and `numbers`")
+    agree(lambda: end.ask("numbers"), lambda: end.ask("numbers tx 0") + end.ask(f"numbers rx {peer} 0"), "one SA")
+    report(end.ask("numbers tx 3") == "fault NotFound\n" == end.ask("numbers rx 1122334455667788 0"), "numbers tx 3")
+    names = [*IN, "InOctetsValidated", "InOctetsDecrypted", *OUT, "OutOctetsProtected", "OutOctetsEncrypted"]
+    names += [f"{peer} {it}" for it in RX] + [f"{peer} 0 {it}" for it in RX]
+    got = [line.rsplit(" ", 1)[0] for line in end.ask("A counters").splitlines()]
+    report(sorted(got) == sorted(names), f"`A counters` has {got}")
+    check_formats(end, peer)
+
+
+def counters_of_json(end: End) -> "Dict[str, int]":
+    """The endpoint's counters in JSON, under the names of `A counters`."""
+    shown = json.loads(end.ask("json"))
+    found = {**shown["counters"], **shown["transmit_counters"]}
+    for channel in shown["receive"]:
+        found.update({f"{channel['sci']} {name}": n for name, n in channel["counters"].items()})
+        for it in channel["associations"]:
+            found.update({f"{channel['sci']} {it['an']} {name}": n for name, n in it["counters"].items()})
+    return found
+
+
+def sorted_lines(text: str) -> str:
+    """The lines of a text, in the order of the alphabet."""
+    return "\n".join(sorted(text.splitlines()))
+
+
+def lines_of(counters: "Dict[str, int]") -> str:
+    """Counters as `A counters` writes them, in the order of the alphabet."""
+    return sorted_lines("\n".join(f"{name} {n}" for name, n in counters.items()))
+
+
+def check_formats(end: End, peer: str) -> None:
+    """JSON, and the text format of Prometheus."""
+
+    def sample() -> str:
+        lines = end.ask("metrics").splitlines()
+        return next(it for it in lines if it.startswith('macsec_out_pkts_encrypted_total{device="macsec0"}'))
+
+    shown = json.loads(end.ask("json"))
+    report(shown["receive"][0]["sci"] == peer and shown["link"] == "link0" and shown["up"] is True, f"json: {shown}")
+    agree(lambda: lines_of(counters_of_json(end)), lambda: sorted_lines(end.ask("A counters")), "json")
+    agree(lambda: lines_of({name: n for name, n in end.counters().items() if not name.startswith("device ")}),
+          lambda: sorted_lines(end.ask("A counters")), "`counters`")
+    agree(lambda: sample().split()[1], lambda: str(end.counters()["OutPktsEncrypted"]), "metrics")
+    metrics = end.ask("metrics")
+    report("macsec_in_pkts_no_sa_error_total{" in metrics, metrics[:300])
+    samples = [it for it in metrics.splitlines() if not it.startswith("#")]
+    report(len(set(it.rsplit(" ", 1)[0] for it in samples)) == len(samples) > 40, "metrics has a sample twice")
+
+
+def state_of(end: End) -> str:
+    """What lines can change: the associations without their packet numbers, which frames change, and the keys."""
+    lines = [line.split() for line in end.ask("numbers").splitlines()]
+    return f"{[[it for it in words if len(it) != 16] for words in lines]} {json.loads(end.ask('json'))['keys_left']}"
+
+
+def check_lines(end: End) -> None:
+    """Wrong lines: each has its answer and changes nothing."""
+    before = state_of(end)
+    for line, answer in (
+        ("A txon 3", "refused 13 NoSa"), ("A txonn 0", "fault Word"), ("A txon", "fault Count"),
+        ("nothing", "fault Word"), ("B txon 0", "fault Ends"), ("A send 00", "fault Ends"),
+        ("end A gcm128 0200000000010001 1500 sci", "fault Ends"),
+        (f"A key 0 {'00' * 16} 0", "refused 3 KeyNumberUsed"), ("A txon 0\nA txoff 0", "fault Count"),
+        ("A key 9 xx 0", "fault Hex"), ("x" * 20000, "fault Word"), ("x" * 20001, "fault LineLong"),
+        ("y" * 100000, "fault LineLong"), ("A txoff\0 0", "fault Word"), ("numbers\0", "fault Word"), ("# none", "ok"),
+    ):
+        got = end.ask(line)
+        report(got == answer + "\n", f"{line[:40]!r}: {got!r}, and not {answer!r}")
+    report(state_of(end) == before, f"a wrong line has changed {before} to {state_of(end)}")
+
+
+def check_clients(end: End) -> None:
+    """More clients than there can be, and one that does not read its answers."""
+    clients = [connected(end.socket, 5) for _ in range(20)]
+    answered = 0
+    for client in clients:
+        with contextlib.suppress(OSError):
+            client.send(b"numbers")
+            answered += client.recv(1 << 20) != b""
+        client.close()
+    report(answered == 16, f"{answered} of 20 clients got an answer")
+    report(until(end.answers), "no answer after the clients have gone")
+    lazy = connected(end.socket, 5)
+    lazy.settimeout(0.2)
+    with contextlib.suppress(OSError):
+        for _ in range(10000):
+            lazy.send(b"json")
+    report(end.ask("A txon 0") == "ok\n" and ping(end) == 3, "no answer while a client does not read")
+    lazy.close()
+
+
+def has_carrier(end: End) -> bool:
+    """Has TAP carrier?"""
+    return "NO-CARRIER" not in end.ip("link", "show", "macsec0")
+
+
+def make_sequence(end: End, rng: random.Random, count: int) -> None:
+    """Requests in any order: endpoints, keys, associations, and lines at once. Each has to have an answer."""
+    scis, bit = [f"{'22' * 8}", f"{'33' * 8}"], ["on", "off"]
+
+    def line() -> str:
+        an, key, sci = rng.randrange(4), rng.randrange(6), rng.choice(scis)
+        return rng.choice([
+            f"A key {key} {rng.randbytes(16).hex()} 0", f"A key {key} {rng.randbytes(32).hex()} 0 gcm256",
+            f"A retire {key}", f"A txsa {an} {key} 1 conf", f"A txon {an}", f"A txoff {an}", f"A txdel {an}",
+            f"A rxsc {sci}", f"A rxscdel {sci}", f"A rxsa {sci} {an} {key} 1", f"A rxon {sci} {an}",
+            f"A rxlow {sci} {an} {rng.randrange(1 << 32):x}", f"A rxdel {sci} {an}", "#", "", "A", "A tag auto",
+        ])
+
+    for _ in range(count):
+        request = line() if rng.random() < 0.7 else rng.choice([
+            f"open {end.sci} gcm128", f"open {end.sci} gcm256 auto", "close", f"port {rng.choice(bit)}", "json",
+            "numbers", "metrics", "\n".join(["load", *(line() for _ in range(rng.randrange(5)))])])
+        report(end.ask(request or "#") != "", f"no answer to {request!r}")
+
+
+def check_port(end: End, peer: End) -> None:
+    """The controlled port goes off and on: frames are judged and counted, and TAP loses carrier after a while."""
+    before = end.counters()
+    end.carry_out("port off")
+    report(ping(end, 2, seconds=0.1) == 0 and ping(peer, 2, seconds=0.1) == 0, "frames pass while the port is off")
+    after = end.counters()
+    for name in ("device PortOut", "device PortIn", f"{peer.sci} InPktsOK"):
+        report(after[name] >= before[name] + 2, f"the port is off: {name} goes from {before[name]} to {after[name]}")
+    end.carry_out("port on")
+    replies = until(lambda: ping(end, seconds=1) == 3)
+    report(has_carrier(end) and replies, "a port that was off for a moment: no carrier, or no replies")
+    end.carry_out("port off")
+    report(until(lambda: not has_carrier(end)), "TAP has carrier while the port is off")
+    end.carry_out("port on")
+    report(until(lambda: has_carrier(end)) and ping(end, 5) > 2, "no replies after `port on`")
+
+
+def check_owner(end: End) -> None:
+    """A client that owns the device: others only read, and the port goes off when it has gone."""
+    owner, other = connected(end.socket, 5), connected(end.socket, 5)
+
+    def ask(client: socket.socket, request: bytes) -> str:
+        client.send(request)
+        return client.recv(1 << 20).decode()
+
+    report(ask(owner, b"own") == "ok\n" == ask(owner, b"own"), "`own`")
+    for request in (b"own", b"port off", b"A txoff 0", b"own\0", b"# none"):
+        report(ask(other, request) == "fault Owned\n", f"{request!r} of another client than the owner")
+    report(ask(other, b"numbers").startswith("tx 0 "), "another client than the owner can't read")
+    report(ask(owner, b"A txoff 0") == "ok\n" == ask(owner, b"A txon 0") and ping(end) == 3, "lines of the owner")
+    owner.close()
+    report(until(lambda: "the owner has gone" in end.log()), "no message when the owner has gone")
+    report(ping(end, 2, seconds=0.1) == 0, "frames pass without the owner")
+    replies = ask(other, b"port on") == "ok\n" and until(lambda: ping(end, seconds=1) == 3)
+    report(replies, "no replies after `port on` of another client")
+    report(ask(other, b"own\0") == "fault Word\n", "a request with a zero")
+    other.close()

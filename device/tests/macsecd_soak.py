@@ -1,0 +1,143 @@
+"""A long run of macsecd: new keys, random frames and random control lines beside the traffic of clients."""
+
+import pathlib
+import random
+import threading
+import time
+from typing import Dict, List
+
+from house.reporting import report
+from macsecd_handover import clients, losses, rekey
+from macsecd_world import IN, OUT, RX, End, Packets, Stream, World, protected
+
+REKEYS = 60
+
+# By how many kB the memory may grow, since the journal is longer after each change of keys.
+JOURNAL = 64
+
+# Words of control lines. None of them forms a line that the endpoint carries out.
+WORDS = "A B key txsa txon rxsa rxsc numbers counters json metrics load own rx tx 0 1 3 4096 ffffffffffffffff #".split()
+
+
+class Noise:
+    """Random frames on LINK and random requests, in a thread, until it is stopped."""
+
+    def __init__(self, end: End, peer: End, rng: random.Random, good: bytes) -> None:
+        self.peer, self.rng, self.good = peer, rng, good
+        self.injector = Packets(end.namespace, "link0")
+        self.frames, self.requests, self.goes_on = 0, 0, True
+        self.thread = threading.Thread(target=self.run)
+        self.thread.start()
+
+    def frame(self) -> bytes:
+        """A frame of random octets, or a recorded one that is altered, cut or sent again."""
+        if self.rng.random() < 0.3:
+            return self.rng.randbytes(self.rng.randint(14, 1400))
+        frame = bytearray(self.good)
+        for _ in range(self.rng.randint(0, 2)):
+            frame[self.rng.randrange(12, len(frame))] = self.rng.randrange(256)
+        return bytes(frame[: self.rng.randint(14, len(frame))])
+
+    def run(self) -> None:
+        """Sends some frames and requests ten times a second."""
+        while self.goes_on:
+            for _ in range(20):
+                self.injector.send(self.frame())
+                self.frames += 1
+            for _ in range(5):
+                words = self.rng.choices(WORDS, k=self.rng.randint(1, 5))
+                self.peer.ask("wrong " * (words[0] in ("own", "A", "load")) + " ".join(words))
+                self.requests += 1
+            time.sleep(0.1)
+
+    def stop(self) -> None:
+        """Stops it."""
+        self.goes_on = False
+        self.thread.join()
+        self.injector.close()
+
+
+def memory_of(end: End, name: str = "VmData:") -> int:
+    """The memory that its macsecd has allocated, or another amount, in kB. What is resident grows as buffers and the
+    places of keys are first used; what is allocated may not."""
+    assert end.process is not None
+    status = pathlib.Path(f"/proc/{end.process.pid}/status").read_text()
+    return next(int(line.split()[1]) for line in status.splitlines() if line.startswith(name))
+
+
+def files_of(end: End) -> int:
+    """How many files its macsecd has open."""
+    assert end.process is not None
+    return len(list(pathlib.Path(f"/proc/{end.process.pid}/fd").iterdir()))
+
+
+def settled(world: World) -> "List[Dict[str, int]]":
+    """The counters of both ends, when no frame is under way."""
+    for _ in range(50):
+        before = [end.counters() for end in world.ends]
+        time.sleep(0.3)
+        after = [end.counters() for end in world.ends]
+        if all(x[it] == y[it] for x, y in zip(before, after) for it in ("device LinkIn", "device LinkOut")):
+            return after
+    report(False, "frames come all the time")
+    return after
+
+
+def check_counts(world: World, before: "List[Dict[str, int]]", noise: "List[Noise]") -> None:
+    """Each frame is in the counters of both ends."""
+    after = settled(world)
+    grown = [{name: now[name] - old.get(name, 0) for name in now} for now, old in zip(after, before)]
+    for end, it, other, injected in zip(world.ends, grown, grown[::-1], noise[::-1]):
+        peer = world.ends[2 - end.number].sci
+        came = it["device LinkIn"] + it["device LinkLost"]
+        sent = other["device LinkOut"] + injected.frames
+        report(came == sent, f"{end.number}: {sent} frames were sent to it, and {came} counted")
+        judged = sum(it[name] for name in IN) + sum(it[f"{peer} {name}"] for name in RX)
+        judged += it["device LinkTooShort"] + it["device LinkTooLong"]
+        report(judged == it["device LinkIn"], f"{end.number}: {it['device LinkIn']} frames were read, {judged} judged")
+        taken = sum(it[name] for name in OUT) + it["device NoReservation"] + it["device TapTooShort"]
+        report(taken == it["device TapIn"], f"{end.number}: {it['device TapIn']} frames of TAP, {taken} counted")
+        valid = it[f"{peer} InPktsOK"]
+        report(valid == other["device LinkOut"], f"{end.number}: {valid} valid frames of {other['device LinkOut']}")
+        print(f"soak: {end.number}: {it['device LinkIn']} frames of LINK, {it['device TapIn']} of TAP, "
+              f"{ {name: n for name, n in it.items() if n and name in IN + [f'{peer} {r}' for r in RX[1:]]} }, "
+              f"lost {it['device LinkLost']}", flush=True)
+
+
+def check_soak(world: World, minutes: float, seed: str) -> None:
+    """The run: datagrams, which all have to arrive, 60 changes of keys, and noise in both directions."""
+    a, b = world.ends
+    link = Packets(b.namespace, "link0")
+    streams = [Stream(a, 0.002, 400), Stream(b, 0.002, 400, port=9011)]
+    time.sleep(0.5)
+    for each in streams:
+        each.stop()
+    good = protected(link.frames(), a.sci)[0]
+    link.close()
+    before = settled(world)
+    rng = random.Random(seed)
+    noise = [Noise(end, world.ends[2 - end.number], rng, good) for end in world.ends]
+    streams = [Stream(a, 0.002, 400), Stream(b, 0.002, 400, port=9011)]
+    memory: "List[List[int]]" = []
+    with clients(world) as pair:
+        for phase in range(1, REKEYS + 1):
+            began = time.monotonic()
+            rekey(pair, phase, 0)
+            time.sleep(max(0.0, minutes * 60 / REKEYS - (time.monotonic() - began)))
+            memory.append([memory_of(end) for end in world.ends])
+            if phase % 10 == 0:
+                print(f"soak: {phase} changes of keys, memory {memory[-1]} kB", flush=True)
+        slowest = max(it.slowest for it in pair)
+        files = [files_of(end) for end in world.ends]
+    for each in noise:
+        each.stop()
+    for sent, arrived in (it.stop() for it in streams):
+        report(sent == arrived and sent > 1000, f"{sent} datagrams were sent and {arrived} arrived")
+        print(f"soak: {sent} datagrams were sent and {arrived} arrived", flush=True)
+    check_counts(world, before, noise)
+    for end, first, last in zip(world.ends, memory[9], memory[-1]):
+        report(last <= first + JOURNAL, f"{end.number}: the memory has grown from {first} to {last} kB")
+        print(f"soak: {end.number}: {first} kB were allocated after 10 changes of keys and {last} kB after {REKEYS}; "
+              f"{memory_of(end, 'VmRSS:')} kB are resident", flush=True)
+    print(f"soak: {sum(it.requests for it in noise)} requests, slowest answer {1000 * slowest:.1f} ms, files {files}, "
+          f"dropped {[losses(end) for end in world.ends]}", flush=True)

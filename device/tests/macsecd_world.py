@@ -1,0 +1,469 @@
+"""Network namespaces, devices and sockets for device/tests/macsecd."""
+
+import contextlib
+import ctypes
+import os
+import pathlib
+import secrets
+import signal
+import socket
+import struct
+import subprocess
+import threading
+import time
+from typing import Dict, Iterator, List, Optional, Sequence, Set, Tuple
+
+from house import compiling
+from house.compiling import INCLUDED, WARNINGS, device_sources
+from house.reporting import Failed, call, report, until
+
+LIBC = ctypes.CDLL(None, use_errno=True)
+SANITIZED = [*compiling.SANITIZED, "-O1", "-DMACSECD_UNFILTERED"]
+ALL_FRAMES = socket.htons(3)
+SOL_PACKET, PACKET_AUXDATA, VLAN_VALID = 263, 8, 1 << 4
+SALT = "0102030405060708090a0b0c"
+
+# The endpoint's counters: of frames of a receive channel, of other frames of LINK, and of frames of TAP.
+RX = ["InPktsOK", "InPktsUnchecked", "InPktsDelayed", "InPktsLate", "InPktsInvalid", "InPktsNotValid"]
+IN = ["InPktsUntagged", "InPktsNoTag", "InPktsBadTag", "InPktsReserved", "InPktsNoSA", "InPktsNoSAError"]
+OUT = ["OutPktsUntagged", "OutPktsTooLong", "OutPktsNoSA", "OutPktsProtected", "OutPktsEncrypted"]
+
+
+def build(out: pathlib.Path, library: pathlib.Path, options: List[str], source: pathlib.Path,
+          wrapped: Sequence[str] = ()) -> pathlib.Path:
+    """Builds macsecd and macsecctl of a folder of sources. What wraps calls is for macsecd alone. Returns the folder of
+    the programs."""
+    out.mkdir(parents=True, exist_ok=True)
+    words = ["gcc", *WARNINGS, "-pedantic", "-O2", *options, *INCLUDED, "-I", str(source)]
+    call(*words, *wrapped, "-o", str(out / "macsecd"), *device_sources(source), str(library))
+    call(*words, "-o", str(out / "macsecctl"), str(source / "macsecctl.c"))
+    return out
+
+
+@contextlib.contextmanager
+def inside(namespace: str) -> Iterator[None]:
+    """Lets this thread be in a network namespace. A socket stays in the one in which it was made."""
+    own = os.open("/proc/thread-self/ns/net", os.O_RDONLY)
+    other = os.open(f"/run/netns/{namespace}", os.O_RDONLY)
+    try:
+        if LIBC.setns(other, 0x40000000):
+            raise Failed(f"setns: {os.strerror(ctypes.get_errno())}")
+        yield
+    finally:
+        if LIBC.setns(own, 0x40000000):
+            raise SystemExit("macsecd: cannot return to its namespace")
+        os.close(own)
+        os.close(other)
+
+
+class Packets:
+    """A packet socket in a namespace."""
+
+    def __init__(self, namespace: str, device: str) -> None:
+        with inside(namespace):
+            self.socket = socket.socket(socket.AF_PACKET, socket.SOCK_RAW, 0)
+            self.socket.setsockopt(SOL_PACKET, PACKET_AUXDATA, 1)
+            self.socket.setsockopt(socket.SOL_SOCKET, 33, 64 << 20)  # SO_RCVBUFFORCE
+            self.socket.bind((device, 3))
+
+    def send(self, frame: bytes) -> None:
+        """Sends a frame."""
+        self.socket.send(frame)
+
+    def frames(self, seconds: float = 0.2) -> List[bytes]:
+        """Frames that arrived, until none has for so long. A VLAN tag that the system took out is in them again."""
+        got = []
+        self.socket.settimeout(seconds)
+        with contextlib.suppress(socket.timeout, OSError):
+            while True:
+                frame, about, _, address = self.socket.recvmsg(65536, 256)
+                if address[2] != socket.PACKET_OUTGOING:
+                    got.append(with_tag(frame, about))
+        return got
+
+    def close(self) -> None:
+        """Closes it."""
+        self.socket.close()
+
+
+def with_tag(frame: bytes, about: List[Tuple[int, int, bytes]]) -> bytes:
+    """A frame with the VLAN tag that the data about it has."""
+    for level, kind, data in about:
+        if level == SOL_PACKET and kind == PACKET_AUXDATA:
+            status, _, _, _, _, control, protocol = struct.unpack_from("=IIIHHHH", data)
+            if status & VLAN_VALID:
+                return frame[:12] + struct.pack("!HH", protocol or 0x8100, control) + frame[12:]
+    return frame
+
+
+def protected(frames: List[bytes], sci: str) -> List[bytes]:
+    """The frames with a SecTAG of this SCI."""
+    return [it for it in frames if it[12:14] == b"\x88\xe5" and it[20:28].hex() == sci]
+
+
+def numbers_of(frames: List[bytes]) -> "List[Tuple[int, int]]":
+    """The association and the packet number of each frame."""
+    return [(it[14] & 3, int.from_bytes(it[16:20], "big")) for it in frames]
+
+
+def places_of(pid: int, octets: bytes) -> "List[List[str]]":
+    """The flags of those parts of a process's memory that have these octets."""
+    found, start, end, readable = [], 0, 0, False
+    with open(f"/proc/{pid}/smaps", encoding="utf-8") as maps, open(f"/proc/{pid}/mem", "rb") as memory:
+        for line in maps:
+            words = line.split()
+            if "-" in words[0] and not words[0].endswith(":"):
+                start, end = (int(it, 16) for it in words[0].split("-"))
+                readable = words[1].startswith("r") and words[-1] not in ("[vvar]", "[vsyscall]", "[vvar_vclock]")
+            if words[0] == "VmFlags:" and readable:
+                memory.seek(start)
+                found += [words[1:]] * memory.read(end - start).count(octets)
+    return found
+
+
+def connected(path: str, seconds: int) -> socket.socket:
+    """A connection to a control socket. It waits while the queue is full; a connect with a timeout would fail there."""
+    it = socket.socket(socket.AF_UNIX, socket.SOCK_SEQPACKET)
+    it.setsockopt(socket.SOL_SOCKET, socket.SO_SNDTIMEO, struct.pack("ll", seconds, 0))
+    it.connect(path)
+    it.settimeout(seconds)
+    return it
+
+
+class Namespace:
+    """A namespace, and a folder with the files of a macsecd in it."""
+
+    def __init__(self, namespace: str, folder: pathlib.Path) -> None:
+        self.namespace, self.folder = namespace, folder
+        self.more_environment: Dict[str, str] = {}
+        for each in ("conf", "state", "run"):
+            (self.folder / each).mkdir(parents=True)
+
+    def ip(self, *words: str) -> str:
+        """Runs `ip` in the namespace."""
+        return call("ip", "-n", self.namespace, *words)
+
+    @property
+    def environment(self) -> Dict[str, str]:
+        """Where macsecd finds its files."""
+        folders = {"CONFIGURATION_DIRECTORY": "conf", "STATE_DIRECTORY": "state", "RUNTIME_DIRECTORY": "run"}
+        more = {name: str(self.folder / each) for name, each in folders.items()}
+        return {**os.environ, **more, "ASAN_OPTIONS": "detect_leaks=0", **self.more_environment}
+
+    @property
+    def socket(self) -> str:
+        """The path of its control socket."""
+        return str(self.folder / "run/macsec0.sock")
+
+    def ask(self, *requests: str) -> str:
+        """Makes requests over one connection. Returns the last answer."""
+        got = b""
+        with connected(self.socket, 10) as it:
+            for request in requests:
+                it.send(request.encode())
+                got = it.recv(1 << 20)
+        return got.decode()
+
+    def counters(self) -> Dict[str, int]:
+        """The answer to `counters`."""
+        lines = (line.rsplit(" ", 1) for line in self.ask("counters").splitlines())
+        return {name: int(value) for name, value in lines}
+
+
+class End(Namespace):
+    """A namespace with a macsecd in it."""
+
+    def __init__(self, world: "World", number: int) -> None:
+        super().__init__(f"macsecd-{os.getpid()}-{world.folder.name}-{number}", world.folder / str(number))
+        self.world, self.number = world, number
+        self.sci = f"02000000000{number}0001"
+        self.process: Optional[subprocess.Popen] = None
+        self.program = world.programs / "macsecd"
+        self.prefix: List[str] = []
+
+    @property
+    def config(self) -> pathlib.Path:
+        """The path of its configuration."""
+        return self.folder / "conf/macsec0.conf"
+
+    def write_config(self, suite: str = "gcm128", more: str = "", device: str = "device link link0\n") -> None:
+        """Writes a configuration: it sends under its own key, on association 0, and receives under the peer's."""
+        peer, own = 3 - self.number, self.number
+        keys = self.world.keys if suite.endswith("128") else [it * 2 for it in self.world.keys]
+        text = f"""{device}end A {suite} {self.sci} {self.world.max_frame} sci
+A key 0 {keys[own - 1]} 0 0000000{own} {SALT}
+A key 1 {keys[peer - 1]} 0 0000000{own} {SALT}
+A txsa 0 0 1 conf
+A txon 0
+A rxsc 02000000000{peer}0001
+A rxsa 02000000000{peer}0001 0 1 1 0000000{peer}
+A rxon 02000000000{peer}0001 0
+{more}"""
+        self.config.write_text(text)
+        self.config.chmod(0o600)
+
+    def run(self, *words: str) -> subprocess.CompletedProcess:
+        """Runs macsecd until it ends."""
+        command = ["ip", "netns", "exec", self.namespace, str(self.program), *words]
+        return subprocess.run(command, stdin=subprocess.DEVNULL, capture_output=True, text=True, timeout=30,
+                              env=self.environment)
+
+    def create_journal(self) -> None:
+        """Creates its journal."""
+        ended = self.run("--create-journal", "macsec0")
+        if ended.returncode:
+            raise Failed(f"--create-journal: {ended.stderr}")
+
+    def start(self, wait: bool = True) -> None:
+        """Starts macsecd, and gives its TAP addresses once it answers."""
+        log = open(self.folder / "log", "ab")
+        command = ["ip", "netns", "exec", self.namespace, *self.prefix, str(self.program), "macsec0"]
+        self.process = subprocess.Popen(command, stdin=subprocess.DEVNULL, stdout=log, stderr=log, env=self.environment)
+        log.close()
+        if not wait:
+            return
+        if not until(self.answers, 20):
+            raise Failed(f"macsecd does not answer: {self.log()}")
+        self.ip("addr", "replace", f"10.9.0.{self.number}/24", "dev", "macsec0")
+        self.ip("addr", "replace", f"fd09::{self.number}/64", "dev", "macsec0", "nodad")
+        self.ip("link", "set", "macsec0", "up")
+        peer = self.world.ends[2 - self.number]
+        self.ip("neigh", "replace", f"10.9.0.{peer.number}", "lladdr", peer.address(), "dev", "macsec0")
+
+    def address(self) -> str:
+        """LINK's address."""
+        return self.ip("-br", "link", "show", "link0").split()[2]
+
+    def answers(self) -> bool:
+        """Does macsecd answer? It is an error if it has ended."""
+        if self.process is not None and self.process.poll() is not None:
+            raise Failed(f"macsecd ended with {self.process.poll()}: {self.log()}")
+        with contextlib.suppress(OSError):
+            return self.ask("numbers") is not None
+        return False
+
+    def log(self) -> str:
+        """What it said."""
+        return (self.folder / "log").read_text(errors="replace")
+
+    def carry_out(self, *lines: str) -> None:
+        """Carries out lines, each of which has to be done."""
+        for line in lines:
+            answer = self.ask(line)
+            if not answer.startswith("ok"):
+                raise Failed(f"{line}: {answer}")
+
+    def ended(self, seconds: float = 15.0) -> Optional[int]:
+        """The exit status of macsecd, or None if it does not end."""
+        assert self.process is not None
+        with contextlib.suppress(subprocess.TimeoutExpired):
+            return self.process.wait(seconds)
+        return None
+
+    def stop(self, number: int = signal.SIGTERM) -> Optional[int]:
+        """Ends macsecd by a signal. Returns its exit status, or None if it had to be killed."""
+        if self.process is None:
+            return None
+        self.process.send_signal(number)
+        status = self.ended(10)
+        if status is None:
+            self.process.kill()
+            self.process.wait()
+        self.process = None
+        return status
+
+
+def expect(end: End, what: str, status: int, text: str) -> None:
+    """macsecd must end at its start with this status and say this."""
+    try:
+        ended = end.run("macsec0")
+    except subprocess.TimeoutExpired:
+        report(False, f"{what}: macsecd runs")
+        return
+    holds = ended.returncode == status and text in ended.stderr
+    report(holds, f"{what}: {ended.returncode}, {ended.stderr.strip()!r}, and not {status}, {text!r}")
+
+
+class World:
+    """Two namespaces, joined by a virtual Ethernet link whose ends are named link0."""
+
+    def __init__(self, folder: pathlib.Path, programs: pathlib.Path, mtu: int = 1500) -> None:
+        self.folder, self.programs, self.mtu = folder, programs, mtu
+        self.max_frame = min(mtu + 14, 9248)
+        self.keys = [secrets.token_hex(16), secrets.token_hex(16)]
+        self.ends = [End(self, 1), End(self, 2)]
+
+    def __enter__(self) -> "World":
+        for end in self.ends:
+            call("ip", "netns", "add", end.namespace)
+            settings = ["net.ipv6.conf.default.disable_ipv6=0", "net.ipv6.conf.all.accept_dad=0"]
+            call("ip", "netns", "exec", end.namespace, "sysctl", "-qw", *settings)
+            end.ip("link", "set", "lo", "up")
+        self.join("link0")
+        return self
+
+    def join(self, name: str) -> None:
+        """Joins the two by a link."""
+        a, b = (end.namespace for end in self.ends)
+        call("ip", "link", "add", name, "netns", a, "type", "veth", "peer", "name", name, "netns", b)
+        for end in self.ends:
+            quiet = f"net.ipv6.conf.{name}.disable_ipv6=1"
+            call("ip", "netns", "exec", end.namespace, "sysctl", "-qw", quiet)
+            end.ip("link", "set", name, "mtu", str(self.mtu), "up")
+
+    def prepare(self, suite: str = "gcm128", more: str = "") -> None:
+        """Writes configurations and journals."""
+        for end in self.ends:
+            end.write_config(suite, more)
+            end.create_journal()
+
+    def start(self, suite: str = "gcm128") -> None:
+        """Writes configurations and journals, and starts both ends."""
+        self.prepare(suite)
+        for end in self.ends:
+            end.start()
+
+    def __exit__(self, *_: object) -> None:
+        for end in self.ends:
+            if end.process is not None:
+                end.stop(signal.SIGKILL)
+        for end in self.ends:
+            subprocess.run(["ip", "netns", "del", end.namespace], capture_output=True)
+
+
+# ---- Traffic of the clients
+
+
+def checksum(octets: bytes) -> int:
+    """The Internet checksum."""
+    total = sum(struct.unpack(f"!{len(octets) // 2}H", octets[: len(octets) // 2 * 2]))
+    total += octets[-1] << 8 if len(octets) % 2 else 0
+    total = (total & 0xFFFF) + (total >> 16)
+    return ~((total & 0xFFFF) + (total >> 16)) & 0xFFFF
+
+
+def ping(end: End, count: int = 3, size: int = 56, seconds: float = 5.0, version: int = 4) -> int:
+    """Sends echo requests that may not be fragmented, each after the reply to the last one. Returns the replies."""
+    family, protocol = (socket.AF_INET, 1) if version == 4 else (socket.AF_INET6, 58)
+    target = f"10.9.0.{3 - end.number}" if version == 4 else f"fd09::{3 - end.number}"
+    with inside(end.namespace):
+        it = socket.socket(family, socket.SOCK_RAW, protocol)
+    if version == 4:
+        it.setsockopt(socket.IPPROTO_IP, 10, 2)  # IP_MTU_DISCOVER: IP_PMTUDISC_DO
+    replies, name = 0, secrets.randbelow(65536)
+    for sequence in range(count):
+        octets = struct.pack("!BBHHH", 8 if version == 4 else 128, 0, 0, name, sequence) + bytes(size)
+        if version == 4:
+            octets = octets[:2] + struct.pack("!H", checksum(octets)) + octets[4:]
+        with contextlib.suppress(OSError):
+            it.sendto(octets, (target, 0))
+            replies += is_answered(it, version, name, sequence, seconds)
+    it.close()
+    return replies
+
+
+def is_answered(it: socket.socket, version: int, name: int, sequence: int, seconds: float) -> bool:
+    """Waits for the reply to an echo request."""
+    end = time.monotonic() + seconds
+    while time.monotonic() < end:
+        it.settimeout(max(0.001, end - time.monotonic()))
+        got = it.recv(65536)
+        got = got[20:] if version == 4 else got
+        if got[0] == (0 if version == 4 else 129) and struct.unpack("!HH", got[4:8]) == (name, sequence):
+            return True
+    return False
+
+
+class Stream:
+    """Numbered datagrams from one client to the other, in a thread, until it is stopped."""
+
+    def __init__(self, end: End, interval: float, size: int = 64, port: int = 9009) -> None:
+        peer = end.world.ends[2 - end.number]
+        with inside(peer.namespace):
+            self.receiver = socket.socket(socket.AF_INET, socket.SOCK_DGRAM)
+            self.receiver.setsockopt(socket.SOL_SOCKET, 33, 64 << 20)  # SO_RCVBUFFORCE
+            self.receiver.bind(("0.0.0.0", port))
+        with inside(end.namespace):
+            self.sender = socket.socket(socket.AF_INET, socket.SOCK_DGRAM)
+        self.target, self.interval, self.size = (f"10.9.0.{peer.number}", port), interval, size
+        self.sent, self.received, self.goes_on = 0, 0, True
+        self.arrived: "Set[bytes]" = set()
+        self.threads = [threading.Thread(target=each) for each in (self.send, self.receive)]
+        for thread in self.threads:
+            thread.start()
+
+    def send(self) -> None:
+        """Sends until it is stopped. What the system refuses is not counted as sent."""
+        while self.goes_on:
+            with contextlib.suppress(OSError):
+                self.sender.sendto(struct.pack("!Q", self.sent) + bytes(self.size), self.target)
+                self.sent += 1
+            if self.interval:
+                time.sleep(self.interval)
+
+    def receive(self) -> None:
+        """Receives until it is stopped and none has arrived for half a second."""
+        self.receiver.settimeout(0.5)
+        while True:
+            try:
+                self.arrived.add(self.receiver.recv(65536)[:8])
+                self.received += 1
+            except socket.timeout:
+                if not self.threads[0].is_alive():
+                    return
+
+    def stop(self) -> "Tuple[int, int]":
+        """Stops it. Returns how many datagrams were sent, and how many different ones arrived."""
+        self.goes_on = False
+        for thread in self.threads:
+            thread.join()
+        self.receiver.close()
+        self.sender.close()
+        return self.sent, len(self.arrived)
+
+
+def tcp_pair(end: End) -> "Tuple[socket.socket, socket.socket]":
+    """A TCP connection from one client to the other: the socket that sends, and the one that receives."""
+    peer = end.world.ends[2 - end.number]
+    with inside(peer.namespace):
+        listener = socket.create_server(("0.0.0.0", 9010))
+    with inside(end.namespace):
+        sender = socket.socket(socket.AF_INET, socket.SOCK_STREAM)
+    listener.settimeout(20)
+    sender.settimeout(20)
+    sender.connect((f"10.9.0.{peer.number}", 9010))
+    receiver, _ = listener.accept()
+    receiver.settimeout(20)
+    listener.close()
+    return sender, receiver
+
+
+def transfer(sender: socket.socket, receiver: socket.socket, octets: int) -> float:
+    """Sends so many octets over a connection, and ends it. Returns the seconds that it took."""
+    block = bytes(1 << 16)
+    began = time.monotonic()
+
+    def send() -> None:
+        for _ in range(octets // len(block)):
+            sender.sendall(block)
+        sender.shutdown(socket.SHUT_WR)
+
+    thread = threading.Thread(target=send)
+    thread.start()
+    got = 0
+    while True:
+        part = receiver.recv(1 << 18)
+        if not part:
+            break
+        got += len(part)
+    thread.join()
+    for each in (sender, receiver):
+        each.close()
+    if got != octets // len(block) * len(block):
+        raise Failed(f"TCP: {got} octets arrived of {octets}")
+    return time.monotonic() - began
+
+
+def tcp(end: End, octets: int) -> float:
+    """Sends so many octets by TCP. Returns the seconds that it took."""
+    return transfer(*tcp_pair(end), octets)

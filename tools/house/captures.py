@@ -1,0 +1,25 @@
+"""Capture files, by the package in python/."""
+
+import sys
+from typing import List
+
+from house import ROOT
+
+sys.path.insert(0, str(ROOT / "python"))
+from macsec.capture import Packet, pcap_header, pcap_record, read, write_pcap
+from macsec.errors import CaptureError
+
+sys.path.pop(0)
+
+__all__ = ["Packet", "frames_so_far", "pcap_header", "pcap_record", "read", "write_pcap"]
+
+
+def frames_so_far(path: object) -> List[bytes]:
+    """The whole frames of a capture file that may end in a record."""
+    frames: List[bytes] = []
+    try:
+        for packet in read(str(path)):
+            frames.append(packet.frame)
+    except CaptureError:
+        pass
+    return frames

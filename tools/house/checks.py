@@ -1,0 +1,152 @@
+"""The table of checks: what `make test`, the gate and a person run. tools/check runs them and writes the pages' list."""
+
+from typing import List, NamedTuple, Optional
+
+# What a check needs, in the order in which the gate makes it: nothing but sources; the compiler of `rt`, or its log;
+# the program, also as Rattle's own compiler builds it; the libraries for C; and all of these.
+NOTHING, TOOLCHAIN, LOG = "nothing", "rt", "the log of rt ci"
+PROGRAM, PROGRAMS, LIBRARY, ROOT_USER, ALL = "program", "both programs", "library", "library, root", "all of these"
+GUEST = "root, qemu, Debian"
+
+# A check that takes less than this many seconds is made before the proofs, and not beside them.
+QUICK = 10
+
+PROOFS = "proofs"
+
+
+class Check(NamedTuple):
+    """A check. `test`, `gate` and `hand` are the arguments with which `make test`, the gate and a person run its
+    command; None where they do not run it. `seconds` is what it takes in the gate, or else in `make test` or for a
+    person. `control` is the wrong thing that it is shown; None where it is shown none. `counted` is the form of the
+    line that it prints for each test of its own that passes."""
+
+    name: str
+    does: str
+    command: str
+    needs: str
+    seconds: int
+    control: Optional[str]
+    test: Optional[str] = None
+    gate: Optional[str] = None
+    hand: Optional[str] = None
+    counted: Optional[str] = None
+
+    def arguments(self, when: str) -> Optional[str]:
+        """The arguments with which it is run then."""
+        return {"test": self.test, "gate": self.gate, "hand": self.hand}[when]
+
+
+BUILT = "--program {program}"
+BOTH = "--program {program} --program {rattle}"
+
+CHECKS: List[Check] = [
+    Check("needed", "finds the commands that the gate runs", "tools/needed", NOTHING, 1,
+          "a PATH without a command", test="", gate=""),
+    Check("edits", "checks that each must-fail edit still applies, and that docs/MISTAKES.md is made of them", "tools/edits",
+          NOTHING, 1, "an edit that cannot be applied, one that is deleted", test="", gate=""),
+    Check("allocators", "compares the lists of calls that allocate with the sources", "tests/program/failures calls",
+          NOTHING, 1, "a call and a type that no list has", test="", gate=""),
+    Check("c-header", "compares the header for C with the crates", "tests/library/c-header", NOTHING, 1,
+          "headers with other constants, structs, calls and names", test="", gate=""),
+    Check("version", "finds a file that has another version", "tools/version", NOTHING, 1, "another version",
+          test="", gate=""),
+    Check("pictures", "finds a drawing that its source does not make", "tools/pictures --check", NOTHING, 5,
+          "another drawing", test="", gate=""),
+    Check("reference", "finds a page of docs/reference that the sources do not make", "tools/reference --check",
+          NOTHING, 2, "another page", test="", gate=""),
+    Check("table", "compares the list of checks in docs/MAINTAINING.md with this table", "tools/check --table --check",
+          NOTHING, 1, "another list", test="", gate=""),
+    Check("moves", "tries all lists of three moves over the rules in Python", "python3 fuzz/moves.py", NOTHING, 20,
+          "wrong rules, each of which a list of moves has to show", test="", gate=""),
+    Check("kept-frames", "sees that callers which keep a frame over the next call are refused",
+          "tools/refused kept-frames", TOOLCHAIN, 120, None, gate=""),
+    Check("lanes-used", "sees that the cipher is built of its lanes, powers and pieces", "tools/refused lanes-used",
+          TOOLCHAIN, 80, None, gate=""),
+    Check(PROOFS, "proves every crate and runs its tests, must-fail edits and programs", "rt ci", TOOLCHAIN, 2600,
+          "the must-fail edits", gate=""),
+    Check("edits-refused", "reads in the log of the proofs that each edit was tried and refused",
+          "tools/edits --after build/ci.log", LOG, 1, "a log without edits", gate=""),
+    Check("stored-runs", "compares the answers to stored runs and example scripts with stored ones", "tests/program/stored-runs", PROGRAM, 5,
+          "a program with other answers, a run that is deleted", test=BUILT, gate=BOTH,
+          counted="^  .*: as stored$"),
+    Check("altered-frames", "flips each bit of frames on the link", "tests/program/altered-frames", PROGRAM, 5,
+          "a program with other verdicts", test=BUILT, gate=BOTH),
+    Check("conformance", "runs the table of docs/CONFORMANCE.md and the test vectors", "conformance/conformance",
+          PROGRAM, 10, "the check conformance-controls", test=BUILT, gate="--json build/conformance.json"),
+    Check("conformance-controls", "alters the table's evidence, which the table must report",
+          "conformance/conformance --controls", PROGRAM, 10, "it is made of them", gate=""),
+    Check("planted", "plants mistakes in the rules in Python, which the inputs have to show", "python3 fuzz/planted.py",
+          PROGRAM, 25, "it is made of them", gate="--seed {seed}"),
+    Check("fuzz", "gives mutated inputs to the program as both compilers build it", "python3 fuzz/fuzz.py", PROGRAMS,
+          20, "programs with other answers, too few inputs", test="--inputs 300 --seed {seed} {program}",
+          gate="--inputs 2000 --seed {seed} {program} {rattle}", hand="--inputs {inputs} --seed {seed}"),
+    Check("failures", "makes files and streams fail, and refuses memory", "tests/program/failures memory streams",
+          PROGRAMS, 15, "programs that do not fail, or otherwise; other lists", gate="", hand="calls"),
+    Check("c-programs", "builds and runs the programs over the library for C, and makes random calls",
+          "tests/library/c-programs", LIBRARY, 50, "other texts, programs that are missing, calls with other answers",
+          test="--library {library} --calls 600 --seed {seed}",
+          gate="--calls 6000 --seed {seed} --x86-64-v3 build/glibc-hwcaps/x86-64-v3/libmacsec.a",
+          hand="--calls {inputs} --seed {seed}"),
+    Check("pages", "runs the examples of the pages, and checks their links", "tools/pages", LIBRARY, 10,
+          "another output, links that lead nowhere", test=f"{BUILT} --library {{shared}}", gate=""),
+    Check("packages", "makes the packages and tries them", "tools/dist --check", LIBRARY, 30,
+          "a build that was not proved of these sources", test="--unproved", gate=""),
+    Check("journal", "kills, stops and fails a program with a journal, and reads what it sent", "device/tests/journal",
+          LIBRARY, 35, "a journal with mistakes", test="--short --library {library} --seed {seed}",
+          gate="--short --seed {seed}", hand="--seed {seed}"),
+    Check("python", "tests the Python package and its examples, and makes random calls", "python/tests/run", LIBRARY,
+          25, "a package with mistakes, another text",
+          test="--library {shared} --program {program} --seed {seed}", gate="--seed {seed}"),
+    Check("device", "compiles the device", "make --no-print-directory device", LIBRARY, 10, None, gate=""),
+    Check("macsecd", "runs the device in network namespaces", "device/tests/macsecd", ROOT_USER, 40,
+          "the check macsecd-controls", gate="--short --seed {seed}", hand="--seed {seed}"),
+    Check("controls", "sees that the checks report something wrong", "tests/program/controls", ALL, 60,
+          "it is made of them", gate=""),
+    Check("any-order", "sees that rt ci accepts what make run leaves", "tests/any-order", ALL, 60, None, gate=""),
+    Check("macsecd-controls", "plants mistakes in the device", "device/tests/macsecd --short --controls", ROOT_USER, 600,
+          "it is made of them", hand=""),
+    Check("peer", "compares frames with Scapy's and with what tshark reads", "tests/program/peer", PROGRAM, 60, None,
+          hand=""),
+    Check("against", "measures the program beside OpenSSL", "tests/program/against", PROGRAM, 120, None, hand=""),
+    Check("c-cost", "counts the instructions of a frame through the library", "tests/program/c-cost", LIBRARY, 60, None,
+          hand=""),
+    Check("device-kernel", "runs the device against a Linux kernel in a virtual machine", "device/tests/device-kernel",
+          GUEST, 900, None, hand=""),
+    Check("kernel-captures", "opens captures of a Linux kernel in a virtual machine", "python/tests/kernel-captures",
+          GUEST, 300, None, hand=""),
+    Check("mka", "runs wpa_supplicant over the device", "integrations/wpa_supplicant/tests/mka", GUEST, 600,
+          "ends with mistakes (--controls)", hand=""),
+]
+
+NAMED = {it.name: it for it in CHECKS}
+
+
+def of_gate(*needs: str) -> List[Check]:
+    """The checks of the gate that need one of these, and nothing more."""
+    return [it for it in CHECKS if it.gate is not None and it.needs in needs]
+
+
+def listed() -> str:
+    """The table for a terminal, and after it the checks without a control."""
+    lines = []
+    for it in CHECKS:
+        when = [name for name, arguments in (("test", it.test), ("gate", it.gate), ("manually", it.hand))
+                if arguments is not None]
+        lines.append(f"{it.name:21} {', '.join(when):20} {it.seconds:5} s  {it.needs:20} {it.does}")
+    without = [it.name for it in CHECKS if it.control is None]
+    return "\n".join([*lines, "", f"No control: {', '.join(without)}"]) + "\n"
+
+
+def markdown() -> str:
+    """The table for docs/MAINTAINING.md."""
+    lines = ["| check | does | needs | `make test` | gate | is shown |", "|---|---|---|---|---|---|"]
+    for it in CHECKS:
+        marks = ["yes" if it.test is not None else "", f"{it.seconds} s" if it.gate is not None else ""]
+        lines.append(f"| `{it.name}` | {it.does} | {it.needs} | {' | '.join(marks)} | {it.control or '**nothing**'} |")
+    return "\n".join(lines) + "\n"
+
+
+def targets() -> str:
+    """The lines of `make help` for the checks that are targets of their own."""
+    hidden = (PROOFS, "edits-refused", "device", "pictures", "reference")
+    return "".join(f"make {it.name:20} {it.does}\n" for it in CHECKS if it.name not in hidden)

@@ -1,0 +1,34 @@
+"""How the tests compile programs in C, and count their instructions."""
+
+import pathlib
+import re
+import subprocess
+import sys
+from typing import Dict, List, Optional
+
+from house import ROOT
+
+WARNINGS = ["-std=c11", "-Wall", "-Wextra", "-Werror"]
+INCLUDED = ["-I", f"{ROOT}/include"]
+SANITIZED = ["-g", "-fsanitize=address,undefined", "-fno-sanitize-recover=all"]
+
+
+def device_sources(folder: pathlib.Path = ROOT / "device") -> List[str]:
+    """The sources of macsecd."""
+    return [str(it) for it in sorted(folder.glob("*.c")) if it.name != "macsecctl.c"]
+
+
+def run(words: List[str], environment: Optional[Dict[str, str]] = None) -> str:
+    """Runs a program that must succeed. Returns its standard error."""
+    ended = subprocess.run(words, env=environment, capture_output=True, text=True)
+    if ended.returncode or ": false" in ended.stdout:
+        sys.exit(f"{' '.join(words)} ended with status {ended.returncode}: {ended.stderr[-300:]}")
+    return ended.stderr
+
+
+def instructions(folder: str, words: List[str], environment: Optional[Dict[str, str]] = None) -> int:
+    """The instructions of a run, which callgrind counts."""
+    told = run(["valgrind", "--tool=callgrind", f"--callgrind-out-file={folder}/callgrind", *words], environment)
+    found = re.search(r"Collected : (\d+)", told)
+    assert found, told
+    return int(found[1])

@@ -1,0 +1,131 @@
+"""The crates of crates.txt, their files, and the kit of the command `rt`: what the tools that build the project share."""
+
+import functools
+import hashlib
+import os
+import re
+import shutil
+import subprocess
+import sys
+
+from house import ROOT
+
+BUILD = f"{ROOT}/build"
+
+# The kit that the command `rt` belongs to: the prover, its logic, compilers, linker and libraries.
+RT = shutil.which("rt") or sys.exit("rt, the command of the Rattle toolchain, is not on the PATH")
+KIT = os.path.dirname(os.path.dirname(os.path.realpath(RT)))
+
+# The parts in C of the kit's library, with which each program is linked.
+KIT_IN_C = [f"{KIT}/c/libos_c.a", f"{KIT}/c/liblibc_c.a"]
+
+TARGET = "x86_64-unknown-linux-gnu"
+
+
+def listed() -> "dict[str, list[str]]":
+    """Each crate of crates.txt, with the libraries that it is listed with."""
+    with open(f"{ROOT}/crates.txt", encoding="utf-8") as it:
+        lines = [line.split(":") for line in it if line.strip() and not line.startswith("#")]
+    return {name.split()[0]: libraries.split() for name, libraries in lines}
+
+
+CRATES = listed()
+
+
+def own(name: str) -> "list[str]":
+    """The crates of the project that one is listed with."""
+    return [each for each in CRATES[name] if each in CRATES]
+
+
+def of_kit(name: str) -> "list[str]":
+    """The libraries of the kit that a crate uses."""
+    return ["std", *(each for each in CRATES[name] if each not in CRATES)]
+
+
+@functools.cache
+def below(name: str) -> "tuple[str, ...]":
+    """The crates of the project below one, each after those that it depends on."""
+    found: "dict[str, None]" = {}
+    for each in own(name):
+        found |= {**dict.fromkeys(below(each)), each: None}
+    return tuple(found)
+
+
+def files(name: str, parts: "tuple[str, ...]" = ("src", "specs", "proofs")) -> "list[str]":
+    """The files of these folders of a crate."""
+    folders = [f"{ROOT}/crates/{name}/{part}" for part in parts]
+    return sorted(f"{folder}/{it}" for top in folders for folder, _, names in os.walk(top) for it in names)
+
+
+def root_file(name: str) -> str:
+    """The root file of a crate, in the crate's folder."""
+    return "src/main.rt" if os.path.isfile(f"{ROOT}/crates/{name}/src/main.rt") else "src/lib.rt"
+
+
+def has_tests(name: str) -> bool:
+    """Has the crate a `#[test]` function?"""
+    for path in files(name, ("src",)):
+        with open(path, encoding="utf-8") as it:
+            if re.search(r"^\s*#\[test\]", it.read(), re.M):
+                return True
+    return False
+
+
+def kit_id() -> str:
+    """What identifies the kit: its version and logic, not where it is installed."""
+    with open(f"{KIT}/KIT-ID", encoding="utf-8") as it:
+        return it.read()
+
+
+@functools.cache
+def sum_of(name: str) -> str:
+    """A hash of everything that a library is made from, the same in every folder: the kit, and the files of the crate
+    and of those below it."""
+    made = hashlib.sha256(repr([kit_id(), CRATES[name], *map(sum_of, own(name))]).encode())
+    for path in files(name):
+        with open(path, "rb") as it:
+            made.update(repr((os.path.relpath(path, ROOT), it.read())).encode())
+    return made.hexdigest()
+
+
+def hash_of(path: str) -> str:
+    """The SHA-256 of a file."""
+    with open(path, "rb") as it:
+        return hashlib.sha256(it.read()).hexdigest()
+
+
+def record(path: str, crate: str, run: str) -> str:
+    """What tools/prove writes beside a program or a library when it is built: which run proved its crates, its own
+    hash, and those of what its crates are made from."""
+    lines = [run, f"{hash_of(path)} {os.path.basename(path)}"]
+    return "\n".join([*lines, *(f"{sum_of(it)} {it}" for it in (*below(crate), crate))]) + "\n"
+
+
+def record_file(path: str) -> str:
+    """Where that is."""
+    return f"{path}.proved"
+
+
+def proved_by(path: str, crate: str) -> "str | None":
+    """The run that proved the crates of a program or a library; None if it is not there as it was built of the files
+    that are here."""
+    if not os.path.isfile(path) or not os.path.isfile(record_file(path)):
+        return None
+    with open(record_file(path), encoding="utf-8") as it:
+        text = it.read()
+    run = text.partition("\n")[0]
+    return run if text == record(path, crate, run) else None
+
+
+def libraries_folder() -> str:
+    """Where built libraries of this checkout are kept. `rt ci` refuses their sources anywhere in the checkout but below
+    the git directory, which it does not read; without a git directory they are in the user's cache."""
+    try:
+        asked = ["git", "-C", ROOT, "rev-parse", "--absolute-git-dir", "--show-toplevel"]
+        told = subprocess.run(asked, capture_output=True, text=True, check=True).stdout.splitlines()
+        if len(told) == 2 and os.path.samefile(told[1], ROOT):
+            return f"{told[0]}/macsec-built"
+    except (OSError, subprocess.CalledProcessError):
+        pass
+    cache = os.environ.get("XDG_CACHE_HOME") or os.path.expanduser("~/.cache")
+    return f"{cache}/macsec-built{ROOT}"

@@ -1,0 +1,170 @@
+"""Running commands side by side, and stopping them with all that they started."""
+
+import os
+import pathlib
+import re
+import shlex
+import signal
+import subprocess
+import sys
+import time
+from typing import Dict, Iterable, List, NamedTuple, Optional, Set, Tuple
+
+from house import ROOT
+
+# How long a stopped command has to end before it is killed.
+GRACE = 5.0
+# What a command prints if it leaves something out.
+LEFT_OUT = re.compile(r"nothing is tested|not tried|cannot be tried|not checked|commands skipped|skipped=|not installed")
+COUNTS = re.compile(r"(\d+) passed, (\d+) failed")
+
+
+class Job(NamedTuple):
+    """A command and its name. `shown` is for one whose lines appear as it prints them, `counted` the form of a line that
+    it prints for each test that passed, `then` a job that begins when this one has passed."""
+
+    name: str
+    words: List[str]
+    shown: bool = False
+    counted: Optional[str] = None
+    log: Optional[pathlib.Path] = None
+    then: "Optional[Job]" = None
+
+
+def processes() -> Dict[int, Tuple[int, int]]:
+    """Each process with its parent and its session."""
+    found = {}
+    for path in pathlib.Path("/proc").glob("[0-9]*/stat"):
+        try:
+            fields = path.read_text(errors="replace").rpartition(")")[2].split()
+        except OSError:
+            continue
+        found[int(path.parent.name)] = int(fields[1]), int(fields[3])
+    return found
+
+
+def started_by(leaders: Iterable[int]) -> Set[int]:
+    """The processes of the sessions of these, and all that those have started."""
+    known = processes()
+    found = set(leaders) & known.keys() | {it for it, (_, session) in known.items() if session in set(leaders)}
+    while more := {it for it, (parent, _) in known.items() if parent in found} - found:
+        found |= more
+    return found
+
+
+def signalled(numbers: Iterable[int], number: int) -> None:
+    """Sends a signal to processes that may have ended."""
+    for it in numbers:
+        try:
+            os.kill(it, number)
+        except OSError:
+            pass
+
+
+class Running:
+    """A job that has begun, in a session of its own."""
+
+    def __init__(self, job: Job, logs: pathlib.Path) -> None:
+        self.job, self.began = job, time.monotonic()
+        self.log = job.log or logs / f"{job.name}.log"
+        if job.shown:
+            words = ["bash", "-c", f"set -o pipefail; {shlex.join(job.words)} 2>&1 | tee {shlex.quote(str(self.log))}"]
+            out = None
+        else:
+            words, out = job.words, open(self.log, "wb")
+        self.process = subprocess.Popen(words, stdin=subprocess.DEVNULL, stdout=out, stderr=out and subprocess.STDOUT,
+                                        cwd=ROOT, start_new_session=True)
+        if out:
+            out.close()
+
+    def ended(self) -> bool:
+        """Has it ended?"""
+        return self.process.poll() is not None
+
+    def seconds(self) -> str:
+        """How long it has run."""
+        return f"{time.monotonic() - self.began:.0f} s"
+
+    def text(self) -> str:
+        """What it has printed."""
+        return self.log.read_text(errors="replace") if self.log.exists() else ""
+
+
+class Runner:
+    """Runs jobs, prints a line for each, and counts what passed. With `stops` a job that fails stops the others."""
+
+    def __init__(self, logs: pathlib.Path, stops: bool) -> None:
+        self.logs, self.stops, self.passed, self.lost = logs, stops, 0, 0
+        self.failed: List[str] = []
+        logs.mkdir(parents=True, exist_ok=True)
+
+    def say(self, line: str) -> None:
+        """Prints a line at once."""
+        print(line, flush=True)
+
+    def go(self, jobs: Iterable[Job], at_a_time: int = 64) -> bool:
+        """Runs jobs, at most so many at a time. Returns whether all have passed."""
+        waiting, running, good = list(jobs), [], True
+        try:
+            while waiting or running:
+                while waiting and len(running) < at_a_time:
+                    running.append(Running(waiting.pop(0), self.logs))
+                for each in [it for it in running if it.ended()]:
+                    running.remove(each)
+                    passed = self.note(each)
+                    good &= passed
+                    if passed and each.job.then:
+                        waiting.append(each.job.then)
+                if not good and self.stops:
+                    break
+                time.sleep(0.05)
+        finally:
+            self.stop(running)
+        return good
+
+    def note(self, ended: Running) -> bool:
+        """Prints and counts how a job ended. Returns whether it passed."""
+        job, text = ended.job, ended.text()
+        counts = COUNTS.fullmatch(text.rstrip().rpartition("\n")[2]) if job.shown else None
+        units = len(re.findall(job.counted, text, re.M)) if job.counted else int(counts[1]) if counts else 1
+        good = ended.process.returncode == 0 and units > 0
+        self.passed += units if good or job.counted or counts else 0
+        if good:
+            left_out = next((it.strip() for it in text.splitlines() if LEFT_OUT.search(it)), "")
+            self.say(f"{job.name}: {ended.seconds()}" + (f": {left_out[:160]}" if left_out and not job.shown else ""))
+            return True
+        self.failed.append(job.name)
+        self.lost += max(1, int(counts[2])) if counts else 1
+        if not job.shown:
+            self.say("\n".join(f"  {it}" for it in text.splitlines()[-40:]))
+        self.say(f"{job.name} FAILED ({ended.seconds()}), {os.path.relpath(ended.log, ROOT)}")
+        return False
+
+    def stop(self, running: List[Running]) -> None:
+        """Stops jobs, and all that they have started."""
+        if not running:
+            return
+        leaders = [it.process.pid for it in running]
+        number, began = signal.SIGTERM, time.monotonic()
+        while (left := started_by(leaders)) and time.monotonic() < began + 2 * GRACE:
+            signalled(left, number)
+            for it in running:
+                it.process.poll()
+            time.sleep(0.2)
+            number = signal.SIGTERM if time.monotonic() < began + GRACE else signal.SIGKILL
+        for each in running:
+            each.process.poll()
+            self.say(f"{each.job.name}: stopped ({each.seconds()})")
+
+    def end(self) -> int:
+        """Prints what failed and how many passed. Returns the status."""
+        if self.failed:
+            self.say(f"FAILED: {', '.join(self.failed)}")
+        self.say(f"{self.passed} passed, {self.lost} failed")
+        return 1 if self.failed or not self.passed else 0
+
+
+def end_by_signals() -> None:
+    """Lets a signal that ends this program raise SystemExit, so that what it has started is stopped."""
+    for it in (signal.SIGHUP, signal.SIGINT, signal.SIGTERM):
+        signal.signal(it, lambda number, _: sys.exit(128 + number))

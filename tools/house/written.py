@@ -1,0 +1,30 @@
+"""Files that a tool writes from the sources, or compares with those that are there."""
+
+import pathlib
+import sys
+from typing import Callable, Dict, List
+
+from house import ROOT
+
+
+def write_or_check(tool: str, arguments: List[str], folder: pathlib.Path, make: Callable[[], Dict[str, str]],
+                   is_own: bool = False) -> int:
+    """Writes the files into the folder. With --check it names each that is stale or missing, and if the folder has no
+    other files, each that is not made. Returns the status."""
+    if arguments not in ([], ["--check"]):
+        print(f"usage: {tool} [--check]", file=sys.stderr)
+        return 2
+    made, where = make(), folder.relative_to(ROOT)
+    if not arguments:
+        folder.mkdir(parents=True, exist_ok=True)
+        for name, text in made.items():
+            (folder / name).write_text(text, encoding="utf-8")
+        return 0
+    wrong = [f"{where}/{name} is missing" for name in made if not (folder / name).is_file()]
+    wrong += [f"{where}/{name} is stale" for name, text in made.items()
+              if (folder / name).is_file() and (folder / name).read_text(encoding="utf-8") != text]
+    if is_own:
+        wrong += [f"{where}/{it.name} is of nothing" for it in sorted(folder.glob("*")) if it.name not in made]
+    for each in wrong:
+        print(f"{each}: run {tool}", file=sys.stderr)
+    return 1 if wrong else 0
