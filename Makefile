@@ -37,7 +37,7 @@ DEVICE := build/macsecd$(if $(filter x86-64-v3,$(CPU)),-x86-64-v3)
 DEVICE_SOURCES := $(filter-out device/macsecctl.c,$(wildcard device/*.c))
 
 # The checks that make a program or a library first, and the others.
-OVER_PROGRAM := altered-frames conformance conformance-controls examples peer planted stored-runs
+OVER_PROGRAM := altered-frames conformance conformance-controls peer planted stored-runs
 OVER_LIBRARY := c-programs journal macsecd macsecd-controls pages python
 CHECKS := $(OVER_PROGRAM) $(OVER_LIBRARY) against allocators any-order c-cost c-header controls device-kernel edits \
     failures fuzz kept-frames kernel-captures lanes-used mka moves needed packages table version

@@ -54,7 +54,7 @@ CHECKS: List[Check] = [
           "another drawing", test="", gate=""),
     Check("reference", "finds a page of docs/reference that the sources do not make", "tools/reference --check",
           NOTHING, 2, "another page", test="", gate=""),
-    Check("table", "compares the list of checks in docs/MAINTAINING.md with this table", "tools/check --table --check",
+    Check("table", "compares the checks in docs/MAINTAINING.md and the Makefile with this table", "tools/check --table --check",
           NOTHING, 1, "another list", test="", gate=""),
     Check("moves", "tries all lists of three moves over the rules in Python", "python3 fuzz/moves.py", NOTHING, 20,
           "wrong rules, each of which a list of moves has to show", test="", gate=""),
@@ -146,7 +146,6 @@ def markdown() -> str:
     return "\n".join(lines) + "\n"
 
 
-def targets() -> str:
-    """The lines of `make help` for the checks that are targets of their own."""
-    hidden = (PROOFS, "edits-refused", "device", "pictures", "reference")
-    return "".join(f"make {it.name:20} {it.does}\n" for it in CHECKS if it.name not in hidden)
+def targets() -> List[Check]:
+    """The checks that are targets of the Makefile under their names. Of some names the target does something else."""
+    return [it for it in CHECKS if it.name not in (PROOFS, "edits-refused", "device", "pictures", "reference")]
