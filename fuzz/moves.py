@@ -47,6 +47,7 @@ DELIVER, REPLAY = "B deliver 0; B deliver 1; B deliver 2; A send", "B replay on 
 MODES = "B validate disabled; B validate check; B validate strict"
 # Worlds: the suites of A and B, their tag form, and the promises that are in reach there; what comes first; and the
 # moves, each a line or several. No two client frames of `send` are equal.
+# fmt: off
 WORLDS = (
     ("gcm128 gcm128 sci ivs", BOTH, f"""A send; B send; A txdel 0; A txsa 0 0 1 int, A txon 0; A txon 0, A send;
         A txsa 1 0 2 int, A txon 1; A txsa 1 1 1 int; A txsa 0 0 {LAST} int; A txon 1; A txoff 0; A retire 0;
@@ -90,6 +91,7 @@ WORLDS = (
         B deliver 4; A deliver 3; A txsa 0 0 2 int; A txsa 0 0 100000001 int; A txon 0; alter 3 14 28; B rxdel {A} 1;
         B rxsa {A} 1 1 1 00000002; B rxsa {A} 1 0 1 00000002"""),
 )
+# fmt: on
 
 
 def script_of(ends: str, base: str, moves: typing.Sequence[str]) -> str:

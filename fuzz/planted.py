@@ -23,6 +23,7 @@ import inputs
 import promises
 
 # The mistake, a text that occurs once in the rules, and the text that replaces it.
+# fmt: off
 PLANTED = [
     ("a late frame is one at the lowest acceptable number too", "is_late = pn < sa.lowest",
      "is_late = pn <= sa.lowest"),
@@ -132,9 +133,11 @@ PLANTED = [
     ("a block is skipped without its last four octets", "file[place + 8 : end - 4], end\n",
      "file[place + 8 : end - 4], end - 4 * (kind not in LEAST)\n"),
 ]
+# fmt: on
 
 
 # The promise that is broken, the mistake, and the two texts.
+# fmt: off
 BREAKING = [
     ("ivs", "a transmit association begins below the key's first unused number",
      'refuse("PnFloor", pn < key.first_unused)', "pass"),
@@ -174,6 +177,7 @@ BREAKING = [
     ("acceptance", "padding is taken for data", "size = short or len(rest) - 16\n", "size = len(rest) - 16\n"),
     ("acceptance", "data are delivered as they were received", "frame[:12] + opened, counting", "plain, counting"),
 ]
+# fmt: on
 # How many mistakes there are, so that one that is missing is noticed.
 COUNT = 84
 

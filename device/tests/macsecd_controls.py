@@ -7,6 +7,7 @@ from typing import Dict, List, Tuple
 from house.reporting import Failed
 
 # The name of a check, and its mistakes: a file of device/, a text that is there once, and what is written for it.
+# fmt: off
 CONTROLS: "Dict[str, List[Tuple[str, str, str]]]" = {
     "traffic": [("frames.c", "d->counts.tap_in++;", "d->counts.tap_in += 2;"),
                 ("tap.c", "frame - HEADER - MACSEC_OVERHEAD_MAX;", "frame - HEADER;")],
@@ -64,6 +65,7 @@ CONTROLS: "Dict[str, List[Tuple[str, str, str]]]" = {
               "if (got.delivered && d->counts.link_in % 1000 && deliver(d, &got) == GONE)")],
     "hostile": [("control.c", "static char request[REQUEST + 1]", "static char request[64]")],
 }
+# fmt: on
 
 
 def altered(folder: pathlib.Path, edit: "Tuple[str, str, str]", source: pathlib.Path) -> pathlib.Path:

@@ -39,6 +39,7 @@ class Check(NamedTuple):
 BUILT = "--program {program}"
 BOTH = "--program {program} --program {rattle}"
 
+# fmt: off
 CHECKS: List[Check] = [
     Check("needed", "finds the commands that the gate runs", "tools/needed", NOTHING, 1,
           "a PATH without a command", test="", gate=""),
@@ -54,8 +55,8 @@ CHECKS: List[Check] = [
           "another drawing", test="", gate=""),
     Check("reference", "finds a page of docs/reference that the sources do not make", "tools/reference --check",
           NOTHING, 2, "another page", test="", gate=""),
-    Check("table", "compares the checks in docs/MAINTAINING.md and the Makefile with this table", "tools/check --table --check",
-          NOTHING, 1, "another list", test="", gate=""),
+    Check("table", "compares the checks in docs/MAINTAINING.md and the Makefile with this table",
+          "tools/check --table --check", NOTHING, 1, "another list", test="", gate=""),
     Check("moves", "tries all lists of three moves over the rules in Python", "python3 fuzz/moves.py", NOTHING, 20,
           "wrong rules, each of which a list of moves has to show", test="", gate=""),
     Check("kept-frames", "sees that callers which keep a frame over the next call are refused",
@@ -117,6 +118,7 @@ CHECKS: List[Check] = [
     Check("mka", "runs wpa_supplicant over the device", "integrations/wpa_supplicant/tests/mka", GUEST, 600,
           "ends with mistakes (--controls)", hand=""),
 ]
+# fmt: on
 
 NAMED = {it.name: it for it in CHECKS}
 
