@@ -40,7 +40,7 @@ DEVICE_SOURCES := $(filter-out device/macsecctl.c,$(wildcard device/*.c))
 OVER_PROGRAM := altered-frames conformance conformance-controls peer planted stored-runs
 OVER_LIBRARY := c-programs journal macsecd macsecd-controls pages python
 CHECKS := $(OVER_PROGRAM) $(OVER_LIBRARY) against allocators any-order c-cost c-header controls device-kernel edits \
-    failures fuzz kept-frames kernel-captures lanes-used mka moves needed packages table version
+    failures fuzz kept-frames kernel-captures lanes-used mka moves needed packages style table version
 
 .PHONY: all try test run lib kept device install install-device install-python dist check pictures reference bench \
     toolchain clean help $(CHECKS)

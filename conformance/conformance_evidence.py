@@ -23,7 +23,7 @@ FUNCTION = re.compile(r"^\s*(?:pub(?:\(crate\))? )?fn (\w+)\b")
 CLAUSE = re.compile(r"^\s*ensures\*? (?:(\w+) )?\{")
 
 
-def text_of(path: str) -> "str | None":
+def text_of(path: str) -> str | None:
     """A text file of the project, None if it is not there."""
     if not os.path.isfile(path):
         return None
@@ -32,16 +32,16 @@ def text_of(path: str) -> "str | None":
 
 
 @functools.lru_cache(None)
-def definitions(crate: str, name: str) -> "frozenset[str]":
+def definitions(crate: str, name: str) -> frozenset[str]:
     """The names that a file of definitions defines."""
     text = text_of(f"{ROOT}/crates/{crate}/specs/{name}.antt")
     return frozenset(a or b for a, b in DEFINITION.findall(text or ""))
 
 
 @functools.lru_cache(None)
-def clauses(crate: str, name: str) -> "frozenset[str]":
+def clauses(crate: str, name: str) -> frozenset[str]:
     """The clauses of the functions of a source file: FUNCTION.CLAUSE, or FUNCTION for one without a name."""
-    found: "set[str]" = set()
+    found: set[str] = set()
     function = ""
     for line in (text_of(f"{ROOT}/crates/{crate}/src/{name}.rt") or "").split("\n"):
         begins, clause = FUNCTION.match(line), CLAUSE.match(line)
@@ -54,7 +54,7 @@ def clauses(crate: str, name: str) -> "frozenset[str]":
     return frozenset(found)
 
 
-def test_definition(reference: str) -> "str | None":
+def test_definition(reference: str) -> str | None:
     """CRATE/FILE.NAME: a definition."""
     parts = re.fullmatch(r"(\w+)/(\w+)\.(\w+)", reference)
     if not parts:
@@ -64,7 +64,7 @@ def test_definition(reference: str) -> "str | None":
     return None
 
 
-def test_contract(reference: str) -> "str | None":
+def test_contract(reference: str) -> str | None:
     """CRATE/FILE FUNCTION.CLAUSE, or CRATE/FILE FUNCTION: a clause of a contract."""
     parts = re.fullmatch(r"(\w+)/(\w+) ([\w.]+)", reference)
     if not parts:
@@ -77,17 +77,17 @@ def test_contract(reference: str) -> "str | None":
 class Runs:
     """Runs what rows name, over one program."""
 
-    def __init__(self, program: str, captures: "dict[str, dict[str, str]]", vectors: "dict[str, list[str]]") -> None:
+    def __init__(self, program: str, captures: dict[str, dict[str, str]], vectors: dict[str, list[str]]) -> None:
         """Takes the program, the captures, and what is wrong with each group of vectors."""
         self.program = program
         self.captures = captures
         # The groups of vectors, and what is wrong with each.
         self.vectors = vectors
-        self.known: "dict[str, str | None]" = {}
+        self.known: dict[str, str | None] = {}
         # Expected texts that the controls have replaced.
-        self.replaced: "dict[str, str]" = {}
+        self.replaced: dict[str, str] = {}
 
-    def test(self, reference: str) -> "str | None":
+    def test(self, reference: str) -> str | None:
         """What is wrong with a script, a stored run, a capture, a test or a group of vectors."""
         if reference not in self.known:
             kind, _, name = reference.partition(" ")
@@ -95,13 +95,13 @@ class Runs:
             self.known[reference] = test(name) if test and name else f"{reference} has no kind that is known"
         return self.known[reference]
 
-    def printed(self, words: "list[str]", text: str = "", folder: "str | None" = None) -> "tuple[int, str]":
+    def printed(self, words: list[str], text: str = "", folder: str | None = None) -> tuple[int, str]:
         """The exit status of the program, and what it prints on standard output and standard error."""
         streams = {"capture_output": True, "timeout": SECONDS, "cwd": folder}
         ran = subprocess.run([self.program, *words], input=text.encode(), **streams)
         return ran.returncode, (ran.stdout + ran.stderr).decode(errors="replace")
 
-    def test_script(self, name: str) -> "str | None":
+    def test_script(self, name: str) -> str | None:
         """A script of examples/scripts: what it prints is stored beside it."""
         script, expected = (text_of(f"{SCRIPTS}/{name}.{it}") for it in ("macsec", "txt"))
         if script is None or expected is None:
@@ -113,21 +113,21 @@ class Runs:
         return None
 
     @functools.lru_cache(None)
-    def stored(self) -> "dict[str, str]":
+    def stored(self) -> dict[str, str]:
         """What tests/program/stored-runs says of each stored run."""
         words = [f"{ROOT}/tests/program/stored-runs", "--program", self.program]
         ran = subprocess.run(words, capture_output=True, text=True)
         lines = (re.fullmatch(r"  (?:WRONG: )?([\w-]+): (.*)", it) for it in ran.stdout.split("\n"))
         return {it[1]: it[2] for it in lines if it}
 
-    def test_run(self, name: str) -> "str | None":
+    def test_run(self, name: str) -> str | None:
         """A run of tests/program/runs."""
         if name not in self.stored():
             return f"tests/program/runs has no {name}"
         said = self.stored()[name]
         return None if said == "as stored" else f"run {name}: {said}"
 
-    def test_capture(self, name: str) -> "str | None":
+    def test_capture(self, name: str) -> str | None:
         """A run over a capture of examples/captures: OUT is another of these captures, or the lines are as listed."""
         if name not in self.captures:
             return f"conformance/captures.json has no {name}"
@@ -142,7 +142,7 @@ class Runs:
                 return f"capture {name}: OUT is not {it['out']}"
         return None
 
-    def test_test(self, name: str) -> "str | None":
+    def test_test(self, name: str) -> str | None:
         """CRATE::FUNCTION: a test that the gate runs. Only that it is there is tested here."""
         crate, _, function = name.partition("::")
         for folder, _, files in os.walk(f"{ROOT}/crates/{crate}/src"):
@@ -152,11 +152,11 @@ class Runs:
                     return None
         return f"crates/{crate}/src has no test {function}"
 
-    def test_tool(self, name: str) -> "str | None":
+    def test_tool(self, name: str) -> str | None:
         """A tool that the gate or a reader runs. Only that it is there is tested here."""
         return None if os.access(f"{ROOT}/{name}", os.R_OK) else f"there is no {name}"
 
-    def test_vectors(self, name: str) -> "str | None":
+    def test_vectors(self, name: str) -> str | None:
         """A group of vectors."""
         if name not in self.vectors:
             return f"vectors/macsec-vectors.json has no group {name}"

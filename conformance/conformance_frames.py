@@ -44,10 +44,7 @@ ANNEX_C = {
 AES_BLOCK = "00112233445566778899aabbccddeeff"
 AES = {
     "C.1": ("000102030405060708090a0b0c0d0e0f", "69c4e0d86a7b0430d8cdb78070b4c55a"),
-    "C.3": (
-        "000102030405060708090a0b0c0d0e0f101112131415161718191a1b1c1d1e1f",
-        "8ea2b7ca516745bfeafc49904b496089",
-    ),
+    "C.3": ("000102030405060708090a0b0c0d0e0f101112131415161718191a1b1c1d1e1f", "8ea2b7ca516745bfeafc49904b496089"),
 }
 
 # The GCM specification behind SP 800-38D, appendix B: test cases with IVs of 96 bits and the key lengths used here.
@@ -107,7 +104,7 @@ def receiver(suite: str, **more: Any) -> Vector:
     return {**it, "channels": [one], **more}
 
 
-def endpoint(it: Vector, form: str = "sci", max_frame: int = 9248) -> "expected.Endpoint":
+def endpoint(it: Vector, form: str = "sci", max_frame: int = 9248) -> expected.Endpoint:
     """The endpoint of the rules for an end, with its key."""
     made = expected.Endpoint(SUITES[it["suite"]][0], bytes.fromhex(it["sci"]), max_frame, form)
     extended = [bytes.fromhex(it[name]) for name in ("own_ssci", "salt") if name in it]
@@ -115,7 +112,7 @@ def endpoint(it: Vector, form: str = "sci", max_frame: int = 9248) -> "expected.
     return made
 
 
-def protect(name: str, about: str, it: Vector, clients: "list[str]", links: "list[str] | None" = None) -> Vector:
+def protect(name: str, about: str, it: Vector, clients: list[str], links: list[str] | None = None) -> Vector:
     """A vector of client frames that a sender protects."""
     end = endpoint(it, it["form"], it["max_frame"])
     for number in range(it["receive_channels"]):
@@ -135,7 +132,7 @@ def protect(name: str, about: str, it: Vector, clients: "list[str]", links: "lis
     return {"id": name, "kind": "protect", "about": about, "sender": it, "frames": frames}
 
 
-def receive(name: str, about: str, it: Vector, links: "list[str]") -> Vector:
+def receive(name: str, about: str, it: Vector, links: list[str]) -> Vector:
     """A vector of link frames that a receiver gets one after another."""
     end = endpoint(it)
     end.command("validate", [it["validate"]])
@@ -156,12 +153,12 @@ def receive(name: str, about: str, it: Vector, links: "list[str]") -> Vector:
     return {"id": name, "kind": "receive", "about": about, "receiver": it, "frames": frames}
 
 
-def links_of(it: Vector, clients: "list[str]") -> "list[str]":
+def links_of(it: Vector, clients: list[str]) -> list[str]:
     """What a sender sends for some client frames."""
     return [frame["link"] for frame in protect("", "", it, clients)["frames"]]
 
 
-def both(name: str, about: str, it: Vector, clients: "list[str]", **more: Any) -> "list[Vector]":
+def both(name: str, about: str, it: Vector, clients: list[str], **more: Any) -> list[Vector]:
     """A vector of a sender, and one of a receiver that gets what it sends."""
     made = protect(f"{name}/protect", about, it, clients)
     links = [frame["link"] for frame in made["frames"] if "link" in frame]
@@ -169,7 +166,7 @@ def both(name: str, about: str, it: Vector, clients: "list[str]", **more: Any) -
     return [made, receive(f"{name}/receive", about, end, links)]
 
 
-def forged(suite: str, pn: int, tci: int, octets: int, sl: "int | None" = None, iv_sci: str = SENDER) -> str:
+def forged(suite: str, pn: int, tci: int, octets: int, sl: int | None = None, iv_sci: str = SENDER) -> str:
     """A frame with any octet of TCI and AN, any SL, and a valid ICV for the usual key."""
     key, frame = bytes.fromhex(SUITES[suite][1]), bytes.fromhex(client(octets))
     data = frame[12:]
@@ -194,7 +191,7 @@ def altered(link: str, place: int, octet: int) -> str:
 # The groups.
 
 
-def aes() -> "list[Vector]":
+def aes() -> list[Vector]:
     """The examples of FIPS 197."""
     made = []
     for name, (key, result) in AES.items():
@@ -204,7 +201,7 @@ def aes() -> "list[Vector]":
     return made
 
 
-def gcm() -> "list[Vector]":
+def gcm() -> list[Vector]:
     """Test cases of the GCM specification."""
     made = []
     for name, (key, iv, aad, text, tag) in GCM.items():
@@ -216,7 +213,7 @@ def gcm() -> "list[Vector]":
     return made
 
 
-def annex_c() -> "list[Vector]":
+def annex_c() -> list[Vector]:
     """The frames of Annex C, sent and received."""
     made = []
     for (suite, frame), link in ANNEX_C.items():
@@ -229,7 +226,7 @@ def annex_c() -> "list[Vector]":
     return made
 
 
-def lengths() -> "list[Vector]":
+def lengths() -> list[Vector]:
     """Short and long frames under each suite."""
     made = []
     for suite in SUITES:
@@ -244,7 +241,7 @@ def lengths() -> "list[Vector]":
     return made
 
 
-def offsets() -> "list[Vector]":
+def offsets() -> list[Vector]:
     """Confidentiality offsets."""
     made = []
     for suite in ("GCM-AES-128", "GCM-AES-256"):
@@ -258,7 +255,7 @@ def offsets() -> "list[Vector]":
     return made
 
 
-def tag_forms() -> "list[Vector]":
+def tag_forms() -> list[Vector]:
     """Each tag form."""
     own, other = client(20), client(20, "020000000009")
     made = []
@@ -277,7 +274,7 @@ def tag_forms() -> "list[Vector]":
     return made
 
 
-def extended() -> "list[Vector]":
+def extended() -> list[Vector]:
     """Extended packet numbers."""
     made = []
     for suite in ("GCM-AES-XPN-128", "GCM-AES-XPN-256"):
@@ -299,7 +296,7 @@ def extended() -> "list[Vector]":
     return made
 
 
-def last_numbers() -> "list[Vector]":
+def last_numbers() -> list[Vector]:
     """The last packet number of 32 bits."""
     it = sender("GCM-AES-128", False, pn="ffffffff")
     about = "the last packet number is used, and then nothing is sent"
@@ -310,7 +307,7 @@ def last_numbers() -> "list[Vector]":
     return made
 
 
-def replay() -> "list[Vector]":
+def replay() -> list[Vector]:
     """Orders of packet numbers under several windows."""
     made = []
     orders = {"in-order": (1, 2, 3), "repeat": (1, 1, 2, 2), "late": (1, 3, 2, 3, 4), "window": (5, 3, 4, 2, 5, 9, 5)}
@@ -323,7 +320,7 @@ def replay() -> "list[Vector]":
     return made
 
 
-def tag_faults() -> "list[Vector]":
+def tag_faults() -> list[Vector]:
     """Frames whose SecTAG has a fault, each with a valid ICV, so that the ICV is not why they are dropped."""
     suite = "GCM-AES-128"
     good = forged(suite, 1, 0x2C, 20)
@@ -351,7 +348,7 @@ def tag_faults() -> "list[Vector]":
     return made
 
 
-def c_without_e() -> "list[Vector]":
+def c_without_e() -> list[Vector]:
     """C set and E clear, in each mode."""
     made = []
     for mode in ("strict", "check", "disabled"):
@@ -363,7 +360,7 @@ def c_without_e() -> "list[Vector]":
     return made
 
 
-def alterations() -> "list[Vector]":
+def alterations() -> list[Vector]:
     """Each octet altered; then the frame as it was sent."""
     made = []
     for (suite, frame), link in ANNEX_C.items():
@@ -375,7 +372,7 @@ def alterations() -> "list[Vector]":
     return made
 
 
-def validation() -> "list[Vector]":
+def validation() -> list[Vector]:
     """Untagged, altered and good frames in each mode."""
     made = []
     for mode in ("strict", "check", "disabled"):
@@ -388,7 +385,7 @@ def validation() -> "list[Vector]":
     return made
 
 
-def no_association() -> "list[Vector]":
+def no_association() -> list[Vector]:
     """No receive SC, and no SA of that AN."""
     made = []
     links = [links_of(sender("GCM-AES-128", it), [client(20)])[0] for it in (False, True)]
@@ -400,7 +397,7 @@ def no_association() -> "list[Vector]":
     return made
 
 
-def padding() -> "list[Vector]":
+def padding() -> list[Vector]:
     """Octets after the ICV."""
     short = links_of(sender("GCM-AES-128", True), [client(2), client(2)])
     padded = [it.ljust(120, "0") for it in short]
@@ -432,6 +429,6 @@ ABOUT = {
 }
 
 
-def groups() -> "list[Vector]":
+def groups() -> list[Vector]:
     """All groups."""
     return [{"name": name, "about": about, "vectors": make()} for name, (make, about) in ABOUT.items()]

@@ -11,7 +11,7 @@ SUPPORT = {"yes": "yes", "own": "own profile", "no": "not supported", "n/a": "no
 PART = re.compile(r"(<!-- made: ([\w-]+) -->\n).*?(<!-- end -->)", re.S)
 
 
-def joined(text: "str | list[str]") -> str:
+def joined(text: str | list[str]) -> str:
     """A text that the table keeps in one or in several lines."""
     return text if isinstance(text, str) else " ".join(text)
 
@@ -21,7 +21,7 @@ def clause_of(row: Row) -> str:
     return f"{row['clause']}{'*' if row['cited'] == 'memory' else ''}"
 
 
-def coded(names: "list[str]") -> str:
+def coded(names: list[str]) -> str:
     """Names as code."""
     return ", ".join(f"`{it}`" for it in names)
 
@@ -37,7 +37,7 @@ def evidence_of(row: Row) -> str:
     return "; ".join(parts)
 
 
-def table(rows: "list[Row]") -> str:
+def table(rows: list[Row]) -> str:
     """The rows of one clause."""
     lines = ["| row | clause | requirement | support | evidence, or why not |", "|---|---|---|---|---|"]
     for it in rows:
@@ -46,7 +46,7 @@ def table(rows: "list[Row]") -> str:
     return "\n".join(lines)
 
 
-def own_rows(rows: "list[Row]") -> str:
+def own_rows(rows: list[Row]) -> str:
     """Where the profile is stricter or different."""
     lines = ["| row | what a strict reading would do | why it differs here |", "|---|---|---|"]
     for it in rows:
@@ -55,7 +55,7 @@ def own_rows(rows: "list[Row]") -> str:
     return "\n".join(lines)
 
 
-def names(rows: "list[Row]", first: "tuple[str, str]") -> str:
+def names(rows: list[Row], first: tuple[str, str]) -> str:
     """The names of counters or of managed objects."""
     keys = {first[0]: first[1], "mib": "MIB*", "ip": "`ip macsec`", "linux": "`if_macsec.h`"}
     keys.update(dpdk="DPDK `rte_security`", wpa="wpa_supplicant", differs="differs")
@@ -67,7 +67,7 @@ def names(rows: "list[Row]", first: "tuple[str, str]") -> str:
     return "\n".join(lines)
 
 
-def vector_groups(vectors: "dict[str, Any]") -> str:
+def vector_groups(vectors: dict[str, Any]) -> str:
     """The groups of vectors."""
     lines = ["| group | has | vectors | frames or blocks |", "|---|---|---|---|"]
     for group in vectors["groups"]:
@@ -76,7 +76,7 @@ def vector_groups(vectors: "dict[str, Any]") -> str:
     return "\n".join(lines)
 
 
-def counted(rows: "list[Row]") -> str:
+def counted(rows: list[Row]) -> str:
     """How many rows have each support, and how many clause numbers are from memory."""
     numbers = {it: sum(row["support"] == it for row in rows) for it in SUPPORT}
     memory = sum(row["cited"] == "memory" for row in rows)
@@ -91,7 +91,7 @@ def made_review(review: str, sizes: str) -> str:
     return PART.sub(lambda it: f"{it[1]}\n{sizes}\n\n{it[3]}", review)
 
 
-def made(page: str, tables: "dict[str, Any]", vectors: "dict[str, Any]", linux: str) -> str:
+def made(page: str, tables: dict[str, Any], vectors: dict[str, Any], linux: str) -> str:
     """The page with its parts made again. `linux` is the table of what Linux does otherwise."""
     rows = [row for it in tables["clauses"].values() for row in it["rows"]]
     parts = {name: table(it["rows"]) for name, it in tables["clauses"].items()}

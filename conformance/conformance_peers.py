@@ -23,7 +23,6 @@ import copy
 import json
 import pathlib
 import sys
-from typing import Any
 
 from cryptography.exceptions import InvalidTag
 from cryptography.hazmat.primitives.ciphers import Cipher, algorithms, modes
@@ -37,9 +36,7 @@ from house import ROOT
 Vector = "dict[str, Any]"
 
 # Why Scapy differs: the group, the verdict, and what Scapy says.
-EXPLAINED = {
-    ("padding", "OK", "closed"): "Scapy does not read SL, so padding is taken for the ICV",
-}
+EXPLAINED = {("padding", "OK", "closed"): "Scapy does not read SL, so padding is taken for the ICV"}
 
 
 def octets(text: str) -> bytes:
@@ -47,7 +44,7 @@ def octets(text: str) -> bytes:
     return bytes.fromhex(text)
 
 
-def cut(frame: bytes) -> "tuple[bytes, bytes, bytes] | None":
+def cut(frame: bytes) -> tuple[bytes, bytes, bytes] | None:
     """DA, SA and SecTAG; the Secure Data; the ICV. None if the frame is too short for them."""
     if len(frame) < 20 or frame[12:14] != b"\x88\xe5":
         return None
@@ -75,7 +72,7 @@ def iv_of(it: Vector, sci: str, ssci: str, pn: int) -> bytes:
     return bytes(a ^ b for a, b in zip(octets(it["salt"]), octets(ssci) + (pn % 2**64).to_bytes(8, "big")))
 
 
-def opened_by_openssl(it: Vector, frame: bytes, channel: Vector, lowest: int) -> "bytes | None":
+def opened_by_openssl(it: Vector, frame: bytes, channel: Vector, lowest: int) -> bytes | None:
     """The client frame, or None if the ICV is invalid or the frame can't be cut."""
     parts = cut(frame)
     if parts is None:
@@ -99,7 +96,7 @@ def association(it: Vector, sci: str, ssci: str, an: int, pn: int, sends_sci: bo
     return MACsecSA(sci=octets(sci), an=an, pn=pn, key=octets(it["key"]), **bits, **extended)
 
 
-def opened_by_scapy(it: Vector, frame: bytes, channel: Vector, lowest: int) -> "bytes | None":
+def opened_by_scapy(it: Vector, frame: bytes, channel: Vector, lowest: int) -> bytes | None:
     """The client frame, or None if Scapy does not open the frame."""
     if len(frame) < 20 or frame[12:14] != b"\x88\xe5":
         return None
@@ -131,11 +128,11 @@ class Report:
     def __init__(self, every: bool) -> None:
         """Takes whether each frame that differs is printed."""
         self.every = every
-        self.agreed: "collections.Counter[str]" = collections.Counter()
-        self.undecided: "collections.Counter[tuple[str, str, str, str]]" = collections.Counter()
-        self.different: "collections.Counter[tuple[str, str, str, str]]" = collections.Counter()
+        self.agreed: collections.Counter[str] = collections.Counter()
+        self.undecided: collections.Counter[tuple[str, str, str, str]] = collections.Counter()
+        self.different: collections.Counter[tuple[str, str, str, str]] = collections.Counter()
 
-    def compare(self, peer: str, vector: Vector, frame: Vector, found: "bytes | None") -> None:
+    def compare(self, peer: str, vector: Vector, frame: Vector, found: bytes | None) -> None:
         """Compares what a peer opened with a verdict."""
         group, verdict = vector["id"].split("/")[0], frame["verdict"]
         said = "closed" if found is None else "opened"
@@ -206,7 +203,7 @@ def test_receive(vector: Vector, report: Report) -> None:
 TESTS = {"aes": test_cipher, "gcm": test_cipher, "protect": test_protect, "receive": test_receive}
 
 
-def controls(named: "dict[str, Vector]") -> int:
+def controls(named: dict[str, Vector]) -> int:
     """Plants wrong vectors: another tag, link frame, verdict and client frame."""
     wrong = 0
     for name, key, change in (

@@ -6,7 +6,7 @@ import functools
 import glob
 import os
 import re
-from typing import Iterable
+from collections.abc import Iterable
 
 from house import ROOT
 
@@ -30,7 +30,7 @@ IN_C = [
 
 
 @functools.lru_cache(None)
-def cited(name: str) -> "tuple[str, ...]":
+def cited(name: str) -> tuple[str, ...]:
     """The files of definitions that one cites."""
     crate, file = name.split("/")
     path = f"{ROOT}/crates/{crate}/specs/{file}.antt"
@@ -41,9 +41,9 @@ def cited(name: str) -> "tuple[str, ...]":
     return tuple(it for it in found if os.path.isfile(f"{ROOT}/crates/{it.replace('/', '/specs/')}.antt"))
 
 
-def below(names: "Iterable[str]") -> "set[str]":
+def below(names: Iterable[str]) -> set[str]:
     """These files, and all that they cite, directly or not."""
-    found: "set[str]" = set()
+    found: set[str] = set()
     left = list(names)
     while left:
         name = left.pop()
@@ -53,7 +53,7 @@ def below(names: "Iterable[str]") -> "set[str]":
     return found
 
 
-def lines(paths: "Iterable[str]") -> int:
+def lines(paths: Iterable[str]) -> int:
     """The number of lines that are not empty."""
     count = 0
     for path in paths:
@@ -68,18 +68,18 @@ def rounded(count: int) -> int:
     return (count + unit // 2) // unit * unit
 
 
-def paths(*patterns: str) -> "list[str]":
+def paths(*patterns: str) -> list[str]:
     """The files of these patterns."""
     found = (it for pattern in patterns for it in glob.glob(f"{ROOT}/{pattern}", recursive=True))
     return sorted(it for it in found if os.path.isfile(it))
 
 
-def row(what: str, files: "list[str]", wrong: str) -> str:
+def row(what: str, files: list[str], wrong: str) -> str:
     """A row of the table."""
     return f"| {what} | {rounded(lines(files)):,} | {wrong} |"
 
 
-def of_definitions(names: "set[str]") -> "list[str]":
+def of_definitions(names: set[str]) -> list[str]:
     """The paths of files of definitions."""
     return [f"{ROOT}/crates/{it.replace('/', '/specs/')}.antt" for it in sorted(names)]
 
@@ -107,6 +107,10 @@ def table() -> str:
             row("must-fail edits", paths("crates/*/must-fail/*.edit"), "a weak contract is not noticed"),
             row("C: header, device, examples", device, "anything that they do: tested, not proved"),
             row("Python: rules and searches", paths("fuzz/*.py"), "a search finds less"),
-            row("Python: package `macsec`", paths("python/macsec/*.py") + paths("python/macsec/cli/*.py"), "a cause is wrong; it judges no frame"),
+            row(
+                "Python: package `macsec`",
+                paths("python/macsec/*.py") + paths("python/macsec/cli/*.py"),
+                "a cause is wrong; it judges no frame",
+            ),
         ]
     )

@@ -9,7 +9,8 @@ import json
 import re
 import subprocess
 import sys
-from typing import Any, Iterator
+from collections.abc import Iterator
+from typing import Any
 
 from house import ROOT
 
@@ -21,12 +22,7 @@ import expected
 from conformance_frames import groups
 
 # What a script calls each suite and each tag form.
-SUITES = {
-    "GCM-AES-128": "gcm128",
-    "GCM-AES-256": "gcm256",
-    "GCM-AES-XPN-128": "xpn128",
-    "GCM-AES-XPN-256": "xpn256",
-}
+SUITES = {"GCM-AES-128": "gcm128", "GCM-AES-256": "gcm256", "GCM-AES-XPN-128": "xpn128", "GCM-AES-XPN-256": "xpn256"}
 SECONDS = 60
 Vector = "dict[str, Any]"
 
@@ -37,7 +33,7 @@ def key_line(end: str, it: Vector) -> str:
     return f"{end} key 0 {it['key']} {it['offset']}{extended}"
 
 
-def sender_lines(it: Vector) -> "Iterator[str]":
+def sender_lines(it: Vector) -> Iterator[str]:
     """The lines of a script up to the first frame that the sender gets."""
     yield f"end A {SUITES[it['suite']]} {it['sci']} {it['max_frame']} {it['form']}"
     yield "end B gcm128 02ffffffffff0001 9248 sci"
@@ -48,7 +44,7 @@ def sender_lines(it: Vector) -> "Iterator[str]":
     yield f"A txon {it['an']}"
 
 
-def receiver_lines(it: Vector) -> "Iterator[str]":
+def receiver_lines(it: Vector) -> Iterator[str]:
     """The lines of a script up to the first frame that the receiver gets."""
     yield "end A gcm128 02ffffffffff0002 9248 sci"
     yield f"end B {SUITES[it['suite']]} {it['sci']} 9248 sci"
@@ -73,15 +69,15 @@ def script_of(vector: Vector) -> str:
     return "".join(f"{it}\n" for it in lines)
 
 
-def results_of_sending(text: str) -> "list[Vector]":
+def results_of_sending(text: str) -> list[Vector]:
     """What a script that sends printed of each frame: the link frame, or why it was dropped."""
     found = re.findall(r"^\d+ (?:frame \d+ (\w+)|dropped (\w+))$", text, re.M)
     return [{"link": link} if link else {"dropped": reason} for link, reason in found]
 
 
-def results_of_receiving(text: str, count: int) -> "list[Vector]":
+def results_of_receiving(text: str, count: int) -> list[Vector]:
     """What a script that receives printed of each frame: the verdict, the client frame, and the packet numbers."""
-    results: "list[Vector]" = []
+    results: list[Vector] = []
     for line in text.split("\n"):
         words = line.split()
         if len(words) < 2 or words[1] in ("done", "frame"):
@@ -93,7 +89,7 @@ def results_of_receiving(text: str, count: int) -> "list[Vector]":
     return results
 
 
-def expected_of(vector: Vector) -> "list[Vector]":
+def expected_of(vector: Vector) -> list[Vector]:
     """The results that a vector lists, in the same form."""
     if vector["kind"] == "protect":
         return [{it: frame[it] for it in ("link", "dropped") if it in frame} for frame in vector["frames"]]
@@ -101,7 +97,7 @@ def expected_of(vector: Vector) -> "list[Vector]":
     return [{key: frame[key] for key in keys} for frame in vector["frames"]]
 
 
-def differences(program: str, vector: Vector) -> "str | None":
+def differences(program: str, vector: Vector) -> str | None:
     """How the program's results differ from those of a vector of frames."""
     script = script_of(vector)
     ran = subprocess.run([program, "run", "-"], input=script.encode(), capture_output=True, timeout=SECONDS)
@@ -117,7 +113,7 @@ def differences(program: str, vector: Vector) -> "str | None":
     return None
 
 
-def tested_cipher(vector: Vector) -> "str | None":
+def tested_cipher(vector: Vector) -> str | None:
     """A vector of the cipher, which the program has no command for: compared with the rules again. The tests of the
     crates run these values on the proved code."""
     values = {name: bytes.fromhex(it) for name, it in vector["cipher"].items()}
@@ -129,9 +125,9 @@ def tested_cipher(vector: Vector) -> "str | None":
     return None if good else f"{vector['id']}: another result"
 
 
-def test(program: str, vectors: Vector) -> "dict[str, list[str]]":
+def test(program: str, vectors: Vector) -> dict[str, list[str]]:
     """For each group, what is wrong with its vectors."""
-    found: "dict[str, list[str]]" = {}
+    found: dict[str, list[str]] = {}
     for group in vectors["groups"]:
         results = [
             differences(program, it) if it["kind"] in ("protect", "receive") else tested_cipher(it)
@@ -166,7 +162,7 @@ def loaded() -> Vector:
 TYPES = {"object": dict, "array": list, "string": str, "boolean": bool, "integer": int, "null": type(None)}
 
 
-def faults_by_schema(value: Any, schema: Vector, whole: Vector, where: str = "") -> "Iterator[str]":
+def faults_by_schema(value: Any, schema: Vector, whole: Vector, where: str = "") -> Iterator[str]:
     """How a value differs from what its schema asks for."""
     if "$ref" in schema:
         schema = whole["definitions"][schema["$ref"].rpartition("/")[2]]
@@ -195,7 +191,7 @@ def faults_by_schema(value: Any, schema: Vector, whole: Vector, where: str = "")
                 yield f"{where}.{name} is not known"
 
 
-def schema_faults(vectors: Vector) -> "list[str]":
+def schema_faults(vectors: Vector) -> list[str]:
     """How the vectors differ from what vectors/schema.json asks for."""
     with open(SCHEMA, encoding="utf-8") as it:
         schema = json.load(it)

@@ -15,7 +15,10 @@ static const char *const own_names[OWN] = {
     "InOctetsValidated", "InOctetsDecrypted", "OutPktsUntagged", "OutPktsTooLong", "OutPktsNoSA",
 };
 static const char *const tx_names[TX] = {
-    "OutPktsProtected", "OutPktsEncrypted", "OutOctetsProtected", "OutOctetsEncrypted",
+    "OutPktsProtected",
+    "OutPktsEncrypted",
+    "OutOctetsProtected",
+    "OutOctetsEncrypted",
 };
 static const char *const rx_names[RX] = {
     "InPktsOK", "InPktsUnchecked", "InPktsDelayed", "InPktsLate", "InPktsInvalid", "InPktsNotValid",

@@ -78,14 +78,40 @@ static int restrict_files(int state, int run) {
 
 static const unsigned allowed[] = {
     /* frames, control, reports, signals and the clock */
-    SYS_read, SYS_write, SYS_recvmmsg, SYS_sendmmsg, SYS_recvfrom, SYS_sendto, SYS_getsockopt, SYS_setsockopt,
-    SYS_accept4, SYS_close, SYS_epoll_wait, SYS_epoll_pwait, SYS_epoll_ctl, SYS_clock_gettime, SYS_restart_syscall,
+    SYS_read,
+    SYS_write,
+    SYS_recvmmsg,
+    SYS_sendmmsg,
+    SYS_recvfrom,
+    SYS_sendto,
+    SYS_getsockopt,
+    SYS_setsockopt,
+    SYS_accept4,
+    SYS_close,
+    SYS_epoll_wait,
+    SYS_epoll_pwait,
+    SYS_epoll_ctl,
+    SYS_clock_gettime,
+    SYS_restart_syscall,
     /* the journal, also when it is rewritten */
-    SYS_openat, SYS_pread64, SYS_pwrite64, SYS_fdatasync, SYS_fsync, SYS_flock, SYS_fstat, SYS_newfstatat,
-    SYS_renameat, SYS_renameat2, SYS_unlinkat,
+    SYS_openat,
+    SYS_pread64,
+    SYS_pwrite64,
+    SYS_fdatasync,
+    SYS_fsync,
+    SYS_flock,
+    SYS_fstat,
+    SYS_newfstatat,
+    SYS_renameat,
+    SYS_renameat2,
+    SYS_unlinkat,
     /* memory, for the words of a line */
-    SYS_brk, SYS_munmap, SYS_mremap, SYS_madvise,
-    SYS_exit, SYS_exit_group,
+    SYS_brk,
+    SYS_munmap,
+    SYS_mremap,
+    SYS_madvise,
+    SYS_exit,
+    SYS_exit_group,
 };
 
 enum { ALLOWED = sizeof allowed / sizeof allowed[0], BEFORE = 3, AFTER = 8 };

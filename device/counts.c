@@ -3,9 +3,9 @@
 #include <string.h>
 
 static const char *const names[COUNT_OF_COUNTS] = {
-    "LinkIn",      "LinkLost",   "LinkTooShort", "LinkTooLong", "NoEndpoint", "LinkOut",
-    "LinkRefused", "TapIn",      "TapTooShort",  "TapTooLong",  "TapOut",     "TapRefused",
-    "PortOut",     "PortIn",     "NoReservation", "JournalFailed", "Requests",
+    "LinkIn",      "LinkLost", "LinkTooShort",  "LinkTooLong",   "NoEndpoint", "LinkOut",
+    "LinkRefused", "TapIn",    "TapTooShort",   "TapTooLong",    "TapOut",     "TapRefused",
+    "PortOut",     "PortIn",   "NoReservation", "JournalFailed", "Requests",
 };
 
 const char *counts_name(size_t index) {

@@ -78,8 +78,8 @@ struct config {
     char path[256];
     gid_t group; /* that may use the control socket */
     bool has_group;
-    bool persists;      /* does TAP stay when macsecd ends? */
-    bool begins_off;    /* is the controlled port off at the start? */
+    bool persists;   /* does TAP stay when macsecd ends? */
+    bool begins_off; /* is the controlled port off at the start? */
     struct limits limits;
     uint32_t max_frame; /* MAX of the `end` line */
     uint8_t *text;      /* the lines for the endpoint; those for the device are comments in it */

@@ -377,23 +377,41 @@ uint64_t journal_amount(uint64_t frames_per_second) {
 
 const char *journal_step_name(enum journal_step step) {
     switch (step) {
-        case JOURNAL_PATH: return "path";
-        case JOURNAL_FOLDER: return "folder";
-        case JOURNAL_SYNC_FOLDER: return "sync folder";
-        case JOURNAL_RANDOM: return "random";
-        case JOURNAL_NEW_FILE: return "new file";
-        case JOURNAL_RENAME: return "rename";
-        case JOURNAL_OPEN: return "open";
-        case JOURNAL_LOCK: return "lock";
-        case JOURNAL_STATUS: return "status";
-        case JOURNAL_KIND: return "kind";
-        case JOURNAL_NAMED: return "named";
-        case JOURNAL_LENGTH: return "length";
-        case JOURNAL_MEMORY: return "memory";
-        case JOURNAL_READ: return "read";
-        case JOURNAL_WRITE: return "write";
-        case JOURNAL_SYNC: return "sync";
-        case JOURNAL_LIBRARY: return "library";
-        default: return "unknown";
+    case JOURNAL_PATH:
+        return "path";
+    case JOURNAL_FOLDER:
+        return "folder";
+    case JOURNAL_SYNC_FOLDER:
+        return "sync folder";
+    case JOURNAL_RANDOM:
+        return "random";
+    case JOURNAL_NEW_FILE:
+        return "new file";
+    case JOURNAL_RENAME:
+        return "rename";
+    case JOURNAL_OPEN:
+        return "open";
+    case JOURNAL_LOCK:
+        return "lock";
+    case JOURNAL_STATUS:
+        return "status";
+    case JOURNAL_KIND:
+        return "kind";
+    case JOURNAL_NAMED:
+        return "named";
+    case JOURNAL_LENGTH:
+        return "length";
+    case JOURNAL_MEMORY:
+        return "memory";
+    case JOURNAL_READ:
+        return "read";
+    case JOURNAL_WRITE:
+        return "write";
+    case JOURNAL_SYNC:
+        return "sync";
+    case JOURNAL_LIBRARY:
+        return "library";
+    default:
+        return "unknown";
     }
 }

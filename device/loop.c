@@ -129,21 +129,27 @@ static int on_listener(struct device *d) {
     if (index < 0)
         return GOES_ON;
     return watch(d, EPOLL_CTL_ADD, d->control.clients[index], EPOLLIN, CLIENT + (uint32_t)index) == 0 ? GOES_ON
-                                                                                                     : ENDS_FAILED;
+                                                                                                      : ENDS_FAILED;
 }
 
 static int on_event(struct device *d, const struct epoll_event *event) {
     switch (event->data.u32) {
-        case TAP: return on_tap(d, event->events);
-        case LINK: return on_link(d, event->events);
-        case SIGNALS: return on_signal(d);
-        case CLOCK: return on_clock(d);
-        case LIFE: return life_read(d) ? GOES_ON : ENDS_FAILED;
-        case LISTENER: return on_listener(d);
-        default:
-            if (d->control.clients[event->data.u32 - CLIENT] >= 0)
-                (void)control_answer(d, (int)(event->data.u32 - CLIENT));
-            return GOES_ON;
+    case TAP:
+        return on_tap(d, event->events);
+    case LINK:
+        return on_link(d, event->events);
+    case SIGNALS:
+        return on_signal(d);
+    case CLOCK:
+        return on_clock(d);
+    case LIFE:
+        return life_read(d) ? GOES_ON : ENDS_FAILED;
+    case LISTENER:
+        return on_listener(d);
+    default:
+        if (d->control.clients[event->data.u32 - CLIENT] >= 0)
+            (void)control_answer(d, (int)(event->data.u32 - CLIENT));
+        return GOES_ON;
     }
 }
 

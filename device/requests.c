@@ -17,8 +17,8 @@ static void answer_one_number(struct device *d, struct text *t, const struct wor
     else if (!words_number(w, w->count - 1, &an) || an >= MACSEC_AN_COUNT)
         r.status = MACSEC_E_LINE_NUMBER;
     else
-        r.status = sends ? answer_tx_number(t, d->endpoint, (uint8_t)an)
-                         : answer_rx_number(t, d->endpoint, sci, (uint8_t)an);
+        r.status =
+            sends ? answer_tx_number(t, d->endpoint, (uint8_t)an) : answer_rx_number(t, d->endpoint, sci, (uint8_t)an);
     if (r.status != MACSEC_OK)
         answer_result(t, &r);
 }

@@ -24,9 +24,8 @@ int service_open(void) {
     if (path[0] == '@')
         address.sun_path[0] = '\0'; /* a name that is no file's */
     manager = socket(AF_UNIX, SOCK_DGRAM | SOCK_NONBLOCK | SOCK_CLOEXEC, 0);
-    if (manager >= 0 &&
-        connect(manager, (const struct sockaddr *)&address,
-                (socklen_t)(offsetof(struct sockaddr_un, sun_path) + length)) == 0)
+    if (manager >= 0 && connect(manager, (const struct sockaddr *)&address,
+                                (socklen_t)(offsetof(struct sockaddr_un, sun_path) + length)) == 0)
         return 0;
     message_of_errno("NOTIFY_SOCKET");
     return ENDS_FAILED;

@@ -4,6 +4,8 @@ A file has one or more sections. Each section has its own byte order and its own
 are blocks that the program skips.
 """
 
+from __future__ import annotations
+
 import struct
 
 SECTION, INTERFACE, OBSOLETE, SIMPLE, ENHANCED = 0x0A0D0D0A, 1, 2, 3, 6

@@ -4,7 +4,8 @@
  * octets in hex, and - for no octets. A line in any other form ends the program. All that a call is given to read is in
  * pages that can't be written meanwhile, and it ends, or begins, where a page follows that can't be read; so do the
  * structs that a call fills in. Linked so that the library's calls of malloc, realloc and free come here first, the
- * program ends at a call that takes or gives back other blocks than the header says; with -DUNCOUNTED it doesn't look. */
+ * program ends at a call that takes or gives back other blocks than the header says; with -DUNCOUNTED it doesn't look.
+ */
 #define _DEFAULT_SOURCE
 #include "macsec.h"
 #include <errno.h>
@@ -17,7 +18,7 @@
 enum { HANDLES = 4, MOST_WORDS = 16, LONGEST_LINE = 262144, MOST_ROOMS = 4 };
 
 static macsec_endpoint handles[HANDLES];
-static bool made[HANDLES]; /* whether they hold an endpoint */
+static bool made[HANDLES];  /* whether they hold an endpoint */
 static int blocks[HANDLES]; /* and of how many blocks */
 static char line[LONGEST_LINE];
 
@@ -159,7 +160,7 @@ void __wrap_free(void *block) {
 /* An endpoint has seven blocks, and one more beside a journal with records. Only the calls that make one, a line and a
  * journal ask for blocks. */
 static void check_blocks(const char *name, unsigned handle, bool held_before) {
-    const char *reading[] = { "configure",         "command_line",      "answer",
+    const char *reading[] = { "configure",    "command_line",      "answer",
                               "reserve_open", "reserve_configure", "journal_compacted" };
     bool beside = strncmp(name, "reserve_", strlen("reserve_")) == 0, may_ask = false;
     for (size_t i = 0; i < sizeof reading / sizeof reading[0]; i++)
@@ -181,7 +182,8 @@ static void check_blocks(const char *name, unsigned handle, bool held_before) {
 /* ---- The calls ---- */
 
 /* What every reserved member has before a call. */
-#define SEVENS { 7, 7, 7, 7, 7, 7, 7, 7, 7, 7 }
+#define SEVENS                                                                                                         \
+    { 7, 7, 7, 7, 7, 7, 7, 7, 7, 7 }
 static const uint64_t sevens[] = SEVENS;
 
 /* The reserved members of an answer are zeros if it is filled in; else they are as they were. */
@@ -303,10 +305,10 @@ static uint32_t record(const macsec_endpoint *e, const char *name, char **w) {
 static uint32_t reserved_floor(const macsec_endpoint *e, const char *name, char **w) {
     uint64_t *out = room_of(sizeof *out);
     *out = 7;
-    uint32_t status = strcmp(name, "reserve_tx_floor") == 0
-                          ? macsec_reserve_tx_floor(e, (uint16_t)number(w[0]), out)
-                          : macsec_reserve_rx_floor(e, sealed_sci(w[0]), (uint8_t)number(w[1]),
-                                                    (uint16_t)number(w[2]), out);
+    uint32_t status =
+        strcmp(name, "reserve_tx_floor") == 0
+            ? macsec_reserve_tx_floor(e, (uint16_t)number(w[0]), out)
+            : macsec_reserve_rx_floor(e, sealed_sci(w[0]), (uint8_t)number(w[1]), (uint16_t)number(w[2]), out);
     print_number(*out);
     return status;
 }
@@ -398,9 +400,10 @@ static uint32_t counters(const macsec_endpoint *e) {
     *c = before;
     uint32_t status = macsec_get_counters(e, c);
     check_reserved(status, RESERVED_OF(*c));
-    const uint64_t all[] = { c->in_pkts_untagged,    c->in_pkts_no_tag,      c->in_pkts_bad_tag,     c->in_pkts_reserved,
-                             c->in_pkts_no_sa,       c->in_pkts_no_sa_error, c->in_octets_validated, c->in_octets_decrypted,
-                             c->out_pkts_untagged,   c->out_pkts_too_long,   c->out_pkts_no_sa };
+    const uint64_t all[] = { c->in_pkts_untagged,    c->in_pkts_no_tag,      c->in_pkts_bad_tag,
+                             c->in_pkts_reserved,    c->in_pkts_no_sa,       c->in_pkts_no_sa_error,
+                             c->in_octets_validated, c->in_octets_decrypted, c->out_pkts_untagged,
+                             c->out_pkts_too_long,   c->out_pkts_no_sa };
     for (size_t i = 0; i < sizeof all / sizeof all[0]; i++)
         print_number(all[i]);
     return status;

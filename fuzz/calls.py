@@ -13,6 +13,8 @@ have been met at least once (but MACSEC_E_MEMORY). Call number N of a seed, whic
 machine.
 """
 
+from __future__ import annotations
+
 import argparse
 import collections
 import hashlib
@@ -32,7 +34,9 @@ from handles import CONSTANTS, ROOT, SUITES, Model, hex_of
 class Calls:
     """Random calls, each made when its turn has come: some depend on what the handles hold."""
 
-    SCIS = [bytes.fromhex(it) for it in ("0200000000010001", "0200000000020001", "0200000000030000", "0200000000030001")]
+    SCIS = [
+        bytes.fromhex(it) for it in ("0200000000010001", "0200000000020001", "0200000000030000", "0200000000030001")
+    ]
     PNS = [0, 1, 1, 2, 3, 9, 2**31, 2**32 - 2, 2**32 - 1, 2**32, 2**63, 2**64 - 2, 2**64 - 1]
     WINDOWS = [0, 0, 1, 5, 2**30 - 1, 2**30, 2**32 - 1, 2**32, 2**64 - 1]
     NUMBERS = [0, 1, 2, 3, 4, 5, 4095, 4096, 65535]
@@ -170,7 +174,16 @@ class Calls:
 
     def asked(self):
         """A line of a script, most often about end A."""
-        others = ("A counters", "A counters", "A numbers", "A send 00", "A deliver 0", "B counters", "pad 0", "A counters 1")
+        others = (
+            "A counters",
+            "A counters",
+            "A numbers",
+            "A send 00",
+            "A deliver 0",
+            "B counters",
+            "pad 0",
+            "A counters 1",
+        )
         return self.line() if self.random.random() < 0.7 else self.pick(others).encode()
 
     def configuration(self, sci, suite, *lines):
@@ -199,7 +212,12 @@ class Calls:
             "new": self.new,
             "configure": lambda: (h(), self.text()),
             "command_line": lambda: (h(), self.line()),
-            "answer": lambda: (h(), pick((0, 1, 3, 65_536, 2**32 - 1)), self.asked(), pick((0, 63, 64, 64, 400, 9_000))),
+            "answer": lambda: (
+                h(),
+                pick((0, 1, 3, 65_536, 2**32 - 1)),
+                self.asked(),
+                pick((0, 63, 64, 64, 400, 9_000)),
+            ),
             "free": lambda: (h(),),
             "reserve_open": lambda: (*self.new(), self.journal()),
             "reserve_configure": lambda: (h(), self.text(), self.journal()),

@@ -3,6 +3,8 @@
 Needs only the standard library.
 """
 
+from __future__ import annotations
+
 import struct
 
 MAX_RECORD, MAX_BODY, MAX_INTERFACES = 262_144, 262_164, 256

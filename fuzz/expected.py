@@ -5,6 +5,8 @@ for capture files are in captures.py. FIPS 197 and SP 800-38D are at the end of 
 library.
 """
 
+from __future__ import annotations
+
 import functools
 import struct
 

@@ -17,6 +17,8 @@ From 2,000 inputs on, the inputs must also have met each kind of input, each ver
 promise, and the faults listed below (EXPECTED). The status is 1 if one was not met, and its name is printed.
 """
 
+from __future__ import annotations
+
 import argparse
 import collections
 import concurrent.futures

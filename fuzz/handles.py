@@ -3,6 +3,8 @@
 calls.py compares the library with this. It needs Python 3.9 or later and its standard library alone.
 """
 
+from __future__ import annotations
+
 import collections
 import pathlib
 import re

@@ -3,6 +3,8 @@
 Input number N of a seed depends only on these two numbers and on the files of this repository that it starts from.
 """
 
+from __future__ import annotations
+
 import collections
 import hashlib
 import pathlib
@@ -49,9 +51,7 @@ class Capture:
     def octets(self):
         magic, field = (0xA1B23C4D if self.is_nano else 0xA1B2C3D4), self.fields
         file = struct.pack(
-            self.order + "IHHIIII",
-            magic,
-            *(field[it] for it in ("major", "minor", "zone", "figures", "snap", "link")),
+            self.order + "IHHIIII", magic, *(field[it] for it in ("major", "minor", "zone", "figures", "snap", "link"))
         )
         for seconds, fraction, captured, original, frame in self.records:
             lengths = [(len(frame) + it) % 2**32 for it in (captured, original)]

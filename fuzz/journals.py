@@ -3,16 +3,18 @@
 calls.py compares the C library's journals with these. It needs Python 3.9 or later and its standard library alone.
 """
 
+from __future__ import annotations
+
 import hashlib
 import struct
-from typing import Dict, Iterator, List, Tuple
+from collections.abc import Iterator
 
 RECORD = 64
 LAST = 2**64 - 1
 TITLE = b"macsec journal 1"
 
 # A reservation: a name of 32 octets, and the last packet number that may have been used under it.
-Reservation = Tuple[bytes, int]
+Reservation = tuple[bytes, int]
 
 
 def digest(*parts: bytes) -> bytes:
@@ -37,7 +39,7 @@ def record(reservation: Reservation) -> bytes:
     return name + number + digest(b"macsec reserve: check", name, number)[:24]
 
 
-def read_record(octets: bytes) -> "Reservation | None":
+def read_record(octets: bytes) -> Reservation | None:
     """What the octets of a record reserve, if their check holds."""
     read = octets[:32], struct.unpack(">Q", octets[32:40])[0]
     return read if record(read) == octets else None
@@ -66,14 +68,14 @@ def reservations(octets: bytes) -> Iterator[Reservation]:
             yield read
 
 
-def highest(each: "List[Reservation]", name: bytes) -> int:
+def highest(each: list[Reservation], name: bytes) -> int:
     """The last packet number that some reservations say of a name together, 0 if they say nothing."""
     return max((last for its, last in each if its == name), default=0)
 
 
-def one_a_name(each: "Iterator[Reservation]") -> "Dict[bytes, int]":
+def one_a_name(each: Iterator[Reservation]) -> dict[bytes, int]:
     """The highest number of each name, in the order in which the names first occur."""
-    found: "Dict[bytes, int]" = {}
+    found: dict[bytes, int] = {}
     for name, last in each:
         found[name] = max(found.get(name, 0), last)
     return found
@@ -84,7 +86,7 @@ def compacted(octets: bytes) -> bytes:
     return octets[:RECORD] + b"".join(record(it) for it in one_a_name(reservations(octets[RECORD:])).items())
 
 
-def wanted_last(reserved: int, next_number: int, amount: int) -> "int | None":
+def wanted_last(reserved: int, next_number: int, amount: int) -> int | None:
     """The last packet number to reserve, if fewer than half of `amount` are left."""
     if next_number > LAST or min(next_number + amount // 2, LAST) <= reserved:
         return None

@@ -5,6 +5,8 @@ the ends' keys agree; in some the two ends have different salts, offsets, suites
 from its end's.
 """
 
+from __future__ import annotations
+
 import copy
 
 import expected

@@ -8,6 +8,8 @@ fault, and so changes nothing. A list that breaks a promise is printed as a scri
 there is one, if the premises of a promise are never met, or if a mistake of planted.py that breaks a promise is missed.
 """
 
+from __future__ import annotations
+
 import collections
 import functools
 import sys

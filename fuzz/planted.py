@@ -10,6 +10,8 @@ of docs/LINK.md, that promises.py finds it broken. No program is run here. The s
 there are fewer mistakes than COUNT says, or if a copy without a mistake seems to have one.
 """
 
+from __future__ import annotations
+
 import argparse
 import concurrent.futures
 import os

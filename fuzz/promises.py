@@ -5,6 +5,8 @@ events so far, if the promise's premises are met, and raises `Broken` if it does
 premises of each promise were met. The lines of such a run are compared with the program's, octet for octet.
 """
 
+from __future__ import annotations
+
 import collections
 
 import expected

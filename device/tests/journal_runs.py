@@ -1,5 +1,7 @@
 """Runs of a program with a journal (journal.c), what it captured, and the disk that a power failure leaves."""
 
+from __future__ import annotations
+
 import contextlib
 import hashlib
 import os
@@ -8,8 +10,9 @@ import random
 import subprocess
 import sys
 import tempfile
+from collections.abc import Iterator
 from concurrent.futures import ThreadPoolExecutor
-from typing import Callable, Dict, Iterator, List, NamedTuple, Optional, Set, Tuple
+from typing import Callable, NamedTuple
 
 from house import ROOT, captures
 from house.compiling import INCLUDED, SANITIZED, WARNINGS
@@ -20,7 +23,7 @@ RECORD = 64
 ANS = (0, 1)
 SECONDS = 60
 
-Frame = Tuple[bytes, int, int]  # SCI, association number, packet number
+Frame = tuple[bytes, int, int]  # SCI, association number, packet number
 
 
 class Options(NamedTuple):
@@ -37,7 +40,7 @@ class Options(NamedTuple):
 # ---- Programs
 
 
-def build(library: pathlib.Path, folder: pathlib.Path, memory: bool) -> Tuple[pathlib.Path, pathlib.Path, pathlib.Path]:
+def build(library: pathlib.Path, folder: pathlib.Path, memory: bool) -> tuple[pathlib.Path, pathlib.Path, pathlib.Path]:
     """Builds the program, the library that makes its calls fail, and for `memory` the program with sanitizers."""
     folder.mkdir(parents=True, exist_ok=True)
     program, sanitized, disk = folder / "journal", folder / "journal-sanitized", folder / "journal_disk.so"
@@ -70,13 +73,17 @@ class Ended(NamedTuple):
 
 
 def run(
-    program: pathlib.Path, words: List[str], env: Optional[Dict[str, str]] = None, under: Tuple[str, ...] = ()
+    program: pathlib.Path, words: list[str], env: dict[str, str] | None = None, under: tuple[str, ...] = ()
 ) -> Ended:
     """Runs the program to its end."""
     try:
-        ended = subprocess.run([*under, str(program), *words], env={**os.environ, **(env or {})},
-                               stdin=subprocess.DEVNULL, stdout=subprocess.PIPE, stderr=subprocess.PIPE,
-                               timeout=SECONDS)
+        ended = subprocess.run(
+            [*under, str(program), *words],
+            env={**os.environ, **(env or {})},
+            stdin=subprocess.DEVNULL,
+            capture_output=True,
+            timeout=SECONDS,
+        )
     except subprocess.TimeoutExpired:
         return Ended(-1, "", f"no end within {SECONDS} seconds")
     return Ended(ended.returncode, ended.stdout.decode(), ended.stderr.decode(errors="replace"))
@@ -84,12 +91,12 @@ def run(
 
 def send_words(
     journal: pathlib.Path, capture: pathlib.Path, limit: int, amount: int, frames: int, suite: int = 1
-) -> List[str]:
+) -> list[str]:
     """The arguments of a sender."""
     return ["send", str(journal), str(limit), str(suite), str(amount), str(frames), str(capture)]
 
 
-def receive_words(journal: pathlib.Path, out: pathlib.Path, captures: List[pathlib.Path], suite: int = 1) -> List[str]:
+def receive_words(journal: pathlib.Path, out: pathlib.Path, captures: list[pathlib.Path], suite: int = 1) -> list[str]:
     """The arguments of a receiver."""
     return ["receive", str(journal), "1024", str(suite), str(out), *map(str, captures)]
 
@@ -97,7 +104,7 @@ def receive_words(journal: pathlib.Path, out: pathlib.Path, captures: List[pathl
 # ---- Captures and journals
 
 
-def frames_of(capture: pathlib.Path) -> List[Frame]:
+def frames_of(capture: pathlib.Path) -> list[Frame]:
     """The SCI, association number and packet number of each whole frame of a capture."""
     found = []
     for frame in captures.frames_so_far(capture) if capture.is_file() else []:
@@ -107,7 +114,7 @@ def frames_of(capture: pathlib.Path) -> List[Frame]:
     return found
 
 
-def add_new(seen: Set[Frame], frames: List[Frame], what: str) -> None:
+def add_new(seen: set[Frame], frames: list[Frame], what: str) -> None:
     """Notes frames, of which none may be there already."""
     for frame in frames:
         if frame in seen:
@@ -121,7 +128,7 @@ def is_record(octets: bytes) -> bool:
     return octets[40:] == hashlib.sha256(b"macsec reserve: check" + octets[:40]).digest()[:24]
 
 
-def records_of(octets: bytes) -> List[Tuple[bytes, int]]:
+def records_of(octets: bytes) -> list[tuple[bytes, int]]:
     """The name and the number of each record of a journal."""
     places = (octets[at : at + RECORD] for at in range(RECORD, len(octets) - RECORD + 1, RECORD))
     return [(it[:32], int.from_bytes(it[32:40], "big")) for it in places if is_record(it)]
@@ -132,13 +139,13 @@ def highest(octets: bytes, name: bytes) -> int:
     return max((number for each, number in records_of(octets) if each == name), default=0)
 
 
-def names_of(octets: bytes) -> List[bytes]:
+def names_of(octets: bytes) -> list[bytes]:
     """The names of a sender's journal, in the order of its associations."""
     return list(dict.fromkeys(name for name, _ in records_of(octets)))
 
 
 @contextlib.contextmanager
-def work_folder(parent: Optional[pathlib.Path] = None) -> Iterator[pathlib.Path]:
+def work_folder(parent: pathlib.Path | None = None) -> Iterator[pathlib.Path]:
     """A folder for a while: in memory, if no other place is named."""
     memory = "/dev/shm" if os.access("/dev/shm", os.W_OK) else None
     with tempfile.TemporaryDirectory(dir=parent or memory, prefix="journal-") as name:
@@ -156,7 +163,7 @@ def has_frames(capture: pathlib.Path, more_than: int = 24) -> Callable[[], bool]
 class State(NamedTuple):
     """The files that a power failure leaves, by their names."""
 
-    files: Dict[str, bytes]
+    files: dict[str, bytes]
 
 
 After = Callable[[pathlib.Path], State]
@@ -167,10 +174,10 @@ class Chain:
 
     LIMIT, AMOUNT, FRAMES = 320, 8, 48
 
-    def __init__(self, options: Options, start: bytes, names: List[bytes], what: str) -> None:
+    def __init__(self, options: Options, start: bytes, names: list[bytes], what: str) -> None:
         self.options, self.names, self.what = options, names, what
         self.state = State({"journal": start})
-        self.seen: Set[Frame] = set()
+        self.seen: set[Frame] = set()
         self.last = {an: 0 for an in ANS}
 
     def restore(self, folder: pathlib.Path) -> None:
@@ -185,7 +192,7 @@ class Chain:
             names.append(f"{inode} {name}\n")
         (folder / "disk/names").write_text("".join(names))
 
-    def run(self, faults: str, words: Callable[[pathlib.Path], List[str]], after: After, **more: str) -> Ended:
+    def run(self, faults: str, words: Callable[[pathlib.Path], list[str]], after: After, **more: str) -> Ended:
         """Runs the program on the state, and takes the power away at its end. `after` chooses what is left."""
         with work_folder() as folder:
             self.restore(folder)
@@ -200,7 +207,7 @@ class Chain:
         sizes = (self.LIMIT, self.AMOUNT, self.FRAMES)
         return self.run(faults, lambda it: send_words(it / "files/journal", it / "capture", *sizes), after, **more)
 
-    def judge(self, frames: List[Frame]) -> None:
+    def judge(self, frames: list[Frame]) -> None:
         """Sees that no packet number is used again, and that each is reserved in what is left."""
         add_new(self.seen, frames, self.what)
         for _, an, number in frames:

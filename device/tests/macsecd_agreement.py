@@ -1,18 +1,24 @@
 """What a key agreement needs of macsecd: an endpoint made by command, and a limit to what it may weaken."""
 
+from __future__ import annotations
+
 import contextlib
 import json
 import secrets
 import socket
-from typing import List
 
 from house.reporting import report, until
 from macsecd_world import End, Packets, World, connected, ping, protected
 
 # A line that weakens the protection, and what the configuration has to allow for it.
-WEAKER = [("A protect off", "protect off"), ("A validate check", "validate check"),
-          ("A validate disabled", "validate disabled"), ("A replay off 0", "replay off"),
-          ("A replay on 33", "replay 33"), ("A txsa 1 0 1 int", "int")]
+WEAKER = [
+    ("A protect off", "protect off"),
+    ("A validate check", "validate check"),
+    ("A validate disabled", "validate disabled"),
+    ("A replay off 0", "replay off"),
+    ("A replay on 33", "replay 33"),
+    ("A txsa 1 0 1 int", "int"),
+]
 
 
 def asking(client: socket.socket, request: str) -> str:
@@ -29,9 +35,18 @@ def configure(end: End, *lines: str) -> None:
 
 def check_without(end: End) -> None:
     """What a device without an endpoint answers."""
-    for request, answer in (("numbers", "fault Empty"), ("A numbers", "fault Empty"), ("numbers tx 0", "fault Empty"),
-                            ("A txon 0", "fault Empty"), ("port on", "fault Empty"), ("load\nA txon 0", "fault Empty"),
-                            ("port off", "ok"), ("port", "port off"), ("close", "ok"), ("A txonn", "fault Empty")):
+    for request, answer in (
+        ("numbers", "fault Empty"),
+        ("A numbers", "fault Empty"),
+        ("numbers tx 0", "fault Empty"),
+        ("A txon 0", "fault Empty"),
+        ("port on", "fault Empty"),
+        ("load\nA txon 0", "fault Empty"),
+        ("port off", "ok"),
+        ("port", "port off"),
+        ("close", "ok"),
+        ("A txonn", "fault Empty"),
+    ):
         got = end.ask(request)
         report(got == answer + "\n", f"without an endpoint {request!r} is answered {got!r}, and not {answer!r}")
     counters, shown = end.counters(), json.loads(end.ask("json"))
@@ -39,15 +54,25 @@ def check_without(end: End) -> None:
     report("macsec_port_on" in end.ask("metrics"), "metrics without an endpoint")
 
 
-def lines_of(end: End, keys: "List[str]") -> "List[str]":
+def lines_of(end: End, keys: list[str]) -> list[str]:
     """The lines of a key agreement: the peer's channel, and one key for each direction."""
     peer = end.world.ends[2 - end.number]
     own, other = keys[end.number - 1], keys[peer.number - 1]
-    return ["A protect on", "A replay on 0", "A validate strict", f"A rxsc {peer.sci}", f"A key 0 {own} 0",
-            f"A key 1 {other} 0", f"A rxsa {peer.sci} 0 1 1", f"A rxon {peer.sci} 0", "A txsa 0 0 1 conf", "A txon 0"]
+    return [
+        "A protect on",
+        "A replay on 0",
+        "A validate strict",
+        f"A rxsc {peer.sci}",
+        f"A key 0 {own} 0",
+        f"A key 1 {other} 0",
+        f"A rxsa {peer.sci} 0 1 1",
+        f"A rxon {peer.sci} 0",
+        "A txsa 0 0 1 conf",
+        "A txon 0",
+    ]
 
 
-def agree(end: End, client: socket.socket, suite: str, keys: "List[str]") -> "List[str]":
+def agree(end: End, client: socket.socket, suite: str, keys: list[str]) -> list[str]:
     """Makes an endpoint. Returns the answers."""
     return [asking(client, line) for line in [f"open {end.sci} {suite}", *lines_of(end, keys), "port on"]]
 
@@ -66,11 +91,15 @@ def check_open(world: World) -> None:
             report(got == ["ok\n"] * len(got), f"{suite}: {got}")
         report(until(lambda: ping(a) == 3) and ping(b) == 3, f"{suite}: no replies")
         before = a.ask("numbers")
-        for wrong, answer in (("open", "fault Count"), (f"open {a.sci}", "fault Count"),
-                              ("open 00 gcm128", "fault Hex"), (f"open {a.sci} gcm512", "fault Word"),
-                              (f"open {a.sci} gcm128 scb", "fault Ends"),
-                              (f"open {a.sci} gcm128 sci 1", "fault Count"),
-                              (f"open {a.sci} gcm128\nA", "fault Word")):
+        for wrong, answer in (
+            ("open", "fault Count"),
+            (f"open {a.sci}", "fault Count"),
+            ("open 00 gcm128", "fault Hex"),
+            (f"open {a.sci} gcm512", "fault Word"),
+            (f"open {a.sci} gcm128 scb", "fault Ends"),
+            (f"open {a.sci} gcm128 sci 1", "fault Count"),
+            (f"open {a.sci} gcm128\nA", "fault Word"),
+        ):
             got = asking(owners[0], wrong)
             report(got == answer + "\n", f"{wrong!r} is answered {got!r}, and not {answer!r}")
         report(len(a.ask("numbers")) == len(before) and a.ask("port") == "port on\n", "a wrong `open` has changed it")
@@ -97,7 +126,7 @@ def check_without_owned(end: End, peer: End) -> None:
     report(until(lambda: end.counters()["device NoEndpoint"] >= before + 2), "frames without an endpoint: not counted")
 
 
-def forms(line: str) -> "List[str]":
+def forms(line: str) -> list[str]:
     """A line in other writings that the library takes too."""
     first, rest = line.split(" ", 1)
     return [line, line + "\r", f" \t{first}\t {rest}  ", line.replace(" ", "  ") + " \r", f"load\n#\n{line}\n"]

@@ -1,14 +1,15 @@
 """Mistakes in macsecd, for each check of device/tests/macsecd at least one, which the check has to report."""
 
+from __future__ import annotations
+
 import pathlib
 import shutil
-from typing import Dict, List, Tuple
 
 from house.reporting import Failed
 
 # The name of a check, and its mistakes: a file of device/, a text that is there once, and what is written for it.
 # fmt: off
-CONTROLS: "Dict[str, List[Tuple[str, str, str]]]" = {
+CONTROLS: dict[str, list[tuple[str, str, str]]] = {
     "traffic": [("frames.c", "d->counts.tap_in++;", "d->counts.tap_in += 2;"),
                 ("tap.c", "frame - HEADER - MACSEC_OVERHEAD_MAX;", "frame - HEADER;")],
     "rekey": [("frames.c", "if (sent.length > 0)", "if (sent.length > 0 && sent.key != 2)")],
@@ -68,7 +69,7 @@ CONTROLS: "Dict[str, List[Tuple[str, str, str]]]" = {
 # fmt: on
 
 
-def altered(folder: pathlib.Path, edit: "Tuple[str, str, str]", source: pathlib.Path) -> pathlib.Path:
+def altered(folder: pathlib.Path, edit: tuple[str, str, str], source: pathlib.Path) -> pathlib.Path:
     """A copy of the sources with one mistake."""
     shutil.copytree(source, folder, ignore=shutil.ignore_patterns("built"))
     name, old, new = edit

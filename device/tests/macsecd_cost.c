@@ -1,5 +1,5 @@
-/* What the library's calls alone cost, for the test macsecd --speed: prints the nanoseconds of processor time that a frame
- * of 1,400 octets takes to be sealed, and to be sealed and opened. */
+/* What the library's calls alone cost, for the test macsecd --speed: prints the nanoseconds of processor time that a
+ * frame of 1,400 octets takes to be sealed, and to be sealed and opened. */
 #include "macsec.h"
 #include <stdio.h>
 #include <stdlib.h>

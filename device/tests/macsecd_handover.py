@@ -1,13 +1,15 @@
 """A second endpoint takes over: after the last key of an endpoint's life, and for lines that are all carried out, or
 none is."""
 
+from __future__ import annotations
+
 import contextlib
 import json
 import secrets
 import subprocess
 import threading
 import time
-from typing import Dict, Iterator, List, Tuple
+from collections.abc import Iterator
 
 from house.reporting import Failed, report
 from macsecd_requests import state_of
@@ -47,7 +49,7 @@ class Client:
 
 
 @contextlib.contextmanager
-def clients(world: World) -> "Iterator[Tuple[Client, Client]]":
+def clients(world: World) -> Iterator[tuple[Client, Client]]:
     """A connection to each end."""
     a, b = (Client(end) for end in world.ends)
     try:
@@ -79,7 +81,7 @@ def wait_for_frame(client: Client, request: str) -> None:
         time.sleep(0.0005)
 
 
-def rekey(pair: "Tuple[Client, Client]", phase: int, first: int) -> None:
+def rekey(pair: tuple[Client, Client], phase: int, first: int) -> None:
     """New keys for both directions: both ends receive under them first, then send, then the old ones go."""
     an, old = phase % 4, (phase - 1) % 4
     numbers = [(first + 2 * phase + it) % KEYS for it in (0, 1)]
@@ -87,18 +89,23 @@ def rekey(pair: "Tuple[Client, Client]", phase: int, first: int) -> None:
     keys = [secrets.token_hex(16), secrets.token_hex(16)]
     for client, peer in (pair, pair[::-1]):
         own = [keys[client.end.number - 1], keys[peer.end.number - 1]]
-        client.carry_out(f"A key {numbers[0]} {own[0]} 0", f"A key {numbers[1]} {own[1]} 0",
-                         f"A rxsa {peer.end.sci} {an} {numbers[1]} 1", f"A rxon {peer.end.sci} {an}")
+        client.carry_out(
+            f"A key {numbers[0]} {own[0]} 0",
+            f"A key {numbers[1]} {own[1]} 0",
+            f"A rxsa {peer.end.sci} {an} {numbers[1]} 1",
+            f"A rxon {peer.end.sci} {an}",
+        )
     for client in pair:
         client.carry_out(f"A txsa {an} {numbers[0]} 1 conf", f"A txon {an}")
     for client, peer in (pair, pair[::-1]):
         wait_for_frame(client, f"numbers rx {peer.end.sci} {an}")
     for client, peer in (pair, pair[::-1]):
-        client.carry_out(f"A txdel {old}", f"A rxdel {peer.end.sci} {old}", f"A retire {before[0]}",
-                         f"A retire {before[1]}")
+        client.carry_out(
+            f"A txdel {old}", f"A rxdel {peer.end.sci} {old}", f"A retire {before[0]}", f"A retire {before[1]}"
+        )
 
 
-def periods(frames: "List[bytes]") -> int:
+def periods(frames: list[bytes]) -> int:
     """How often the frames have another association number than the one before. Between, each is under one key, and
     their packet numbers have to rise."""
     last, count, rise = (-1, 0), 0, True
@@ -124,7 +131,7 @@ class Recorder:
         while self.goes_on:
             self.frames += [it[:20] for it in protected(self.link.frames(0.05), self.sci)]
 
-    def stop(self) -> "List[bytes]":
+    def stop(self) -> list[bytes]:
         """Stops it. Returns the frames."""
         self.goes_on = False
         self.thread.join()
@@ -138,10 +145,22 @@ def dropped(end: End) -> int:
     return shown["stats64"]["tx"]["dropped"]
 
 
-def losses(end: End) -> "Dict[str, int]":
+def losses(end: End) -> dict[str, int]:
     """The counters of frames that were dropped, of those that should be 0."""
-    names = ("Late", "NotValid", "NoSAError", "NoSA ", "BadTag", "NoReservation", "Lost", "Refused", "NoEndpoint",
-             "Unchecked", "Delayed", "TooLong")
+    names = (
+        "Late",
+        "NotValid",
+        "NoSAError",
+        "NoSA ",
+        "BadTag",
+        "NoReservation",
+        "Lost",
+        "Refused",
+        "NoEndpoint",
+        "Unchecked",
+        "Delayed",
+        "TooLong",
+    )
     return {name: value for name, value in end.counters().items() if value and any(it in name + " " for it in names)}
 
 
@@ -167,8 +186,11 @@ def run_rekeys(world: World, rekeys: int, first: int) -> None:
     for end, old in zip(world.ends, before):
         report(losses(end) == old, f"{end.number}: frames were dropped: {losses(end)}, and before {old}")
     taken = [end.log().count("a second one goes on") for end in world.ends]
-    print(f"handover: {rekeys} rekeys in {seconds:.1f} s, {taken} second endpoints, {sum(it[0] for it in counts)} "
-          f"datagrams, {full} dropped by a full TAP, slowest answer {1000 * slowest:.1f} ms", flush=True)
+    print(
+        f"handover: {rekeys} rekeys in {seconds:.1f} s, {taken} second endpoints, {sum(it[0] for it in counts)} "
+        f"datagrams, {full} dropped by a full TAP, slowest answer {1000 * slowest:.1f} ms",
+        flush=True,
+    )
 
 
 def check_life_of_keys(world: World, short: bool) -> None:
@@ -206,7 +228,7 @@ def next_of(end: End) -> int:
     return int(end.ask("numbers tx 0").split()[3], 16)
 
 
-def check_load(a: End, macsecctl: "List[str]") -> None:
+def check_load(a: End, macsecctl: list[str]) -> None:
     """Lines that are all carried out, or none is."""
     peer = a.world.ends[2 - a.number]
     with contextlib.closing(connected(a.socket, 5)) as it:
@@ -218,18 +240,36 @@ def check_load(a: End, macsecctl: "List[str]") -> None:
         def state() -> str:
             shown = json.loads(a.ask("json"))
             sas = [(sa["an"], sa["key"], sa["on"]) for sa in shown["transmit"]]
-            rx = [(sc["sci"], [(sa["an"], sa["key"], sa["on"]) for sa in sc["associations"]])
-                  for sc in shown["receive"]]
+            rx = [
+                (sc["sci"], [(sa["an"], sa["key"], sa["on"]) for sa in sc["associations"]]) for sc in shown["receive"]
+            ]
             return f"{sas} {rx} {shown['keys_left']}"
 
         key = [secrets.token_hex(16) for _ in range(4)]
-        good = [f"A key 2 {key[0]} 0", "# a comment", "", "A txsa 1 2 1 conf", f"A rxsc {'11' * 8}",
-                f"A rxsa {'11' * 8} 0 2 1", f"A rxdel {peer.sci} 0", "A txdel 0", "A retire 0", "A protect on"]
+        good = [
+            f"A key 2 {key[0]} 0",
+            "# a comment",
+            "",
+            "A txsa 1 2 1 conf",
+            f"A rxsc {'11' * 8}",
+            f"A rxsa {'11' * 8} 0 2 1",
+            f"A rxdel {peer.sci} 0",
+            "A txdel 0",
+            "A retire 0",
+            "A protect on",
+        ]
         before, log = state(), a.log()
         number = next_of(a)
-        for wrong, answer in (("A txon 3", "refused 13 NoSa"), ("A txonn 0", "fault Word"), ("B txon 0", "fault Ends"),
-                              (f"A key 1 {key[1]} 0", "refused 3 KeyNumberUsed"), ("A protect off", "fault NotAllowed"),
-                              ("port on", "fault Word"), ("A counters", "fault Ends"), ("x" * 20001, "fault LineLong")):
+        for wrong, answer in (
+            ("A txon 3", "refused 13 NoSa"),
+            ("A txonn 0", "fault Word"),
+            ("B txon 0", "fault Ends"),
+            (f"A key 1 {key[1]} 0", "refused 3 KeyNumberUsed"),
+            ("A protect off", "fault NotAllowed"),
+            ("port on", "fault Word"),
+            ("A counters", "fault Ends"),
+            ("x" * 20001, "fault LineLong"),
+        ):
             for place in (0, 4, len(good)):
                 got = load(*good[:place], wrong, *good[place:])
                 report(got == f"{place + 1} {answer}\n", f"load with {wrong[:30]!r} at {place}: {got!r}")
@@ -243,8 +283,10 @@ def check_load(a: End, macsecctl: "List[str]") -> None:
         got = load(*good)
         answers = "".join(f"{n} ok\n" for n in (1, 4, 5, 6, 7, 8, 9, 10))
         report(got == answers and state() != before, f"load: {got!r}")
-        report(a.ask("numbers").split()[:6:5] == ["tx", "conf"] and a.ask("numbers tx 0") == "fault NotFound\n",
-               f"after `load`: {a.ask('numbers')}")
+        report(
+            a.ask("numbers").split()[:6:5] == ["tx", "conf"] and a.ask("numbers tx 0") == "fault NotFound\n",
+            f"after `load`: {a.ask('numbers')}",
+        )
         fell = [name for name, value in counters.items() if a.counters().get(name, value) < value]
         report(not fell, f"counters have fallen: {fell}")
         report(f"{peer.sci} 0 InPktsOK" not in a.counters(), "an association that was deleted still counts")
@@ -252,9 +294,10 @@ def check_load(a: End, macsecctl: "List[str]") -> None:
     check_macsecctl(a, macsecctl)
 
 
-def check_macsecctl(a: End, macsecctl: "List[str]") -> None:
+def check_macsecctl(a: End, macsecctl: list[str]) -> None:
     """macsecctl with lines that are all carried out, or none is."""
-    def told(lines: str, *words: str) -> "Tuple[int, str]":
+
+    def told(lines: str, *words: str) -> tuple[int, str]:
         it = subprocess.run([*macsecctl, *words], input=lines, capture_output=True, text=True)
         return it.returncode, it.stdout
 

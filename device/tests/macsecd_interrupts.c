@@ -1,5 +1,5 @@
-/* System calls that a signal interrupts, for the test macsecd: of the calls of macsecd that can wait, every third one ends
- * by EINTR and has done nothing. It is linked with --wrap. */
+/* System calls that a signal interrupts, for the test macsecd: of the calls of macsecd that can wait, every third one
+ * ends by EINTR and has done nothing. It is linked with --wrap. */
 #define _GNU_SOURCE
 #include <errno.h>
 #include <stdbool.h>

@@ -1,10 +1,11 @@
 """Frames that are lost: each is in a counter of macsecd or of the system, and TCP gets through."""
 
+from __future__ import annotations
+
 import concurrent.futures
 import signal
 import subprocess
 import time
-from typing import Dict, Tuple
 
 from house.reporting import Failed, report, until
 from macsecd_handover import dropped
@@ -23,7 +24,7 @@ def count_all(end: End) -> None:
     report(c["device TapIn"] == sent + faults, f"{end.number}: {c['device TapIn']} frames of TAP, {sent} sent")
 
 
-def settled(a: End, b: End) -> "Tuple[Dict[str, int], Dict[str, int]]":
+def settled(a: End, b: End) -> tuple[dict[str, int], dict[str, int]]:
     """The counters of both ends, when no frame is under way."""
     names = ["device LinkIn", "device LinkOut", "device LinkLost"]
     for _ in range(50):

@@ -1,10 +1,12 @@
 """Requests to macsecd: what it answers to good ones, wrong ones, and many at a time."""
 
+from __future__ import annotations
+
 import contextlib
 import json
 import random
 import socket
-from typing import Callable, Dict
+from typing import Callable
 
 from house.reporting import report, until
 from macsecd_world import IN, OUT, RX, End, connected, ping
@@ -30,7 +32,7 @@ def check_answers(end: End) -> None:
     check_formats(end, peer)
 
 
-def counters_of_json(end: End) -> "Dict[str, int]":
+def counters_of_json(end: End) -> dict[str, int]:
     """The endpoint's counters in JSON, under the names of `A counters`."""
     shown = json.loads(end.ask("json"))
     found = {**shown["counters"], **shown["transmit_counters"]}
@@ -46,7 +48,7 @@ def sorted_lines(text: str) -> str:
     return "\n".join(sorted(text.splitlines()))
 
 
-def lines_of(counters: "Dict[str, int]") -> str:
+def lines_of(counters: dict[str, int]) -> str:
     """Counters as `A counters` writes them, in the order of the alphabet."""
     return sorted_lines("\n".join(f"{name} {n}" for name, n in counters.items()))
 
@@ -61,13 +63,16 @@ def check_formats(end: End, peer: str) -> None:
     shown = json.loads(end.ask("json"))
     report(shown["receive"][0]["sci"] == peer and shown["link"] == "link0" and shown["up"] is True, f"json: {shown}")
     agree(lambda: lines_of(counters_of_json(end)), lambda: sorted_lines(end.ask("A counters")), "json")
-    agree(lambda: lines_of({name: n for name, n in end.counters().items() if not name.startswith("device ")}),
-          lambda: sorted_lines(end.ask("A counters")), "`counters`")
+    agree(
+        lambda: lines_of({name: n for name, n in end.counters().items() if not name.startswith("device ")}),
+        lambda: sorted_lines(end.ask("A counters")),
+        "`counters`",
+    )
     agree(lambda: sample().split()[1], lambda: str(end.counters()["OutPktsEncrypted"]), "metrics")
     metrics = end.ask("metrics")
     report("macsec_in_pkts_no_sa_error_total{" in metrics, metrics[:300])
     samples = [it for it in metrics.splitlines() if not it.startswith("#")]
-    report(len(set(it.rsplit(" ", 1)[0] for it in samples)) == len(samples) > 40, "metrics has a sample twice")
+    report(len({it.rsplit(" ", 1)[0] for it in samples}) == len(samples) > 40, "metrics has a sample twice")
 
 
 def state_of(end: End) -> str:
@@ -80,12 +85,22 @@ def check_lines(end: End) -> None:
     """Wrong lines: each has its answer and changes nothing."""
     before = state_of(end)
     for line, answer in (
-        ("A txon 3", "refused 13 NoSa"), ("A txonn 0", "fault Word"), ("A txon", "fault Count"),
-        ("nothing", "fault Word"), ("B txon 0", "fault Ends"), ("A send 00", "fault Ends"),
+        ("A txon 3", "refused 13 NoSa"),
+        ("A txonn 0", "fault Word"),
+        ("A txon", "fault Count"),
+        ("nothing", "fault Word"),
+        ("B txon 0", "fault Ends"),
+        ("A send 00", "fault Ends"),
         ("end A gcm128 0200000000010001 1500 sci", "fault Ends"),
-        (f"A key 0 {'00' * 16} 0", "refused 3 KeyNumberUsed"), ("A txon 0\nA txoff 0", "fault Count"),
-        ("A key 9 xx 0", "fault Hex"), ("x" * 20000, "fault Word"), ("x" * 20001, "fault LineLong"),
-        ("y" * 100000, "fault LineLong"), ("A txoff\0 0", "fault Word"), ("numbers\0", "fault Word"), ("# none", "ok"),
+        (f"A key 0 {'00' * 16} 0", "refused 3 KeyNumberUsed"),
+        ("A txon 0\nA txoff 0", "fault Count"),
+        ("A key 9 xx 0", "fault Hex"),
+        ("x" * 20000, "fault Word"),
+        ("x" * 20001, "fault LineLong"),
+        ("y" * 100000, "fault LineLong"),
+        ("A txoff\0 0", "fault Word"),
+        ("numbers\0", "fault Word"),
+        ("# none", "ok"),
     ):
         got = end.ask(line)
         report(got == answer + "\n", f"{line[:40]!r}: {got!r}, and not {answer!r}")
@@ -123,17 +138,45 @@ def make_sequence(end: End, rng: random.Random, count: int) -> None:
 
     def line() -> str:
         an, key, sci = rng.randrange(4), rng.randrange(6), rng.choice(scis)
-        return rng.choice([
-            f"A key {key} {rng.randbytes(16).hex()} 0", f"A key {key} {rng.randbytes(32).hex()} 0 gcm256",
-            f"A retire {key}", f"A txsa {an} {key} 1 conf", f"A txon {an}", f"A txoff {an}", f"A txdel {an}",
-            f"A rxsc {sci}", f"A rxscdel {sci}", f"A rxsa {sci} {an} {key} 1", f"A rxon {sci} {an}",
-            f"A rxlow {sci} {an} {rng.randrange(1 << 32):x}", f"A rxdel {sci} {an}", "#", "", "A", "A tag auto",
-        ])
+        return rng.choice(
+            [
+                f"A key {key} {rng.randbytes(16).hex()} 0",
+                f"A key {key} {rng.randbytes(32).hex()} 0 gcm256",
+                f"A retire {key}",
+                f"A txsa {an} {key} 1 conf",
+                f"A txon {an}",
+                f"A txoff {an}",
+                f"A txdel {an}",
+                f"A rxsc {sci}",
+                f"A rxscdel {sci}",
+                f"A rxsa {sci} {an} {key} 1",
+                f"A rxon {sci} {an}",
+                f"A rxlow {sci} {an} {rng.randrange(1 << 32):x}",
+                f"A rxdel {sci} {an}",
+                "#",
+                "",
+                "A",
+                "A tag auto",
+            ]
+        )
 
     for _ in range(count):
-        request = line() if rng.random() < 0.7 else rng.choice([
-            f"open {end.sci} gcm128", f"open {end.sci} gcm256 auto", "close", f"port {rng.choice(bit)}", "json",
-            "numbers", "metrics", "\n".join(["load", *(line() for _ in range(rng.randrange(5)))])])
+        request = (
+            line()
+            if rng.random() < 0.7
+            else rng.choice(
+                [
+                    f"open {end.sci} gcm128",
+                    f"open {end.sci} gcm256 auto",
+                    "close",
+                    f"port {rng.choice(bit)}",
+                    "json",
+                    "numbers",
+                    "metrics",
+                    "\n".join(["load", *(line() for _ in range(rng.randrange(5)))]),
+                ]
+            )
+        )
         report(end.ask(request or "#") != "", f"no answer to {request!r}")
 
 

@@ -1,5 +1,7 @@
 """Signals to macsecd at any moment: those that end it, those that mean nothing, and those that interrupt a call."""
 
+from __future__ import annotations
+
 import os
 import pathlib
 import signal
@@ -56,8 +58,10 @@ def check_stops(world: World, programs: pathlib.Path, stops: int) -> None:
         time.sleep(0.002)
     for stream in streams:
         sent, arrived = stream.stop()
-        report(sent == arrived == stream.received > 100, f"signals: {sent} datagrams were sent, {arrived} arrived, "
-               f"and {stream.received} with repeated ones")
+        report(
+            sent == arrived == stream.received > 100,
+            f"signals: {sent} datagrams were sent, {arrived} arrived, " f"and {stream.received} with repeated ones",
+        )
     after = settled(a, b)
     frames = [number for _, number in numbers_of(recorder.stop())]
     report(frames == list(range(frames[0], frames[0] + len(frames))), "signals: packet numbers do not rise by 1")

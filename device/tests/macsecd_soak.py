@@ -1,10 +1,11 @@
 """A long run of macsecd: new keys, random frames and random control lines beside the traffic of clients."""
 
+from __future__ import annotations
+
 import pathlib
 import random
 import threading
 import time
-from typing import Dict, List
 
 from house.reporting import report
 from macsecd_handover import clients, losses, rekey
@@ -71,7 +72,7 @@ def files_of(end: End) -> int:
     return len(list(pathlib.Path(f"/proc/{end.process.pid}/fd").iterdir()))
 
 
-def settled(world: World) -> "List[Dict[str, int]]":
+def settled(world: World) -> list[dict[str, int]]:
     """The counters of both ends, when no frame is under way."""
     for _ in range(50):
         before = [end.counters() for end in world.ends]
@@ -83,7 +84,7 @@ def settled(world: World) -> "List[Dict[str, int]]":
     return after
 
 
-def check_counts(world: World, before: "List[Dict[str, int]]", noise: "List[Noise]") -> None:
+def check_counts(world: World, before: list[dict[str, int]], noise: list[Noise]) -> None:
     """Each frame is in the counters of both ends."""
     after = settled(world)
     grown = [{name: now[name] - old.get(name, 0) for name in now} for now, old in zip(after, before)]
@@ -99,9 +100,12 @@ def check_counts(world: World, before: "List[Dict[str, int]]", noise: "List[Nois
         report(taken == it["device TapIn"], f"{end.number}: {it['device TapIn']} frames of TAP, {taken} counted")
         valid = it[f"{peer} InPktsOK"]
         report(valid == other["device LinkOut"], f"{end.number}: {valid} valid frames of {other['device LinkOut']}")
-        print(f"soak: {end.number}: {it['device LinkIn']} frames of LINK, {it['device TapIn']} of TAP, "
-              f"{ {name: n for name, n in it.items() if n and name in IN + [f'{peer} {r}' for r in RX[1:]]} }, "
-              f"lost {it['device LinkLost']}", flush=True)
+        print(
+            f"soak: {end.number}: {it['device LinkIn']} frames of LINK, {it['device TapIn']} of TAP, "
+            f"{ {name: n for name, n in it.items() if n and name in IN + [f'{peer} {r}' for r in RX[1:]]} }, "
+            f"lost {it['device LinkLost']}",
+            flush=True,
+        )
 
 
 def check_soak(world: World, minutes: float, seed: str) -> None:
@@ -118,7 +122,7 @@ def check_soak(world: World, minutes: float, seed: str) -> None:
     rng = random.Random(seed)
     noise = [Noise(end, world.ends[2 - end.number], rng, good) for end in world.ends]
     streams = [Stream(a, 0.002, 400), Stream(b, 0.002, 400, port=9011)]
-    memory: "List[List[int]]" = []
+    memory: list[list[int]] = []
     with clients(world) as pair:
         for phase in range(1, REKEYS + 1):
             began = time.monotonic()
@@ -137,7 +141,13 @@ def check_soak(world: World, minutes: float, seed: str) -> None:
     check_counts(world, before, noise)
     for end, first, last in zip(world.ends, memory[9], memory[-1]):
         report(last <= first + JOURNAL, f"{end.number}: the memory has grown from {first} to {last} kB")
-        print(f"soak: {end.number}: {first} kB were allocated after 10 changes of keys and {last} kB after {REKEYS}; "
-              f"{memory_of(end, 'VmRSS:')} kB are resident", flush=True)
-    print(f"soak: {sum(it.requests for it in noise)} requests, slowest answer {1000 * slowest:.1f} ms, files {files}, "
-          f"dropped {[losses(end) for end in world.ends]}", flush=True)
+        print(
+            f"soak: {end.number}: {first} kB were allocated after 10 changes of keys and {last} kB after {REKEYS}; "
+            f"{memory_of(end, 'VmRSS:')} kB are resident",
+            flush=True,
+        )
+    print(
+        f"soak: {sum(it.requests for it in noise)} requests, slowest answer {1000 * slowest:.1f} ms, files {files}, "
+        f"dropped {[losses(end) for end in world.ends]}",
+        flush=True,
+    )

@@ -4,11 +4,12 @@ Two processors of the system can be threads of one core. While the other thread 
 other macsecd, a call of the library takes up to 1.8 times as long. So a clock around each call of macsecd measures the
 frames, and the tenth of the calls that take least are compared."""
 
+from __future__ import annotations
+
 import os
 import pathlib
 import socket
 import subprocess
-from typing import Dict, List, Tuple
 
 from house import ROOT
 from house.compiling import INCLUDED, WARNINGS
@@ -27,7 +28,7 @@ SINGLE = ("device.h", "enum { BATCH = 64 };", "enum { BATCH = 1 };")
 RELAY = [*(f"-Wl,--wrap={name}" for name in CLOCKED[:2]), str(ROOT / "device/tests/macsecd_relay.c")]
 
 
-def clocked(text: str) -> "List[float]":
+def clocked(text: str) -> list[float]:
     """What the clock has printed, in microseconds: to seal, a tenth and half of the calls; to open, the same; between
     calls, for a frame."""
     for line in text.splitlines():
@@ -36,7 +37,7 @@ def clocked(text: str) -> "List[float]":
     raise Failed(f"the clock has printed nothing: {text}")
 
 
-def library_alone(folder: pathlib.Path, library: pathlib.Path) -> "List[float]":
+def library_alone(folder: pathlib.Path, library: pathlib.Path) -> list[float]:
     """The times of the library's calls, one after the other."""
     program = str(folder / "cost")
     words = ["gcc", *WARNINGS, "-pedantic", "-O2", *CLOCK, *INCLUDED]
@@ -44,7 +45,7 @@ def library_alone(folder: pathlib.Path, library: pathlib.Path) -> "List[float]":
     return clocked(subprocess.run([program], capture_output=True, text=True, check=True).stderr)
 
 
-def frames_one_way(folder: pathlib.Path, programs: pathlib.Path, frames: int) -> "Tuple[List[float], List[float]]":
+def frames_one_way(folder: pathlib.Path, programs: pathlib.Path, frames: int) -> tuple[list[float], list[float]]:
     """Frames of 1,400 octets from one client to the other, as fast as it can. Returns the times of both ends."""
     with World(folder, programs) as world:
         world.start()
@@ -66,7 +67,7 @@ def processor_time(end: End) -> float:
     return int(pathlib.Path(f"/proc/{end.process.pid}/schedstat").read_text().split()[0]) / 1000
 
 
-def run_tcp(folder: pathlib.Path, programs: pathlib.Path, octets: int) -> "List[float]":
+def run_tcp(folder: pathlib.Path, programs: pathlib.Path, octets: int) -> list[float]:
     """TCP from one client to the other. Returns the million octets a second, and the microseconds of a processor for a
     frame of data, with the acknowledgements and with the system: of the sending macsecd, and of the other."""
     with World(folder, programs) as world:
@@ -87,13 +88,15 @@ def measure(folder: pathlib.Path, library: pathlib.Path, rounds: int = 5, octets
     """Rounds of each, one after the other, and the best of each."""
     device = ROOT / "device"
     single = altered(folder / "single", SINGLE, device)
-    programs = {"macsecd": build(folder / "full", library, [], device),
-                "relay": build(folder / "relay", library, [], device, RELAY),
-                "relay-single": build(folder / "relay-single", library, [], single, RELAY)}
+    programs = {
+        "macsecd": build(folder / "full", library, [], device),
+        "relay": build(folder / "relay", library, [], device, RELAY),
+        "relay-single": build(folder / "relay-single", library, [], single, RELAY),
+    }
     with_clock = build(folder / "clock", library, [], device, CLOCK)
-    alone: "List[List[float]]" = []
-    ends: "Tuple[List[List[float]], List[List[float]]]" = ([], [])
-    best: "Dict[str, float]" = {}
+    alone: list[list[float]] = []
+    ends: tuple[list[list[float]], list[list[float]]] = ([], [])
+    best: dict[str, float] = {}
     for number in range(rounds):
         print(f"speed: load {os.getloadavg()[0]:.1f}", flush=True)
         alone.append(library_alone(folder, library))
@@ -101,15 +104,24 @@ def measure(folder: pathlib.Path, library: pathlib.Path, rounds: int = 5, octets
             rows.append(times)
         for name, each in programs.items():
             speed, sent, received = run_tcp(folder / f"{name}{number}", each, octets)
-            print(f"speed: {name}: TCP {speed:.1f} million octets a second; with the system, to send a frame takes "
-                  f"{sent:.2f} us, and to receive it {received:.2f} us", flush=True)
+            print(
+                f"speed: {name}: TCP {speed:.1f} million octets a second; with the system, to send a frame takes "
+                f"{sent:.2f} us, and to receive it {received:.2f} us",
+                flush=True,
+            )
             best[name] = max(speed, best.get(name, 0))
     for what, rows, at in (("seal", ends[0], 0), ("open", ends[1], 2)):
         one, two = min(it[at] for it in alone), min(it[at] for it in rows)
         own = min(it[4] for it in rows)
-        print(f"speed: to {what} a frame of 1,400 octets takes {one:.2f} us in the library alone; in macsecd {two:.2f} "
-              f"us, and {own:.2f} us between calls, which is {(two + own) / one:.2f} times as much", flush=True)
-        print(f"speed: half of the calls take at most {min(it[at + 1] for it in alone):.2f} us alone, and "
-              f"{min(it[at + 1] for it in rows):.2f} us in macsecd", flush=True)
+        print(
+            f"speed: to {what} a frame of 1,400 octets takes {one:.2f} us in the library alone; in macsecd {two:.2f} "
+            f"us, and {own:.2f} us between calls, which is {(two + own) / one:.2f} times as much",
+            flush=True,
+        )
+        print(
+            f"speed: half of the calls take at most {min(it[at + 1] for it in alone):.2f} us alone, and "
+            f"{min(it[at + 1] for it in rows):.2f} us in macsecd",
+            flush=True,
+        )
     for name in ("relay", "relay-single"):
         print(f"speed: TCP through macsecd has {best['macsecd'] / best[name]:.2f} of the speed of {name}", flush=True)

@@ -1,5 +1,7 @@
 """Network namespaces, devices and sockets for device/tests/macsecd."""
 
+from __future__ import annotations
+
 import contextlib
 import ctypes
 import os
@@ -11,7 +13,7 @@ import struct
 import subprocess
 import threading
 import time
-from typing import Dict, Iterator, List, Optional, Sequence, Set, Tuple
+from collections.abc import Iterator, Sequence
 
 from house import compiling
 from house.compiling import INCLUDED, WARNINGS, device_sources
@@ -29,8 +31,9 @@ IN = ["InPktsUntagged", "InPktsNoTag", "InPktsBadTag", "InPktsReserved", "InPkts
 OUT = ["OutPktsUntagged", "OutPktsTooLong", "OutPktsNoSA", "OutPktsProtected", "OutPktsEncrypted"]
 
 
-def build(out: pathlib.Path, library: pathlib.Path, options: List[str], source: pathlib.Path,
-          wrapped: Sequence[str] = ()) -> pathlib.Path:
+def build(
+    out: pathlib.Path, library: pathlib.Path, options: list[str], source: pathlib.Path, wrapped: Sequence[str] = ()
+) -> pathlib.Path:
     """Builds macsecd and macsecctl of a folder of sources. What wraps calls is for macsecd alone. Returns the folder of
     the programs."""
     out.mkdir(parents=True, exist_ok=True)
@@ -70,7 +73,7 @@ class Packets:
         """Sends a frame."""
         self.socket.send(frame)
 
-    def frames(self, seconds: float = 0.2) -> List[bytes]:
+    def frames(self, seconds: float = 0.2) -> list[bytes]:
         """Frames that arrived, until none has for so long. A VLAN tag that the system took out is in them again."""
         got = []
         self.socket.settimeout(seconds)
@@ -86,7 +89,7 @@ class Packets:
         self.socket.close()
 
 
-def with_tag(frame: bytes, about: List[Tuple[int, int, bytes]]) -> bytes:
+def with_tag(frame: bytes, about: list[tuple[int, int, bytes]]) -> bytes:
     """A frame with the VLAN tag that the data about it has."""
     for level, kind, data in about:
         if level == SOL_PACKET and kind == PACKET_AUXDATA:
@@ -96,17 +99,17 @@ def with_tag(frame: bytes, about: List[Tuple[int, int, bytes]]) -> bytes:
     return frame
 
 
-def protected(frames: List[bytes], sci: str) -> List[bytes]:
+def protected(frames: list[bytes], sci: str) -> list[bytes]:
     """The frames with a SecTAG of this SCI."""
     return [it for it in frames if it[12:14] == b"\x88\xe5" and it[20:28].hex() == sci]
 
 
-def numbers_of(frames: List[bytes]) -> "List[Tuple[int, int]]":
+def numbers_of(frames: list[bytes]) -> list[tuple[int, int]]:
     """The association and the packet number of each frame."""
     return [(it[14] & 3, int.from_bytes(it[16:20], "big")) for it in frames]
 
 
-def places_of(pid: int, octets: bytes) -> "List[List[str]]":
+def places_of(pid: int, octets: bytes) -> list[list[str]]:
     """The flags of those parts of a process's memory that have these octets."""
     found, start, end, readable = [], 0, 0, False
     with open(f"/proc/{pid}/smaps", encoding="utf-8") as maps, open(f"/proc/{pid}/mem", "rb") as memory:
@@ -135,7 +138,7 @@ class Namespace:
 
     def __init__(self, namespace: str, folder: pathlib.Path) -> None:
         self.namespace, self.folder = namespace, folder
-        self.more_environment: Dict[str, str] = {}
+        self.more_environment: dict[str, str] = {}
         for each in ("conf", "state", "run"):
             (self.folder / each).mkdir(parents=True)
 
@@ -144,7 +147,7 @@ class Namespace:
         return call("ip", "-n", self.namespace, *words)
 
     @property
-    def environment(self) -> Dict[str, str]:
+    def environment(self) -> dict[str, str]:
         """Where macsecd finds its files."""
         folders = {"CONFIGURATION_DIRECTORY": "conf", "STATE_DIRECTORY": "state", "RUNTIME_DIRECTORY": "run"}
         more = {name: str(self.folder / each) for name, each in folders.items()}
@@ -164,7 +167,7 @@ class Namespace:
                 got = it.recv(1 << 20)
         return got.decode()
 
-    def counters(self) -> Dict[str, int]:
+    def counters(self) -> dict[str, int]:
         """The answer to `counters`."""
         lines = (line.rsplit(" ", 1) for line in self.ask("counters").splitlines())
         return {name: int(value) for name, value in lines}
@@ -173,13 +176,13 @@ class Namespace:
 class End(Namespace):
     """A namespace with a macsecd in it."""
 
-    def __init__(self, world: "World", number: int) -> None:
+    def __init__(self, world: World, number: int) -> None:
         super().__init__(f"macsecd-{os.getpid()}-{world.folder.name}-{number}", world.folder / str(number))
         self.world, self.number = world, number
         self.sci = f"02000000000{number}0001"
-        self.process: Optional[subprocess.Popen] = None
+        self.process: subprocess.Popen | None = None
         self.program = world.programs / "macsecd"
-        self.prefix: List[str] = []
+        self.prefix: list[str] = []
 
     @property
     def config(self) -> pathlib.Path:
@@ -205,8 +208,9 @@ A rxon 02000000000{peer}0001 0
     def run(self, *words: str) -> subprocess.CompletedProcess:
         """Runs macsecd until it ends."""
         command = ["ip", "netns", "exec", self.namespace, str(self.program), *words]
-        return subprocess.run(command, stdin=subprocess.DEVNULL, capture_output=True, text=True, timeout=30,
-                              env=self.environment)
+        return subprocess.run(
+            command, stdin=subprocess.DEVNULL, capture_output=True, text=True, timeout=30, env=self.environment
+        )
 
     def create_journal(self) -> None:
         """Creates its journal."""
@@ -253,14 +257,14 @@ A rxon 02000000000{peer}0001 0
             if not answer.startswith("ok"):
                 raise Failed(f"{line}: {answer}")
 
-    def ended(self, seconds: float = 15.0) -> Optional[int]:
+    def ended(self, seconds: float = 15.0) -> int | None:
         """The exit status of macsecd, or None if it does not end."""
         assert self.process is not None
         with contextlib.suppress(subprocess.TimeoutExpired):
             return self.process.wait(seconds)
         return None
 
-    def stop(self, number: int = signal.SIGTERM) -> Optional[int]:
+    def stop(self, number: int = signal.SIGTERM) -> int | None:
         """Ends macsecd by a signal. Returns its exit status, or None if it had to be killed."""
         if self.process is None:
             return None
@@ -293,7 +297,7 @@ class World:
         self.keys = [secrets.token_hex(16), secrets.token_hex(16)]
         self.ends = [End(self, 1), End(self, 2)]
 
-    def __enter__(self) -> "World":
+    def __enter__(self) -> World:
         for end in self.ends:
             call("ip", "netns", "add", end.namespace)
             settings = ["net.ipv6.conf.default.disable_ipv6=0", "net.ipv6.conf.all.accept_dad=0"]
@@ -387,7 +391,7 @@ class Stream:
             self.sender = socket.socket(socket.AF_INET, socket.SOCK_DGRAM)
         self.target, self.interval, self.size = (f"10.9.0.{peer.number}", port), interval, size
         self.sent, self.received, self.goes_on = 0, 0, True
-        self.arrived: "Set[bytes]" = set()
+        self.arrived: set[bytes] = set()
         self.threads = [threading.Thread(target=each) for each in (self.send, self.receive)]
         for thread in self.threads:
             thread.start()
@@ -412,7 +416,7 @@ class Stream:
                 if not self.threads[0].is_alive():
                     return
 
-    def stop(self) -> "Tuple[int, int]":
+    def stop(self) -> tuple[int, int]:
         """Stops it. Returns how many datagrams were sent, and how many different ones arrived."""
         self.goes_on = False
         for thread in self.threads:
@@ -422,7 +426,7 @@ class Stream:
         return self.sent, len(self.arrived)
 
 
-def tcp_pair(end: End) -> "Tuple[socket.socket, socket.socket]":
+def tcp_pair(end: End) -> tuple[socket.socket, socket.socket]:
     """A TCP connection from one client to the other: the socket that sends, and the one that receives."""
     peer = end.world.ends[2 - end.number]
     with inside(peer.namespace):

@@ -4,8 +4,8 @@
  *
  * A MACsec device in user space: its client uses a TAP device, and the link is another network device. It shows how a
  * program uses the library, and no more: it keeps no packet numbers, prints no counters and takes no new keys. CONFIG
- * has the lines of docs/SCRIPT.md for one end, A: `end A ..` and then its commands. Use new keys for every run, since no
- * packet number may be used twice under one key. The MTU of TAP should be 32 octets below the MTU of LINK. */
+ * has the lines of docs/SCRIPT.md for one end, A: `end A ..` and then its commands. Use new keys for every run, since
+ * no packet number may be used twice under one key. The MTU of TAP should be 32 octets below the MTU of LINK. */
 #define _DEFAULT_SOURCE
 #include "macsec.h"
 #include <arpa/inet.h>

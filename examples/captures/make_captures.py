@@ -6,6 +6,8 @@ usage: make_captures.py MACSEC FOLDER
 The program MACSEC protects the frames; times and client frames are fixed, so the files are the same each time.
 linux.pcap was captured from the driver of Linux 6.1, configured as docs/INTEROP.md says ("A worked pair")."""
 
+from __future__ import annotations
+
 import os
 import pathlib
 import struct
@@ -22,11 +24,7 @@ Record = "tuple[int, bytes]"  # microseconds after START, and a frame
 ADDRESS_1, ADDRESS_2 = bytes.fromhex("020000000001"), bytes.fromhex("020000000002")
 IP_1, IP_2 = bytes([192, 0, 2, 1]), bytes([192, 0, 2, 2])
 SCI_1, SCI_2 = f"{ADDRESS_1.hex()}0001", f"{ADDRESS_2.hex()}0001"
-KEYS = [
-    "ad7a2bd03eac835a6f620fdcb506b345",
-    "000102030405060708090a0b0c0d0e0f",
-    "101112131415161718191a1b1c1d1e1f",
-]
+KEYS = ["ad7a2bd03eac835a6f620fdcb506b345", "000102030405060708090a0b0c0d0e0f", "101112131415161718191a1b1c1d1e1f"]
 SALT = "a0a1a2a3a4a5a6a7a8a9aaab"
 START = 1_700_000_000
 
@@ -42,14 +40,14 @@ def checksum(octets: bytes) -> bytes:
     return struct.pack(">H", ~total & 0xFFFF)
 
 
-def arp(operation: int, sender: "tuple[bytes, bytes]", target: "tuple[bytes, bytes]") -> bytes:
+def arp(operation: int, sender: tuple[bytes, bytes], target: tuple[bytes, bytes]) -> bytes:
     """A frame of ARP between two pairs of addresses: 1 asks, 2 answers."""
     is_request = operation == 1
     head = (b"\xff" * 6 if is_request else target[0]) + sender[0] + bytes.fromhex("0806" "000108000604")
     return head + struct.pack(">H", operation) + b"".join(sender) + (bytes(6) if is_request else target[0]) + target[1]
 
 
-def ping(kind: int, sender: "tuple[bytes, bytes]", target: "tuple[bytes, bytes]", number: int) -> bytes:
+def ping(kind: int, sender: tuple[bytes, bytes], target: tuple[bytes, bytes], number: int) -> bytes:
     """A frame of a ping: of kind 8 an echo request, of kind 0 the reply."""
     icmp = struct.pack(">BBHHH", kind, 0, 0, 0x4D53, number) + bytes(range(0x10, 0x48))
     icmp = icmp[:2] + checksum(icmp) + icmp[4:]
@@ -57,12 +55,12 @@ def ping(kind: int, sender: "tuple[bytes, bytes]", target: "tuple[bytes, bytes]"
     return target[0] + sender[0] + b"\x08\x00" + ip[:10] + checksum(ip) + ip[12:] + icmp
 
 
-def write(path: str, records: "list[Record]") -> None:
+def write(path: str, records: list[Record]) -> None:
     """Writes a pcap file, with times in microseconds."""
     capture.write_pcap(path, ((START * 10**9 + time * 1000, frame) for time, frame in records), 1000)
 
 
-def read(path: str) -> "list[Record]":
+def read(path: str) -> list[Record]:
     """The records of a pcap file that the program wrote."""
     return [(it.time // 1000 - START * 10**6, it.frame) for it in capture.read(path)]
 
@@ -72,7 +70,7 @@ def config(sci: str, key: str, an: int, pn: str, suite: str = "gcm128", extended
     return f"end A {suite} {sci} 1546 {form}\nA key 0 {key} 0{extended}\nA txsa {an} 0 {pn} conf\nA txon {an}\n"
 
 
-def protect(program: str, text: str, records: "list[Record]") -> "list[Record]":
+def protect(program: str, text: str, records: list[Record]) -> list[Record]:
     """What the program sends for some client frames, each of which has to be protected."""
     with tempfile.TemporaryDirectory() as folder:
         sender, clients, link = (f"{folder}/{it}" for it in ("sender.config", "client.pcap", "link.pcap"))
@@ -91,10 +89,10 @@ def main() -> None:
     from_2 = [(400, arp(2, two, one)), (1_300, ping(0, two, one, 1)), (1_001_300, ping(0, two, one, 2))]
     later = [(2_001_000 + 1_000_000 * it, ping(8, one, two, 3 + it)) for it in range(3)]
 
-    def sent(records: "list[Record]", *words: "str | int", **more: str) -> "list[Record]":
+    def sent(records: list[Record], *words: str | int, **more: str) -> list[Record]:
         return protect(program, config(*words, **more), records)
 
-    def put(name: str, records: "list[Record]") -> None:
+    def put(name: str, records: list[Record]) -> None:
         write(f"{folder}/{name}", records)
 
     # What a client sends, and what its SecY sends for it from packet number 1 on.

@@ -3,6 +3,8 @@
 
 The key is a published test vector: use your own."""
 
+from __future__ import annotations
+
 from macsec import SecY
 
 KEY = bytes.fromhex("ad7a2bd03eac835a6f620fdcb506b345")
@@ -35,11 +37,7 @@ with sender() as it:
 # The attacker holds frame 3 back, repeats frame 2, and sends frame 1 again at the end.
 order = [0, 1, 2, 2, 4, 3, 5, 1]
 print("packet number      " + "".join(f"{n + 1:>9}" for n in order))
-for name, made in (
-    ("window 0", receiver(0)),
-    ("window 2", receiver(2)),
-    ("no protection", receiver(0, False)),
-):
+for name, made in (("window 0", receiver(0)), ("window 2", receiver(2)), ("no protection", receiver(0, False))):
     print(f"{name:<19}" + "".join(f"{made.receive(frames[n]).verdict.name:>9}" for n in order))
     association = made.rx_sa(SENDER_SCI, 0)
     counters = {name: count for name, count in made.rx_counters(SENDER_SCI).items() if count}

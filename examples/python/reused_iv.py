@@ -4,6 +4,8 @@
 GCM encrypts by the XOR of the data and a key stream, which the key and the IV (SCI and packet number) determine: the
 same IV, the same stream. Nothing below computes a cipher. The key is a published test vector: use your own."""
 
+from __future__ import annotations
+
 from macsec import SecY
 
 CONFIG = """\

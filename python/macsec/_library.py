@@ -6,7 +6,7 @@ import ctypes
 import functools
 import os
 from ctypes import c_bool, c_char_p, c_size_t, c_uint8, c_uint16, c_uint32, c_uint64, c_void_p
-from typing import Any, Tuple
+from typing import Any
 
 SONAME = "libmacsec.so.1"
 Sci = c_uint8 * 8
@@ -156,7 +156,7 @@ def path() -> str:
     return os.environ.get("MACSEC_LIBRARY") or SONAME
 
 
-@functools.lru_cache(maxsize=None)
+@functools.cache
 def load() -> ctypes.CDLL:
     """The library, with the types of its calls. It is loaded once."""
     try:
@@ -178,8 +178,8 @@ def load() -> ctypes.CDLL:
     return library
 
 
-@functools.lru_cache(maxsize=None)
-def frame_calls() -> "Tuple[Any, Any]":
+@functools.cache
+def frame_calls() -> tuple[Any, Any]:
     """macsec_send_raw and macsec_receive_raw for arguments that are octets or objects of ctypes. A conversion of each
     argument takes longer than the rest of the call."""
     library = load()

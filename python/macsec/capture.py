@@ -6,7 +6,8 @@ import gzip
 import os
 import struct
 import tempfile
-from typing import BinaryIO, Dict, Iterable, Iterator, List, NamedTuple, Optional, Tuple, cast
+from collections.abc import Iterable, Iterator
+from typing import BinaryIO, NamedTuple, cast
 
 from .errors import CaptureError
 
@@ -85,9 +86,9 @@ class _Interface(NamedTuple):
     fcs: int
 
 
-def _options(octets: bytes, order: str) -> Dict[int, bytes]:
+def _options(octets: bytes, order: str) -> dict[int, bytes]:
     """The options of a block: of a repeated one, the first."""
-    found: Dict[int, bytes] = {}
+    found: dict[int, bytes] = {}
     at = 0
     while at + 4 <= len(octets):
         code, size = struct.unpack_from(order + "HH", octets, at)
@@ -108,7 +109,7 @@ def _interface(body: bytes, order: str) -> _Interface:
 
 
 def _read_pcapng(file: BinaryIO, start: bytes) -> Iterator[Packet]:
-    order, interfaces, number = "<", cast(List[_Interface], []), 0
+    order, interfaces, number = "<", cast(list[_Interface], []), 0
     while start:
         if len(start) < 4:
             raise CaptureError("the file ends within a block")
@@ -136,7 +137,7 @@ def _read_pcapng(file: BinaryIO, start: bytes) -> Iterator[Packet]:
         start = file.read(4)
 
 
-def _packet(number: int, kind: int, body: bytes, order: str, interfaces: List[_Interface]) -> Packet:
+def _packet(number: int, kind: int, body: bytes, order: str, interfaces: list[_Interface]) -> Packet:
     """The packet of an enhanced, a simple or an obsolete packet block."""
     time = 0
     if kind == 3:
@@ -168,7 +169,7 @@ def pcap_record(time: int, frame: bytes, unit: int = 1) -> bytes:
     return struct.pack("<IIII", seconds, rest // unit, len(frame), len(frame)) + frame
 
 
-def write_pcap(path: str, packets: "Iterable[Tuple[int, bytes]]", unit: int = 1) -> None:
+def write_pcap(path: str, packets: Iterable[tuple[int, bytes]], unit: int = 1) -> None:
     """Writes frames with their times in nanoseconds as a pcap file."""
     with open(path, "wb") as file:
         file.write(pcap_header(unit))
@@ -188,8 +189,8 @@ class PcapngFile:
         if os.path.lexists(path):
             raise FileExistsError(f"{path} exists: name a new file")
         handle, self._temporary = tempfile.mkstemp(prefix=".macsec-", dir=os.path.dirname(os.path.abspath(path)))
-        self._file: Optional[BinaryIO] = os.fdopen(handle, "wb")
-        self._interfaces: Dict[int, int] = {}
+        self._file: BinaryIO | None = os.fdopen(handle, "wb")
+        self._interfaces: dict[int, int] = {}
         self._put(0x0A0D0D0A, struct.pack("<IHHq", 0x1A2B3C4D, 1, 0, -1))
 
     def _put(self, kind: int, body: bytes) -> None:

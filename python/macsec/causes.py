@@ -3,7 +3,8 @@
 from __future__ import annotations
 
 import itertools
-from typing import Dict, Iterator, List, NamedTuple, Optional, Sequence, Tuple
+from collections.abc import Iterator, Sequence
+from typing import NamedTuple
 
 from .endpoint_of_config import Configuration, KeyLine
 from .frames import read_tag, sender_of, without_vlan
@@ -28,7 +29,7 @@ class Change(NamedTuple):
 
     cause: str
     text: str
-    line: Optional[int] = None
+    line: int | None = None
 
 
 class Setting(NamedTuple):
@@ -50,12 +51,12 @@ class Setting(NamedTuple):
 class Found(NamedTuple):
     """Changes under which a frame opens, and the setting. Without a setting, it was not opened."""
 
-    changes: Tuple[Change, ...]
-    setting: Optional[Setting] = None
+    changes: tuple[Change, ...]
+    setting: Setting | None = None
 
 
 # One way to change a setting: its name among the ways, and what it gives.
-_Option = Tuple[Change, Dict[str, object]]
+_Option = tuple[Change, dict[str, object]]
 
 
 def _reversed(ssci: int) -> int:
@@ -73,12 +74,12 @@ class Search:
         self.configuration, self.trials = configuration, Trials()
         self._more_keys = list(more_keys)
 
-    def _options(self, base: Setting, line: Optional[int], source: bytes, is_wide: bool) -> "Dict[str, List[_Option]]":
+    def _options(self, base: Setting, line: int | None, source: bytes, is_wide: bool) -> dict[str, list[_Option]]:
         """The ways to change a setting: all of them, or the likely ones. `source` is the source address of a frame
         that names no sender."""
         lines = list(self.configuration.keys.values())[:_MOST_KEYS]
         of_key = next((it.line for it in lines if it.octets == base.key.octets), None)
-        found: Dict[str, List[_Option]] = {"key": [], "sci": []}
+        found: dict[str, list[_Option]] = {"key": [], "sci": []}
         for each in [*map(_key_of, lines), *self._more_keys]:
             if each.octets != base.key.octets:
                 change = Change("key", f"{each.name} in place of {base.key.name}", line)
@@ -111,7 +112,7 @@ class Search:
             ]  # fmt: skip
         return found
 
-    def changes(self, frame: bytes, base: Setting, line: Optional[int], most: int = 3) -> "Optional[Found]":
+    def changes(self, frame: bytes, base: Setting, line: int | None, most: int = 3) -> Found | None:
         """The fewest changes of a setting, up to `most`, under which a frame opens; None if there are none."""
         tag = read_tag(frame)
         source = b"" if tag is None or tag.sci is not None or tag.tci & 0x50 else frame[6:12]
@@ -128,10 +129,10 @@ class Search:
 
     # The causes of a verdict.
 
-    def of(self, frame: bytes, verdict: Verdict) -> "Optional[Found]":
+    def of(self, frame: bytes, verdict: Verdict) -> Found | None:
         """Why a frame has a verdict that CONFIG gave it; None if nothing that was tried explains it."""
         plain, tags = without_vlan(frame)
-        first: Tuple[Change, ...] = ()
+        first: tuple[Change, ...] = ()
         if tags:
             first = (Change("vlan", f"without the VLAN tag {tags.hex()} before the SecTAG"),)
             verdict = self.configuration.alone(plain).verdict
@@ -145,7 +146,7 @@ class Search:
             found = self._with_association(plain, verdict)
         return Found(first + found.changes, found.setting) if found else Found(first) if first else None
 
-    def _with_association(self, frame: bytes, verdict: Verdict) -> "Optional[Found]":
+    def _with_association(self, frame: bytes, verdict: Verdict) -> Found | None:
         row = self._row_of(frame)
         if row is None:
             return None
@@ -162,7 +163,7 @@ class Search:
         late = Change("pn", f"a lower packet number than {sa.lowest:x}, hex, in rxsa", line)
         return Found((late, *found.changes), found.setting) if found else None
 
-    def _row_of(self, frame: bytes) -> "Optional[Tuple[bytes, int, RxSa]]":
+    def _row_of(self, frame: bytes) -> tuple[bytes, int, RxSa] | None:
         """The association that CONFIG has for a frame."""
         tag = read_tag(frame)
         assert tag is not None
@@ -174,11 +175,11 @@ class Search:
         sa = self.configuration.rx_sa(named, tag.an)
         return (named, tag.an, sa) if sa else None
 
-    def _setting(self, sci: bytes, an: int, sa: RxSa) -> "Optional[Setting]":
+    def _setting(self, sci: bytes, an: int, sa: RxSa) -> Setting | None:
         line = self.configuration.keys.get(sa.key)
         return Setting(_key_of(line), sci, an, sa.ssci, sa.lowest >> 32) if line else None
 
-    def _without_association(self, frame: bytes) -> "Optional[Found]":
+    def _without_association(self, frame: bytes) -> Found | None:
         """Why CONFIG has no association for a frame, and under which key it opens."""
         tag = read_tag(frame)
         assert tag is not None
@@ -209,7 +210,7 @@ class Search:
                 return Found((change, *found.changes), found.setting)
         return Found((change,))
 
-    def _likely(self, sci: bytes, an: int, rows: "Sequence[Tuple[bytes, int, RxSa]]") -> "Iterator[Setting]":
+    def _likely(self, sci: bytes, an: int, rows: Sequence[tuple[bytes, int, RxSa]]) -> Iterator[Setting]:
         """Settings for an association that CONFIG lacks: those of its other ones, of the same SCI or AN first."""
         for _, _, sa in sorted(rows, key=lambda it: (it[0] != sci) + (it[1] != an)):
             setting = self._setting(sci, an, sa)
@@ -221,7 +222,7 @@ class Search:
             yield Setting(key, sci, an, 1)
 
     def _only_channel(
-        self, frame: bytes, an: int, rows: "Sequence[Tuple[bytes, int, RxSa]]", channels: Sequence[bytes]
+        self, frame: bytes, an: int, rows: Sequence[tuple[bytes, int, RxSa]], channels: Sequence[bytes]
     ) -> Found:
         """Of a frame that names no sender."""
         why = "no SCI in the SecTAG"
@@ -243,14 +244,14 @@ def _trailer(count: int) -> Change:
     return Change("padding", f"without the last {count} octets: padding or a trailer")
 
 
-def _ports_of(sci: bytes) -> "List[bytes]":
+def _ports_of(sci: bytes) -> list[bytes]:
     """The SCIs of the address with the usual ports."""
     return [sci[:6] + port.to_bytes(2, "big") for port in (1, 0, 2, 3)]
 
 
-def _changed(base: Setting, chosen: "Sequence[_Option]") -> "Optional[Setting]":
+def _changed(base: Setting, chosen: Sequence[_Option]) -> Setting | None:
     """A setting with some changes; None if they do not go together, or change nothing."""
-    given: Dict[str, object] = {}
+    given: dict[str, object] = {}
     for _, values in chosen:
         given.update(values)
     key = given.get("key", base.key)

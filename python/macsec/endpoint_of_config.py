@@ -2,7 +2,7 @@
 
 from __future__ import annotations
 
-from typing import Dict, List, NamedTuple, Optional
+from typing import NamedTuple
 
 from .errors import Refused, UsageError, error
 from .grammar import Command, parse
@@ -55,10 +55,10 @@ class Configuration:
         self.end_line = end.line
         _, suite, self.sci, self.max_frame, self.form = end.values
         self.suite = Suite[suite]
-        self.keys: Dict[int, KeyLine] = {}
-        self.refusals: List[Refusal] = []
+        self.keys: dict[int, KeyLine] = {}
+        self.refusals: list[Refusal] = []
         self._lines = text.split(b"\n")
-        self._alone: Optional[SecY] = None
+        self._alone: SecY | None = None
         self.secy = self._made(True)
 
     def _made(self, is_first: bool) -> SecY:
@@ -87,11 +87,11 @@ class Configuration:
         with self.fresh() as secy:
             return secy.receive(frame)
 
-    def channels(self) -> List[bytes]:
+    def channels(self) -> list[bytes]:
         """The SCIs of the receive channels."""
         return self._state().rx_scs()
 
-    def rx_sa(self, sci: bytes, an: int) -> Optional[RxSa]:
+    def rx_sa(self, sci: bytes, an: int) -> RxSa | None:
         """A receive association as CONFIG leaves it, before any frame; None if there is none."""
         try:
             return self._state().rx_sa(sci, an)
@@ -104,14 +104,14 @@ class Configuration:
             self._alone = self.fresh()
         return self._alone
 
-    def _line_of(self, keyword: str, *values: object) -> Optional[int]:
+    def _line_of(self, keyword: str, *values: object) -> int | None:
         found = [it.line for it in self.commands if it.keyword == keyword and it.values[: len(values)] == values]
         return found[-1] if found else None
 
-    def line_of_rxsa(self, sci: bytes, an: int) -> Optional[int]:
+    def line_of_rxsa(self, sci: bytes, an: int) -> int | None:
         """The number of the last line `rxsa` for an association."""
         return self._line_of("rxsa", sci, an)
 
-    def line_of_rxsc(self, sci: bytes) -> Optional[int]:
+    def line_of_rxsc(self, sci: bytes) -> int | None:
         """The number of the last line `rxsc` for a channel."""
         return self._line_of("rxsc", sci)

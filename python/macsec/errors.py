@@ -2,8 +2,6 @@
 
 from __future__ import annotations
 
-from typing import Optional
-
 from .names import Status
 
 MEANINGS = {
@@ -57,7 +55,7 @@ MEANINGS = {
 class MacsecError(Exception):
     """The library did nothing. `number` and `name` are the status's; `line` is a line of a text, from 1, or None."""
 
-    def __init__(self, status: int, line: Optional[int] = None) -> None:
+    def __init__(self, status: int, line: int | None = None) -> None:
         self.number = int(status)
         self.line = line
         known = Status(status)
@@ -94,7 +92,7 @@ class UsageError(Exception):
     """The arguments of a command, or a text that it was given, cannot be used."""
 
 
-def error(status: int, line: Optional[int] = None) -> MacsecError:
+def error(status: int, line: int | None = None) -> MacsecError:
     """The exception of a status that is not OK.
 
     >>> error(5)

@@ -3,7 +3,7 @@
 from __future__ import annotations
 
 import zlib
-from typing import NamedTuple, Optional
+from typing import NamedTuple
 
 MACSEC = b"\x88\xe5"
 VLAN = (b"\x81\x00", b"\x88\xa8", b"\x91\x00")
@@ -17,7 +17,7 @@ class SecTag(NamedTuple):
     an: int
     sl: int
     pn: int
-    sci: Optional[bytes]
+    sci: bytes | None
     end: int
 
     @property
@@ -31,7 +31,7 @@ class SecTag(NamedTuple):
         return " ".join(name for bit, name in names if self.tci & bit) or "none"
 
 
-def read_tag(frame: bytes) -> Optional[SecTag]:
+def read_tag(frame: bytes) -> SecTag | None:
     """The SecTAG after the two addresses; None if there is none, or if the frame ends within it."""
     if frame[12:14] != MACSEC or len(frame) < 20:
         return None
@@ -66,7 +66,7 @@ def vlan_octets(frame: bytes) -> int:
     return at - 12
 
 
-def without_vlan(frame: bytes) -> "tuple[bytes, bytes]":
+def without_vlan(frame: bytes) -> tuple[bytes, bytes]:
     """A frame without the VLAN tags before a SecTAG, and those tags. Other frames stay as they are."""
     count = vlan_octets(frame)
     if not count or frame[12 + count : 14 + count] != MACSEC:

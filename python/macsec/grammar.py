@@ -7,7 +7,8 @@ every line, and says which word is wrong and what is expected.
 from __future__ import annotations
 
 import difflib
-from typing import Any, Callable, Dict, List, NamedTuple, Optional, Sequence, Tuple
+from collections.abc import Sequence
+from typing import Any, Callable, NamedTuple
 
 MOST_OCTETS, MOST_LINES, LONGEST_LINE = 1_048_576, 65_536, 20_000
 BYTE_ORDER_MARK = b"\xef\xbb\xbf".decode("latin-1")
@@ -32,13 +33,13 @@ class Command(NamedTuple):
 
     line: int
     keyword: str
-    values: Tuple[Any, ...]
+    values: tuple[Any, ...]
 
 
 class _Wrong(Exception):
     """A fault of a line: the word from 0 or None, its name, and a message."""
 
-    def __init__(self, word: Optional[int], name: str, message: str) -> None:
+    def __init__(self, word: int | None, name: str, message: str) -> None:
         super().__init__(word, name, message)
         self.word, self.name, self.message = word, name, message
 
@@ -116,7 +117,7 @@ _KEY = (_N, _hex(16, 32), _decimal(0, 255))
 
 END = "end A SUITE SCI MAX FORM"
 # Each command: how it is written, and what its words after the keyword have to be, for each number of them.
-COMMANDS: Dict[str, Tuple[str, List[Tuple[Reader, ...]]]] = {
+COMMANDS: dict[str, tuple[str, list[tuple[Reader, ...]]]] = {
     "protect": ("on|off", [(_SWITCH,)]),
     "validate": ("strict|check|disabled", [(_one_of(*MODES),)]),
     "replay": ("on|off WINDOW", [(_SWITCH, _decimal(0, 2**64 - 1))]),
@@ -149,10 +150,10 @@ def _frame(word: str, at: int) -> bytes:
     return bytes.fromhex(word)
 
 
-_EVENTS: Dict[str, List[Tuple[Reader, ...]]] = {
+_EVENTS: dict[str, list[tuple[Reader, ...]]] = {
     "send": [(_frame,)], "sendu": [(_frame,)], "deliver": [(_LINK_NUMBER,)], "counters": [()], "numbers": [()],
 }  # fmt: skip
-_PLAIN: Dict[str, List[Tuple[Reader, ...]]] = {
+_PLAIN: dict[str, list[tuple[Reader, ...]]] = {
     "end": [(_one_of("A", "B"), _SUITE, _SCI, _decimal(64, 9248), _FORM)],
     "alter": [(_LINK_NUMBER, _LINK_NUMBER, _hex(1))], "pad": [(_LINK_NUMBER,)], "inject": [(_frame,)],
 }  # fmt: skip
@@ -163,7 +164,7 @@ def form_fits(form: str, sci: bytes) -> bool:
     return form not in ("es", "scb") or sci[6:] == (b"\0\1" if form == "es" else b"\0\0")
 
 
-def _forms_of(words: List[str]) -> "Tuple[int, List[Tuple[Reader, ...]]]":
+def _forms_of(words: list[str]) -> tuple[int, list[tuple[Reader, ...]]]:
     """The place of the keyword, and what can follow it."""
     if words[0] not in ("A", "B"):
         if words[0] in _PLAIN:
@@ -180,7 +181,7 @@ def _forms_of(words: List[str]) -> "Tuple[int, List[Tuple[Reader, ...]]]":
     return 1, COMMANDS[words[1]][1]
 
 
-def _values_of(words: List[str]) -> "Tuple[str, Tuple[Any, ...]]":
+def _values_of(words: list[str]) -> tuple[str, tuple[Any, ...]]:
     """The keyword of a line, and the values of the words after it."""
     at, forms = _forms_of(words)
     keyword, rest = words[at], words[at + 1 :]
@@ -198,7 +199,7 @@ def _values_of(words: List[str]) -> "Tuple[str, Tuple[Any, ...]]":
     return keyword, values
 
 
-def read_line(words: List[str], is_first: bool) -> "Tuple[str, Tuple[Any, ...]]":
+def read_line(words: list[str], is_first: bool) -> tuple[str, tuple[Any, ...]]:
     """The same, of a line in its place."""
     keyword, values = _values_of(words)
     if is_first and (keyword != "end" or values[0] != "A"):
@@ -210,7 +211,7 @@ def read_line(words: List[str], is_first: bool) -> "Tuple[str, Tuple[Any, ...]]"
     return keyword, values
 
 
-def parse(text: bytes) -> "Tuple[List[Command], List[Fault]]":
+def parse(text: bytes) -> tuple[list[Command], list[Fault]]:
     """The commands of a CONFIG, the line `end` among them, and all faults. The first is the one that the program names.
 
     >>> parse(b"end A gcm128 0200000000010001 1546 sci\\nA key 0 ad7a2bd03eac835a6f620fdcb506b345f 0\\n")[1][0]
@@ -221,8 +222,8 @@ def parse(text: bytes) -> "Tuple[List[Command], List[Fault]]":
         lines.pop()
     if len(text) > MOST_OCTETS or len(lines) > MOST_LINES:
         return [], [Fault(0, 0, "ScriptLong", f"more than {MOST_OCTETS} octets or {MOST_LINES} lines")]
-    commands: List[Command] = []
-    faults: List[Fault] = []
+    commands: list[Command] = []
+    faults: list[Fault] = []
     is_first = True
     for number, line in enumerate(lines, 1):
         if len(line) > LONGEST_LINE:

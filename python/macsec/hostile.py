@@ -2,7 +2,8 @@
 
 from __future__ import annotations
 
-from typing import Callable, Iterator, List, NamedTuple, Optional
+from collections.abc import Iterator
+from typing import Callable, NamedTuple
 
 from .names import Suite, Verdict
 from .sealing import ICV_OCTETS, seal
@@ -32,7 +33,7 @@ class Tag(NamedTuple):
     octet: int
     sl: int
     pn: int
-    sci: Optional[bytes]
+    sci: bytes | None
     ethertype: bytes = MACSEC
 
     def octets(self) -> bytes:
@@ -56,11 +57,11 @@ class Shape(NamedTuple):
     tag: bytes
     pn: int
     conf: bool = True
-    icv: Optional[bytes] = None
+    icv: bytes | None = None
     pad: bytes = b""
     cut: int = 0
-    iv_sci: Optional[bytes] = None
-    offset: Optional[int] = None
+    iv_sci: bytes | None = None
+    offset: int | None = None
 
     def frame(self, source: Source) -> bytes:
         """The octets of the frame."""
@@ -114,7 +115,7 @@ class _Case(NamedTuple):
     verdict: Verdict
     change: _Change
     data: int = 46
-    port: Optional[int] = None
+    port: int | None = None
 
     def verdict_for(self, source: Source) -> Verdict:
         """The verdict, for a source of any port."""
@@ -204,7 +205,7 @@ CASES = (
 )  # fmt: skip
 
 
-def hostile_frames(source: Source) -> "Iterator[Hostile]":
+def hostile_frames(source: Source) -> Iterator[Hostile]:
     """The list, for a receiver that has one association for the source and takes its packet number. With extended
     packet numbers above 2^32 number 0 can be Late, or another number in the IV than in the receiver's."""
     for number, case in enumerate(CASES):
@@ -215,7 +216,7 @@ def hostile_frames(source: Source) -> "Iterator[Hostile]":
         yield Hostile(case.name, case.what, case.verdict_for(source), shape)
 
 
-def hostile_list(source: Source) -> "List[tuple[Hostile, bytes]]":
+def hostile_list(source: Source) -> list[tuple[Hostile, bytes]]:
     """The list with its frames. The last is the first one again."""
     made = [(it, it.shape.frame(source)) for it in hostile_frames(source)]
     first = made[0]

@@ -5,7 +5,8 @@ from __future__ import annotations
 import json
 import re
 import shlex
-from typing import Any, Dict, List, Optional, Sequence, Tuple
+from collections.abc import Sequence
+from typing import Any
 
 from .errors import UsageError
 from .names import Suite
@@ -31,7 +32,7 @@ def address_of(text: str) -> bytes:
     return octets
 
 
-def _commands(text: str) -> "List[Tuple[int, List[str]]]":
+def _commands(text: str) -> list[tuple[int, list[str]]]:
     """The words of each `ip` command after `ip` and its options, with its line."""
     found = []
     joined = re.sub(r"\\\n", lambda _: "\x00", text)
@@ -56,15 +57,15 @@ def _commands(text: str) -> "List[Tuple[int, List[str]]]":
 class _Device:
     """A device of type macsec, as commands have it."""
 
-    def __init__(self, below: str, address: Optional[bytes]) -> None:
+    def __init__(self, below: str, address: bytes | None) -> None:
         self.below, self.address = below, address
-        self.options: Dict[str, str] = {}
-        self.tx: Dict[int, Dict[str, str]] = {}
-        self.rx: Dict[bytes, Dict[int, Dict[str, str]]] = {}
-        self.rx_off: "set[bytes]" = set()
+        self.options: dict[str, str] = {}
+        self.tx: dict[int, dict[str, str]] = {}
+        self.rx: dict[bytes, dict[int, dict[str, str]]] = {}
+        self.rx_off: set[bytes] = set()
 
 
-def _options_of(words: "Sequence[str]") -> "Dict[str, str]":
+def _options_of(words: Sequence[str]) -> dict[str, str]:
     found, rest = {}, list(words)
     while rest:
         name = rest.pop(0)
@@ -74,7 +75,7 @@ def _options_of(words: "Sequence[str]") -> "Dict[str, str]":
     return found
 
 
-def _sa_of(words: "Sequence[str]") -> "Dict[str, str]":
+def _sa_of(words: Sequence[str]) -> dict[str, str]:
     """The options of an association."""
     found, rest = {}, list(words)
     while rest:
@@ -90,9 +91,9 @@ def _sa_of(words: "Sequence[str]") -> "Dict[str, str]":
     return found
 
 
-def _channel_of(words: "List[str]") -> "Tuple[bytes, List[str]]":
+def _channel_of(words: list[str]) -> tuple[bytes, list[str]]:
     """The SCI at the beginning of some words, and the words after it."""
-    named: Dict[str, str] = {}
+    named: dict[str, str] = {}
     rest = list(words)
     while rest[:1] and rest[0] in ("sci", "port", "address"):
         named[rest[0]] = rest[1]
@@ -102,7 +103,7 @@ def _channel_of(words: "List[str]") -> "Tuple[bytes, List[str]]":
     return address_of(named["address"]) + int(named["port"], 0).to_bytes(2, "big"), rest
 
 
-def _new_link(words: "Sequence[str]") -> "Tuple[str, Optional[bytes], str]":
+def _new_link(words: Sequence[str]) -> tuple[str, bytes | None, str]:
     """The device below, the address and the name of a new device."""
     below, address, name, rest = "", None, "", list(words)
     while rest:
@@ -123,9 +124,9 @@ def _new_link(words: "Sequence[str]") -> "Tuple[str, Optional[bytes], str]":
 class Devices:
     """The macsec devices that commands make."""
 
-    def __init__(self, text: str, addresses: "Dict[str, bytes]") -> None:
+    def __init__(self, text: str, addresses: dict[str, bytes]) -> None:
         self._addresses = addresses
-        self.devices: Dict[str, _Device] = {}
+        self.devices: dict[str, _Device] = {}
         for line, words in _commands(text):
             try:
                 if words[:1] in (["link"], ["l"]):
@@ -135,7 +136,7 @@ class Devices:
             except (ValueError, IndexError, KeyError) as why:
                 raise UsageError(f"line {line}: ip {' '.join(words)[:60]}: {why or 'a word is missing'}") from None
 
-    def _link(self, words: "List[str]") -> None:
+    def _link(self, words: list[str]) -> None:
         at = words.index("type") if "type" in words else len(words)
         kind, head = words[at + 1 : at + 2], words[1:at]
         if kind == ["macsec"] and words[0] == "set":
@@ -154,7 +155,7 @@ class Devices:
             name = words[2] if words[1] == "dev" else words[1]
             self._addresses.setdefault(name, address_of(words[words.index("address") + 1]))
 
-    def _macsec(self, words: "List[str]") -> None:
+    def _macsec(self, words: list[str]) -> None:
         verb, device = words[0], self.devices.get(words[1]) if len(words) > 1 else None
         if verb not in ("add", "set", "del", "delete") or device is None:
             if verb in ("add", "set"):
@@ -174,7 +175,7 @@ class Devices:
             (device.rx_off.add if "off" in rest else device.rx_off.discard)(sci)
 
     @staticmethod
-    def _change(sas: "Dict[int, Dict[str, str]]", an: int, options: "Dict[str, str]", is_del: bool) -> None:
+    def _change(sas: dict[int, dict[str, str]], an: int, options: dict[str, str], is_del: bool) -> None:
         if is_del:
             sas.pop(an, None)
         else:
@@ -192,7 +193,7 @@ class Devices:
             )
         return address + int(device.options.get("port", "1"), 0).to_bytes(2, "big")
 
-    def plan(self, name: Optional[str] = None, mtu: int = 1500) -> Plan:
+    def plan(self, name: str | None = None, mtu: int = 1500) -> Plan:
         """The endpoint of a device: of this name, or of the only one."""
         if name is None and len(self.devices) != 1:
             raise UsageError(f"the commands make {len(self.devices)} macsec devices; choose one by --name")
@@ -220,13 +221,13 @@ class Devices:
         return plan
 
 
-def _form_of(options: "Dict[str, str]") -> str:
+def _form_of(options: dict[str, str]) -> str:
     if options.get("send_sci", "on") != "off":
         return "sci"
     return "es" if options.get("end_station") == "on" else "scb" if options.get("scb") == "on" else "auto"
 
 
-def _planned(plan: Plan, sa: "Dict[str, str]") -> PlannedSa:
+def _planned(plan: Plan, sa: dict[str, str]) -> PlannedSa:
     if "key" not in sa:
         raise UsageError("an association has no key")
     key = plan.key_of(bytes.fromhex(sa["key"]), bytes.fromhex(sa.get("salt", "00" * 12).replace("0x", "")))
@@ -239,7 +240,7 @@ def _switch(flag: bool) -> str:
     return "on" if flag else "off"
 
 
-def commands_of(plan: Plan, device: str, name: str) -> "List[str]":
+def commands_of(plan: Plan, device: str, name: str) -> list[str]:
     """The commands of `ip` that make an endpoint. What has no counterpart is a comment."""
     port = int.from_bytes(plan.sci[6:], "big")
     notes = []
@@ -280,7 +281,7 @@ def _is_on(value: Any) -> bool:
     return value in (True, "on", "true", 1)
 
 
-def plan_of_json(text: str, keys: "Sequence[KeyArgument]", name: Optional[str] = None, mtu: int = 1500) -> Plan:
+def plan_of_json(text: str, keys: Sequence[KeyArgument], name: str | None = None, mtu: int = 1500) -> Plan:
     """The endpoint of a device in the output of `ip -j macsec show`, which shows identifiers in place of keys."""
     try:
         shown = [it for it in json.loads(text) if it]
@@ -324,7 +325,7 @@ def _json_sci(value: Any) -> bytes:
     return int(str(value), 16).to_bytes(8, "big")
 
 
-def _json_sa(plan: Plan, sa: "Dict[str, Any]", keys: "Sequence[KeyArgument]", sci: bytes) -> PlannedSa:
+def _json_sa(plan: Plan, sa: dict[str, Any], keys: Sequence[KeyArgument], sci: bytes) -> PlannedSa:
     """An association, and its key: by its identifier, by its SCI or number, or the only one."""
     fitting = [it for it in keys if it.id == sa.get("key")]
     fitting = fitting or [it for it in keys if it.id is None and it.sci in (None, sci) and it.an in (None, sa["an"])]

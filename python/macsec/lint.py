@@ -2,7 +2,7 @@
 
 from __future__ import annotations
 
-from typing import List, NamedTuple, Optional
+from typing import NamedTuple
 
 from .endpoint_of_config import Configuration
 from .grammar import Command, parse
@@ -24,7 +24,7 @@ class Finding(NamedTuple):
         return f"{where}: {told}{self.message}"
 
 
-def lint(text: bytes) -> "List[Finding]":
+def lint(text: bytes) -> list[Finding]:
     """All findings of a text, by lines. If it has a fault, nothing of it is carried out.
 
     >>> for each in lint(b"end A gcm-aes-128 0200000000010001 1546 sci\\nA key 0 00 0\\n"):
@@ -46,9 +46,9 @@ def _hint(line: int, word: int, message: str) -> Finding:
     return Finding("hint", line, word, "", message)
 
 
-def _hints(commands: "List[Command]", text: bytes, configuration: Configuration) -> "List[Finding]":
+def _hints(commands: list[Command], text: bytes, configuration: Configuration) -> list[Finding]:
     """Slips that no line's text shows."""
-    found: "List[Finding]" = []
+    found: list[Finding] = []
     lines = text.decode("latin-1").split("\n")
     used = {it.values[1] for it in commands if it.keyword == "txsa"} | {
         it.values[2] for it in commands if it.keyword == "rxsa"
@@ -72,7 +72,7 @@ def _hints(commands: "List[Command]", text: bytes, configuration: Configuration)
     return found
 
 
-def _decimal_hint(line: int, place: int, word: str) -> "List[Finding]":
+def _decimal_hint(line: int, place: int, word: str) -> list[Finding]:
     """A packet number of several digits without a letter may have been meant in decimal, as `ip` writes it."""
     if len(word) < 2 or not word.isdecimal() or word.strip("0") in ("", "1") or len(word) > 8:
         return []
@@ -80,5 +80,5 @@ def _decimal_hint(line: int, place: int, word: str) -> "List[Finding]":
 
 
 def _is_enabled(configuration: Configuration, it: Command) -> bool:
-    sa: Optional[object] = configuration.rx_sa(it.values[0], it.values[1])
+    sa: object | None = configuration.rx_sa(it.values[0], it.values[1])
     return sa is None or bool(getattr(sa, "on", False))

@@ -3,13 +3,12 @@
 from __future__ import annotations
 
 import re
-from typing import Dict
 
 from .endpoint_of_config import Configuration
 from .errors import UsageError
 
 
-def _results(text: str) -> "Dict[int, str]":
+def _results(text: str) -> dict[int, str]:
     """What the text says of CONFIG's lines."""
     return {int(it[1]): it[2] for it in re.finditer(r"^(\d+) (done|refused \d+ \w+)$", text, re.M)}
 

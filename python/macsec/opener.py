@@ -3,7 +3,8 @@ number. The library judges each frame; this chooses what it is asked."""
 
 from __future__ import annotations
 
-from typing import Dict, Iterator, List, NamedTuple, Optional, Sequence, Tuple
+from collections.abc import Iterator, Sequence
+from typing import NamedTuple
 
 from .errors import FrameFault
 from .frames import MACSEC, SecTag, has_fcs, read_tag, sender_of, without_vlan
@@ -25,8 +26,8 @@ class Opened(NamedTuple):
     state: str  # "opened", "not opened", "not protected"
     verdict: str = ""
     sci: str = ""
-    an: Optional[int] = None
-    pn: Optional[int] = None
+    an: int | None = None
+    pn: int | None = None
     key: str = ""
 
     @property
@@ -50,7 +51,7 @@ class _Stream:
     """The frames of one sender and association number."""
 
     def __init__(self) -> None:
-        self.live: List[Live] = []
+        self.live: list[Live] = []
         self.failures = 0
         self.upper = 0
 
@@ -74,20 +75,18 @@ class Event(NamedTuple):
 class Opener:
     """Opens frames under keys."""
 
-    def __init__(
-        self, keys: Sequence[KeyArgument], suite: Optional[Suite] = None, offset: Optional[int] = None
-    ) -> None:
+    def __init__(self, keys: Sequence[KeyArgument], suite: Suite | None = None, offset: int | None = None) -> None:
         self._keys = list(keys)
         self._suite = suite
         self._offsets = (0, 30, 50) if offset is None else (offset,)
-        self._streams: Dict[Tuple[bytes, bool, int], _Stream] = {}
-        self._sscis: Dict[bytes, int] = {}
+        self._streams: dict[tuple[bytes, bool, int], _Stream] = {}
+        self._sscis: dict[bytes, int] = {}
         self._trials = Trials()
         self._wide_searches = 0
-        self.events: List[Event] = []
+        self.events: list[Event] = []
         # How the last frame was opened, or None.
-        self.last: Optional[Live] = None
-        self._latest: Dict[Tuple[str, int], str] = {}
+        self.last: Live | None = None
+        self._latest: dict[tuple[str, int], str] = {}
 
     def open(self, record: int, frame: bytes, fcs: int = 0) -> Opened:
         """Opens a frame, whose last octets can be announced as a frame check sequence."""
@@ -108,7 +107,7 @@ class Opener:
 
     def _open(
         self, record: int, stream: _Stream, plain: bytes, tag: SecTag, tags: bytes, may_cut: bool
-    ) -> Optional[Opened]:
+    ) -> Opened | None:
         """Opens a frame under an association of its stream, or under another key."""
         for live in stream.live:
             opened = self._under(live, stream, plain, tag, tags)
@@ -127,7 +126,7 @@ class Opener:
             self._latest[event[1:3]] = key.name
         return self._under(Live(trial, cut), stream, plain, tag, tags)
 
-    def _under(self, live: Live, stream: _Stream, plain: bytes, tag: SecTag, tags: bytes) -> Optional[Opened]:
+    def _under(self, live: Live, stream: _Stream, plain: bytes, tag: SecTag, tags: bytes) -> Opened | None:
         octets = plain[: len(plain) - live.cut] if live.cut else plain
         received = live.trial.receive(octets)
         if received.verdict not in OPENED or received.frame is None:
@@ -136,7 +135,7 @@ class Opener:
             stream.keep(live)
         stream.failures = 0
         self.last = live
-        number: Optional[int] = tag.pn
+        number: int | None = tag.pn
         if live.trial.key.suite.is_extended:
             number = live.trial.packet_number() if received.verdict == Verdict.OK else None
             stream.upper = number >> 32 if number is not None else stream.upper
@@ -147,7 +146,7 @@ class Opener:
     def _failed(self, stream: _Stream, whole: bytes, plain: bytes, tag: SecTag) -> Opened:
         """A frame that no key opens: its verdict is that under the first one which it can have."""
         stream.failures += 1
-        found: Optional[Verdict] = None
+        found: Verdict | None = None
         for argument, sci in self._candidates(plain, tag):
             found = self._trials.verdict(next(self._forms_of(argument)), sci, tag.an, plain, 1)
             break
@@ -158,7 +157,7 @@ class Opener:
 
     def _search(
         self, stream: _Stream, plain: bytes, tag: SecTag, may_cut: bool
-    ) -> "Optional[Tuple[Key, bytes, int, int, int]]":
+    ) -> tuple[Key, bytes, int, int, int] | None:
         """A key under which a frame opens, with the sender's SCI and SSCI, the upper half, and what is cut off."""
         is_wide = not stream.live and stream.failures < _WIDE_SEARCHES and self._wide_searches < _WIDE_SEARCHES_OF_ALL
         self._wide_searches += is_wide
@@ -173,7 +172,7 @@ class Opener:
                             return key, sci, ssci, upper, cut
         return None
 
-    def _candidates(self, plain: bytes, tag: SecTag) -> "Iterator[Tuple[KeyArgument, bytes]]":
+    def _candidates(self, plain: bytes, tag: SecTag) -> Iterator[tuple[KeyArgument, bytes]]:
         """The keys for a frame, each with the SCI that its sender can have."""
         for argument in self._keys:
             if not argument.suites(self._suite):
@@ -190,7 +189,7 @@ class Opener:
                 if sci is not None and argument.sci in (None, sci):
                     yield argument, sci
 
-    def _forms_of(self, argument: KeyArgument) -> "Iterator[Key]":
+    def _forms_of(self, argument: KeyArgument) -> Iterator[Key]:
         """A key of each suite and with each offset that it can have."""
         for suite in argument.suites(self._suite):
             for offset in (0,) if suite.is_extended else self._offsets:
@@ -199,7 +198,7 @@ class Opener:
 
     def _numbers(
         self, stream: _Stream, argument: KeyArgument, key: Key, sci: bytes, is_wide: bool
-    ) -> "Iterator[Tuple[int, int]]":
+    ) -> Iterator[tuple[int, int]]:
         """The SSCIs and upper halves that a sender can have."""
         if not key.suite.is_extended:
             yield 0, 0

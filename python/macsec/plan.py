@@ -3,7 +3,6 @@
 from __future__ import annotations
 
 import dataclasses
-from typing import Dict, List, Optional
 
 from .endpoint_of_config import Configuration
 from .errors import UsageError
@@ -20,7 +19,7 @@ class PlannedKey:
 
     octets: bytes
     offset: int = 0
-    suite: Optional[Suite] = None
+    suite: Suite | None = None
     salt: bytes = bytes(12)
     ssci: int = OBSERVER_SSCI
 
@@ -48,13 +47,13 @@ class Plan:
     validate: str = "strict"
     replay: bool = True
     window: int = 0
-    keys: List[PlannedKey] = dataclasses.field(default_factory=list)
-    tx: Dict[int, PlannedSa] = dataclasses.field(default_factory=dict)
-    encoding: Optional[int] = None
-    rx: Dict[bytes, Dict[int, PlannedSa]] = dataclasses.field(default_factory=dict)
-    notes: List[str] = dataclasses.field(default_factory=list)
+    keys: list[PlannedKey] = dataclasses.field(default_factory=list)
+    tx: dict[int, PlannedSa] = dataclasses.field(default_factory=dict)
+    encoding: int | None = None
+    rx: dict[bytes, dict[int, PlannedSa]] = dataclasses.field(default_factory=dict)
+    notes: list[str] = dataclasses.field(default_factory=list)
 
-    def key_of(self, octets: bytes, salt: bytes = bytes(12), offset: int = 0, suite: Optional[Suite] = None) -> int:
+    def key_of(self, octets: bytes, salt: bytes = bytes(12), offset: int = 0, suite: Suite | None = None) -> int:
         """The place of a key, which is added if it is new."""
         for place, each in enumerate(self.keys):
             if each.octets == octets:
@@ -93,11 +92,11 @@ class Plan:
                     lines.append(f"A rxon {sci.hex()} {an}")
         return "".join(f"{it}\n" for it in lines)
 
-    def _heard(self, sas: "Dict[int, PlannedSa]") -> "Dict[int, PlannedSa]":
+    def _heard(self, sas: dict[int, PlannedSa]) -> dict[int, PlannedSa]:
         """A sender's associations as a receiver has them that misses no frame."""
         return {an: dataclasses.replace(sa, pn=sa.pn >> 32 << 32 | 1, on=True) for an, sa in sas.items()}
 
-    def observer(self) -> "Plan":
+    def observer(self) -> Plan:
         """An endpoint that receives from this one and from all that this one receives from."""
         senders = {
             **({self.sci: self._heard(self.tx)} if self.tx else {}),
@@ -116,7 +115,7 @@ class Plan:
             notes=notes,
         )  # fmt: skip
 
-    def peer(self) -> "Plan":
+    def peer(self) -> Plan:
         """The other end: the only endpoint that this one receives from."""
         if len(self.rx) != 1:
             raise UsageError(f"there are {len(self.rx)} receive channels; a peer is the only one")

@@ -3,7 +3,9 @@
 from __future__ import annotations
 
 import collections
-from typing import Counter, Dict, List, NamedTuple, Optional, Sequence, Tuple
+from collections import Counter
+from collections.abc import Sequence
+from typing import NamedTuple
 
 from . import capture
 from .frames import ethertype, has_fcs, read_tag, sender_of, vlan_octets, without_vlan
@@ -26,12 +28,12 @@ class Scan:
     """What a capture has."""
 
     def __init__(self, path: str, opener: Opener) -> None:
-        self.forms: Dict[Tuple[bytes, int], Counter[str]] = {}
-        self.numbers: Dict[Tuple[bytes, int], List[int]] = {}
+        self.forms: dict[tuple[bytes, int], Counter[str]] = {}
+        self.numbers: dict[tuple[bytes, int], list[int]] = {}
         self.others: Counter[str] = collections.Counter()
-        self.uses: Dict[Tuple[bytes, int], List[_Use]] = {}
+        self.uses: dict[tuple[bytes, int], list[_Use]] = {}
         self.vlan, self.fcs, self.partial = 0, 0, 0
-        self.unopened: List[int] = []
+        self.unopened: list[int] = []
         for packet in capture.read(path):
             if not packet.is_whole:
                 self.partial += 1
@@ -58,7 +60,7 @@ class Scan:
         if all(it.live.trial.key.octets != live.trial.key.octets for it in uses):
             uses.append(_Use(packet.number, live, opened.pn or tag.pn))
 
-    def notes(self) -> "List[str]":
+    def notes(self) -> list[str]:
         """What was found, a line each."""
         found = []
         for (sci, an), forms in self.forms.items():
@@ -96,7 +98,7 @@ class Scan:
             found.append(f"not opened by any key: record {ranges(self.unopened)}")
         return found
 
-    def plan(self, own: Optional[bytes] = None, suite: Optional[Suite] = None) -> Plan:
+    def plan(self, own: bytes | None = None, suite: Suite | None = None) -> Plan:
         """The endpoint that opens the capture: an observer, or the end with this SCI."""
         suites = [use.live.trial.key.suite for uses in self.uses.values() for use in uses]
         first = suites[0] if suites else suite or Suite.gcm128
@@ -120,7 +122,7 @@ class Scan:
         return plan
 
 
-def _without_keys(plan: Plan, scan: Scan, own: Optional[bytes]) -> None:
+def _without_keys(plan: Plan, scan: Scan, own: bytes | None) -> None:
     """Says which associations have no key."""
     for sci, an in scan.forms:
         if (sci, an) not in scan.uses and sci != own:
@@ -129,7 +131,7 @@ def _without_keys(plan: Plan, scan: Scan, own: Optional[bytes]) -> None:
             )
 
 
-def scan(path: str, keys: "Sequence[KeyArgument]", suite: Optional[Suite] = None, offset: Optional[int] = None) -> Scan:
+def scan(path: str, keys: Sequence[KeyArgument], suite: Suite | None = None, offset: int | None = None) -> Scan:
     """Reads a capture under keys."""
     opener = Opener(keys, suite, offset)
     try:

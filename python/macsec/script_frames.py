@@ -2,7 +2,7 @@
 
 from __future__ import annotations
 
-from typing import Iterator, Tuple
+from collections.abc import Iterator
 
 from .errors import UsageError
 
@@ -21,7 +21,7 @@ def inject_line(frame: bytes) -> str:
     return f"inject {frame.hex()}"
 
 
-def frames_of_text(text: str) -> "Iterator[Tuple[int, bytes]]":
+def frames_of_text(text: str) -> Iterator[tuple[int, bytes]]:
     """The frames of a text, and its lines from 1: those that a script injects or sends, and those that `macsec run`
     printed as `frame K`. All other lines are skipped.
 

@@ -3,7 +3,7 @@
 from __future__ import annotations
 
 import ctypes
-from typing import Any, Union
+from typing import Any
 
 from . import _library
 from .errors import error
@@ -13,7 +13,7 @@ from .secy import Octets, SciLike, named, number_of, octets_of, sak_of, sci_of
 ICV_OCTETS = 16
 
 
-def sealed(sak: Any, sci: SciLike, pn: int, conf: bool, head: int, frame: Octets) -> "tuple[int, bytes]":
+def sealed(sak: Any, sci: SciLike, pn: int, conf: bool, head: int, frame: Octets) -> tuple[int, bytes]:
     """What `macsec_seal` of include/macsec.h returns, and the frame after it. The frame has space for the ICV."""
     octets = octets_of(frame)
     room = ctypes.create_string_buffer(octets, len(octets) + 1)
@@ -31,7 +31,7 @@ def seal(
     key: Octets,
     sci: SciLike,
     pn: int,
-    suite: Union[Suite, int, str] = Suite.gcm128,
+    suite: Suite | int | str = Suite.gcm128,
     conf: bool = True,
     offset: int = 0,
     ssci: int = 0,

@@ -6,7 +6,7 @@ import ctypes
 import operator
 import struct
 import threading
-from typing import Any, Dict, List, NamedTuple, Optional, Union
+from typing import Any, NamedTuple, Union
 
 from . import _library
 from .errors import error
@@ -42,17 +42,17 @@ class Sent(NamedTuple):
     """What becomes of a client frame. `frame` is to be transmitted, or None; `key` is the number of its key."""
 
     fate: Fate
-    frame: Optional[bytes]
-    key: Optional[int]
+    frame: bytes | None
+    key: int | None
 
 
 class Received(NamedTuple):
     """What becomes of a link frame. `frame` is what the client gets, or None; `sci` and `an` name the association."""
 
     verdict: Verdict
-    frame: Optional[bytes]
-    sci: Optional[bytes]
-    an: Optional[int]
+    frame: bytes | None
+    sci: bytes | None
+    an: int | None
 
 
 class Options(NamedTuple):
@@ -117,14 +117,12 @@ def number_of(value: int, bits: int, what: str) -> int:
     return number
 
 
-def named(kind: Any, value: Union[int, str]) -> int:
+def named(kind: Any, value: int | str) -> int:
     """A number of an enumeration, given as its name too."""
     return int(kind[value]) if isinstance(value, str) else number_of(value, 32, kind.__name__)
 
 
-def sak_of(
-    key: Octets, *, number: int, offset: int, suite: Union[Suite, int, str], ssci: int, salt: Octets
-) -> "_library.Sak":
+def sak_of(key: Octets, *, number: int, offset: int, suite: Suite | int | str, ssci: int, salt: Octets) -> _library.Sak:
     """A key as the library takes it."""
     octets, salt = octets_of(key), octets_of(salt)
     if len(salt) != 12:
@@ -170,10 +168,10 @@ class SecY:
     def __init__(
         self,
         sci: SciLike,
-        suite: Union[Suite, int, str] = Suite.gcm128,
-        form: Union[Form, int, str] = Form.sci,
+        suite: Suite | int | str = Suite.gcm128,
+        form: Form | int | str = Form.sci,
         max_frame: int = 9248,
-        journal: Optional[Octets] = None,
+        journal: Octets | None = None,
     ) -> None:
         self._begin()
         config = _library.Config(
@@ -201,7 +199,7 @@ class SecY:
         self._send_raw, self._receive_raw = _library.frame_calls()
 
     @classmethod
-    def configure(cls, text: Union[str, Octets], journal: Optional[Octets] = None) -> "SecY":
+    def configure(cls, text: str | Octets, journal: Octets | None = None) -> SecY:
         """The endpoint of the text of a CONFIG. A fault or a refused line raises, with its line, and makes nothing.
 
         With a journal, all octets of its file, the endpoint uses only the packet numbers that a record reserves, and
@@ -232,7 +230,7 @@ class SecY:
             with self._lock:
                 self._library.macsec_free_raw(self._handle)
 
-    def __enter__(self) -> "SecY":
+    def __enter__(self) -> SecY:
         return self
 
     def __exit__(self, *_: object) -> None:
@@ -290,12 +288,12 @@ class SecY:
         if status:
             raise error(status)
 
-    def command(self, line: Union[str, Octets]) -> None:
+    def command(self, line: str | Octets) -> None:
         """Carries out a command as a line of CONFIG says it: `A txon 0`."""
         octets = _text(line)
         self._call("command_line_raw", octets, len(octets))
 
-    def answer(self, line: Union[str, Octets], number: int = 1) -> str:
+    def answer(self, line: str | Octets, number: int = 1) -> str:
         """Carries out a line of a script at end A, and returns what `macsec run` prints for it as line `number`: for a
         command, `A counters`, `A numbers` or a blank line. A line that is wrong or refused changes nothing, and its
         text says so.
@@ -311,7 +309,7 @@ class SecY:
             raise error(status)
         return out[:written].decode("ascii")
 
-    def answer_within(self, number: int, line: bytes, room: int) -> "tuple[int, int, bytes]":
+    def answer_within(self, number: int, line: bytes, room: int) -> tuple[int, int, bytes]:
         """The status of the line, how many octets its answer has or needs, and the buffer of so many octets."""
         out, written = ctypes.create_string_buffer(room + 1), ctypes.c_size_t()
         with self._lock:
@@ -324,7 +322,7 @@ class SecY:
         """Protects client frames, or sends them as they are."""
         self._call("set_protect", bool(on))
 
-    def set_validation(self, mode: Union[Mode, int, str]) -> None:
+    def set_validation(self, mode: Mode | int | str) -> None:
         """Sets how received frames are validated."""
         self._call("set_validation", named(Mode, mode))
 
@@ -332,7 +330,7 @@ class SecY:
         """Drops late frames or not, and sets the replay window."""
         self._call("set_replay", bool(on), number_of(window, 64, "window"))
 
-    def set_tag_form(self, form: Union[Form, int, str]) -> None:
+    def set_tag_form(self, form: Form | int | str) -> None:
         """Sets the tag form."""
         self._call("set_tag_form", named(Form, form))
 
@@ -342,7 +340,7 @@ class SecY:
         key: Octets,
         *,
         offset: int = 0,
-        suite: Union[Suite, int, str] = Suite.default,
+        suite: Suite | int | str = Suite.default,
         ssci: int = 0,
         salt: Octets = bytes(12),
     ) -> None:
@@ -401,7 +399,7 @@ class SecY:
 
     # Reservations. include/macsec.h says in which order a caller makes these calls and writes its file.
 
-    def reserve_wanted(self, an: int, amount: int) -> Optional[bytes]:
+    def reserve_wanted(self, an: int, amount: int) -> bytes | None:
         """The record to write next for a transmit association: it reserves the packet numbers up to its next one plus
         `amount`. None if there is no such association, or if half of `amount` are still reserved."""
         try:
@@ -448,21 +446,21 @@ class SecY:
         """How many keys the endpoint still takes in its life."""
         return int(self._shown(ctypes.c_uint32, "keys_left").value)
 
-    def counters(self) -> Dict[str, int]:
+    def counters(self) -> dict[str, int]:
         """The counters of the endpoint and of its transmit channel, by the names that the program prints."""
         return {
             **_counters(self._shown(_library.Counters, "get_counters"), ENDPOINT_COUNTERS),
             **_counters(self._shown(_library.TxCounters, "get_tx_counters"), TX_COUNTERS),
         }
 
-    def rx_counters(self, sci: SciLike, an: Optional[int] = None) -> Dict[str, int]:
+    def rx_counters(self, sci: SciLike, an: int | None = None) -> dict[str, int]:
         """The counters of a receive channel, or of one of its associations."""
         if an is None:
             return _counters(self._shown(_library.RxCounters, "get_rx_counters", sci_of(sci)), RX_COUNTERS)
         words = sci_of(sci), number_of(an, 8, "an")
         return _counters(self._shown(_library.RxCounters, "get_rx_sa_counters", *words), RX_COUNTERS)
 
-    def removed_counters(self, sci: SciLike) -> Dict[str, int]:
+    def removed_counters(self, sci: SciLike) -> dict[str, int]:
         """What the deleted associations of a channel had counted."""
         return _counters(self._shown(_library.RxCounters, "get_removed_counters", sci_of(sci)), RX_COUNTERS)
 
@@ -470,9 +468,9 @@ class SecY:
         """The SCI of the receive channel at this place in the order of creation."""
         return bytes(self._shown(_library.Sci, "get_rx_sc", number_of(place, 64, "place")))
 
-    def rx_scs(self) -> List[bytes]:
+    def rx_scs(self) -> list[bytes]:
         """The SCIs of the receive channels, in the order of creation."""
-        found: List[bytes] = []
+        found: list[bytes] = []
         try:
             while True:
                 found.append(self.rx_sc(len(found)))
@@ -490,12 +488,12 @@ class SecY:
         return RxSa(it.key, it.next_high << 64 | it.next, it.lowest_high << 64 | it.lowest, it.ssci, it.on)
 
 
-def _text(text: Union[str, Octets]) -> bytes:
+def _text(text: str | Octets) -> bytes:
     """The octets of a text."""
     return text.encode() if isinstance(text, str) else octets_of(text)
 
 
-def _counters(shown: Any, names: "tuple[str, ...]") -> Dict[str, int]:
+def _counters(shown: Any, names: tuple[str, ...]) -> dict[str, int]:
     """Counters by their names."""
     return {name: getattr(shown, field[0]) for name, field in zip(names, shown._fields_)}
 

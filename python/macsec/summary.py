@@ -3,7 +3,8 @@
 from __future__ import annotations
 
 import collections
-from typing import Counter, Dict, List, Optional, Sequence, Tuple
+from collections import Counter
+from collections.abc import Sequence
 
 from .frames import SecTag, ethertype, read_tag, sender_of, without_vlan
 
@@ -16,7 +17,7 @@ def ranges(numbers: Sequence[int], most: int = 8) -> str:
     >>> ranges([0, 1, 2, 5, 7, 8])
     '0-2, 5, 7-8'
     """
-    found: List[List[int]] = []
+    found: list[list[int]] = []
     for each in numbers:
         if found and each == found[-1][1] + 1:
             found[-1][1] = each
@@ -37,11 +38,11 @@ class Association:
     def __init__(self, sci: str, an: int) -> None:
         self.sci, self.an, self.frames, self.repeats = sci, an, 0, 0
         # Records that have a packet number of an earlier one, and other octets.
-        self.reused: List[int] = []
+        self.reused: list[int] = []
         self.flags: Counter[str] = collections.Counter()
         self.verdicts: Counter[str] = collections.Counter()
         self._last = 0
-        self._seen: Dict[int, int] = {}
+        self._seen: dict[int, int] = {}
 
     def add(self, record: int, tag: SecTag, frame: bytes, verdict: str) -> None:
         """Counts a frame. A number that falls by more than half of all is taken for one of the next upper half."""
@@ -66,7 +67,7 @@ class Association:
         """How many numbers between the lowest and the highest were not seen."""
         return max(self._seen) - min(self._seen) + 1 - len(self._seen)
 
-    def as_dict(self) -> "Dict[str, object]":
+    def as_dict(self) -> dict[str, object]:
         return {
             "sci": self.sci, "an": self.an, "frames": self.frames, "first": f"{min(self._seen) & 0xFFFFFFFF:08x}",
             "last": f"{self._last & 0xFFFFFFFF:08x}", "missing": self.missing, "repeated": self.repeats,
@@ -87,10 +88,10 @@ class Summary:
     """The associations of a capture, and its frames without a SecTAG by their EtherType."""
 
     def __init__(self) -> None:
-        self.associations: Dict[Tuple[str, int], Association] = {}
-        self.others: Dict[str, Counter[str]] = {}
+        self.associations: dict[tuple[str, int], Association] = {}
+        self.others: dict[str, Counter[str]] = {}
 
-    def add(self, record: int, frame: bytes, verdict: str) -> "Tuple[str, Optional[int]]":
+    def add(self, record: int, frame: bytes, verdict: str) -> tuple[str, int | None]:
         """Counts a frame, and returns what it is of: an SCI and an association number, or an EtherType."""
         plain, _ = without_vlan(frame)
         tag = read_tag(plain)
@@ -105,7 +106,7 @@ class Summary:
         self.associations[place].add(record, tag, plain, verdict)
         return place
 
-    def lines(self) -> "List[str]":
+    def lines(self) -> list[str]:
         """The summary as text. An SCI in parentheses is a source address: the tag names no sender."""
         found = [str(it) for it in self.associations.values()]
         for kind, verdicts in self.others.items():
@@ -113,6 +114,6 @@ class Summary:
             found.append(f"no SecTAG, EtherType {kind}: {frames_text(sum(verdicts.values()))}: {text}")
         return found
 
-    def as_dicts(self) -> "List[Dict[str, object]]":
-        found: "List[Dict[str, object]]" = [{"association": it.as_dict()} for it in self.associations.values()]
+    def as_dicts(self) -> list[dict[str, object]]:
+        found: list[dict[str, object]] = [{"association": it.as_dict()} for it in self.associations.values()]
         return found + [{"ethertype": kind, "verdicts": dict(it)} for kind, it in self.others.items()]

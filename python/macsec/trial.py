@@ -2,7 +2,7 @@
 
 from __future__ import annotations
 
-from typing import Dict, NamedTuple, Optional, Tuple
+from typing import NamedTuple
 
 from .errors import MacsecError, UsageError
 from .names import Suite, Verdict
@@ -70,13 +70,13 @@ class Trials:
     MOST = 64
 
     def __init__(self) -> None:
-        self._kept: Dict[Tuple[Key, bytes, int, int], Trial] = {}
+        self._kept: dict[tuple[Key, bytes, int, int], Trial] = {}
 
     def opens(self, key: Key, sci: bytes, an: int, frame: bytes, ssci: int = 0, upper: int = 0) -> bool:
         """Does the frame open so, as the first one of its association?"""
         return self.verdict(key, sci, an, frame, ssci, upper) in OPENED
 
-    def verdict(self, key: Key, sci: bytes, an: int, frame: bytes, ssci: int = 0, upper: int = 0) -> Optional[Verdict]:
+    def verdict(self, key: Key, sci: bytes, an: int, frame: bytes, ssci: int = 0, upper: int = 0) -> Verdict | None:
         """Its verdict so; None if no suite has such a key or offset, or no endpoint takes such a frame."""
         try:
             trial = self._trial(key, sci, an, ssci)
@@ -104,13 +104,13 @@ class KeyArgument(NamedTuple):
     """The value of an option --key: a key, and whose it is where that is said."""
 
     octets: bytes
-    salt: Optional[bytes] = None
-    ssci: Optional[int] = None
-    sci: Optional[bytes] = None
-    an: Optional[int] = None
-    id: Optional[str] = None
+    salt: bytes | None = None
+    ssci: int | None = None
+    sci: bytes | None = None
+    an: int | None = None
+    id: str | None = None
 
-    def suites(self, asked: Optional[Suite] = None) -> "Tuple[Suite, ...]":
+    def suites(self, asked: Suite | None = None) -> tuple[Suite, ...]:
         """The suites that the key can be of: one that was asked for, or by its length and whether it has a salt."""
         if asked is not None:
             return (asked,) if asked.key_octets == len(self.octets) else ()

@@ -3,7 +3,7 @@
 from __future__ import annotations
 
 import re
-from typing import Dict, List, NamedTuple, Optional, Tuple
+from typing import NamedTuple
 
 from .errors import UsageError
 from .names import Suite
@@ -27,19 +27,19 @@ class LoggedKey(NamedTuple):
     """A key of the log, in the order in which they were distributed."""
 
     octets: bytes
-    an: Optional[int]
+    an: int | None
     offset: int
 
 
-def keys_of(log: str) -> "List[LoggedKey]":
+def keys_of(log: str) -> list[LoggedKey]:
     """The keys of a log, each once.
 
     >>> log = "\\tDistributed AN........: 1\\n\\tAES Key Unwrap of SAK.: - hexdump(len=16):" + " 0f" * 16
     >>> keys_of(log)[0].an
     1
     """
-    found: List[LoggedKey] = []
-    an: Optional[int] = None
+    found: list[LoggedKey] = []
+    an: int | None = None
     offset, waits = 0, False
     for line in log.splitlines():
         told = _OFFSET.search(line)
@@ -67,9 +67,9 @@ def keys_of(log: str) -> "List[LoggedKey]":
 
 def plan_of_log(log: str, mtu: int = 1500) -> Plan:
     """The endpoint that wpa_supplicant made by the driver for Linux: of each association the last key."""
-    sas: "Dict[Tuple[bool, bytes, int], Tuple[bytes, int]]" = {}
-    waits: "Optional[Tuple[bool, bytes, int, int]]" = None
-    options: Dict[str, int] = {}
+    sas: dict[tuple[bool, bytes, int], tuple[bytes, int]] = {}
+    waits: tuple[bool, bytes, int, int] | None = None
+    options: dict[str, int] = {}
     replaced = 0
     for line in log.splitlines():
         told = _OPTION.search(line)

@@ -6,14 +6,14 @@ fuzz/calls.py gives it random calls, and compares the answers with those that it
 from __future__ import annotations
 
 import sys
-from typing import Callable, Dict, List, Optional
+from typing import Callable
 
 from macsec import MacsecError, SecY, journal_compacted, journal_header, sealing
 from macsec.errors import error
-from macsec.secy import sak_of
 from macsec.names import ENDPOINT_COUNTERS, RX_COUNTERS, TX_COUNTERS
+from macsec.secy import sak_of
 
-handles: "List[Optional[SecY]]" = [None] * 4
+handles: list[SecY | None] = [None] * 4
 EMPTY, TAKEN, NOT_FOUND, MEMORY, ANSWER_LONG = 32, 33, 40, 41, 55
 
 
@@ -21,7 +21,7 @@ def octets(word: str) -> bytes:
     return b"" if word == "-" else bytes.fromhex(word)
 
 
-def hex_of(frame: "Optional[bytes]") -> str:
+def hex_of(frame: bytes | None) -> str:
     return frame.hex() if frame else "-"
 
 
@@ -54,7 +54,7 @@ def wanted(it: SecY, an: str, amount: str) -> str:
     return f" {record.hex()}"
 
 
-def seal(*words: str) -> "tuple[str, int]":
+def seal(*words: str) -> tuple[str, int]:
     key, salt, ssci, suite, number, length, offset, sci, pn, conf, head, frame = words
     sak = sak_of(
         octets(key)[: int(length)], number=int(number), offset=int(offset), suite=int(suite), ssci=int(ssci),
@@ -64,7 +64,7 @@ def seal(*words: str) -> "tuple[str, int]":
     return f" {hex_of(made)}", status
 
 
-def compacted(journal: str) -> "tuple[str, int]":
+def compacted(journal: str) -> tuple[str, int]:
     given = octets(journal)
     try:
         made = journal_compacted(given)
@@ -78,7 +78,7 @@ def options(it: SecY) -> str:
     return f" {shown.window} {int(shown.mode)} {int(shown.form)} {int(shown.protect)} {int(shown.replay)}"
 
 
-def counters(values: "Dict[str, int]", names: "tuple[str, ...]") -> str:
+def counters(values: dict[str, int], names: tuple[str, ...]) -> str:
     return "".join(f" {values[name]}" for name in names)
 
 
@@ -92,7 +92,7 @@ def rx_sa(it: SecY, sci: str, an: str) -> str:
     return f" {wide(sa.next)} {wide(sa.lowest)} {sa.ssci} {sa.key} {int(sa.on)}"
 
 
-def done(call: "Callable[..., object]") -> "Callable[..., str]":
+def done(call: Callable[..., object]) -> Callable[..., str]:
     """A call that shows nothing."""
 
     def made(*arguments: object) -> str:
@@ -102,7 +102,7 @@ def done(call: "Callable[..., object]") -> "Callable[..., str]":
     return made
 
 
-def answered(it: "Optional[SecY]", number: str, line: str, room: str) -> "tuple[str, int]":
+def answered(it: SecY | None, number: str, line: str, room: str) -> tuple[str, int]:
     """The answer to a line, with octets of 7 where nothing is written."""
     size = int(room)
     if it is None:
@@ -112,7 +112,7 @@ def answered(it: "Optional[SecY]", number: str, line: str, room: str) -> "tuple[
     return f" {length} {hex_of(text + bytes([7]) * (size - len(text)))}", status
 
 
-CALLS: "Dict[str, Callable[..., str]]" = {
+CALLS: dict[str, Callable[..., str]] = {
     "send": send,
     "receive": receive,
     "send_uncontrolled": done(lambda it, frame: it.send_uncontrolled(octets(frame))),
@@ -151,7 +151,7 @@ CALLS: "Dict[str, Callable[..., str]]" = {
     "reserve_rx_floor": lambda it, sci, an, key: f" {it.reserve_rx_floor(sci, int(an), int(key))}",
 }
 # The calls without a handle.
-FREE_CALLS: "Dict[str, Callable[..., tuple[str, int]]]" = {
+FREE_CALLS: dict[str, Callable[..., tuple[str, int]]] = {
     "seal": seal,
     "journal_header": lambda salt: (f" {journal_header(octets(salt)).hex()}", 0),
     "journal_compacted": compacted,
@@ -169,7 +169,7 @@ UNSHOWN = {
 MAKES = ("new", "configure", "reserve_open", "reserve_configure")
 
 
-def made(name: str, words: "List[str]") -> SecY:
+def made(name: str, words: list[str]) -> SecY:
     """The endpoint that a call makes."""
     if name == "configure":
         return SecY.configure(octets(words[0]))
@@ -179,7 +179,7 @@ def made(name: str, words: "List[str]") -> SecY:
     return SecY(sci, int(suite), int(form), int(most), *map(octets, journal))
 
 
-def creation(name: str, handle: int, words: "List[str]") -> "tuple[str, int]":
+def creation(name: str, handle: int, words: list[str]) -> tuple[str, int]:
     """The answer of a call that makes or ends an endpoint."""
     if name == "free":
         it = handles[handle]
@@ -201,7 +201,7 @@ def creation(name: str, handle: int, words: "List[str]") -> "tuple[str, int]":
     return line, 0
 
 
-def answer(name: str, handle: int, words: "List[str]") -> "tuple[str, int]":
+def answer(name: str, handle: int, words: list[str]) -> tuple[str, int]:
     """What a call shows, and its status."""
     if name in (*MAKES, "free"):
         return creation(name, handle, words)

@@ -5,7 +5,6 @@ from __future__ import annotations
 import subprocess
 import sys
 import time
-from typing import List
 
 from macsec import SecY
 
@@ -24,7 +23,7 @@ A replay off 0
 COUNT, ROUNDS = 500, 200
 
 
-def nanoseconds(call: "object", frame: bytes) -> float:
+def nanoseconds(call: object, frame: bytes) -> float:
     """The time of a call, from a round of them."""
     begin = time.process_time_ns()
     for _ in range(COUNT):
@@ -32,7 +31,7 @@ def nanoseconds(call: "object", frame: bytes) -> float:
     return (time.process_time_ns() - begin) / COUNT
 
 
-def costs(program: str, length: int) -> "List[float]":
+def costs(program: str, length: int) -> list[float]:
     """What a frame of this length costs: to send in C and in Python, and to receive in C and in Python. The rounds of
     both take turns, so that what else the machine does slows both."""
     best = [1e18] * 4

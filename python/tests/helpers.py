@@ -8,7 +8,8 @@ import os
 import pathlib
 import tempfile
 import unittest
-from typing import Callable, Iterator, List, Sequence, Tuple
+from collections.abc import Iterator, Sequence
+from typing import Callable
 
 from macsec import SecY, Suite, capture
 
@@ -24,7 +25,7 @@ SALT = bytes.fromhex("a0a1a2a3a4a5a6a7a8a9aaab")
 START = 1_700_000_000 * 10**9
 
 
-def client_frames(count: int, source: str = SENDER, length: int = 100) -> "List[bytes]":
+def client_frames(count: int, source: str = SENDER, length: int = 100) -> list[bytes]:
     """Frames of a client, all different. The EtherType is one for experiments."""
     head = bytes.fromhex("02000000000f") + bytes.fromhex(source)[:6] + b"\x88\xb5"
     return [head + bytes([number]) * (length - 14) for number in range(count)]
@@ -43,13 +44,13 @@ def sender(
     return it
 
 
-def protected(frames: "Sequence[bytes]", **how: object) -> "List[bytes]":
+def protected(frames: Sequence[bytes], **how: object) -> list[bytes]:
     """What a sender sends for some frames."""
     with sender(**how) as it:  # type: ignore[arg-type]
         return [sent.frame for sent in map(it.send, frames) if sent.frame is not None]
 
 
-def main_of(main: "Callable[[Sequence[str]], int]", *words: object) -> "Tuple[int, str, str]":
+def main_of(main: Callable[[Sequence[str]], int], *words: object) -> tuple[int, str, str]:
     """The status of a command, and what it prints on both streams."""
     out, error = io.StringIO(), io.StringIO()
     with contextlib.redirect_stdout(out), contextlib.redirect_stderr(error):
@@ -80,12 +81,12 @@ class InFolder(unittest.TestCase):
             capture.write_pcap(str(path), [(START + number * 10**6, it) for number, it in enumerate(frames)])
         return str(path)
 
-    def names(self) -> "List[str]":
+    def names(self) -> list[str]:
         return sorted(os.listdir(self.folder))
 
 
 @contextlib.contextmanager
-def environment(**values: str) -> "Iterator[None]":
+def environment(**values: str) -> Iterator[None]:
     """Variables of the environment for a while."""
     before = dict(os.environ)
     os.environ.update(values)

@@ -6,7 +6,7 @@ import os
 import random
 import struct
 import sys
-from typing import Any, List, Tuple
+from typing import Any
 
 from macsec import CaptureError, capture
 
@@ -20,7 +20,7 @@ sys.path.pop(0)
 
 
 class Reading(InFolder):
-    def read(self, octets: bytes) -> "List[Tuple[int, Any]]":
+    def read(self, octets: bytes) -> list[tuple[int, Any]]:
         """The times and the frames; of others what they are."""
         path = self.put("IN", octets)
         return [
@@ -28,7 +28,7 @@ class Reading(InFolder):
             for it in capture.read(path)
         ]
 
-    def expected(self, octets: bytes) -> "List[Tuple[int, Any]]":
+    def expected(self, octets: bytes) -> list[tuple[int, Any]]:
         is_nano, records = captures.read_capture(octets)
         unit = 1 if is_nano else 1000
         found = []

@@ -9,7 +9,7 @@ import random
 import subprocess
 import sys
 import unittest
-from typing import Counter, List
+from collections import Counter
 
 from macsec import MacsecError, SecY, Suite, capture, grammar
 from macsec.cli.config import main
@@ -38,7 +38,7 @@ ip macsec add macsec0 rx sci 0200000000010001 sa 1 xpn 1 salt a0a1a2a3a4a5a6a7a8
 """
 
 
-def lines_of(text: str) -> "List[str]":
+def lines_of(text: str) -> list[str]:
     return [it for it in text.splitlines() if not it.startswith("#")]
 
 
@@ -48,7 +48,7 @@ class Made(InFolder):
         self.assertEqual((ended, error), (status, ""), text)
         return text
 
-    def verdicts(self, text: str, path: object) -> "Counter[str]":
+    def verdicts(self, text: str, path: object) -> Counter[str]:
         """The verdicts of a CONFIG on a capture; no line of it is refused."""
         made = Configuration(text.encode())
         self.assertEqual(made.refusals, [])
@@ -155,7 +155,7 @@ class Ip(Made):
         self.assertIn(OTHER, self.config("--ip", moved, "--address", "eth0=02:00:00:00:00:02"))
 
     def test_json(self) -> None:
-        def sa(pn: int) -> "dict[str, object]":
+        def sa(pn: int) -> dict[str, object]:
             return {"an": 0, "pn": pn, "active": True, "key": "0" * 32}
 
         # As iproute2 6.1 prints it.

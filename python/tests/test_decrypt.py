@@ -9,7 +9,7 @@ import shutil
 import subprocess
 import unittest
 import zlib
-from typing import Iterator, List
+from collections.abc import Iterator
 
 from macsec import Suite, capture
 from macsec.cli.decrypt import main
@@ -17,14 +17,14 @@ from macsec.cli.decrypt import main
 from .helpers import CAPTURES, KEYS, LONG_KEY, OTHER, ROOT, SALT, START, InFolder, client_frames, main_of, protected
 
 
-def mixed(*parts: "List[bytes]") -> "Iterator[bytes]":
+def mixed(*parts: list[bytes]) -> Iterator[bytes]:
     """Frames of several senders, one of each after another."""
     for several in zip(*parts):
         yield from several
 
 
 class Opening(InFolder):
-    def opened(self, frames: object, *words: object, status: int = 0) -> "List[bytes]":
+    def opened(self, frames: object, *words: object, status: int = 0) -> list[bytes]:
         """The frames of OUT, for some frames or a capture file."""
         path = frames if isinstance(frames, (str, os.PathLike)) else self.put("IN", frames)
         out = self.folder / "OUT"
@@ -34,7 +34,7 @@ class Opening(InFolder):
         self.packets = list(capture.read(str(out)))
         return [it.frame for it in self.packets]
 
-    def keys(self, *which: int) -> "List[str]":
+    def keys(self, *which: int) -> list[str]:
         return [word for it in which for word in ("--key", KEYS[it].hex())]
 
 

@@ -26,7 +26,7 @@ def source(suite: Suite = Suite.gcm128, pn: int = 5, offset: int = 0) -> hostile
     return hostile.Source(key, suite, SCI, 0, pn, offset, *extended)
 
 
-def verdicts(of: hostile.Source, key: "bytes | None" = None) -> "dict[str, tuple[Verdict, Verdict]]":
+def verdicts(of: hostile.Source, key: bytes | None = None) -> dict[str, tuple[Verdict, Verdict]]:
     """The verdict of an endpoint on each frame of the list, and the one that the list names."""
     with SecY(RECEIVER, of.suite) as secy:
         secy.install_key(0, key or of.key, offset=of.offset, ssci=of.ssci ^ 2, salt=of.salt)
@@ -36,7 +36,7 @@ def verdicts(of: hostile.Source, key: "bytes | None" = None) -> "dict[str, tuple
         return {it.name: (secy.receive(frame).verdict, it.verdict) for it, frame in hostile.hostile_list(of)}
 
 
-def named(of: hostile.Source) -> "dict[str, str]":
+def named(of: hostile.Source) -> dict[str, str]:
     """The verdicts that the list names."""
     return {it.name: it.verdict.name for it, _ in hostile.hostile_list(of)}
 
@@ -134,7 +134,7 @@ class Judged(unittest.TestCase):
 
 
 class Command(InFolder):
-    def forged(self, *words: object) -> "list[capture.Packet]":
+    def forged(self, *words: object) -> list[capture.Packet]:
         out = self.folder / f"{len(self.names())}.pcapng"
         status, printed, error = main_of(forge.main, out, *words)
         self.assertEqual((status, printed, error), (0, "", ""))

@@ -14,7 +14,7 @@ from .helpers import ROOT
 HEADER = (ROOT / "include" / "macsec.h").read_text()
 
 
-def names_in(function: str) -> "dict[str, int]":
+def names_in(function: str) -> dict[str, int]:
     """The names that a function of the header gives, and their numbers."""
     body = re.search(rf"macsec_{function}_name\(.*?\n}}", HEADER, re.S)
     assert body

@@ -7,7 +7,7 @@ import collections
 import json
 import shutil
 import unittest
-from typing import Counter, Dict, List, Tuple
+from collections import Counter
 
 from macsec import capture
 from macsec.cli import config, decrypt, why
@@ -20,7 +20,7 @@ DATA = ROOT / "python" / "tests" / "data"
 class Linux(InFolder):
     """6 pings from each end, and what ARP asks before and after them."""
 
-    def configs(self, name: str) -> "List[str]":
+    def configs(self, name: str) -> list[str]:
         """The paths of CONFIGs for a capture: from the commands, from `ip -j macsec show`, and from the capture."""
         for end in ("pcap", "sh", "json", "keys"):
             shutil.copy(DATA / f"{name}.{end}", self.folder)
@@ -39,11 +39,11 @@ class Linux(InFolder):
         self.assertEqual(note in text, name != "above")
         return made
 
-    def opened(self, name: str, tags: str, causes: "Dict[Tuple[str, ...], int]") -> None:
+    def opened(self, name: str, tags: str, causes: dict[tuple[str, ...], int]) -> None:
         """With each CONFIG macsec-why names these causes of so many frames. macsec-decrypt opens all 28."""
         for path in self.configs(name):
             status, text, _ = main_of(why.main, path, self.folder / f"{name}.pcap", "--json")
-            named: "Counter[Tuple[str, ...]]" = collections.Counter()
+            named: Counter[tuple[str, ...]] = collections.Counter()
             for group in [it["unopened"] for it in map(json.loads, text.splitlines()) if "unopened" in it]:
                 named[tuple(it["cause"] for it in group["causes"])] += len(group["records"])
             self.assertEqual((status, named), (3 if causes else 0, causes))

@@ -4,7 +4,6 @@ from __future__ import annotations
 
 import json
 import unittest
-from typing import List, Set
 
 from macsec import SecY, Suite
 from macsec.cli.why import main
@@ -29,7 +28,7 @@ def config(
 
 
 class Planted(InFolder):
-    def causes(self, text: str, frames: "List[bytes]", *words: str, count: int = 8) -> "Set[str]":
+    def causes(self, text: str, frames: list[bytes], *words: str, count: int = 8) -> set[str]:
         """The kinds of causes that are named. All frames have to be explained."""
         path = self.put("CONFIG", text)
         status, out, error = main_of(main, path, self.put("IN", frames), "--json", *words)
@@ -120,7 +119,7 @@ class Planted(InFolder):
 
 
 class Untouched(InFolder):
-    def run_of(self, text: str, capture: str, *words: str) -> "tuple[int, List[dict]]":
+    def run_of(self, text: str, capture: str, *words: str) -> tuple[int, list[dict]]:
         status, out, error = main_of(main, CAPTURES / text, CAPTURES / capture, "--json", *words)
         self.assertEqual(error, "")
         return status, [json.loads(it) for it in out.splitlines()]
@@ -140,7 +139,7 @@ class Untouched(InFolder):
         link[2] = link[2][:-1] + bytes([link[2][-1] ^ 1])
         text = self.put("CONFIG", config())
         status, out, _ = main_of(main, text, self.put("IN", link), "--json")
-        (group,) = [it["unopened"] for it in map(json.loads, out.splitlines()) if "unopened" in it]
+        (group,) = (it["unopened"] for it in map(json.loads, out.splitlines()) if "unopened" in it)
         self.assertEqual((status, group["causes"], group["records"]), (3, [], [2]))
 
     def test_summary(self) -> None:

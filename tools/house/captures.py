@@ -1,7 +1,8 @@
 """Capture files, by the package in python/."""
 
+from __future__ import annotations
+
 import sys
-from typing import List
 
 from house import ROOT
 
@@ -14,9 +15,9 @@ sys.path.pop(0)
 __all__ = ["Packet", "frames_so_far", "pcap_header", "pcap_record", "read", "write_pcap"]
 
 
-def frames_so_far(path: object) -> List[bytes]:
+def frames_so_far(path: object) -> list[bytes]:
     """The whole frames of a capture file that may end in a record."""
-    frames: List[bytes] = []
+    frames: list[bytes] = []
     try:
         for packet in read(str(path)):
             frames.append(packet.frame)

@@ -1,6 +1,8 @@
 """The table of checks: what `make test`, the gate and a person run. tools/check runs them and writes the pages' list."""
 
-from typing import List, NamedTuple, Optional
+from __future__ import annotations
+
+from typing import NamedTuple
 
 # What a check needs, in the order in which the gate makes it: nothing but sources; the compiler of `rt`, or its log;
 # the program, also as Rattle's own compiler builds it; the libraries for C; and all of these.
@@ -25,13 +27,13 @@ class Check(NamedTuple):
     command: str
     needs: str
     seconds: int
-    control: Optional[str]
-    test: Optional[str] = None
-    gate: Optional[str] = None
-    hand: Optional[str] = None
-    counted: Optional[str] = None
+    control: str | None
+    test: str | None = None
+    gate: str | None = None
+    hand: str | None = None
+    counted: str | None = None
 
-    def arguments(self, when: str) -> Optional[str]:
+    def arguments(self, when: str) -> str | None:
         """The arguments with which it is run then."""
         return {"test": self.test, "gate": self.gate, "hand": self.hand}[when]
 
@@ -40,7 +42,7 @@ BUILT = "--program {program}"
 BOTH = "--program {program} --program {rattle}"
 
 # fmt: off
-CHECKS: List[Check] = [
+CHECKS: list[Check] = [
     Check("needed", "finds the commands that the gate runs", "tools/needed", NOTHING, 1,
           "a PATH without a command", test="", gate=""),
     Check("edits", "checks that each must-fail edit still applies, and that docs/MISTAKES.md is made of them", "tools/edits",
@@ -55,6 +57,8 @@ CHECKS: List[Check] = [
           "another drawing", test="", gate=""),
     Check("reference", "finds a page of docs/reference that the sources do not make", "tools/reference --check",
           NOTHING, 2, "another page", test="", gate=""),
+    Check("style", "finds Python and C with another layout than the formatters give", "python3 tools/house/style.py",
+          NOTHING, 10, "files with another layout", test=""),
     Check("table", "compares the checks in docs/MAINTAINING.md and the Makefile with this table",
           "tools/check --table --check", NOTHING, 1, "another list", test="", gate=""),
     Check("moves", "tries all lists of three moves over the rules in Python", "python3 fuzz/moves.py", NOTHING, 20,
@@ -123,7 +127,7 @@ CHECKS: List[Check] = [
 NAMED = {it.name: it for it in CHECKS}
 
 
-def of_gate(*needs: str) -> List[Check]:
+def of_gate(*needs: str) -> list[Check]:
     """The checks of the gate that need one of these, and nothing more."""
     return [it for it in CHECKS if it.gate is not None and it.needs in needs]
 
@@ -132,8 +136,11 @@ def listed() -> str:
     """The table for a terminal, and after it the checks without a control."""
     lines = []
     for it in CHECKS:
-        when = [name for name, arguments in (("test", it.test), ("gate", it.gate), ("manually", it.hand))
-                if arguments is not None]
+        when = [
+            name
+            for name, arguments in (("test", it.test), ("gate", it.gate), ("manually", it.hand))
+            if arguments is not None
+        ]
         lines.append(f"{it.name:21} {', '.join(when):20} {it.seconds:5} s  {it.needs:20} {it.does}")
     without = [it.name for it in CHECKS if it.control is None]
     return "\n".join([*lines, "", f"No control: {', '.join(without)}"]) + "\n"
@@ -148,6 +155,6 @@ def markdown() -> str:
     return "\n".join(lines) + "\n"
 
 
-def targets() -> List[Check]:
+def targets() -> list[Check]:
     """The checks that are targets of the Makefile under their names. Of some names the target does something else."""
     return [it for it in CHECKS if it.name not in (PROOFS, "edits-refused", "device", "pictures", "reference")]

@@ -1,10 +1,11 @@
 """How the tests compile programs in C, and count their instructions."""
 
+from __future__ import annotations
+
 import pathlib
 import re
 import subprocess
 import sys
-from typing import Dict, List, Optional
 
 from house import ROOT
 
@@ -13,12 +14,12 @@ INCLUDED = ["-I", f"{ROOT}/include"]
 SANITIZED = ["-g", "-fsanitize=address,undefined", "-fno-sanitize-recover=all"]
 
 
-def device_sources(folder: pathlib.Path = ROOT / "device") -> List[str]:
+def device_sources(folder: pathlib.Path = ROOT / "device") -> list[str]:
     """The sources of macsecd."""
     return [str(it) for it in sorted(folder.glob("*.c")) if it.name != "macsecctl.c"]
 
 
-def run(words: List[str], environment: Optional[Dict[str, str]] = None) -> str:
+def run(words: list[str], environment: dict[str, str] | None = None) -> str:
     """Runs a program that must succeed. Returns its standard error."""
     ended = subprocess.run(words, env=environment, capture_output=True, text=True)
     if ended.returncode or ": false" in ended.stdout:
@@ -26,7 +27,7 @@ def run(words: List[str], environment: Optional[Dict[str, str]] = None) -> str:
     return ended.stderr
 
 
-def instructions(folder: str, words: List[str], environment: Optional[Dict[str, str]] = None) -> int:
+def instructions(folder: str, words: list[str], environment: dict[str, str] | None = None) -> int:
     """The instructions of a run, which callgrind counts."""
     told = run(["valgrind", "--tool=callgrind", f"--callgrind-out-file={folder}/callgrind", *words], environment)
     found = re.search(r"Collected : (\d+)", told)

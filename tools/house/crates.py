@@ -1,5 +1,7 @@
 """The crates of crates.txt, their files, and the kit of the command `rt`: what the tools that build the project share."""
 
+from __future__ import annotations
+
 import functools
 import hashlib
 import os
@@ -22,7 +24,7 @@ KIT_IN_C = [f"{KIT}/c/libos_c.a", f"{KIT}/c/liblibc_c.a"]
 TARGET = "x86_64-unknown-linux-gnu"
 
 
-def listed() -> "dict[str, list[str]]":
+def listed() -> dict[str, list[str]]:
     """Each crate of crates.txt, with the libraries that it is listed with."""
     with open(f"{ROOT}/crates.txt", encoding="utf-8") as it:
         lines = [line.split(":") for line in it if line.strip() and not line.startswith("#")]
@@ -32,26 +34,26 @@ def listed() -> "dict[str, list[str]]":
 CRATES = listed()
 
 
-def own(name: str) -> "list[str]":
+def own(name: str) -> list[str]:
     """The crates of the project that one is listed with."""
     return [each for each in CRATES[name] if each in CRATES]
 
 
-def of_kit(name: str) -> "list[str]":
+def of_kit(name: str) -> list[str]:
     """The libraries of the kit that a crate uses."""
     return ["std", *(each for each in CRATES[name] if each not in CRATES)]
 
 
 @functools.cache
-def below(name: str) -> "tuple[str, ...]":
+def below(name: str) -> tuple[str, ...]:
     """The crates of the project below one, each after those that it depends on."""
-    found: "dict[str, None]" = {}
+    found: dict[str, None] = {}
     for each in own(name):
         found |= {**dict.fromkeys(below(each)), each: None}
     return tuple(found)
 
 
-def files(name: str, parts: "tuple[str, ...]" = ("src", "specs", "proofs")) -> "list[str]":
+def files(name: str, parts: tuple[str, ...] = ("src", "specs", "proofs")) -> list[str]:
     """The files of these folders of a crate."""
     folders = [f"{ROOT}/crates/{name}/{part}" for part in parts]
     return sorted(f"{folder}/{it}" for top in folders for folder, _, names in os.walk(top) for it in names)
@@ -106,7 +108,7 @@ def record_file(path: str) -> str:
     return f"{path}.proved"
 
 
-def proved_by(path: str, crate: str) -> "str | None":
+def proved_by(path: str, crate: str) -> str | None:
     """The run that proved the crates of a program or a library; None if it is not there as it was built of the files
     that are here."""
     if not os.path.isfile(path) or not os.path.isfile(record_file(path)):

@@ -1,11 +1,14 @@
 """A virtual machine with a Linux kernel of Debian, and with programs of this machine or of Debian's packages."""
 
+from __future__ import annotations
+
 import os
 import pathlib
 import re
 import shutil
 import subprocess
-from typing import IO, Dict, List, Sequence, Union
+from collections.abc import Sequence
+from typing import IO
 
 from house.reporting import Failed, call, until
 
@@ -34,8 +37,12 @@ def fetch(folder: pathlib.Path, package: str, more: Sequence[str]) -> pathlib.Pa
         raise Failed(f"apt-cache does not know {package}: apt-get update")
     packages, files = folder / "packages", folder / "files"
     packages.mkdir(parents=True)
-    subprocess.run(["apt-get", "-o", "APT::Sandbox::User=root", "-qq", "download", found[1], *more], cwd=packages,
-                   check=True, stdout=subprocess.DEVNULL)
+    subprocess.run(
+        ["apt-get", "-o", "APT::Sandbox::User=root", "-qq", "download", found[1], *more],
+        cwd=packages,
+        check=True,
+        stdout=subprocess.DEVNULL,
+    )
     names = sorted(packages.glob("*.deb"))
     for it in names:
         call("dpkg-deb", "-x", str(it), str(files))
@@ -61,7 +68,7 @@ def copy_modules(files: pathlib.Path, root: pathlib.Path, modules: Sequence[str]
     """Copies modules of the kernel, and writes the order in which they are loaded."""
     version = next((files / "lib/modules").iterdir()).name
     call("depmod", "-b", str(files), version)
-    order: List[str] = []
+    order: list[str] = []
     for module in modules:
         shown = call("modprobe", "-d", str(files), "-S", version, "--show-depends", module)
         order += [line.split()[1] for line in shown.splitlines() if line.startswith("insmod")]
@@ -71,8 +78,13 @@ def copy_modules(files: pathlib.Path, root: pathlib.Path, modules: Sequence[str]
     (root / "modules/order").write_text("".join(f"/modules/{os.path.basename(it)}\n" for it in order))
 
 
-def prepare(folder: pathlib.Path, package: str, modules: Sequence[str], programs: Sequence[str] = (),
-            packages: Sequence[str] = ()) -> pathlib.Path:
+def prepare(
+    folder: pathlib.Path,
+    package: str,
+    modules: Sequence[str],
+    programs: Sequence[str] = (),
+    packages: Sequence[str] = (),
+) -> pathlib.Path:
     """The machine's files below folder/root: the modules, busybox, ip and other programs. Returns the kernel."""
     os.environ["PATH"] += PROGRAMS
     files, root = fetch(folder, package, packages), folder / "root"
@@ -86,7 +98,7 @@ def prepare(folder: pathlib.Path, package: str, modules: Sequence[str], programs
     return next((files / "boot").glob("vmlinuz-*"))
 
 
-def pack(folder: pathlib.Path, files: Dict[str, str], out: pathlib.Path) -> pathlib.Path:
+def pack(folder: pathlib.Path, files: dict[str, str], out: pathlib.Path) -> pathlib.Path:
     """The file system with which the machine starts, and in it more files, such as the script `job`."""
     for name, text in files.items():
         (folder / "root" / name).write_text(text)
@@ -95,17 +107,39 @@ def pack(folder: pathlib.Path, files: Dict[str, str], out: pathlib.Path) -> path
     return out
 
 
-def words_of(kernel: pathlib.Path, initrd: pathlib.Path, memory: int, more: str = "") -> List[str]:
+def words_of(kernel: pathlib.Path, initrd: pathlib.Path, memory: int, more: str = "") -> list[str]:
     """qemu's arguments, but for cards and consoles."""
-    return ["qemu-system-x86_64", "-accel", "tcg", "-m", str(memory), "-display", "none", "-no-reboot", "-nic", "none",
-            "-kernel", str(kernel), "-initrd", str(initrd), "-append", f"console=ttyS0 quiet panic=-1 {more}"]
+    return [
+        "qemu-system-x86_64",
+        "-accel",
+        "tcg",
+        "-m",
+        str(memory),
+        "-display",
+        "none",
+        "-no-reboot",
+        "-nic",
+        "none",
+        "-kernel",
+        str(kernel),
+        "-initrd",
+        str(initrd),
+        "-append",
+        f"console=ttyS0 quiet panic=-1 {more}",
+    ]
 
 
 class Machine:
     """A machine that runs in a namespace. What its console shows is in a file."""
 
-    def __init__(self, namespace: str, words: List[str], console: pathlib.Path,
-                 out: Union[int, IO[bytes]] = subprocess.DEVNULL, into: int = subprocess.DEVNULL) -> None:
+    def __init__(
+        self,
+        namespace: str,
+        words: list[str],
+        console: pathlib.Path,
+        out: int | IO[bytes] = subprocess.DEVNULL,
+        into: int = subprocess.DEVNULL,
+    ) -> None:
         self.console = console
         self.process = subprocess.Popen(["ip", "netns", "exec", namespace, *words], stdin=into, stdout=out, stderr=out)
 

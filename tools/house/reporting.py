@@ -1,14 +1,16 @@
 """What does not hold, and commands that have to succeed: for the tests that run longer than one program."""
 
+from __future__ import annotations
+
 import subprocess
 import time
-from typing import Callable, List
+from typing import Callable
 
 # After so many lines nothing more is printed of what does not hold.
 MANY = 20
 
 # What does not hold.
-wrong: List[str] = []
+wrong: list[str] = []
 
 
 def report(holds: bool, what: str) -> None:

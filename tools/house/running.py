@@ -1,5 +1,7 @@
 """Running commands side by side, and stopping them with all that they started."""
 
+from __future__ import annotations
+
 import os
 import pathlib
 import re
@@ -8,14 +10,17 @@ import signal
 import subprocess
 import sys
 import time
-from typing import Dict, Iterable, List, NamedTuple, Optional, Set, Tuple
+from collections.abc import Iterable
+from typing import NamedTuple
 
 from house import ROOT
 
 # How long a stopped command has to end before it is killed.
 GRACE = 5.0
 # What a command prints if it leaves something out.
-LEFT_OUT = re.compile(r"nothing is tested|not tried|cannot be tried|not checked|commands skipped|skipped=|not installed")
+LEFT_OUT = re.compile(
+    r"nothing is tested|not tried|cannot be tried|not checked|commands skipped|skipped=|not installed"
+)
 COUNTS = re.compile(r"(\d+) passed, (\d+) failed")
 
 
@@ -24,14 +29,14 @@ class Job(NamedTuple):
     it prints for each test that passed, `then` a job that begins when this one has passed."""
 
     name: str
-    words: List[str]
+    words: list[str]
     shown: bool = False
-    counted: Optional[str] = None
-    log: Optional[pathlib.Path] = None
-    then: "Optional[Job]" = None
+    counted: str | None = None
+    log: pathlib.Path | None = None
+    then: Job | None = None
 
 
-def processes() -> Dict[int, Tuple[int, int]]:
+def processes() -> dict[int, tuple[int, int]]:
     """Each process with its parent and its session."""
     found = {}
     for path in pathlib.Path("/proc").glob("[0-9]*/stat"):
@@ -43,7 +48,7 @@ def processes() -> Dict[int, Tuple[int, int]]:
     return found
 
 
-def started_by(leaders: Iterable[int]) -> Set[int]:
+def started_by(leaders: Iterable[int]) -> set[int]:
     """The processes of the sessions of these, and all that those have started."""
     known = processes()
     found = set(leaders) & known.keys() | {it for it, (_, session) in known.items() if session in set(leaders)}
@@ -72,8 +77,14 @@ class Running:
             out = None
         else:
             words, out = job.words, open(self.log, "wb")
-        self.process = subprocess.Popen(words, stdin=subprocess.DEVNULL, stdout=out, stderr=out and subprocess.STDOUT,
-                                        cwd=ROOT, start_new_session=True)
+        self.process = subprocess.Popen(
+            words,
+            stdin=subprocess.DEVNULL,
+            stdout=out,
+            stderr=out and subprocess.STDOUT,
+            cwd=ROOT,
+            start_new_session=True,
+        )
         if out:
             out.close()
 
@@ -95,7 +106,7 @@ class Runner:
 
     def __init__(self, logs: pathlib.Path, stops: bool) -> None:
         self.logs, self.stops, self.passed, self.lost = logs, stops, 0, 0
-        self.failed: List[str] = []
+        self.failed: list[str] = []
         logs.mkdir(parents=True, exist_ok=True)
 
     def say(self, line: str) -> None:
@@ -140,7 +151,7 @@ class Runner:
         self.say(f"{job.name} FAILED ({ended.seconds()}), {os.path.relpath(ended.log, ROOT)}")
         return False
 
-    def stop(self, running: List[Running]) -> None:
+    def stop(self, running: list[Running]) -> None:
         """Stops jobs, and all that they have started."""
         if not running:
             return

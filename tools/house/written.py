@@ -1,14 +1,17 @@
 """Files that a tool writes from the sources, or compares with those that are there."""
 
+from __future__ import annotations
+
 import pathlib
 import sys
-from typing import Callable, Dict, List
+from typing import Callable
 
 from house import ROOT
 
 
-def write_or_check(tool: str, arguments: List[str], folder: pathlib.Path, make: Callable[[], Dict[str, str]],
-                   is_own: bool = False) -> int:
+def write_or_check(
+    tool: str, arguments: list[str], folder: pathlib.Path, make: Callable[[], dict[str, str]], is_own: bool = False
+) -> int:
     """Writes the files into the folder. With --check it names each that is stale or missing, and if the folder has no
     other files, each that is not made. Returns the status."""
     if arguments not in ([], ["--check"]):
@@ -21,8 +24,11 @@ def write_or_check(tool: str, arguments: List[str], folder: pathlib.Path, make: 
             (folder / name).write_text(text, encoding="utf-8")
         return 0
     wrong = [f"{where}/{name} is missing" for name in made if not (folder / name).is_file()]
-    wrong += [f"{where}/{name} is stale" for name, text in made.items()
-              if (folder / name).is_file() and (folder / name).read_text(encoding="utf-8") != text]
+    wrong += [
+        f"{where}/{name} is stale"
+        for name, text in made.items()
+        if (folder / name).is_file() and (folder / name).read_text(encoding="utf-8") != text
+    ]
     if is_own:
         wrong += [f"{where}/{it.name} is of nothing" for it in sorted(folder.glob("*")) if it.name not in made]
     for each in wrong:

@@ -21,24 +21,24 @@ CLEARS(65536)
         return status;                                                                                                 \
     }
 
-CALL(32768, macsec_install_key, (macsec_endpoint *e, const macsec_sak *key), (e, key))
-CALL(32768, macsec_retire_key, (macsec_endpoint *e, uint16_t key), (e, key))
-CALL(32768, macsec_command_line_raw, (macsec_endpoint *e, const uint8_t *text, size_t length), (e, text, length))
+CALL(32768, macsec_install_key, (macsec_endpoint * e, const macsec_sak *key), (e, key))
+CALL(32768, macsec_retire_key, (macsec_endpoint * e, uint16_t key), (e, key))
+CALL(32768, macsec_command_line_raw, (macsec_endpoint * e, const uint8_t *text, size_t length), (e, text, length))
 CALL(32768, macsec_answer_raw,
-     (macsec_endpoint *e, uint32_t number, const uint8_t *text, size_t text_length, uint8_t *out, size_t out_length,
+     (macsec_endpoint * e, uint32_t number, const uint8_t *text, size_t text_length, uint8_t *out, size_t out_length,
       size_t *written),
      (e, number, text, text_length, out, out_length, written))
 CALL(32768, macsec_seal_raw,
      (const macsec_sak *key, const uint8_t sci[8], uint64_t pn, bool conf, size_t head, uint8_t *frame, size_t length),
      (key, sci, pn, conf, head, frame, length))
-CALL(32768, macsec_add_tx_sa, (macsec_endpoint *e, uint8_t an, uint16_t key, uint64_t next, bool conf),
+CALL(32768, macsec_add_tx_sa, (macsec_endpoint * e, uint8_t an, uint16_t key, uint64_t next, bool conf),
      (e, an, key, next, conf))
 CALL(32768, macsec_add_rx_sa,
-     (macsec_endpoint *e, const uint8_t sci[8], uint8_t an, uint16_t key, uint32_t ssci, uint64_t lowest),
+     (macsec_endpoint * e, const uint8_t sci[8], uint8_t an, uint16_t key, uint32_t ssci, uint64_t lowest),
      (e, sci, an, key, ssci, lowest))
-CALL(65536, macsec_configure_raw, (macsec_endpoint *e, const uint8_t *text, size_t length, uint32_t *line),
+CALL(65536, macsec_configure_raw, (macsec_endpoint * e, const uint8_t *text, size_t length, uint32_t *line),
      (e, text, length, line))
 CALL(65536, macsec_reserve_configure_raw,
-     (macsec_endpoint *e, const uint8_t *text, size_t text_length, const uint8_t *journal, size_t journal_length,
+     (macsec_endpoint * e, const uint8_t *text, size_t text_length, const uint8_t *journal, size_t journal_length,
       uint32_t *line),
      (e, text, text_length, journal, journal_length, line))

@@ -59,7 +59,7 @@ def read(path: str) -> bytes:
         return it.read()
 
 
-def python_commands() -> "list[str]":
+def python_commands() -> list[str]:
     """The commands of the Python package, which python/pyproject.toml names."""
     return re.findall("^(macsec-[a-z]+) = ", read(f"{ROOT}/python/pyproject.toml").decode(), re.M)
 
@@ -81,7 +81,7 @@ def has_vectors() -> bool:
     return "x86-64-v3 (supported" in run("/lib64/ld-linux-x86-64.so.2", "--help")
 
 
-def tried_in_c(where: str, do: "Callable[..., str]", at: str, room: str, flags: "list[str]") -> None:
+def tried_in_c(where: str, do: Callable[..., str], at: str, room: str, flags: list[str]) -> None:
     """Compiles the examples in C, and runs them over the shared library, and one over the static one."""
     examples = f"{at}{DOC}/libmacsec-dev/examples/c"
     for name in ("talk", "first_frame"):
@@ -97,7 +97,7 @@ def tried_in_c(where: str, do: "Callable[..., str]", at: str, room: str, flags: 
     see(f"{where}, the loader takes ..{expected}", len(loaded) == 1 and loaded[0].endswith(expected))
 
 
-def tried_in_python(where: str, do: "Callable[..., str]", at: str, room: str) -> None:
+def tried_in_python(where: str, do: Callable[..., str], at: str, room: str) -> None:
     """Runs the commands of the package for Python, and an example over it."""
     captures, doc = f"{at}{DOC}/macsec/examples/captures", f"{at}{DOC}/python3-macsec"
     call = lambda name, *words: do(f"{at}/usr/bin/macsec-{name}", *words)
@@ -113,7 +113,7 @@ def tried_in_python(where: str, do: "Callable[..., str]", at: str, room: str) ->
     see(f"{where}, an example in Python prints its text", told == text("examples/python/dissect.txt"))
 
 
-def tried(where: str, do: "Callable[..., str]", at: str, room: str, flags: "list[str]") -> None:
+def tried(where: str, do: Callable[..., str], at: str, room: str, flags: list[str]) -> None:
     """Tries what the packages of Debian install: `do` runs a command, `at` is before each path of them, and `room` is a
     folder for what is made."""
     told = do(f"{at}/usr/bin/macsec", "run", f"{at}{DOC}/macsec/examples/tour.macsec")
@@ -126,14 +126,14 @@ def tried(where: str, do: "Callable[..., str]", at: str, room: str, flags: "list
         see(f"{where}, `{words}` is completed", do("bash", "-c", script).strip() == expected)
 
 
-def manuals(where: str, do: "Callable[..., str]", words: str) -> None:
+def manuals(where: str, do: Callable[..., str], words: str) -> None:
     """Sees that `man` finds and formats the pages."""
     for name, section in (("macsec", "1"), ("macsec", "5"), *((it, "1") for it in python_commands())):
         told = do("sh", "-c", f"man {words} {section} {name} 2> /dev/null")
         see(f"{where}, man {section} {name} prints the page", f"{name}({section})" in told.lower())
 
 
-def outside(environment: "dict[str, str]") -> "Callable[..., str]":
+def outside(environment: dict[str, str]) -> Callable[..., str]:
     """What runs a command without the toolchain on the PATH."""
     return lambda *words: run(*words, env={**ENVIRONMENT, **environment})
 
@@ -151,14 +151,14 @@ def tried_below(where: str, root: str) -> None:
     shutil.rmtree(room)
 
 
-def unpacked(names: "list[str]", root: str) -> None:
+def unpacked(names: list[str], root: str) -> None:
     """Unpacks the packages of Debian, and tries them."""
     for name in names:
         run("dpkg", "-x", name, root)
     tried_below("unpacked", root)
 
 
-def empty_root(names: "list[str]", root: str) -> None:
+def empty_root(names: list[str], root: str) -> None:
     """Installs the packages in an empty root and removes them: nothing is left."""
     for name in ("info", "updates", "triggers"):
         os.makedirs(f"{root}/var/lib/dpkg/{name}")
@@ -189,7 +189,7 @@ def archive(name: str, room: str) -> None:
         see("unpacked, the archive has what cargo needs for examples/rust", told == text("examples/rust/stdout.txt"))
 
 
-def found_in(root: str) -> "dict[str, str]":
+def found_in(root: str) -> dict[str, str]:
     """What is below a root except records: each path, and what is there."""
     found = {}
     for at, folders, files in os.walk(root):
@@ -203,7 +203,7 @@ def found_in(root: str) -> "dict[str, str]":
     return {path: it for path, it in found.items() if not path.startswith(RECORDS)}
 
 
-def debian_root(names: "list[str]", root: str) -> None:
+def debian_root(names: list[str], root: str) -> None:
     """Installs the packages in a root of Debian by its own dpkg, tries them there, and removes them."""
     if not os.path.exists(root):
         quietly("debootstrap", "--variant=minbase", f"--include={INCLUDED}", SUITE, root)

@@ -1,12 +1,13 @@
 """A virtual machine for the test mka: Linux's own MACsec, driven by Debian's wpasupplicant."""
 
+from __future__ import annotations
+
 import json
 import pathlib
 import re
 import shutil
 import socket
 import subprocess
-from typing import Dict, List
 
 from house.machine import Machine, pack, prepare, words_of
 from house.reporting import Failed, call
@@ -39,7 +40,7 @@ echo "machine: end"
 class Member(Machine):
     """The machine, on the bridge of a world."""
 
-    def __init__(self, world: World, folder: pathlib.Path, settings: Dict[str, str]) -> None:
+    def __init__(self, world: World, folder: pathlib.Path, settings: dict[str, str]) -> None:
         kernel = next(folder.glob("files/boot/vmlinuz-*"), None)
         if kernel is None or not (folder / "root/init").exists():
             shutil.rmtree(folder, ignore_errors=True)
@@ -49,16 +50,34 @@ class Member(Machine):
         hub = world.hub
         call("ip", "-n", hub, "tuntap", "add", "vtap", "mode", "tap")
         call("ip", "-n", hub, "link", "set", "vtap", "master", "hub0", "up")
-        all_settings = {"key_mgmt": "NONE", "eapol_flags": "0", "macsec_policy": "1", "mka_cak": CAK, "mka_ckn": CKN,
-                        "macsec_replay_protect": "1", "macsec_replay_window": "0", **settings}
+        all_settings = {
+            "key_mgmt": "NONE",
+            "eapol_flags": "0",
+            "macsec_policy": "1",
+            "mka_cak": CAK,
+            "mka_ckn": CKN,
+            "macsec_replay_protect": "1",
+            "macsec_replay_window": "0",
+            **settings,
+        }
         lines = "".join(f"\t{name}={value}\n" for name, value in all_settings.items())
         files = {"job": JOB, "wpa.conf": f"eapol_version=3\nap_scan=0\nnetwork={{\n{lines}}}\n"}
         initrd = pack(folder, files, world.folder / "initrd")
-        words = [*words_of(kernel, initrd, 384, "random.trust_cpu=on"), "-cpu", "max",
-                 "-serial", f"file:{world.folder}/console", "-serial", f"file:{self.log}",
-                 "-netdev", "tap,id=n,ifname=vtap,script=no,downscript=no",
-                 "-device", f"virtio-net-pci,id=d,netdev=n,mac={MAC},romfile=",
-                 "-qmp", f"unix:{world.folder}/qmp,server=on,wait=off"]
+        words = [
+            *words_of(kernel, initrd, 384, "random.trust_cpu=on"),
+            "-cpu",
+            "max",
+            "-serial",
+            f"file:{world.folder}/console",
+            "-serial",
+            f"file:{self.log}",
+            "-netdev",
+            "tap,id=n,ifname=vtap,script=no,downscript=no",
+            "-device",
+            f"virtio-net-pci,id=d,netdev=n,mac={MAC},romfile=",
+            "-qmp",
+            f"unix:{world.folder}/qmp,server=on,wait=off",
+        ]
         with open(world.folder / "qemu.log", "wb") as log:
             super().__init__(hub, words, world.folder / "console", log)
         world.processes.append(self.process)
@@ -69,8 +88,10 @@ class Member(Machine):
             it.connect(str(self.world.folder / "qmp"))
             it.settimeout(5)
             it.recv(65536)
-            for command in ({"execute": "qmp_capabilities"},
-                            {"execute": "set_link", "arguments": {"name": "d", "up": False}}):
+            for command in (
+                {"execute": "qmp_capabilities"},
+                {"execute": "set_link", "arguments": {"name": "d", "up": False}},
+            ):
                 it.sendall(json.dumps(command).encode())
                 it.recv(65536)
         if not self.waits_for("machine: end", 60):
@@ -80,10 +101,10 @@ class Member(Machine):
         except subprocess.TimeoutExpired:
             stopped(self.process)
 
-    def faults(self) -> Dict[str, int]:
+    def faults(self) -> dict[str, int]:
         """Its counters of late and invalid frames that are not 0, from `ip -s macsec show`."""
-        bad: Dict[str, int] = {}
-        names: List[str] = []
+        bad: dict[str, int] = {}
+        names: list[str] = []
         for line in self.text().splitlines():
             words = line.split()
             if words and words[0] in ("stats:",):

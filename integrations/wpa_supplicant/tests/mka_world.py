@@ -1,5 +1,7 @@
 """Network namespaces for the test mka: a bridge, and ends of macsecd and wpa_supplicant on it."""
 
+from __future__ import annotations
+
 import contextlib
 import os
 import pathlib
@@ -11,7 +13,8 @@ import struct
 import subprocess
 import threading
 import time
-from typing import Dict, List, NamedTuple, Optional, Pattern, Set, Tuple
+from re import Pattern
+from typing import NamedTuple
 
 from house import captures
 from house.reporting import Failed, call, until
@@ -22,7 +25,7 @@ MACSEC, EAPOL = "88e5", "888e"
 SOL_PACKET, ADD_MEMBERSHIP, PROMISCUOUS, STATISTICS = 263, 1, 1, 6
 
 
-def stopped(process: "Optional[subprocess.Popen[bytes]]", number: int = signal.SIGTERM) -> None:
+def stopped(process: subprocess.Popen[bytes] | None, number: int = signal.SIGTERM) -> None:
     """Ends a process by a signal, and kills it if it does not end."""
     if process is None or process.poll() is not None:
         return
@@ -37,18 +40,18 @@ def stopped(process: "Optional[subprocess.Popen[bytes]]", number: int = signal.S
 class End(Namespace):
     """A namespace with a macsecd and a wpa_supplicant that drives it."""
 
-    def __init__(self, world: "World", number: int, settings: Dict[str, str]) -> None:
+    def __init__(self, world: World, number: int, settings: dict[str, str]) -> None:
         self.name = "abc"[number - 1]
         super().__init__(f"{world.prefix}{self.name}", world.folder / self.name)
         self.world, self.number, self.settings = world, number, settings
         self.address, self.mac = f"10.9.0.{number}", f"02:00:00:00:00:0{number}"
         self.sci = f"02000000000{number}0001"
-        self.allow: List[str] = []
-        self.relay: Optional[Relay] = None
-        self.device: "Optional[subprocess.Popen[bytes]]" = None
-        self.wpa: "Optional[subprocess.Popen[bytes]]" = None
+        self.allow: list[str] = []
+        self.relay: Relay | None = None
+        self.device: subprocess.Popen[bytes] | None = None
+        self.wpa: subprocess.Popen[bytes] | None = None
 
-    def spawn(self, log: str, *words: str) -> "subprocess.Popen[bytes]":
+    def spawn(self, log: str, *words: str) -> subprocess.Popen[bytes]:
         """Starts a program in the namespace."""
         with open(self.folder / log, "ab") as it:
             command = ["ip", "netns", "exec", self.namespace, *words]
@@ -79,13 +82,24 @@ class End(Namespace):
 
     def start_wpa(self) -> None:
         """Starts wpa_supplicant."""
-        settings = {"key_mgmt": "NONE", "eapol_flags": "0", "macsec_policy": "1", "mka_cak": CAK, "mka_ckn": CKN,
-                    "macsec_replay_protect": "1", "macsec_replay_window": "0", **self.settings}
+        settings = {
+            "key_mgmt": "NONE",
+            "eapol_flags": "0",
+            "macsec_policy": "1",
+            "mka_cak": CAK,
+            "mka_ckn": CKN,
+            "macsec_replay_protect": "1",
+            "macsec_replay_window": "0",
+            **self.settings,
+        }
         path = self.relay.path if self.relay else self.socket
         config = self.folder / "wpa.conf"
-        config.write_text(f"ctrl_interface={self.folder}/control\neapol_version=3\nap_scan=0\n"
-                          f"driver_param=socket={path}\nnetwork={{\n"
-                          + "".join(f"\t{name}={value}\n" for name, value in settings.items()) + "}\n")
+        config.write_text(
+            f"ctrl_interface={self.folder}/control\neapol_version=3\nap_scan=0\n"
+            f"driver_param=socket={path}\nnetwork={{\n"
+            + "".join(f"\t{name}={value}\n" for name, value in settings.items())
+            + "}\n"
+        )
         config.chmod(0o600)
         program = str(self.world.wpa / "wpa_supplicant")
         self.wpa = self.spawn("wpa.log", program, "-D", "macsec_macsecd", "-i", "link0", "-c", str(config), "-ddtK")
@@ -101,16 +115,26 @@ class End(Namespace):
 
     def cli(self, *words: str) -> str:
         """Runs wpa_cli."""
-        command = ["ip", "netns", "exec", self.namespace, str(self.world.wpa / "wpa_cli"), "-p",
-                   str(self.folder / "control"), "-i", "link0", *words]
+        command = [
+            "ip",
+            "netns",
+            "exec",
+            self.namespace,
+            str(self.world.wpa / "wpa_cli"),
+            "-p",
+            str(self.folder / "control"),
+            "-i",
+            "link0",
+            *words,
+        ]
         return subprocess.run(command, stdin=subprocess.DEVNULL, capture_output=True, text=True).stdout
 
-    def status(self) -> Dict[str, str]:
+    def status(self) -> dict[str, str]:
         """What `wpa_cli status` and `wpa_cli status driver` say."""
         lines = (self.cli("status") + self.cli("status", "driver")).splitlines()
         return dict(line.split("=", 1) for line in lines if "=" in line)
 
-    def logged(self, pattern: str) -> List[float]:
+    def logged(self, pattern: str) -> list[float]:
         """When wpa_supplicant logged lines with this pattern."""
         return logged(self.folder / "wpa.log", pattern)
 
@@ -122,7 +146,7 @@ class End(Namespace):
             self.relay.close()
 
 
-def logged(path: pathlib.Path, pattern: str) -> List[float]:
+def logged(path: pathlib.Path, pattern: str) -> list[float]:
     """When lines with this pattern were written to a log with times."""
     text = path.read_text(errors="replace") if path.exists() else ""
     return [float(it) for it in re.findall(rf"^(\d+\.\d+): .*(?:{pattern})", text, re.M)]
@@ -152,7 +176,7 @@ class Capture(threading.Thread):
                     frame = self.socket.recv(65536)
                     out.write(captures.pcap_record(time.time_ns(), frame))
 
-    def frames(self) -> List[bytes]:
+    def frames(self) -> list[bytes]:
         """The frames so far."""
         return captures.frames_so_far(self.path)
 
@@ -170,17 +194,18 @@ class World:
 
     count = 0
 
-    def __init__(self, folder: pathlib.Path, programs: pathlib.Path, wpa: pathlib.Path,
-                 *settings: Dict[str, str]) -> None:
+    def __init__(
+        self, folder: pathlib.Path, programs: pathlib.Path, wpa: pathlib.Path, *settings: dict[str, str]
+    ) -> None:
         World.count += 1
         self.folder, self.programs, self.wpa = folder / f"world{World.count}", programs, wpa
         self.prefix = f"mka-{os.getpid()}-"
         self.hub = f"{self.prefix}hub"
         self.ends = [End(self, number, each) for number, each in enumerate(settings, 1)]
-        self.processes: "List[subprocess.Popen[bytes]]" = []
-        self.pings: List[Ping] = []
+        self.processes: list[subprocess.Popen[bytes]] = []
+        self.pings: list[Ping] = []
 
-    def __enter__(self) -> "World":
+    def __enter__(self) -> World:
         call("ip", "netns", "add", self.hub)
         quiet = ["sysctl", "-qw", "net.ipv6.conf.all.disable_ipv6=1", "net.ipv6.conf.default.disable_ipv6=1"]
         call("ip", "netns", "exec", self.hub, *quiet)
@@ -212,7 +237,7 @@ class World:
             end.start_wpa()
         return now
 
-    def send_again(self, frames: List[bytes]) -> int:
+    def send_again(self, frames: list[bytes]) -> int:
         """Sends protected frames of ends to the other ends again. Returns their number."""
         count = 0
         with inside(self.hub), contextlib.ExitStack() as stack:
@@ -243,7 +268,7 @@ class Pinged(NamedTuple):
     """What became of a ping: how many requests there were, and which had no reply."""
 
     sent: int
-    lost: List[int]
+    lost: list[int]
 
 
 class Ping:
@@ -257,7 +282,7 @@ class Ping:
         self.socket.setsockopt(socket.SOL_SOCKET, 33, 64 << 20)  # SO_RCVBUFFORCE
         self.socket.settimeout(0.2)
         self.sent = 0
-        self.replies: Dict[int, float] = {}
+        self.replies: dict[int, float] = {}
         self.threads = [threading.Thread(target=it, daemon=True) for it in (self.send, self.receive)]
         end.world.pings.append(self)
         for thread in self.threads:
@@ -285,7 +310,7 @@ class Ping:
                 if got[0] == 0 and int.from_bytes(got[4:6], "big") == self.name:
                     self.replies.setdefault(int.from_bytes(got[8:12], "big"), time.time())
 
-    def reply(self, seconds: float, after: float = 0.0) -> Optional[float]:
+    def reply(self, seconds: float, after: float = 0.0) -> float | None:
         """When the first reply after a time comes, if it does within so many seconds from now."""
         end = time.time() + seconds
         while time.time() < end:
@@ -311,8 +336,8 @@ class Relay(threading.Thread):
         super().__init__(daemon=True)
         self.end = end
         self.path = str(end.folder / "run/relay.sock")
-        self.refuses: Optional[Pattern[str]] = None
-        self.refused_at: Optional[float] = None
+        self.refuses: Pattern[str] | None = None
+        self.refused_at: float | None = None
         self.used_before = 0
         self.listener = socket.socket(socket.AF_UNIX, socket.SOCK_SEQPACKET)
         self.listener.bind(self.path)
@@ -371,9 +396,9 @@ class Relay(threading.Thread):
         self.listener.close()
 
 
-def ivs(records: "List[Tuple[str, str, int]]") -> Tuple[int, int]:
+def ivs(records: list[tuple[str, str, int]]) -> tuple[int, int]:
     """Of opened frames, each as key, SCI and packet number: how many IVs there are, and how many occur twice."""
-    seen: Set[Tuple[str, str, int]] = set()
+    seen: set[tuple[str, str, int]] = set()
     repeated = 0
     for it in records:
         repeated += it in seen

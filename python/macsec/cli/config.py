@@ -5,11 +5,9 @@ from __future__ import annotations
 import argparse
 import json
 import sys
-from typing import List, Optional, Sequence
+from collections.abc import Sequence
 
-from . import run
 from ..endpoint_of_config import Configuration
-from .decrypt import add_key_options, key_arguments
 from ..errors import UsageError
 from ..iproute import Devices, address_of, commands_of, plan_of_json
 from ..lint import lint
@@ -20,6 +18,8 @@ from ..scan import scan
 from ..secy import sci_of
 from ..trial import KeyArgument
 from ..wpalog import plan_of_log
+from . import run
+from .decrypt import add_key_options, key_arguments
 
 _SENDS = (
     "# This end sends. If the same SCI sent these packet numbers under its key before, or another endpoint does, IVs\n"
@@ -27,7 +27,7 @@ _SENDS = (
 )
 
 
-def main(words: Optional[Sequence[str]] = None) -> int:
+def main(words: Sequence[str] | None = None) -> int:
     """Runs the command, and returns its exit status."""
     parser = argparse.ArgumentParser(
         prog="macsec-config",
@@ -89,7 +89,7 @@ def _config(asked: argparse.Namespace) -> int:
     if asked.capture:
         return _from_capture(asked)
     if asked.ip:
-        addresses: "dict[str, bytes]" = {}
+        addresses: dict[str, bytes] = {}
         for each in asked.address:
             device, _, address = each.partition("=")
             try:
@@ -118,7 +118,7 @@ def _text(plan: Plan) -> str:
 
 
 def _from_capture(asked: argparse.Namespace) -> int:
-    keys: List[KeyArgument] = key_arguments(asked) if asked.key or asked.keys or asked.wpa else []
+    keys: list[KeyArgument] = key_arguments(asked) if asked.key or asked.keys or asked.wpa else []
     suite = Suite[asked.suite] if asked.suite else None
     made = scan(asked.capture, keys, suite, asked.offset)
     try:

@@ -6,19 +6,20 @@ import argparse
 import collections
 import json
 import sys
-from typing import Counter, List, Optional, Sequence
+from collections import Counter
+from collections.abc import Sequence
 
 from .. import capture
-from . import run
 from ..errors import UsageError
 from ..names import Suite
 from ..opener import Opener
 from ..summary import frames_text
 from ..trial import KeyArgument, key_argument
 from ..wpalog import keys_of
+from . import run
 
 
-def key_arguments(asked: argparse.Namespace) -> "List[KeyArgument]":
+def key_arguments(asked: argparse.Namespace) -> list[KeyArgument]:
     """The keys of the options --key, --keys and --wpa."""
     found = [key_argument(it) for it in asked.key]
     for path in asked.keys:
@@ -50,7 +51,7 @@ def add_key_options(parser: argparse.ArgumentParser) -> None:
     )
 
 
-def main(words: Optional[Sequence[str]] = None) -> int:
+def main(words: Sequence[str] | None = None) -> int:
     """Runs the command, and returns its exit status."""
     parser = argparse.ArgumentParser(
         prog="macsec-decrypt",
@@ -89,9 +90,9 @@ def _decrypt(asked: argparse.Namespace) -> int:
     return 3 if counts["not opened"] else 0
 
 
-def _write(opener: Opener, asked: argparse.Namespace, out: capture.PcapngFile) -> "Counter[str]":
+def _write(opener: Opener, asked: argparse.Namespace, out: capture.PcapngFile) -> Counter[str]:
     """Opens all records, writes them and counts them."""
-    counts: "Counter[str]" = collections.Counter()
+    counts: Counter[str] = collections.Counter()
     for packet in capture.read(asked.capture):
         if not packet.is_whole:
             counts["not whole or not Ethernet"] += 1

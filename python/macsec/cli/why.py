@@ -6,23 +6,24 @@ import argparse
 import collections
 import json
 import sys
-from typing import Dict, List, NamedTuple, Optional, Sequence, Tuple
+from collections.abc import Sequence
+from typing import NamedTuple, Optional
 
 from .. import capture
 from ..causes import Change, Found, Search, Setting
-from . import run
 from ..endpoint_of_config import Configuration
 from ..errors import FrameFault, UsageError
 from ..frames import ethertype, read_tag, without_vlan
 from ..names import Verdict
 from ..summary import Summary, frames_text, ranges
 from ..trial import OPENED, Key, Trial, key_argument
+from . import run
 
 _DELIVERED_AS_SENT = (Verdict.OK, Verdict.Delayed)
 # How many frames of a kind, and of all kinds, other settings are searched for; and how many of a kind are kept.
 _MOST_SEARCHES, _MOST_SEARCHES_OF_ALL, _MOST_FRAMES = 4, 100, 20_000
 # A verdict, and an SCI with an association number or an EtherType.
-_Kind = Tuple[Verdict, str, Optional[int]]
+_Kind = tuple[Verdict, str, Optional[int]]
 
 
 class Seen(NamedTuple):
@@ -37,20 +38,20 @@ class Group(NamedTuple):
 
     verdict: Verdict
     sender: str
-    an: Optional[int]
-    records: List[int]
-    changes: Tuple[Change, ...]
+    an: int | None
+    records: list[int]
+    changes: tuple[Change, ...]
     note: str = ""
 
-    def as_dict(self) -> "Dict[str, object]":
+    def as_dict(self) -> dict[str, object]:
         causes = [{key: value for key, value in it._asdict().items() if value is not None} for it in self.changes]
-        named: "Dict[str, object]" = {"sci": self.sender, "an": self.an}
+        named: dict[str, object] = {"sci": self.sender, "an": self.an}
         if self.an is None:
             named = {"ethertype": self.sender}
         note = {"note": self.note} if self.note else {}
         return {"verdict": self.verdict.name, **named, "records": self.records, "causes": causes, **note}
 
-    def lines(self) -> "List[str]":
+    def lines(self) -> list[str]:
         of = f"EtherType {self.sender}" if self.an is None else f"SCI {self.sender} AN {self.an}"
         found = [f"record {ranges(self.records)} {self.verdict.name} ({frames_text(len(self.records))}), {of}:"]
         for each in self.changes:
@@ -61,12 +62,12 @@ class Group(NamedTuple):
 class Run:
     """What `macsec validate` makes of a capture, and the frames that it did not open."""
 
-    def __init__(self, configuration: Configuration, path: str, only: Optional[int]) -> None:
+    def __init__(self, configuration: Configuration, path: str, only: int | None) -> None:
         self.summary = Summary()
-        self.unopened: Dict[_Kind, List[Seen]] = {}
-        self.first_opened: Dict[Tuple[str, Optional[int]], int] = {}
-        self.others: Dict[str, List[int]] = collections.defaultdict(list)
-        self.only: Optional[capture.Packet] = None
+        self.unopened: dict[_Kind, list[Seen]] = {}
+        self.first_opened: dict[tuple[str, int | None], int] = {}
+        self.others: dict[str, list[int]] = collections.defaultdict(list)
+        self.only: capture.Packet | None = None
         self.only_verdict = ""
         for packet in capture.read(path):
             verdict = self._add(configuration, packet, only)
@@ -76,7 +77,7 @@ class Run:
         if only is not None and self.only is None:
             raise UsageError(f"the capture has no record {only}")
 
-    def _add(self, configuration: Configuration, packet: capture.Packet, only: Optional[int]) -> str:
+    def _add(self, configuration: Configuration, packet: capture.Packet, only: int | None) -> str:
         """Gives a record to the endpoint."""
         if not packet.is_whole:
             name = "partial" if packet.link_type == capture.ETHERNET else f"linktype {packet.link_type}"
@@ -97,7 +98,7 @@ class Run:
         return verdict.name
 
 
-def _opened_by(setting: Setting, seen: "Sequence[Seen]") -> "List[int]":
+def _opened_by(setting: Setting, seen: Sequence[Seen]) -> list[int]:
     """The records of the frames that open under a setting, one after another."""
     trial = Trial(setting.key, setting.sci, setting.an, setting.ssci)
     trial.begin(setting.upper)
@@ -129,7 +130,7 @@ def _note_of(run_: Run, kind: _Kind, seen: Seen) -> str:
     return "no change that was tried opens it: another key, or salt; give more keys by --key"
 
 
-def _with_rekey(run_: Run, kind: _Kind, found: Found, record: int) -> "Tuple[Change, ...]":
+def _with_rekey(run_: Run, kind: _Kind, found: Found, record: int) -> tuple[Change, ...]:
     """The changes; a key that follows another one of the same association is a rekey."""
     first = run_.first_opened.get((kind[1], kind[2]))
     changes = tuple(
@@ -145,15 +146,15 @@ class Explanation:
     """The causes of all verdicts that are not OK."""
 
     def __init__(self, run_: Run, search: Search) -> None:
-        self.groups: "List[Group]" = []
+        self.groups: list[Group] = []
         self._run, self._search, self._searches = run_, search, 0
         for kind, seen in run_.unopened.items():
             self._explain(kind, seen)
 
-    def _explain(self, kind: _Kind, seen: "List[Seen]") -> None:
+    def _explain(self, kind: _Kind, seen: list[Seen]) -> None:
         """Explains the frames of a kind: those that one setting opens together."""
         left = list(seen)
-        unexplained: "List[Seen]" = []
+        unexplained: list[Seen] = []
         while left and len(unexplained) < _MOST_SEARCHES and self._searches < _MOST_SEARCHES_OF_ALL:
             first = left[0]
             self._searches += 1
@@ -169,7 +170,7 @@ class Explanation:
             note = _note_of(self._run, kind, (unexplained + left)[0])
             self.groups.append(Group(*kind, [it.record for it in unexplained + left], (), note))
 
-    def _records(self, found: Found, left: "List[Seen]", verdict: Verdict) -> "List[int]":
+    def _records(self, found: Found, left: list[Seen], verdict: Verdict) -> list[int]:
         """The records of the first frame, and of those that have the same cause."""
         if found.setting is not None:
             return [left[0].record, *_opened_by(found.setting, left[1:])]
@@ -184,7 +185,7 @@ def _is_same(search: Search, found: Found, seen: Seen, verdict: Verdict) -> bool
     return True
 
 
-def _record_lines(packet: capture.Packet, verdict: str) -> "List[str]":
+def _record_lines(packet: capture.Packet, verdict: str) -> list[str]:
     """The fields of one record."""
     plain, tags = without_vlan(packet.frame)
     tag = read_tag(plain)
@@ -199,7 +200,7 @@ def _record_lines(packet: capture.Packet, verdict: str) -> "List[str]":
     return [*lines, f"  SecTAG: {tag.flags}, AN {tag.an}, SL {tag.sl}, PN {tag.pn:08x}, SCI {sci}"]
 
 
-def _more_keys(texts: "Sequence[str]") -> "List[Key]":
+def _more_keys(texts: Sequence[str]) -> list[Key]:
     """The keys of the options --key."""
     found = []
     for place, text in enumerate(texts, 1):
@@ -210,7 +211,7 @@ def _more_keys(texts: "Sequence[str]") -> "List[Key]":
     return found
 
 
-def main(words: Optional[Sequence[str]] = None) -> int:
+def main(words: Sequence[str] | None = None) -> int:
     """Runs the command, and returns its exit status."""
     parser = argparse.ArgumentParser(
         prog="macsec-why",
@@ -234,7 +235,7 @@ def _why(asked: argparse.Namespace) -> int:
     groups = Explanation(made, search).groups
     search.trials.close()
     if asked.json:
-        objects: "List[Dict[str, object]]" = [{"refused": it._asdict()} for it in configuration.refusals]
+        objects: list[dict[str, object]] = [{"refused": it._asdict()} for it in configuration.refusals]
         objects += [] if asked.record is not None else made.summary.as_dicts()
         objects += [{"not seen": name, "records": records} for name, records in made.others.items()]
         objects += [{"unopened": it.as_dict()} for it in groups]

@@ -31,8 +31,8 @@ static const char *const lines[] = {
 
 /* Lines that a script or a configuration can't have there, or that are about more than end A. */
 static const char *const wrong[] = {
-    "A", "A txof 0", "txon 0", "A txon 4", "A rxsc 0", "A counters 0", end_a, "B counters",
-    "B txon 0", "A send 00", "A sendu 00", "A deliver 0", "alter 0 0 00", "pad 0", "inject 00",
+    "A",        "A txof 0",  "txon 0",     "A txon 4",    "A rxsc 0",     "A counters 0", end_a,       "B counters",
+    "B txon 0", "A send 00", "A sendu 00", "A deliver 0", "alter 0 0 00", "pad 0",        "inject 00",
 };
 
 static uint8_t out[ROOM];

@@ -30,8 +30,8 @@ static const char *const texts[] = {
 };
 
 static const char *const lines[] = {
-    "", "# A txoff 0", "A txoff 0", "A txoff 0\r", "A txoff", "A txoff 4", "txoff 0", "A txof 0",
-    "A txoff 1", "A rxsc 0", "B txoff 0", "A counters", END_LINE, "A txon 0",
+    "",         "# A txoff 0", "A txoff 0", "A txoff 0\r", "A txoff",    "A txoff 4", "txoff 0",
+    "A txof 0", "A txoff 1",   "A rxsc 0",  "B txoff 0",   "A counters", END_LINE,    "A txon 0",
 };
 
 static uint32_t configured(macsec_endpoint *e, const char *text, uint32_t *line) {

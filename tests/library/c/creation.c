@@ -141,8 +141,9 @@ int main(void) {
     const uint32_t suite = MACSEC_SUITE_GCM_AES_128, form = MACSEC_FORM_SCI;
     macsec_endpoint e = MACSEC_ENDPOINT_INIT;
     printf("version: %s\n", macsec_version() == MACSEC_VERSION_NUMBER ? "the header's" : "another");
-    printf("names: %s %s %s %s, %s\n", macsec_status_name(MACSEC_E_FRAME_LONG), macsec_verdict_name(MACSEC_VERDICT_LATE),
-           macsec_fate_name(MACSEC_FATE_PLAIN), macsec_suite_name(suite), macsec_status_name(21));
+    printf("names: %s %s %s %s, %s\n", macsec_status_name(MACSEC_E_FRAME_LONG),
+           macsec_verdict_name(MACSEC_VERDICT_LATE), macsec_fate_name(MACSEC_FATE_PLAIN), macsec_suite_name(suite),
+           macsec_status_name(21));
     printf("never created: empty %u\n", empty_answers(&e));
     macsec_free(&e);
 

@@ -1,6 +1,6 @@
-/* The calls that create an endpoint, and macsec_free, each in a thread with the 96 KB of stack that the header asks for,
- * less what the C library takes of it. No proof says how much stack the library takes: without enough, this program
- * ends with SIGSEGV. */
+/* The calls that create an endpoint, and macsec_free, each in a thread with the 96 KB of stack that the header asks
+ * for, less what the C library takes of it. No proof says how much stack the library takes: without enough, this
+ * program ends with SIGSEGV. */
 #include "macsec.h"
 #include <pthread.h>
 #include <stdio.h>
