@@ -1,16 +1,17 @@
 -- Every input keeps this: each SC has counters for exactly its SAs, and the SC's own counters are the sums.
 use Rattle.std.proofs.Common.{◌≡◌, ◌∙◌, ◌⊎◌, inl, inr, ℕ, zero, suc, ◌<◌, Bool, true, false, List, [], ◌∷◌, ◌++◌, map, filter}
 use Rattle.std.proofs.Common.{length, set, refl, ap, sym, arith, length-set, get_or-set_same, get_or-set_other, Contains}
-use Rattle.std.specs.Prelude.{◌==◌, ◌&&◌, ◌||◌, not, find, if◌then◌else◌, is_some, option_map, unwrap_or, Option, Some, None, IfSome}
+use Rattle.std.specs.Prelude.{◌==◌, ◌&&◌, ◌||◌, not, find, if◌then◌else◌, is_some, option_map, unwrap_or, Option, Some, None}
 use Rattle.std.specs.List.{All}
 use Rattle.std.proofs.lemmas.Bool.{and_parts, eq-eqb, eqb-true}
 use Rattle.std.proofs.lemmas.List.Elements.{All-append, All-cons, All-contains_itself, All-head, All-map, All-nil, All-tail, All-weaker}
 use Rattle.macsec_tag.specs.declared.identifiers.Sci.{Sci}
+use Rattle.macsec_tag.specs.Table.{reading}
 use Rattle.macsec_rx.specs.declared.RxRow.{RxRow}
 use Rattle.macsec_rx.specs.declared.Verdict.{Verdict}
 use Rattle.macsec_rx.specs.Channels.{is_at, rx_row, same_sci, with_rx}
 use Rattle.macsec_rx.specs.Commands.{has_channel, has_rx, row_narrowed, row_raised, row_switched}
-use Rattle.macsec_rx.specs.Judge.{Judgement, accepted_number, row_accepting, rows_accepting, rows_after, sci_of}
+use Rattle.macsec_rx.specs.Judge.{Judgement, accepted_number, row_accepting, rows_accepting, rows_after}
 use Rattle.macsec_rx.specs.Rows.{AreRxRows}
 use Rattle.macsec_secy.specs.declared.counters.RxCounters.{RxCounters}
 use Rattle.macsec_secy.specs.declared.counters.ChannelCounters.{ChannelCounters}
@@ -21,8 +22,8 @@ use Rattle.macsec_secy.specs.State.{State, no_rx_counters}
 use Rattle.macsec_secy.proofs.AddedCounters.{added-counted_left, sum_of-begun, sum_of-counted, sum_of-ended}
 use Rattle.macsec_secy.proofs.Contained.{first_or_behind, none_there}
 use Rattle.macsec_secy.proofs.DeliveredFrom.{at_own_place}
-use Rattle.macsec_secy.proofs.FramesCounted.{of_in_use}
-use Rattle.macsec_secy.proofs.JudgedRow.{of_judged_row}
+use Rattle.macsec_secy.proofs.InUse.{used_holds}
+use Rattle.macsec_secy.proofs.JudgedBy.{judged_by, judged_row}
 use Rattle.macsec_secy.proofs.RxRowsStay.{KeepsPlace, accepts, at_one_place, not_deleted, not_of_channel, raises, rx_row-map, switches, narrows}
 use Rattle.macsec_secy.proofs.Sums.{one_sci}
 
@@ -338,17 +339,18 @@ rows_kept window (Some number) (Some row) rows sci an = has_rx-with_rx (row_acce
 pub after_receiving : (s : State) (frame : List ℕ) → AreOfAll s.rx.rows s.rx_counters →
     AreOfAll (rows_after s.options.window (judgement_of s frame) s.rx.rows) (rx_packet_counted (judgement_of s frame) s.rx_counters)
 after_receiving s frame of =
-    same_places s.rx.rows _ (rows_kept s.options.window (accepted_number j) j.row s.rx.rows) (rx_packet_counted j s.rx_counters) (by_parts (is_counted_by_channel j) j.row judged)
+    same_places s.rx.rows _ (rows_kept s.options.window (accepted_number j) j.row s.rx.rows) (rx_packet_counted j s.rx_counters) (by_parts (is_counted_by_channel j) j.row there)
   where
     j : Judgement
     j = judgement_of s frame
 
-    judged : IfSome (judgement_of s frame).row (λ row. has_rx s.rx.rows row.sci row.an ≡ true)
-    judged = of_judged_row (λ row. has_rx s.rx.rows row.sci row.an ≡ true) s frame
-        (λ p. of_in_use (λ row. has_rx s.rx.rows row.sci row.an ≡ true) s.rx.rows p.tag.an (sci_of s.rx.scis p) (each_there s.rx.rows))
+    there : (row : RxRow) → (judgement_of s frame).row ≡ Some row → has_rx s.rx.rows row.sci row.an ≡ true
+    there row is =
+        let used = judged_row s frame (reading frame) (judgement_of s frame) row (judged_by s frame (reading frame)) is in
+        used_holds (λ x. has_rx s.rx.rows x.sci x.an ≡ true) s (reading frame) row (each_there s.rx.rows) used
 
-    by_parts : (b : Bool) (row : Option RxRow) → IfSome row (λ row. has_rx s.rx.rows row.sci row.an ≡ true) →
+    by_parts : (b : Bool) (row : Option RxRow) → ((r : RxRow) → row ≡ Some r → has_rx s.rx.rows r.sci r.an ≡ true) →
         AreOfAll s.rx.rows (if b then counted_at_row (judgement_of s frame).verdict row s.rx_counters else s.rx_counters)
-    by_parts false row there = of
-    by_parts true None there = of
-    by_parts true (Some row) there = counted_at (judgement_of s frame).verdict s.rx.rows s.rx_counters row.sci row.an there of
+    by_parts false row there' = of
+    by_parts true None there' = of
+    by_parts true (Some row) there' = counted_at (judgement_of s frame).verdict s.rx.rows s.rx_counters row.sci row.an (there' row refl) of

@@ -1,18 +1,17 @@
 -- The SA that a frame is delivered from: its SCI and number, its sender, its window, and its packet numbers afterwards.
 use Rattle.std.proofs.Common.{◌≡◌, ◌≢◌, ◌⊎◌, inl, inr, ◌≤◌, ◌+◌, ℕ, Bool, true, false, List, [], ◌∷◌, map, length, refl, ap, sym, subst, ◌∙◌, arith, All, Contains}
-use Rattle.std.specs.Prelude.{◌==◌, ◌&&◌, ◌||◌, if◌then◌else◌, option_map, Option, Some, None}
+use Rattle.std.specs.Prelude.{◌==◌, ◌&&◌, ◌||◌, if◌then◌else◌, option_map, Some, None}
 use Rattle.std.specs.List.{list_any}
 use Rattle.std.proofs.lemmas.Bool.{eqb-false, eq-eqb, or_parts}
 use Rattle.std.proofs.lemmas.List.Elements.{All-cons, All-contains, All-contains_itself, All-nil}
-use Rattle.macsec_gcm.specs.Octets.{same_octets}
 use Rattle.macsec_tag.specs.declared.identifiers.Sci.{Sci}
-use Rattle.macsec_tag.specs.Table.{Reading, untagged, bad, tagged, reading}
+use Rattle.macsec_tag.specs.Table.{Reading, reading}
 use Rattle.macsec_suite.specs.KeyRows.{InstalledKey, the_key}
 use Rattle.macsec_suite.specs.Suites.{is_xpn}
 use Rattle.macsec_rx.specs.declared.RxRow.{RxRow}
 use Rattle.macsec_rx.specs.Channels.{at_place, is_at, rx_row, same_sci}
 use Rattle.macsec_rx.specs.Commands.{has_channel, is_own_ssci}
-use Rattle.macsec_rx.specs.Judge.{Judgement, in_use, row_accepting, rows_accepting, rows_after, sci_of}
+use Rattle.macsec_rx.specs.Judge.{Judgement, row_accepting, rows_accepting, rows_after}
 use Rattle.macsec_rx.specs.Rows.{AreRxRows, AreScis, IsRxRow}
 use Rattle.macsec_secy.specs.Agrees.{HasOtherSsci, NoTwo, same_place}
 use Rattle.macsec_secy.specs.Delivers.{DeliversFrom, IsOfOtherSender, used_in}
@@ -22,16 +21,12 @@ use Rattle.macsec_secy.specs.Sound.{IsSound}
 use Rattle.macsec_secy.specs.State.{State}
 use Rattle.macsec_secy.proofs.Contained.{first_or_behind, none_there}
 use Rattle.macsec_secy.proofs.Deliveries.{delivery_tells}
-use Rattle.macsec_secy.proofs.InUse.{found}
+use Rattle.macsec_secy.proofs.InUse.{found, used_holds}
 use Rattle.macsec_secy.proofs.Sums.{one_sci}
-use Rattle.macsec_secy.proofs.KeysApart.{the_key_found}
+use Rattle.macsec_secy.proofs.KeysApart.{octets_same, the_key_found}
 use Rattle.macsec_secy.proofs.RxRowsStay.{accepts, at_one_place, rx_row-map}
 
 -- ---- the SA is found by its SC and number
-
-octets_same : (xs : List ℕ) → same_octets xs xs ≡ true
-octets_same [] = refl
-octets_same (x ∷ xs) = rw (eq-eqb x x refl, octets_same xs) refl
 
 pub at_own_place : (row : RxRow) → is_at row.sci row.an row ≡ true
 at_own_place row = rw (octets_same row.sci.0, eq-eqb row.an row.an refl) refl
@@ -55,21 +50,12 @@ at_its_place (r ∷ rows) apart row there = by_case (first_or_behind r rows row 
 pub rx_rows_are_apart : (s : State) → IsSound s → RxRowsAreApart s.rx.rows
 rx_rows_are_apart s sound = at_its_place s.rx.rows sound.agrees.rx_places
 
-used_at_place : (s : State) (r : Reading) (row : RxRow) → NoTwo same_place s.rx.rows → used_in s r ≡ Some row → rx_row s.rx.rows row.sci row.an ≡ Some row
-used_at_place s untagged row apart used = cc
-used_at_place s (bad fault) row apart used = cc
-used_at_place s (tagged p) row apart used = by_sci (sci_of s.rx.scis p) used
-  where
-    by_sci : (o : Option Sci) → in_use s.rx.rows p.tag.an o ≡ Some row → rx_row s.rx.rows row.sci row.an ≡ Some row
-    by_sci None used' = cc
-    by_sci (Some sci) used' =
-        let test = λ (r : RxRow). is_at sci p.tag.an r && r.on in
-        let it = found test (Contains s.rx.rows) s.rx.rows row (All-contains_itself s.rx.rows) used' in
-        at_its_place s.rx.rows apart row it.holds
+pub used_at_place : (s : State) (r : Reading) (row : RxRow) → NoTwo same_place s.rx.rows → used_in s r ≡ Some row → rx_row s.rx.rows row.sci row.an ≡ Some row
+used_at_place s r row apart used = at_its_place s.rx.rows apart row (used_holds (Contains s.rx.rows) s r row (All-contains_itself s.rx.rows) used)
 
 -- ---- its sender
 
-all_rows : (scis : List Sci) (rows : List RxRow) → AreRxRows scis rows → All (IsRxRow scis) rows
+pub all_rows : (scis : List Sci) (rows : List RxRow) → AreRxRows scis rows → All (IsRxRow scis) rows
 all_rows scis [] are = All-nil (IsRxRow scis)
 all_rows scis (row ∷ rows) are = All-cons (IsRxRow scis) row rows are.0 (all_rows scis rows are.2)
 
@@ -98,7 +84,7 @@ other_sender s row sound is =
 
 -- ---- after the delivery
 
-above_accepted : (window : ℕ) (j : Judgement) (rows : List RxRow) (row : RxRow) → j.row ≡ Some row → (j.step == 13) ≡ true → rx_row rows row.sci row.an ≡ Some row →
+pub above_accepted : (window : ℕ) (j : Judgement) (rows : List RxRow) (row : RxRow) → j.row ≡ Some row → (j.step == 13) ≡ true → rx_row rows row.sci row.an ≡ Some row →
     IsAbove (rows_after window j rows) row.sci row.an (j.number + 1)
 above_accepted window j rows row of_row thirteen at =
     let f = at_place (row_accepting window j.number) row.sci row.an in

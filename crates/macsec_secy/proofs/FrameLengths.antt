@@ -1,6 +1,6 @@
 -- The lengths of the frames that an endpoint returns.
 use Rattle.std.proofs.Common.{◌≡◌, ℕ, ◌+◌, ◌≤◌, ◌<◌, Bool, true, false, List, [], ◌∷◌, ◌++◌, length, take, drop, refl, ap, sym, ◌∙◌, arith, length-take, length-drop, length-append}
-use Rattle.std.specs.Prelude.{if◌then◌else◌, nat_lt, not, slice_range, ◌&&◌, ◌||◌, Option, Some, None, IfSome}
+use Rattle.std.specs.Prelude.{if◌then◌else◌, nat_lt, not, slice_range, Option, Some, None, IfSome}
 use Rattle.std.specs.Int.{w32, to_be_bytes}
 use Rattle.std.proofs.lemmas.Bool.{ltb-false}
 use Rattle.std.proofs.lemmas.List.{take-append-drop}
@@ -12,7 +12,6 @@ use Rattle.macsec_tag.specs.declared.fault.TagFault.TheVariants.{Cut}
 use Rattle.macsec_tag.specs.Frame.{MpduParts, has_macsec_ethertype}
 use Rattle.macsec_tag.specs.Tag.{Tag, sci_octets, encoding, tci_an}
 use Rattle.macsec_tag.specs.Table.{Reading, untagged, bad, tagged, after_tag, data_length_at, parts_at, reading, reading_with, tag_fault, tag_length_at}
-use Rattle.macsec_pn.specs.Numbers.{is_late}
 use Rattle.macsec_suite.specs.declared.refusal.Refusal.{Refusal}
 use Rattle.macsec_suite.specs.KeyRows.{InstalledKey, the_key}
 use Rattle.macsec_suite.specs.Parts.{aad_and_plaintext, clear_length}
@@ -26,20 +25,18 @@ use Rattle.macsec_tag.specs.Limits.{max_frame_len}
 use Rattle.macsec_tx.specs.Rows.{AreTxRows}
 use Rattle.macsec_tx.specs.Tags.{is_own, sci_sent}
 use Rattle.macsec_tx.specs.Transmit.{Leaving, plain, protected, no_sa, too_long, Sending, not_protected, octets_added, protected_frame, row_on, sending_by, tag_sent}
-use Rattle.macsec_rx.specs.declared.RxOptions.{RxOptions}
 use Rattle.macsec_rx.specs.declared.RxRow.{RxRow}
-use Rattle.macsec_rx.specs.declared.Verdict.TheVariants.{Untagged, NoTag, Reserved, NoSa, NoSaError, Late, NotValid, Unchecked, Delayed, Invalid}
-use Rattle.macsec_rx.specs.Judge.{Judgement, at_row, bare_frame, in_use, is_disabled, is_strict, judge_number, judge_opened, judge_row}
-use Rattle.macsec_rx.specs.Judge.{judge_tagged_row, number_of_frame, opened_frame, plaintext_of, sci_of, without_row}
+use Rattle.macsec_rx.specs.Judge.{Judgement, bare_frame, opened_frame, plaintext_of}
 use Rattle.macsec_secy.specs.declared.fault.FrameFault.{FrameFault}
 use Rattle.macsec_secy.specs.declared.fault.FrameFault.TheVariants.{Short, Long}
-use Rattle.macsec_secy.specs.State.{State, rx_options, tx_options}
-use Rattle.macsec_secy.specs.Reception.{judge_reading, judgement_of}
+use Rattle.macsec_secy.specs.State.{State, tx_options}
+use Rattle.macsec_secy.specs.Reception.{judgement_of}
 use Rattle.macsec_secy.specs.Commands.{refusal}
 use Rattle.macsec_secy.specs.Step.{Input, Output, operator_command, client_frame, uncontrolled_frame, link_frame, command_output}
 use Rattle.macsec_secy.specs.Step.{fault, frame_fault, leaves, received_output, sending_of, sent_output, step, unless_fault}
 use Rattle.macsec_secy.specs.Frames.{HasFrameLength, HasFrameLengths, HasLengthsFrom, HasProtectedLength}
 use Rattle.macsec_secy.specs.Sound.{IsSound}
+use Rattle.macsec_secy.proofs.JudgedBy.{JudgedBy, judged_by, step_2, step_6, step_10, step_12, step_13}
 
 -- the laws of the lower layers, as the law functions state them
 abbrev pub ReadAsSent : Type 0
@@ -217,57 +214,14 @@ opened_long laws key row number p plaintext opens =
       halves,
     )
 
-opened_up_to : LowerLaws → (n : ℕ) (options : RxOptions) (key : InstalledKey) (row : RxRow) (number : ℕ) (p : MpduParts) (o : Option (List ℕ)) →
-    plaintext_of key row number p ≡ o → length (bare_frame p) ≤ n → DeliversUpTo n (judge_opened options key row number p o)
-opened_up_to laws n options key row number p None opens fits = by_test (p.tag.c || is_strict options.mode)
-  where
-    by_test : (b : Bool) → DeliversUpTo n (if b then at_row row number 11 NotValid None else at_row row number 12 Invalid (Some (bare_frame p)))
-    by_test true = tt
-    by_test false = fits
-opened_up_to laws n options key row number p (Some plaintext) opens fits = omega (arith, opened_long laws key row number p plaintext opens, fits)
-
-number_up_to : LowerLaws → (n : ℕ) (options : RxOptions) (key : InstalledKey) (row : RxRow) (p : MpduParts) (number : Option ℕ) →
-    length (bare_frame p) ≤ n → DeliversUpTo n (judge_number options key row p number)
-number_up_to laws n options key row p None fits = tt
-number_up_to laws n options key row p (Some number) fits =
-    by_tests (options.replay && is_late row.lowest number) (is_disabled options.mode && p.tag.c) (is_disabled options.mode)
-  where
-    by_tests : (dropped unusable disabled : Bool) → DeliversUpTo n (
-        if dropped then at_row row number 8 Late None
-        else if unusable then at_row row number 9 NotValid None
-        else if disabled then at_row row number 10 (if is_late row.lowest number then Delayed else Unchecked) (Some (bare_frame p))
-        else judge_opened options key row number p (plaintext_of key row number p))
-    by_tests true unusable disabled = tt
-    by_tests false true disabled = tt
-    by_tests false false true = fits
-    by_tests false false false = opened_up_to laws n options key row number p (plaintext_of key row number p) refl fits
-
-row_up_to : LowerLaws → (n : ℕ) (options : RxOptions) (keys : List InstalledKey) (p : MpduParts) (row : Option RxRow) →
-    length (bare_frame p) ≤ n → DeliversUpTo n (judge_row options keys p row)
-row_up_to laws n options keys p None fits = by_test (is_strict options.mode || p.tag.c)
-  where
-    by_test : (b : Bool) → DeliversUpTo n (if b then without_row 5 NoSaError None else without_row 6 NoSa (Some (bare_frame p)))
-    by_test true = tt
-    by_test false = fits
-row_up_to laws n options keys p (Some row) fits =
-    number_up_to laws n options (the_key keys row.key) row p (number_of_frame (the_key keys row.key).suite row.lowest p.tag.pn) fits
-
-tagged_up_to : LowerLaws → (n : ℕ) (options : RxOptions) (keys : List InstalledKey) (p : MpduParts) (row : Option RxRow) →
-    length (bare_frame p) ≤ n → DeliversUpTo n (judge_tagged_row options keys p row)
-tagged_up_to laws n options keys p row fits = by_test (p.tag.e && not p.tag.c)
-  where
-    by_test : (reserved : Bool) → DeliversUpTo n (if reserved then without_row 4 Reserved None else judge_row options keys p row)
-    by_test true = tt
-    by_test false = row_up_to laws n options keys p row fits
-
-judged_up_to : LowerLaws → (s : State) (frame : List ℕ) (r : Reading) → FitsIn (length frame) r → DeliversUpTo (length frame) (judge_reading s frame r)
-judged_up_to laws s frame untagged fits = by_test (is_strict s.options.mode)
-  where
-    by_test : (b : Bool) → DeliversUpTo (length frame) (if b then without_row 1 NoTag None else without_row 2 Untagged (Some frame))
-    by_test true = tt
-    by_test false = omega arith
-judged_up_to laws s frame (bad found) fits = tt
-judged_up_to laws s frame (tagged p) fits = tagged_up_to laws (length frame) (rx_options s) s.keys p (in_use s.rx.rows p.tag.an (sci_of s.rx.scis p)) fits
+judged_up_to : LowerLaws → (s : State) (frame : List ℕ) (r : Reading) (j : Judgement) → JudgedBy s frame r j → FitsIn (length frame) r → DeliversUpTo (length frame) j
+judged_up_to laws s frame r j step_2 fits = omega arith
+judged_up_to laws s frame r j step_6 fits = fits
+judged_up_to laws s frame r j (step_10 it mode late) fits = fits
+judged_up_to laws s frame r j (step_12 it mode) fits = fits
+judged_up_to laws s frame r j (step_13 {p = p} {row = row} {number = number} {plaintext = plaintext} it mode opens late) fits =
+    omega (arith, opened_long laws (the_key s.keys row.key) row number p plaintext opens, fits)
+judged_up_to laws s frame r j _ fits = tt
 
 -- ---- the laws
 
@@ -283,7 +237,7 @@ lengths_of_frames laws s (client_frame frame) sound =
 lengths_of_frames laws s (uncontrolled_frame frame) sound = unless_faulty HasFrameLengths (λ f. tt) s s frame (leaves frame None) (λ good. good)
 lengths_of_frames laws s (link_frame frame) sound =
     unless_faulty HasFrameLengths (λ f. tt) s _ frame (received_output frame (judgement_of s frame))
-    (λ good. record { shown = good; controlled = judged_up_to laws s frame (reading frame) (reading_fits frame good.least) })
+    (λ good. record { shown = good; controlled = judged_up_to laws s frame (reading frame) _ (judged_by s frame (reading frame)) (reading_fits frame good.least) })
 
 pub lengths_of_protected_frames : ReadAsSent → (s : State) (frame : List ℕ) → IsSound s → HasLengthsFrom frame (step s (client_frame frame)).0
 lengths_of_protected_frames read s frame sound =

@@ -1,12 +1,14 @@
--- The SA enabled for a frame: it has the frame's SCI and association number, and its key is in the table.
-use Rattle.std.proofs.Common.{◌≡◌, ℕ, suc, Bool, true, false, List, [], ◌∷◌, refl, sym, ap, subst, arith, All}
-use Rattle.std.specs.Prelude.{◌==◌, ◌&&◌, find, if◌then◌else◌, Option, Some, None, IsSome, unwrap_or}
+-- The SA enabled for a frame: it has the frame's SCI and association number, and what holds of all SAs.
+use Rattle.std.proofs.Common.{◌≡◌, ℕ, suc, Bool, true, false, List, [], ◌∷◌, refl, subst, arith, All}
+use Rattle.std.specs.Prelude.{◌==◌, ◌&&◌, find, if◌then◌else◌, Option, Some, None}
 use Rattle.std.proofs.lemmas.Bool.{and_parts, eqb-true}
 use Rattle.macsec_tag.specs.declared.identifiers.Sci.{Sci}
-use Rattle.macsec_suite.specs.KeyRows.{InstalledKey, key_row, no_key, the_key}
+use Rattle.macsec_tag.specs.Table.{Reading, untagged, bad, tagged}
 use Rattle.macsec_rx.specs.declared.RxRow.{RxRow}
 use Rattle.macsec_rx.specs.Channels.{is_at, same_sci}
-use Rattle.macsec_rx.specs.Judge.{in_use}
+use Rattle.macsec_rx.specs.Judge.{in_use, sci_of}
+use Rattle.macsec_secy.specs.Delivers.{used_in}
+use Rattle.macsec_secy.specs.State.{State}
 use Rattle.macsec_secy.proofs.Sums.{one_sci}
 
 -- a found element passes the test, and what holds of all elements holds of it
@@ -34,10 +36,12 @@ in_use_is P rows sci an row all is =
     let parts = and_parts (same_sci row.sci sci) (row.an == an) here in
     record { sci = one_sci row.sci sci parts.0; an = eqb-true row.an an parts.1; holds = it.holds }
 
-pub the_key_holds : (P : InstalledKey → Type 0) (keys : List InstalledKey) (number : ℕ) → All P keys → IsSome (key_row keys number) → P (the_key keys number)
-the_key_holds P keys number all there = by_row (key_row keys number) refl there
+-- what holds of all receive SAs holds of the one that is enabled for a frame
+pub used_holds : (P : RxRow → Type 0) (s : State) (r : Reading) (row : RxRow) → All P s.rx.rows → used_in s r ≡ Some row → P row
+used_holds P s untagged row all used = cc
+used_holds P s (bad fault) row all used = cc
+used_holds P s (tagged p) row all used = by_sci (sci_of s.rx.scis p) used
   where
-    by_row : (o : Option InstalledKey) → key_row keys number ≡ o → IsSome o → P (the_key keys number)
-    by_row None is there' = cc
-    by_row (Some key) is there' =
-        subst P (ap (λ (o : Option InstalledKey). unwrap_or o no_key) (sym is)) (found (λ (k : InstalledKey). k.number == number) P keys key all is).holds
+    by_sci : (o : Option Sci) → in_use s.rx.rows p.tag.an o ≡ Some row → P row
+    by_sci None used' = cc
+    by_sci (Some sci) used' = (found (λ (r : RxRow). is_at sci p.tag.an r && r.on) P s.rx.rows row all used').holds

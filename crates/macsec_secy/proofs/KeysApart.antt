@@ -48,7 +48,7 @@ the_key_found (k ∷ keys) number found = by_test (k.number == number) refl (the
 
 -- ---- by bytes
 
-octets_same : (xs : List ℕ) → same_octets xs xs ≡ true
+pub octets_same : (xs : List ℕ) → same_octets xs xs ≡ true
 octets_same [] = refl
 octets_same (x ∷ xs) = rw (eq-eqb x x refl, octets_same xs) refl
 

@@ -3,7 +3,7 @@ pub mod RxKeysKept
 pub mod Lent
 pub mod AddedCounters
 pub mod JobsStay
-pub mod JudgedRow
+pub mod JudgedBy
 pub mod ChannelsCounted
 pub mod Steps
 pub mod SentFrames

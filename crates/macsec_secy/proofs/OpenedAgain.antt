@@ -1,7 +1,7 @@
 -- Whoever opens a protected frame gets the client frame, whatever the offset of the opening key: the additional
 -- authenticated data and the ciphertext determine the frame.
-use Rattle.std.proofs.Common.{◌≡◌, ℕ, ◌≤◌, Bool, true, false, List, ◌++◌, length, take, drop, ap, sym, ◌∙◌, arith, length-append, append_assoc, length-drop}
-use Rattle.std.specs.Prelude.{slice_range, min, if◌then◌else◌, Some}
+use Rattle.std.proofs.Common.{◌≡◌, ℕ, ◌≤◌, List, ◌++◌, length, take, drop, ap, sym, ◌∙◌, arith, length-append, append_assoc, length-drop}
+use Rattle.std.specs.Prelude.{slice_range, Some}
 use Rattle.std.proofs.lemmas.List.{drop_at, length-take-le, take-append-drop, take_at}
 use Rattle.std.proofs.Math.Seq.{take-add}
 use Rattle.macsec_gcm.specs.Gcm.{seal_of}
@@ -13,6 +13,7 @@ use Rattle.macsec_suite.specs.Parts.{clear_length}
 use Rattle.macsec_tx.specs.Transmit.{parts_under}
 use Rattle.macsec_secy.specs.Protects.{OpensAs}
 use Rattle.macsec_secy.proofs.BehindTags.{same_back, same_behind_tags, same_front}
+use Rattle.macsec_secy.proofs.SealedParts.{clear_of_length, clear_within}
 
 pub record CipherLaws : Type 0 where
   pub undoes : OpenUndoesSeal
@@ -20,14 +21,6 @@ pub record CipherLaws : Type 0 where
   pub lengths : SealedLengths
 
 -- ---- what is sealed for a client frame
-
--- the number of octets sent in clear depends only on the length
-clear_of_length : (offset : ℕ) (e : Bool) (xs ys : List ℕ) → length xs ≡ length ys → clear_length offset e xs ≡ clear_length offset e ys
-clear_of_length offset e xs ys same = ap (λ n. if e then min offset n else n) same
-
-clear_within : (offset : ℕ) (e : Bool) (xs : List ℕ) → clear_length offset e xs ≤ length xs
-clear_within offset true xs = omega arith
-clear_within offset false xs = omega arith
 
 module _ (laws : CipherLaws) (key : InstalledKey) (iv : List ℕ) (tag : Tag) (frame : List ℕ) where
   abbrev da : List ℕ

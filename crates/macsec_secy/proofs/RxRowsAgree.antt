@@ -16,8 +16,8 @@ use Rattle.macsec_rx.specs.Judge.{Judgement, accepted_number, row_accepting, row
 use Rattle.macsec_secy.proofs.Sums.{one_sci}
 use Rattle.macsec_secy.specs.Agrees.{NoTwo, same_place}
 use Rattle.macsec_secy.proofs.AfterCommands.{none_hold}
-use Rattle.macsec_secy.proofs.KeysKept.{field_kept}
 use Rattle.macsec_secy.proofs.NoTwo.{no_two-filter, no_two-map, no_two-with, none_found}
+use Rattle.macsec_secy.proofs.RxRowsStay.{KeepsPlace, accepts, at_one_place, narrows, raises, switches}
 
 -- the next packet number exceeds the lowest acceptable one by at most the window
 abbrev pub IsWithin : ℕ → RxRow → Type 0
@@ -27,21 +27,12 @@ pub record RxRowsAgree (window : ℕ) (rows : List RxRow) : Type 0 where
   pub places : NoTwo same_place rows
   pub within : All (IsWithin window) rows
 
--- a change that keeps an SA's SC and number
-record KeepsPlace (f : RxRow → RxRow) : Type 0 where
-  sci : (row : RxRow) → (f row).sci ≡ row.sci
-  an : (row : RxRow) → (f row).an ≡ row.an
-
 places_kept : (f : RxRow → RxRow) → KeepsPlace f → (rows : List RxRow) → NoTwo same_place rows → NoTwo same_place (map f rows)
 places_kept f same rows apart =
     no_two-map f same_place same_place (λ a b differs. rw (same.sci a, same.sci b, same.an a, same.an b) differs) rows apart
 
 one_place_kept : (f : RxRow → RxRow) → KeepsPlace f → (sci : Sci) (an : ℕ) (rows : List RxRow) → NoTwo same_place rows → NoTwo same_place (with_rx f sci an rows)
-one_place_kept f same sci an rows apart =
-    places_kept (at_place f sci an) (record {
-      sci = λ row. field_kept (λ (r : RxRow). r.sci) f same.sci (is_at sci an row) row;
-      an = λ row. field_kept (λ (r : RxRow). r.an) f same.an (is_at sci an row) row;
-    }) rows apart
+one_place_kept f same sci an rows apart = places_kept (at_place f sci an) (at_one_place f same sci an) rows apart
 
 -- if the changed SA is within the window, so is each SA afterwards
 one_within : (window : ℕ) (f : RxRow → RxRow) (sci : Sci) (an : ℕ) (row : RxRow) → (is_at sci an row ≡ true → IsWithin window (f row)) → IsWithin window row →
@@ -61,7 +52,7 @@ within_after window f good rows within = All-map (IsWithin window) f rows (All-w
 -- every SA is narrowed to a new window
 pub with_all_narrowed : (channels : Channels) (old window : ℕ) → RxRowsAgree old channels.rows → RxRowsAgree window (channels_narrowed channels window).rows
 with_all_narrowed channels old window agree = record {
-  places = places_kept (row_narrowed window) (record { sci = λ row. refl; an = λ row. refl }) channels.rows agree.places;
+  places = places_kept (row_narrowed window) (narrows window) channels.rows agree.places;
   within = All-map (IsWithin window) (row_narrowed window) channels.rows
       (All-weaker (IsWithin old) (λ row. IsWithin window (row_narrowed window row)) (λ row h. omega arith) channels.rows agree.within);
 }
@@ -81,7 +72,7 @@ with_one_more keys channels window sci an key ssci lowest e agree =
 pub with_one_switched : (channels : Channels) (window : ℕ) (sci : Sci) (an : ℕ) (on : Bool) → RxRowsAgree window channels.rows →
     RxRowsAgree window (with_rx_on channels sci an on).rows
 with_one_switched channels window sci an on agree = record {
-  places = one_place_kept (row_switched on) (record { sci = λ row. refl; an = λ row. refl }) sci an channels.rows agree.places;
+  places = one_place_kept (row_switched on) (switches on) sci an channels.rows agree.places;
   within = within_after window (at_place (row_switched on) sci an) still channels.rows agree.within;
 }
   where
@@ -112,10 +103,10 @@ others_elsewhere sci an row here (other ∷ others) none =
         cc
 
 -- the packet number is not below the lowest acceptable one of the SA with this SC and number
-abbrev IsNotBelow : Sci → ℕ → ℕ → RxRow → Type 0
+abbrev pub IsNotBelow : Sci → ℕ → ℕ → RxRow → Type 0
 IsNotBelow sci an pn row = is_at sci an row ≡ true → row.lowest ≤ pn
 
-none_below : (sci : Sci) (an pn : ℕ) (rows : List RxRow) → NoTwo same_place rows → is_below_lowest rows sci an pn ≡ false → All (IsNotBelow sci an pn) rows
+pub none_below : (sci : Sci) (an pn : ℕ) (rows : List RxRow) → NoTwo same_place rows → is_below_lowest rows sci an pn ≡ false → All (IsNotBelow sci an pn) rows
 none_below sci an pn [] apart not_below = All-nil (IsNotBelow sci an pn)
 none_below sci an pn (row ∷ rows) apart not_below = by_test (is_at sci an row) refl (none_below sci an pn rows apart.1) not_below
   where
@@ -133,7 +124,7 @@ with_one_raised keys channels window sci an pn e agree =
     let none = none_hold (rx_low_refusals keys channels sci an pn) e in
     let not_below = none_below sci an pn channels.rows agree.places none.1.1.1.0 in
     record {
-      places = one_place_kept (row_raised pn) (record { sci = λ row. refl; an = λ row. refl }) sci an channels.rows agree.places;
+      places = one_place_kept (row_raised pn) (raises pn) sci an channels.rows agree.places;
       within = All-map (IsWithin window) (at_place (row_raised pn) sci an) channels.rows
           (λ k d less. one_within window (row_raised pn) sci an (slice_index_or channels.rows k d)
           (λ here. raised (slice_index_or channels.rows k d) (not_below k d less here) (agree.within k d less)) (agree.within k d less));
@@ -154,7 +145,7 @@ after_receiving window j rows agree = by_parts (accepted_number j) j.row
     by_parts None row = agree
     by_parts (Some number) None = agree
     by_parts (Some number) (Some row) = record {
-      places = one_place_kept (row_accepting window number) (record { sci = λ r. refl; an = λ r. refl }) row.sci row.an rows agree.places;
+      places = one_place_kept (row_accepting window number) (accepts window number) row.sci row.an rows agree.places;
       within = within_after window (at_place (row_accepting window number) row.sci row.an)
           (λ r within. one_within window (row_accepting window number) row.sci row.an r (λ here. accepting window number r within) within) rows agree.within;
     }

@@ -12,10 +12,11 @@ use Rattle.macsec_tx.specs.Transmit.{parts_under}
 
 -- ---- the data is split at the same offset
 
-same_clear : (offset : ℕ) (e : Bool) (xs ys : List ℕ) → length xs ≡ length ys → clear_length offset e xs ≡ clear_length offset e ys
-same_clear offset e xs ys same = ap (λ (n : ℕ). if e then min offset n else n) same
+-- the number of octets sent in clear depends only on the length
+pub clear_of_length : (offset : ℕ) (e : Bool) (xs ys : List ℕ) → length xs ≡ length ys → clear_length offset e xs ≡ clear_length offset e ys
+clear_of_length offset e xs ys same = ap (λ (n : ℕ). if e then min offset n else n) same
 
-clear_within : (offset : ℕ) (e : Bool) (xs : List ℕ) → clear_length offset e xs ≤ length xs
+pub clear_within : (offset : ℕ) (e : Bool) (xs : List ℕ) → clear_length offset e xs ≤ length xs
 clear_within offset true xs = omega arith
 clear_within offset false xs = omega arith
 
@@ -34,7 +35,7 @@ same_place : (offset : ℕ) (e : Bool) (xs ys : List ℕ) → length ys ≡ leng
 same_place offset e xs ys long =
     let n : ℕ = clear_length offset e xs in
     let halves : length (take n xs) + length (drop n xs) ≡ length xs = sym (length-append (take n xs) (drop n xs)) ∙ ap length (take-append-drop n xs) in
-    same_clear offset e (with_clear offset e xs ys) xs (omega (arith, length-append (take n xs) ys, long, halves)) ∙ sym (length-take-le n xs (clear_within offset e xs))
+    clear_of_length offset e (with_clear offset e xs ys) xs (omega (arith, length-append (take n xs) ys, long, halves)) ∙ sym (length-take-le n xs (clear_within offset e xs))
 
 pub clear_again : (offset : ℕ) (e : Bool) (xs ys : List ℕ) → length ys ≡ length (drop (clear_length offset e xs) xs) →
     take (clear_length offset e (with_clear offset e xs ys)) (with_clear offset e xs ys) ≡ take (clear_length offset e xs) xs

@@ -15,7 +15,8 @@ use Rattle.macsec_secy.specs.State.{State, rx_options}
 use Rattle.macsec_secy.specs.Reception.{octets_counted, packet_counted}
 use Rattle.macsec_secy.specs.Verdicts.{counted_at_place, counted_by}
 use Rattle.macsec_secy.specs.Step.{frame_fault, link_frame, received, step}
-use Rattle.macsec_secy.proofs.Steps.{Tells, tells_tagged}
+use Rattle.macsec_secy.proofs.JudgedBy.{judged_by}
+use Rattle.macsec_secy.proofs.Steps.{Tells, tells_by}
 
 abbrev pub judged : State → MpduParts → Judgement
 judged s p = judge_tagged (rx_options s) s.keys s.rx p
@@ -36,7 +37,7 @@ pub state_left : (s : State) (frame : List ℕ) (p : MpduParts) → reading fram
       rx_counters = counted_at_place (judged s p).verdict (option_map place_of (judged s p).row) s.rx_counters;
     } ≡ (step s (link_frame frame)).1
 state_left s frame p reads fits =
-    let tells = tells_tagged (rx_options s) s.keys s.rx p in
+    let tells = tells_by s frame (tagged p) (judged s p) (judged_by s frame (tagged p)) in
     rw (fits, reads, counters_after s.options.mode (judged s p) p s.counters tells, sym (tells.channel s.rx_counters)) refl
 
 -- the state that the parts of an endpoint make
