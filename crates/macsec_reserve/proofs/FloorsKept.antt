@@ -1,36 +1,36 @@
 -- The lowest acceptable packet number of each receive association stays above what the journal had saved for it. No
 -- more is known of the endpoint than that the rows of its tables agree.
 use Rattle.std.proofs.Common.{◌≡◌, ◌⊎◌, inl, inr, ℕ, ◌<◌, ◌≤◌, Bool, true, false, List, [], ◌∷◌, ◌++◌, map, get_or, refl, ap, sym, subst, ◌∙◌, arith, All}
-use Rattle.std.specs.Prelude.{◌-◌, ◌^◌, ◌==◌, ◌&&◌, nat_lt, nat_le, not, find, if◌then◌else◌, Option, Some, None, IsSome, unwrap_or}
-use Rattle.std.specs.List.{list_any}
-use Rattle.std.proofs.lemmas.Bool.{and_cases, eqb-false, false_from_ne_true, leb-false, ltb-false, or_parts}
-use Rattle.std.proofs.lemmas.List.Elements.{All-cons, All-filter, All-head, All-map, All-nil, All-push, All-tail, All-weaker}
+use Rattle.std.specs.Prelude.{◌-◌, ◌^◌, ◌==◌, ◌&&◌, nat_lt, nat_le, not, if◌then◌else◌, Option, Some, None, IsSome, unwrap_or}
+use Rattle.std.proofs.lemmas.Bool.{and_cases, eqb-false, leb-false, ltb-false, or_parts}
+use Rattle.std.proofs.lemmas.List.Elements.{All-filter, All-map, All-push, All-weaker}
 use Rattle.macsec_tag.specs.declared.identifiers.Sci.{Sci}
 use Rattle.macsec_suite.specs.declared.refusal.Refusal.{Refusal}
-use Rattle.macsec_suite.specs.declared.refusal.Refusal.TheVariants.{NoKey, KeyRetired, NoSc, NoSa, AnTaken, PnRange, PnLower, SsciOwn}
-use Rattle.macsec_suite.specs.Refusals.{first_refusal, holds_of, is_number_used, is_outside, is_retired}
+use Rattle.macsec_suite.specs.Refusals.{is_outside}
 use Rattle.macsec_suite.specs.declared.suite.Suite.{Suite}
 use Rattle.macsec_suite.specs.Suites.{is_xpn, last_of}
 use Rattle.macsec_suite.specs.KeyRows.{InstalledKey, at_number, key_row, no_key, retired_row, row_noting, the_key, with_key}
 use Rattle.macsec_tx.specs.declared.TxRow.{TxRow}
 use Rattle.macsec_tx.specs.Transmit.{keys_after}
 use Rattle.macsec_rx.specs.declared.RxRow.{RxRow}
-use Rattle.macsec_rx.specs.Channels.{at_place, is_at, rx_row, same_sci}
+use Rattle.macsec_rx.specs.Channels.{at_place, is_at, same_sci}
 use Rattle.macsec_rx.specs.Judge.{accepted_number, row_accepting, rows_accepting}
-use Rattle.macsec_rx.specs.Commands.{is_own_ssci, has_channel, has_rx, is_outside_row, is_below_lowest, row_narrowed, row_raised, row_switched}
+use Rattle.macsec_rx.specs.Commands.{is_below_lowest, row_narrowed, row_raised, row_switched, rx_low_refusals, rx_sa_refusals}
 use Rattle.macsec_commands.specs.declared.command.Command.{Command}
 use Rattle.macsec_commands.specs.declared.command.Command.TheVariants.{Protect, Validate, Replay, Tag, Key, Retire, TxSa, TxOn, TxOff}
 use Rattle.macsec_commands.specs.declared.command.Command.TheVariants.{TxDel, RxSc, RxScDel, RxSa, RxOn, RxOff, RxLow, RxDel}
 use Rattle.macsec_secy.specs.declared.fault.FrameFault.{FrameFault}
 use Rattle.macsec_secy.specs.Commands.{effect, refusal, unless_refused}
-use Rattle.macsec_secy.specs.Agrees.{Agrees, NoTwo, same_place as is_same_place}
+use Rattle.macsec_secy.specs.Agrees.{Agrees}
 use Rattle.macsec_secy.specs.State.{State}
 use Rattle.macsec_secy.specs.Reception.{judgement_of, state_after_receiving}
 use Rattle.macsec_secy.specs.Step.{Input, Output, operator_command, client_frame, uncontrolled_frame, link_frame, frame_fault, leaves, received_output, sending_of, sent_output, state_after_sending, step, unless_fault}
+use Rattle.macsec_secy.proofs.AfterCommands.{none_hold}
+use Rattle.macsec_secy.proofs.KeysKept.{field_kept}
+use Rattle.macsec_secy.proofs.RxRowsAgree.{IsNotBelow, none_below}
 use Rattle.macsec_reserve.specs.declared.reservation.Reservation.{Reservation}
 use Rattle.macsec_reserve.specs.Journal.{highest, receiving_name, sending_name}
 use Rattle.macsec_reserve.specs.Keeping.{Keeping, KeepingInput, endpoint_input, now_durable, begins_at, is_below_floor, keeping_after, keeping_step, key_name, may_go, was_reserved}
-use Rattle.macsec_reserve.proofs.InTime.{same_place}
 use Rattle.macsec_reserve.proofs.Steps.{before_stays, by_tests, keeps_stays, salt_stays}
 
 -- what was saved under a name is below a packet number, and below the last one of 64 bits
@@ -90,37 +90,6 @@ narrowed window row = record { sci = refl; an = refl; key = refl; lowest = omega
 accepting : (window number : ℕ) (row : RxRow) → IsRaised row (row_accepting window number row)
 accepting window number row = record { sci = refl; an = refl; key = refl; lowest = omega arith }
 
--- ---- raising: not below the lowest number of the association that is found, which is the only one at that place
-
-others_elsewhere : (sci : Sci) (an : ℕ) (row : RxRow) → is_at sci an row ≡ true → (others : List RxRow) → list_any (is_same_place row) others ≡ false →
-    All (λ r. is_at sci an r ≡ false) others
-others_elsewhere sci an row here [] none = All-nil (λ r. is_at sci an r ≡ false)
-others_elsewhere sci an row here (other ∷ others) none =
-    let parts = or_parts (is_same_place row other) (list_any (is_same_place row) others) none in
-    All-cons (λ r. is_at sci an r ≡ false) other others (false_from_ne_true (is_at sci an other) (differs parts.0)) (others_elsewhere sci an row here others parts.1)
-  where
-    differs : is_same_place row other ≡ false → is_at sci an other ≡ true → ⊥
-    differs apart there =
-        let same = same_place other.sci sci other.an an there in
-        let both : is_same_place row other ≡ true = ap (λ s. is_at s other.an row) same.0 ∙ ap (λ a. is_at sci a row) same.1 ∙ here in
-        let no = sym both ∙ apart in
-        cc
-
--- the packet number is not below the lowest acceptable one of the association at that place
-abbrev IsNotBelow : Sci → ℕ → ℕ → RxRow → Type 0
-IsNotBelow sci an pn row = is_at sci an row ≡ true → row.lowest ≤ pn
-
-none_below : (sci : Sci) (an pn : ℕ) (rows : List RxRow) → NoTwo is_same_place rows → is_below_lowest rows sci an pn ≡ false → All (IsNotBelow sci an pn) rows
-none_below sci an pn [] apart not_below = All-nil (IsNotBelow sci an pn)
-none_below sci an pn (row ∷ rows) apart not_below = by_test (is_at sci an row) refl (none_below sci an pn rows apart.1) not_below
-  where
-    by_test : (b : Bool) → is_at sci an row ≡ b → (is_below_lowest rows sci an pn ≡ false → All (IsNotBelow sci an pn) rows) →
-        holds_of (λ r. nat_lt pn r.lowest) (if b then Some row else rx_row rows sci an) ≡ false → All (IsNotBelow sci an pn) (row ∷ rows)
-    by_test true here later fails =
-        All-cons (IsNotBelow sci an pn) row rows (λ h. ltb-false pn row.lowest fails)
-        (All-weaker (λ r. is_at sci an r ≡ false) (IsNotBelow sci an pn) (λ r elsewhere there. let no = sym there ∙ elsewhere in cc) rows (others_elsewhere sci an row here rows apart.0))
-    by_test false elsewhere later fails = All-cons (IsNotBelow sci an pn) row rows (λ here. let no = sym here ∙ elsewhere in cc) (later fails)
-
 raising : (sci : Sci) (an pn : ℕ) (row : RxRow) → IsNotBelow sci an pn row → IsRaised row (at_place (row_raised pn) sci an row)
 raising sci an pn row not_below = by_test (is_at sci an row) refl
   where
@@ -144,11 +113,6 @@ with_more keys more n there = ap (λ (o : Option InstalledKey). (unwrap_or o no_
             (if b then Some k else key_row (ks ++ more) n) ≡ (if b then Some k else key_row ks n)
         by_test true later here = refl
         by_test false later here = later here
-
-field_kept : {B : Type 0} (field : InstalledKey → B) (change : InstalledKey → InstalledKey) → ((k : InstalledKey) → field (change k) ≡ field k) → (test : Bool) (k : InstalledKey) →
-    field (if test then change k else k) ≡ field k
-field_kept field change same true k = same k
-field_kept field change same false k = refl
 
 -- a change that keeps numbers and octets
 changed : (f : InstalledKey → InstalledKey) → ((k : InstalledKey) → (f k).number ≡ k.number) → ((k : InstalledKey) → (f k).bytes ≡ k.bytes) →
@@ -180,21 +144,6 @@ keys_above salt before s after agrees stay above k d within =
     subst (λ octets. IsSavedBelow before (receiving_name (sending_name salt octets) row.sci row.an) row.lowest) (sym (stay row.key (agrees.other_sscis k d within).there)) (above k d within)
 
 -- ---- commands
-
-last_of_four : (x y z w : Bool) (a b c d : Refusal) → first_refusal ((a, x) ∷ (b, y) ∷ (c, z) ∷ (d, w) ∷ []) ≡ None → w ≡ false
-last_of_four true y z w a b c d none = cc
-last_of_four false true z w a b c d none = cc
-last_of_four false false true w a b c d none = cc
-last_of_four false false false true a b c d none = cc
-last_of_four false false false false a b c d none = refl
-
-fifth_of_six : (x y z w v u : Bool) (a b c d e f : Refusal) → first_refusal ((a, x) ∷ (b, y) ∷ (c, z) ∷ (d, w) ∷ (e, v) ∷ (f, u) ∷ []) ≡ None → v ≡ false
-fifth_of_six true y z w v u a b c d e f none = cc
-fifth_of_six false true z w v u a b c d e f none = cc
-fifth_of_six false false true w v u a b c d e f none = cc
-fifth_of_six false false false true v u a b c d e f none = cc
-fifth_of_six false false false false true u a b c d e f none = cc
-fifth_of_six false false false false false u a b c d e f none = refl
 
 -- the last packet number of a suite has 64 bits
 last_bound : (suite : Suite) → last_of suite ≤ 2 ^ 64 - 1
@@ -238,15 +187,13 @@ effect_above salt before s (RxScDel sci) agrees none new above = All-filter (λ 
 effect_above salt before s (RxSa sci an key ssci lowest) agrees none new above =
     All-push (IsAbove salt before s.keys) s.rx.rows (record { sci = sci; an = an; key = key; ssci = ssci; next = lowest; lowest = lowest; on = false }) above
     (begins_above (the_key s.keys key).suite lowest before (receiving_name (key_name salt s.keys key) sci an)
-    (fifth_of_six (not (is_number_used s.keys key)) (is_retired s.keys key) (not (has_channel s.rx.scis sci)) (has_rx s.rx.rows sci an)
-    (is_outside (last_of (the_key s.keys key).suite) lowest) (is_own_ssci (the_key s.keys key) ssci) NoKey KeyRetired NoSc AnTaken PnRange SsciOwn none) new)
+    (none_hold (rx_sa_refusals s.keys s.rx sci an key ssci lowest) none).1.1.1.1.0 new)
 effect_above salt before s (RxOn sci an) agrees none new above =
     all_after salt before s.keys (at_place (row_switched true) sci an) s.rx.rows (each (at_place (row_switched true) sci an) (at_place_raises (row_switched true) (switched true) sci an) s.rx.rows) above
 effect_above salt before s (RxOff sci an) agrees none new above =
     all_after salt before s.keys (at_place (row_switched false) sci an) s.rx.rows (each (at_place (row_switched false) sci an) (at_place_raises (row_switched false) (switched false) sci an) s.rx.rows) above
 effect_above salt before s (RxLow sci an pn) agrees none new above =
-    let low : is_below_lowest s.rx.rows sci an pn ≡ false = last_of_four (not (has_channel s.rx.scis sci)) (not (has_rx s.rx.rows sci an)) (is_outside_row s.keys s.rx.rows sci an pn) (is_below_lowest s.rx.rows sci an pn)
-    NoSc NoSa PnRange PnLower none in
+    let low : is_below_lowest s.rx.rows sci an pn ≡ false = (none_hold (rx_low_refusals s.keys s.rx sci an pn) none).1.1.1.0 in
     all_after salt before s.keys (at_place (row_raised pn) sci an) s.rx.rows
     (All-weaker (IsNotBelow sci an pn) (λ row. IsRaised row (at_place (row_raised pn) sci an row)) (raising sci an pn) s.rx.rows
     (none_below sci an pn s.rx.rows agrees.rx_places low)) above
@@ -348,13 +295,3 @@ before_stays_after (input ∷ inputs) k = before_stays_after inputs (keeping_ste
 pub salt_stays_after : (inputs : List KeepingInput) (k : Keeping) → (keeping_after k inputs).salt ≡ k.salt
 salt_stays_after [] k = refl
 salt_stays_after (input ∷ inputs) k = salt_stays_after inputs (keeping_step k input).1 ∙ salt_stays k input
-
--- ---- what is found
-
-pub all_found : {A : Type 0} (P : A → Type 0) (p : A → Bool) (xs : List A) (x : A) → All P xs → find p xs ≡ Some x → P x
-all_found P p [] x all found = cc
-all_found P p (y ∷ ys) x all found = by_test (p y) (all_found P p ys x (All-tail P y ys all)) found
-  where
-    by_test : (b : Bool) → (find p ys ≡ Some x → P x) → (if b then Some y else find p ys) ≡ Some x → P x
-    by_test true later found' = let one : y ≡ x = cc in subst P one (All-head P y ys all)
-    by_test false later found' = later found'

@@ -1,30 +1,33 @@
 -- What is delivered is above all that the journal had saved. No more is known of an endpoint than that the rows of its
 -- tables agree at each moment, whatever the inputs are.
 use Rattle.std.proofs.Common.{◌≡◌, ℕ, ◌+◌, ◌≤◌, Bool, true, false, List, [], ◌∷◌, refl, ap, sym, ◌∙◌, subst, arith, All}
-use Rattle.std.specs.Prelude.{◌^◌, ◌&&◌, ◌||◌, max, not, if◌then◌else◌, unwrap_or, Option, Some}
-use Rattle.std.proofs.lemmas.Bool.{eq-eqb}
+use Rattle.std.specs.Prelude.{◌^◌, max, if◌then◌else◌, unwrap_or, Option, Some}
 use Rattle.macsec_gcm.specs.Octets.{same_octets}
 use Rattle.macsec_tag.specs.declared.identifiers.Sci.{Sci}
 use Rattle.std.proofs.lemmas.List.Elements.{All-cons, All-contains, All-head, All-nil, All-tail, All-weaker}
+use Rattle.macsec_tag.specs.Table.{reading}
 use Rattle.macsec_rx.specs.declared.RxRow.{RxRow}
 use Rattle.macsec_commands.specs.declared.config.EndConfig.{EndConfig}
-use Rattle.macsec_rx.specs.Channels.{is_at, rx_row}
-use Rattle.macsec_rx.specs.Rows.{AreRxRows}
+use Rattle.macsec_rx.specs.Channels.{is_at}
+use Rattle.macsec_rx.specs.Rows.{IsRxRow}
 use Rattle.macsec_secy.specs.declared.fault.FrameFault.{FrameFault}
 use Rattle.macsec_secy.specs.Agrees.{Agrees}
 use Rattle.macsec_secy.specs.Kept.{IsAbove as IsAboveAt, RxRowStays}
 use Rattle.macsec_secy.specs.Step.{Input, Output, link_frame, received_output, step, unless_fault}
 use Rattle.macsec_secy.specs.Reception.{judgement_of, state_after_receiving}
 use Rattle.macsec_secy.specs.State.{State, start}
+use Rattle.macsec_secy.proofs.Deliveries.{delivery_tells}
+use Rattle.macsec_secy.proofs.DeliveredFrom.{above_accepted, all_rows, used_at_place}
+use Rattle.macsec_secy.proofs.InUse.{found, used_holds}
+use Rattle.macsec_secy.proofs.KeysApart.{octets_same}
 use Rattle.macsec_reserve.specs.declared.reservation.Reservation.{Reservation}
 use Rattle.macsec_reserve.specs.Entries.{reduced}
 use Rattle.macsec_reserve.specs.Journal.{highest, receiving_name, reservations, salt_of, sending_name}
-use Rattle.macsec_reserve.specs.Keeping.{Keeping, KeepingInput, KeepingOutput, dropped_no_reservation, endpoint_input, now_durable, is_below_floor, keeping_after, keeping_step, may_go, with_step}
+use Rattle.macsec_reserve.specs.Keeping.{Keeping, KeepingInput, KeepingOutput, endpoint_input, now_durable, is_below_floor, keeping_after, keeping_step, may_go}
 use Rattle.macsec_reserve.specs.Histories.{Run, opening, reported}
 use Rattle.macsec_reserve.specs.Replay.{DeliversAbove, KeepsAssociation, NeverDeliversAgain, NeverDeliversAgainUnder, SavesAccepted, row_name, saved_for}
-use Rattle.macsec_reserve.proofs.InTime.{accepted_above, delivered_in_time}
-use Rattle.macsec_reserve.proofs.Steps.{by_tests}
-use Rattle.macsec_reserve.proofs.FloorsKept.{IsAbove, IsSavedBelow, StaysAgreed, agree_after, agree_next, all_found, before_stays_after, keeps_floors, salt_stays_after}
+use Rattle.macsec_reserve.proofs.Steps.{by_tests, received_step}
+use Rattle.macsec_reserve.proofs.FloorsKept.{IsAbove, IsSavedBelow, StaysAgreed, agree_after, agree_next, before_stays_after, keeps_floors, salt_stays_after}
 use Rattle.macsec_reserve.proofs.Reduced.{reduced_reserves}
 
 abbrev pub RowsStay : Type 0
@@ -41,9 +44,9 @@ delivered_above : StartAgrees → StaysAgreed → (run : Run) (inputs : List Kee
 delivered_above begins stay run inputs frame row delivered replay is_row is_delivered =
     let k = keeping_after (opening run) inputs in
     let s = k.secy in
-    let it = delivered_in_time s frame row delivered is_row is_delivered in
+    let it = delivery_tells s frame row delivered is_row is_delivered in
     let above = keeps_floors stay inputs (opening run) refl (begins run.config) (All-nil (IsAbove (opening run).salt (opening run).before (opening run).secy.keys)) in
-    let own : IsAbove k.salt k.before s.keys row = all_found (IsAbove k.salt k.before s.keys) (λ r. is_at row.sci row.an r && r.on) s.rx.rows row above it.used in
+    let own : IsAbove k.salt k.before s.keys row = used_holds (IsAbove k.salt k.before s.keys) s (reading frame) row above it.in_use in
     let saved : IsAbove (salt_of run.journal) (reduced (reservations run.journal)) s.keys row =
     subst (λ (salt : List ℕ). IsAbove salt (reduced (reservations run.journal)) s.keys row) (salt_stays_after inputs (opening run))
     (subst (λ (before : List Reservation). IsAbove k.salt before s.keys row) (before_stays_after inputs (opening run)) own) in
@@ -54,20 +57,12 @@ pub delivers_above : StartAgrees → StaysAgreed → (run : Run) (inputs : List 
 delivers_above begins stay run inputs frame row delivered replay is_row is_delivered =
     (delivered_above begins stay run inputs frame row delivered replay is_row is_delivered).below
 
-found_bound : (scis : List Sci) (rows : List RxRow) (sci : Sci) (an : ℕ) (row : RxRow) → AreRxRows scis rows → rx_row rows sci an ≡ Some row → row.next ≤ 2 ^ 64
-found_bound scis [] sci an row are found = cc
-found_bound scis (x ∷ xs) sci an row are found = by_test (is_at sci an x) (found_bound scis xs sci an row are.2) found
-  where
-    by_test : (b : Bool) → (rx_row xs sci an ≡ Some row → row.next ≤ 2 ^ 64) → (if b then Some x else rx_row xs sci an) ≡ Some row → row.next ≤ 2 ^ 64
-    by_test true later found' = let one : x ≡ row = cc in subst (λ (r : RxRow). r.next ≤ 2 ^ 64) one are.0.next
-    by_test false later found' = later found'
-
 -- what is saved covers what was accepted
 pub saves_accepted : (salt : List ℕ) (s : State) (sci : Sci) (an : ℕ) (row : RxRow) (n : ℕ) → SavesAccepted salt s sci an row n
-saves_accepted salt s sci an row n sound window found below =
+saves_accepted salt s sci an row n sound window is below =
     let within : row.next ≤ row.lowest + s.options.window =
-    all_found (λ (r : RxRow). r.next ≤ r.lowest + s.options.window) (λ r. is_at sci an r) s.rx.rows row sound.agrees.within_window found in
-    let most : row.next ≤ 2 ^ 64 = found_bound s.rx.scis s.rx.rows sci an row sound.rx.rows found in
+    (found (λ (r : RxRow). is_at sci an r) (λ (r : RxRow). r.next ≤ r.lowest + s.options.window) s.rx.rows row sound.agrees.within_window is).holds in
+    let most : row.next ≤ 2 ^ 64 = (found (λ (r : RxRow). is_at sci an r) (IsRxRow s.rx.scis) s.rx.rows row (all_rows s.rx.scis s.rx.rows sound.rx.rows) is).holds.next in
     omega (arith, within, window, below, most)
 
 -- ---- until the association is deleted
@@ -93,25 +88,12 @@ above_on stay (input ∷ inputs) k sci an n keeps above =
 
 -- ---- two runs
 
--- a link frame uses no packet number
-link_step : (k : Keeping) (frame : List ℕ) → keeping_step k (endpoint_input (link_frame frame)) ≡ with_step k (step k.secy (link_frame frame))
-link_step k frame = by_keeping k.keeps
-  where
-    by_keeping : (keeps : Bool) →
-        (if not keeps || true then with_step k (step k.secy (link_frame frame)) else (dropped_no_reservation, k)) ≡ with_step k (step k.secy (link_frame frame))
-    by_keeping true = refl
-    by_keeping false = refl
-
-same_octets-refl : (xs : List ℕ) → same_octets xs xs ≡ true
-same_octets-refl [] = refl
-same_octets-refl (x ∷ xs) = rw (eq-eqb x x refl, same_octets-refl xs) refl
-
 -- what a list has it reserves
 has_highest : (rs : List Reservation) → All (λ x. x.last ≤ highest rs x.name) rs
 has_highest [] = All-nil (λ (x : Reservation). x.last ≤ 0)
 has_highest (y ∷ ys) =
     let P : Reservation → Type 0 = λ x. x.last ≤ highest (y ∷ ys) x.name in
-    All-cons P y ys (own (same_octets y.name y.name) (same_octets-refl y.name))
+    All-cons P y ys (own (same_octets y.name y.name) (octets_same y.name))
     (All-weaker (λ (x : Reservation). x.last ≤ highest ys x.name) P (λ x less. later x (same_octets y.name x.name) less) ys (has_highest ys))
   where
     own : (b : Bool) → b ≡ true → y.last ≤ (if b then max y.last (highest ys y.name) else highest ys y.name)
@@ -127,24 +109,27 @@ never_delivers_again begins stay rows_stay run later name n saved durable inputs
     let k = keeping_after (opening run) saved.before in
     let j = judgement_of k.secy saved.frame in
     let link = endpoint_input (link_frame saved.frame) in
-    let it = delivered_in_time k.secy saved.frame saved.from saved.accepted.delivered saved.accepted.row saved.accepted.gives in
+    let it = delivery_tells k.secy saved.frame saved.from saved.accepted.delivered saved.accepted.row saved.accepted.gives in
+    let agreed = agree_after stay saved.before (opening run) (begins run.config) in
     let stepped : IsAboveAt (step k.secy (link_frame saved.frame)).1.rx.rows saved.from.sci saved.from.an (n + 1) =
     subst (λ (m : ℕ). IsAboveAt (step k.secy (link_frame saved.frame)).1.rx.rows saved.from.sci saved.from.an (m + 1)) saved.number
     (subst (λ (f : Option FrameFault). IsAboveAt
     (unless_fault f k.secy (received_output saved.frame j, state_after_receiving k.secy saved.frame j)).1.rx.rows
     saved.from.sci saved.from.an (j.number + 1)) (sym saved.accepted.fits)
-    (accepted_above k.secy.options.window j k.secy.rx.rows saved.from saved.accepted.row saved.accepted.step it.used)) in
+    (above_accepted k.secy.options.window j k.secy.rx.rows saved.from saved.accepted.row saved.accepted.step
+    (used_at_place k.secy (reading saved.frame) saved.from agreed.rx_places it.in_use))) in
     let first : IsAboveAt (keeping_step k link).1.secy.rx.rows saved.from.sci saved.from.an (n + 1) =
-    subst (λ (a : KeepingOutput × Keeping). IsAboveAt a.1.secy.rx.rows saved.from.sci saved.from.an (n + 1)) (sym (link_step k saved.frame)) stepped in
+    subst (λ (a : KeepingOutput × Keeping). IsAboveAt a.1.secy.rx.rows saved.from.sci saved.from.an (n + 1)) (sym (received_step k saved.frame)) stepped in
     let then' = above_on rows_stay saved.then_on (keeping_step k link).1 saved.from.sci saved.from.an (n + 1) saved.keeps first in
     let at_last : IsAboveAt saved.last.secy.rx.rows saved.from.sci saved.from.an (n + 1) =
     subst (λ (k' : Keeping). IsAboveAt k'.secy.rx.rows saved.from.sci saved.from.an (n + 1)) (sym saved.last_is) then' in
     let one : at_last.row ≡ saved.row = ap (λ (r : Option RxRow). unwrap_or r saved.row) (sym at_last.there ∙ saved.there) in
     let next : n + 1 ≤ saved.row.next = subst (λ (r : RxRow). n + 1 ≤ r.next) one at_last.above in
     let agrees : Agrees saved.last.secy = subst (λ (k' : Keeping). Agrees k'.secy) (sym saved.last_is)
-    (agree_after stay saved.then_on (keeping_step k link).1 (agree_next stay k link (agree_after stay saved.before (opening run) (begins run.config)))) in
+    (agree_after stay saved.then_on (keeping_step k link).1 (agree_next stay k link agreed)) in
     let within : saved.row.next ≤ saved.row.lowest + saved.last.secy.options.window =
-    all_found (λ (r : RxRow). r.next ≤ r.lowest + saved.last.secy.options.window) (λ r. is_at saved.from.sci saved.from.an r) saved.last.secy.rx.rows saved.row agrees.within_window saved.there in
+    (found (λ (r : RxRow). is_at saved.from.sci saved.from.an r) (λ (r : RxRow). r.next ≤ r.lowest + saved.last.secy.options.window)
+    saved.last.secy.rx.rows saved.row agrees.within_window saved.there).holds in
     let granted : (saved_for saved.last.salt saved.last.secy saved.row).last ≤ highest (reported run) (row_name saved.last.salt saved.last.secy saved.row) =
     All-contains (λ (x : Reservation). x.last ≤ highest (reported run) x.name) (reported run) (saved_for saved.last.salt saved.last.secy saved.row)
     (has_highest (reported run)) saved.durable in
