@@ -13,36 +13,10 @@ use Rattle.macsec_commands.specs.declared.event.Event.TheVariants as event
 use Rattle.macsec_secy.specs.Step.{Output, operator_command, refused}
 use Rattle.macsec_reserve.specs.Keeping.{Keeping, KeepingOutput, dropped_no_reservation, endpoint_input, endpoint_output, keeping_step, noted}
 use Rattle.macsec_script_parser.specs.declared.lines.Line.TheVariants as line
-use Rattle.macsec_script_printer.specs.Refusals.{refusal_name, refusal_text}
+use Rattle.macsec_script_printer.specs.Refusals.{refusal_text}
 use Rattle.macsec_script_printer.specs.OneEnd.{command_text}
 use Rattle.macsec_answers.specs.Answers.{answer_of_line, commanded}
 use Rattle.macsec_answers.specs.Writing.{needed}
-
--- the name of a refusal
-is_short_name : (r : Refusal) → nat_le (length (refusal_name r)) 13 ≡ true
-is_short_name KeyLength = refl
-is_short_name Offset = refl
-is_short_name KeyNumberUsed = refl
-is_short_name KeyRepeated = refl
-is_short_name NoKey = refl
-is_short_name KeyRetired = refl
-is_short_name KeyInUse = refl
-is_short_name OwnSci = refl
-is_short_name ScTaken = refl
-is_short_name ScFull = refl
-is_short_name NoSc = refl
-is_short_name AnTaken = refl
-is_short_name NoSa = refl
-is_short_name PnRange = refl
-is_short_name PnLower = refl
-is_short_name PnFloor = refl
-is_short_name SsciOwn = refl
-is_short_name Window = refl
-is_short_name SciForm = refl
-is_short_name Exhausted = refl
-
-pub name_short : (r : Refusal) → length (refusal_name r) ≤ 13
-name_short r = leb-true (length (refusal_name r)) 13 (is_short_name r)
 
 -- the number and the name of a refusal
 is_short : (r : Refusal) → nat_le (length (refusal_text r)) 16 ≡ true

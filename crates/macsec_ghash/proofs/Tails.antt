@@ -3,7 +3,7 @@ use Rattle.std.proofs.Common.{◌≡◌, ℕ, zero, suc, ◌-◌, ◌^◌, ◌<�
 use borrow.Rule.Slice.PartMut.{put_mid}
 use Rattle.std.specs.Int.Bits.{xor_zero_l, xor_self}
 use Rattle.std.proofs.lemmas.Nat.{xor_comm}
-use Rattle.std.proofs.lemmas.List.{append-nil, get_or_at, length-append, length-drop, length-replicate, length-set, nil_from_length, set_at, take-replicate}
+use Rattle.std.proofs.lemmas.List.{append-nil, get_or_at, length-drop, length-replicate, nil_from_length, set_at, take-replicate}
 use Rattle.std.proofs.lemmas.Grind.{fold-append}
 use Rattle.macsec_field128.specs.Field.{block_product, sum_below}
 use Rattle.macsec_field128.specs.Laws.{AddsInFirst, Associates, ProductIsBlock}
@@ -73,12 +73,6 @@ placed n xs le =
 -- eight blocks that end with xs, with the sum added to the first of xs
 unfoldable pub tail : ℕ → List ℕ → ℕ → List ℕ
 tail n xs y = set (put_mid n (8 - n) (replicate 8 0) xs) n (bit_xor (slice_index (put_mid n (8 - n) (replicate 8 0) xs) n) y)
-
-pub length-tail : (n : ℕ) (xs : List ℕ) (y : ℕ) → n ≤ 8 → length xs ≡ 8 - n → length (tail n xs y) ≡ 8
-unfolding tail
-length-tail n xs y le long =
-    rw (placed n xs le, length-set (replicate n 0 ++ xs) n (bit_xor (slice_index (replicate n 0 ++ xs) n) y))
-    (omega (arith, length-append (replicate n 0) xs, length-replicate {A = ℕ} n 0, long))
 
 pub weighted-tail : AddsInFirst → Associates → ProductIsBlock → (h y : ℕ) → h < 2 ^ 128 → (n : ℕ) (xs : List ℕ) → 0 < length xs → n ≤ 8
     → weighted h (tail n xs y) ≡ hash_after h y xs

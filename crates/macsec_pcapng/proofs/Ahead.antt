@@ -24,10 +24,6 @@ abbrev pub Goes : ℕ → Section → Option (List ℕ) → ℕ → Section → 
 Goes blocks section old left next new = IfSome old (λ octets. (rest : List ℕ) × (new ≡ Some rest)
     × ((places : ℕ) → capture_of blocks section places octets ≡ capture_of left next places rest))
 
-pub goes_none : (blocks : ℕ) (section : Section) (old : Option (List ℕ)) → Goes blocks section old blocks section old
-goes_none blocks section None = tt
-goes_none blocks section (Some octets) = (octets, refl, λ places. refl)
-
 -- the content of octets, from their first block
 begins : (left : ℕ) (section : Section) (octets : List ℕ) (places : ℕ) → 0 < left →
     capture_of left section places octets ≡ content_from (taken_at section octets) places (λ next n rest. capture_of (left - 1) next n rest)

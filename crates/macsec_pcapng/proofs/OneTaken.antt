@@ -15,7 +15,7 @@ use Rattle.macsec_pcap.specs.Answers.{UnlessRead}
 use Rattle.macsec_pcap.specs.Records.{CaptureRecord, Content, whole, partial, other_link}
 use Rattle.macsec_pcapng.specs.declared.blocks.Head.{Head}
 use Rattle.macsec_pcapng.specs.declared.packets.Packet.{Packet}
-use Rattle.macsec_pcapng.specs.declared.taking.Taken.TheVariants.{End, Found, Skipped}
+use Rattle.macsec_pcapng.specs.declared.taking.Taken.TheVariants.{End, Found}
 use Rattle.macsec_pcapng.specs.Answers.{IsLeft, TakesBlock, TakesHeader, TakesOne, block_by}
 use Rattle.macsec_pcapng.specs.Limits.{max_blocks}
 use Rattle.macsec_pcapng.specs.Reading.{content_ahead}
@@ -73,17 +73,6 @@ one_end None new last section next room other taken = tt
 one_end (Some octets) new last section next room other taken = ap (taken_by section) taken
 
 -- a block was read, and what it leaves
-pub one_skipped : (old new : Option (List ℕ)) (section next : Section) (room : List ℕ) (head : Head) →
-    IfSome old (λ octets. TakesBlock (block_at section.order octets) new room (Ok (Some head))) →
-    IsLeft (left_by section (block_by head (take (kept head.len) room))) next (Ok None) →
-    IfSome old (λ octets. TakesOne section octets next new room (Ok Skipped))
-one_skipped None new section next room head taken left = tt
-one_skipped (Some octets) new section next room head taken left = (
-  taken.0,
-  ap (taken_by section) taken.1 ∙ ap (λ l. taken_with l (take (kept head.len) room) taken.0) left,
-  taken.2,
-)
-
 pub one_found : (old new : Option (List ℕ)) (section next : Section) (room : List ℕ) (head : Head) (packet : Packet) → packet.start + packet.captured ≤ kept head.len →
     IfSome old (λ octets. TakesBlock (block_at section.order octets) new room (Ok (Some head))) →
     IsLeft (left_by section (block_by head (take (kept head.len) room))) next (Ok (Some packet)) →

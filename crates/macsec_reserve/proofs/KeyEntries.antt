@@ -1,8 +1,8 @@
 -- The entries of keys: what they reserve together, and that there is room for them.
-use Rattle.std.proofs.Common.{◌≡◌, ℕ, zero, suc, ◌+◌, ◌<◌, ◌≤◌, Bool, true, false, cond, List, [], ◌∷◌, ◌++◌, map, drop, take, length, get_or, refl, ap, sym, ◌∙◌, arith, eqb, ◌||◌, inl, inr, append_assoc}
+use Rattle.std.proofs.Common.{◌≡◌, ℕ, zero, suc, ◌<◌, ◌≤◌, Bool, true, false, cond, List, [], ◌∷◌, ◌++◌, map, drop, length, refl, ap, sym, ◌∙◌, arith, eqb, ◌||◌, inl, inr}
 use Rattle.std.specs.Prelude.{max, if◌then◌else◌, Option, Some, None, ◌==◌}
 use Rattle.std.specs.List.{IsDistinct, AllByRecursion, list_any}
-use Rattle.std.proofs.lemmas.List.{length-map, map-append, take_more}
+use Rattle.std.proofs.lemmas.List.{length-map}
 use Rattle.std.proofs.lemmas.Map.Steps.{length-le_from_distinct_below}
 use Rattle.std.proofs.lemmas.Bool.{ne_eqb, eqb-false}
 use Rattle.std.proofs.lemmas.Bool.Decides.{eqb_tells}
@@ -67,15 +67,6 @@ pub entries_of_names : (salt : List ℕ) (granted : List Reservation) (keys : Li
     granted ++ map entry_of (drop (length granted) names) ≡ for_each_key salt granted keys
 entries_of_names salt granted keys names are =
     ap (λ ns. granted ++ map entry_of (drop (length granted) ns)) (sym are) ∙ ap (λ entries. granted ++ entries) (of_named salt (length granted) keys)
-
-pub entry_more : (old now next : List Reservation) (names : List NamedKey) (i : ℕ) (d : NamedKey) → i < length names → now ≡ old ++ map entry_of (take i names) →
-    next ≡ now ++ entry_of (get_or names i d) ∷ [] → next ≡ old ++ map entry_of (take (i + 1) names)
-entry_more old now next names i d less is_now is_next =
-    is_next
-    ∙ ap (λ rs. rs ++ entry_of (get_or names i d) ∷ []) is_now
-    ∙ append_assoc old (map entry_of (take i names)) (entry_of (get_or names i d) ∷ [])
-    ∙ ap (λ rs. old ++ rs) (sym (map-append entry_of (take i names) (get_or names i d ∷ [])))
-    ∙ ap (λ ns. old ++ map entry_of ns) (sym (take_more names i d less))
 
 -- ---- room
 

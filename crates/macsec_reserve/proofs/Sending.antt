@@ -23,9 +23,6 @@ twice_not false = refl
 abbrev all_may : Keeping → List UsedNumber → Bool
 all_may k us = not (list_any (λ u. not (may_use k u)) us)
 
-pub none_used : (k : Keeping) (input : Input) → [] ≡ number_used k.secy input → true ≡ uses_reserved k input
-none_used k input none = ap (λ us. all_may k us) none
-
 pub one_used : (k : Keeping) (input : Input) (row : TxRow) (name name' : List ℕ) (may : Bool) → (row.key, row.next) ∷ [] ≡ number_used k.secy input →
     name ≡ name' → name' ≡ key_name k.salt k.secy.keys row.key →
     may ≡ (nat_lt (highest k.before name) row.next && nat_le row.next (highest k.granted name)) → may ≡ uses_reserved k input

@@ -30,19 +30,6 @@ next_piece scis sci at n after fits is none there place =
     let behind : drop n (drop at scis) ≡ drop after scis = drop-drop n at scis ∙ ap (λ m. drop m scis) (omega (arith, is)) in
     (there ∙ past.0 ∙ ap (λ rest. has_channel rest sci) behind, omega (arith, place, past.1, is, ap (λ rest. channel_place rest sci) behind))
 
--- an SCI that one of the first n SCs has is found there
-pub in_piece : (scis : List Sci) (sci : Sci) (n : ℕ) → has_channel (take n scis) sci ≡ true →
-    (has_channel scis sci ≡ true) × (channel_place scis sci ≡ channel_place (take n scis) sci)
-in_piece scis sci zero there = cc
-in_piece [] sci (suc n) there = cc
-in_piece (s ∷ scis) sci (suc n) there = by_test (same_sci s sci) (λ h. in_piece scis sci n h) there
-  where
-    by_test : (b : Bool) → (has_channel (take n scis) sci ≡ true → (has_channel scis sci ≡ true) × (channel_place scis sci ≡ channel_place (take n scis) sci)) →
-        (b || has_channel (take n scis) sci) ≡ true →
-        ((b || has_channel scis sci) ≡ true) × ((if b then 0 else suc (channel_place scis sci)) ≡ (if b then 0 else suc (channel_place (take n scis) sci)))
-    by_test true later there' = (refl, refl)
-    by_test false later there' = let it = later there' in (it.0, ap suc it.1)
-
 -- the SC at the index of an SCI has that SCI
 pub slice_get-channel_place : (scis : List Sci) (sci : Sci) → has_channel scis sci ≡ true → slice_get scis (channel_place scis sci) ≡ Some sci
 slice_get-channel_place [] sci there = cc
