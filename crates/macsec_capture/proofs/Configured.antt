@@ -204,11 +204,6 @@ without_end direction config file lines given w same is read =
     ap (λ ls. captured_by direction ls file) read ∙ ap (λ ls. captured_at direction (one_end ls) file) (sym same) ∙ ap (λ e. captured_at direction e file) is in
     subst (λ captures. CaptureGives captures w w (Ok tt)) (sym whole) (refl, Grows-nothing w)
 
-pub endless : (direction : Direction) (config : List ℕ) (input : Option (List ℕ)) (lines given : List NumberedLine) (w : Written) → given ≡ lines →
-    one_end given ≡ None → config_of config ≡ Ok lines → IfSome input (λ file. CaptureGives (captured direction config file) w w (Ok tt))
-endless direction config None lines given w same is read = tt
-endless direction config (Some file) lines given w same is read = without_end direction config (captures_of file) lines given w same is read
-
 pub endless_some : (direction : Direction) (config : List ℕ) (lines given : List NumberedLine) (w : Written) → given ≡ lines →
     one_end given ≡ None → config_of config ≡ Ok lines → RunsOverSome direction config w w (Ok tt)
 endless_some direction config lines given w same is read = (Err Read, without_end direction config (Err Read) lines given w same is read)

@@ -1,5 +1,5 @@
 -- What an endpoint returns for a client frame, and what holds of its tables afterwards.
-use Rattle.std.proofs.Common.{◌≡◌, ℕ, ◌+◌, Bool, true, false, List, length, refl, sym, ap, subst, ◌∙◌}
+use Rattle.std.proofs.Common.{◌≡◌, ℕ, ◌+◌, Bool, true, false, List, length, refl, sym, subst}
 use Rattle.std.specs.Prelude.{nat_lt, if◌then◌else◌, Option, Some, None}
 use Rattle.macsec_suite.specs.Suites.{last_of}
 use Rattle.macsec_suite.specs.KeyRows.{AreKeyRows, InstalledKey, the_key}
@@ -13,16 +13,9 @@ use Rattle.macsec_tx.specs.Transmit.{Leaving, plain, protected, no_sa, too_long,
 use Rattle.macsec_tx.specs.Transmit.{octets_added, row_on, rows_after, sending, sending_by, tag_sent}
 use Rattle.macsec_secy.specs.declared.fault.FrameFault.{FrameFault}
 use Rattle.macsec_secy.specs.State.{State, tx_options}
-use Rattle.macsec_secy.specs.Step.{client_frame, frame_fault, leaves, sending_of, sent_output, state_after_sending, step, unless_fault}
+use Rattle.macsec_secy.specs.Step.{client_frame, frame_fault, sending_of, sent_output, state_after_sending, step, unless_fault}
 use Rattle.macsec_secy.specs.Sound.{IsSound}
 use Rattle.macsec_secy.proofs.StaysSound.{TablesHold, after_client_frame}
-
--- the result for a frame that is sent protected
-pub left_protected : (s : State) (frame : List ℕ) → frame_fault frame ≡ None → (options : TxOptions) → options ≡ tx_options s → (key : ℕ) (out : List ℕ) →
-    (sending options s.keys s.tx frame).leaving ≡ protected key out → leaves out (Some key) ≡ (step s (client_frame frame)).0
-left_protected s frame fits options same key out protects =
-    let leaving : (sending (tx_options s) s.keys s.tx frame).leaving ≡ protected key out = ap (λ o. (sending o s.keys s.tx frame).leaving) (sym same) ∙ protects in
-    rw (fits, leaving) refl
 
 -- ---- a frame that is sent unprotected, or dropped: no SA protects it
 
