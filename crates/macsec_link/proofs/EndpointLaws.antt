@@ -1,19 +1,8 @@
 -- The laws of an endpoint, as the law functions state them, and what follows for two keys with equal IVs.
-use Rattle.std.proofs.Common.{◌≡◌, ◌≢◌, ℕ, Bool, true, false, List, refl, Contains}
-use Rattle.std.proofs.lemmas.List.Elements.{All-contains}
-use Rattle.macsec_tag.specs.declared.identifiers.Sci.{Sci}
-use Rattle.macsec_suite.specs.declared.suite.Suite.{Suite}
-use Rattle.macsec_suite.specs.IvLaws.{EqualIvs, HaveSameSender, IvParts}
-use Rattle.macsec_suite.specs.KeyRows.{InstalledKey, IsKeyRow}
-use Rattle.macsec_suite.specs.Suites.{is_xpn}
-use Rattle.macsec_tx.specs.declared.TxRow.{TxRow}
-use Rattle.macsec_rx.specs.declared.RxRow.{RxRow}
-use Rattle.macsec_secy.specs.Delivers.{DeliversFrom}
-use Rattle.macsec_secy.specs.Kept.{KeysAreApart, KeysStay, RxRowStays, RxRowsAreApart}
-use Rattle.macsec_secy.specs.Protects.{Protects}
+use Rattle.macsec_link.proofs.Names.{◌≡◌, ◌≢◌, ℕ, Bool, true, false, List, refl, Contains, All-contains, Sci, Suite, EqualIvs, HaveSameSender}
+use Rattle.macsec_link.proofs.Names.{IvParts, InstalledKey, IsKeyRow, is_xpn, TxRow, RxRow, DeliversFrom, KeysAreApart, KeysStay, RxRowStays}
+use Rattle.macsec_link.proofs.Names.{RxRowsAreApart, Protects, State, Input, step}
 use Rattle.macsec_secy.specs.Sound.{IsSound}
-use Rattle.macsec_secy.specs.State.{State}
-use Rattle.macsec_secy.specs.Step.{Input, step}
 
 pub record EndpointLaws : Type 0 where
   pub equal_ivs : (suite : Suite) (p q : IvParts) → EqualIvs suite p q

@@ -1,14 +1,10 @@
 -- The first fault of an event, which leaves the world unchanged, and the first fault of two configurations. Neither is
 -- out of memory.
-use Rattle.std.proofs.Common.{◌≡◌, Bool, true, false, List, [], ◌∷◌, ap, refl, subst, sym}
-use Rattle.std.specs.Prelude.{Option, Some, None, Result, Err, MatchBool, if◌then◌else◌}
+use Rattle.macsec_link.proofs.Names.{◌≡◌, Bool, true, false, List, [], ◌∷◌, ap, refl, subst, sym, Option, Some, None, Result, Err, MatchBool}
+use Rattle.macsec_link.proofs.Names.{if◌then◌else◌, Event, Send, SendUncontrolled, Deliver, Alter, Pad, Inject, Outcome, WorldFault, Memory, NoFrame}
+use Rattle.macsec_link.proofs.Names.{LinkFull, AlterRange, Short, Long, Make, EndConfig}
 use Rattle.macsec_suite.specs.FirstThatHolds.{first_that_holds}
-use Rattle.macsec_commands.specs.declared.event.Event.{Event}
-use Rattle.macsec_commands.specs.declared.event.Event.TheVariants.{Command, Send, SendUncontrolled, Deliver, Alter, Pad, Inject}
-use Rattle.macsec_link_events.specs.declared.Outcome.{Outcome}
-use Rattle.macsec_link_events.specs.declared.WorldFault.{WorldFault}
-use Rattle.macsec_link_events.specs.declared.WorldFault.TheVariants.{Memory, NoFrame, LinkFull, AlterRange, Short, Long, Make}
-use Rattle.macsec_commands.specs.declared.config.EndConfig.{EndConfig}
+use Rattle.macsec_commands.specs.declared.event.Event.TheVariants.{Command}
 use Rattle.macsec_commands.specs.declared.fault.NewFault.{NewFault}
 use Rattle.macsec_commands.specs.Configs.{config_fault}
 use Rattle.macsec_link.specs.Answers.{Happens, RefusesMaking, RunsOutOfMemory, Steps, is_memory, make_fault, make_fault_of}

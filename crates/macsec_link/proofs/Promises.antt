@@ -1,8 +1,5 @@
 -- The laws for a list of events over sound worlds: what the trace keeps, and the promises that follow from it.
-use Rattle.std.proofs.Common.{◌≡◌, List, [], ◌∷◌, take, refl, ap, sym, subst, ◌∙◌}
-use Rattle.macsec_commands.specs.declared.config.EndConfig.{EndConfig}
-use Rattle.macsec_commands.specs.declared.event.End.TheVariants.{A, B}
-use Rattle.macsec_commands.specs.declared.event.Event.{Event}
+use Rattle.macsec_link.proofs.Names.{◌≡◌, List, [], ◌∷◌, take, refl, ap, sym, subst, ◌∙◌, EndConfig, A, B, Event}
 use Rattle.macsec_link.specs.World.{new_world}
 use Rattle.macsec_link.specs.Sound.{IsSound}
 use Rattle.macsec_link.specs.Beginnings.{AreSound, AtEachMoment}

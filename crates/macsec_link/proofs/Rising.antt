@@ -1,7 +1,6 @@
 -- The items of two lists, pair by pair, each pair at a moment of its own: the moments rise.
-use Rattle.std.proofs.Common.{◌≡◌, ℕ, zero, suc, ◌<◌, ◌≤◌, List, [], ◌∷◌, ◌++◌, length, refl, ap, subst, arith, All, AllPairs}
-use Rattle.std.specs.Prelude.{slice_get, Some}
-use Rattle.std.proofs.lemmas.List.Elements.{All-nil, All-push, All-weaker}
+use Rattle.macsec_link.proofs.Names.{◌≡◌, ℕ, zero, suc, ◌<◌, ◌≤◌, List, [], ◌∷◌, ◌++◌, length, refl, ap, subst, arith, All, AllPairs, slice_get, Some}
+use Rattle.macsec_link.proofs.Names.{All-nil, All-push, All-weaker}
 use Rattle.macsec_link.proofs.Pairs.{no_pairs, pairs-push}
 
 -- three lists have the same length, and R holds of the items at each index

@@ -1,7 +1,5 @@
 -- Whether two ends are the same.
-use Rattle.std.proofs.Common.{◌≡◌, ◌⊎◌, inl, inr, Bool, true, false, refl}
-use Rattle.macsec_commands.specs.declared.event.End.{End}
-use Rattle.macsec_commands.specs.declared.event.End.TheVariants.{A, B}
+use Rattle.macsec_link.proofs.Names.{◌≡◌, ◌⊎◌, inl, inr, Bool, true, false, refl, End, A, B}
 use Rattle.macsec_link.specs.World.{other_end}
 use Rattle.macsec_link.specs.Trace.{same_end}
 

@@ -1,12 +1,7 @@
 -- Each frame that is sent protected is sent at a moment of its own: the moments rise.
-use Rattle.std.proofs.Common.{◌≡◌, ℕ, suc, List, [], ◌++◌, arith, append-nil, refl, subst, sym}
-use Rattle.std.specs.Prelude.{Option, Some, None}
-use Rattle.macsec_tx.specs.declared.TxRow.{TxRow}
-use Rattle.macsec_secy.specs.Step.{sending_of}
-use Rattle.macsec_commands.specs.declared.event.End.{End}
-use Rattle.macsec_commands.specs.declared.event.Event.{Event}
-use Rattle.macsec_commands.specs.declared.event.Event.TheVariants.{Command, Send, SendUncontrolled, Deliver, Alter, Pad, Inject}
-use Rattle.macsec_link_events.specs.declared.WorldFault.{WorldFault}
+use Rattle.macsec_link.proofs.Names.{◌≡◌, ℕ, suc, List, [], ◌++◌, arith, append-nil, refl, subst, sym, Option, Some, None, TxRow, sending_of, End}
+use Rattle.macsec_link.proofs.Names.{Event, Send, SendUncontrolled, Deliver, Alter, Pad, Inject, WorldFault}
+use Rattle.macsec_commands.specs.declared.event.Event.TheVariants.{Command}
 use Rattle.macsec_link.specs.World.{WorldState, end_of}
 use Rattle.macsec_link.specs.Faults.{fault_of}
 use Rattle.macsec_link.specs.Trace.{Sent, added_unless_fault}

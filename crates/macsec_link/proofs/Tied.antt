@@ -1,12 +1,6 @@
 -- The SA of a live log exists and has the log's key.
-use Rattle.std.proofs.Common.{◌≡◌, ◌∙◌, ℕ, true, List, ap, subst, sym}
-use Rattle.std.specs.Prelude.{slice_get, Some}
-use Rattle.macsec_tag.specs.declared.identifiers.Sci.{Sci}
-use Rattle.macsec_rx.specs.declared.RxRow.{RxRow}
-use Rattle.macsec_rx.specs.Channels.{rx_row}
-use Rattle.macsec_link_logs.specs.Ends.{EndState}
-use Rattle.macsec_link_logs.specs.Logs.{DeliveryLog, association_of_log, association_of_row, live_logs}
-use Rattle.macsec_link_logs.specs.Sound.{IsSoundEnd}
+use Rattle.macsec_link.proofs.Names.{◌≡◌, ◌∙◌, ℕ, true, List, ap, subst, sym, slice_get, Some, Sci, RxRow, rx_row, EndState, DeliveryLog}
+use Rattle.macsec_link.proofs.Names.{association_of_log, association_of_row, live_logs, IsSoundEnd}
 use Rattle.macsec_link.proofs.EndpointLaws.{EndpointLaws}
 use Rattle.macsec_link.proofs.Members.{IsMember, contained, found_member, from_map, left_member, member_of_map}
 

@@ -1,17 +1,8 @@
 -- What an SA seals for a client frame is the use of the cipher by the link frame that is made. The frame stays on the
 -- link, and the key in the end's table.
-use Rattle.std.proofs.Common.{◌≡◌, ℕ, zero, suc, ◌≤◌, List, [], ◌∷◌, length, take, refl, arith, sym, subst, ◌∙◌, Contains}
-use Rattle.std.specs.Prelude.{slice_get, Some, None}
-use Rattle.macsec_tag.specs.Frame.{in_a_row}
-use Rattle.macsec_suite.specs.KeyRows.{InstalledKey, row_noting, the_key}
-use Rattle.macsec_tx.specs.declared.TxRow.{TxRow}
-use Rattle.macsec_commands.specs.declared.config.EndConfig.{EndConfig}
-use Rattle.macsec_secy.specs.Kept.{IsLaterKey, KeyStaysIn}
-use Rattle.macsec_secy.specs.State.{State}
-use Rattle.macsec_secy.specs.Step.{sending_of}
-use Rattle.macsec_commands.specs.declared.event.End.{End}
-use Rattle.macsec_commands.specs.declared.event.Event.{Event}
-use Rattle.macsec_commands.specs.declared.event.Event.TheVariants.{Send}
+use Rattle.macsec_link.proofs.Names.{◌≡◌, ℕ, zero, suc, ◌≤◌, List, [], ◌∷◌, length, take, refl, arith, sym, subst, ◌∙◌, Contains, slice_get, Some}
+use Rattle.macsec_link.proofs.Names.{None, in_a_row, InstalledKey, row_noting, the_key, TxRow, EndConfig, IsLaterKey, KeyStaysIn, State, sending_of}
+use Rattle.macsec_link.proofs.Names.{End, Event, Send}
 use Rattle.macsec_link.specs.World.{WorldState, new_world, end_of}
 use Rattle.macsec_link.specs.Faults.{fault_of}
 use Rattle.macsec_link.specs.Sound.{IsSound}

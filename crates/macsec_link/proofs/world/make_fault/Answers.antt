@@ -1,6 +1,6 @@
 -- Only these tactics: without these proofs the prover tries others first, which takes longer, and tries all on a
 -- mutant.
-use Rattle.std.proofs.Common.{rules}
+use Rattle.macsec_link.proofs.Names.{rules}
 use Rattle.macsec_link.proofs.world.make_fault.Goals as goal
 
 pub returns-in-Some : goal.returns-in-Some

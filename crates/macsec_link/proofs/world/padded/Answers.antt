@@ -1,8 +1,6 @@
 -- A frame of fewer than 60 octets is followed by zeros up to 60. Written down so that another number of zeros is
 -- refused quickly.
-use Rattle.std.proofs.Common.{◌≡◌, ◌∙◌, ◌-◌, ◌<◌, ℕ, List, ◌++◌, ap, arith, length, take}
-use Rattle.std.specs.Prelude.{replicate}
-use Rattle.std.proofs.lemmas.List.{take_all}
+use Rattle.macsec_link.proofs.Names.{◌≡◌, ◌∙◌, ◌-◌, ◌<◌, ℕ, List, ◌++◌, ap, arith, length, take, replicate, take_all}
 use Rattle.macsec_link.specs.Step.{padded_frame}
 use Rattle.macsec_link.proofs.world.padded.Goals as goal
 

@@ -1,8 +1,6 @@
 -- A delivery is one step of the written world, or its fault. The end receives the link frame with the number, which is
 -- found and is not too short or too long.
-use Rattle.std.proofs.Common.{◌≡◌, ℕ, List, ap, rules, subst, sym}
-use Rattle.std.specs.Prelude.{None, Err}
-use Rattle.macsec_secy.specs.Step.{frame_fault}
+use Rattle.macsec_link.proofs.Names.{◌≡◌, ℕ, List, ap, rules, subst, sym, None, Err, frame_fault}
 use Rattle.macsec_link.specs.World.{WorldState}
 use Rattle.macsec_link.proofs.LinkFrames.{at_place, heard}
 use Rattle.macsec_link.proofs.world.World.deliver.Goals.{in-A, in-B}

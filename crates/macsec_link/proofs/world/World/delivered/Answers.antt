@@ -1,4 +1,4 @@
-use Rattle.std.proofs.Common.{rules}
+use Rattle.macsec_link.proofs.Names.{rules}
 use Rattle.macsec_link.proofs.world.World.delivered.Goals as goal
 
 pub returns : goal.returns

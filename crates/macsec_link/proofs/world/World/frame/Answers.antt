@@ -1,8 +1,6 @@
 -- The frame at the number's index, or none after the last one. Written down so that another frame is refused quickly.
-use Rattle.std.proofs.Common.{◌≡◌, ◌∙◌, ◌<◌, ◌≤◌, ℕ, zero, suc, List, [], ◌∷◌, ap, arith, get_or, length, refl}
-use Rattle.std.specs.Prelude.{Some, None, option_copied, slice_get}
-use Rattle.std.specs.Global.{Vec}
-use Rattle.macsec_link_logs.specs.Kept.{frames_kept}
+use Rattle.macsec_link.proofs.Names.{◌≡◌, ◌∙◌, ◌<◌, ◌≤◌, ℕ, zero, suc, List, [], ◌∷◌, ap, arith, get_or, length, refl, Some, None, option_copied}
+use Rattle.macsec_link.proofs.Names.{slice_get, Vec, frames_kept}
 use Rattle.macsec_link.specs.World.{WorldState}
 use Rattle.macsec_link.proofs.world.World.frame.Goals as goal
 

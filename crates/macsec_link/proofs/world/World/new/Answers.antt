@@ -1,8 +1,4 @@
-use Rattle.std.proofs.Common.{◌≡◌, ◌∙◌, ℕ, List, [], ap, sym}
-use Rattle.std.specs.Global.{Vec}
-use Rattle.macsec_commands.specs.declared.config.EndConfig.{EndConfig}
-use Rattle.macsec_link_logs.specs.Ends.{EndState, new_end}
-use Rattle.macsec_link_logs.specs.Kept.{frames_kept}
+use Rattle.macsec_link.proofs.Names.{◌≡◌, ◌∙◌, ℕ, List, [], ap, sym, Vec, EndConfig, EndState, new_end, frames_kept}
 use Rattle.macsec_link.specs.World.{WorldState, new_world}
 use Rattle.macsec_link.proofs.Faulted.{refuses}
 use Rattle.macsec_link.proofs.world.World.new.Goals as goal

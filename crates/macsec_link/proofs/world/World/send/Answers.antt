@@ -1,10 +1,6 @@
 -- Only these tactics: without these proofs the prover tries others first, which takes longer, and tries all on a
 -- mutant.
-use Rattle.std.proofs.Common.{◌≡◌, ◌<◌, ℕ, ap, arith, length, rules}
-use Rattle.std.specs.Prelude.{Err}
-use Rattle.std.specs.Global.{Vec}
-use Rattle.std.proofs.lemmas.Grind.{common_steps}
-use Rattle.std.proofs.lemmas.List.{length-map}
+use Rattle.macsec_link.proofs.Names.{◌≡◌, ◌<◌, ℕ, ap, arith, length, rules, Err, Vec, common_steps, length-map}
 use Rattle.macsec_link.specs.World.{WorldState}
 use Rattle.macsec_commands.specs.declared.event.Event.TheVariants as event
 use Rattle.macsec_link.proofs.Faulted.{passed_on}

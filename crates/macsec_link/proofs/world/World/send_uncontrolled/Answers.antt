@@ -1,7 +1,6 @@
 -- Only these tactics: without these proofs the prover tries others first, which takes longer, and tries all on a
 -- mutant.
-use Rattle.std.proofs.Common.{◌≡◌, rules}
-use Rattle.std.specs.Prelude.{Err}
+use Rattle.macsec_link.proofs.Names.{◌≡◌, rules, Err}
 use Rattle.macsec_commands.specs.declared.event.Event.TheVariants as event
 use Rattle.macsec_link.proofs.Faulted.{passed_on}
 use Rattle.macsec_link.proofs.world.World.send_uncontrolled.Goals as goal

@@ -1,5 +1,5 @@
 -- Only these tactics: each kind of event has the contract of the function that takes its step.
-use Rattle.std.proofs.Common.{rules}
+use Rattle.macsec_link.proofs.Names.{rules}
 use Rattle.macsec_link.proofs.world.World.step.Goals as goal
 
 pub returns-in-Command-clause-steps : goal.returns-in-Command-clause-steps

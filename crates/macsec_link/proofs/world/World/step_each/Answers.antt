@@ -1,8 +1,6 @@
 -- After each event the run is extended by one step, and the vector has capacity for its result; at the end, by all
 -- events.
-use Rattle.std.proofs.Common.{arith, take, List, subst}
-use Rattle.std.proofs.lemmas.List.{take_all, take_more}
-use Rattle.macsec_commands.specs.declared.event.Event.{Event}
+use Rattle.macsec_link.proofs.Names.{arith, take, List, subst, take_all, take_more, Event}
 use Rattle.macsec_link.specs.Beginnings.{StaysSound}
 use Rattle.macsec_link.specs.Answers.{RunsTo, events_kept}
 use Rattle.macsec_link.proofs.RunLemmas.{one_more}
