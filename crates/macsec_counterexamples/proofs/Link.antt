@@ -1,3 +1,4 @@
+mod Names
 pub mod Ivs
 pub mod Examples
 pub mod AcceptedExample

@@ -1,3 +1,4 @@
+mod Names
 pub mod Journals
 pub mod Goes
 pub mod Senders

@@ -1,40 +1,15 @@
 -- Premises that the law of acceptance needs: for each of these there is a run in which the others hold and the frame
 -- does not pass.
-use Rattle.std.proofs.Common.{◌≡◌, ◌≢◌, inl, ℕ, ◌+◌, ◌-◌, ◌^◌, ◌<◌, ◌≤◌, true, false, List, [], ◌∷◌, ◌++◌, length, refl, ap, arith, subst, sym, ◌∙◌}
-use Rattle.std.specs.Prelude.{replicate, slice_get, Option, Some, None, Result, Ok}
-use Rattle.std.proofs.lemmas.List.{take_all, take_at}
-use Rattle.macsec_tag.specs.declared.identifiers.Sci.{Sci}
-use Rattle.macsec_tag.specs.Frame.{MpduParts, in_a_row}
-use Rattle.macsec_suite.specs.declared.suite.Suite.{Suite}
-use Rattle.macsec_suite.specs.KeyRows.{InstalledKey, the_key}
-use Rattle.macsec_suite.specs.Suites.{is_xpn}
+use Rattle.macsec_counterexamples.proofs.Link.Names.{◌≡◌, ◌≢◌, inl, ℕ, ◌+◌, ◌-◌, ◌^◌, ◌<◌, ◌≤◌, true, false, List, [], ◌∷◌, ◌++◌, length, refl, ap}
+use Rattle.macsec_counterexamples.proofs.Link.Names.{arith, subst, sym, ◌∙◌, replicate, slice_get, Option, Some, None, Result, Ok, take_all, take_at}
+use Rattle.macsec_counterexamples.proofs.Link.Names.{Sci, MpduParts, in_a_row, Suite, InstalledKey, the_key, is_xpn, TxRow, iv_sent, parts_sent}
+use Rattle.macsec_counterexamples.proofs.Link.Names.{tag_sent, Disabled, RxRow, Verdict, BadTag, Late, NoSaError, Passed, Unchecked, in_use, sci_of}
+use Rattle.macsec_counterexamples.proofs.Link.Names.{RxLow, RxOff, RxSc, Validate, EndConfig, CanAccept, new_channel_counters, State, first_options}
+use Rattle.macsec_counterexamples.proofs.Link.Names.{no_rx_counters, start, tx_options, frame_fault, sending_of, End, A, B, Event, Command, Deliver}
+use Rattle.macsec_counterexamples.proofs.Link.Names.{Send, Outcome, Heard, WorldFault, IsDeliveredAs, IsOnLink, world_after, world_at, world_step}
+use Rattle.macsec_counterexamples.proofs.Link.Names.{WorldState, end_of, new_world, other_end, fault_of, Trace}
 use Rattle.macsec_commands.specs.declared.form.TagForm.TheVariants as form
-use Rattle.macsec_tx.specs.declared.TxRow.{TxRow}
-use Rattle.macsec_tx.specs.Transmit.{iv_sent, parts_sent, tag_sent}
-use Rattle.macsec_commands.specs.declared.mode.Mode.TheVariants.{Disabled}
-use Rattle.macsec_rx.specs.declared.RxRow.{RxRow}
-use Rattle.macsec_rx.specs.declared.Verdict.{Verdict}
-use Rattle.macsec_rx.specs.declared.Verdict.TheVariants.{BadTag, Late, NoSaError, Passed, Unchecked}
 use Rattle.macsec_rx.specs.Channels.{rx_row}
-use Rattle.macsec_rx.specs.Judge.{in_use, sci_of}
-use Rattle.macsec_commands.specs.declared.command.Command.TheVariants.{RxLow, RxOff, RxSc, Validate}
-use Rattle.macsec_commands.specs.declared.config.EndConfig.{EndConfig}
-use Rattle.macsec_secy.specs.Accepts.{CanAccept}
-use Rattle.macsec_secy.specs.Counting.{new_channel_counters}
-use Rattle.macsec_secy.specs.State.{State, first_options, no_rx_counters, start, tx_options}
-use Rattle.macsec_secy.specs.Step.{frame_fault, sending_of}
-use Rattle.macsec_commands.specs.declared.event.End.{End}
-use Rattle.macsec_commands.specs.declared.event.End.TheVariants.{A, B}
-use Rattle.macsec_commands.specs.declared.event.Event.{Event}
-use Rattle.macsec_commands.specs.declared.event.Event.TheVariants.{Command, Deliver, Send}
-use Rattle.macsec_link_events.specs.declared.Outcome.{Outcome}
-use Rattle.macsec_link_events.specs.declared.Outcome.TheVariants.{Heard}
-use Rattle.macsec_link_events.specs.declared.WorldFault.{WorldFault}
-use Rattle.macsec_link.specs.Acceptance.{IsDeliveredAs, IsOnLink}
-use Rattle.macsec_link.specs.Step.{world_after, world_at, world_step}
-use Rattle.macsec_link.specs.World.{WorldState, end_of, new_world, other_end}
-use Rattle.macsec_link.specs.Faults.{fault_of}
-use Rattle.macsec_link.specs.Trace.{Trace}
 use Rattle.macsec_counterexamples.proofs.Link.SealedFrames.{Sealed, aad_sent, frame_with, sealed, tag_of, with_tag}
 use Rattle.macsec_counterexamples.proofs.Link.TracedSteps.{send_step, sent_by, trace_sent}
 use Rattle.macsec_counterexamples.proofs.Link.WorkedEnds.{Fails, client, counts, gcm_a, gcm_b, installed_key, log, new_key, no_salt}

@@ -1,24 +1,9 @@
 -- A run that meets the premises of the law of acceptance, for a frame as sent and for the padded frame. So the premises
 -- can be met.
-use Rattle.std.proofs.Common.{◌≡◌, inl, inr, ℕ, Bool, List, [], ◌∷◌, refl, true, false, arith}
-use Rattle.std.specs.Prelude.{replicate, Some, None}
-use Rattle.macsec_tag.specs.Frame.{MpduParts}
-use Rattle.macsec_suite.specs.declared.suite.Suite.{Suite}
-use Rattle.macsec_suite.specs.declared.suite.Suite.TheVariants.{Gcm128, Xpn128}
-use Rattle.macsec_suite.specs.KeyRows.{the_key}
-use Rattle.macsec_tx.specs.declared.TxRow.{TxRow}
-use Rattle.macsec_tx.specs.Transmit.{parts_sent}
-use Rattle.macsec_rx.specs.declared.RxRow.{RxRow}
-use Rattle.macsec_commands.specs.declared.command.Command.TheVariants.{Key, RxOn, RxSa, RxSc, TxOn, TxSa}
-use Rattle.macsec_secy.specs.Accepts.{CanAccept}
-use Rattle.macsec_secy.specs.State.{State, tx_options}
-use Rattle.macsec_secy.specs.Step.{frame_fault, sending_of}
-use Rattle.macsec_commands.specs.declared.event.End.TheVariants.{A, B}
-use Rattle.macsec_commands.specs.declared.event.Event.{Event}
-use Rattle.macsec_commands.specs.declared.event.Event.TheVariants.{Command, Send, Pad}
-use Rattle.macsec_link.specs.Acceptance.{IsOnLink}
-use Rattle.macsec_link.specs.Step.{world_at}
-use Rattle.macsec_link.specs.World.{WorldState, end_of}
+use Rattle.macsec_counterexamples.proofs.Link.Names.{◌≡◌, inl, inr, ℕ, Bool, List, [], ◌∷◌, refl, true, false, arith, replicate, Some, None}
+use Rattle.macsec_counterexamples.proofs.Link.Names.{MpduParts, Suite, Gcm128, Xpn128, the_key, TxRow, parts_sent, RxRow, Key, RxOn, RxSa, RxSc, TxOn}
+use Rattle.macsec_counterexamples.proofs.Link.Names.{TxSa, CanAccept, State, tx_options, frame_fault, sending_of, A, B, Event, Command, Send, Pad}
+use Rattle.macsec_counterexamples.proofs.Link.Names.{IsOnLink, world_at, WorldState, end_of}
 use Rattle.macsec_counterexamples.proofs.Link.WorkedEnds.{client, config, new_key, sci_a, sci_b}
 
 abbrev pub salt : List ℕ

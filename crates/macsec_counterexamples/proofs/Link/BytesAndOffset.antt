@@ -1,36 +1,18 @@
 -- Acceptance needs the same key bytes and, for encrypted frames, the same confidentiality offset. With others at B
 -- another tag is valid, and the tag of A's frame is not. The first octets of both tags are computed, by AES and GHASH.
-use Rattle.std.proofs.Common.{◌≡◌, ℕ, Bool, true, false, List, [], ◌∷◌, ◌++◌, length, refl, ap, sym, ◌∙◌, arith}
-use Rattle.std.specs.Prelude.{◌==◌, ◌&&◌, bit_xor, drop, replicate, slice_index, slice_range, take, if◌then◌else◌, Some, None}
+use Rattle.macsec_counterexamples.proofs.Link.Names.{◌≡◌, ℕ, Bool, true, false, List, [], ◌∷◌, ◌++◌, length, refl, ap, sym, ◌∙◌, arith, ◌==◌, ◌&&◌}
+use Rattle.macsec_counterexamples.proofs.Link.Names.{bit_xor, drop, replicate, slice_index, slice_range, take, if◌then◌else◌, Some, None, w128}
+use Rattle.macsec_counterexamples.proofs.Link.Names.{to_be_bytes, K128, add_round_key, added_word, aes, after_rounds, key_expansion, key_words}
+use Rattle.macsec_counterexamples.proofs.Link.Names.{mix_columns, rot_word, round_key, shift_rows, sub_bytes, sub_word, sum_of_words}
+use Rattle.macsec_counterexamples.proofs.Link.Names.{affine_transformation, byte_product, inverse, polynomial_product, remainder, s_box, sum_below}
+use Rattle.macsec_counterexamples.proofs.Link.Names.{authentication_tag, gctr, hash_subkey, inc32, length_block, open_of, pre_counter_block, seal_of}
+use Rattle.macsec_counterexamples.proofs.Link.Names.{same_octets, in_a_row, parts_at, Tag, NewKey, Gcm128, InstalledKey, aad_and_plaintext, TxRow}
+use Rattle.macsec_counterexamples.proofs.Link.Names.{iv_sent, parts_sent, tag_sent, NotValid, at_row, judge_opened, judgement_of, State, rx_options}
+use Rattle.macsec_counterexamples.proofs.Link.Names.{start, tx_options, A, B, Event, Deliver, Send, world_step, WorldState}
 use Rattle.std.specs.Cmp.Lexicographic.{same_text}
-use Rattle.std.specs.Int.{w128, to_be_bytes}
-use Rattle.macsec_aes.specs.declared.Key.TheVariants.{K128}
-use Rattle.macsec_aes.specs.Aes.{add_round_key, added_word, aes, after_rounds, key_expansion, key_words, mix_columns}
-use Rattle.macsec_aes.specs.Aes.{rot_word, round_key, shift_rows, sub_bytes, sub_word, sum_of_words}
-use Rattle.macsec_aes.specs.Field.{affine_transformation, byte_product, inverse, polynomial_product, remainder, s_box, sum_below}
 use Rattle.macsec_field128.specs.Field.{block_product, times_x}
 use Rattle.macsec_field128.specs.Field as field128
 use Rattle.macsec_ghash.specs.Ghash.{block_of, blocks_of, ghash, pad}
-use Rattle.macsec_gcm.specs.Gcm.{authentication_tag, gctr, hash_subkey, inc32, length_block, open_of, pre_counter_block, seal_of}
-use Rattle.macsec_gcm.specs.Octets.{same_octets}
-use Rattle.macsec_tag.specs.Frame.{in_a_row}
-use Rattle.macsec_tag.specs.Table.{parts_at}
-use Rattle.macsec_tag.specs.Tag.{Tag}
-use Rattle.macsec_suite.specs.declared.key_row.NewKey.{NewKey}
-use Rattle.macsec_suite.specs.declared.suite.Suite.TheVariants.{Gcm128}
-use Rattle.macsec_suite.specs.KeyRows.{InstalledKey}
-use Rattle.macsec_suite.specs.Parts.{aad_and_plaintext}
-use Rattle.macsec_tx.specs.declared.TxRow.{TxRow}
-use Rattle.macsec_tx.specs.Transmit.{iv_sent, parts_sent, tag_sent}
-use Rattle.macsec_rx.specs.declared.Verdict.TheVariants.{NotValid}
-use Rattle.macsec_rx.specs.Judge.{at_row, judge_opened}
-use Rattle.macsec_secy.specs.Reception.{judgement_of}
-use Rattle.macsec_secy.specs.State.{State, rx_options, start, tx_options}
-use Rattle.macsec_commands.specs.declared.event.End.TheVariants.{A, B}
-use Rattle.macsec_commands.specs.declared.event.Event.{Event}
-use Rattle.macsec_commands.specs.declared.event.Event.TheVariants.{Deliver, Send}
-use Rattle.macsec_link.specs.Step.{world_step}
-use Rattle.macsec_link.specs.World.{WorldState}
 use Rattle.macsec_counterexamples.proofs.Link.AcceptancePremises.{Holds, HoldsIn, LawWithout, Premise, SameBytes, SameOffset, each_but, fails_by, frame_from}
 use Rattle.macsec_counterexamples.proofs.Link.AcceptancePremises.{heard, key_row, seals_as_frame, state_b, tag_from, world_before, world_sent}
 use Rattle.macsec_counterexamples.proofs.Link.KeyPremises.{answered, cover}

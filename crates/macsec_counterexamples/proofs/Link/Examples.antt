@@ -1,24 +1,13 @@
 -- Worked events of the definitions: the limits of the link, and the order of the faults.
-use Rattle.std.proofs.Common.{◌≡◌, ℕ, ◌+◌, ◌^◌, [], ◌∷◌, ◌++◌, refl, true}
-use Rattle.std.specs.Int.{from_be_bytes, to_be_bytes, w32}
-use Rattle.std.specs.Prelude.{replicate, Some, None, Result, Ok, Err}
-use Rattle.macsec_suite.specs.declared.suite.Suite.TheVariants.{Gcm128}
+use Rattle.macsec_counterexamples.proofs.Link.Names.{◌≡◌, ℕ, ◌+◌, ◌^◌, [], ◌∷◌, ◌++◌, refl, true, from_be_bytes, to_be_bytes, w32, replicate, Some}
+use Rattle.macsec_counterexamples.proofs.Link.Names.{None, Result, Ok, Err, Gcm128, Protect, EndConfig, A, B, Event, Command, Send, SendUncontrolled}
+use Rattle.macsec_counterexamples.proofs.Link.Names.{Deliver, Alter, Pad, Inject, Outcome, Done, Made, Dropped, Heard, WorldFault, WorldState}
+use Rattle.macsec_counterexamples.proofs.Link.Names.{new_world, padded_frame, results_of, world_step, make_fault}
 use Rattle.macsec_commands.specs.declared.form.TagForm.TheVariants as form
 use Rattle.macsec_rx.specs.declared.Verdict.TheVariants as verdict
-use Rattle.macsec_commands.specs.declared.command.Command.TheVariants.{Protect}
 use Rattle.macsec_secy.specs.declared.answers.DropReason.TheVariants as reason
-use Rattle.macsec_commands.specs.declared.config.EndConfig.{EndConfig}
 use Rattle.macsec_commands.specs.declared.fault.NewFault.TheVariants.{MaxFrame}
-use Rattle.macsec_commands.specs.declared.event.End.TheVariants.{A, B}
-use Rattle.macsec_commands.specs.declared.event.Event.{Event}
-use Rattle.macsec_commands.specs.declared.event.Event.TheVariants.{Command, Send, SendUncontrolled, Deliver, Alter, Pad, Inject}
-use Rattle.macsec_link_events.specs.declared.Outcome.{Outcome}
-use Rattle.macsec_link_events.specs.declared.Outcome.TheVariants.{Done, Made, Dropped, Heard}
-use Rattle.macsec_link_events.specs.declared.WorldFault.{WorldFault}
 use Rattle.macsec_link_events.specs.declared.WorldFault.TheVariants as fault
-use Rattle.macsec_link.specs.World.{WorldState, new_world}
-use Rattle.macsec_link.specs.Step.{padded_frame, results_of, world_step}
-use Rattle.macsec_link.specs.Answers.{make_fault}
 
 abbrev config : ℕ → ℕ → EndConfig
 config max_frame last = record { suite = Gcm128; sci = record { 0 = 2 ∷ 0 ∷ 0 ∷ 0 ∷ 0 ∷ last ∷ 0 ∷ 1 ∷ [] }; max_frame = max_frame; form = form.Sci }

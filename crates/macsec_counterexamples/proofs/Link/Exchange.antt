@@ -1,36 +1,13 @@
 -- A run that meets all premises of the laws of origin and order, and delivers: A's client sends two frames, each link
 -- frame is delivered to B at once, and B delivers both client frames in order. The cipher is not computed: all that is
 -- known of a tag is that it has 16 octets and opens.
-use Rattle.std.proofs.Common.{◌≡◌, ℕ, ◌+◌, ◌*◌, List, [], ◌∷◌, ◌++◌, refl, ap, sym, subst, ◌∙◌, arith}
-use Rattle.std.specs.Prelude.{replicate, slice_get, true, false, Some, None}
-use Rattle.macsec_gcm.specs.Gcm.{open_of}
-use Rattle.macsec_tag.specs.Table.{parts_at}
-use Rattle.macsec_suite.specs.declared.suite.Suite.TheVariants.{Gcm128}
-use Rattle.macsec_suite.specs.CipherUses.{CipherUse, cipher_use}
-use Rattle.macsec_suite.specs.KeyRows.{InstalledKey}
-use Rattle.macsec_suite.specs.Suites.{iv_of}
-use Rattle.macsec_tx.specs.declared.TxOptions.{TxOptions}
-use Rattle.macsec_tx.specs.Transmit.{tag_sent}
-use Rattle.macsec_rx.specs.declared.RxRow.{RxRow}
-use Rattle.macsec_rx.specs.declared.Verdict.TheVariants.{Passed}
-use Rattle.macsec_rx.specs.Judge.{at_row, judge_opened}
-use Rattle.macsec_secy.specs.Reception.{judgement_of}
-use Rattle.macsec_secy.specs.declared.options.Options.{Options}
-use Rattle.macsec_secy.specs.declared.counters.RxCounters.{RxCounters}
-use Rattle.macsec_secy.specs.State.{State, first_options, no_counters, no_rx_counters, no_tx_counters, rx_options, start, tx_options}
-use Rattle.macsec_secy.specs.Step.{sending_of}
-use Rattle.macsec_commands.specs.declared.event.End.TheVariants.{A, B}
-use Rattle.macsec_commands.specs.declared.event.Event.{Event}
-use Rattle.macsec_commands.specs.declared.event.Event.TheVariants.{Deliver, Send}
-use Rattle.macsec_link.specs.Genuine.{IsGenuine, IsGenuineAt}
-use Rattle.macsec_link.specs.Answers.{make_fault}
-use Rattle.macsec_link.specs.Keys.{AgreeOnKey, AgreeOnKeys}
-use Rattle.macsec_link_logs.specs.Logs.{sent_under}
-use Rattle.macsec_link.specs.Origin.{HasStrictOrder, IsStrict, WhileThere}
-use Rattle.macsec_link.specs.Step.{world_after}
-use Rattle.macsec_link.specs.World.{WorldState, new_world}
-use Rattle.macsec_link.specs.Trace.{Mark, Trace, new_trace, trace_after, trace_step}
-use Rattle.macsec_link.proofs.Moments.{world_of_trace}
+use Rattle.macsec_counterexamples.proofs.Link.Names.{◌≡◌, ℕ, ◌+◌, ◌*◌, List, [], ◌∷◌, ◌++◌, refl, ap, sym, subst, ◌∙◌, arith, replicate, slice_get}
+use Rattle.macsec_counterexamples.proofs.Link.Names.{true, false, Some, None, open_of, parts_at, Gcm128, CipherUse, cipher_use, InstalledKey, iv_of}
+use Rattle.macsec_counterexamples.proofs.Link.Names.{TxOptions, tag_sent, RxRow, Passed, at_row, judge_opened, judgement_of, Options, RxCounters}
+use Rattle.macsec_counterexamples.proofs.Link.Names.{State, first_options, no_counters, no_rx_counters, no_tx_counters, rx_options, start, tx_options}
+use Rattle.macsec_counterexamples.proofs.Link.Names.{sending_of, A, B, Event, Deliver, Send, IsGenuine, IsGenuineAt, make_fault, AgreeOnKey}
+use Rattle.macsec_counterexamples.proofs.Link.Names.{AgreeOnKeys, sent_under, HasStrictOrder, IsStrict, WhileThere, world_after, WorldState}
+use Rattle.macsec_counterexamples.proofs.Link.Names.{new_world, Mark, Trace, new_trace, trace_after, trace_step, world_of_trace}
 use Rattle.macsec_counterexamples.proofs.Link.SealedFrames.{Sealed, aad_sent, frame_with, items, opens, parts_with, sealed, tag_of, with_tag}
 use Rattle.macsec_counterexamples.proofs.Link.TracedSteps.{AtEach, WhileLive, after_both, at_moment, deliver_step, each_append}
 use Rattle.macsec_counterexamples.proofs.Link.TracedSteps.{genuine_append, genuine_at, genuine_next, live_next, send_step, sent_by}

@@ -1,38 +1,20 @@
 -- What was sealed and arrives in time is genuine when an end opens it. So for each frame within the premises of the law
 -- of acceptance, at both ends, padded or not, the premise of the laws of origin and order holds that no tag is forged.
-use Rattle.std.proofs.Common.{◌≡◌, inl, inr, ℕ, zero, suc, ◌<◌, List, [], ◌∷◌, ◌++◌, length, take, refl, ap, sym, subst, ◌∙◌, arith, Contains}
-use Rattle.std.specs.Prelude.{slice_get, Some, None, IfSome}
+use Rattle.macsec_counterexamples.proofs.Link.Names.{◌≡◌, inl, inr, ℕ, zero, suc, ◌<◌, List, [], ◌∷◌, ◌++◌, length, take, refl, ap, sym, subst, ◌∙◌}
+use Rattle.macsec_counterexamples.proofs.Link.Names.{arith, Contains, slice_get, Some, None, IfSome, MpduParts, in_a_row, reading, InstalledKey}
+use Rattle.macsec_counterexamples.proofs.Link.Names.{the_key, CipherUse, TxRow, parts_sent, RxRow, Passed, Judgement, at_row, EndConfig, CanAccept}
+use Rattle.macsec_counterexamples.proofs.Link.Names.{State, tx_options, frame_fault, sending_of, End, Event, Deliver, Send, IsOnLink, fault_of}
+use Rattle.macsec_counterexamples.proofs.Link.Names.{IsGenuineAt, use_opened, use_opened_in, world_after, world_at, world_step, Trace}
+use Rattle.macsec_counterexamples.proofs.Link.Names.{added_unless_fault, new_seals, new_trace, seals_by, use_sealed_by, trace_after, trace_of}
+use Rattle.macsec_counterexamples.proofs.Link.Names.{trace_step, WorldState, end_of, frame_at, new_world, other_end, IsMember, contained}
+use Rattle.macsec_counterexamples.proofs.Link.Names.{world_of_trace}
 use Rattle.std.proofs.lemmas.List.Elements.{Contains-append_left}
-use Rattle.macsec_tag.specs.Frame.{MpduParts, in_a_row}
-use Rattle.macsec_tag.specs.Table.{reading}
-use Rattle.macsec_suite.specs.KeyRows.{InstalledKey, the_key}
-use Rattle.macsec_suite.specs.CipherUses.{CipherUse}
-use Rattle.macsec_tx.specs.declared.TxRow.{TxRow}
-use Rattle.macsec_tx.specs.Transmit.{parts_sent}
-use Rattle.macsec_rx.specs.declared.RxRow.{RxRow}
-use Rattle.macsec_rx.specs.declared.Verdict.TheVariants.{Passed}
-use Rattle.macsec_rx.specs.Judge.{Judgement, at_row}
-use Rattle.macsec_commands.specs.declared.config.EndConfig.{EndConfig}
-use Rattle.macsec_secy.specs.Accepts.{CanAccept}
 use Rattle.macsec_secy.specs.Sound as endpoint
-use Rattle.macsec_secy.specs.State.{State, tx_options}
-use Rattle.macsec_secy.specs.Step.{frame_fault, sending_of}
-use Rattle.macsec_commands.specs.declared.event.End.{End}
-use Rattle.macsec_commands.specs.declared.event.Event.{Event}
-use Rattle.macsec_commands.specs.declared.event.Event.TheVariants.{Deliver, Send}
-use Rattle.macsec_link.specs.Acceptance.{IsOnLink}
-use Rattle.macsec_link.specs.Faults.{fault_of}
-use Rattle.macsec_link.specs.Genuine.{IsGenuineAt, use_opened, use_opened_in}
 use Rattle.macsec_link.specs.Sound.{IsSound}
-use Rattle.macsec_link.specs.Step.{world_after, world_at, world_step}
-use Rattle.macsec_link.specs.Trace.{Trace, added_unless_fault, new_seals, new_trace, seals_by, use_sealed_by, trace_after, trace_of, trace_step}
-use Rattle.macsec_link.specs.World.{WorldState, end_of, frame_at, new_world, other_end}
 use Rattle.macsec_link.proofs.Accepted.{LawOfStep, StandsWith, stands_with}
 use Rattle.macsec_link.proofs.EndpointLaws.{EndpointLaws}
 use Rattle.macsec_link.proofs.LinkFrames.{finds}
-use Rattle.macsec_link.proofs.Members.{IsMember, contained}
 use Rattle.macsec_link.specs.Beginnings.{AreSound}
-use Rattle.macsec_link.proofs.Moments.{world_of_trace}
 use Rattle.macsec_link.proofs.Seals.{fits, sound_end}
 use Rattle.macsec_link.proofs.SentStands.{stands_on_link, stays_on_link}
 

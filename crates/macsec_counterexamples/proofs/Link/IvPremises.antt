@@ -1,20 +1,9 @@
 -- The law on packet numbers needs each premise: without it there is a run in which two uses of the cipher have the same
 -- key bytes and the same IV.
-use Rattle.std.proofs.Common.{◌≡◌, ◌≢◌, ℕ, true, List, [], ◌∷◌, refl, AllPairs, arith, Contains}
-use Rattle.std.specs.Prelude.{replicate}
-use Rattle.macsec_gcm.specs.Octets.{sum_with_stream}
-use Rattle.macsec_tag.specs.declared.identifiers.Sci.{Sci}
-use Rattle.macsec_suite.specs.declared.suite.Suite.TheVariants.{Gcm128}
-use Rattle.macsec_suite.specs.CipherUses.{CipherUse}
-use Rattle.macsec_suite.specs.Suites.{is_xpn}
-use Rattle.macsec_suite.specs.KeyRows.{InstalledKey}
-use Rattle.macsec_commands.specs.declared.config.EndConfig.{EndConfig}
-use Rattle.macsec_commands.specs.declared.event.Event.{Event}
-use Rattle.macsec_link.specs.Keys.{AgreeOnKey, AgreeOnKeys, DifferInSsci}
-use Rattle.macsec_link.specs.Step.{world_after}
-use Rattle.macsec_link.specs.Trace.{trace_of}
+use Rattle.macsec_counterexamples.proofs.Link.Names.{◌≡◌, ◌≢◌, ℕ, true, List, [], ◌∷◌, refl, AllPairs, arith, Contains, replicate, sum_with_stream}
+use Rattle.macsec_counterexamples.proofs.Link.Names.{Sci, Gcm128, CipherUse, is_xpn, InstalledKey, EndConfig, Event, AgreeOnKey, AgreeOnKeys}
+use Rattle.macsec_counterexamples.proofs.Link.Names.{DifferInSsci, world_after, trace_of, WorldState, new_world}
 use Rattle.macsec_link.specs.UniqueIvs.{HasOtherIv}
-use Rattle.macsec_link.specs.World.{WorldState, new_world}
 use Rattle.macsec_counterexamples.proofs.Link.WorkedEnds.{Fails, both_send, config, gcm_a, new_key, no_salt, of_two, sci_a, sci_b, scis_differ, xpn_a, xpn_b}
 
 abbrev no_use : CipherUse

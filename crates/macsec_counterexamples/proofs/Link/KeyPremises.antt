@@ -1,29 +1,13 @@
 -- With extended packet numbers, acceptance needs the same salt and SSCI. With others at B its IV differs, and the tag
 -- does not open. Two blocks of AES are computed for each.
-use Rattle.std.proofs.Common.{◌≡◌, ◌≢◌, ℕ, false, List, [], ◌∷◌, ◌++◌, refl, ap, arith}
-use Rattle.std.specs.Prelude.{◌==◌, replicate, slice_index, None}
-use Rattle.std.proofs.lemmas.Bool.{eqb-false, ne_eqb}
-use Rattle.macsec_aes.specs.Aes.{add_round_key, added_word, aes, after_rounds, key_expansion, key_words, mix_columns}
-use Rattle.macsec_aes.specs.Aes.{rot_word, round_key, shift_rows, sub_bytes, sub_word, sum_of_words}
-use Rattle.macsec_aes.specs.Field.{affine_transformation, byte_product, inverse, polynomial_product, remainder, s_box, sum_below}
-use Rattle.macsec_gcm.specs.Gcm.{authentication_tag, gctr, open_of, pre_counter_block, seal_of}
-use Rattle.macsec_gcm.specs.Octets.{sum_with_stream}
-use Rattle.macsec_tag.specs.Table.{parts_at}
-use Rattle.macsec_suite.specs.declared.suite.Suite.TheVariants.{Xpn128}
-use Rattle.macsec_suite.specs.Suites.{iv_of}
-use Rattle.macsec_rx.specs.declared.RxRow.{RxRow}
-use Rattle.macsec_rx.specs.declared.Verdict.TheVariants.{NotValid}
-use Rattle.macsec_rx.specs.Judge.{Judgement, at_row, judge_opened}
-use Rattle.macsec_secy.specs.Reception.{judgement_of}
-use Rattle.macsec_secy.specs.State.{State, rx_options, start, tx_options}
-use Rattle.macsec_secy.specs.Step.{frame_fault}
-use Rattle.macsec_tx.specs.Transmit.{iv_sent}
-use Rattle.macsec_commands.specs.declared.event.End.TheVariants.{A, B}
-use Rattle.macsec_commands.specs.declared.event.Event.{Event}
-use Rattle.macsec_commands.specs.declared.event.Event.TheVariants.{Deliver, Send}
-use Rattle.macsec_link.specs.Faults.{fault_of}
-use Rattle.macsec_link.specs.Step.{world_step}
-use Rattle.macsec_link.specs.World.{WorldState, frame_at}
+use Rattle.macsec_counterexamples.proofs.Link.Names.{◌≡◌, ◌≢◌, ℕ, false, List, [], ◌∷◌, ◌++◌, refl, ap, arith, ◌==◌, replicate, slice_index, None}
+use Rattle.macsec_counterexamples.proofs.Link.Names.{eqb-false, ne_eqb, add_round_key, added_word, aes, after_rounds, key_expansion, key_words}
+use Rattle.macsec_counterexamples.proofs.Link.Names.{mix_columns, rot_word, round_key, shift_rows, sub_bytes, sub_word, sum_of_words}
+use Rattle.macsec_counterexamples.proofs.Link.Names.{affine_transformation, byte_product, inverse, polynomial_product, remainder, s_box, sum_below}
+use Rattle.macsec_counterexamples.proofs.Link.Names.{authentication_tag, gctr, open_of, pre_counter_block, seal_of, sum_with_stream, parts_at, Xpn128}
+use Rattle.macsec_counterexamples.proofs.Link.Names.{iv_of, RxRow, NotValid, Judgement, at_row, judge_opened, judgement_of, State, rx_options, start}
+use Rattle.macsec_counterexamples.proofs.Link.Names.{tx_options, frame_fault, iv_sent, A, B, Event, Deliver, Send, fault_of, world_step, WorldState}
+use Rattle.macsec_counterexamples.proofs.Link.Names.{frame_at}
 use Rattle.macsec_counterexamples.proofs.Link.AcceptancePremises.{HoldsIn, LawWithout, SameSalt, SameSsci, each_but, fails_by, frame_from, heard}
 use Rattle.macsec_counterexamples.proofs.Link.AcceptancePremises.{key_row, seals_as_frame, state_b, tag_from, world_before, world_sent}
 use Rattle.macsec_counterexamples.proofs.Link.Ivs.{xor_same}

@@ -1,34 +1,15 @@
 -- The laws of origin and order need two premises. If a tag is forged, B delivers a frame that A never sent. In the mode
 -- Check it does so without any forged tag, and the promise stays broken in the mode Strict: of two frames that differ
 -- only in the ICV at most one opens, and the other one is delivered as Invalid.
-use Rattle.std.proofs.Common.{◌≡◌, ◌⊎◌, inl, inr, ℕ, zero, suc, ◌≤◌, false, List, [], ◌∷◌, ◌++◌, length, refl, ap, sym, subst, ◌∙◌, arith, Contains}
-use Rattle.std.specs.Prelude.{◌==◌, replicate, Some}
-use Rattle.std.proofs.lemmas.Bool.{ne_eqb}
-use Rattle.std.proofs.lemmas.List.{take_all}
-use Rattle.macsec_tag.specs.Table.{parts_at}
-use Rattle.macsec_suite.specs.KeyRows.{InstalledKey}
-use Rattle.macsec_commands.specs.declared.mode.Mode.TheVariants.{Check, Strict}
-use Rattle.macsec_rx.specs.declared.Verdict.TheVariants.{Invalid, Passed}
-use Rattle.macsec_rx.specs.Judge.{at_row, judge_opened}
-use Rattle.macsec_commands.specs.declared.command.Command.TheVariants.{Validate}
-use Rattle.macsec_commands.specs.declared.config.EndConfig.{EndConfig}
-use Rattle.macsec_secy.specs.declared.options.Options.{Options}
-use Rattle.macsec_secy.specs.Reception.{judgement_of}
-use Rattle.macsec_secy.specs.State.{State, first_options, no_rx_counters, rx_options}
-use Rattle.macsec_commands.specs.declared.event.End.{End}
-use Rattle.macsec_commands.specs.declared.event.End.TheVariants.{B}
-use Rattle.macsec_commands.specs.declared.event.Event.{Event}
-use Rattle.macsec_commands.specs.declared.event.Event.TheVariants.{Command, Deliver, Inject}
-use Rattle.macsec_link.specs.Genuine.{IsGenuine, IsGenuineAt}
-use Rattle.macsec_link.specs.Keys.{AgreeOnKey, AgreeOnKeys}
-use Rattle.macsec_link_logs.specs.Logs.{sent_under}
-use Rattle.macsec_link.specs.Origin.{HasStrictOrder, IsStrict, IsSubsequence, WasSentByOther, WasSentInOrder, WhileThere}
-use Rattle.macsec_link.specs.Step.{world_after, world_at}
-use Rattle.macsec_link.specs.Trace.{Trace, new_trace, trace_after, trace_step}
-use Rattle.macsec_link.specs.World.{WorldState, end_of, new_world}
+use Rattle.macsec_counterexamples.proofs.Link.Names.{◌≡◌, ◌⊎◌, inl, inr, ℕ, zero, suc, ◌≤◌, false, List, [], ◌∷◌, ◌++◌, length, refl, ap, sym, subst}
+use Rattle.macsec_counterexamples.proofs.Link.Names.{◌∙◌, arith, Contains, ◌==◌, replicate, Some, ne_eqb, take_all, parts_at, InstalledKey, Check}
+use Rattle.macsec_counterexamples.proofs.Link.Names.{Strict, Invalid, Passed, at_row, judge_opened, Validate, EndConfig, Options, judgement_of, State}
+use Rattle.macsec_counterexamples.proofs.Link.Names.{first_options, no_rx_counters, rx_options, End, B, Event, Command, Deliver, Inject, IsGenuine}
+use Rattle.macsec_counterexamples.proofs.Link.Names.{IsGenuineAt, AgreeOnKey, AgreeOnKeys, sent_under, HasStrictOrder, IsStrict, IsSubsequence}
+use Rattle.macsec_counterexamples.proofs.Link.Names.{WasSentByOther, WasSentInOrder, WhileThere, world_after, world_at, Trace, new_trace, trace_after}
+use Rattle.macsec_counterexamples.proofs.Link.Names.{trace_step, WorldState, end_of, new_world, world_of_trace}
 use Rattle.macsec_counterexamples.proofs.Link.Exchange.{Opens, aad, at_numbers, client, commands, first_judged, first_opens, first_tag}
 use Rattle.macsec_counterexamples.proofs.Link.Exchange.{is_ready, iv, key_row, link_frame_of, link_frame_with, mark, ready, trace_at}
-use Rattle.macsec_link.proofs.Moments.{world_of_trace}
 use Rattle.macsec_counterexamples.proofs.Link.SealedFrames.{closes, first, tag_of}
 use Rattle.macsec_counterexamples.proofs.Link.TracedSteps.{AtEach, WhileLive, world_of, after_both, at_moment, deliver_step, each_append, genuine_append, genuine_at, genuine_next, live_next}
 use Rattle.macsec_counterexamples.proofs.Link.WorkedEnds.{Fails, bytes, gcm_a, gcm_b, of_two, only, rx_from}

@@ -1,12 +1,8 @@
 -- Why the law of order would hold without its premise on the suite. If one end's packet numbers are extended and the
 -- other's have 32 bits, an IV that both can have has only one upper half of the extended packet number, since salt and
 -- SCI stay. So the packet numbers, whose lower halves are in the SecTAG, rise together at both ends.
-use Rattle.std.proofs.Common.{◌≡◌, ℕ, ◌^◌, ◌<◌, List, [], ◌∷◌, ◌++◌, length, take, get_or, ap, sym, ◌∙◌, arith}
-use Rattle.std.specs.Prelude.{◌/◌, ◌%◌}
-use Rattle.std.specs.Int.{w32, w64, to_be_bytes}
-use Rattle.std.proofs.lemmas.List.{get_or_append_left}
-use Rattle.std.proofs.lemmas.Nat.{shr-shr}
-use Rattle.macsec_suite.specs.Suites.{extended_iv}
+use Rattle.macsec_counterexamples.proofs.Link.Names.{◌≡◌, ℕ, ◌^◌, ◌<◌, List, [], ◌∷◌, ◌++◌, length, take, get_or, ap, sym, ◌∙◌, arith, ◌/◌, ◌%◌, w32}
+use Rattle.macsec_counterexamples.proofs.Link.Names.{w64, to_be_bytes, get_or_append_left, shr-shr, extended_iv}
 use Rattle.macsec_counterexamples.proofs.Link.Ivs.{get_or-sum, same_of_4, xor_same}
 
 -- the first four octets of an extended packet number are its upper half

@@ -2,30 +2,13 @@
 -- and the verdict; nor does an event that only creates a link frame. The law on packet numbers covers runs with uses of
 -- the cipher at both ends, also with 32-bit packet numbers, the same SSCI and different salts. An end that was strict
 -- until its SA was deleted may then leave the mode Strict.
-use Rattle.std.proofs.Common.{◌≡◌, ◌≢◌, ℕ, Bool, true, false, List, [], ◌∷◌, ◌++◌, length, refl, sym, subst, arith}
-use Rattle.std.specs.Prelude.{◌==◌, if◌then◌else◌, replicate, Option, Some, None, IfSome, Contains}
-use Rattle.macsec_tag.specs.Table.{Reading, bad, tagged, untagged}
+use Rattle.macsec_counterexamples.proofs.Link.Names.{◌≡◌, ◌≢◌, ℕ, Bool, true, false, List, [], ◌∷◌, ◌++◌, length, refl, sym, subst, arith, ◌==◌}
+use Rattle.macsec_counterexamples.proofs.Link.Names.{if◌then◌else◌, replicate, Option, Some, None, IfSome, Contains, Reading, bad, tagged, untagged}
+use Rattle.macsec_counterexamples.proofs.Link.Names.{InstalledKey, is_xpn, Check, RxRow, Judgement, RxDel, Validate, EndConfig, judgement_of, State}
+use Rattle.macsec_counterexamples.proofs.Link.Names.{End, B, Event, Alter, Command, Deliver, Inject, Pad, Send, SendUncontrolled, make_fault}
+use Rattle.macsec_counterexamples.proofs.Link.Names.{IsGenuineAt, use_opened_in, AgreeOnKey, AgreeOnKeys, DifferInSsci, IsStrict, WhileThere}
+use Rattle.macsec_counterexamples.proofs.Link.Names.{world_after, Trace, use_to_open_by, trace_of, end_of, frame_at, new_world}
 use Rattle.macsec_tag.specs.Table as table
-use Rattle.macsec_suite.specs.KeyRows.{InstalledKey}
-use Rattle.macsec_suite.specs.Suites.{is_xpn}
-use Rattle.macsec_commands.specs.declared.mode.Mode.TheVariants.{Check}
-use Rattle.macsec_rx.specs.declared.RxRow.{RxRow}
-use Rattle.macsec_rx.specs.Judge.{Judgement}
-use Rattle.macsec_commands.specs.declared.command.Command.TheVariants.{RxDel, Validate}
-use Rattle.macsec_commands.specs.declared.config.EndConfig.{EndConfig}
-use Rattle.macsec_secy.specs.Reception.{judgement_of}
-use Rattle.macsec_secy.specs.State.{State}
-use Rattle.macsec_commands.specs.declared.event.End.{End}
-use Rattle.macsec_commands.specs.declared.event.End.TheVariants.{B}
-use Rattle.macsec_commands.specs.declared.event.Event.{Event}
-use Rattle.macsec_commands.specs.declared.event.Event.TheVariants.{Alter, Command, Deliver, Inject, Pad, Send, SendUncontrolled}
-use Rattle.macsec_link.specs.Answers.{make_fault}
-use Rattle.macsec_link.specs.Genuine.{IsGenuineAt, use_opened_in}
-use Rattle.macsec_link.specs.Keys.{AgreeOnKey, AgreeOnKeys, DifferInSsci}
-use Rattle.macsec_link.specs.Origin.{IsStrict, WhileThere}
-use Rattle.macsec_link.specs.Step.{world_after}
-use Rattle.macsec_link.specs.Trace.{Trace, use_to_open_by, trace_of}
-use Rattle.macsec_link.specs.World.{end_of, frame_at, new_world}
 use Rattle.macsec_counterexamples.proofs.Link.TracedSteps.{WhileLive, at_moment}
 use Rattle.macsec_counterexamples.proofs.Link.WorkedEnds.{both_send, gcm_a, gcm_b, new_key, no_salt, of_two, receives_from, sci_a, sci_b, scis_differ, xpn_a, xpn_b}
 

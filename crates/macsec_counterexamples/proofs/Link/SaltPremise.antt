@@ -1,36 +1,16 @@
 -- The order of deliveries needs the same salt at both ends. With another salt at B, B can recover another packet number
 -- than A's, and the IV can still be the same. A sends three frames, from ffffffff on; B takes the third as number 1,
 -- and then the first as 1ffffffff.
-use Rattle.std.proofs.Common.{◌≡◌, ◌≢◌, ℕ, get_or, zero, suc, ◌+◌, ◌-◌, ◌*◌, ◌^◌, ◌<◌, false, List, [], ◌∷◌, ◌++◌, refl, ap, sym, subst, ◌∙◌, arith}
-use Rattle.std.specs.Prelude.{replicate, Some}
-use Rattle.macsec_gcm.specs.Gcm.{open_of}
-use Rattle.macsec_gcm.specs.Octets.{sum_with_stream}
-use Rattle.macsec_tag.specs.Table.{parts_at}
-use Rattle.macsec_suite.specs.declared.suite.Suite.TheVariants.{Xpn128}
-use Rattle.macsec_suite.specs.CipherUses.{CipherUse, cipher_use}
-use Rattle.macsec_suite.specs.KeyRows.{InstalledKey}
-use Rattle.macsec_suite.specs.Suites.{iv_of}
-use Rattle.macsec_tx.specs.Transmit.{Sending, tag_sent}
-use Rattle.macsec_rx.specs.declared.RxRow.{RxRow}
-use Rattle.macsec_rx.specs.declared.Verdict.TheVariants.{Passed}
-use Rattle.macsec_rx.specs.Judge.{at_row, judge_opened}
-use Rattle.macsec_commands.specs.declared.command.Command.TheVariants.{RxLow}
-use Rattle.macsec_commands.specs.declared.config.EndConfig.{EndConfig}
-use Rattle.macsec_secy.specs.declared.options.Options.{Options}
-use Rattle.macsec_secy.specs.Reception.{judgement_of}
-use Rattle.macsec_secy.specs.State.{State, first_options, no_counters, no_rx_counters, no_tx_counters, rx_options, start, tx_options}
-use Rattle.macsec_commands.specs.declared.event.End.{End}
-use Rattle.macsec_commands.specs.declared.event.End.TheVariants.{A, B}
-use Rattle.macsec_commands.specs.declared.event.Event.{Event}
-use Rattle.macsec_commands.specs.declared.event.Event.TheVariants.{Command, Deliver, Send}
-use Rattle.macsec_link.specs.Genuine.{IsGenuine, IsGenuineAt}
-use Rattle.macsec_link.specs.Origin.{HasStrictOrder, IsStrict, IsSubsequence, WasSentInOrder, WhileThere}
-use Rattle.macsec_link.specs.Step.{world_after}
-use Rattle.macsec_link.specs.Trace.{Mark, Trace, new_trace, trace_after, trace_step}
-use Rattle.macsec_link.specs.World.{WorldState, new_world}
+use Rattle.macsec_counterexamples.proofs.Link.Names.{◌≡◌, ◌≢◌, ℕ, get_or, zero, suc, ◌+◌, ◌-◌, ◌*◌, ◌^◌, ◌<◌, false, List, [], ◌∷◌, ◌++◌, refl, ap}
+use Rattle.macsec_counterexamples.proofs.Link.Names.{sym, subst, ◌∙◌, arith, replicate, Some, open_of, sum_with_stream, parts_at, Xpn128, CipherUse}
+use Rattle.macsec_counterexamples.proofs.Link.Names.{cipher_use, InstalledKey, iv_of, Sending, tag_sent, RxRow, Passed, at_row, judge_opened, RxLow}
+use Rattle.macsec_counterexamples.proofs.Link.Names.{EndConfig, Options, judgement_of, State, first_options, no_counters, no_rx_counters}
+use Rattle.macsec_counterexamples.proofs.Link.Names.{no_tx_counters, rx_options, start, tx_options, End, A, B, Event, Command, Deliver, Send}
+use Rattle.macsec_counterexamples.proofs.Link.Names.{IsGenuine, IsGenuineAt, HasStrictOrder, IsStrict, IsSubsequence, WasSentInOrder, WhileThere}
+use Rattle.macsec_counterexamples.proofs.Link.Names.{world_after, Mark, Trace, new_trace, trace_after, trace_step, WorldState, new_world}
+use Rattle.macsec_counterexamples.proofs.Link.Names.{world_of_trace}
 use Rattle.macsec_counterexamples.proofs.Link.Exchange.{client, mark}
 use Rattle.macsec_counterexamples.proofs.Link.IvPremises.{AgreeOnSuite, AgreeOnSuites}
-use Rattle.macsec_link.proofs.Moments.{world_of_trace}
 use Rattle.macsec_counterexamples.proofs.Link.SealedFrames.{Sealed, aad_sent, frame_with, items, opens, parts_with, sealed, tag_of, with_tag}
 use Rattle.macsec_counterexamples.proofs.Link.TracedSteps.{AtEach, WhileLive, world_of, after_both, at_moment, deliver_step, each_append}
 use Rattle.macsec_counterexamples.proofs.Link.TracedSteps.{genuine_append, genuine_at, genuine_next, live_next, send_step, sent_by}

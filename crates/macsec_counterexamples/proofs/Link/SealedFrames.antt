@@ -1,16 +1,9 @@
 -- Frames sealed for integrity only, octet by octet. Sealing gives a tag of 16 octets, whatever they are, so runs with
 -- such frames are computed without the cipher.
-use Rattle.std.proofs.Common.{◌≡◌, ℕ, zero, suc, List, [], ◌∷◌, ◌++◌, length, take, drop, true, false, refl, ap, sym, ◌∙◌, arith, eq-eqb}
-use Rattle.std.specs.Prelude.{◌==◌, ◌&&◌, slice_range, if◌then◌else◌, Some, None}
-use Rattle.macsec_gcm.specs.Gcm.{authentication_tag, gctr, open_of, seal_of}
-use Rattle.macsec_gcm.specs.Octets.{same_octets}
-use Rattle.macsec_tag.specs.Frame.{MpduParts, in_a_row}
-use Rattle.macsec_tag.specs.Tag.{Tag}
-use Rattle.macsec_suite.specs.KeyRows.{InstalledKey}
-use Rattle.macsec_suite.specs.Parts.{aad_and_plaintext}
-use Rattle.macsec_tx.specs.declared.TxOptions.{TxOptions}
-use Rattle.macsec_tx.specs.declared.TxRow.{TxRow}
-use Rattle.macsec_tx.specs.Transmit.{tag_sent}
+use Rattle.macsec_counterexamples.proofs.Link.Names.{◌≡◌, ℕ, zero, suc, List, [], ◌∷◌, ◌++◌, length, take, drop, true, false, refl, ap, sym, ◌∙◌}
+use Rattle.macsec_counterexamples.proofs.Link.Names.{arith, eq-eqb, ◌==◌, ◌&&◌, slice_range, if◌then◌else◌, Some, None, authentication_tag, gctr}
+use Rattle.macsec_counterexamples.proofs.Link.Names.{open_of, seal_of, same_octets, MpduParts, in_a_row, Tag, InstalledKey, aad_and_plaintext}
+use Rattle.macsec_counterexamples.proofs.Link.Names.{TxOptions, TxRow, tag_sent}
 
 -- ---- a list of a known length, element by element
 

@@ -1,23 +1,11 @@
 -- One event of a trace, from the endpoint's result. So a worked run continues from a world that is written out, and
 -- never computes earlier events again.
-use Rattle.std.proofs.Common.{◌≡◌, ℕ, ◌≤◌, zero, suc, List, [], ◌∷◌, ◌++◌, length, take, refl, ap, sym, subst, arith}
-use Rattle.std.specs.Prelude.{slice_get, true, Some, None, IfSome, Contains}
-use Rattle.macsec_tag.specs.Table.{reading}
-use Rattle.macsec_suite.specs.CipherUses.{CipherUse}
-use Rattle.macsec_tx.specs.declared.TxRow.{TxRow}
-use Rattle.macsec_tx.specs.Transmit.{Sending, protected}
-use Rattle.macsec_rx.specs.Judge.{Judgement}
-use Rattle.macsec_secy.specs.State.{State}
-use Rattle.macsec_secy.specs.Step.{client_frame, frame_fault, leaves, link_frame, received_output, sending_of, state_after_sending}
-use Rattle.macsec_secy.specs.Reception.{judgement_of, state_after_receiving}
-use Rattle.macsec_commands.specs.declared.event.End.TheVariants.{A, B}
-use Rattle.macsec_commands.specs.declared.event.Event.{Event}
-use Rattle.macsec_commands.specs.declared.event.Event.TheVariants.{Deliver, Send}
-use Rattle.macsec_link.specs.Faults.{fault_of}
-use Rattle.macsec_link.specs.Genuine.{IsGenuine, IsGenuineAt, use_opened, use_opened_in}
-use Rattle.macsec_link.specs.Step.{world_after, world_step}
-use Rattle.macsec_link.specs.Trace.{Trace, marks_by, use_sealed_by, trace_after, trace_step}
-use Rattle.macsec_link.specs.World.{WorldState, frame_at}
+use Rattle.macsec_counterexamples.proofs.Link.Names.{◌≡◌, ℕ, ◌≤◌, zero, suc, List, [], ◌∷◌, ◌++◌, length, take, refl, ap, sym, subst, arith}
+use Rattle.macsec_counterexamples.proofs.Link.Names.{slice_get, true, Some, None, IfSome, Contains, reading, CipherUse, TxRow, Sending, protected}
+use Rattle.macsec_counterexamples.proofs.Link.Names.{Judgement, State, client_frame, frame_fault, leaves, link_frame, received_output, sending_of}
+use Rattle.macsec_counterexamples.proofs.Link.Names.{state_after_sending, judgement_of, state_after_receiving, A, B, Event, Deliver, Send, fault_of}
+use Rattle.macsec_counterexamples.proofs.Link.Names.{IsGenuine, IsGenuineAt, use_opened, use_opened_in, world_after, world_step, Trace, marks_by}
+use Rattle.macsec_counterexamples.proofs.Link.Names.{use_sealed_by, trace_after, trace_step, WorldState, frame_at}
 use Rattle.macsec_link_logs.specs.Ends.{end_after}
 
 abbrev pub world_of : Trace → WorldState

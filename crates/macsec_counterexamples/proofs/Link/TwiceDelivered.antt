@@ -1,33 +1,15 @@
 -- The order of deliveries needs replay protection with a window of 0, at every moment. With it off, or with a window of
 -- 1, one frame is delivered twice, though no tag is forged, B validates strictly, and B has both settings afterwards.
 -- With it off, the later packet number is not above the earlier one either.
-use Rattle.std.proofs.Common.{◌≡◌, ℕ, zero, suc, ◌+◌, ◌<◌, Bool, true, false, List, [], ◌∷◌, ◌++◌, refl, ap, sym, subst, ◌∙◌, arith, AllPairs}
-use Rattle.std.specs.Prelude.{Some}
-use Rattle.macsec_tag.specs.Table.{parts_at}
-use Rattle.macsec_rx.specs.declared.RxRow.{RxRow}
-use Rattle.macsec_rx.specs.declared.Verdict.{Verdict}
-use Rattle.macsec_rx.specs.declared.Verdict.TheVariants.{Delayed, Passed}
-use Rattle.macsec_rx.specs.Judge.{at_row, judge_opened}
-use Rattle.macsec_commands.specs.declared.command.Command.TheVariants.{Replay}
-use Rattle.macsec_commands.specs.declared.config.EndConfig.{EndConfig}
-use Rattle.macsec_secy.specs.declared.options.Options.{Options}
-use Rattle.macsec_secy.specs.declared.counters.RxCounters.{RxCounters}
-use Rattle.macsec_secy.specs.Reception.{judgement_of}
-use Rattle.macsec_secy.specs.State.{State, first_options, no_rx_counters, rx_options}
-use Rattle.macsec_secy.specs.Step.{sending_of}
-use Rattle.macsec_commands.specs.declared.event.End.{End}
-use Rattle.macsec_commands.specs.declared.event.End.TheVariants.{A, B}
-use Rattle.macsec_commands.specs.declared.event.Event.{Event}
-use Rattle.macsec_commands.specs.declared.event.Event.TheVariants.{Command, Deliver, Send}
-use Rattle.macsec_link.specs.Genuine.{IsGenuine, IsGenuineAt}
-use Rattle.macsec_link.specs.Keys.{AgreeOnKey, AgreeOnKeys}
-use Rattle.macsec_link.specs.Origin.{HasStrictOrder, IsStrict, IsSubsequence, WasSentInOrder, WhileThere}
-use Rattle.macsec_link.specs.Step.{world_after}
-use Rattle.macsec_link.specs.Trace.{Mark, Trace, marks_of, new_trace, trace_after, trace_of, trace_step}
-use Rattle.macsec_link.specs.World.{WorldState, end_of, new_world}
+use Rattle.macsec_counterexamples.proofs.Link.Names.{◌≡◌, ℕ, zero, suc, ◌+◌, ◌<◌, Bool, true, false, List, [], ◌∷◌, ◌++◌, refl, ap, sym, subst, ◌∙◌}
+use Rattle.macsec_counterexamples.proofs.Link.Names.{arith, AllPairs, Some, parts_at, RxRow, Verdict, Delayed, Passed, at_row, judge_opened, Replay}
+use Rattle.macsec_counterexamples.proofs.Link.Names.{EndConfig, Options, RxCounters, judgement_of, State, first_options, no_rx_counters, rx_options}
+use Rattle.macsec_counterexamples.proofs.Link.Names.{sending_of, End, A, B, Event, Command, Deliver, Send, IsGenuine, IsGenuineAt, AgreeOnKey}
+use Rattle.macsec_counterexamples.proofs.Link.Names.{AgreeOnKeys, HasStrictOrder, IsStrict, IsSubsequence, WasSentInOrder, WhileThere, world_after}
+use Rattle.macsec_counterexamples.proofs.Link.Names.{Mark, Trace, marks_of, new_trace, trace_after, trace_of, trace_step, WorldState, end_of}
+use Rattle.macsec_counterexamples.proofs.Link.Names.{new_world, world_of_trace}
 use Rattle.macsec_counterexamples.proofs.Link.Exchange.{Opens, aad, client, first_opens, first_tag, iv, key_row, link_frame_of, link_frame_with, trace_at, use_of, use_with}
 use Rattle.macsec_counterexamples.proofs.Link.Exchange as exchange
-use Rattle.macsec_link.proofs.Moments.{world_of_trace}
 use Rattle.macsec_counterexamples.proofs.Link.SealedFrames.{Sealed, sealed}
 use Rattle.macsec_counterexamples.proofs.Link.TracedSteps.{AtEach, WhileLive, after_both, at_moment, deliver_step, each_append}
 use Rattle.macsec_counterexamples.proofs.Link.TracedSteps.{genuine_append, genuine_at, genuine_next, live_next, send_step, sent_by}

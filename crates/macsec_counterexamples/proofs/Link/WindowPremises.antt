@@ -1,21 +1,10 @@
 -- The law of windows needs the premise that the earlier frame was validated. In the mode Check a frame with packet
 -- number 2 and a wrong ICV is delivered as Invalid, the packet numbers of the SA stay, and then the frame with packet
 -- number 1 passes.
-use Rattle.std.proofs.Common.{◌≡◌, ◌⊎◌, ℕ, ◌+◌, ◌<◌, true, false, List, [], ◌∷◌, ◌++◌, refl, ap, subst, ◌∙◌, arith, AllPairs}
-use Rattle.std.specs.Prelude.{replicate, Some}
-use Rattle.macsec_tag.specs.Table.{parts_at}
-use Rattle.macsec_rx.specs.declared.Verdict.TheVariants.{Invalid, Passed}
-use Rattle.macsec_rx.specs.Judge.{at_row, judge_opened}
-use Rattle.macsec_commands.specs.declared.config.EndConfig.{EndConfig}
-use Rattle.macsec_secy.specs.declared.counters.RxCounters.{RxCounters}
-use Rattle.macsec_secy.specs.Reception.{judgement_of}
-use Rattle.macsec_secy.specs.State.{no_rx_counters, rx_options}
-use Rattle.macsec_secy.specs.Step.{sending_of}
-use Rattle.macsec_commands.specs.declared.event.End.{End}
-use Rattle.macsec_commands.specs.declared.event.End.TheVariants.{A, B}
-use Rattle.macsec_commands.specs.declared.event.Event.{Event}
-use Rattle.macsec_commands.specs.declared.event.Event.TheVariants.{Deliver, Inject, Send}
-use Rattle.macsec_link.specs.Trace.{Mark, Trace, marks_of, new_trace, trace_after, trace_of, trace_step}
+use Rattle.macsec_counterexamples.proofs.Link.Names.{◌≡◌, ◌⊎◌, ℕ, ◌+◌, ◌<◌, true, false, List, [], ◌∷◌, ◌++◌, refl, ap, subst, ◌∙◌, arith, AllPairs}
+use Rattle.macsec_counterexamples.proofs.Link.Names.{replicate, Some, parts_at, Invalid, Passed, at_row, judge_opened, EndConfig, RxCounters}
+use Rattle.macsec_counterexamples.proofs.Link.Names.{judgement_of, no_rx_counters, rx_options, sending_of, End, A, B, Event, Deliver, Inject, Send}
+use Rattle.macsec_counterexamples.proofs.Link.Names.{Mark, Trace, marks_of, new_trace, trace_after, trace_of, trace_step}
 use Rattle.macsec_counterexamples.proofs.Link.Exchange.{Opens, aad, client, first_opens, first_tag, iv, key_row, link_frame_of, link_frame_with, mark, trace_at, use_of, use_with}
 use Rattle.macsec_counterexamples.proofs.Link.OriginPremises.{IsOther, commands_check, guessed, in_check, is_in_check, of_one, options_check}
 use Rattle.macsec_counterexamples.proofs.Link.SealedFrames.{Sealed, closes, sealed}

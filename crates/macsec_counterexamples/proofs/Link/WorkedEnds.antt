@@ -1,27 +1,10 @@
 -- The ends of worked runs: their configurations and keys, and the commands by which SA 0 sends or receives.
-use Rattle.std.proofs.Common.{◌≡◌, ◌≢◌, ◌⊎◌, inl, inr, ℕ, true, false, List, [], ◌∷◌, ◌++◌, ap, get_or, subst, Contains}
-use Rattle.std.specs.Prelude.{replicate, Bool, Some, None}
-use Rattle.macsec_aes.specs.declared.Key.TheVariants.{K128}
-use Rattle.macsec_tag.specs.declared.identifiers.Sci.{Sci}
-use Rattle.macsec_suite.specs.declared.key_row.NewKey.{NewKey}
-use Rattle.macsec_suite.specs.declared.suite.Suite.{Suite}
-use Rattle.macsec_suite.specs.declared.suite.Suite.TheVariants.{Gcm128, Xpn128}
-use Rattle.macsec_suite.specs.KeyRows.{InstalledKey}
+use Rattle.macsec_counterexamples.proofs.Link.Names.{◌≡◌, ◌≢◌, ◌⊎◌, inl, inr, ℕ, true, false, List, [], ◌∷◌, ◌++◌, ap, get_or, subst, Contains}
+use Rattle.macsec_counterexamples.proofs.Link.Names.{replicate, Bool, Some, None, K128, Sci, NewKey, Suite, Gcm128, Xpn128, InstalledKey, TxRow}
+use Rattle.macsec_counterexamples.proofs.Link.Names.{RxRow, Key, RxOn, RxSa, RxSc, TxOn, TxSa, EndConfig, End, A, B, Event, Command, Send, RxCounters}
+use Rattle.macsec_counterexamples.proofs.Link.Names.{new_channel_counters, make_fault, DeliveryLog, SentLogs, member}
 use Rattle.macsec_commands.specs.declared.form.TagForm.TheVariants as form
-use Rattle.macsec_tx.specs.declared.TxRow.{TxRow}
-use Rattle.macsec_rx.specs.declared.RxRow.{RxRow}
-use Rattle.macsec_commands.specs.declared.command.Command.TheVariants.{Key, RxOn, RxSa, RxSc, TxOn, TxSa}
-use Rattle.macsec_commands.specs.declared.config.EndConfig.{EndConfig}
-use Rattle.macsec_commands.specs.declared.event.End.{End}
-use Rattle.macsec_commands.specs.declared.event.End.TheVariants.{A, B}
-use Rattle.macsec_commands.specs.declared.event.Event.{Event}
-use Rattle.macsec_commands.specs.declared.event.Event.TheVariants.{Command, Send}
-use Rattle.macsec_secy.specs.declared.counters.RxCounters.{RxCounters}
 use Rattle.macsec_secy.specs.declared.counters.ChannelCounters.{ChannelCounters}
-use Rattle.macsec_secy.specs.Counting.{new_channel_counters}
-use Rattle.macsec_link.specs.Answers.{make_fault}
-use Rattle.macsec_link_logs.specs.Logs.{DeliveryLog, SentLogs}
-use Rattle.macsec_link.proofs.Members.{member}
 
 abbrev pub sci_a : Sci
 sci_a = record { 0 = 2 ∷ 0 ∷ 0 ∷ 0 ∷ 0 ∷ 1 ∷ 0 ∷ 1 ∷ [] }

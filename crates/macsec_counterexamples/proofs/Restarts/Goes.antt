@@ -1,17 +1,11 @@
 -- How a run goes, input by input: what it seals, its last state, and that it is sound at each moment. So a worked run
 -- continues from a state that is written out.
-use Rattle.std.proofs.Common.{◌≡◌, ℕ, zero, suc, Bool, true, false, List, [], ◌∷◌, ◌++◌, take, refl, ap, sym, subst, ◌∙◌}
-use Rattle.std.specs.Prelude.{◌&&◌, ◌||◌, not, nat_lt, nat_le}
-use Rattle.std.proofs.lemmas.Bool.{and_right, lt-leb}
-use Rattle.std.proofs.Common.{◌<◌}
-use Rattle.macsec_suite.specs.CipherUses.{CipherUse}
+use Rattle.macsec_counterexamples.proofs.Restarts.Names.{◌≡◌, ℕ, zero, suc, Bool, true, false, List, [], ◌∷◌, ◌++◌, take, refl, ap, sym, subst, ◌∙◌}
+use Rattle.macsec_counterexamples.proofs.Restarts.Names.{◌&&◌, ◌||◌, not, nat_lt, nat_le, and_right, lt-leb, ◌<◌, CipherUse, IsSound, client_frame}
+use Rattle.macsec_counterexamples.proofs.Restarts.Names.{link_frame, operator_command, step, Reservation, StaysSound, newly_sealed, sealed}
+use Rattle.macsec_counterexamples.proofs.Restarts.Names.{sealed_from, sealed_if, highest, Keeping, KeepingInput, begins_at, endpoint_input}
+use Rattle.macsec_counterexamples.proofs.Restarts.Names.{keeping_after, keeping_step, may_go, was_reserved}
 use Rattle.macsec_commands.specs.declared.command.Command.{Command}
-use Rattle.macsec_secy.specs.Sound.{IsSound}
-use Rattle.macsec_secy.specs.Step.{client_frame, link_frame, operator_command, step}
-use Rattle.macsec_reserve.specs.declared.reservation.Reservation.{Reservation}
-use Rattle.macsec_reserve.specs.Histories.{StaysSound, newly_sealed, sealed, sealed_from, sealed_if}
-use Rattle.macsec_reserve.specs.Journal.{highest}
-use Rattle.macsec_reserve.specs.Keeping.{Keeping, KeepingInput, begins_at, endpoint_input, keeping_after, keeping_step, may_go, was_reserved}
 use Rattle.macsec_reserve.proofs.Steps.{by_tests}
 
 abbrev pub command : Command → KeepingInput

@@ -1,26 +1,13 @@
 -- The first promise needs each premise: without it there are runs that meet the others and seal two frames with the
 -- same key octets and the same IV.
-use Rattle.std.proofs.Common.{◌≡◌, ◌≢◌, ℕ, ◌+◌, ◌<◌, Bool, true, false, List, [], ◌∷◌, ◌++◌, length, refl, ap, sym, subst, ◌∙◌, arith, All, AllPairs, Contains}
-use Rattle.std.proofs.lemmas.List.Elements.{All-cons, All-nil}
+use Rattle.macsec_counterexamples.proofs.Restarts.Names.{◌≡◌, ◌≢◌, ℕ, ◌+◌, ◌<◌, Bool, true, false, List, [], ◌∷◌, ◌++◌, length, refl, ap, sym, subst}
+use Rattle.macsec_counterexamples.proofs.Restarts.Names.{◌∙◌, arith, All, AllPairs, Contains, All-cons, All-nil, compress, digest_bytes, first_words}
+use Rattle.macsec_counterexamples.proofs.Restarts.Names.{hash_after, rounds, schedule, sha256, length-sha256, same_octets, sum_with_stream, CipherUse}
+use Rattle.macsec_counterexamples.proofs.Restarts.Names.{InstalledKey, is_xpn, Reservation, IsReservation, reduced, IsHistory, KeepsDurable, Run}
+use Rattle.macsec_counterexamples.proofs.Restarts.Names.{SameSalt, StaysSound, closing, opening, sealed_in, sealed_in_all, highest, reservations}
+use Rattle.macsec_counterexamples.proofs.Restarts.Names.{sending_name, Keeping, HasOtherIv, highest_of_one, one_alone, reduced_reserves}
+use Rattle.macsec_counterexamples.proofs.Restarts.Names.{same_octets-refl, bytes, of_two}
 use Rattle.std.proofs.lemmas.List.Kept.{AllPairs-cons}
-use Rattle.sha2.specs.Sha256.{compress, digest_bytes, first_words, hash_after, rounds, schedule, sha256}
-use Rattle.sha2.proofs.Facts256.{length-sha256}
-use Rattle.macsec_gcm.specs.Octets.{same_octets, sum_with_stream}
-use Rattle.macsec_suite.specs.CipherUses.{CipherUse}
-use Rattle.macsec_suite.specs.KeyRows.{InstalledKey}
-use Rattle.macsec_suite.specs.Suites.{is_xpn}
-use Rattle.macsec_reserve.specs.declared.reservation.Reservation.{Reservation}
-use Rattle.macsec_reserve.specs.Crashes.{IsReservation}
-use Rattle.macsec_reserve.specs.Entries.{reduced}
-use Rattle.macsec_reserve.specs.Histories.{IsHistory, KeepsDurable, Run, SameSalt, StaysSound, closing, opening, sealed_in, sealed_in_all}
-use Rattle.macsec_reserve.specs.Journal.{highest, reservations, sending_name}
-use Rattle.macsec_reserve.specs.Keeping.{Keeping}
-use Rattle.macsec_reserve.specs.Unique.{HasOtherIv}
-use Rattle.macsec_reserve.proofs.HighestOf.{highest_of_one}
-use Rattle.macsec_reserve.proofs.Pairs.{one_alone}
-use Rattle.macsec_reserve.proofs.Reduced.{reduced_reserves}
-use Rattle.macsec_reserve.proofs.Written.{same_octets-refl}
-use Rattle.macsec_counterexamples.proofs.Link.WorkedEnds.{bytes, of_two}
 use Rattle.macsec_counterexamples.proofs.Restarts.Goes.{Goes}
 use Rattle.macsec_counterexamples.proofs.Restarts.Journals.{journal, salt, salt_is, says}
 use Rattle.macsec_counterexamples.proofs.Restarts.Senders.{AtB, AtBReads, AtBSalted, Extended, OtherSalt, ReadSalt, Sender, Short, at_end, config_of, goes, inputs, kept, key_at, key_salt, number_of, reserves, suite_of, use_of}

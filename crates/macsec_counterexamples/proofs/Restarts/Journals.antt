@@ -1,19 +1,13 @@
 -- The journals of worked runs: a header whose salt ends with eight zeros, so that it reserves nothing even if it reads as
 -- a record, and whole records.
-use Rattle.std.proofs.Common.{◌≡◌, ℕ, ◌≤◌, Bool, true, false, List, [], ◌∷◌, ◌++◌, length, take, drop, refl, ap, ◌∙◌, arith, length-append, All}
-use Rattle.std.specs.Prelude.{codes, replicate, slice_range, max, nat_le, if◌then◌else◌}
+use Rattle.macsec_counterexamples.proofs.Restarts.Names.{◌≡◌, ℕ, ◌≤◌, Bool, true, false, List, [], ◌∷◌, ◌++◌, length, take, drop, refl, ap, ◌∙◌, arith}
+use Rattle.macsec_counterexamples.proofs.Restarts.Names.{length-append, All, codes, replicate, slice_range, max, nat_le, if◌then◌else◌, and_from}
+use Rattle.macsec_counterexamples.proofs.Restarts.Names.{le-leb, sha256, length-sha256, same_octets, Reservation, IsReservation, check_of}
+use Rattle.macsec_counterexamples.proofs.Restarts.Names.{check_of_header, header, highest, is_journal, records_of, reservations, reserved_in, salt_of}
+use Rattle.macsec_counterexamples.proofs.Restarts.Names.{title, highest-append, same_octets-refl}
 use Rattle.std.specs.Int.{w64, from_be_bytes}
-use Rattle.std.proofs.lemmas.Bool.{and_from, le-leb}
 use Rattle.std.proofs.lemmas.List.{drop_at, length-take-le, take_at}
-use Rattle.sha2.specs.Sha256.{sha256}
-use Rattle.sha2.proofs.Facts256.{length-sha256}
-use Rattle.macsec_gcm.specs.Octets.{same_octets}
-use Rattle.macsec_reserve.specs.declared.reservation.Reservation.{Reservation}
-use Rattle.macsec_reserve.specs.Crashes.{IsReservation}
-use Rattle.macsec_reserve.specs.Journal.{check_of, check_of_header, header, highest, is_journal, records_of, reservations, reserved_in, salt_of, title}
 use Rattle.macsec_reserve.proofs.ShorterJournals.{reads_records, reservations_split}
-use Rattle.macsec_reserve.proofs.HighestOf.{highest-append}
-use Rattle.macsec_reserve.proofs.Written.{same_octets-refl}
 
 -- two salts
 abbrev pub salt : Bool → List ℕ

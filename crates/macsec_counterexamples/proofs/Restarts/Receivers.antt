@@ -1,26 +1,15 @@
 -- An endpoint that receives the frame that another one sealed with packet number 1: its commands and its states. The
 -- cipher is not computed: all that is known of the frame's tag is that it opens.
-use Rattle.std.proofs.Common.{◌≡◌, ℕ, ◌<◌, ◌≤◌, Bool, true, false, List, [], ◌∷◌, refl, ap, sym, subst, arith}
-use Rattle.std.specs.Prelude.{◌^◌, Some}
+use Rattle.macsec_counterexamples.proofs.Restarts.Names.{◌≡◌, ℕ, ◌<◌, ◌≤◌, Bool, true, false, List, [], ◌∷◌, refl, ap, sym, subst, arith, ◌^◌, Some}
+use Rattle.macsec_counterexamples.proofs.Restarts.Names.{AreKeyRows, Key, Replay, RxOn, RxSa, RxSc, RxRow, Judgement, at_row, judge_opened}
+use Rattle.macsec_counterexamples.proofs.Restarts.Names.{AreChannels, AreRxRows, effect, judgement_of, state_after_receiving, IsSound, State}
+use Rattle.macsec_counterexamples.proofs.Restarts.Names.{rx_options, start, link_frame, step, TablesHold, after_effect, after_link_frame, at_start}
+use Rattle.macsec_counterexamples.proofs.Restarts.Names.{Reservation, highest, receiving_name, sending_name, KeepingInput, keeping_step, Opens}
+use Rattle.macsec_counterexamples.proofs.Restarts.Names.{key_row, link_frame_of, bytes, gcm_b, new_key, no_salt, rx_from, sci_a}
 use Rattle.macsec_tag.specs.Table.{parts_at}
-use Rattle.macsec_suite.specs.KeyRows.{AreKeyRows}
-use Rattle.macsec_commands.specs.declared.command.Command.TheVariants.{Key, Replay, RxOn, RxSa, RxSc}
-use Rattle.macsec_rx.specs.declared.RxRow.{RxRow}
 use Rattle.macsec_rx.specs.declared.Verdict.{Verdict}
 use Rattle.macsec_rx.specs.declared.Verdict.TheVariants.{Delayed, Passed}
-use Rattle.macsec_rx.specs.Judge.{Judgement, at_row, judge_opened}
-use Rattle.macsec_rx.specs.Rows.{AreChannels, AreRxRows}
-use Rattle.macsec_secy.specs.Commands.{effect}
-use Rattle.macsec_secy.specs.Reception.{judgement_of, state_after_receiving}
-use Rattle.macsec_secy.specs.Sound.{IsSound}
-use Rattle.macsec_secy.specs.State.{State, rx_options, start}
-use Rattle.macsec_secy.specs.Step.{link_frame, step}
-use Rattle.macsec_secy.proofs.StaysSound.{TablesHold, after_effect, after_link_frame, at_start}
-use Rattle.macsec_reserve.specs.declared.reservation.Reservation.{Reservation}
-use Rattle.macsec_reserve.specs.Journal.{highest, receiving_name, sending_name}
-use Rattle.macsec_reserve.specs.Keeping.{KeepingInput, keeping_step}
-use Rattle.macsec_counterexamples.proofs.Link.Exchange.{Opens, client, key_row, link_frame_of}
-use Rattle.macsec_counterexamples.proofs.Link.WorkedEnds.{bytes, gcm_b, new_key, no_salt, rx_from, sci_a}
+use Rattle.macsec_counterexamples.proofs.Link.Exchange.{client}
 use Rattle.macsec_counterexamples.proofs.Restarts.Goes.{Goes, command, command_seals, command_step, ended, is_new, next_goes}
 use Rattle.macsec_counterexamples.proofs.Restarts.Senders.{kept, none_are, other_sci, own_sci}
 

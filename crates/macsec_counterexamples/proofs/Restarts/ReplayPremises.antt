@@ -1,34 +1,16 @@
 -- The second promise needs each premise: without it there are two runs that meet the others, and the later run delivers
 -- the frame that the earlier one accepted.
-use Rattle.std.proofs.Common.{◌≡◌, ◌≢◌, ℕ, ◌+◌, ◌<◌, ◌≤◌, Bool, true, false, List, [], ◌∷◌, ◌++◌, refl, ap, sym, subst, ◌∙◌, arith, All, Contains}
-use Rattle.std.specs.Prelude.{◌==◌, max, Some, if◌then◌else◌}
-use Rattle.std.proofs.lemmas.List.Elements.{All-cons, All-nil}
-use Rattle.macsec_gcm.specs.Octets.{same_octets}
-use Rattle.sha2.specs.Sha256.{compress, digest_bytes, first_words, hash_after, rounds, schedule, sha256}
-use Rattle.sha2.proofs.Facts256.{length-sha256}
+use Rattle.macsec_counterexamples.proofs.Restarts.Names.{◌≡◌, ◌≢◌, ℕ, ◌+◌, ◌<◌, ◌≤◌, Bool, true, false, List, [], ◌∷◌, ◌++◌, refl, ap, sym, subst, ◌∙◌}
+use Rattle.macsec_counterexamples.proofs.Restarts.Names.{arith, All, Contains, ◌==◌, max, Some, if◌then◌else◌, All-cons, All-nil, same_octets}
+use Rattle.macsec_counterexamples.proofs.Restarts.Names.{compress, digest_bytes, first_words, hash_after, rounds, schedule, sha256, length-sha256}
+use Rattle.macsec_counterexamples.proofs.Restarts.Names.{the_key, RxDel, RxSa, RxRow, rx_row, Judgement, effect, judgement_of, State, IsSound}
+use Rattle.macsec_counterexamples.proofs.Restarts.Names.{link_frame, after_effect, Reservation, IsReservation, reduced, KeepsDurable, Run, opening}
+use Rattle.macsec_counterexamples.proofs.Restarts.Names.{reported, highest, receiving_name, reservations, salt_of, sending_name, Keeping, KeepingInput}
+use Rattle.macsec_counterexamples.proofs.Restarts.Names.{endpoint_input, keeping_after, keeping_step, now_durable, highest_of_one, reduced_reserves}
+use Rattle.macsec_counterexamples.proofs.Restarts.Names.{first_opens, first_tag, bytes, gcm_b, rx_from, sci_a}
 use Rattle.macsec_tag.specs.declared.identifiers.Sci.{Sci}
-use Rattle.macsec_suite.specs.KeyRows.{the_key}
-use Rattle.macsec_commands.specs.declared.command.Command.TheVariants.{RxDel, RxSa}
-use Rattle.macsec_rx.specs.declared.RxRow.{RxRow}
-use Rattle.macsec_rx.specs.Channels.{rx_row}
-use Rattle.macsec_rx.specs.Judge.{Judgement}
-use Rattle.macsec_secy.specs.Commands.{effect}
-use Rattle.macsec_secy.specs.Reception.{judgement_of}
-use Rattle.macsec_secy.specs.State.{State}
-use Rattle.macsec_secy.specs.Sound.{IsSound}
-use Rattle.macsec_secy.specs.Step.{link_frame}
-use Rattle.macsec_secy.proofs.StaysSound.{after_effect}
-use Rattle.macsec_reserve.specs.declared.reservation.Reservation.{Reservation}
-use Rattle.macsec_reserve.specs.Crashes.{IsReservation}
-use Rattle.macsec_reserve.specs.Entries.{reduced}
-use Rattle.macsec_reserve.specs.Histories.{KeepsDurable, Run, opening, reported}
-use Rattle.macsec_reserve.specs.Journal.{highest, receiving_name, reservations, salt_of, sending_name}
-use Rattle.macsec_reserve.specs.Keeping.{Keeping, KeepingInput, endpoint_input, keeping_after, keeping_step, now_durable}
 use Rattle.macsec_reserve.specs.Replay.{HasSaved, IsAccepted, KeepsAssociation, row_name, saved_for}
-use Rattle.macsec_reserve.proofs.HighestOf.{highest_of_one}
-use Rattle.macsec_reserve.proofs.Reduced.{reduced_reserves}
-use Rattle.macsec_counterexamples.proofs.Link.Exchange.{client, first_opens, first_tag}
-use Rattle.macsec_counterexamples.proofs.Link.WorkedEnds.{bytes, gcm_b, rx_from, sci_a}
+use Rattle.macsec_counterexamples.proofs.Link.Exchange.{client}
 use Rattle.macsec_counterexamples.proofs.Restarts.Goes.{Goes, command, command_seals, command_step, ended, is_new, link_seals, link_step, next_goes}
 use Rattle.macsec_counterexamples.proofs.Restarts.Journals.{journal, salt, salt_is, says}
 use Rattle.macsec_counterexamples.proofs.Restarts.Receivers.{Off, Plain, Receiver, Wide, channels_are, frame, goes, heard, heard_sound, inputs, is_heard, judged, judged_as, keys_are, lowest_of, name_of, ready, ready_sound, row_is, verdict_of}

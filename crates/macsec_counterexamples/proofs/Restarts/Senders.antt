@@ -1,32 +1,19 @@
 -- An endpoint that sends one frame for integrity only: its commands, the report that its packet number is reserved, and
 -- its states. The cipher is not computed.
-use Rattle.std.proofs.Common.{◌≡◌, ℕ, ◌+◌, ◌<◌, ◌≤◌, Bool, true, false, List, [], ◌∷◌, ◌++◌, refl, ap, ◌∙◌, arith}
-use Rattle.std.specs.Prelude.{◌^◌, ◌||◌, ◌&&◌, not, nat_le, max, replicate, if◌then◌else◌}
-use Rattle.std.proofs.lemmas.Bool.{lt-ltb}
-use Rattle.std.proofs.lemmas.List.Elements.{All-from_recursion}
+use Rattle.macsec_counterexamples.proofs.Restarts.Names.{◌≡◌, ℕ, ◌+◌, ◌<◌, ◌≤◌, Bool, true, false, List, [], ◌∷◌, ◌++◌, refl, ap, ◌∙◌, arith, ◌^◌}
+use Rattle.macsec_counterexamples.proofs.Restarts.Names.{◌||◌, ◌&&◌, not, nat_le, max, replicate, if◌then◌else◌, lt-ltb, All-from_recursion, Gcm128}
+use Rattle.macsec_counterexamples.proofs.Restarts.Names.{Xpn128, CipherUse, AreKeyRows, InstalledKey, Key, TxOn, TxSa, no_channels, AreChannels}
+use Rattle.macsec_counterexamples.proofs.Restarts.Names.{use_sent, IsSound, State, no_tx_counters, start, tx_options, client_frame, step}
+use Rattle.macsec_counterexamples.proofs.Restarts.Names.{after_client_frame, after_effect, at_start, Reservation, sealed, highest, sending_name}
+use Rattle.macsec_counterexamples.proofs.Restarts.Names.{Keeping, KeepingInput, endpoint_input, keeping_step, may_go, now_durable, same_octets-refl}
+use Rattle.macsec_counterexamples.proofs.Restarts.Names.{bytes, gcm_a, installed_key, new_key, no_salt, sci_a, sci_b, xpn_a, xpn_b}
 use Rattle.macsec_suite.specs.declared.key_row.NewKey.{NewKey}
 use Rattle.macsec_suite.specs.declared.suite.Suite.{Suite}
-use Rattle.macsec_suite.specs.declared.suite.Suite.TheVariants.{Gcm128, Xpn128}
-use Rattle.macsec_suite.specs.CipherUses.{CipherUse}
-use Rattle.macsec_suite.specs.KeyRows.{AreKeyRows, InstalledKey}
 use Rattle.macsec_commands.specs.Scis.{IsSci}
-use Rattle.macsec_commands.specs.declared.command.Command.TheVariants.{Key, TxOn, TxSa}
 use Rattle.macsec_commands.specs.declared.config.EndConfig.{EndConfig}
-use Rattle.macsec_rx.specs.Channels.{no_channels}
-use Rattle.macsec_rx.specs.Rows.{AreChannels}
 use Rattle.macsec_tx.specs.declared.TxRow.{TxRow}
 use Rattle.macsec_tx.specs.Rows.{AreTxRows}
-use Rattle.macsec_tx.specs.Transmit.{use_sent}
-use Rattle.macsec_secy.specs.Sound.{IsSound}
-use Rattle.macsec_secy.specs.State.{State, no_tx_counters, start, tx_options}
-use Rattle.macsec_secy.specs.Step.{client_frame, step}
-use Rattle.macsec_secy.proofs.StaysSound.{after_client_frame, after_effect, at_start}
-use Rattle.macsec_reserve.specs.declared.reservation.Reservation.{Reservation}
-use Rattle.macsec_reserve.specs.Histories.{sealed}
-use Rattle.macsec_reserve.specs.Journal.{highest, sending_name}
-use Rattle.macsec_reserve.specs.Keeping.{Keeping, KeepingInput, endpoint_input, keeping_step, may_go, now_durable}
-use Rattle.macsec_reserve.proofs.Written.{same_octets-refl}
-use Rattle.macsec_counterexamples.proofs.Link.WorkedEnds.{bytes, client, gcm_a, installed_key, new_key, no_salt, sci_a, sci_b, xpn_a, xpn_b}
+use Rattle.macsec_counterexamples.proofs.Link.WorkedEnds.{client}
 use Rattle.macsec_counterexamples.proofs.Restarts.Goes.{Goes, command, command_seals, command_step, ended, frame_seals, frame_step, is_new, next_goes}
 
 -- with 32-bit packet numbers, and with extended ones: with a salt of zeros; with another salt; with the salt under

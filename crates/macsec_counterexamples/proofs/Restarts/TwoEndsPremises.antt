@@ -1,18 +1,10 @@
 -- The first promise at two ends needs each premise on the ends: without it there are two runs, one of each end, that
 -- meet the others and seal two frames with the same key octets and the same IV.
-use Rattle.std.proofs.Common.{◌≡◌, ◌≢◌, ◌+◌, true, false, [], ◌∷◌, ◌++◌, refl, ap, subst, ◌∙◌, arith, AllPairs, Contains}
-use Rattle.std.proofs.lemmas.List.Elements.{All-cons, All-nil}
-use Rattle.macsec_gcm.specs.Octets.{sum_with_stream}
-use Rattle.macsec_suite.specs.KeyRows.{InstalledKey}
-use Rattle.macsec_suite.specs.Suites.{is_xpn}
-use Rattle.macsec_reserve.specs.Entries.{reduced}
-use Rattle.macsec_reserve.specs.Histories.{AgreeOnKeys, IsHistory, KeepsDurable, Run, SameSalt, StaysSound, closing, opening, sealed_in, sealed_in_all}
-use Rattle.macsec_reserve.specs.Journal.{reservations}
-use Rattle.macsec_reserve.specs.Keeping.{Keeping}
+use Rattle.macsec_counterexamples.proofs.Restarts.Names.{◌≡◌, ◌≢◌, ◌+◌, true, false, [], ◌∷◌, ◌++◌, refl, ap, subst, ◌∙◌, arith, AllPairs, Contains}
+use Rattle.macsec_counterexamples.proofs.Restarts.Names.{All-cons, All-nil, sum_with_stream, InstalledKey, is_xpn, reduced, AgreeOnKeys, IsHistory}
+use Rattle.macsec_counterexamples.proofs.Restarts.Names.{KeepsDurable, Run, SameSalt, StaysSound, closing, opening, sealed_in, sealed_in_all}
+use Rattle.macsec_counterexamples.proofs.Restarts.Names.{reservations, Keeping, HasOtherIv, one_alone, sci_a, sci_b, scis_differ}
 use Rattle.macsec_reserve.specs.TwoEnds.{AreOfTwoEnds}
-use Rattle.macsec_reserve.specs.Unique.{HasOtherIv}
-use Rattle.macsec_reserve.proofs.Pairs.{one_alone}
-use Rattle.macsec_counterexamples.proofs.Link.WorkedEnds.{sci_a, sci_b, scis_differ}
 use Rattle.macsec_counterexamples.proofs.Restarts.Goes.{Goes}
 use Rattle.macsec_counterexamples.proofs.Restarts.IvPremises.{extended_goes, nothing, of_keys, run_goes, run_of, short_goes}
 use Rattle.macsec_counterexamples.proofs.Restarts.Journals.{journal, salt}

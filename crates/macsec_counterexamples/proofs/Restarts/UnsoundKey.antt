@@ -1,27 +1,14 @@
 -- The first promise needs the premise that the endpoint is sound at each moment. Each call of a `Keeper` keeps it; an
 -- input that no call can be given breaks it: a key whose salt has no octets. Under it all packet numbers have the same
 -- IV.
-use Rattle.std.proofs.Common.{◌≡◌, ◌≢◌, ℕ, ◌<◌, Bool, true, false, List, [], ◌∷◌, ◌++◌, refl, ap, subst, ◌∙◌, arith, AllPairs}
-use Rattle.std.specs.Prelude.{◌||◌, ◌&&◌, not, nat_lt, nat_le, max, if◌then◌else◌}
-use Rattle.std.proofs.lemmas.Bool.{lt-ltb}
-use Rattle.macsec_gcm.specs.Octets.{sum_with_stream}
-use Rattle.macsec_suite.specs.declared.suite.Suite.TheVariants.{Xpn128}
-use Rattle.macsec_suite.specs.CipherUses.{CipherUse}
-use Rattle.macsec_suite.specs.KeyRows.{InstalledKey}
-use Rattle.macsec_commands.specs.declared.command.Command.TheVariants.{Key, TxOn, TxSa}
-use Rattle.macsec_tx.specs.Transmit.{use_sent}
-use Rattle.macsec_secy.specs.State.{State, no_tx_counters, start, tx_options}
-use Rattle.macsec_secy.specs.Step.{client_frame}
-use Rattle.macsec_reserve.specs.declared.reservation.Reservation.{Reservation}
-use Rattle.macsec_reserve.specs.Entries.{reduced}
-use Rattle.macsec_reserve.specs.Histories.{KeepsDurable, Run, SameSalt, newly_sealed, sealed_from, sealed_in_all}
-use Rattle.macsec_reserve.specs.Journal.{highest, reservations, sending_name}
-use Rattle.macsec_reserve.specs.Keeping.{Keeping, KeepingInput, endpoint_input, keeping_step, may_go, now_durable}
-use Rattle.macsec_reserve.specs.Unique.{HasOtherIv}
-use Rattle.macsec_reserve.proofs.Pairs.{one_alone}
-use Rattle.macsec_reserve.proofs.Reduced.{reduced_reserves}
-use Rattle.macsec_reserve.proofs.Written.{same_octets-refl}
-use Rattle.macsec_counterexamples.proofs.Link.WorkedEnds.{bytes, client, installed_key, new_key, xpn_a}
+use Rattle.macsec_counterexamples.proofs.Restarts.Names.{◌≡◌, ◌≢◌, ℕ, ◌<◌, Bool, true, false, List, [], ◌∷◌, ◌++◌, refl, ap, subst, ◌∙◌, arith}
+use Rattle.macsec_counterexamples.proofs.Restarts.Names.{AllPairs, ◌||◌, ◌&&◌, not, nat_lt, nat_le, max, if◌then◌else◌, lt-ltb, sum_with_stream}
+use Rattle.macsec_counterexamples.proofs.Restarts.Names.{Xpn128, CipherUse, InstalledKey, Key, TxOn, TxSa, use_sent, State, no_tx_counters, start}
+use Rattle.macsec_counterexamples.proofs.Restarts.Names.{tx_options, client_frame, Reservation, reduced, KeepsDurable, Run, SameSalt, newly_sealed}
+use Rattle.macsec_counterexamples.proofs.Restarts.Names.{sealed_from, sealed_in_all, highest, reservations, sending_name, Keeping, KeepingInput}
+use Rattle.macsec_counterexamples.proofs.Restarts.Names.{endpoint_input, keeping_step, may_go, now_durable, HasOtherIv, one_alone, reduced_reserves}
+use Rattle.macsec_counterexamples.proofs.Restarts.Names.{same_octets-refl, bytes, installed_key, new_key, xpn_a}
+use Rattle.macsec_counterexamples.proofs.Link.WorkedEnds.{client}
 use Rattle.macsec_counterexamples.proofs.Restarts.Goes.{command, command_seals, command_step, frame_seals, frame_step, is_new}
 use Rattle.macsec_counterexamples.proofs.Restarts.IvPremises.{AgreeOnSalts, AgreeOnSuites, Holds, IsDurable, IsSoundAtEachMoment, LawWithout, Premise, SameJournalSalt, SameKeySalt, SameSuite, nothing}
 use Rattle.macsec_counterexamples.proofs.Restarts.Journals.{journal, salt, says}
