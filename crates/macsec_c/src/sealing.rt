@@ -1,10 +1,7 @@
 //! Frames for tests: any SecTAG, with a valid ICV (IEEE 802.1AE, 10.5 and 14.5 to 14.8).
 
-ghost use Rattle.std.specs.Prelude.{◌≡◌, ◌≤◌, ◌+◌, length, min, if◌then◌else◌};
+ghost use Rattle.std.specs.Prelude.{◌≡◌};
 ghost use Rattle.macsec_aes.specs.Keys.{key_bytes};
-ghost use Rattle.macsec_gcm.specs.Gcm.{max_plaintext_len};
-ghost use Rattle.macsec_suite.specs.InPlace.{protected_octets};
-ghost use Rattle.macsec_suite.specs.Keys.{prepared_from};
 ghost use Rattle.macsec_c_numbers.specs.Arguments.{sci_of};
 ghost use Rattle.macsec_c.specs.Sealing.{seal_fault, sealed};
 
@@ -13,7 +10,7 @@ use macsec_aes::Key;
 use macsec_c_numbers::{DONE, key_of, status_of_frame_fault, suite_of};
 use macsec_gcm::GcmKey;
 use macsec_secy::{FrameFault, Refusal, Sci, Suite};
-use macsec_suite::iv_of;
+use macsec_suite::{iv_of, seal_in_place};
 use macsec_tag::ICV_LENGTH;
 
 /// The most octets of a frame that is sealed: as many as a plaintext can have, 2^36 - 32 (SP 800-38D, 5.2.1.1).
@@ -27,13 +24,6 @@ fn octets_of(key: &Key) -> &[u8]
         Key::K128(octets) => octets,
         Key::K256(octets) => octets,
     }
-}
-
-/// How many of `len` octets of data are not encrypted.
-fn clear_length(offset: u8, conf: bool, len: usize) -> usize
-    ensures { result ≡ (if conf then min offset len else len) }
-{
-    if conf { len.min(offset as usize) } else { len }
 }
 
 /// The first status that applies, if a frame cannot be sealed.
@@ -53,30 +43,6 @@ fn seal_fault(suite: Suite, key: &Key, pn: u64, head: usize, frame: &[u8]) -> Op
         return Some(status_of_frame_fault(FrameFault::Long));
     }
     None
-}
-
-/// Seals a frame in place. Its data begin after `head` octets, and its last 16 octets are for the ICV. No clause says
-/// what the octets before the data are.
-fn seal_in_place(
-    suite: Suite,
-    key: Key,
-    offset: u8,
-    iv: &[u8; 12],
-    conf: bool,
-    head: usize,
-    frame: &mut [u8],
-)
-    requires room { head + 16 ≤ length frame.old }
-    requires frame_length { length frame.old ≤ max_plaintext_len }
-    ensures { frame.new ≡ protected_octets (prepared_from suite key offset) iv.now conf head frame.old }
-{
-    let gcm_key = GcmKey::new(key);
-    let end = frame.len() - ICV_LENGTH;
-    let clear = head + clear_length(offset, conf, end - head);
-    let (body, icv) = frame.split_at_mut(end);
-    let (aad, text) = body.split_at_mut(clear);
-    let tag = gcm_key.seal(iv, aad, text);
-    icv.copy_from_slice(&tag);
 }
 
 /// Seals a frame in place, whatever its SecTAG is. `macsec_seal` of the header calls this with a frame that is not null.
@@ -105,6 +71,7 @@ pub extern "C" fn macsec_seal_raw(
         return status;
     }
     let iv = iv_of(suite, Sci(*sci), key.ssci, key.salt, pn);
-    seal_in_place(suite, octets, key.offset, &iv, conf, head, frame);
+    let gcm_key = GcmKey::new(octets);
+    seal_in_place(&gcm_key, key.offset, &iv, conf, head, frame);
     DONE
 }

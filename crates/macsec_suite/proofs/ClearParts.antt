@@ -6,7 +6,7 @@ use Rattle.std.proofs.Math.Seq.{take-append-add, drop-append-add, drop-append_se
 use Rattle.macsec_tag.specs.Tag.{Tag, encoding}
 use Rattle.macsec_suite.specs.Parts.{clear_length}
 use Rattle.macsec_gcm.specs.Gcm.{seal_of, open_of}
-use Rattle.macsec_suite.specs.InPlace.{clear_and_rest, protected_octets, validated_octets}
+use Rattle.macsec_suite.specs.InPlace.{clear_and_rest, sealed_octets, validated_octets}
 use Rattle.macsec_suite.specs.Keys.{PreparedKey}
 use Rattle.macsec_suite.specs.Laws.{PartsInPlace}
 
@@ -38,16 +38,16 @@ clear_of offset e head n body long =
     rw rest refl
 
 -- the clear octets, the sealed rest and its tag are what the definition gives for the whole frame
-pub protected_in_place : (key : PreparedKey) (iv : List ℕ) (conf : Bool) (head : ℕ) {clear : ℕ} (frame : List ℕ)
-    {body aad text bytes ct tag icv : List ℕ} → body ≡ take (length frame - 16) frame → length body ≡ length frame - 16 →
-    clear ≡ (if conf then min key.offset (length frame - 16 - head) else length frame - 16 - head) →
-    aad ≡ take (head + clear) body → text ≡ drop (head + clear) body → bytes ≡ key.bytes →
-    ◌≡◌ {A = List ℕ × List ℕ} (ct, tag) (seal_of bytes iv aad text) → icv ≡ tag →
-    aad ++ ct ++ icv ≡ protected_octets key iv conf head frame
-protected_in_place key iv conf head {clear} frame {body} body_is long clear_is aad_is text_is bytes_are sealed icv_is =
-    let cut : clear ≡ clear_length key.offset conf (drop head body) =
-    clear_is ∙ clear_of key.offset conf head (length frame - 16) body long in
-    rw (icv_is, ← body_is, ← cut, ← aad_is, ← text_is, ← bytes_are, ← sealed) refl
+pub sealed_in_place : (key : List ℕ) (offset : ℕ) (iv : List ℕ) (conf : Bool) (head : ℕ) {clear : ℕ} (frame : List ℕ)
+    {body aad text ct tag icv : List ℕ} → body ≡ take (length frame - 16) frame → length body ≡ length frame - 16 →
+    clear ≡ (if conf then min offset (length frame - 16 - head) else length frame - 16 - head) →
+    aad ≡ take (head + clear) body → text ≡ drop (head + clear) body →
+    ◌≡◌ {A = List ℕ × List ℕ} (ct, tag) (seal_of key iv aad text) → icv ≡ tag →
+    aad ++ ct ++ icv ≡ sealed_octets key offset iv conf head frame
+sealed_in_place key offset iv conf head {clear} frame {body} body_is long clear_is aad_is text_is sealed icv_is =
+    let cut : clear ≡ clear_length offset conf (drop head body) =
+    clear_is ∙ clear_of offset conf head (length frame - 16) body long in
+    rw (icv_is, ← body_is, ← cut, ← aad_is, ← text_is, ← sealed) refl
 
 -- the result of opening is what the definition gives for the whole frame
 pub validated_in_place : (key : PreparedKey) (iv : List ℕ) (e : Bool) (head n length_of_data : ℕ) (frame : List ℕ)

@@ -14,11 +14,16 @@ abbrev pub clear_and_rest : ℕ → Bool → ℕ → List ℕ → List ℕ × Li
 clear_and_rest offset e head body =
     let clear = head + clear_length offset e (drop head body) in (take clear body, drop clear body)
 
--- the frame with the other data encrypted and the ICV in its last 16 octets
+-- the frame with the other data encrypted and the ICV in its last 16 octets; the key is given as its bytes, with the
+-- confidentiality offset
+abbrev pub sealed_octets : List ℕ → ℕ → List ℕ → Bool → ℕ → List ℕ → List ℕ
+sealed_octets key offset iv conf head frame =
+    let ap = clear_and_rest offset conf head (take (length frame - 16) frame) in
+    let ct = seal_of key iv ap.0 ap.1 in ap.0 ++ ct.0 ++ ct.1
+
+-- the same with a prepared key
 abbrev pub protected_octets : PreparedKey → List ℕ → Bool → ℕ → List ℕ → List ℕ
-protected_octets key iv conf head frame =
-    let ap = clear_and_rest key.offset conf head (take (length frame - 16) frame) in
-    let ct = seal_of key.bytes iv ap.0 ap.1 in ap.0 ++ ct.0 ++ ct.1
+protected_octets key iv conf head frame = sealed_octets key.bytes key.offset iv conf head frame
 
 -- the frame with the other data of its first `n` octets decrypted, if the next 16 octets are the ICV
 abbrev pub validated_octets : PreparedKey → List ℕ → Bool → ℕ → ℕ → List ℕ → Option (List ℕ)

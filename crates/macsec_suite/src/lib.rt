@@ -10,8 +10,9 @@
 //! Proved: `protect_in_place` keeps DA, SA, SecTAG and the clear octets of the data, encrypts the rest, and writes the
 //! ICV after them. `validate_in_place` returns true exactly if opening gives a plaintext, which then replaces the
 //! ciphertext; otherwise it changes nothing. Both require a SecTAG of 8 or 16 octets, a slice that holds the parts, and
-//! data of at most 68,719,476,704 octets. No contract prevents a caller from using an IV twice under a key. Laws
-//! (`laws`): the parts of a frame in place are those of the frame; what two frames with equal IVs have in common.
+//! data of at most 68,719,476,704 octets. `seal_in_place` protects a frame with any octets before its data. No contract
+//! prevents a caller from using an IV twice under a key. Laws (`laws`): the parts of a frame in place are those of the
+//! frame; what two frames with equal IVs have in common.
 //!
 //! Proved: a `KeyTable` is the list of its keys in the order of their installation. `install` and `retire` refuse with
 //! the first refusal that applies, and then change nothing. Otherwise they change the one key and no other, as does
@@ -30,7 +31,7 @@ mod refusal;
 mod suite;
 mod suite_key;
 
-pub use in_place::{protect_in_place, validate_in_place};
+pub use in_place::{protect_in_place, seal_in_place, validate_in_place};
 pub use iv::iv_of;
 pub use key_number::KeyNumber;
 pub use key_row::{KeyRow, NewKey};

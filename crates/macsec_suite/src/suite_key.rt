@@ -1,6 +1,6 @@
 //! Keys prepared for a cipher suite.
 
-ghost use Rattle.std.specs.Prelude.{◌≡◌, min, if◌then◌else◌, IfOk};
+ghost use Rattle.std.specs.Prelude.{◌≡◌, IfOk};
 ghost use Rattle.macsec_aes.specs.Keys.{key_bytes};
 ghost use Rattle.macsec_suite.specs.Keys.{fault_of, prepared_from, suite_key_fault};
 ghost use Rattle.macsec_suite.specs.FaultNumbers.{number_of_suite_fault};
@@ -73,17 +73,6 @@ impl SuiteKey {
         ensures { result ≡ self.now.suite }
     {
         self.suite
-    }
-
-    /// How many of `len` octets of data are not encrypted.
-    pub(crate) fn clear_length(&self, e: bool, len: usize) -> usize
-        ensures { result ≡ (if e then min self.now.offset len else len) }
-    {
-        if e {
-            len.min(self.offset as usize)
-        } else {
-            len
-        }
     }
 }
 

@@ -1,6 +1,6 @@
 -- The result of opening, true or false, is what the definition gives for the whole frame. Proved from the contracts of
 -- the calls with `validated_in_place` of `ClearParts`.
-use Rattle.std.proofs.Common.{◌≡◌, ◌+◌, ◌++◌, List, ℕ, Bool, true, false, refl, ap}
+use Rattle.std.proofs.Common.{◌≡◌, ◌+◌, ◌++◌, List, ℕ, Bool, true, false, refl, ap, min, ◌∙◌}
 use Rattle.std.specs.Prelude.{Option, option_map, if◌then◌else◌, Some, None}
 use Rattle.std.specs.Bool.{OnTrue, OnFalse}
 use Rattle.macsec_suite.specs.InPlace.{validated_octets}
@@ -35,7 +35,7 @@ opened c =
     let rest = c.split_at_mut-aad.ensures in
     validated_in_place c.args.key.now c.args.iv.now c.args.e (12 + c.args.tag_len)
     (12 + c.args.tag_len + c.args.data_len) c.args.data_len c.args.frame.now body.front body.back body.front_len refl
-    c.clear_length.ensures rest.front rest.back (ap (λ k. k.bytes) c.key.view_is) c.copy_from_slice.ensures.after
+    (c.clear_length.ensures ∙ ap (λ k. if c.args.e then min k.offset c.args.data_len else c.args.data_len) c.key.view_is) rest.front rest.back (ap (λ k. k.bytes) c.key.view_is) c.copy_from_slice.ensures.after
     c.open.ensures.gives
 
 pub returns-clause-genuine : goal.returns-clause-genuine
