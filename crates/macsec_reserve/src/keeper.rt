@@ -3,6 +3,7 @@
 ghost use Rattle.std.specs.Prelude.{◌≡◌, ◌≤◌, ◌+◌, ◌++◌, ◌==◌, ◌&&◌, List, ℕ, true, drop, length, map, option_and_then, option_map, Some, None, Err, IfErr, ◌-◌, ◌^◌, min, IfOk, nat_lt, nat_le, vec_capacity, vec_len};
 ghost use Rattle.std.specs.Borrow.{sem};
 ghost use Rattle.macsec_aes.specs.Keys.{key_bytes};
+ghost use Rattle.macsec_tx.specs.Rows.{IsEnabled};
 ghost use Rattle.macsec_tx.specs.Transmit.{tx_row};
 ghost use Rattle.macsec_rx.specs.Channels.{rx_row};
 ghost use Rattle.macsec_commands.specs.Configs.{config_fault};
@@ -24,8 +25,8 @@ use crate::journal::{entries_of, salt_of};
 use crate::{Reservation, highest, is_journal, receiving_name, sending_name};
 use macsec_aes::Key;
 use macsec_secy::{
-    An, Command, EndConfig, FrameFault, KeyNumber, NewFault, OpenedFrame, Planned, Received,
-    Refusal, RxRow, Sci, Secy, Sent, TxRow,
+    An, Command, EnabledSa, EndConfig, FrameFault, KeyNumber, NewFault, OpenedFrame, Planned,
+    Received, Refusal, RxRow, Sci, Secy, Sent, TxRow,
 };
 use std::alloc::Global;
 use std::marker::Model;
@@ -245,10 +246,11 @@ impl Keeper {
         ensures output { output_of_kept result ≡ (keeping_step self.old (endpoint_input (client_frame frame.now))).0 }
         ensures sound { IsSound (keeping_step self.old (endpoint_input (client_frame frame.now))).1.secy }
     {
-        if !self.may_go(frame) {
+        let enabled = self.secy.enabled_sa();
+        if !self.may_go(&enabled, frame) {
             return Ok(KeptSent::NoReservation);
         }
-        match self.secy.send(frame) {
+        match self.secy.send_by(&enabled, frame) {
             Ok(sent) => Ok(KeptSent::Sent(sent)),
             Err(fault) => Err(fault),
         }
@@ -260,10 +262,11 @@ impl Keeper {
         ensures output { PlansKept result self.new.secy.keys frame.now (keeping_step self.old (endpoint_input (client_frame frame.now))).0 }
         ensures sound { IsSound self.new.secy }
     {
-        if !self.may_go(frame) {
+        let enabled = self.secy.enabled_sa();
+        if !self.may_go(&enabled, frame) {
             return Ok(KeptPlan::NoReservation);
         }
-        match self.secy.plan_send(frame) {
+        match self.secy.plan_send_by(&enabled, frame) {
             Ok(planned) => Ok(KeptPlan::Plan(planned)),
             Err(fault) => Err(fault),
         }
@@ -386,23 +389,25 @@ impl Keeper {
     }
 
     /// Is the next packet number of the enabled association known to be reserved?
-    fn is_at_hand(&self) -> bool
+    fn is_at_hand(&self, enabled: &Option<EnabledSa>) -> bool
+        requires { IsEnabled self.now.secy.tx enabled.now }
         ensures { (frame : List ℕ) → result ≡ true → uses_reserved self.now (client_frame frame) ≡ true }
     {
         let Some(at) = self.at_hand else {
             return false;
         };
-        let Some(row) = self.secy.tx_row_on() else {
+        let Some(enabled) = enabled else {
             return false;
         };
-        is_reserved(at, row)
+        is_reserved(at, enabled.row)
     }
 
     /// Would this client frame use only a packet number that is reserved, or is there no journal?
-    fn may_go(&self, frame: &[u8]) -> bool
+    fn may_go(&self, enabled: &Option<EnabledSa>, frame: &[u8]) -> bool
+        requires { IsEnabled self.now.secy.tx enabled.now }
         ensures { result ≡ may_go self.now (client_frame frame.now) }
     {
-        !self.keeps || self.is_at_hand() || self.uses_reserved(frame)
+        !self.keeps || self.is_at_hand(enabled) || self.uses_reserved(frame)
     }
 
     /// Would this client frame use only a packet number that is reserved?

@@ -149,10 +149,10 @@ key_stays s (input ∷ inputs) n there =
 
 pub seals_later : (s : State) (inputs : List Input) (job : SealJob) (frame : List ℕ) (output : Output) → SealsLater s inputs job frame output
 seals_later s inputs job frame output seals =
-    let stays = key_stays s inputs job.key seals.there in
+    let stays = key_stays s inputs job.key.number seals.there in
     record {
       there = stays.there;
-      sends = seals.sends ∙ ap (λ key. leaves (frame_sealed key job frame) (Some job.key)) (sym stays.prepared);
+      sends = seals.sends ∙ ap (λ key. leaves (frame_sealed key job frame) (Some job.key.number)) (sym stays.prepared);
       fits = seals.fits;
       least = seals.least;
     }

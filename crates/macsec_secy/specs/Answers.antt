@@ -43,8 +43,8 @@ output_of_sent (Err f) = fault f
 
 -- the key of the job's number is in the table, and with it the job seals what is sent, of at most 9,248 octets
 pub record SealsOutput (job : SealJob) (keys : List InstalledKey) (frame : List ℕ) (output : Output) : Type 0 where
-  pub there : IsSome (key_row keys job.key)
-  pub sends : output ≡ leaves (frame_sealed (prepared_key (the_key keys job.key)) job frame) (Some job.key)
+  pub there : IsSome (key_row keys job.key.number)
+  pub sends : output ≡ leaves (frame_sealed (prepared_key (the_key keys job.key.number)) job frame) (Some job.key.number)
   pub fits : length frame + octets_added job.tag ≤ max_frame_len
   pub least : min_frame_len ≤ length frame
 
@@ -54,6 +54,13 @@ PlansOutput (Ok (Plain planned)) keys frame output = output ≡ leaves planned.n
 PlansOutput (Ok (Job job)) keys frame output = SealsOutput job keys frame output
 PlansOutput (Ok (Dropped reason)) keys frame output = output ≡ drop_output reason
 PlansOutput (Err f) keys frame output = output ≡ fault f
+
+-- if a frame is to be sealed, this holds of the job
+abbrev pub IfPlanned : Result Planned FrameFault → (SealJob → Type 0) → Type 0
+IfPlanned (Ok (Plain planned)) holds = Unit {0}
+IfPlanned (Ok (Job job)) holds = holds job
+IfPlanned (Ok (Dropped reason)) holds = Unit {0}
+IfPlanned (Err f) holds = Unit {0}
 
 abbrev pub output_of_received : Result Received FrameFault → Output
 output_of_received (Ok r) = received r.verdict r.row r.uncontrolled.now (option_map (λ (f : Bor (List ℕ)). f.now) r.controlled)

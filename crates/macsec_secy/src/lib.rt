@@ -14,7 +14,8 @@
 //! `SealJob`, which makes the frame that `send` would return. `plan_receive` changes nothing and returns the `OpenJob`
 //! that a link frame needs now; `finish_receive` is the step of `receive`, with the result of that job or without one.
 //! `prepared` returns the key of a job. The law `jobs_stay`: whatever the endpoint does between a plan and its job, the
-//! result of the job is the same.
+//! result of the job is the same. `send_by` and `plan_send_by` are `send` and `plan_send` for a caller that has found
+//! the enabled SA already (`enabled_sa`).
 //!
 //! Laws of the machine (`laws`). `uses_no_number_twice`: for every list of inputs, the packet numbers of the frames
 //! sent protected under one key number rise in the order of sending. `accepts_sent`: a frame that another endpoint
@@ -28,9 +29,11 @@ ghost use Rattle.std.specs.Prelude.{◌≡◌, ◌≤◌, IfOk, IfSome, length, 
 ghost use Rattle.macsec_tag.specs.Limits.{max_frame_len};
 ghost use Rattle.macsec_secy.specs.Jobs.{IsOfJob, OpensFrame, job_of_frame};
 ghost use Rattle.macsec_suite.specs.KeyRows.{key_row, prepared_key};
+ghost use Rattle.macsec_suite.specs.KeyTables.{IsPlace};
+ghost use Rattle.macsec_tx.specs.Rows.{IsEnabled};
 ghost use Rattle.std.specs.Borrow.{sem};
 ghost use Rattle.macsec_secy.specs.Step.{client_frame, frame_fault, link_frame, operator_command, step, uncontrolled_frame};
-ghost use Rattle.macsec_secy.specs.Answers.{MakesEndpoint, output_of_command, output_of_frame, output_of_received, output_of_sent, PlansOutput};
+ghost use Rattle.macsec_secy.specs.Answers.{IfPlanned, MakesEndpoint, output_of_command, output_of_frame, output_of_received, output_of_sent, PlansOutput};
 ghost use Rattle.macsec_secy.specs.Laws.{number_of_row, number_used};
 ghost use Rattle.macsec_secy.specs.Rests.{RestsAs};
 ghost use Rattle.macsec_secy.specs.Sound.{IsSound};
@@ -62,7 +65,7 @@ pub use macsec_suite::Refusal;
 use macsec_suite::{KeyTable, SuiteKey};
 use macsec_tag::reading::read;
 use macsec_tag::{ADDRESSES_LENGTH, MIN_FRAME_LEN, Read};
-pub use macsec_tx::{SealJob, TxRow};
+pub use macsec_tx::{EnabledSa, SealJob, TxRow};
 use macsec_tx::{TxChannel, TxPlan};
 pub use options::Options;
 use receiving::{delivered_octets, delivered_untagged, sci_and_number, verdict_on_untagged};
@@ -220,14 +223,30 @@ impl Secy {
         ensures sum { AddsFrames self.old (client_frame frame.now) }
         ensures sound { IsSound (step self.old (client_frame frame.now)).1 }
     {
-        match self.plan_send(frame) {
+        let enabled = self.enabled_sa();
+        self.send_by(&enabled, frame)
+    }
+
+    /// Transmits a client frame as `send` does, without a search for the enabled SA. `enabled` is the result of
+    /// `enabled_sa`, and the endpoint has not changed since.
+    pub fn send_by<'a>(
+        &'a mut self,
+        enabled: &Option<EnabledSa>,
+        frame: &'a [u8],
+    ) -> Result<Sent<'a>, FrameFault>
+        requires enabled { IsEnabled self.old.tx enabled.now }
+        ensures* after { sem 𝓛 (RestsAs self.entry (step self.old (client_frame frame.now)).1) }
+        ensures output { output_of_sent result ≡ (step self.old (client_frame frame.now)).0 }
+        ensures sum { AddsFrames self.old (client_frame frame.now) }
+        ensures sound { IsSound (step self.old (client_frame frame.now)).1 }
+    {
+        match self.plan_send_by(enabled, frame) {
             Ok(Planned::Plain(frame)) => Ok(Sent::Link { frame, under: None }),
             Ok(Planned::Job(job)) => {
-                let key = job.key();
-                let suite_key = &self.keys.key(key).unwrap().suite_key;
+                let under = Some(job.key().number());
+                let suite_key = &self.keys.key_at(job.key_place()).suite_key;
                 let len = job.seal(suite_key, frame, self.room.as_mut_slice());
                 let frame = &self.room.as_slice()[..len];
-                let under = Some(key.number());
                 Ok(Sent::Link { frame, under })
             }
             Ok(Planned::Dropped(reason)) => Ok(Sent::Dropped(reason)),
@@ -243,19 +262,36 @@ impl Secy {
         ensures sum { AddsFrames self.old (client_frame frame.now) }
         ensures sound { IsSound self.new }
     {
+        let enabled = self.enabled_sa();
+        self.plan_send_by(&enabled, frame)
+    }
+
+    /// Plans a client frame as `plan_send` does, without a search for the enabled SA. `enabled` is the result of
+    /// `enabled_sa`, and the endpoint has not changed since.
+    pub fn plan_send_by<'a>(
+        &mut self,
+        enabled: &Option<EnabledSa>,
+        frame: &'a [u8],
+    ) -> Result<Planned<'a>, FrameFault>
+        requires enabled { IsEnabled self.old.tx enabled.now }
+        ensures after { self.new ≡ (step self.old (client_frame frame.now)).1 }
+        ensures output { PlansOutput result self.new.keys frame.now (step self.old (client_frame frame.now)).0 }
+        ensures place { IfPlanned result (λ job. IsPlace self.new.keys job.key) }
+        ensures sum { AddsFrames self.old (client_frame frame.now) }
+        ensures sound { IsSound self.new }
+    {
         if let Some(fault) = self.frame_fault(frame) {
             return Err(fault);
         }
-        let encrypts = self.encrypts();
         let options = self.tx_options();
-        match self.tx.plan_frame(&mut self.keys, &options, frame) {
+        match self.tx.plan_frame(&mut self.keys, &options, enabled, frame) {
             TxPlan::Plain => {
                 self.counters.count_plain();
                 Ok(Planned::Plain(frame))
             }
             TxPlan::Job(job) => {
                 self.tx_counters
-                    .count(encrypts, (frame.len() - ADDRESSES_LENGTH) as u64);
+                    .count(job.encrypts(), (frame.len() - ADDRESSES_LENGTH) as u64);
                 Ok(Planned::Job(job))
             }
             TxPlan::NoSa => {

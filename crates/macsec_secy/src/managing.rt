@@ -1,8 +1,7 @@
 //! Commands that the endpoint carries out itself, and the options that it passes to transmission.
 
 ghost use Rattle.std.specs.Prelude.{◌≡◌};
-ghost use Rattle.macsec_suite.specs.Refusals.{holds_of, refusal_of};
-ghost use Rattle.macsec_tx.specs.Transmit.{row_on};
+ghost use Rattle.macsec_suite.specs.Refusals.{refusal_of};
 ghost use Rattle.macsec_commands.specs.declared.command.Command.TheVariants as by;
 ghost use Rattle.macsec_secy.specs.State.{tx_options};
 ghost use Rattle.macsec_secy.specs.Sound.{IsSound};
@@ -56,16 +55,6 @@ impl Secy {
         ensures { result ≡ uses self.now key }
     {
         self.tx.uses(key) || self.rx.uses(key)
-    }
-
-    /// Whether the enabled transmit SA encrypts; false if none is enabled.
-    pub(crate) fn encrypts(&self) -> bool
-        ensures { result ≡ holds_of (λ row. row.conf) (row_on self.now.tx) }
-    {
-        match self.tx.row_on() {
-            Some(row) => row.conf,
-            None => false,
-        }
     }
 
     /// The options that transmission depends on.

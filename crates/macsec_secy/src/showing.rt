@@ -3,6 +3,7 @@
 ghost use Rattle.std.specs.Prelude.{◌≡◌, ◌+◌, ◌≤◌, is_some, length, slice_get};
 ghost use Rattle.macsec_suite.specs.KeyNumbers.{max_key_count};
 ghost use Rattle.macsec_tx.specs.Transmit.{row_on, tx_row};
+ghost use Rattle.macsec_tx.specs.Rows.{IsEnabled};
 ghost use Rattle.macsec_rx.specs.Channels.{rx_row};
 ghost use Rattle.macsec_rx.specs.Limits.{max_channel_count};
 ghost use Rattle.macsec_rx.specs.Commands.{has_rx};
@@ -11,7 +12,8 @@ ghost use Rattle.macsec_secy.specs.AssociationSums.{rx_sums_of};
 ghost use Rattle.macsec_secy.specs.Sound.{IsSound};
 
 use crate::{
-    An, ChannelCounters, Counters, Options, RxCounters, RxRow, Sci, Secy, TxCounters, TxRow,
+    An, ChannelCounters, Counters, EnabledSa, Options, RxCounters, RxRow, Sci, Secy, TxCounters,
+    TxRow,
 };
 
 impl Secy {
@@ -55,6 +57,13 @@ impl Secy {
         ensures { result ≡ row_on self.now.tx }
     {
         self.tx.row_on()
+    }
+
+    /// The enabled transmit SA, for `send_by` and `plan_send_by`.
+    pub fn enabled_sa(&self) -> Option<EnabledSa>
+        ensures { IsEnabled self.now.tx result }
+    {
+        self.tx.enabled()
     }
 
     /// The counters of the receive SC with this SCI, if it exists. Each is, modulo 2^64, the sum of that counter over

@@ -10,7 +10,8 @@ use Rattle.std.proofs.lemmas.Bool.{ne_eqb, eqb-true, eqb-false}
 use Rattle.std.proofs.lemmas.Bool.Decides.{eqb_tells}
 use Rattle.macsec_suite.specs.KeyRows.{AreKeyRows, InstalledKey, IsKeyRow, at_number, key_row, with_key}
 use Rattle.macsec_suite.specs.KeyNumbers.{max_key_count}
-use Rattle.macsec_suite.specs.KeyTables.{HasOwnKey, IsIndex, stored_row}
+use Rattle.macsec_suite.specs.KeyTables.{HasOwnKey, IsIndex, IsPlace, stored_row}
+use Rattle.macsec_suite.specs.declared.key_table.KeyPlace.{KeyPlace}
 use Rattle.macsec_suite.specs.declared.key_table.StoredKey.{StoredKey}
 use Rattle.macsec_suite.proofs.KeyLemmas.{AreKeyRows-map, AreStoredKeys, cond_none, kept-at_number, number-at_number}
 
@@ -188,4 +189,20 @@ IsChanged-set change same keeps number place places keys old new h index finds s
         All-set (λ s. HasOwnKey s.row) keys place new (prepared own) h.1,
       );
       index = subst (IsIndex places) (sym rows) (IsIndex-map (at_number change number) (number-at_number change same number) places (map stored_row keys) index);
+    }
+
+-- a look-up that finds a row finds one after a change of rows too
+some-map : (f : InstalledKey → InstalledKey) (row : Option InstalledKey) → IsSome row → IsSome (option_map f row)
+some-map f None some = some
+some-map f (Some row) some = refl
+
+-- a change of the rows that keeps numbers keeps the place of a key
+pub IsPlace-with_key : (change : InstalledKey → InstalledKey) → ((row : InstalledKey) → (change row).number ≡ row.number) → (number : ℕ) (rows : List InstalledKey) (place : KeyPlace) →
+    IsPlace rows place → IsPlace (with_key change number rows) place
+IsPlace-with_key change same number rows place is =
+    let f : InstalledKey → InstalledKey = at_number change number in
+    let found : key_row (map f rows) place.number ≡ option_map f (key_row rows place.number) = key_row-map f (number-at_number change same number) rows place.number in
+    record {
+      there = subst IsSome (sym found) (some-map f (key_row rows place.number) is.there);
+      finds = found ∙ ap (option_map f) is.finds ∙ sym (slice_get-map f rows place.index);
     }

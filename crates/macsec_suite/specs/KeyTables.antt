@@ -1,7 +1,8 @@
 -- Stored keys as rows of the table, and the index of the rows.
-use Rattle.std.specs.Prelude.{◌≡◌, ℕ, ◌<◌, List, filter, length, slice_get, slice_index, Some}
+use Rattle.std.specs.Prelude.{◌≡◌, ℕ, ◌<◌, List, filter, length, slice_get, slice_index, IsSome, Some}
 use Rattle.macsec_aes.specs.Keys.{key_bytes}
 use Rattle.macsec_suite.specs.declared.key_row.KeyRow.{KeyRow}
+use Rattle.macsec_suite.specs.declared.key_table.KeyPlace.{KeyPlace}
 use Rattle.macsec_suite.specs.declared.key_table.StoredKey.{StoredKey}
 use Rattle.macsec_suite.specs.KeyNumbers.{max_key_count}
 use Rattle.macsec_suite.specs.Keys.{prepared_from}
@@ -39,3 +40,8 @@ pub record IsIndex (places : List ℕ) (rows : List InstalledKey) : Type 0 where
   pub covers : length places ≡ max_key_count
   pub finds : (n : ℕ) → n < max_key_count → key_row rows n ≡ slice_get rows (slice_index places n)
   pub within : (n : ℕ) → n < max_key_count → slice_index places n < max_key_count → slice_index places n < length rows
+
+-- the key of this number is in the table, and its row is at this index
+pub record IsPlace (rows : List InstalledKey) (place : KeyPlace) : Type 0 where
+  pub there : IsSome (key_row rows place.number)
+  pub finds : key_row rows place.number ≡ slice_get rows place.index

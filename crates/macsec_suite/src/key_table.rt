@@ -1,11 +1,11 @@
 //! The table of an endpoint's keys (IEEE 802.1AE, 10.7).
 
-ghost use Rattle.std.specs.Prelude.{◌≡◌, ◌≤◌, ◌+◌, [], ◌∷◌, ◌++◌, length, slice_get, IfOk, OnOk, OnErr, IsSome, IfSome, MatchOption, option_map, Some, None};
+ghost use Rattle.std.specs.Prelude.{◌≡◌, ◌≤◌, ◌+◌, [], ◌∷◌, ◌++◌, length, slice_get, IfOk, OnOk, OnErr, IfSome, MatchOption, is_some, option_map, Some, None};
 ghost use Rattle.std.specs.List.{list_any};
 ghost use Rattle.macsec_aes.specs.Keys.{key_bytes};
 ghost use Rattle.macsec_gcm.specs.Octets.{same_octets};
 ghost use Rattle.macsec_suite.specs.KeyRows.{AreKeyRows, is_extended, key_row, keys_noting, keys_retiring, keys_with, max_key_count, suite_of, the_key, widest_beside};
-ghost use Rattle.macsec_suite.specs.KeyTables.{HasOwnKey, extended_count, first_unused_of, row_shown, stored_row};
+ghost use Rattle.macsec_suite.specs.KeyTables.{HasOwnKey, IsPlace, extended_count, first_unused_of, row_shown, stored_row};
 ghost use Rattle.macsec_suite.specs.Suites.{key_length};
 ghost use Rattle.macsec_suite.specs.Refusals.{first_refusal, install_refusals, is_repeated, refusal_of, retire_refusals};
 
@@ -22,6 +22,22 @@ const PLACE_COUNT: usize = MAX_KEY_COUNT as usize;
 
 /// The index entry of a number without a key. No row has this index.
 const NO_PLACE: u16 = MAX_KEY_COUNT;
+
+/// Where a key is in its table: its number and the index of its row.
+#[derive(Clone, Copy)]
+pub struct KeyPlace {
+    number: KeyNumber,
+    index: u16,
+}
+
+impl KeyPlace {
+    /// The number of the key.
+    pub fn number(&self) -> KeyNumber
+        ensures { result ≡ self.now.number }
+    {
+        self.number
+    }
+}
 
 /// An installed key and the first packet number that was never used under it.
 #[derive(Drop)]
@@ -125,8 +141,8 @@ impl KeyTable {
         if in_use {
             return Err(Refusal::KeyInUse);
         }
-        let place = self.place_of(number);
-        let stored = &mut self.rows[place];
+        let index = self.index_of(number) as usize;
+        let stored = &mut self.rows[index];
         self.extended -= stored.extended_count();
         stored.row.retired = true;
         Ok(())
@@ -140,6 +156,29 @@ impl KeyTable {
     {
         let stored = self.stored(number)?;
         Some(&stored.row)
+    }
+
+    /// Finds a key by its number.
+    pub fn find(&self, number: KeyNumber) -> Option<KeyPlace>
+        ensures found { is_some result ≡ is_some (key_row self.now number) }
+        ensures number { IfSome result (λ place. place.number ≡ number) }
+        ensures place { IfSome result (IsPlace self.now) }
+    {
+        let index = self.index_of(number);
+        if (index as usize) < self.rows.len() {
+            Some(KeyPlace { number, index })
+        } else {
+            None
+        }
+    }
+
+    /// Returns the row of the key at this place. Its `suite_key` is prepared as in `key`.
+    pub fn key_at(&self, place: &KeyPlace) -> &KeyRow
+        requires { IsPlace self.now place.now }
+        ensures row { key_row self.now place.now.number ≡ Some (row_shown result.now (the_key self.now place.now.number).first_unused) }
+        ensures prepared { HasOwnKey result.now }
+    {
+        &self.rows[place.index as usize].row
     }
 
     /// Returns the first packet number that was never used under the key.
@@ -176,15 +215,14 @@ impl KeyTable {
         self.extended != 0
     }
 
-    /// Records that the packet number `pn` was used under a key, which must be in the table. The first unused number
-    /// becomes `pn` + 1 even if it was greater before, so call this with rising numbers.
-    pub fn note_used(&mut self, number: KeyNumber, pn: u64)
-        requires { IsSome (key_row self.old number) }
-        ensures noted { self.new ≡ keys_noting self.old number pn }
+    /// Records that the packet number `pn` was used under the key at this place. The first unused number becomes
+    /// `pn` + 1 even if it was greater before, so call this with rising numbers.
+    pub fn note_used(&mut self, place: &KeyPlace, pn: u64)
+        requires { IsPlace self.old place.now }
+        ensures noted { self.new ≡ keys_noting self.old place.now.number pn }
         ensures rows { AreKeyRows self.new }
     {
-        let place = self.place_of(number);
-        let stored = &mut self.rows[place];
+        let stored = &mut self.rows[place.index as usize];
         stored.first_unused = u128::from(pn) + 1;
     }
 
@@ -193,14 +231,14 @@ impl KeyTable {
             (λ s. key_row self.now number ≡ Some (stored_row s.now)) }
         ensures prepared { IfSome result (λ s. HasOwnKey s.now.row) }
     {
-        self.rows.as_slice().get(self.place_of(number))
+        self.rows.as_slice().get(self.index_of(number) as usize)
     }
 
     /// The index of the key's row, or an index past the last row if there is no such key.
-    fn place_of(&self, number: KeyNumber) -> usize
+    fn index_of(&self, number: KeyNumber) -> u16
         ensures { key_row self.now number ≡ slice_get self.now result }
     {
-        usize::from(self.places[usize::from(number.number())])
+        self.places[usize::from(number.number())]
     }
 
     /// Whether a key with these bytes was installed, retired or not. It compares every row.

@@ -16,8 +16,8 @@
 //!
 //! Proved: a `KeyTable` is the list of its keys in the order of their installation. `install` and `retire` refuse with
 //! the first refusal that applies, and then change nothing. Otherwise they change the one key and no other, as does
-//! `note_used`, whose key must be in the table. So no key number and no key bytes are installed twice, even after a key
-//! is retired. Only `KeyTable::new` takes an allocator.
+//! `note_used`, which like `key_at` requires the place of a key. So no key number and no key bytes are installed twice,
+//! even after a key is retired. Only `KeyTable::new` takes an allocator.
 #![tactic(auto)]
 
 mod in_place;
@@ -35,7 +35,7 @@ pub use in_place::{protect_in_place, seal_in_place, validate_in_place};
 pub use iv::iv_of;
 pub use key_number::KeyNumber;
 pub use key_row::{KeyRow, NewKey};
-pub use key_table::KeyTable;
+pub use key_table::{KeyPlace, KeyTable};
 pub use refusal::Refusal;
 pub use suite::Suite;
 pub use suite_key::{SuiteFault, SuiteKey};

@@ -1,9 +1,9 @@
 -- Changes keep the invariant of a transmit SC's rows.
-use Rattle.std.proofs.Common.{◌≡◌, ℕ, ◌<◌, ◌+◌, ◌-◌, Bool, true, false, cond, List, [], ◌∷◌, ◌++◌, map, length, refl, arith, sym, ap, subst, take, drop, get_or, ◌∙◌}
-use Rattle.std.specs.Prelude.{Some, None, IfSome, ◌==◌, ◌^◌, if◌then◌else◌}
+use Rattle.std.proofs.Common.{◌≡◌, ℕ, zero, suc, ◌<◌, Bool, true, false, cond, List, [], ◌∷◌, map, set, length, refl, arith, sym, ap, subst, drop, eq-eqb, ◌∙◌}
+use Rattle.std.specs.Prelude.{Some, None, IfSome, ◌==◌, ◌^◌, slice_get, if◌then◌else◌}
 use Rattle.std.specs.List.{refill, filter}
-use Rattle.std.proofs.lemmas.List.{take_at, length-take-le, length-map, get_or-append_right, get_or-drop}
-use Rattle.std.proofs.lemmas.Bool.{eqb-true}
+use Rattle.std.proofs.lemmas.List.{take_at}
+use Rattle.std.proofs.lemmas.Bool.{eqb-false, eqb-true, ne_eqb}
 use Rattle.macsec_tx.specs.declared.TxRow.{TxRow}
 use Rattle.macsec_tx.specs.Transmit.{tx_row, next_used, used_at}
 use Rattle.macsec_tx.specs.Rows.{AreTxRows, IsTxRow}
@@ -92,12 +92,48 @@ AreTxRows-used_at an (row ∷ rows) h small =
         (record { an = h.0.an; key = h.0.key; next_least = omega arith; next = omega (arith, h') }, subst (λ o. IfSome o (λ row. row.next < 2 ^ 64)) (sym none) tt)
     by_test false other h' = (h.0, h')
 
--- an element that a loop has not reached is unchanged
-pub get_or-not_reached : {X : Type 0} (f : X → X) (xs ys : List X) (i : ℕ) (d : X) → i < length xs → ys ≡ map f (take i xs) ++ drop i xs → get_or ys i d ≡ get_or xs i d
-get_or-not_reached f xs ys i d within is =
-    let long : length (map f (take i xs)) ≡ i = length-map (take i xs) f ∙ length-take-le i xs (omega (arith, within)) in
-    let place : i + (i - i) ≡ i = omega arith in
-    ap (λ zs. get_or zs i d) is
-    ∙ get_or-append_right (map f (take i xs)) (drop i xs) i i d long (omega arith)
-    ∙ get_or-drop i xs (i - i) d
-    ∙ ap (λ k. get_or xs k d) place
+-- ---- using the packet number of the SA at an index
+
+-- no SA has the number: nothing changes
+used_at-free : (rows : List TxRow) (an : ℕ) → tx_row rows an ≡ None → map (used_at an) rows ≡ rows
+used_at-free [] an free = refl
+used_at-free (row ∷ rows) an free =
+    let parts = none_found (row.an == an) row (tx_row rows an) free in
+    rw parts.0 (ap (λ rest. row ∷ rest) (used_at-free rows an parts.1))
+
+-- an SA's number is not a number that no SA has
+number-differs : (rows : List TxRow) (an i : ℕ) (row : TxRow) → tx_row rows an ≡ None → slice_get rows i ≡ Some row → (row.an == an) ≡ false
+number-differs [] an i row free there = cc
+number-differs (first ∷ rows) an zero row free there =
+    let parts = none_found (first.an == an) first (tx_row rows an) free in
+    let same : first ≡ row = cc in
+    rw (sym same) parts.0
+number-differs (first ∷ rows) an (suc i) row free there =
+    let parts = none_found (first.an == an) first (tx_row rows an) free in
+    number-differs rows an i row parts.1 there
+
+-- the one SA with its number is changed at its index
+pub used_at-set : (rows : List TxRow) (i : ℕ) (row : TxRow) → AreTxRows rows → slice_get rows i ≡ Some row → map (used_at row.an) rows ≡ set rows i (next_used row)
+used_at-set [] i row h there = cc
+used_at-set (first ∷ rows) zero row h there =
+    let same : first ≡ row = cc in
+    let changed : used_at row.an first ≡ next_used row = rw (eq-eqb first.an row.an (ap (λ r. r.an) same)) (ap next_used same) in
+    both changed (used_at-free rows row.an (subst (λ n. tx_row rows n ≡ None) (ap (λ r. r.an) same) h.1))
+  where
+    both : {x y : TxRow} {xs ys : List TxRow} → x ≡ y → xs ≡ ys → x ∷ xs ≡ y ∷ ys
+    both p q = cc
+used_at-set (first ∷ rows) (suc i) row h there =
+    let differs : (row.an == first.an) ≡ false = number-differs rows first.an i row h.1 there in
+    let other : (first.an == row.an) ≡ false = ne_eqb first.an row.an (λ e. eqb-false row.an first.an differs (sym e)) in
+    rw other (ap (λ rest. first ∷ rest) (used_at-set rows i row h.2 there))
+
+-- the SA at the index is found by its number
+pub tx_row-at : (rows : List TxRow) (i : ℕ) (row : TxRow) → AreTxRows rows → slice_get rows i ≡ Some row → tx_row rows row.an ≡ Some row
+tx_row-at [] i row h there = cc
+tx_row-at (first ∷ rows) zero row h there =
+    let same : first ≡ row = cc in
+    rw (eq-eqb first.an row.an (ap (λ r. r.an) same)) (ap Some same)
+tx_row-at (first ∷ rows) (suc i) row h there =
+    let differs : (row.an == first.an) ≡ false = number-differs rows first.an i row h.1 there in
+    let other : (first.an == row.an) ≡ false = ne_eqb first.an row.an (λ e. eqb-false row.an first.an differs (sym e)) in
+    rw other (tx_row-at rows i row h.2 there)

@@ -1,9 +1,8 @@
 -- Lemmas on the rows of a transmit SC: their numbers, their space, and finding them.
 use Rattle.std.proofs.Common.{◌≡◌, ℕ, suc, ◌<◌, ◌≤◌, ◌+◌, Bool, true, false, cond, List, [], ◌∷◌, ◌++◌, map, length, refl, arith, eqb, sym, ap, ◌||◌, inl, inr, drop, get_or, ◌∙◌}
-use Rattle.std.specs.Prelude.{Option, Some, None, is_some, ◌==◌, ◌^◌, if◌then◌else◌}
-use Rattle.std.specs.List.{All, IsDistinct, AllByRecursion, list_any}
+use Rattle.std.specs.Prelude.{Option, Some, None, is_some, ◌==◌, if◌then◌else◌}
+use Rattle.std.specs.List.{IsDistinct, AllByRecursion, list_any}
 use Rattle.std.proofs.lemmas.List.{drop_more}
-use Rattle.std.proofs.lemmas.List.Elements.{All-cons, All-nil}
 use Rattle.std.proofs.lemmas.Map.Steps.{length-le_from_distinct_below}
 use Rattle.std.proofs.lemmas.Bool.{ne_eqb, eq-eqb, eqb-false, eqb-true}
 use Rattle.std.proofs.lemmas.Bool.Decides.{eqb_tells}
@@ -79,11 +78,6 @@ AreTxRows-append (row ∷ rows) new h free small =
 pub none_from_is_some : {A : Type 0} (o : Option A) → is_some o ≡ false → o ≡ None
 none_from_is_some None h = refl
 none_from_is_some (Some x) h = cc
-
--- no next packet number is above 2^64
-pub all_within : (rows : List TxRow) → AreTxRows rows → All (λ row. row.next ≤ 2 ^ 64) rows
-all_within [] h = All-nil (λ row. row.next ≤ 2 ^ 64)
-all_within (row ∷ rows) h = All-cons (λ row. row.next ≤ 2 ^ 64) row rows h.0.next (all_within rows h.2)
 
 -- the enabled SA is the one found by its number
 pub row_on_is_there : (rows : List TxRow) → AreTxRows rows → (row : TxRow) → row_on rows ≡ Some row → tx_row rows row.an ≡ Some row

@@ -1,13 +1,12 @@
 //! The SAs of the transmit SC, and the commands on them.
 
-ghost use Rattle.std.specs.Prelude.{◌≡◌, ◌<◌, ◌≤◌, ◌^◌, [], map, IfSome, OnOk, OnErr, Some};
-ghost use Rattle.std.specs.List.{All};
+ghost use Rattle.std.specs.Prelude.{◌≡◌, ◌<◌, ◌^◌, [], length, map, set, slice_get, IfSome, OnOk, OnErr, Some};
 ghost use Rattle.macsec_suite.specs.Refusals.{first_refusal, refusal_of};
-ghost use Rattle.macsec_tx.specs.Transmit.{row_on, tx_row, used_at};
-ghost use Rattle.macsec_tx.specs.Rows.{AreTxRows};
+ghost use Rattle.macsec_tx.specs.Transmit.{next_used, row_on, tx_row, used_at};
+ghost use Rattle.macsec_tx.specs.Rows.{AreTxRows, IsEnabled};
 ghost use Rattle.macsec_tx.specs.Commands.{HaveKeys, off_at, switch_to, tx_off_refusals, tx_on_refusals, tx_sa_refusals, tx_uses, with_tx_off, with_tx_on, with_tx_sa, without_tx};
 
-use crate::TxRow;
+use crate::{EnabledSa, TxRow};
 use arrayvec::ArrayVec;
 use macsec_suite::{KeyNumber, KeyTable, Refusal};
 use macsec_tag::{ASSOCIATION_COUNT, An};
@@ -54,17 +53,27 @@ impl TxChannel {
         None
     }
 
+    /// Finds the enabled SA.
+    pub fn enabled(&self) -> Option<EnabledSa>
+        ensures { IsEnabled self.now result }
+    {
+        let rows = self.rows.as_slice();
+        'rows: for index in 0..rows.len() {
+            let row = rows[index];
+            if row.on {
+                return Some(EnabledSa { index, row });
+            }
+        }
+        None
+    }
+
     /// Returns the enabled SA.
     pub fn row_on(&self) -> Option<TxRow>
         ensures row { result ≡ row_on self.now }
         ensures number { IfSome result (λ row. tx_row self.now row.an ≡ Some row) }
     {
-        for row in self.rows.as_slice() {
-            if row.on {
-                return Some(*row);
-            }
-        }
-        None
+        let enabled = self.enabled()?;
+        Some(enabled.row)
     }
 
     /// Whether an SA uses the key.
@@ -173,14 +182,18 @@ impl TxChannel {
         Ok(())
     }
 
-    /// Advances the next packet number of the SA with this association number, if there is one. The number must have 64
-    /// bits.
-    pub(crate) fn use_number(&mut self, an: An)
-        requires { IfSome (tx_row self.old an) (λ row. row.next < 2 ^ 64) }
-        ensures used { self.new ≡ map (used_at an) self.old }
+    /// Advances the next packet number of the enabled SA, as `enabled` found it. The number must have 64 bits.
+    pub(crate) fn use_number(&mut self, enabled: &EnabledSa)
+        requires at { slice_get self.old enabled.now.index ≡ Some enabled.now.row }
+        requires next { enabled.now.row.next < 2 ^ 64 }
+        ensures used { self.new ≡ map (used_at enabled.now.row.an) self.old }
         ensures rows { AreTxRows self.new }
     {
-        use_number(self.rows.as_mut_slice(), an);
+        set_row(
+            self.rows.as_mut_slice(),
+            enabled.index,
+            used_row(enabled.row),
+        );
     }
 }
 
@@ -219,25 +232,19 @@ fn switch_off(rows: &mut [TxRow], an: An)
     }
 }
 
-/// The SA, with its next packet number advanced if it has this association number.
-fn used_row(row: TxRow, an: An) -> TxRow
-    requires { row.next ≤ 2 ^ 64 }
-    ensures { result ≡ used_at an row }
+/// The SA, with its next packet number advanced.
+fn used_row(row: TxRow) -> TxRow
+    requires { row.next < 2 ^ 64 }
+    ensures { result ≡ next_used row }
 {
-    if row.an.number() == an.number() {
-        let next = row.next + 1;
-        TxRow { next, ..row }
-    } else {
-        row
-    }
+    let next = row.next + 1;
+    TxRow { next, ..row }
 }
 
-/// Advances the next packet number of the SA with this association number.
-fn use_number(rows: &mut [TxRow], an: An)
-    requires { All (λ row. row.next ≤ 2 ^ 64) rows.old }
-    ensures { rows.new ≡ map (used_at an) rows.old }
+/// Replaces the SA at this index.
+fn set_row(rows: &mut [TxRow], index: usize, row: TxRow)
+    requires { index < length rows.old }
+    ensures { rows.new ≡ set rows.old index row }
 {
-    for row in rows.iter_mut() {
-        *row = used_row(*row, an);
-    }
+    rows[index] = row;
 }

@@ -6,8 +6,8 @@
 //! work: what is sent, and under which key. The SA and its key use a packet number exactly if a protected frame is
 //! planned. Such a plan is a `SealJob`. `SealJob::seal` makes the protected frame of the prepared key and the client
 //! frame. It needs no SA, so the result is the same whatever the transmit SC did in between. By its type a job is
-//! sealed at most once. `plan_frame` requires a client frame of 14 to 9,248 octets. Like `tx_on`, it requires that the
-//! key of each SA is in the table.
+//! sealed at most once. `plan_frame` requires a client frame of 14 to 9,248 octets, and the enabled SA as `enabled`
+//! found it. Like `tx_on`, it requires that the key of each SA is in the table.
 //!
 //! The law `laws::read_as_sent`: take a client frame of 14 octets or more, an SCI of 8 octets and an association number
 //! from 0 to 3. The protected frame then reads as the parts that were sent, and is as long as the client frame, SecTAG
@@ -20,7 +20,7 @@ mod sending;
 
 pub use channel::TxChannel;
 pub use macsec_commands::TagForm;
-use macsec_suite::KeyNumber;
+use macsec_suite::{KeyNumber, KeyPlace};
 use macsec_tag::{An, Sci, SecTag};
 
 /// The options of transmission.
@@ -53,6 +53,15 @@ pub struct TxRow {
     pub on: bool,
 }
 
+/// The enabled SA of a transmit SC.
+#[derive(Clone, Copy)]
+pub struct EnabledSa {
+    /// Its index among the SAs of the transmit SC.
+    pub(crate) index: usize,
+    /// The SA.
+    pub row: TxRow,
+}
+
 /// How a client frame will be sent, or why it is dropped. A protected frame is not made yet.
 #[derive(Drop)]
 pub enum TxPlan {
@@ -70,8 +79,8 @@ pub enum TxPlan {
 /// the job, and it cannot be copied, so that its IV is used at most once.
 #[derive(Drop)]
 pub struct SealJob {
-    /// The number of the key.
-    pub(crate) key: KeyNumber,
+    /// The place of the key.
+    pub(crate) key: KeyPlace,
     /// The IV.
     pub(crate) iv: [u8; 12],
     /// The SecTAG.

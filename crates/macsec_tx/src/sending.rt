@@ -1,8 +1,9 @@
 //! How a client frame is sent.
 
-ghost use Rattle.std.specs.Prelude.{◌≡◌, ◌<◌, ◌≤◌, ◌+◌, ◌^◌, ◌++◌, length, take, drop, slice_range, nat_lt, if◌then◌else◌, IsSome, Some, SomeIff, ℕ, List};
+ghost use Rattle.std.specs.Prelude.{◌≡◌, ◌<◌, ◌≤◌, ◌+◌, ◌^◌, ◌++◌, length, take, drop, slice_range, nat_lt, if◌then◌else◌, Some, SomeIff, ℕ, List};
 ghost use Rattle.std.specs.Option.{ForSome};
-ghost use Rattle.macsec_suite.specs.KeyRows.{AreKeyRows, key_row, the_key};
+ghost use Rattle.macsec_suite.specs.KeyRows.{AreKeyRows, the_key};
+ghost use Rattle.macsec_suite.specs.KeyTables.{IsPlace};
 ghost use Rattle.macsec_suite.specs.Suites.{iv_of, last_of};
 ghost use Rattle.macsec_tag.specs.Tag.{encoding};
 ghost use Rattle.macsec_tag.specs.Frame.{in_a_row};
@@ -10,24 +11,33 @@ ghost use Rattle.macsec_tag.specs.Limits.{max_frame_len, min_frame_len};
 ghost use Rattle.macsec_tx.specs.Tags.{es_sent, is_own, scb_sent, sci_sent, sl_of};
 ghost use Rattle.macsec_tx.specs.Transmit.{keys_after, octets_added, parts_under, rows_after, sending, sending_by, tag_sent};
 ghost use Rattle.macsec_tx.specs.Commands.{HaveKeys};
-ghost use Rattle.macsec_tx.specs.Rows.{AreTxRows};
-ghost use Rattle.macsec_tx.specs.Answers.{IfJob, PlansLeaving, frame_sealed};
+ghost use Rattle.macsec_tx.specs.Rows.{AreTxRows, IsEnabled};
+ghost use Rattle.macsec_tx.specs.Answers.{Encrypts, IfJob, PlansLeaving, frame_sealed};
 
-use crate::{SealJob, TagForm, TxChannel, TxOptions, TxPlan, TxRow};
+use crate::{EnabledSa, SealJob, TagForm, TxChannel, TxOptions, TxPlan, TxRow};
 use macsec_pn::TxNumbers;
 use macsec_suite::laws::parts_in_place;
-use macsec_suite::{KeyNumber, KeyRow, KeyTable, SuiteKey, iv_of, protect_in_place};
+use macsec_suite::{KeyNumber, KeyPlace, KeyRow, KeyTable, SuiteKey, iv_of, protect_in_place};
 use macsec_tag::{ADDRESSES_LENGTH, ICV_LENGTH, Sci, SecTag, write_tag};
 
 impl TxChannel {
     /// Decides how a client frame of `MIN_FRAME_LEN` to `MAX_FRAME_LEN` octets is sent, and takes the packet number of a
-    /// protected frame. `SealJob::seal` makes that frame later. The key of each SA must be in the table.
-    pub fn plan_frame(&mut self, keys: &mut KeyTable, options: &TxOptions, frame: &[u8]) -> TxPlan
+    /// protected frame. `SealJob::seal` makes that frame later. `enabled` is the result of `enabled`, and nothing has
+    /// changed since. The key of each SA must be in the table.
+    pub fn plan_frame(
+        &mut self,
+        keys: &mut KeyTable,
+        options: &TxOptions,
+        enabled: &Option<EnabledSa>,
+        frame: &[u8],
+    ) -> TxPlan
+        requires enabled { IsEnabled self.old enabled.now }
         requires keys_there { HaveKeys keys.old self.old }
         requires frame_long { min_frame_len ≤ length frame.now }
         requires frame_short { length frame.now ≤ max_frame_len }
         ensures leaving { PlansLeaving result keys.new frame.now (sending options.now keys.old self.old frame.now).leaving }
         ensures fits { IfJob result (λ job. length frame.now + octets_added job.tag ≤ options.now.max_frame) }
+        ensures encrypts { IfJob result (λ job. Encrypts (sending options.now keys.old self.old frame.now).by job.tag.e) }
         ensures associations { self.new ≡ rows_after self.old (sending options.now keys.old self.old frame.now).by }
         ensures keys { keys.new ≡ keys_after keys.old (sending options.now keys.old self.old frame.now).by }
         ensures rows { IfJob result (λ job. AreTxRows self.new) }
@@ -36,17 +46,17 @@ impl TxChannel {
         if !options.protect {
             return plain(options, frame);
         }
-        let Some(row) = self.row_on() else {
+        let Some(enabled) = enabled else {
             return TxPlan::NoSa;
         };
-        let key = keys.key(row.key).unwrap();
-        let Some(pn) = number_of_frame(key, &row) else {
+        let place = keys.find(enabled.row.key).unwrap();
+        let Some(pn) = number_of_frame(keys.key_at(&place), &enabled.row) else {
             return TxPlan::NoSa;
         };
-        let plan = plan_under(keys, options, &row, pn, frame);
+        let plan = plan_under(keys, &place, options, &enabled.row, pn, frame);
         if let TxPlan::Job(_) = &plan {
-            keys.note_used(row.key, pn);
-            self.use_number(row.an);
+            keys.note_used(&place, pn);
+            self.use_number(enabled);
         }
         plan
     }
@@ -55,9 +65,23 @@ impl TxChannel {
 impl SealJob {
     /// The number of the key that the job needs.
     pub fn key(&self) -> KeyNumber
-        ensures { result ≡ self.now.key }
+        ensures { result ≡ self.now.key.number }
     {
-        self.key
+        self.key.number()
+    }
+
+    /// The place of that key in its table.
+    pub fn key_place(&self) -> &KeyPlace
+        ensures { result.now ≡ self.now.key }
+    {
+        &self.key
+    }
+
+    /// Whether the frame is encrypted.
+    pub fn encrypts(&self) -> bool
+        ensures { result ≡ self.now.tag.e }
+    {
+        self.tag.e()
     }
 
     /// The length of the protected frame of a client frame of `len` octets.
@@ -122,24 +146,34 @@ fn plain(options: &TxOptions, frame: &[u8]) -> TxPlan
     }
 }
 
-/// How the enabled SA sends the frame. `pn` is its next packet number and not past the last one.
-fn plan_under(keys: &KeyTable, options: &TxOptions, row: &TxRow, pn: u64, frame: &[u8]) -> TxPlan
-    requires key_there { IsSome (key_row keys.now row.now.key) }
+/// How the enabled SA sends the frame. `place` is that of its key. `pn` is its next packet number and not past the last
+/// one.
+fn plan_under(
+    keys: &KeyTable,
+    place: &KeyPlace,
+    options: &TxOptions,
+    row: &TxRow,
+    pn: u64,
+    frame: &[u8],
+) -> TxPlan
+    requires place { IsPlace keys.now place.now }
+    requires key { place.now.number ≡ row.now.key }
     requires next { pn ≡ row.now.next }
     requires left { pn ≤ last_of (the_key keys.now row.now.key).suite }
     requires frame_long { min_frame_len ≤ length frame.now }
     requires frame_short { length frame.now ≤ max_frame_len }
     ensures leaving { PlansLeaving result keys.now frame.now (sending_by options.now keys.now frame.now (Some row.now)).leaving }
     ensures fits { IfJob result (λ job. length frame.now + octets_added job.tag ≤ options.now.max_frame) }
+    ensures encrypts { IfJob result (λ job. Encrypts (sending_by options.now keys.now frame.now (Some row.now)).by job.tag.e) }
 {
-    let key = keys.key(row.key).unwrap();
+    let key = keys.key_at(place);
     let tag = tag_of(options, row, pn, frame);
     if is_too_long(options, &tag, frame) {
         return TxPlan::TooLong;
     }
     let iv = iv_of_frame(options, key, pn);
     TxPlan::Job(SealJob {
-        key: row.key,
+        key: *place,
         iv,
         tag,
     })

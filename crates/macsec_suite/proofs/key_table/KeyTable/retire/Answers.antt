@@ -15,32 +15,32 @@ abbrev retired : StoredKey → StoredKey
 retired key = record { row = record key.row { retired = true }; first_unused = key.first_unused }
 
 is_changed : (c : goal.After-self-1) → IsChanged retired_row c.args.number c.self.inside.places.items c.self.inside.rows.items
-    (set c.self.inside.rows.items c.place_of-place.result (retired c.index_mut-stored.result.now))
+    (set c.self.inside.rows.items c.index_of-index.result (retired c.index_mut-stored.result.now))
 is_changed c =
     let some : IsSome (key_row c.args.self.now c.args.number) = rw c.in-Some.ensures.row refl in
     IsChanged-set retired_row (λ row. refl)
     (λ row is. record { number = is.number; bytes = is.bytes; salt = is.salt; ssci = is.ssci; first_unused_least = is.first_unused_least; first_unused = is.first_unused })
-    c.args.number c.place_of-place.result c.self.inside.places.items c.self.inside.rows.items c.index_mut-stored.result.now _
+    c.args.number c.index_of-index.result c.self.inside.places.items c.self.inside.rows.items c.index_mut-stored.result.now _
     (c.self.invariant.1, c.self.invariant.2) c.self.invariant.3
-    (rw c.self.view_is c.place_of-place.ensures) (rw c.self.view_is some) c.index_mut-stored.ensures.value refl (λ own. own)
+    (rw c.self.view_is c.index_of-index.ensures) (rw c.self.view_is some) c.index_mut-stored.ensures.value refl (λ own. own)
 
 pub overflow_sub-self : goal.overflow_sub-self
 overflow_sub-self c =
     let keys = c.self.inside.rows.items in
-    let place = c.place_of-place.result in
+    let place = c.index_of-index.result in
     let old = c.index_mut-stored.result.now in
     let some : IsSome (key_row c.args.self.now c.args.number) = rw c.in-Some.ensures.row refl in
-    let within : place < length keys = place_within keys (key_row (map stored_row keys) c.args.number) place (rw c.self.view_is some) (rw c.self.view_is c.place_of-place.ensures) in
+    let within : place < length keys = place_within keys (key_row (map stored_row keys) c.args.number) place (rw c.self.view_is some) (rw c.self.view_is c.index_of-index.ensures) in
     omega (arith, extended_count-retiring keys place old (retired old) within c.index_mut-stored.ensures.value refl, c.self.invariant.4, c.extended_count.ensures.count)
 
 pub invariant_of-self : goal.invariant_of-self
 invariant_of-self c =
     let changed = is_changed c in
     let keys = c.self.inside.rows.items in
-    let place = c.place_of-place.result in
+    let place = c.index_of-index.result in
     let old = c.index_mut-stored.result.now in
     let some : IsSome (key_row c.args.self.now c.args.number) = rw c.in-Some.ensures.row refl in
-    let within : place < length keys = place_within keys (key_row (map stored_row keys) c.args.number) place (rw c.self.view_is some) (rw c.self.view_is c.place_of-place.ensures) in
+    let within : place < length keys = place_within keys (key_row (map stored_row keys) c.args.number) place (rw c.self.view_is some) (rw c.self.view_is c.index_of-index.ensures) in
     let count = extended_count-retiring keys place old (retired old) within c.index_mut-stored.ensures.value refl in
     (c.self.invariant.0, changed.are.0, changed.are.1, changed.index, omega (arith, count, c.self.invariant.4, c.extended_count.ensures.count))
 

@@ -1,4 +1,4 @@
--- The plan is made over the keys as they were; noting the packet number keeps the prepared keys.
+-- The plan is made over the keys as they were; noting the packet number keeps the prepared keys and their places.
 use Rattle.std.proofs.Common.{rules, sym, subst, List, ℕ}
 use Rattle.macsec_suite.specs.KeyRows.{InstalledKey}
 use Rattle.macsec_tx.specs.Transmit.{Leaving, sending}

@@ -1,21 +1,42 @@
--- Using a packet number keeps the invariant of the rows, since one is left. Proved from the lemma on that change in
--- `ChangedRows`.
-use Rattle.std.proofs.Common.{length, ap, sym, subst, ◌∙◌, ◌<◌}
-use Rattle.std.specs.Prelude.{IfSome, ◌^◌}
-use Rattle.macsec_tx.specs.Transmit.{tx_row}
-use Rattle.macsec_tx.proofs.ChangedRows.{AreTxRows-refill, AreTxRows-used_at}
-use Rattle.macsec_tx.proofs.TxRows.{all_within}
+-- Using a packet number changes the one row of the enabled SA, and keeps the invariant of the rows, since a number is
+-- left. Proved from the lemmas on that change in `ChangedRows`.
+use Rattle.std.proofs.Common.{◌≡◌, ◌<◌, List, map, length, drop, ap, sym, subst, ◌∙◌}
+use Rattle.std.specs.Prelude.{IfSome, Some, ◌^◌, slice_get}
+use Rattle.std.proofs.lemmas.List.{take_at}
+use Rattle.std.proofs.lemmas.Option.{slice_get_within}
+use Rattle.macsec_tx.specs.declared.TxRow.{TxRow}
+use Rattle.macsec_tx.specs.Rows.{AreTxRows}
+use Rattle.macsec_tx.specs.Transmit.{used_at}
+use Rattle.macsec_tx.proofs.ChangedRows.{AreTxRows-refill, AreTxRows-used_at, tx_row-at, used_at-set}
 use Rattle.macsec_tx.proofs.channel.TxChannel.use_number.Goals as goal
 
-pub use_number-requires : goal.use_number-requires
-use_number-requires c = rw c.as_mut_slice.ensures.value (all_within _ c.self.invariant)
+pub set_row-requires : goal.set_row-requires
+set_row-requires c =
+    let at = subst (λ (rows : List TxRow). slice_get rows c.args.enabled.now.index ≡ Some c.args.enabled.now.row) (sym c.self.view_is) c.requires.at in
+    rw c.as_mut_slice.ensures.value (slice_get_within c.self.inside.rows.items c.args.enabled.now.index c.args.enabled.now.row at)
+
+-- the rows after the call are those in which the enabled SA has used its number
+changed : (c : goal.After-self-1) → c.set_row.new.rows ≡ map (used_at c.args.enabled.now.row.an) c.self.inside.rows.items
+changed c =
+    let rows = c.self.inside.rows.items in
+    let at = subst (λ (rows : List TxRow). slice_get rows c.args.enabled.now.index ≡ Some c.args.enabled.now.row) (sym c.self.view_is) c.requires.at in
+    c.set_row.ensures ∙ rw (c.as_mut_slice.ensures.value, c.used_row.ensures) (sym (used_at-set rows c.args.enabled.now.index c.args.enabled.now.row c.self.invariant at))
 
 pub invariant_of-self : goal.invariant_of-self
 invariant_of-self c =
     let rows = c.self.inside.rows.items in
-    let left = subst (λ rows. IfSome (tx_row rows c.args.an) (λ row. row.next < 2 ^ 64)) (sym c.self.view_is) c.requires in
-    AreTxRows-refill rows c.use_number.new.rows (c.use_number.auto.rows ∙ ap length c.as_mut_slice.ensures.value)
-    (rw (c.use_number.ensures, c.as_mut_slice.ensures.value) (AreTxRows-used_at c.args.an rows c.self.invariant left))
+    let row = c.args.enabled.now.row in
+    let at = subst (λ (rows : List TxRow). slice_get rows c.args.enabled.now.index ≡ Some row) (sym c.self.view_is) c.requires.at in
+    let left = subst (λ o. IfSome o (λ (row : TxRow). row.next < 2 ^ 64)) (sym (tx_row-at rows c.args.enabled.now.index row c.self.invariant at)) c.requires.next in
+    AreTxRows-refill rows c.set_row.new.rows (c.set_row.auto.rows ∙ ap length c.as_mut_slice.ensures.value)
+    (subst AreTxRows (sym (changed c)) (AreTxRows-used_at row.an rows c.self.invariant left))
+
+pub returns-clause-used : goal.returns-clause-used
+returns-clause-used c =
+    let rows = c.self.inside.rows.items in
+    let new = c.set_row.new.rows in
+    take_at new (drop (length new) rows) (length rows) (c.set_row.auto.rows ∙ ap length c.as_mut_slice.ensures.value)
+    ∙ changed c ∙ ap (map (used_at c.args.enabled.now.row.an)) c.self.view_is
 
 pub returns-clause-rows : goal.returns-clause-rows
 returns-clause-rows c = invariant_of-self c

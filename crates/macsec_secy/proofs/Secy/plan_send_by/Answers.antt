@@ -5,8 +5,8 @@ use Rattle.macsec_secy.specs.Step.{client_frame, step}
 use Rattle.macsec_secy.specs.Sound.{IsSound}
 use Rattle.macsec_secy.specs.contracts.Secy.{the_view}
 use Rattle.macsec_secy.proofs.SentFrames.{sound_after}
-use Rattle.macsec_secy.proofs.Secy.plan_send.Goals.{After-plan_frame}
-use Rattle.macsec_secy.proofs.Secy.plan_send.Goals as goal
+use Rattle.macsec_secy.proofs.Secy.plan_send_by.Goals.{After-plan_frame}
+use Rattle.macsec_secy.proofs.Secy.plan_send_by.Goals as goal
 
 -- the state after the step is sound, whatever is planned
 sound : (c : After-plan_frame) → IsSound (step c.args.self.now (client_frame c.args.frame.now)).1
