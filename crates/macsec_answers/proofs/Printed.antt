@@ -6,6 +6,7 @@ use Rattle.macsec_commands.specs.declared.event.End.TheVariants.{A}
 use Rattle.macsec_commands.specs.declared.event.Event.TheVariants as event
 use Rattle.macsec_secy.specs.Step.{operator_command, step}
 use Rattle.macsec_reserve.specs.Keeping.{Keeping, endpoint_input, is_below_floor, keeping_step, with_step}
+use Rattle.macsec_script_parser.specs.declared.lines.Action.TheVariants as action
 use Rattle.macsec_script_parser.specs.declared.lines.Line.{Line}
 use Rattle.macsec_script_parser.specs.declared.lines.Line.TheVariants as line
 use Rattle.macsec_answers.specs.Answers.{commanded}
@@ -27,9 +28,10 @@ stepped : (k : Keeping) (c : Command) → is_below_floor k (operator_command c) 
 stepped k c above = second (is_below_floor k (operator_command c)) (not k.keeps || true) _ _ _ above (or_true (not k.keeps))
 
 pub answers_as_printed : (k : Keeping) (n : ℕ) (said : Line) → AnswersAsPrinted k n said
-answers_as_printed k n (line.Event (event.Command A c)) = λ above.
+answers_as_printed k n (line.Action (action.Event (event.Command A c))) = λ above.
     let is = stepped k c above in
     record { text = ap (λ it. (commanded n it.0 it.1).text) is; state = ap (λ it. (commanded n it.0 it.1).after.secy) is }
-answers_as_printed k n (line.Counters A) = λ above. record { text = refl; state = refl }
-answers_as_printed k n (line.Numbers A) = λ above. record { text = refl; state = refl }
-answers_as_printed k n other = λ above. refl
+answers_as_printed k n (line.Action (action.Counters A)) = λ above. record { text = refl; state = refl }
+answers_as_printed k n (line.Action (action.Numbers A)) = λ above. record { text = refl; state = refl }
+answers_as_printed k n (line.End e config) = refl
+answers_as_printed k n (line.Action other) = λ above. refl

@@ -9,10 +9,9 @@ use Rattle.macsec_suite.specs.declared.refusal.Refusal.TheVariants.{KeyLength, O
 use Rattle.macsec_suite.specs.declared.refusal.Refusal.TheVariants.{ScFull, NoSc, AnTaken, NoSa, PnRange, PnLower, PnFloor, SsciOwn, Window, SciForm, Exhausted}
 use Rattle.macsec_commands.specs.declared.command.Command.{Command}
 use Rattle.macsec_commands.specs.declared.event.End.TheVariants.{A}
-use Rattle.macsec_commands.specs.declared.event.Event.TheVariants as event
 use Rattle.macsec_secy.specs.Step.{Output, operator_command, refused}
 use Rattle.macsec_reserve.specs.Keeping.{Keeping, KeepingOutput, dropped_no_reservation, endpoint_input, endpoint_output, keeping_step, noted}
-use Rattle.macsec_script_parser.specs.declared.lines.Line.TheVariants as line
+use Rattle.macsec_script_parser.specs.Kinds.{tells}
 use Rattle.macsec_script_printer.specs.Refusals.{refusal_text}
 use Rattle.macsec_script_printer.specs.OneEnd.{command_text}
 use Rattle.macsec_answers.specs.Answers.{answer_of_line, commanded}
@@ -69,7 +68,7 @@ commanded_short n small dropped_no_reservation k = omega arith
 commanded_short n small noted k = omega arith
 
 -- no answer to a management command needs more than the smallest buffer
-pub command_needs : (k : Keeping) (n : ℕ) (c : Command) → n < 2 ^ 32 → needed (answer_of_line k n (line.Event (event.Command A c))) ≡ 64
+pub command_needs : (k : Keeping) (n : ℕ) (c : Command) → n < 2 ^ 32 → needed (answer_of_line k n (tells A c)) ≡ 64
 command_needs k n c small =
     let after = keeping_step k (endpoint_input (operator_command c)) in
     let short = commanded_short n small after.0 after.1 in

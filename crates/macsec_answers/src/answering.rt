@@ -2,9 +2,8 @@
 
 ghost use Rattle.std.specs.Prelude.{◌≡◌, ◌≤◌, ◌++◌, ℕ, List, IfOk, drop, length, max, true};
 ghost use Rattle.macsec_commands.specs.declared.event.End.TheVariants.{A};
-ghost use Rattle.macsec_commands.specs.declared.event.Event.TheVariants as event;
 ghost use Rattle.macsec_reserve.specs.Keeping.{Keeping};
-ghost use Rattle.macsec_script_parser.specs.declared.lines.Line.TheVariants as line;
+ghost use Rattle.macsec_script_parser.specs.Kinds.{tells};
 ghost use Rattle.macsec_secy.specs.Answers.{output_of_command};
 ghost use Rattle.macsec_answers.specs.declared.Ending.TheVariants.{Wrong};
 ghost use Rattle.macsec_answers.specs.Answers.{Answer, answer_of_line, ending_of_output, shown, wrong};
@@ -14,7 +13,7 @@ use crate::texts::{command_text, counters_text, fault_text, numbers_text};
 use crate::{Answered, Ending};
 use macsec_commands::{Command, End, Event};
 use macsec_reserve::Keeper;
-use macsec_script_parser::{Line, LineFault, ScriptFault, parse_line};
+use macsec_script_parser::{Action, Line, LineFault, ScriptFault, parse_line};
 use macsec_secy::Refusal;
 use std::alloc::Global;
 
@@ -40,16 +39,24 @@ fn answer_line(alloc: Global, keeper: &mut Keeper, n: u32, line: &Line, out: &mu
     ensures { Writes keeper.old (answer_of_line keeper.old n line.now) out.old result out.new keeper.new }
 {
     match line {
-        Line::Event(Event::Command(End::A, command)) => answer_command(keeper, n, command, out),
-        Line::Counters(End::A) => answer_shown(out, counters_text(alloc, n, keeper.secy())),
-        Line::Numbers(End::A) => answer_shown(out, numbers_text(alloc, n, keeper.secy())),
+        Line::Action(Action::Event(Event::Command(End::A, command))) => answer_command(
+            keeper, n, command, out,
+        ),
+        Line::Action(Action::Counters(End::A)) => answer_shown(
+            out,
+            counters_text(alloc, n, keeper.secy()),
+        ),
+        Line::Action(Action::Numbers(End::A)) => answer_shown(
+            out,
+            numbers_text(alloc, n, keeper.secy()),
+        ),
         _ => answer_fault(alloc, n, LineFault::Ends, out),
     }
 }
 
 /// Answers a management command of line `n`.
 fn answer_command(keeper: &mut Keeper, n: u32, command: &Command, out: &mut [u8]) -> Answered
-    ensures { Writes keeper.old (answer_of_line keeper.old n (line.Event (event.Command A command.now))) out.old result out.new keeper.new }
+    ensures { Writes keeper.old (answer_of_line keeper.old n (tells A command.now)) out.old result out.new keeper.new }
 {
     if out.len() < MIN_ANSWER_LEN {
         return Answered {

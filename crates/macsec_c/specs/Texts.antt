@@ -9,7 +9,8 @@ use Rattle.macsec_commands.specs.declared.fault.NewFault.{NewFault}
 use Rattle.macsec_commands.specs.declared.fault.NewFault.TheVariants as new
 use Rattle.macsec_commands.specs.Configs.{config_fault}
 use Rattle.macsec_script_parser.specs.declared.lines.Line.{Line}
-use Rattle.macsec_script_parser.specs.declared.lines.Line.TheVariants.{Event}
+use Rattle.macsec_script_parser.specs.declared.lines.Line.TheVariants as line
+use Rattle.macsec_script_parser.specs.declared.lines.Action.TheVariants as action
 use Rattle.macsec_script_parser.specs.declared.lines.LineFault.{LineFault}
 use Rattle.macsec_script_parser.specs.declared.lines.LineFault.TheVariants.{Ends}
 use Rattle.macsec_script_parser.specs.declared.faults.ScriptFault.{ScriptFault}
@@ -17,7 +18,8 @@ use Rattle.macsec_script_parser.specs.declared.faults.ScriptFault.TheVariants as
 use Rattle.macsec_script_parser.specs.Faults.{fault_line}
 use Rattle.macsec_script_parser.specs.Kinds.{and_then, line_of}
 use Rattle.macsec_script_parser.specs.Readings.{Reads}
-use Rattle.macsec_script_parser.specs.Scripts.{NumberedLine, a_config, config_of}
+use Rattle.macsec_script_parser.specs.Parts.{ConfigParts, NumberedCommand}
+use Rattle.macsec_script_parser.specs.Scripts.{config_of}
 use Rattle.macsec_secy.specs.Step.{Output, refused, operator_command}
 use Rattle.macsec_reserve.specs.declared.keeper.OpenFault.{OpenFault}
 use Rattle.macsec_reserve.specs.declared.keeper.OpenFault.TheVariants as open_fault
@@ -30,7 +32,7 @@ use Rattle.macsec_c_numbers.specs.Statuses.{done_status, empty_status, not_journ
 
 -- the command of a line, if it is a command at end A
 abbrev pub command_of : Line → Option Command
-command_of (Event (event.Command A command)) = Some command
+command_of (line.Action (action.Event (event.Command A command))) = Some command
 command_of other = None
 
 -- ---- a configuration
@@ -51,16 +53,15 @@ after_output n (endpoint_output output) after = after_endpoint_output n output a
 after_output n dropped_no_reservation after = Ok after
 after_output n noted after = Ok after
 
-abbrev pub after_command : ℕ → Keeping → Option Command → Result Keeping ConfigFault
-after_command n k None = Err (Text (script.Ends n))
-after_command n k (Some c) =
+abbrev pub after_command : ℕ → Keeping → Command → Result Keeping ConfigFault
+after_command n k c =
     let after = keeping_step k (endpoint_input (operator_command c)) in
     after_output n after.0 after.1
 
--- the endpoint after the commands of these lines, which are carried out in order until one is refused
-abbrev pub carried_out : Keeping → List NumberedLine → Result Keeping ConfigFault
+-- the endpoint after these commands, which are carried out in order until one is refused
+abbrev pub carried_out : Keeping → List NumberedCommand → Result Keeping ConfigFault
 carried_out k [] = Ok k
-carried_out k (first ∷ more) = and_then (after_command first.0 k (command_of first.1)) (λ after. carried_out after more)
+carried_out k (first ∷ more) = and_then (after_command first.0 k first.1) (λ after. carried_out after more)
 
 -- what creates an endpoint of a configuration
 abbrev pub Creation : Type 0
@@ -83,18 +84,13 @@ created_if true journal config = unless_new_fault (config_fault config) (opened 
 abbrev pub created_beside : List ℕ → Creation
 created_beside journal config = created_if (is_journal journal) journal config
 
-abbrev pub created_at : Creation → ℕ → Option EndConfig → List NumberedLine → Result Keeping ConfigFault
-created_at creation n None commands = Err (Text (script.Ends n))
-created_at creation n (Some config) commands = and_then (creation config) (λ made. carried_out made commands)
+-- the endpoint of a configuration, after its commands
+abbrev pub endpoint_of : Creation → ConfigParts → Result Keeping ConfigFault
+endpoint_of creation config = and_then (creation config.end) (λ made. carried_out made config.commands)
 
--- the endpoint that the first line creates, after the commands of the others
-abbrev pub endpoint_of : Creation → List NumberedLine → Result Keeping ConfigFault
-endpoint_of creation [] = Err (Text (script.Ends 0))
-endpoint_of creation (first ∷ commands) = created_at creation first.0 (a_config first.1) commands
-
--- the same for the lines of a text, or the text's first fault
-abbrev pub endpoint_of_parsed : Creation → Result (List NumberedLine) ScriptFault → Result Keeping ConfigFault
-endpoint_of_parsed creation (Ok lines) = endpoint_of creation lines
+-- the same for a text, or the text's first fault
+abbrev pub endpoint_of_parsed : Creation → Result ConfigParts ScriptFault → Result Keeping ConfigFault
+endpoint_of_parsed creation (Ok config) = endpoint_of creation config
 endpoint_of_parsed creation (Err f) = Err (Text f)
 
 abbrev pub configured : Creation → List ℕ → Result Keeping ConfigFault

@@ -1,9 +1,8 @@
 //! Texts that C gives: the configuration of an endpoint, and the line of one command.
 
-ghost use Rattle.std.specs.Prelude.{◌≡◌, option_map};
+ghost use Rattle.std.specs.Prelude.{◌≡◌};
 ghost use Rattle.macsec_script_parser.specs.Fields.{map_ok};
 ghost use Rattle.macsec_script_parser.specs.Readings.{Reads};
-ghost use Rattle.macsec_script_parser.specs.Scripts.{a_config};
 ghost use Rattle.macsec_c.specs.Texts.{CommandsLine, Configures, MakesConfigured, after_command, carried_out, command_of, configured, endpoint_of, line_command};
 ghost use Rattle.macsec_c.specs.Texts.{created_alone, created_beside};
 ghost use Rattle.macsec_c.specs.Texts.{line_of_config_fault, status_of_config_fault};
@@ -18,7 +17,7 @@ use macsec_c_numbers::{
 };
 use macsec_commands::{End, Event};
 use macsec_reserve::{Keeper, OpenFault};
-use macsec_script_parser::{Line, LineFault, ScriptFault, parse_config, parse_line};
+use macsec_script_parser::{Action, Line, LineFault, ScriptFault, parse_config, parse_line};
 use macsec_secy::{Command, EndConfig, NewFault, Refusal};
 use std::alloc::Global;
 
@@ -97,82 +96,60 @@ impl From<OpenFault> for ConfigFault {
     }
 }
 
-/// The configuration of an `end` line for A.
-fn config_at_a(line: &Line) -> Option<EndConfig>
-    ensures { result ≡ a_config line.now }
-{
-    match line {
-        Line::End(End::A, config) => Some(*config),
-        _ => None,
-    }
-}
-
 /// The command of a line, if it is a command at end A.
 fn command_of(line: &Line) -> Option<Command>
     ensures { result ≡ command_of line.now }
 {
     match line {
-        Line::Event(Event::Command(End::A, command)) => Some(*command),
+        Line::Action(Action::Event(Event::Command(End::A, command))) => Some(*command),
         _ => None,
     }
 }
 
 /// Carries out the command of line `n`.
-fn carry_out_line(keeper: &mut Keeper, n: u32, line: &Line) -> Result<(), ConfigFault>
-    ensures { map_ok (λ done. keeper.new) result ≡ after_command n keeper.old (command_of line.now) }
+fn carry_out_line(keeper: &mut Keeper, n: u32, command: &Command) -> Result<(), ConfigFault>
+    ensures { map_ok (λ done. keeper.new) result ≡ after_command n keeper.old command.now }
 {
-    let Some(command) = command_of(line) else {
-        return Err(ConfigFault::Text(ScriptFault::Ends(n)));
-    };
-    match keeper.command(&command) {
+    match keeper.command(command) {
         Ok(()) => Ok(()),
         Err(refusal) => Err(ConfigFault::Refused(n, refusal)),
     }
 }
 
 /// Carries out the commands of these lines, until one is refused.
-fn carry_out_lines(keeper: &mut Keeper, lines: &[(u32, Line)]) -> Result<(), ConfigFault>
-    ensures { map_ok (λ done. keeper.new) result ≡ carried_out keeper.old lines.now }
+fn carry_out_lines(keeper: &mut Keeper, commands: &[(u32, Command)]) -> Result<(), ConfigFault>
+    ensures { map_ok (λ done. keeper.new) result ≡ carried_out keeper.old commands.now }
 {
-    for (n, line) in lines {
-        carry_out_line(keeper, *n, line)?;
+    for (n, command) in commands {
+        carry_out_line(keeper, *n, command)?;
     }
     Ok(())
 }
 
-/// Creates the endpoint of the first line, and carries out the commands of the others.
-fn endpoint_of_lines(
+/// Creates an endpoint, and carries out these commands.
+fn endpoint_of(
     alloc: Global,
-    lines: &[(u32, Line)],
+    end: EndConfig,
+    commands: &[(u32, Command)],
 ) -> Result<Box<Keeper, Global>, ConfigFault>
-    ensures { MakesConfigured (endpoint_of created_alone lines.now) (map_ok (λ keeper. keeper.value) result) }
+    ensures { MakesConfigured (endpoint_of created_alone (record { end = end; commands = commands.now })) (map_ok (λ keeper. keeper.value) result) }
 {
-    let Some((first, commands)) = lines.split_first() else {
-        return Err(ConfigFault::Text(ScriptFault::Ends(0)));
-    };
-    let Some(config) = config_at_a(&first.1) else {
-        return Err(ConfigFault::Text(ScriptFault::Ends(first.0)));
-    };
-    let mut keeper = endpoint_alone(alloc, config)?;
+    let mut keeper = endpoint_alone(alloc, end)?;
     carry_out_lines(&mut *keeper, commands)?;
     Ok(keeper)
 }
 
-/// Creates the endpoint of the first line beside a journal, and carries out the commands of the others.
-fn endpoint_of_lines_beside(
+/// Creates an endpoint beside a journal, and carries out these commands.
+fn endpoint_of_beside(
     alloc: Global,
-    lines: &[(u32, Line)],
+    end: EndConfig,
+    commands: &[(u32, Command)],
     journal: &[u8],
 ) -> Result<Box<Keeper, Global>, ConfigFault>
-    ensures { MakesConfigured (endpoint_of (created_beside journal.now) lines.now) (map_ok (λ keeper. keeper.value) result) }
+    ensures { MakesConfigured (endpoint_of (created_beside journal.now) (record { end = end; commands = commands.now }))
+        (map_ok (λ keeper. keeper.value) result) }
 {
-    let Some((first, commands)) = lines.split_first() else {
-        return Err(ConfigFault::Text(ScriptFault::Ends(0)));
-    };
-    let Some(config) = config_at_a(&first.1) else {
-        return Err(ConfigFault::Text(ScriptFault::Ends(first.0)));
-    };
-    let mut keeper = endpoint_beside(alloc, config, journal)?;
+    let mut keeper = endpoint_beside(alloc, end, journal)?;
     carry_out_lines(&mut *keeper, commands)?;
     Ok(keeper)
 }
@@ -181,8 +158,8 @@ fn endpoint_of_lines_beside(
 fn configured(alloc: Global, text: &[u8]) -> Result<Box<Keeper, Global>, ConfigFault>
     ensures { MakesConfigured (configured created_alone text.now) (map_ok (λ keeper. keeper.value) result) }
 {
-    let lines = parse_config(alloc, text)?;
-    endpoint_of_lines(alloc, lines.as_slice())
+    let parsed = parse_config(alloc, text)?;
+    endpoint_of(alloc, parsed.end.config(), parsed.commands.as_slice())
 }
 
 /// Creates the endpoint of a configuration beside a journal, and carries out the configuration's commands.
@@ -193,8 +170,13 @@ fn configured_beside(
 ) -> Result<Box<Keeper, Global>, ConfigFault>
     ensures { MakesConfigured (configured (created_beside journal.now) text.now) (map_ok (λ keeper. keeper.value) result) }
 {
-    let lines = parse_config(alloc, text)?;
-    endpoint_of_lines_beside(alloc, lines.as_slice(), journal)
+    let parsed = parse_config(alloc, text)?;
+    endpoint_of_beside(
+        alloc,
+        parsed.end.config(),
+        parsed.commands.as_slice(),
+        journal,
+    )
 }
 
 /// Creates the endpoint of a configuration in a handle without one, and carries out the configuration's commands. If

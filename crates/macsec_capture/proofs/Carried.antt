@@ -5,21 +5,21 @@ use Rattle.std.specs.Prelude.{Option}
 use Rattle.std.specs.Io.KnownBytes.{Appends}
 use Rattle.std.proofs.KnownBytes.{Appends-trans}
 use Rattle.macsec_secy.specs.State.{State}
-use Rattle.macsec_script_parser.specs.Scripts.{NumberedLine}
+use Rattle.macsec_script_parser.specs.Parts.{NumberedCommand}
 use Rattle.macsec_capture.specs.Captured.{Part, commands_part, line_part}
 
 -- what was printed, followed by what is still to come, is the whole
-pub record IsOnTheWay (whole : Part) (old now : Option (List ℕ)) (s : State) (rest : List NumberedLine) : Type 0 where
+pub record IsOnTheWay (whole : Part) (old now : Option (List ℕ)) (s : State) (rest : List NumberedCommand) : Type 0 where
   pub lines : List ℕ
   pub prints : Appends old now lines
   pub texts : lines ++ (commands_part s rest).text ≡ whole.text
   pub state : (commands_part s rest).state ≡ whole.state
 
-first_left : (lines : List NumberedLine) (i : ℕ) (entry : NumberedLine) → entry ≡ get_or lines i entry → i < length lines → drop i lines ≡ entry ∷ drop (i + 1) lines
+first_left : (lines : List NumberedCommand) (i : ℕ) (entry : NumberedCommand) → entry ≡ get_or lines i entry → i < length lines → drop i lines ≡ entry ∷ drop (i + 1) lines
 first_left lines i entry item within = drop_more lines i entry within ∙ ap (λ e. e ∷ drop (i + 1) lines) (sym item)
 
 -- one more command was carried out
-pub one_more : (whole : Part) (old now new : Option (List ℕ)) (s after : State) (lines : List NumberedLine) (i : ℕ) (entry : NumberedLine) →
+pub one_more : (whole : Part) (old now new : Option (List ℕ)) (s after : State) (lines : List NumberedCommand) (i : ℕ) (entry : NumberedCommand) →
     entry ≡ get_or lines i entry → i < length lines → IsOnTheWay whole old now s (drop i lines) →
     Appends now new (line_part s entry).text → after ≡ (line_part s entry).state → IsOnTheWay whole old new after (drop (i + 1) lines)
 one_more whole old now new s after lines i entry item within way adds same =

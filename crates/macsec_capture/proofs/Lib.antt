@@ -2,7 +2,6 @@ pub mod Carried
 pub mod Configured
 pub mod Cuts
 pub mod Ended
-pub mod Ends
 pub mod Grown
 pub mod Lengths
 pub mod Stops

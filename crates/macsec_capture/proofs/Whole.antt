@@ -4,9 +4,8 @@ use Rattle.std.specs.Prelude.{Option, Some, None, Result, Ok, Err, IfErr, IfSome
 use Rattle.std.specs.Io.{StartsWith}
 use Rattle.std.specs.Io.KnownBytes.{Appends, Keeps}
 use Rattle.std.proofs.KnownBytes.{Appends-nil, Appends-trans, Keeps-refl}
-use Rattle.macsec_commands.specs.declared.config.EndConfig.{EndConfig}
 use Rattle.macsec_secy.specs.State.{State, start}
-use Rattle.macsec_script_parser.specs.Scripts.{NumberedLine}
+use Rattle.macsec_script_parser.specs.Parts.{ConfigParts}
 use Rattle.macsec_script_parser.specs.declared.faults.ScriptFault.{ScriptFault}
 use Rattle.macsec_script_parser.specs.declared.faults.ScriptFault.TheVariants as script
 use Rattle.macsec_script_printer.specs.declared.counters.Label.TheVariants.{End}
@@ -385,53 +384,53 @@ late_as_read (Err (Script fault)) late = late
 late_as_read (Err (Pcap Memory)) late = tt
 late_as_read (Err (Pcap fault)) late = tt
 
-pub configured_over : (direction : Direction) (config : EndConfig) (commands : List NumberedLine) (first s : State) (file : Result CaptureFile PcapFault)
+pub configured_over : (direction : Direction) (config : ConfigParts) (first s : State) (file : Result CaptureFile PcapFault)
     (o n t m u : Option (List ℕ)) (answer : Result (Unit {0}) CaptureFault) →
-    first ≡ start config → s ≡ (commands_part first commands).state → Appends t m (commands_part first commands).text → IfErr answer IsLateFault →
+    first ≡ start config.end → s ≡ (commands_part first config.commands).state → Appends t m (commands_part first config.commands).text → IfErr answer IsLateFault →
     CaptureGives (captured_after direction (nothing s) file) (known o m) (known n u) answer →
-    CaptureGives (captured_at direction (Some (config, commands)) file) (known o t) (known n u) answer
-configured_over direction config commands first s file o n t m u answer created same adds late gives =
-    ready_gives direction (commands_part (start config) commands) s file (known o t) (known o m) (known n u)
-    (same ∙ ap (λ v. (commands_part v commands).state) created) refl (subst (λ v. Appends t m (commands_part v commands).text) created adds) answer late gives
+    CaptureGives (captured_at direction config file) (known o t) (known n u) answer
+configured_over direction config first s file o n t m u answer created same adds late gives =
+    ready_gives direction (commands_part (start config.end) config.commands) s file (known o t) (known o m) (known n u)
+    (same ∙ ap (λ v. (commands_part v config.commands).state) created) refl (subst (λ v. Appends t m (commands_part v config.commands).text) created adds) answer late gives
 
-pub configured_gives : (direction : Direction) (config : EndConfig) (commands : List NumberedLine) (first s : State) (input o n t m u : Option (List ℕ))
+pub configured_gives : (direction : Direction) (config : ConfigParts) (first s : State) (input o n t m u : Option (List ℕ))
     (answer : Result (Unit {0}) CaptureFault) →
-    first ≡ start config → s ≡ (commands_part first commands).state → Appends t m (commands_part first commands).text → IfErr answer IsLateFault →
+    first ≡ start config.end → s ≡ (commands_part first config.commands).state → Appends t m (commands_part first config.commands).text → IfErr answer IsLateFault →
     IfSome input (λ file. CaptureGives (captured_after direction (nothing s) (captures_of file)) (known o m) (known n u) answer) →
-    IfSome input (λ file. CaptureGives (captured_at direction (Some (config, commands)) (captures_of file)) (known o t) (known n u) answer)
-configured_gives direction config commands first s None o n t m u answer created same adds late gives = tt
-configured_gives direction config commands first s (Some file) o n t m u answer created same adds late gives =
-    configured_over direction config commands first s (captures_of file) o n t m u answer created same adds late gives
+    IfSome input (λ file. CaptureGives (captured_at direction config (captures_of file)) (known o t) (known n u) answer)
+configured_gives direction config first s None o n t m u answer created same adds late gives = tt
+configured_gives direction config first s (Some file) o n t m u answer created same adds late gives =
+    configured_over direction config first s (captures_of file) o n t m u answer created same adds late gives
 
-pub configured_some : (direction : Direction) (config : EndConfig) (commands : List NumberedLine) (first s : State) (o n t m u : Option (List ℕ))
+pub configured_some : (direction : Direction) (config : ConfigParts) (first s : State) (o n t m u : Option (List ℕ))
     (answer : Result (Unit {0}) CaptureFault) →
-    first ≡ start config → s ≡ (commands_part first commands).state → Appends t m (commands_part first commands).text → IfErr answer IsLateFault →
+    first ≡ start config.end → s ≡ (commands_part first config.commands).state → Appends t m (commands_part first config.commands).text → IfErr answer IsLateFault →
     (file : Result CaptureFile PcapFault) × CaptureGives (captured_after direction (nothing s) file) (known o m) (known n u) (as_read answer) →
-    (file : Result CaptureFile PcapFault) × CaptureGives (captured_at direction (Some (config, commands)) file) (known o t) (known n u) (as_read answer)
-configured_some direction config commands first s o n t m u answer created same adds late (file, gives) = (
+    (file : Result CaptureFile PcapFault) × CaptureGives (captured_at direction config file) (known o t) (known n u) (as_read answer)
+configured_some direction config first s o n t m u answer created same adds late (file, gives) = (
   file,
-  configured_over direction config commands first s file o n t m u (as_read answer) created same adds (late_as_read answer late) gives,
+  configured_over direction config first s file o n t m u (as_read answer) created same adds (late_as_read answer late) gives,
 )
 
 -- the commands can't be printed
-unprinted_over : (direction : Direction) (config : EndConfig) (commands : List NumberedLine) (file : Result CaptureFile PcapFault) (o t u : Option (List ℕ)) →
-    CaptureGives (captured_at direction (Some (config, commands)) file) (known o t) (known o u) (Err (Script script.Write))
-unprinted_over direction config commands file o t u =
-    let ready = commands_part (start config) commands in
+unprinted_over : (direction : Direction) (config : ConfigParts) (file : Result CaptureFile PcapFault) (o t u : Option (List ℕ)) →
+    CaptureGives (captured_at direction config file) (known o t) (known o u) (Err (Script script.Write))
+unprinted_over direction config file o t u =
+    let ready = commands_part (start config.end) config.commands in
     subst (λ stops. AtSome stops (λ stop. Appends o o stop.output)) (same_stops direction ready file)
     (some_at_first direction ready file (λ stop. Appends o o stop.output) (Appends-nil o))
 
-pub unprinted : (direction : Direction) (config : EndConfig) (commands : List NumberedLine) (input o t u : Option (List ℕ)) (fault : ScriptFault) → fault ≡ script.Write →
-    IfSome input (λ file. CaptureGives (captured_at direction (Some (config, commands)) (captures_of file)) (known o t) (known o u) (Err (Script fault)))
-unprinted direction config commands None o t u fault is = tt
-unprinted direction config commands (Some file) o t u fault is =
-    subst (λ f. CaptureGives (captured_at direction (Some (config, commands)) (captures_of file)) (known o t) (known o u) (Err (Script f))) (sym is)
-    (unprinted_over direction config commands (captures_of file) o t u)
+pub unprinted : (direction : Direction) (config : ConfigParts) (input o t u : Option (List ℕ)) (fault : ScriptFault) → fault ≡ script.Write →
+    IfSome input (λ file. CaptureGives (captured_at direction config (captures_of file)) (known o t) (known o u) (Err (Script fault)))
+unprinted direction config None o t u fault is = tt
+unprinted direction config (Some file) o t u fault is =
+    subst (λ f. CaptureGives (captured_at direction config (captures_of file)) (known o t) (known o u) (Err (Script f))) (sym is)
+    (unprinted_over direction config (captures_of file) o t u)
 
-pub unprinted_some : (direction : Direction) (config : EndConfig) (commands : List NumberedLine) (o t u : Option (List ℕ)) (fault : ScriptFault) → fault ≡ script.Write →
-    (file : Result CaptureFile PcapFault) × CaptureGives (captured_at direction (Some (config, commands)) file) (known o t) (known o u) (as_read (Err (Script fault)))
-unprinted_some direction config commands o t u fault is = (
+pub unprinted_some : (direction : Direction) (config : ConfigParts) (o t u : Option (List ℕ)) (fault : ScriptFault) → fault ≡ script.Write →
+    (file : Result CaptureFile PcapFault) × CaptureGives (captured_at direction config file) (known o t) (known o u) (as_read (Err (Script fault)))
+unprinted_some direction config o t u fault is = (
   Err Read,
-  subst (λ f. CaptureGives (captured_at direction (Some (config, commands)) (Err Read)) (known o t) (known o u) (as_read (Err (Script f)))) (sym is)
-      (unprinted_over direction config commands (Err Read) o t u),
+  subst (λ f. CaptureGives (captured_at direction config (Err Read)) (known o t) (known o u) (as_read (Err (Script f)))) (sym is)
+      (unprinted_over direction config (Err Read) o t u),
 )

@@ -1,18 +1,14 @@
 -- What a run over a capture file writes to the output and to the text.
 use Rattle.std.specs.Prelude.{ℕ, ◌+◌, List, [], ◌∷◌, ◌++◌, length, map, take, Option, Some, None, Result, Ok, Err, option_map}
 use Rattle.std.specs.List.{range_with_len}
-use Rattle.macsec_commands.specs.declared.config.EndConfig.{EndConfig}
 use Rattle.macsec_secy.specs.State.{State, start}
-use Rattle.macsec_secy.specs.Step.{Input, client_frame, link_frame, operator_command, Output, refused, leaves, received, step}
-use Rattle.macsec_link_events.specs.declared.Outcome.{Outcome}
-use Rattle.macsec_link_events.specs.declared.Outcome.TheVariants.{Done, Refused}
-use Rattle.macsec_commands.specs.declared.event.Event.TheVariants as event
-use Rattle.macsec_script_parser.specs.declared.lines.Line.TheVariants as line
+use Rattle.macsec_secy.specs.Step.{Input, client_frame, link_frame, operator_command, Output, leaves, received, step}
 use Rattle.macsec_script_parser.specs.declared.faults.ScriptFault.{ScriptFault}
-use Rattle.macsec_script_parser.specs.Scripts.{NumberedLine, a_config, config_of}
+use Rattle.macsec_script_parser.specs.Parts.{ConfigParts, NumberedCommand}
+use Rattle.macsec_script_parser.specs.Scripts.{config_of}
 use Rattle.macsec_script_printer.specs.declared.counters.Label.TheVariants.{End}
 use Rattle.macsec_script_printer.specs.Counters.{counters_text}
-use Rattle.macsec_script_printer.specs.Outcomes.{outcome_text}
+use Rattle.macsec_script_printer.specs.OneEnd.{command_text}
 use Rattle.macsec_pcap.specs.declared.fault.PcapFault.{PcapFault}
 use Rattle.macsec_pcap.specs.Records.{CaptureRecord, Content, whole, partial, other_link}
 use Rattle.macsec_pcap.specs.Captures.{CaptureFile}
@@ -43,27 +39,16 @@ and_after first next = record {
 
 -- ---- the configuration
 
--- the outcome of a command, as a line of a script prints it
-abbrev pub command_outcome : Output → Outcome
-command_outcome (refused r) = Refused r
-command_outcome other = Done
-
 abbrev pub command_part : ℕ → Output × State → Part
-command_part n answer = record { output = []; text = outcome_text n None (Ok (command_outcome answer.0)); state = answer.1 }
+command_part n answer = record { output = []; text = command_text n answer.0; state = answer.1 }
 
--- what line n of a configuration prints; all lines but the first are commands
-abbrev pub line_part : State → NumberedLine → Part
-line_part s (n, line.Event (event.Command e command)) = command_part n (step s (operator_command command))
-line_part s other = nothing s
+-- what line n of a configuration prints
+abbrev pub line_part : State → NumberedCommand → Part
+line_part s (n, command) = command_part n (step s (operator_command command))
 
-abbrev pub commands_part : State → List NumberedLine → Part
+abbrev pub commands_part : State → List NumberedCommand → Part
 commands_part s [] = nothing s
 commands_part s (said ∷ more) = and_after (line_part s said) (λ after. commands_part after more)
-
--- the configuration of the first line, if that is an `end` line for A, and the lines after it
-abbrev pub one_end : List NumberedLine → Option (EndConfig × List NumberedLine)
-one_end [] = None
-one_end (first ∷ more) = option_map (λ config. (config, more)) (a_config first.1)
 
 -- ---- the records
 
@@ -163,14 +148,12 @@ captured_after direction ready (Err fault) = record {
 captured_after direction ready (Ok file) =
     captured_file direction ready file (records_part direction ready.state 0 file.capture.records)
 
--- every configuration without a fault has an end (`configs_have_an_end`)
-abbrev pub captured_at : Direction → Option (EndConfig × List NumberedLine) → Result CaptureFile PcapFault → Captured
-captured_at direction None file = record { output = []; text = []; fault = None; stops = record { output = []; text = [] } ∷ [] }
-captured_at direction (Some (config, commands)) file = captured_after direction (commands_part (start config) commands) file
+abbrev pub captured_at : Direction → ConfigParts → Result CaptureFile PcapFault → Captured
+captured_at direction config file = captured_after direction (commands_part (start config.end) config.commands) file
 
-abbrev pub captured_by : Direction → Result (List NumberedLine) ScriptFault → Result CaptureFile PcapFault → Captured
+abbrev pub captured_by : Direction → Result ConfigParts ScriptFault → Result CaptureFile PcapFault → Captured
 captured_by direction (Err fault) file = record { output = []; text = []; fault = Some (Script fault); stops = [] }
-captured_by direction (Ok lines) file = captured_at direction (one_end lines) file
+captured_by direction (Ok config) file = captured_at direction config file
 
 -- a run in this direction, by this configuration, over this capture
 abbrev pub captured_over : Direction → List ℕ → Result CaptureFile PcapFault → Captured

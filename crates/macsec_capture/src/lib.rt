@@ -22,7 +22,6 @@
 
 mod commands;
 mod fault;
-pub mod laws;
 mod lines;
 mod records;
 mod running;

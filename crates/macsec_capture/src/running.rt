@@ -1,7 +1,6 @@
 //! A run over a capture file: from the input to the output, by a configuration, with a line of text for each record.
 
-ghost use Rattle.std.specs.Prelude.{◌≡◌, ℕ, List, IfErr, IfSome, None, Ok, Result, Some};
-ghost use Rattle.macsec_commands.specs.Configs.{config_fault};
+ghost use Rattle.std.specs.Prelude.{◌≡◌, ℕ, List, IfErr, IfSome, Ok, Result};
 ghost use Rattle.macsec_secy.specs.Sound.{IsSound};
 ghost use Rattle.macsec_pcap.specs.declared.fault.PcapFault.{PcapFault};
 ghost use Rattle.macsec_pcap.specs.Captures.{CaptureFile};
@@ -11,15 +10,14 @@ ghost use Rattle.macsec_pcapng.specs.Captures.{captures_of};
 ghost use Rattle.macsec_capture.specs.Captured.{captured, captured_after, captured_at, nothing};
 ghost use Rattle.macsec_capture.specs.Runs.{CaptureGives, IsAfterConfig, IsLateFault, JudgesConfig, LeavesBoth, RunsOverSome, RunsSome, TakesFile, as_read, flushed_end};
 
-use crate::commands::{endpoint_of, one_end, run_commands};
+use crate::commands::{endpoint_of, run_commands};
 use crate::records::run_records;
 use crate::{CaptureFault, Direction};
-use macsec_commands::EndConfig;
+use macsec_commands::Command;
 use macsec_pcap::{PcapFault, PcapWriter, write_header};
 use macsec_pcapng::CaptureReader;
 use macsec_pcapng::laws::faults_are_of_format;
-use macsec_script_parser::laws::parsed_lines_fit;
-use macsec_script_parser::{Line, ScriptFault, parse_config, read_text};
+use macsec_script_parser::{CheckedEnd, ScriptFault, parse_config, read_text};
 use macsec_script_printer::{Label, print_counters};
 use macsec_secy::Secy;
 use std::alloc::Global;
@@ -82,31 +80,33 @@ pub fn run_config<R: Read, W: Write, T: Write>(
     ensures unwritten { IfErr result (LeavesBoth (record { output = W.contents output.old; text = T.contents text.old })
         (record { output = W.contents output.new; text = T.contents text.new })) }
 {
-    // A law that the proof cites.
-    parsed_lines_fit();
-    let lines = parse_config(alloc, config)?;
-    let Some((end, commands)) = one_end(lines.as_slice()) else {
-        return Ok(());
-    };
-    run_configured(alloc, direction, end, commands, input, output, text)
+    let config = parse_config(alloc, config)?;
+    run_configured(
+        alloc,
+        direction,
+        config.end,
+        config.commands.as_slice(),
+        input,
+        output,
+        text,
+    )
 }
 
 /// Creates an endpoint of this configuration, carries out its commands, and runs it over a capture file.
 fn run_configured<R: Read, W: Write, T: Write>(
     alloc: Global,
     direction: Direction,
-    end: EndConfig,
-    commands: &[(u32, Line)],
+    end: CheckedEnd,
+    commands: &[(u32, Command)],
     input: &mut R,
     output: &mut W,
     text: &mut T,
 ) -> Result<(), CaptureFault>
-    requires { config_fault end ≡ None }
     ensures run { IfSome (R.remaining input.old) (λ file.
-        CaptureGives (captured_at direction (Some (end, commands.now)) (captures_of file)) (record { output = W.contents output.old; text = T.contents text.old })
+        CaptureGives (captured_at direction (record { end = end; commands = commands.now }) (captures_of file)) (record { output = W.contents output.old; text = T.contents text.old })
         (record { output = W.contents output.new; text = T.contents text.new }) result) }
     ensures some { (file : Result CaptureFile PcapFault) ×
-        CaptureGives (captured_at direction (Some (end, commands.now)) file) (record { output = W.contents output.old; text = T.contents text.old })
+        CaptureGives (captured_at direction (record { end = end; commands = commands.now }) file) (record { output = W.contents output.old; text = T.contents text.old })
         (record { output = W.contents output.new; text = T.contents text.new }) (as_read result) }
     ensures fault { IfErr result IsAfterConfig }
     ensures unwritten { IfErr result (LeavesBoth (record { output = W.contents output.old; text = T.contents text.old })

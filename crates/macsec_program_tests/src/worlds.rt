@@ -4,7 +4,7 @@ mod limits;
 mod logs;
 
 use macsec_link::{EndConfig, Sci, Suite, TagForm, World};
-use macsec_script_parser::{Line, parse_script};
+use macsec_script_parser::{Action, parse_script};
 use std::alloc::Global;
 use std::process::Abort;
 use std::test::Fail;
@@ -25,10 +25,10 @@ pub const B: EndConfig = EndConfig {
 };
 
 /// Carries out the events of these lines. Returns whether none of them has a fault.
-fn carry_out(world: &mut World, lines: &[(u32, Line)]) -> bool {
+fn carry_out(world: &mut World, lines: &[(u32, Action)]) -> bool {
     let mut is_done = true;
-    for (_, line) in lines {
-        if let Line::Event(event) = line {
+    for (_, action) in lines {
+        if let Action::Event(event) = action {
             is_done = is_done && world.step(event).is_ok();
         }
     }
@@ -37,8 +37,10 @@ fn carry_out(world: &mut World, lines: &[(u32, Line)]) -> bool {
 
 /// The world of A and B after the events of a script, which have no fault.
 pub fn world_after(rt: &impl Abort, alloc: Global, script: &str) -> Result<World, Fail> {
-    let lines = parse_script(alloc, script.as_bytes())?;
+    let script = parse_script(alloc, script.as_bytes())?;
     let mut world = World::new(alloc, A, B)?;
-    assert!(rt; carry_out(&mut world, lines.as_slice()));
+    if let Some(script) = script {
+        assert!(rt; carry_out(&mut world, script.lines.as_slice()));
+    }
     Ok(world)
 }

@@ -1,8 +1,6 @@
 pub mod Examples
-pub mod GoodEnds
 pub mod OneEnd
 pub mod TextOfWorlds
 pub mod Promised
 pub mod Runs
-pub mod TwoEnds
 pub mod Unwritten

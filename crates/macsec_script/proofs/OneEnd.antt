@@ -8,8 +8,8 @@ use Rattle.macsec_secy.specs.Commands.{refusal}
 use Rattle.macsec_link.specs.World.{WorldState, with_end}
 use Rattle.macsec_link.specs.Step.{reaction}
 use Rattle.macsec_link_logs.specs.Ends.{EndState, end_after}
-use Rattle.macsec_script_parser.specs.declared.lines.Line.{Line}
-use Rattle.macsec_script_parser.specs.declared.lines.Line.TheVariants as line
+use Rattle.macsec_script_parser.specs.declared.lines.Action.{Action}
+use Rattle.macsec_script_parser.specs.declared.lines.Action.TheVariants as action
 use Rattle.macsec_script_printer.specs.OneEnd.{command_text}
 use Rattle.macsec_script.specs.Printed.{text_and_world}
 use Rattle.macsec_script.specs.OneEnd.{NeedsOneEnd}
@@ -20,11 +20,11 @@ told : (w : WorldState) (n : ℕ) (e : EndState) (r : Option Refusal) →
 told w n e None = refl
 told w n e (Some r) = refl
 
-pub needs_one_end : (w : WorldState) (n : ℕ) (said : Line) → NeedsOneEnd w n said
-needs_one_end w n (line.Event (event.Command A c)) =
+pub needs_one_end : (w : WorldState) (n : ℕ) (said : Action) → NeedsOneEnd w n said
+needs_one_end w n (action.Event (event.Command A c)) =
     let input = operator_command c in
     let is = told w n (end_after w.a input (step w.a.state input)) (refusal w.a.state c) in
     record { text = ap (λ it. it.0) is; state = ap (λ it. it.1.a.state) is; other_end = ap (λ it. it.1.b) is; link = ap (λ it. it.1.frames) is }
-needs_one_end w n (line.Counters A) = record { text = refl; state = refl; other_end = refl; link = refl }
-needs_one_end w n (line.Numbers A) = record { text = refl; state = refl; other_end = refl; link = refl }
+needs_one_end w n (action.Counters A) = record { text = refl; state = refl; other_end = refl; link = refl }
+needs_one_end w n (action.Numbers A) = record { text = refl; state = refl; other_end = refl; link = refl }
 needs_one_end w n other = tt

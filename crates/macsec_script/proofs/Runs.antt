@@ -12,11 +12,11 @@ use Rattle.macsec_link.specs.World.{WorldState}
 use Rattle.macsec_link.specs.Step.{world_after, world_step}
 use Rattle.macsec_link.specs.Sound.{IsSound}
 use Rattle.macsec_link.specs.Beginnings.{StaysSound}
-use Rattle.macsec_script_parser.specs.declared.lines.Line.{Line}
-use Rattle.macsec_script_parser.specs.declared.lines.Line.TheVariants as line
+use Rattle.macsec_script_parser.specs.declared.lines.Action.{Action}
+use Rattle.macsec_script_parser.specs.declared.lines.Action.TheVariants as action
 use Rattle.macsec_script_parser.specs.declared.faults.ScriptFault.{ScriptFault}
 use Rattle.macsec_script_parser.specs.declared.faults.ScriptFault.TheVariants.{Memory, Write}
-use Rattle.macsec_script_parser.specs.Scripts.{NumberedLine}
+use Rattle.macsec_script_parser.specs.Parts.{NumberedLine}
 use Rattle.macsec_script.specs.Printed.{line_step, text_from}
 use Rattle.macsec_script.specs.Promised.{IsPromisedBefore, IsSoundUpTo, LeavesAll, UnlessMemory, event_of, events_of, text_after}
 use Rattle.macsec_script.specs.Runs.{WritesText}
@@ -41,12 +41,11 @@ pub record CarriedOut (start : WorldState) (before : List NumberedLine) (old mid
 pub none_yet : (start : WorldState) (old : Option (List ℕ)) → (IsSound start → StaysSound start []) → CarriedOut start [] old old start
 none_yet start old stays = record { written = Appends-nil old; world = refl; sound = λ sound. sound; stays = stays }
 
-stays_with : StepIsSound → (start : WorldState) (events : List Event) (n : ℕ) (said : Line) → IsSound (line_step (world_after start events) n said).1 →
+stays_with : StepIsSound → (start : WorldState) (events : List Event) (n : ℕ) (said : Action) → IsSound (line_step (world_after start events) n said).1 →
     StaysSound start events → StaysSound start (events ++ event_of said)
-stays_with law start events n (line.End e config) sound stays = subst (StaysSound start) (sym (append-nil events)) stays
-stays_with law start events n (line.Event event) sound stays = law start events event stays sound
-stays_with law start events n (line.Counters e) sound stays = subst (StaysSound start) (sym (append-nil events)) stays
-stays_with law start events n (line.Numbers e) sound stays = subst (StaysSound start) (sym (append-nil events)) stays
+stays_with law start events n (action.Event event) sound stays = law start events event stays sound
+stays_with law start events n (action.Counters e) sound stays = subst (StaysSound start) (sym (append-nil events)) stays
+stays_with law start events n (action.Numbers e) sound stays = subst (StaysSound start) (sym (append-nil events)) stays
 
 with_line : StepIsSound → (start : WorldState) (before : List NumberedLine) (entry : NumberedLine) (old mid new : Option (List ℕ)) (w after : WorldState) →
     Appends mid new (line_step w entry.0 entry.1).0 → after ≡ (line_step w entry.0 entry.1).1 → (IsSound w → IsSound after) →

@@ -3,9 +3,9 @@ use Rattle.std.proofs.Common.{◌≡◌, ℕ, List, [], ◌∷◌, ◌++◌, ref
 use Rattle.macsec_commands.specs.declared.event.Event.{Event}
 use Rattle.macsec_link.specs.World.{WorldState}
 use Rattle.macsec_link.specs.Step.{world_after, world_step}
-use Rattle.macsec_script_parser.specs.declared.lines.Line.{Line}
-use Rattle.macsec_script_parser.specs.declared.lines.Line.TheVariants as line
-use Rattle.macsec_script_parser.specs.Scripts.{NumberedLine}
+use Rattle.macsec_script_parser.specs.declared.lines.Action.{Action}
+use Rattle.macsec_script_parser.specs.declared.lines.Action.TheVariants as action
+use Rattle.macsec_script_parser.specs.Parts.{NumberedLine}
 use Rattle.macsec_script.specs.Printed.{line_step, text_from}
 use Rattle.macsec_script.specs.Promised.{IsTextOfWorlds, event_of, events_of, text_after}
 
@@ -18,11 +18,10 @@ events_of-append [] ys = refl
 events_of-append ((n, said) ∷ xs) ys = ap (λ es. event_of said ++ es) (events_of-append xs ys) ∙ sym (append_assoc (event_of said) (events_of xs) (events_of ys))
 
 -- the world after a line is the world after its event
-world_of_line : (w : WorldState) (n : ℕ) (said : Line) → (line_step w n said).1 ≡ world_after w (event_of said)
-world_of_line w n (line.End e config) = refl
-world_of_line w n (line.Event event) = refl
-world_of_line w n (line.Counters e) = refl
-world_of_line w n (line.Numbers e) = refl
+world_of_line : (w : WorldState) (n : ℕ) (said : Action) → (line_step w n said).1 ≡ world_after w (event_of said)
+world_of_line w n (action.Event event) = refl
+world_of_line w n (action.Counters e) = refl
+world_of_line w n (action.Numbers e) = refl
 
 text_from-append : (w : WorldState) (xs ys : List NumberedLine) → text_from w (xs ++ ys) ≡ text_from w xs ++ text_from (world_after w (events_of xs)) ys
 text_from-append w [] ys = refl

@@ -3,11 +3,13 @@ use Rattle.std.proofs.Common.{◌≡◌, ℕ, List, [], drop, refl, sym, ◌∙�
 use Rattle.std.specs.Prelude.{Option, Some, None, Result, Ok, Err, IfSome, IfErr, ◌≤◌, length}
 use Rattle.std.specs.Io.KnownBytes.{Keeps}
 use Rattle.std.proofs.KnownBytes.{Appends-nil, Appends-kept, Keeps-refl, starts_with_rest}
+use Rattle.macsec_commands.specs.declared.config.EndConfig.{EndConfig}
 use Rattle.macsec_script_parser.specs.declared.faults.ScriptFault.{ScriptFault}
 use Rattle.macsec_script_parser.specs.declared.faults.ScriptFault.TheVariants.{Memory, Read, Write}
 use Rattle.macsec_script_parser.specs.Fields.{map_ok}
-use Rattle.macsec_script_parser.specs.Scripts.{NumberedLine, script_of}
-use Rattle.macsec_script.specs.Printed.{printed_text, text_of}
+use Rattle.macsec_script_parser.specs.Scripts.{script_of}
+use Rattle.macsec_script_parser.specs.Parts.{NumberedLine, ScriptParts}
+use Rattle.macsec_script.specs.Printed.{printed_text, text_of, text_of_any}
 use Rattle.macsec_script.specs.Runs.{IsAfterRead, IsBegun, LeavesText, RunGives, WritesText}
 use Rattle.macsec_script_parser.specs.Readings.{Parses}
 
@@ -20,7 +22,7 @@ pub out_of_memory : (script : List ℕ) (old new : Option (List ℕ)) → Keeps 
 out_of_memory script old new kept = ([], begun_by_nothing (printed_text script), Appends-kept old old new [] (Appends-nil old) kept)
 
 printed_fault : (script : List ℕ) (f : ScriptFault) → script_of script ≡ Err f → printed_text script ≡ Err f
-printed_fault script f h = ap (map_ok text_of) h
+printed_fault script f h = ap (map_ok text_of_any) h
 
 -- a script with a fault
 pub at_fault : (script : List ℕ) (old new : Option (List ℕ)) → Keeps old new → (f : ScriptFault) → Parses (script_of script) (Err f) → RunGives script old new (Err f)
@@ -29,24 +31,31 @@ at_fault script old new kept Read h = kept
 at_fault script old new kept Write h = absurd h
 at_fault script old new kept f h = (printed_fault script f h, kept)
 
+-- a script of these parts was parsed
+abbrev pub IsParsed : List ℕ → EndConfig → EndConfig → List NumberedLine → Type 0
+IsParsed text a b lines = script_of text ≡ Ok (Some (record { a = a; b = b; lines = lines }))
+
+pub is_parsed : (text : List ℕ) (script : ScriptParts) (a b : EndConfig) (items given : List NumberedLine) → script_of text ≡ Ok (Some script) →
+    record { a = a; b = b; lines = items } ≡ script → given ≡ items → IsParsed text a b given
+is_parsed text script a b items given parsed view same =
+    parsed ∙ ap (λ (s : ScriptParts). Ok (Some s)) (sym view) ∙ ap (λ (l : List NumberedLine). Ok (Some (record { a = a; b = b; lines = l }))) (sym same)
+
 -- a script that was parsed and printed
-after_parsing : (script : List ℕ) (lines : List NumberedLine) (old new : Option (List ℕ)) → script_of script ≡ Ok lines →
-    (answer : Result (Unit {0}) ScriptFault) → WritesText (text_of lines) old new answer → RunGives script old new answer
-after_parsing script lines old new parsed (Ok done) h = (text_of lines, ap (map_ok text_of) parsed, h)
-after_parsing script lines old new parsed (Err Memory) (front, begins, adds) = (
+pub after_parsing : (text : List ℕ) (script : ScriptParts) (old new : Option (List ℕ)) → script_of text ≡ Ok (Some script) →
+    (answer : Result (Unit {0}) ScriptFault) → WritesText (text_of script) old new answer → RunGives text old new answer
+after_parsing text script old new parsed (Ok done) h = (text_of script, ap (map_ok text_of_any) parsed, h)
+after_parsing text script old new parsed (Err Memory) (front, begins, adds) = (
   front,
   let P : Result (List ℕ) ScriptFault → Type 0 = λ answer. IsBegun answer front in
-      subst P (sym (ap (map_ok text_of) parsed)) (drop (length front) (text_of lines), starts_with_rest (text_of lines) front begins),
+      subst P (sym (ap (map_ok text_of_any) parsed)) (drop (length front) (text_of script), starts_with_rest (text_of script) front begins),
   adds,
 )
-after_parsing script lines old new parsed (Err Write) h = (text_of lines, ap (map_ok text_of) parsed, h)
-after_parsing script lines old new parsed (Err other) h = absurd h
+after_parsing text script old new parsed (Err Write) h = (text_of script, ap (map_ok text_of_any) parsed, h)
+after_parsing text script old new parsed (Err other) h = absurd h
 
--- the same over a slice of the lines
-pub after_running : (script : List ℕ) (lines given : List NumberedLine) (old new : Option (List ℕ)) → script_of script ≡ Ok lines → given ≡ lines →
-    (answer : Result (Unit {0}) ScriptFault) → WritesText (text_of given) old new answer → RunGives script old new answer
-after_running script lines given old new parsed same answer h =
-    after_parsing script lines old new parsed answer (let P : List NumberedLine → Type 0 = λ l. WritesText (text_of l) old new answer in subst P same h)
+-- a script whose lines are all skipped
+pub all_skipped : (text : List ℕ) (old : Option (List ℕ)) → script_of text ≡ Ok None → RunGives text old old (Ok tt)
+all_skipped text old parsed = ([], ap (map_ok text_of_any) parsed, Appends-nil old)
 
 -- what holds of a text that was read holds of all that the reader had, if that is known
 pub carried_over : (known : Option (List ℕ)) (text lent : List ℕ) (Holds : List ℕ → Type 0) →
@@ -69,7 +78,7 @@ only_written whole old new (Err Write) h = tt
 only_written whole old new (Err other) h = absurd h
 
 -- neither parsing nor printing reads
-pub parsed_after : (meant : Result (List NumberedLine) ScriptFault) (f : ScriptFault) → Parses meant (Err f) → IsAfterRead f
+pub parsed_after : (meant : Result (Option ScriptParts) ScriptFault) (f : ScriptFault) → Parses meant (Err f) → IsAfterRead f
 parsed_after meant Read h = absurd h
 parsed_after meant other h = tt
 

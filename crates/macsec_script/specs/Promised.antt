@@ -1,5 +1,5 @@
 -- The four promises, on the run of a script's two ends over the events of its lines.
-use Rattle.std.specs.Prelude.{◌≡◌, ◌<◌, ◌+◌, ◌⊎◌, ℕ, List, [], ◌∷◌, ◌++◌, length, take, IfOk, IfSome, IsSome, Option, Result, Ok, Err}
+use Rattle.std.specs.Prelude.{◌≡◌, ◌<◌, ◌+◌, ◌⊎◌, ℕ, List, [], ◌∷◌, ◌++◌, length, take, IfOk, IfSome, Option, Some, None, Result, Ok, Err}
 use Rattle.std.specs.Io.{StartsWith}
 use Rattle.std.specs.Io.KnownBytes.{Appends, Keeps}
 use Rattle.macsec_commands.specs.declared.event.Event.{Event}
@@ -8,16 +8,17 @@ use Rattle.macsec_link.specs.Sound.{IsSound}
 use Rattle.macsec_link.specs.Beginnings.{StaysSound}
 use Rattle.macsec_link.specs.Step.{world_after}
 use Rattle.macsec_link.specs.Promises.{KeepsPromises}
-use Rattle.macsec_script_parser.specs.declared.lines.Line.{Line}
-use Rattle.macsec_script_parser.specs.declared.lines.Line.TheVariants as line
+use Rattle.macsec_script_parser.specs.declared.lines.Action.{Action}
+use Rattle.macsec_script_parser.specs.declared.lines.Action.TheVariants as action
 use Rattle.macsec_script_parser.specs.declared.faults.ScriptFault.{ScriptFault}
 use Rattle.macsec_script_parser.specs.declared.faults.ScriptFault.TheVariants.{Memory, Write}
-use Rattle.macsec_script_parser.specs.Scripts.{NumberedLine, script_of}
-use Rattle.macsec_script.specs.Printed.{line_step, text_from, text_of, two_ends}
+use Rattle.macsec_script_parser.specs.Parts.{NumberedLine, ScriptParts}
+use Rattle.macsec_script_parser.specs.Scripts.{script_of}
+use Rattle.macsec_script.specs.Printed.{line_step, text_from, text_of}
 
 -- the event of a line, if it is one
-abbrev pub event_of : Line → List Event
-event_of (line.Event event) = event ∷ []
+abbrev pub event_of : Action → List Event
+event_of (action.Event event) = event ∷ []
 event_of other = []
 
 -- the events of the lines, in order
@@ -25,13 +26,13 @@ abbrev pub events_of : List NumberedLine → List Event
 events_of [] = []
 events_of ((n, said) ∷ more) = event_of said ++ events_of more
 
--- the promises hold of the run of the two ends over the events of all lines after the first two
-abbrev pub ArePromised : List NumberedLine → Type 0
-ArePromised lines = IfSome (two_ends lines) (λ run. KeepsPromises run.0 run.1 (events_of run.2))
+-- the promises hold of the run of the script's two ends over the events of its lines
+abbrev pub ArePromised : ScriptParts → Type 0
+ArePromised script = KeepsPromises script.a script.b (events_of script.lines)
 
--- the same for a script, if it has no fault
+-- the same for a text, if it has no fault and not all of its lines are skipped
 abbrev pub IsPromised : List ℕ → Type 0
-IsPromised script = IfOk (script_of script) ArePromised
+IsPromised text = IfOk (script_of text) (λ script. IfSome script ArePromised)
 
 -- ---- a run that ends early: out of memory, or at a failed write
 
@@ -45,19 +46,29 @@ abbrev pub UnlessMemory : Result (Unit {0}) ScriptFault → Type 0 → Type 0
 UnlessMemory (Err Memory) Holds = Unit {0}
 UnlessMemory other Holds = Holds
 
--- out of memory: the text is all that the first n lines print, and the promises hold of those lines. At a failed write:
--- the text has all that the first n lines print, and at most what the first n + 1 lines print, and the promises hold of
--- those n + 1 lines
-abbrev pub ArePromisedUpTo : List NumberedLine → ScriptFault → List ℕ → Type 0
-ArePromisedUpTo lines Memory text = (n : ℕ) × (text ≡ text_of (take n lines)) × ArePromised (take n lines)
-ArePromisedUpTo lines Write text =
-    (n : ℕ) × (n < length lines) × StartsWith text (text_of (take n lines)) × StartsWith (text_of (take (n + 1) lines)) text
-    × ArePromised (take (n + 1) lines)
-ArePromisedUpTo lines other text = Unit {0}
+-- the script up to its first n lines after the ends
+abbrev pub up_to : ℕ → ScriptParts → ScriptParts
+up_to n script = record script { lines = take n script.lines }
 
--- the same for a script, if it has no fault
+-- out of memory: nothing is written, or the text is all that the first n lines print, and the promises hold of those
+-- lines. At a failed write: the text has all that the first n lines print, and at most what the first n + 1 lines print,
+-- and the promises hold of those n + 1 lines
+abbrev pub ArePromisedUpTo : ScriptParts → ScriptFault → List ℕ → Type 0
+ArePromisedUpTo script Memory text = (text ≡ []) ⊎ ((n : ℕ) × (text ≡ text_of (up_to n script)) × ArePromised (up_to n script))
+ArePromisedUpTo script Write text =
+    (n : ℕ) × (n < length script.lines) × StartsWith text (text_of (up_to n script)) × StartsWith (text_of (up_to (n + 1) script)) text
+    × ArePromised (up_to (n + 1) script)
+ArePromisedUpTo script other text = Unit {0}
+
+-- if all lines are skipped, nothing is written, and no write fails
+abbrev pub AnyPromisedUpTo : Option ScriptParts → ScriptFault → List ℕ → Type 0
+AnyPromisedUpTo None Write text = ⊥
+AnyPromisedUpTo None fault text = text ≡ []
+AnyPromisedUpTo (Some script) fault text = ArePromisedUpTo script fault text
+
+-- the same for a text, if it has no fault
 abbrev pub IsPromisedUpTo : List ℕ → ScriptFault → List ℕ → Type 0
-IsPromisedUpTo script fault text = IfOk (script_of script) (λ lines. ArePromisedUpTo lines fault text)
+IsPromisedUpTo script fault text = IfOk (script_of script) (λ it. AnyPromisedUpTo it fault text)
 
 -- out of memory or at a failed write: this holds of the text that was written
 abbrev pub IsPromisedBefore : (ScriptFault → List ℕ → Type 0) → Option (List ℕ) → Option (List ℕ) → ScriptFault → Type 0
@@ -99,7 +110,3 @@ abbrev pub IsTextOfWorlds : WorldState → List NumberedLine → NumberedLine �
 IsTextOfWorlds w before said more =
     text_from w (before ++ said ∷ more) ≡
     text_from w before ++ (text_after w before said ++ text_from (world_after w (events_of (before ++ said ∷ []))) more)
-
--- a script without a fault has no lines, or its first two configure the ends
-abbrev pub HasNoneOrEnds : List ℕ → List NumberedLine → Type 0
-HasNoneOrEnds text lines = script_of text ≡ Ok lines → (lines ≡ []) ⊎ IsSome (two_ends lines)

@@ -15,8 +15,8 @@
 //! nothing was written.
 //!
 //! The world refuses no configuration of a script without a fault, so `Memory` hides no such refusal.
-//! Laws: each line is printed from the world after the events of the lines before it. A script without a fault has no
-//! lines, or begins with both ends. Worked scripts are in `proofs/Examples.antt`.
+//! A law: each line is printed from the world after the events of the lines before it. Worked scripts are in
+//! `proofs/Examples.antt`.
 #![tactic(auto)]
 
 pub mod laws;
@@ -27,7 +27,8 @@ pub use macsec_link::{
     Refusal, Sci, Secy, Suite, TagForm, Verdict, WorldFault,
 };
 pub use macsec_script_parser::{
-    Line, LineFault, ScriptFault, parse_config, parse_line, parse_script, read_text,
+    Action, CheckedEnd, Config, Line, LineFault, Script, ScriptFault, parse_config, parse_line,
+    parse_script, read_text,
 };
 pub use macsec_script_printer::{Label, print_counters, print_numbers, print_outcome};
 pub use running::{run_script, run_text};

@@ -1,20 +1,17 @@
 //! Runs a script, from a reader or that was read, and prints to a writer.
 
-ghost use Rattle.std.specs.Prelude.{◌≡◌, IfSome, IfErr, OnOk, None, option_copied, option_map};
+ghost use Rattle.std.specs.Prelude.{◌≡◌, IfSome, IfErr, OnOk, option_copied};
 ghost use Rattle.macsec_link.specs.Sound.{IsSound};
 ghost use Rattle.macsec_link.specs.Beginnings.{StaysSound};
-ghost use Rattle.macsec_link.specs.Answers.{make_fault};
-ghost use Rattle.macsec_script_parser.specs.declared.lines.Line.TheVariants as line;
-ghost use Rattle.macsec_script_parser.specs.Scripts.{a_config, b_config};
-ghost use Rattle.macsec_script.specs.Printed.{two_ends, frame_made, line_step, text_from, text_of};
+ghost use Rattle.macsec_script_parser.specs.declared.lines.Action.TheVariants as action;
+ghost use Rattle.macsec_script.specs.Printed.{frame_made, line_step, text_from, text_of};
 ghost use Rattle.macsec_script.specs.Promised.{ArePromised, ArePromisedUpTo, IsPromised, IsPromisedBefore, IsPromisedUpTo, IsSoundUpTo, LeavesAll, UnlessMemory, events_of};
 ghost use Rattle.macsec_script.specs.Runs.{IsAfterRead, LeavesText, RunGives, WritesText};
 ghost use Rattle.macsec_script_printer.specs.Printing.{Prints};
 
 use macsec_link::laws::{promises, worlds_are_sound};
-use macsec_link::{End, EndConfig, Event, Outcome, World, WorldFault};
-use macsec_script_parser::laws::parsed_lines_fit;
-use macsec_script_parser::{Line, ScriptFault, parse_script, read_text};
+use macsec_link::{Event, Outcome, World, WorldFault};
+use macsec_script_parser::{Action, CheckedEnd, ScriptFault, parse_script, read_text};
 use macsec_script_printer::{Label, print_counters, print_numbers, print_outcome, write_fault};
 use macsec_writes::write_octets;
 use std::alloc::Global;
@@ -50,66 +47,33 @@ pub fn run_text<W: Write>(alloc: Global, writer: &mut W, script: &[u8]) -> Resul
     // write fails, what was written ends in the text of one line, and the same holds of the lines up to that one.
     ensures promised_before { IfErr result (λ fault. IsPromisedBefore (IsPromisedUpTo script.now) (W.contents writer.old) (W.contents writer.new) fault) }
 {
-    // A law that the proof cites.
-    parsed_lines_fit();
-    let lines = parse_script(alloc, script)?;
-    print_script(alloc, writer, lines.as_slice())
+    let Some(script) = parse_script(alloc, script)? else {
+        return Ok(());
+    };
+    print_script(alloc, writer, script.a, script.b, script.lines.as_slice())
 }
 
-/// Carries out the lines of a script, and prints their results. The first two lines configure the ends.
+/// Carries out the lines of a script, and prints their results.
 fn print_script<W: Write>(
     alloc: Global,
     writer: &mut W,
-    lines: &[(u32, Line)],
+    a: CheckedEnd,
+    b: CheckedEnd,
+    lines: &[(u32, Action)],
 ) -> Result<(), ScriptFault>
-    requires { IfSome (two_ends lines.now) (λ run. make_fault run.0 run.1 ≡ None) }
-    ensures text { WritesText (text_of lines.now) (W.contents writer.old) (W.contents writer.new) result }
-    ensures promised { OnOk result (ArePromised lines.now) }
-    ensures promised_before { IfErr result (λ fault. IsPromisedBefore (ArePromisedUpTo lines.now) (W.contents writer.old) (W.contents writer.new) fault) }
+    ensures text { WritesText (text_of (record { a = a; b = b; lines = lines.now })) (W.contents writer.old) (W.contents writer.new) result }
+    ensures promised { OnOk result (ArePromised (record { a = a; b = b; lines = lines.now })) }
+    ensures promised_before { IfErr result (λ fault.
+        IsPromisedBefore (ArePromisedUpTo (record { a = a; b = b; lines = lines.now })) (W.contents writer.old) (W.contents writer.new) fault) }
 {
     // A law that the proof cites.
     promises();
-    let Some((a, b, others)) = two_ends(lines) else {
-        return Ok(());
-    };
-    let mut world = match World::new(alloc, a, b) {
+    let mut world = match World::new(alloc, a.config(), b.config()) {
         Ok(world) => world,
         Err(WorldFault::Memory) => return Err(ScriptFault::Memory),
         Err(_) => unreachable!(),
     };
-    print_lines(alloc, &mut world, writer, others)
-}
-
-/// The configurations of the first two lines, and the lines after them.
-fn two_ends(lines: &[(u32, Line)]) -> Option<(EndConfig, EndConfig, &[(u32, Line)])>
-    ensures { two_ends lines.now ≡ option_map (λ run. (run.0, run.1, run.2.now)) result }
-{
-    let (first, more) = lines.split_first()?;
-    let (second, others) = more.split_first()?;
-    match (config_of_a(&first.1), config_of_b(&second.1)) {
-        (Some(a), Some(b)) => Some((a, b, others)),
-        _ => None,
-    }
-}
-
-/// The configuration of an `end` line for A.
-fn config_of_a(line: &Line) -> Option<EndConfig>
-    ensures { result ≡ a_config line.now }
-{
-    match line {
-        Line::End(End::A, config) => Some(*config),
-        _ => None,
-    }
-}
-
-/// The configuration of an `end` line for B.
-fn config_of_b(line: &Line) -> Option<EndConfig>
-    ensures { result ≡ b_config line.now }
-{
-    match line {
-        Line::End(End::B, config) => Some(*config),
-        _ => None,
-    }
+    print_lines(alloc, &mut world, writer, lines)
 }
 
 /// Carries out the lines one after another, and prints their results.
@@ -117,7 +81,7 @@ fn print_lines<W: Write>(
     alloc: Global,
     world: &mut World,
     writer: &mut W,
-    lines: &[(u32, Line)],
+    lines: &[(u32, Action)],
 ) -> Result<(), ScriptFault>
     ensures text { WritesText (text_from world.old lines.now) (W.contents writer.old) (W.contents writer.new) result }
     ensures sound { OnOk result (IsSound world.old → StaysSound world.old (events_of lines.now)) }
@@ -126,8 +90,8 @@ fn print_lines<W: Write>(
     // A law that the proof cites.
     worlds_are_sound();
     let mut room = Vec::new(alloc);
-    for (n, line) in lines {
-        print_line(&mut room, world, writer, *n, line)?;
+    for (n, action) in lines {
+        print_line(&mut room, world, writer, *n, action)?;
     }
     Ok(())
 }
@@ -138,16 +102,16 @@ fn print_line<W: Write>(
     world: &mut World,
     writer: &mut W,
     n: u32,
-    line: &Line,
+    action: &Action,
 ) -> Result<(), ScriptFault>
-    ensures text { WritesText (line_step world.old n line.now).0 (W.contents writer.old) (W.contents writer.new) result }
+    ensures text { WritesText (line_step world.old n action.now).0 (W.contents writer.old) (W.contents writer.new) result }
     ensures unwritten { IfErr result (λ fault. LeavesAll (W.contents writer.old) (W.contents writer.new) fault) }
     // Also if the write fails.
-    ensures world { UnlessMemory result (world.new ≡ (line_step world.old n line.now).1) }
+    ensures world { UnlessMemory result (world.new ≡ (line_step world.old n action.now).1) }
     ensures sound { IsSound world.old → IsSound world.new }
 {
     room.clear();
-    if show(world, room, n, line).is_err() {
+    if show(world, room, n, action).is_err() {
         return Err(ScriptFault::Memory);
     }
     let written = write_octets(writer, room.as_slice());
@@ -155,16 +119,20 @@ fn print_line<W: Write>(
 }
 
 /// Carries out one line, and writes its result.
-fn show<W: Write>(world: &mut World, writer: &mut W, n: u32, line: &Line) -> Result<(), ScriptFault>
-    ensures text { Prints (line_step world.old n line.now).0 (W.contents writer.old) (W.contents writer.new) result }
-    ensures world { OnOk result (world.new ≡ (line_step world.old n line.now).1) }
+fn show<W: Write>(
+    world: &mut World,
+    writer: &mut W,
+    n: u32,
+    action: &Action,
+) -> Result<(), ScriptFault>
+    ensures text { Prints (line_step world.old n action.now).0 (W.contents writer.old) (W.contents writer.new) result }
+    ensures world { OnOk result (world.new ≡ (line_step world.old n action.now).1) }
     ensures sound { IsSound world.old → IsSound world.new }
 {
-    match line {
-        Line::End(_, _) => Ok(()),
-        Line::Event(event) => print_event(world, writer, n, event),
-        Line::Counters(end) => print_counters(writer, Label::Line(n), world.end(*end)),
-        Line::Numbers(end) => print_numbers(writer, n, world.end(*end)),
+    match action {
+        Action::Event(event) => print_event(world, writer, n, event),
+        Action::Counters(end) => print_counters(writer, Label::Line(n), world.end(*end)),
+        Action::Numbers(end) => print_numbers(writer, n, world.end(*end)),
     }
 }
 
@@ -175,8 +143,8 @@ fn print_event<W: Write>(
     n: u32,
     event: &Event,
 ) -> Result<(), ScriptFault>
-    ensures text { Prints (line_step world.old n (line.Event event.now)).0 (W.contents writer.old) (W.contents writer.new) result }
-    ensures world { OnOk result (world.new ≡ (line_step world.old n (line.Event event.now)).1) }
+    ensures text { Prints (line_step world.old n (action.Event event.now)).0 (W.contents writer.old) (W.contents writer.new) result }
+    ensures world { OnOk result (world.new ≡ (line_step world.old n (action.Event event.now)).1) }
     ensures sound { IsSound world.new }
 {
     let outcome = world.step(event);

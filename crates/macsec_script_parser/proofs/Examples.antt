@@ -2,6 +2,7 @@
 use Rattle.std.specs.Prelude.{◌≡◌, ℕ, List, ◌++◌, [], ◌∷◌, replicate, codes, Some, None, Ok, Err, true, false, refl}
 use Rattle.hex.proofs.OnLiterals.{hex_on_literals}
 use Rattle.macsec_aes.specs.declared.Key.TheVariants.{K128, K256}
+use Rattle.macsec_commands.specs.declared.config.EndConfig.{EndConfig}
 use Rattle.macsec_commands.specs.declared.form.TagForm.TheVariants as form
 use Rattle.macsec_commands.specs.declared.command.Command.TheVariants as by
 use Rattle.macsec_commands.specs.declared.mode.Mode.TheVariants.{Check}
@@ -9,11 +10,11 @@ use Rattle.macsec_tag.specs.declared.identifiers.Sci.{Sci}
 use Rattle.macsec_suite.specs.declared.suite.Suite.TheVariants.{Gcm128, Gcm256, Xpn128, Xpn256}
 use Rattle.macsec_commands.specs.declared.event.End.TheVariants.{A, B}
 use Rattle.macsec_commands.specs.declared.event.Event.TheVariants as event
-use Rattle.macsec_script_parser.specs.declared.lines.Line.{Line}
+use Rattle.macsec_script_parser.specs.declared.lines.Action.TheVariants as action
 use Rattle.macsec_script_parser.specs.declared.lines.Line.TheVariants as line
 use Rattle.macsec_script_parser.specs.declared.lines.LineFault.TheVariants.{Word, Count, Hex, Number, Ends, LineLong}
 use Rattle.macsec_script_parser.specs.declared.faults.ScriptFault.TheVariants as script
-use Rattle.macsec_script_parser.specs.Kinds.{line_of, tells}
+use Rattle.macsec_script_parser.specs.Kinds.{does, line_of, tells}
 use Rattle.macsec_script_parser.specs.Scripts.{config_of}
 
 -- ---- lines that are skipped
@@ -341,7 +342,7 @@ extended_number = refl
 tx_on : line_of (codes "A txon 02") ≡ Ok (Some (tells A (by.TxOn 2)))
 tx_on = refl
 
-send : line_of (codes "A send 0aFf") ≡ Ok (Some (line.Event (event.Send A (10 ∷ 255 ∷ []))))
+send : line_of (codes "A send 0aFf") ≡ Ok (Some (does (event.Send A (10 ∷ 255 ∷ []))))
 unfolding hex_on_literals
 send = refl
 
@@ -366,14 +367,14 @@ tx_off = refl
 tx_del : line_of (codes "A txdel 3") ≡ Ok (Some (tells A (by.TxDel 3)))
 tx_del = refl
 
-uncontrolled : line_of (codes "A sendu 0aFf") ≡ Ok (Some (line.Event (event.SendUncontrolled A (10 ∷ 255 ∷ []))))
+uncontrolled : line_of (codes "A sendu 0aFf") ≡ Ok (Some (does (event.SendUncontrolled A (10 ∷ 255 ∷ []))))
 unfolding hex_on_literals
 uncontrolled = refl
 
-numbers : line_of (codes "A numbers\r") ≡ Ok (Some (line.Numbers A))
+numbers : line_of (codes "A numbers\r") ≡ Ok (Some (line.Action (action.Numbers A)))
 numbers = refl
 
-counters : line_of (codes "B counters") ≡ Ok (Some (line.Counters B))
+counters : line_of (codes "B counters") ≡ Ok (Some (line.Action (action.Counters B)))
 counters = refl
 
 abbrev sender : Sci
@@ -411,17 +412,17 @@ rx_del : line_of (codes "B rxdel 12153524c0895e81 2") ≡ Ok (Some (tells B (by.
 unfolding hex_on_literals
 rx_del = refl
 
-deliver : line_of (codes "B deliver 4294967295") ≡ Ok (Some (line.Event (event.Deliver B 4294967295)))
+deliver : line_of (codes "B deliver 4294967295") ≡ Ok (Some (does (event.Deliver B 4294967295)))
 deliver = refl
 
-alter : line_of (codes "alter 1 14 fF") ≡ Ok (Some (line.Event (event.Alter 1 14 255)))
+alter : line_of (codes "alter 1 14 fF") ≡ Ok (Some (does (event.Alter 1 14 255)))
 unfolding hex_on_literals
 alter = refl
 
-pad : line_of (codes "pad 0") ≡ Ok (Some (line.Event (event.Pad 0)))
+pad : line_of (codes "pad 0") ≡ Ok (Some (does (event.Pad 0)))
 pad = refl
 
-inject : line_of (codes "inject 0aFf") ≡ Ok (Some (line.Event (event.Inject (10 ∷ 255 ∷ []))))
+inject : line_of (codes "inject 0aFf") ≡ Ok (Some (does (event.Inject (10 ∷ 255 ∷ []))))
 unfolding hex_on_literals
 inject = refl
 
@@ -430,11 +431,11 @@ inject = refl
 abbrev only_end : List ℕ
 only_end = codes "end A gcm128 0200000000010001 1518 sci\n"
 
-abbrev its_end : Line
-its_end = line.End A (record { suite = Gcm128; sci = record { 0 = 2 ∷ 0 ∷ 0 ∷ 0 ∷ 0 ∷ 1 ∷ 0 ∷ 1 ∷ [] }; max_frame = 1518; form = form.Sci })
+abbrev its_end : EndConfig
+its_end = record { suite = Gcm128; sci = record { 0 = 2 ∷ 0 ∷ 0 ∷ 0 ∷ 0 ∷ 1 ∷ 0 ∷ 1 ∷ [] }; max_frame = 1518; form = form.Sci }
 
 commands : config_of (only_end ++ codes "\n# on\nA txon 0\nA replay off 2\n") ≡
-    Ok ((1, its_end) ∷ (4, tells A (by.TxOn 0)) ∷ (5, tells A (by.Replay false 2)) ∷ [])
+    Ok (record { end = its_end; commands = (4, by.TxOn 0) ∷ (5, by.Replay false 2) ∷ [] })
 unfolding hex_on_literals
 commands = refl
 

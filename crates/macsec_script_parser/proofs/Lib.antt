@@ -4,6 +4,5 @@ pub mod HexDigits
 pub mod Keywords
 pub mod LastLine
 pub mod LinesLeft
-pub mod FitLines
 pub mod WordsInOrder
 pub mod KeyParts

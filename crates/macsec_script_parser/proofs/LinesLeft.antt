@@ -1,53 +1,24 @@
--- Parsing a text line by line gives what the definition gives for the whole text.
-use Rattle.std.proofs.Common.{◌≡◌, ℕ, ◌+◌, ◌<◌, List, [], ◌∷◌, ◌++◌, drop, get_or, length, map, refl, sym, subst, ◌∙◌, ap, append_assoc}
+-- Adding the lines of a text one by one gives what the definition gives for the whole text.
+use Rattle.std.proofs.Common.{◌≡◌, ℕ, ◌+◌, ◌<◌, List, ◌∷◌, drop, get_or, length, map, refl, sym, subst, ◌∙◌, ap}
 use Rattle.std.proofs.lemmas.List.{drop-map, drop_more}
-use Rattle.std.specs.Prelude.{Bool, true, cond, Some, None, Result, Ok, Err}
+use Rattle.std.specs.Prelude.{Option, Some, None, Result, Ok, Err}
 use Rattle.std.specs.Borrow.{Bor}
 use Rattle.macsec_script_parser.specs.declared.lines.Line.{Line}
 use Rattle.macsec_script_parser.specs.declared.lines.LineFault.{LineFault}
 use Rattle.macsec_script_parser.specs.declared.lines.LineFault.TheVariants as fault
-use Rattle.macsec_script_parser.specs.declared.script.Place.{Place}
 use Rattle.macsec_script_parser.specs.declared.faults.ScriptFault.{ScriptFault}
-use Rattle.macsec_script_parser.specs.declared.faults.ScriptFault.TheVariants.{Ends}
-use Rattle.macsec_script_parser.specs.Fields.{map_ok}
+use Rattle.macsec_script_parser.specs.declared.faults.ScriptFault.TheVariants as script
 use Rattle.macsec_script_parser.specs.Kinds.{line_of, and_then}
-use Rattle.macsec_script_parser.specs.Scripts.{NumberedLine, at_line, result_at_line, place_after, next_place, line_before, lines_from}
+use Rattle.macsec_script_parser.specs.Scripts.{add_line, add_lines, at_line}
 use Rattle.macsec_script_parser.specs.Readings.{Reads, Parses}
 
--- the lines parsed so far and the lines that are left make the whole result
-abbrev pub IsOnTheWay : Place → List NumberedLine → Place → ℕ → List (List ℕ) → Type 0
-IsOnTheWay first said place i all = map_ok (λ more. said ++ more) (lines_from place (i + 1) (drop i all)) ≡ lines_from first 1 all
+-- adds a line to what the lines before it made
+abbrev pub Adds : Type 0 → Type 0
+Adds X = X → ℕ → Line → Result X ScriptFault
 
--- ---- one more line
-
-skipped : (place : Place) (n : ℕ) (text : List ℕ) (more : List (List ℕ)) → line_of text ≡ Ok None →
-    lines_from place n (text ∷ more) ≡ lines_from place (n + 1) more
-skipped place n text more h =
-    ap (λ r. and_then (result_at_line n r) (λ said. line_before place n said (λ next. lines_from next (n + 1) more))) h
-
-wanted : (place next : Place) (n : ℕ) (text : List ℕ) (line : Line) (more : List (List ℕ)) → line_of text ≡ Ok (Some line) →
-    place_after place line ≡ Some next → lines_from place n (text ∷ more) ≡ map_ok (λ lines. (n, line) ∷ lines) (lines_from next (n + 1) more)
-wanted place next n text line more h after =
-    ap (λ r. and_then (result_at_line n r) (λ said. line_before place n said (λ next. lines_from next (n + 1) more))) h
-    ∙ ap (λ o. and_then (next_place n o) (λ next. map_ok (λ lines. (n, line) ∷ lines) (lines_from next (n + 1) more))) after
-
-unwanted : (place : Place) (n : ℕ) (text : List ℕ) (line : Line) (more : List (List ℕ)) → line_of text ≡ Ok (Some line) →
-    place_after place line ≡ None → lines_from place n (text ∷ more) ≡ Err (Ends n)
-unwanted place n text line more h after =
-    ap (λ r. and_then (result_at_line n r) (λ said. line_before place n said (λ next. lines_from next (n + 1) more))) h
-    ∙ ap (λ o. and_then (next_place n o) (λ next. map_ok (λ lines. (n, line) ∷ lines) (lines_from next (n + 1) more))) after
-
-faulty : (place : Place) (n : ℕ) (text : List ℕ) (f : LineFault) (more : List (List ℕ)) → line_of text ≡ Err f →
-    lines_from place n (text ∷ more) ≡ Err (at_line n f)
-faulty place n text f more h =
-    ap (λ r. and_then (result_at_line n r) (λ said. line_before place n said (λ next. lines_from next (n + 1) more))) h
-
-pushed : (said : List NumberedLine) (line : NumberedLine) (r : Result (List NumberedLine) ScriptFault) →
-    map_ok (λ more. said ++ more) (map_ok (λ lines. line ∷ lines) r) ≡ map_ok (λ more. (said ++ (line ∷ [])) ++ more) r
-pushed said line (Ok more) = ap Ok (sym (append_assoc said (line ∷ []) more))
-pushed said line (Err f) = refl
-
--- ---- the lines that are left, from the front
+-- what the first i lines made, with the lines that are left, makes the whole result
+abbrev pub IsOnTheWay : {X : Type 0} → Adds X → X → X → ℕ → List (List ℕ) → Type 0
+IsOnTheWay add first made i all = add_lines add made (i + 1) (drop i all) ≡ add_lines add first 1 all
 
 abbrev seen : List (Bor (List ℕ)) → List (List ℕ)
 seen lines = map (λ line. line.now) lines
@@ -57,38 +28,55 @@ first_left lines i d within =
     let v : Bor (List ℕ) → List ℕ = λ line. line.now in
     drop-map v i lines ∙ ap (map v) (drop_more lines i d within) ∙ sym (ap (λ more. (get_or lines i d).now ∷ more) (drop-map v (i + 1) lines))
 
-pub on_after_skipped : (first : Place) (said : List NumberedLine) (place : Place) (i : ℕ) (lines : List (Bor (List ℕ))) (d : Bor (List ℕ)) →
-    i < length lines → IsOnTheWay first said place i (seen lines) → line_of (get_or lines i d).now ≡ Ok None → IsOnTheWay first said place (i + 1) (seen lines)
-on_after_skipped first said place i lines d within way h =
-    sym (ap (λ left. map_ok (λ more. said ++ more) (lines_from place (i + 1) left)) (first_left lines i d within)
-    ∙ ap (map_ok (λ more. said ++ more)) (skipped place (i + 1) (get_or lines i d).now (drop (i + 1) (seen lines)) h)) ∙ way
+-- the whole result, from the line at the index
+from_line : {X : Type 0} (add : Adds X) (first made : X) (i : ℕ) (lines : List (Bor (List ℕ))) (d : Bor (List ℕ)) (r : Result (Option Line) LineFault) →
+    i < length lines → IsOnTheWay add first made i (seen lines) → line_of (get_or lines i d).now ≡ r →
+    add_lines add first 1 (seen lines) ≡ and_then (add_line add made (i + 1) r) (λ next. add_lines add next (i + 1 + 1) (drop (i + 1) (seen lines)))
+from_line add first made i lines d r within way is =
+    sym way ∙ ap (add_lines add made (i + 1)) (first_left lines i d within)
+    ∙ ap (λ r. and_then (add_line add made (i + 1) r) (λ next. add_lines add next (i + 1 + 1) (drop (i + 1) (seen lines)))) is
 
-pub on_after_line : (first : Place) (said : List NumberedLine) (place next : Place) (i : ℕ) (lines : List (Bor (List ℕ))) (d : Bor (List ℕ)) (line : Line) →
-    i < length lines → IsOnTheWay first said place i (seen lines) → line_of (get_or lines i d).now ≡ Ok (Some line) →
-    place_after place line ≡ Some next → (after : List NumberedLine) (is_pushed : Bool) → is_pushed ≡ true →
-    after ≡ cond is_pushed (said ++ ((i + 1, line) ∷ [])) said → IsOnTheWay first after next (i + 1) (seen lines)
-on_after_line first said place next i lines d line within way h placed after is_pushed pushes adds =
-    let P : List NumberedLine → Type 0 = λ ls. IsOnTheWay first ls next (i + 1) (seen lines) in
-    subst P (sym (adds ∙ ap (λ b. cond b (said ++ ((i + 1, line) ∷ [])) said) pushes))
-    (sym (ap (λ left. map_ok (λ more. said ++ more) (lines_from place (i + 1) left)) (first_left lines i d within)
-    ∙ ap (map_ok (λ more. said ++ more)) (wanted place next (i + 1) (get_or lines i d).now line (drop (i + 1) (seen lines)) h placed)
-    ∙ pushed said (i + 1, line) (lines_from next (i + 1 + 1) (drop (i + 1) (seen lines)))) ∙ way)
+pub on_after_skipped : {X : Type 0} (add : Adds X) (first made : X) (i : ℕ) (lines : List (Bor (List ℕ))) (d : Bor (List ℕ)) → i < length lines →
+    IsOnTheWay add first made i (seen lines) → line_of (get_or lines i d).now ≡ Ok None → IsOnTheWay add first made (i + 1) (seen lines)
+on_after_skipped add first made i lines d within way is = sym (from_line add first made i lines d (Ok None) within way is)
 
-pub stopped_unwanted : (first : Place) (said : List NumberedLine) (place : Place) (i : ℕ) (lines : List (Bor (List ℕ))) (d : Bor (List ℕ)) (line : Line) →
-    i < length lines → IsOnTheWay first said place i (seen lines) → line_of (get_or lines i d).now ≡ Ok (Some line) →
-    place_after place line ≡ None → lines_from first 1 (seen lines) ≡ Err (Ends (i + 1))
-stopped_unwanted first said place i lines d line within way h placed =
-    sym way ∙ ap (λ left. map_ok (λ more. said ++ more) (lines_from place (i + 1) left)) (first_left lines i d within)
-    ∙ ap (map_ok (λ more. said ++ more)) (unwanted place (i + 1) (get_or lines i d).now line (drop (i + 1) (seen lines)) h placed)
+pub on_after_line : {X : Type 0} (add : Adds X) (first made next : X) (i : ℕ) (lines : List (Bor (List ℕ))) (d : Bor (List ℕ)) (line : Line) → i < length lines →
+    IsOnTheWay add first made i (seen lines) → line_of (get_or lines i d).now ≡ Ok (Some line) → add made (i + 1) line ≡ Ok next →
+    IsOnTheWay add first next (i + 1) (seen lines)
+on_after_line add first made next i lines d line within way is adds =
+    sym (from_line add first made i lines d (Ok (Some line)) within way is
+    ∙ ap (λ r. and_then r (λ next. add_lines add next (i + 1 + 1) (drop (i + 1) (seen lines)))) adds)
 
-stopped : (first : Place) (said : List NumberedLine) (place : Place) (i : ℕ) (lines : List (Bor (List ℕ))) (d : Bor (List ℕ)) (f : LineFault) →
-    i < length lines → IsOnTheWay first said place i (seen lines) → line_of (get_or lines i d).now ≡ Err f → lines_from first 1 (seen lines) ≡ Err (at_line (i + 1) f)
-stopped first said place i lines d f within way h =
-    sym way ∙ ap (λ left. map_ok (λ more. said ++ more) (lines_from place (i + 1) left)) (first_left lines i d within)
-    ∙ ap (map_ok (λ more. said ++ more)) (faulty place (i + 1) (get_or lines i d).now f (drop (i + 1) (seen lines)) h)
+-- ---- the end
 
-pub parses_fault : (first : Place) (said : List NumberedLine) (place : Place) (i : ℕ) (lines : List (Bor (List ℕ))) (d : Bor (List ℕ)) (f : LineFault) →
-    i < length lines → IsOnTheWay first said place i (seen lines) → Reads (line_of (get_or lines i d).now) (Err f) →
-    Parses (lines_from first 1 (seen lines)) (Err (at_line (i + 1) f))
-parses_fault first said place i lines d fault.Memory within way h = tt
-parses_fault first said place i lines d f within way h = stopped first said place i lines d f within way h
+-- the first fault is that of the whole text
+faulty : {X Y : Type 0} (r : Result X ScriptFault) (finish : X → Result Y ScriptFault) (f : ScriptFault) → Parses r (Err f) → Parses (and_then r finish) (Err f)
+faulty r finish script.Memory h = tt
+faulty r finish script.Read h = h
+faulty r finish script.Write h = h
+faulty r finish f h = ap (λ r. and_then r finish) h
+
+-- line i + 1 can't be added
+pub stopped : {X Y : Type 0} (add : Adds X) (first made : X) (finish : X → Result Y ScriptFault) (i : ℕ) (lines : List (Bor (List ℕ))) (d : Bor (List ℕ)) (line : Line)
+    (f : ScriptFault) → i < length lines → IsOnTheWay add first made i (seen lines) → line_of (get_or lines i d).now ≡ Ok (Some line) →
+    Parses (add made (i + 1) line) (Err f) → Parses (and_then (add_lines add first 1 (seen lines)) finish) (Err f)
+stopped add first made finish i lines d line f within way is h =
+    subst (λ r. Parses (and_then r finish) (Err f)) (sym (from_line add first made i lines d (Ok (Some line)) within way is))
+    (faulty (and_then (add made (i + 1) line) (λ next. add_lines add next (i + 1 + 1) (drop (i + 1) (seen lines)))) finish f
+    (faulty (add made (i + 1) line) (λ next. add_lines add next (i + 1 + 1) (drop (i + 1) (seen lines))) f h))
+
+line_fault : {X : Type 0} (add : Adds X) (made : X) (n : ℕ) (r : Result (Option Line) LineFault) (f : LineFault) → Reads r (Err f) →
+    Parses (add_line add made n r) (Err (at_line n f))
+line_fault add made n r fault.Memory h = tt
+line_fault add made n r f h = ap (add_line add made n) h
+
+-- line i + 1 has a fault
+pub faulty_line : {X Y : Type 0} (add : Adds X) (first made : X) (finish : X → Result Y ScriptFault) (i : ℕ) (lines : List (Bor (List ℕ))) (d : Bor (List ℕ))
+    (f : LineFault) → i < length lines → IsOnTheWay add first made i (seen lines) → Reads (line_of (get_or lines i d).now) (Err f) →
+    Parses (and_then (add_lines add first 1 (seen lines)) finish) (Err (at_line (i + 1) f))
+faulty_line add first made finish i lines d f within way h =
+    let text = (get_or lines i d).now in
+    subst (λ r. Parses (and_then r finish) (Err (at_line (i + 1) f))) (sym (from_line add first made i lines d (line_of text) within way refl))
+    (faulty (and_then (add_line add made (i + 1) (line_of text)) (λ next. add_lines add next (i + 1 + 1) (drop (i + 1) (seen lines)))) finish (at_line (i + 1) f)
+    (faulty (add_line add made (i + 1) (line_of text)) (λ next. add_lines add next (i + 1 + 1) (drop (i + 1) (seen lines))) (at_line (i + 1) f)
+    (line_fault add made (i + 1) (line_of text) f h)))

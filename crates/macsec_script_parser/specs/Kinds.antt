@@ -1,6 +1,6 @@
 -- The kinds of lines: for each, its keyword, the words after it, and the line that they make.
 use Rattle.std.specs.Prelude.{ℕ, ◌-◌, ◌^◌, ◌==◌, replicate, List, [], ◌∷◌, ◌++◌, length, filter, find, nat_lt, bytes_eq}
-use Rattle.std.specs.Prelude.{codes, Bool, true, not, is_some, if◌then◌else◌, Option, Some, None, Result, Ok, Err}
+use Rattle.std.specs.Prelude.{codes, is_some, if◌then◌else◌, Option, Some, None, Result, Ok, Err}
 use Rattle.macsec_aes.specs.declared.Key.{Key}
 use Rattle.macsec_tag.specs.Limits.{max_frame_len}
 use Rattle.macsec_suite.specs.declared.key_row.NewKey.{NewKey}
@@ -12,12 +12,14 @@ use Rattle.macsec_commands.specs.declared.config.EndConfig.{EndConfig}
 use Rattle.macsec_commands.specs.Configs.{config_fault}
 use Rattle.macsec_commands.specs.declared.event.End.{End}
 use Rattle.macsec_commands.specs.declared.event.Event.TheVariants as event
+use Rattle.macsec_commands.specs.declared.event.Event.{Event}
+use Rattle.macsec_script_parser.specs.declared.lines.Action.TheVariants as action
 use Rattle.macsec_script_parser.specs.declared.lines.Line.{Line}
 use Rattle.macsec_script_parser.specs.declared.lines.Line.TheVariants as line
 use Rattle.macsec_script_parser.specs.declared.lines.LineFault.{LineFault}
 use Rattle.macsec_script_parser.specs.declared.lines.LineFault.TheVariants.{Word, Count, Ends, LineLong}
 use Rattle.macsec_script_parser.specs.Words.{words_of}
-use Rattle.macsec_script_parser.specs.Fields.{Field, Value, read_word, value_of_keyword, ends, number, octet, sci, key, ssci}
+use Rattle.macsec_script_parser.specs.Fields.{Field, Value, map_ok, read_word, value_of_keyword, ends, number, octet, sci, key, ssci}
 use Rattle.macsec_script_parser.specs.Fields.{salt, frame, pn, at_end, suite, tag_form, protection, switch, validation}
 use Rattle.macsec_script_parser.specs.Limits.{max_line_len}
 
@@ -60,9 +62,13 @@ abbrev pub key_from : ℕ → Key → ℕ → Option Suite → ℕ → List ℕ 
 key_from = λ n bytes offset suite ssci salt.
     record { number = n; bytes = bytes; salt = salt; ssci = ssci; offset = offset; suite = suite }
 
+-- an event
+abbrev pub does : Event → Line
+does e = line.Action (action.Event e)
+
 -- a command at an end
 abbrev pub tells : End → Command → Line
-tells e c = line.Event (event.Command e c)
+tells e c = does (event.Command e c)
 
 -- the lines that set whether frames are protected, and how they are validated
 abbrev pub protection_kinds : End → List Kind
@@ -122,13 +128,13 @@ operator_kinds e =
 -- the lines of frames
 abbrev pub frame_kinds : End → List Kind
 frame_kinds e =
-    kind (codes "send") (frame ∷ []) (λ frame. line.Event (event.Send e frame)) ∷
-    kind (codes "sendu") (frame ∷ []) (λ frame. line.Event (event.SendUncontrolled e frame)) ∷
-    kind (codes "deliver") (frame_number ∷ []) (λ n. line.Event (event.Deliver e n)) ∷ []
+    kind (codes "send") (frame ∷ []) (λ frame. does (event.Send e frame)) ∷
+    kind (codes "sendu") (frame ∷ []) (λ frame. does (event.SendUncontrolled e frame)) ∷
+    kind (codes "deliver") (frame_number ∷ []) (λ n. does (event.Deliver e n)) ∷ []
 
 -- the lines that show counters and packet numbers
 abbrev pub show_kinds : End → List Kind
-show_kinds e = kind (codes "counters") [] (line.Counters e) ∷ kind (codes "numbers") [] (line.Numbers e) ∷ []
+show_kinds e = kind (codes "counters") [] (line.Action (action.Counters e)) ∷ kind (codes "numbers") [] (line.Action (action.Numbers e)) ∷ []
 
 -- the lines that begin with the letter of an end
 abbrev pub kinds_at : End → List Kind
@@ -144,9 +150,9 @@ end_kinds =
 abbrev pub link_kinds : List Kind
 link_kinds =
     kind (codes "alter") (frame_number ∷ place_in_frame ∷ octet ∷ [])
-    (λ n place octet. line.Event (event.Alter n place octet)) ∷
-    kind (codes "pad") (frame_number ∷ []) (λ n. line.Event (event.Pad n)) ∷
-    kind (codes "inject") (frame ∷ []) (λ frame. line.Event (event.Inject frame)) ∷ []
+    (λ n place octet. does (event.Alter n place octet)) ∷
+    kind (codes "pad") (frame_number ∷ []) (λ n. does (event.Pad n)) ∷
+    kind (codes "inject") (frame ∷ []) (λ frame. does (event.Inject frame)) ∷ []
 
 -- the lines that do not begin with the letter of an end
 abbrev pub kinds : List Kind
@@ -157,9 +163,23 @@ abbrev pub and_then : {X Y E : Type 0} → Result X E → (X → Result Y E) →
 and_then (Ok x) f = f x
 and_then (Err fault) f = Err fault
 
+-- a configuration, unless it has a fault
+abbrev pub checked : EndConfig → Option EndConfig
+checked config = if is_some (config_fault config) then None else Some config
+
+-- the `end` line of a checked configuration. MAX is already in range, so the only possible fault is a tag form that does
+-- not fit the SCI
+abbrev pub end_line : End → Option EndConfig → Result Line LineFault
+end_line e None = Err Ends
+end_line e (Some config) = Ok (line.End e config)
+
+abbrev pub if_fit : Line → Result Line LineFault
+if_fit (line.End e config) = end_line e (checked config)
+if_fit other = Ok other
+
 -- the words are read from left to right
 abbrev pub read_words : (fields : List Field) → Makes fields → List (List ℕ) → Result Line LineFault
-read_words [] makes words = Ok makes
+read_words [] makes words = if_fit makes
 read_words (field ∷ fields) makes [] = Err Count
 read_words (field ∷ fields) makes (word ∷ words) = and_then (read_word field word) (λ value. read_words fields (makes value) words)
 
@@ -187,25 +207,13 @@ read_at (Ok e) first [] = Err Count
 read_at (Ok e) first (keyword ∷ words) = read_line (kinds_at e) keyword words
 read_at (Err fault) first words = read_line kinds first words
 
--- a configuration without a fault
-abbrev pub is_good : EndConfig → Bool
-is_good config = not (is_some (config_fault config))
-
--- MAX is already in range, so the only possible fault is a tag form that does not fit the SCI
-abbrev pub is_fit : Line → Bool
-is_fit (line.End e config) = is_good config
-is_fit other = true
-
-abbrev pub if_fit : Line → Result (Option Line) LineFault
-if_fit line = if is_fit line then Ok (Some line) else Err Ends
-
 -- a line of no words, or whose first word begins with '#', is skipped
 abbrev pub of_words : List (List ℕ) → Result (Option Line) LineFault
 of_words [] = Ok None
 of_words ([] ∷ words) = Ok None
 of_words ((letter ∷ letters) ∷ words) =
     if letter == 35 then Ok None
-    else and_then (read_at (value_of_keyword ends (letter ∷ letters)) (letter ∷ letters) words) if_fit
+    else map_ok Some (read_at (value_of_keyword ends (letter ∷ letters)) (letter ∷ letters) words)
 
 -- the line that a text without its line feed makes
 abbrev pub line_of : List ℕ → Result (Option Line) LineFault

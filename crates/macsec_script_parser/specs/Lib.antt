@@ -3,7 +3,7 @@ pub mod Words
 pub mod Numerals
 pub mod Fields
 pub mod Kinds
+pub mod Parts
 pub mod Scripts
 pub mod Readings
 pub mod Faults
-pub mod Laws

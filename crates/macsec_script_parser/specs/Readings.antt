@@ -5,7 +5,6 @@ use Rattle.macsec_script_parser.specs.declared.lines.LineFault.TheVariants as li
 use Rattle.macsec_script_parser.specs.declared.faults.ScriptFault.{ScriptFault}
 use Rattle.macsec_script_parser.specs.declared.faults.ScriptFault.TheVariants.{ScriptLong, Memory, Read, Write}
 use Rattle.macsec_script_parser.specs.Limits.{max_script_len}
-use Rattle.macsec_script_parser.specs.Scripts.{NumberedLine}
 
 -- parsing a word or a line returns what is defined, or `Memory`
 abbrev pub Reads : {X : Type 0} → Result X LineFault → Result X LineFault → Type 0
@@ -13,9 +12,9 @@ Reads meant (Ok x) = meant ≡ Ok x
 Reads meant (Err line.Memory) = Unit {0}
 Reads meant (Err fault) = meant ≡ Err fault
 
--- parsing a script returns what is defined, or `Memory`; never `Read` or `Write`
-abbrev pub Parses : Result (List NumberedLine) ScriptFault → Result (List NumberedLine) ScriptFault → Type 0
-Parses meant (Ok lines) = meant ≡ Ok lines
+-- parsing a text returns what is defined, or `Memory`; never `Read` or `Write`
+abbrev pub Parses : {X : Type 0} → Result X ScriptFault → Result X ScriptFault → Type 0
+Parses meant (Ok x) = meant ≡ Ok x
 Parses meant (Err Memory) = Unit {0}
 Parses meant (Err Read) = ⊥
 Parses meant (Err Write) = ⊥

@@ -7,20 +7,20 @@
 //! `name`, `line` and `status` of a `ScriptFault` return what `specs/Faults.antt` defines. If its `tell` returns `Ok`,
 //! what it wrote, to a writer whose octets a contract can name, is the one line of the fault. `read_text` returns at
 //! most 1,048,576 octets, or `ScriptLong`, `Memory` or `Read`. Over a reader whose octets a contract can name it
-//! returns all of them, and `ScriptLong` only if there are more. A law: if a text has no fault, an endpoint can be
-//! created from each configuration in its lines.
+//! returns all of them, and `ScriptLong` only if there are more. Each `CheckedEnd` is a configuration without a fault.
 //!
 //! Proved of the definitions: more than eighty worked lines, and ten configurations (`proofs/Examples.antt`).
 #![tactic(auto)]
 
+mod ends;
 mod faults;
-pub mod laws;
 mod lines;
 mod script;
 mod text;
 mod words;
 
+pub use ends::CheckedEnd;
 pub use faults::ScriptFault;
-pub use lines::{Line, LineFault, parse_line};
-pub use script::{MAX_SCRIPT_LEN, at_line, parse_config, parse_script};
+pub use lines::{Action, Line, LineFault, parse_line};
+pub use script::{Config, MAX_SCRIPT_LEN, Script, at_line, parse_config, parse_script};
 pub use text::read_text;

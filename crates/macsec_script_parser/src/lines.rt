@@ -2,7 +2,7 @@
 
 ghost use Rattle.std.specs.Prelude.{◌≡◌, [], map, IfSome, IfNone};
 ghost use Rattle.macsec_script_parser.specs.Fields.{value_of_keyword, ends};
-ghost use Rattle.macsec_script_parser.specs.Kinds.{read_line, read_at, kinds_at, kinds, kinds_of, operator_kinds, of_words, line_of, is_fit};
+ghost use Rattle.macsec_script_parser.specs.Kinds.{read_line, read_at, kinds_at, kinds, kinds_of, operator_kinds, of_words, line_of};
 ghost use Rattle.macsec_script_parser.specs.Readings.{Reads};
 
 mod ends;
@@ -14,12 +14,13 @@ mod receive;
 mod showing;
 mod transmit;
 
+use crate::ends::CheckedEnd;
 use crate::words;
 use ends::end_line;
 use frames::frame_line;
 use keys::key_line;
 use link::link_line;
-use macsec_commands::{End, EndConfig, Event};
+use macsec_commands::{End, Event};
 use options::{option_line, protection_line};
 use receive::{channel_line, receive_line};
 use showing::show_line;
@@ -30,7 +31,14 @@ use transmit::transmit_line;
 #[derive(Drop)]
 pub enum Line {
     /// The configuration of an end.
-    End(End, EndConfig),
+    End(End, CheckedEnd),
+    /// What the script does.
+    Action(Action),
+}
+
+/// What a line does that is not an `end` line.
+#[derive(Drop)]
+pub enum Action {
     /// An event at an end or on the link.
     Event(Event),
     /// Show the counters of an end.
@@ -128,16 +136,6 @@ fn line_from(alloc: Global, first: &[u8], words: &[&[u8]]) -> Result<Line, LineF
     line_at(alloc, at, keyword, words)
 }
 
-/// If this is an `end` line, does its tag form fit its SCI?
-fn is_fit(line: &Line) -> bool
-    ensures { result ≡ is_fit line.now }
-{
-    match line {
-        Line::End(_, config) => config.fault().is_none(),
-        _ => true,
-    }
-}
-
 /// Parses a line from its words. Returns `None` if it is skipped.
 fn line_of_words(alloc: Global, words: &[&[u8]]) -> Result<Option<Line>, LineFault>
     ensures { Reads (of_words (map (λ w. w.now) words.now)) result }
@@ -149,9 +147,6 @@ fn line_of_words(alloc: Global, words: &[&[u8]]) -> Result<Option<Line>, LineFau
         return Ok(None);
     }
     let line = line_from(alloc, first, words)?;
-    if !is_fit(&line) {
-        return Err(LineFault::Ends);
-    }
     Ok(Some(line))
 }
 

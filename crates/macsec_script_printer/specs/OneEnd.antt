@@ -8,8 +8,8 @@ use Rattle.macsec_secy.specs.Step.{Output, refused, operator_command, step}
 use Rattle.macsec_link_events.specs.declared.Outcome.{Outcome}
 use Rattle.macsec_link_events.specs.declared.Outcome.TheVariants.{Done, Refused}
 use Rattle.macsec_link_events.specs.declared.WorldFault.{WorldFault}
-use Rattle.macsec_script_parser.specs.declared.lines.Line.{Line}
-use Rattle.macsec_script_parser.specs.declared.lines.Line.TheVariants as line
+use Rattle.macsec_script_parser.specs.declared.lines.Action.{Action}
+use Rattle.macsec_script_parser.specs.declared.lines.Action.TheVariants as action
 use Rattle.macsec_script_printer.specs.declared.counters.Label.TheVariants as label
 use Rattle.macsec_script_printer.specs.Outcomes.{outcome_text}
 use Rattle.macsec_script_printer.specs.Counters.{counters_text}
@@ -29,8 +29,8 @@ abbrev pub TextAndState : Type 0
 TextAndState = List ℕ × State
 
 -- what line n prints for the endpoint of A, and the endpoint after it; none if the line is about something else as well
-abbrev pub one_end_step : State → ℕ → Line → Option TextAndState
-one_end_step s n (line.Event (event.Command A c)) = Some (command_text n (step s (operator_command c)).0, (step s (operator_command c)).1)
-one_end_step s n (line.Counters A) = Some (counters_text (label.Line n) s, s)
-one_end_step s n (line.Numbers A) = Some (numbers_text n s, s)
+abbrev pub one_end_step : State → ℕ → Action → Option TextAndState
+one_end_step s n (action.Event (event.Command A c)) = Some (command_text n (step s (operator_command c)).0, (step s (operator_command c)).1)
+one_end_step s n (action.Counters A) = Some (counters_text (label.Line n) s, s)
+one_end_step s n (action.Numbers A) = Some (numbers_text n s, s)
 one_end_step s n other = None

@@ -2,9 +2,11 @@
 
 ghost use Rattle.std.specs.Prelude.{◌≡◌, option_copied, is_some, true, IfErr, OnOk};
 ghost use Rattle.std.specs.Io.KnownBytes.{Appends};
+ghost use Rattle.macsec_secy.specs.Answers.{output_of_command};
 ghost use Rattle.macsec_link_events.specs.declared.Outcome.TheVariants as outcome;
 ghost use Rattle.macsec_script_parser.specs.declared.faults.ScriptFault.TheVariants.{Write};
 ghost use Rattle.macsec_script_printer.specs.Outcomes.{drop_text, end_text, is_made, is_told, outcome_text, world_fault_name};
+ghost use Rattle.macsec_script_printer.specs.OneEnd.{command_text};
 ghost use Rattle.macsec_script_printer.specs.Refusals.{refusal_name};
 ghost use Rattle.macsec_script_printer.specs.Printing.{Prints};
 
@@ -163,4 +165,21 @@ pub fn print_outcome<W: Write>(
     ensures fault { IfErr result (λ fault. fault ≡ Write) }
 {
     write_fault(write_outcome(writer, line, frame, outcome))
+}
+
+/// Prints the outcome of a management command, as line `line` of a script shows it. Does not allocate, and fails only
+/// if the writer does.
+pub fn print_command<W: Write>(
+    writer: &mut W,
+    line: u32,
+    outcome: Result<(), Refusal>,
+) -> Result<(), ScriptFault>
+    ensures text { Prints (command_text line (output_of_command outcome)) (W.contents writer.old) (W.contents writer.new) result }
+    ensures fault { IfErr result (λ fault. fault ≡ Write) }
+{
+    let outcome = match outcome {
+        Ok(()) => Outcome::Done,
+        Err(refusal) => Outcome::Refused(refusal),
+    };
+    print_outcome(writer, line, None, &Ok(outcome))
 }

@@ -2,7 +2,7 @@
 
 use super::{A, B, world_after};
 use macsec_link::{An, End, EndConfig, Event, Frame, NewFault, TagForm, World, WorldFault};
-use macsec_script_parser::{Line, parse_line};
+use macsec_script_parser::{Action, Line, parse_line};
 use macsec_secy::{Counters, RxCounters, RxRow, TxCounters, TxRow};
 use std::alloc::Global;
 use std::process::Abort;
@@ -102,7 +102,7 @@ const FAULTS: [(&str, WorldFault); 9] = [
 /// The fault of the event of this line.
 fn fault_of(alloc: Global, world: &mut World, line: &str) -> Option<WorldFault> {
     match parse_line(alloc, line.as_bytes()) {
-        Ok(Some(Line::Event(event))) => world.step(&event).err(),
+        Ok(Some(Line::Action(Action::Event(event)))) => world.step(&event).err(),
         _ => None,
     }
 }

@@ -3,6 +3,7 @@
 ghost use Rattle.std.specs.Prelude.{◌≡◌, [], map, codes, IfSome, IfNone};
 ghost use Rattle.macsec_script_parser.specs.Kinds.{read_line, kinds_of, kinds, end_kinds};
 
+use crate::ends::CheckedEnd;
 use crate::lines::{Line, LineFault};
 use crate::words;
 use crate::words::{decimal, is_word};
@@ -20,15 +21,16 @@ fn configured_end(words: &[&[u8]]) -> Result<Line, LineFault>
     let sci = words::sci(sci)?;
     let max_frame = decimal(MIN_MAX_FRAME as u64, MAX_FRAME_LEN as u64, max_frame)? as u32;
     let form = words::tag_form(form)?;
-    Ok(Line::End(
-        at,
-        EndConfig {
-            suite,
-            sci,
-            max_frame,
-            form,
-        },
-    ))
+    let config = EndConfig {
+        suite,
+        sci,
+        max_frame,
+        form,
+    };
+    match CheckedEnd::new(config) {
+        Some(end) => Ok(Line::End(at, end)),
+        None => Err(LineFault::Ends),
+    }
 }
 
 /// Parses a line of an end's configuration: its keyword and the words after it. Returns `None` for any other keyword.

@@ -4,7 +4,7 @@ ghost use Rattle.std.specs.Prelude.{◌≡◌, [], map, codes, IfSome, IfNone};
 ghost use Rattle.macsec_script_parser.specs.Kinds.{read_line, kinds_at, kinds_of, frame_kinds};
 ghost use Rattle.macsec_script_parser.specs.Readings.{Reads};
 
-use crate::lines::{Line, LineFault};
+use crate::lines::{Action, Line, LineFault};
 use crate::words;
 use crate::words::{frame_number, is_word};
 use macsec_commands::{End, Event};
@@ -17,7 +17,7 @@ fn send(alloc: Global, at: End, words: &[&[u8]]) -> Result<Line, LineFault>
     let [octets] = words else {
         return Err(LineFault::Count);
     };
-    Ok(Line::Event(Event::Send(at, words::frame(alloc, octets)?)))
+    Ok(Line::Action(Action::Event(Event::Send(at, words::frame(alloc, octets)?))))
 }
 
 /// Parses the words after `sendu`: a client frame at the uncontrolled port.
@@ -27,7 +27,7 @@ fn send_uncontrolled(alloc: Global, at: End, words: &[&[u8]]) -> Result<Line, Li
     let [octets] = words else {
         return Err(LineFault::Count);
     };
-    Ok(Line::Event(Event::SendUncontrolled(at, words::frame(alloc, octets)?)))
+    Ok(Line::Action(Action::Event(Event::SendUncontrolled(at, words::frame(alloc, octets)?))))
 }
 
 /// Parses the words after `deliver`: a link frame that arrives at the end.
@@ -37,7 +37,7 @@ fn deliver(at: End, words: &[&[u8]]) -> Result<Line, LineFault>
     let [n] = words else {
         return Err(LineFault::Count);
     };
-    Ok(Line::Event(Event::Deliver(at, frame_number(n)?)))
+    Ok(Line::Action(Action::Event(Event::Deliver(at, frame_number(n)?))))
 }
 
 /// Parses a line of a frame: its keyword and the words after it. Returns `None` for any other keyword.

@@ -6,7 +6,7 @@ ghost use Rattle.macsec_script_parser.specs.Numerals.{decimal_in, octets_of};
 ghost use Rattle.macsec_script_parser.specs.Fields.{as_ssci, key_of_word, map_ok, suites, value_of_keyword};
 ghost use Rattle.macsec_script_parser.specs.Kinds.{and_then, key_from, read_line, kinds_at, kinds_of, key_kinds, tells};
 
-use crate::lines::{Line, LineFault};
+use crate::lines::{Action, Line, LineFault};
 use crate::words;
 use crate::words::{decimal, is_word, key_number};
 use macsec_commands::{Command, End, Event, NewKey, Suite};
@@ -46,7 +46,7 @@ fn installation(
     let offset = decimal(0, 255, offset)? as u8;
     let suite = suite?;
     let (ssci, salt) = more?;
-    Ok(Line::Event(Event::Command(
+    Ok(Line::Action(Action::Event(Event::Command(
         at,
         Command::Key(NewKey {
             number,
@@ -56,7 +56,7 @@ fn installation(
             offset,
             suite,
         }),
-    )))
+    ))))
 }
 
 /// Parses the words after `key`, which installs a key. Their count decides what follows the offset: nothing, a suite,
@@ -91,7 +91,7 @@ fn retire(at: End, words: &[&[u8]]) -> Result<Line, LineFault>
     let [number] = words else {
         return Err(LineFault::Count);
     };
-    Ok(Line::Event(Event::Command(at, Command::Retire(key_number(number)?))))
+    Ok(Line::Action(Action::Event(Event::Command(at, Command::Retire(key_number(number)?)))))
 }
 
 /// Parses a line of a key: its keyword and the words after it. Returns `None` for any other keyword.

@@ -4,7 +4,7 @@ ghost use Rattle.std.specs.Prelude.{◌≡◌, [], map, codes, IfSome, IfNone};
 ghost use Rattle.macsec_script_parser.specs.Kinds.{read_line, kinds_of, kinds, link_kinds};
 ghost use Rattle.macsec_script_parser.specs.Readings.{Reads};
 
-use crate::lines::{Line, LineFault};
+use crate::lines::{Action, Line, LineFault};
 use crate::words;
 use crate::words::{frame_number, is_word};
 use macsec_commands::Event;
@@ -20,7 +20,7 @@ fn alter(words: &[&[u8]]) -> Result<Line, LineFault>
     let n = frame_number(n)?;
     let place = frame_number(place)?;
     let octet = words::octet(octet)?;
-    Ok(Line::Event(Event::Alter(n, place, octet)))
+    Ok(Line::Action(Action::Event(Event::Alter(n, place, octet))))
 }
 
 /// Parses the words after `pad`: a link frame with zeros up to 60 octets.
@@ -30,7 +30,7 @@ fn pad(words: &[&[u8]]) -> Result<Line, LineFault>
     let [n] = words else {
         return Err(LineFault::Count);
     };
-    Ok(Line::Event(Event::Pad(frame_number(n)?)))
+    Ok(Line::Action(Action::Event(Event::Pad(frame_number(n)?))))
 }
 
 /// Parses the words after `inject`: a link frame of these octets.
@@ -40,7 +40,7 @@ fn inject(alloc: Global, words: &[&[u8]]) -> Result<Line, LineFault>
     let [octets] = words else {
         return Err(LineFault::Count);
     };
-    Ok(Line::Event(Event::Inject(words::frame(alloc, octets)?)))
+    Ok(Line::Action(Action::Event(Event::Inject(words::frame(alloc, octets)?))))
 }
 
 /// Parses a line of the link: its keyword and the words after it. Returns `None` for any other keyword.

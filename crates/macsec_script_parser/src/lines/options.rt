@@ -3,7 +3,7 @@
 ghost use Rattle.std.specs.Prelude.{◌≡◌, [], map, codes, IfSome, IfNone};
 ghost use Rattle.macsec_script_parser.specs.Kinds.{read_line, kinds_at, kinds_of, protection_kinds, option_kinds};
 
-use crate::lines::{Line, LineFault};
+use crate::lines::{Action, Line, LineFault};
 use crate::words;
 use crate::words::{decimal, is_word};
 use macsec_commands::{Command, End, Event};
@@ -15,7 +15,7 @@ fn protect(at: End, words: &[&[u8]]) -> Result<Line, LineFault>
     let [on] = words else {
         return Err(LineFault::Count);
     };
-    Ok(Line::Event(Event::Command(at, Command::Protect(words::switch(on)?))))
+    Ok(Line::Action(Action::Event(Event::Command(at, Command::Protect(words::switch(on)?)))))
 }
 
 /// Parses the words after `validate`: how received frames are validated.
@@ -25,7 +25,7 @@ fn validate(at: End, words: &[&[u8]]) -> Result<Line, LineFault>
     let [mode] = words else {
         return Err(LineFault::Count);
     };
-    Ok(Line::Event(Event::Command(at, Command::Validate(words::validation(mode)?))))
+    Ok(Line::Action(Action::Event(Event::Command(at, Command::Validate(words::validation(mode)?)))))
 }
 
 /// Parses the words after `replay`: whether late frames are dropped, and the window.
@@ -37,7 +37,7 @@ fn replay(at: End, words: &[&[u8]]) -> Result<Line, LineFault>
     };
     let protect = words::switch(on)?;
     let window = decimal(0, u64::MAX, window)?;
-    Ok(Line::Event(Event::Command(at, Command::Replay { protect, window })))
+    Ok(Line::Action(Action::Event(Event::Command(at, Command::Replay { protect, window }))))
 }
 
 /// Parses the words after `tag`: the tag form.
@@ -47,7 +47,7 @@ fn tag(at: End, words: &[&[u8]]) -> Result<Line, LineFault>
     let [form] = words else {
         return Err(LineFault::Count);
     };
-    Ok(Line::Event(Event::Command(at, Command::Tag(words::tag_form(form)?))))
+    Ok(Line::Action(Action::Event(Event::Command(at, Command::Tag(words::tag_form(form)?)))))
 }
 
 /// Parses a line that sets whether frames are protected, or how they are validated: its keyword and the words after it.

@@ -6,7 +6,7 @@ ghost use Rattle.macsec_script_parser.specs.Numerals.{decimal_in, octets_of, pac
 ghost use Rattle.macsec_script_parser.specs.Fields.{as_sci, map_ok};
 ghost use Rattle.macsec_script_parser.specs.Kinds.{and_then, read_line, kinds_at, kinds_of, channel_kinds, receive_kinds, tells};
 
-use crate::lines::{Line, LineFault};
+use crate::lines::{Action, Line, LineFault};
 use crate::words;
 use crate::words::{association, is_word, key_number};
 use macsec_commands::{Command, End, Event};
@@ -18,7 +18,7 @@ fn rx_sc(at: End, words: &[&[u8]]) -> Result<Line, LineFault>
     let [sci] = words else {
         return Err(LineFault::Count);
     };
-    Ok(Line::Event(Event::Command(at, Command::RxSc(words::sci(sci)?))))
+    Ok(Line::Action(Action::Event(Event::Command(at, Command::RxSc(words::sci(sci)?)))))
 }
 
 /// Parses the words after `rxscdel`, which deletes a receive SC.
@@ -28,7 +28,7 @@ fn rx_sc_del(at: End, words: &[&[u8]]) -> Result<Line, LineFault>
     let [sci] = words else {
         return Err(LineFault::Count);
     };
-    Ok(Line::Event(Event::Command(at, Command::RxScDel(words::sci(sci)?))))
+    Ok(Line::Action(Action::Event(Event::Command(at, Command::RxScDel(words::sci(sci)?)))))
 }
 
 /// The line that creates a receive SA, from its first four words and the parsed SSCI of its sender.
@@ -49,7 +49,7 @@ fn association_with(
     let key = key_number(key)?;
     let lowest = words::packet_number(lowest)?;
     let ssci = ssci?;
-    Ok(Line::Event(Event::Command(
+    Ok(Line::Action(Action::Event(Event::Command(
         at,
         Command::RxSa {
             sci,
@@ -58,7 +58,7 @@ fn association_with(
             ssci,
             lowest,
         },
-    )))
+    ))))
 }
 
 /// Parses the words after `rxsa`, which creates a receive SA. The last word, the SSCI of its sender, is optional: zero
@@ -84,7 +84,7 @@ fn rx_on(at: End, words: &[&[u8]]) -> Result<Line, LineFault>
     };
     let sci = words::sci(sci)?;
     let an = association(an)?;
-    Ok(Line::Event(Event::Command(at, Command::RxOn(sci, an))))
+    Ok(Line::Action(Action::Event(Event::Command(at, Command::RxOn(sci, an)))))
 }
 
 /// Parses the words after `rxoff`, which disables a receive SA.
@@ -96,7 +96,7 @@ fn rx_off(at: End, words: &[&[u8]]) -> Result<Line, LineFault>
     };
     let sci = words::sci(sci)?;
     let an = association(an)?;
-    Ok(Line::Event(Event::Command(at, Command::RxOff(sci, an))))
+    Ok(Line::Action(Action::Event(Event::Command(at, Command::RxOff(sci, an)))))
 }
 
 /// Parses the words after `rxlow`: the lowest acceptable packet number of a receive SA.
@@ -109,7 +109,7 @@ fn rx_low(at: End, words: &[&[u8]]) -> Result<Line, LineFault>
     let sci = words::sci(sci)?;
     let an = association(an)?;
     let pn = words::packet_number(pn)?;
-    Ok(Line::Event(Event::Command(at, Command::RxLow { sci, an, pn })))
+    Ok(Line::Action(Action::Event(Event::Command(at, Command::RxLow { sci, an, pn }))))
 }
 
 /// Parses the words after `rxdel`, which deletes a receive SA.
@@ -121,7 +121,7 @@ fn rx_del(at: End, words: &[&[u8]]) -> Result<Line, LineFault>
     };
     let sci = words::sci(sci)?;
     let an = association(an)?;
-    Ok(Line::Event(Event::Command(at, Command::RxDel(sci, an))))
+    Ok(Line::Action(Action::Event(Event::Command(at, Command::RxDel(sci, an)))))
 }
 
 /// Parses a line of a receive SC: its keyword and the words after it. Returns `None` for any other keyword.

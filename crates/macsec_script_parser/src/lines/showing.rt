@@ -3,7 +3,7 @@
 ghost use Rattle.std.specs.Prelude.{◌≡◌, [], map, codes, IfSome, IfNone};
 ghost use Rattle.macsec_script_parser.specs.Kinds.{read_line, kinds_at, kinds_of, show_kinds};
 
-use crate::lines::{Line, LineFault};
+use crate::lines::{Action, Line, LineFault};
 use crate::words::is_word;
 use macsec_commands::End;
 
@@ -14,7 +14,7 @@ fn counters(at: End, words: &[&[u8]]) -> Result<Line, LineFault>
     if !words.is_empty() {
         return Err(LineFault::Count);
     }
-    Ok(Line::Counters(at))
+    Ok(Line::Action(Action::Counters(at)))
 }
 
 /// Parses the words after `numbers`, which shows packet numbers.
@@ -24,7 +24,7 @@ fn numbers(at: End, words: &[&[u8]]) -> Result<Line, LineFault>
     if !words.is_empty() {
         return Err(LineFault::Count);
     }
-    Ok(Line::Numbers(at))
+    Ok(Line::Action(Action::Numbers(at)))
 }
 
 /// Parses a line that shows counters or packet numbers: its keyword and the words after it. Returns `None` for any

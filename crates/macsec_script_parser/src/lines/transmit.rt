@@ -3,7 +3,7 @@
 ghost use Rattle.std.specs.Prelude.{◌≡◌, [], map, codes, IfSome, IfNone};
 ghost use Rattle.macsec_script_parser.specs.Kinds.{read_line, kinds_at, kinds_of, transmit_kinds};
 
-use crate::lines::{Line, LineFault};
+use crate::lines::{Action, Line, LineFault};
 use crate::words;
 use crate::words::{association, is_word, key_number};
 use macsec_commands::{Command, End, Event};
@@ -19,7 +19,7 @@ fn tx_sa(at: End, words: &[&[u8]]) -> Result<Line, LineFault>
     let key = key_number(key)?;
     let next = words::packet_number(next)?;
     let conf = words::protection(protection)?;
-    Ok(Line::Event(Event::Command(
+    Ok(Line::Action(Action::Event(Event::Command(
         at,
         Command::TxSa {
             an,
@@ -27,7 +27,7 @@ fn tx_sa(at: End, words: &[&[u8]]) -> Result<Line, LineFault>
             next,
             conf,
         },
-    )))
+    ))))
 }
 
 /// Parses the words after `txon`, which enables a transmit SA.
@@ -37,7 +37,7 @@ fn tx_on(at: End, words: &[&[u8]]) -> Result<Line, LineFault>
     let [an] = words else {
         return Err(LineFault::Count);
     };
-    Ok(Line::Event(Event::Command(at, Command::TxOn(association(an)?))))
+    Ok(Line::Action(Action::Event(Event::Command(at, Command::TxOn(association(an)?)))))
 }
 
 /// Parses the words after `txoff`, which disables a transmit SA.
@@ -47,7 +47,7 @@ fn tx_off(at: End, words: &[&[u8]]) -> Result<Line, LineFault>
     let [an] = words else {
         return Err(LineFault::Count);
     };
-    Ok(Line::Event(Event::Command(at, Command::TxOff(association(an)?))))
+    Ok(Line::Action(Action::Event(Event::Command(at, Command::TxOff(association(an)?)))))
 }
 
 /// Parses the words after `txdel`, which deletes a transmit SA.
@@ -57,7 +57,7 @@ fn tx_del(at: End, words: &[&[u8]]) -> Result<Line, LineFault>
     let [an] = words else {
         return Err(LineFault::Count);
     };
-    Ok(Line::Event(Event::Command(at, Command::TxDel(association(an)?))))
+    Ok(Line::Action(Action::Event(Event::Command(at, Command::TxDel(association(an)?)))))
 }
 
 /// Parses a line of a transmit SA: its keyword and the words after it. Returns `None` for any other keyword.

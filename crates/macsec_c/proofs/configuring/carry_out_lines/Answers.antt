@@ -5,9 +5,9 @@ use Rattle.macsec_c.proofs.configuring.carry_out_lines.Goals as goal
 
 pub loop-n-preserved : goal.loop-n-preserved
 loop-n-preserved c =
-    one_more _ _ _ c.args.lines.now c.loop-n.n-index _ c.loop-n-item.is (omega arith) c.loop-n.invariant c.in_ok-carry_out_line.ensures
+    one_more _ _ _ c.args.commands.now c.loop-n.n-index _ c.loop-n-item.is (omega arith) c.loop-n.invariant c.in_ok-carry_out_line.ensures
 
 pub returns-in_err-carry_out_line : goal.returns-in_err-carry_out_line
 returns-in_err-carry_out_line c =
-    let refused = one_more _ _ _ c.args.lines.now c.loop-n.n-index _ c.loop-n-item.is (omega arith) c.loop-n.invariant c.in_err-carry_out_line.ensures in
+    let refused = one_more _ _ _ c.args.commands.now c.loop-n.n-index _ c.loop-n-item.is (omega arith) c.loop-n.invariant c.in_err-carry_out_line.ensures in
     grind (arith, common_steps, refused)

@@ -4,8 +4,8 @@ use Rattle.macsec_capture.specs.Captured.{commands_part}
 use Rattle.macsec_capture.proofs.Carried.{IsOnTheWay}
 use Rattle.macsec_capture.proofs.commands.run_commands.Given as goal
 
--- what was printed, followed by the text of the remaining lines, is the whole
+-- what was printed, followed by the text of the remaining commands, is the whole
 abbrev pub invariant-loop-n : goal.invariant-loop-n
 invariant-loop-n g l =
-    IsOnTheWay (commands_part l.initial.endpoint l.lines) (g.T.Write.contents l.initial.text) (g.T.Write.contents l.text) l.endpoint (drop l.n-index l.lines)
+    IsOnTheWay (commands_part l.initial.endpoint l.commands) (g.T.Write.contents l.initial.text) (g.T.Write.contents l.text) l.endpoint (drop l.n-index l.commands)
     × IsSound l.endpoint

@@ -7,25 +7,25 @@ use Rattle.macsec_capture.proofs.running.run_configured.Goals as goal
 pub returns-in_err-run_commands-clause-run : goal.returns-in_err-run_commands-clause-run
 returns-in_err-run_commands-clause-run g c =
     let p = err_from_is_err_and c.from_residual-in_err-run_commands.result c.from_residual-in_err-run_commands.ensures.1 in
-    rw (p.1, p.2) (unprinted c.args.direction c.args.end c.args.commands.now (g.R.Read.remaining c.args.input.now) (g.W.Write.contents c.args.output.now)
+    rw (p.1, p.2) (unprinted c.args.direction (record { end = c.args.end; commands = c.args.commands.now }) (g.R.Read.remaining c.args.input.now) (g.W.Write.contents c.args.output.now)
     (g.T.Write.contents c.args.text.now) (g.T.Write.contents c.run_commands.new.text) _ c.in_err-run_commands.ensures.fault)
 
 pub returns-clause-run : goal.returns-clause-run
 returns-clause-run g c =
     let commanded = c.in_ok-run_commands.ensures in
-    configured_gives c.args.direction c.args.end c.args.commands.now _ _ _ _ _ _ _ _ _ c.in_ok-endpoint.ensures.state commanded.state commanded.text
+    configured_gives c.args.direction (record { end = c.args.end; commands = c.args.commands.now }) _ _ _ _ _ _ _ _ _ c.in_ok-endpoint.ensures.state commanded.state commanded.text
     c.run_file.ensures.fault c.run_file.ensures.run
 
 pub returns-in_err-run_commands-clause-some : goal.returns-in_err-run_commands-clause-some
 returns-in_err-run_commands-clause-some g c =
     let p = err_from_is_err_and c.from_residual-in_err-run_commands.result c.from_residual-in_err-run_commands.ensures.1 in
-    rw (p.1, p.2) (unprinted_some c.args.direction c.args.end c.args.commands.now (g.W.Write.contents c.args.output.now)
+    rw (p.1, p.2) (unprinted_some c.args.direction (record { end = c.args.end; commands = c.args.commands.now }) (g.W.Write.contents c.args.output.now)
     (g.T.Write.contents c.args.text.now) (g.T.Write.contents c.run_commands.new.text) _ c.in_err-run_commands.ensures.fault)
 
 pub returns-clause-some : goal.returns-clause-some
 returns-clause-some g c =
     let commanded = c.in_ok-run_commands.ensures in
-    configured_some c.args.direction c.args.end c.args.commands.now _ _ _ _ _ _ _ _ c.in_ok-endpoint.ensures.state commanded.state commanded.text
+    configured_some c.args.direction (record { end = c.args.end; commands = c.args.commands.now }) _ _ _ _ _ _ _ _ c.in_ok-endpoint.ensures.state commanded.state commanded.text
     c.run_file.ensures.fault c.run_file.ensures.some
 
 pub returns-in_err-endpoint-clause-some : goal.returns-in_err-endpoint-clause-some
@@ -35,7 +35,7 @@ returns-in_err-endpoint-clause-some g c =
       output = g.W.Write.contents c.args.output.now;
       text = g.T.Write.contents c.args.text.now;
     } in
-    rw (p.1, p.2) (unmade c.args.direction c.args.end c.args.commands.now written _ c.in_err-endpoint.ensures.fault)
+    rw (p.1, p.2) (unmade c.args.direction (record { end = c.args.end; commands = c.args.commands.now }) written _ c.in_err-endpoint.ensures.fault)
 
 pub returns-clause-fault : goal.returns-clause-fault
 returns-clause-fault g c = after_config _ c.run_file.ensures.fault

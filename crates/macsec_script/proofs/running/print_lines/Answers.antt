@@ -5,7 +5,7 @@ use Rattle.std.proofs.lemmas.List.{take_all}
 use Rattle.std.proofs.lemmas.Result.{err_from_is_err_and}
 use Rattle.std.specs.Io.KnownBytes.{Appends}
 use Rattle.macsec_link.specs.Beginnings.{StaysSound}
-use Rattle.macsec_script_parser.specs.Scripts.{NumberedLine}
+use Rattle.macsec_script_parser.specs.Parts.{NumberedLine}
 use Rattle.macsec_script.specs.Printed.{text_from}
 use Rattle.macsec_script.specs.Promised.{events_of}
 use Rattle.macsec_script.proofs.Runs.{given_up, none_yet, one_more, sound_before}

@@ -3,9 +3,8 @@ use Rattle.macsec_script.proofs.running.print_script.Goals as goal
 
 pub returns-clause-promised : goal.returns-clause-promised
 returns-clause-promised g c =
-    lines_promised c.promises.ensures c.args.lines.now _ _ _ _ c.in-Some.ensures c.in-Ok.ensures.made.1 c.in-Ok.ensures.sound c.print_lines.result c.print_lines.ensures.sound
+    lines_promised c.promises.ensures (record { a = c.args.a; b = c.args.b; lines = c.args.lines.now }) _ c.in-Ok.ensures.made.1 c.in-Ok.ensures.sound c.print_lines.result c.print_lines.ensures.sound
 
 pub returns-clause-promised_before : goal.returns-clause-promised_before
 returns-clause-promised_before g c =
-    lines_before c.promises.ensures c.args.lines.now _ _ _ _ _ c.in-Some.ensures c.in-Ok.ensures.made.1 c.in-Ok.ensures.sound _ _ c.print_lines.result
-    c.print_lines.ensures.sound_before
+    lines_before c.promises.ensures (record { a = c.args.a; b = c.args.b; lines = c.args.lines.now }) _ _ c.in-Ok.ensures.made.1 c.in-Ok.ensures.sound _ _ c.print_lines.result c.print_lines.ensures.sound_before

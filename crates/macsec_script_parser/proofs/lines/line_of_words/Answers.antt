@@ -7,8 +7,5 @@ use Rattle.macsec_script_parser.proofs.lines.line_of_words.Goals as goal
 pub returns-in_err-line : goal.returns-in_err-line
 returns-in_err-line c = grind (arith, common_steps)
 
-pub returns-then-not-is_fit : goal.returns-then-not-is_fit
-returns-then-not-is_fit c = grind (arith, common_steps)
-
 pub returns : goal.returns
 returns c = grind (arith, common_steps)

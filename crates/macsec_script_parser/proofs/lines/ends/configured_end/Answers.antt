@@ -1,7 +1,8 @@
 -- The words are read from left to right, as the table says for this kind.
-use Rattle.std.proofs.Common.{sym, ap, ◌∙◌, refl}
+use Rattle.std.proofs.Common.{sym, ap, ◌∙◌}
 use Rattle.std.specs.Prelude.{Err}
 use Rattle.std.proofs.lemmas.Result.{err_from_is_err_and}
+use Rattle.macsec_script_parser.specs.Kinds.{end_line}
 use Rattle.macsec_script_parser.proofs.WordsInOrder.{of_five_words, taken, failed}
 use Rattle.macsec_script_parser.proofs.lines.ends.configured_end.Goals as goal
 
@@ -45,11 +46,20 @@ returns-in_err-form c =
     (taken _ (sym c.decimal.ensures ∙ c.in_ok-max_frame.was)
     (failed _ (sym c.tag_form.ensures ∙ c.in_err-form.was))))))
 
-pub returns : goal.returns
-returns c =
+pub returns-in-Some : goal.returns-in-Some
+returns-in-Some c =
     of_five_words _ c.args.words.now _ c.in-len5.len_at_least c.in-len5.len_below
     (taken _ (sym c.end.ensures ∙ c.in_ok-at.was)
     (taken _ (sym c.suite.ensures ∙ c.in_ok-suite.was)
     (taken _ (sym c.sci.ensures ∙ c.in_ok-sci.was)
     (taken _ (sym c.decimal.ensures ∙ c.in_ok-max_frame.was)
-    (taken _ (sym c.tag_form.ensures ∙ c.in_ok-form.was) refl)))))
+    (taken _ (sym c.tag_form.ensures ∙ c.in_ok-form.was) (ap (end_line c.in_ok-at.at) (sym c.in-Some.is ∙ c.new.ensures)))))))
+
+pub returns-in-None : goal.returns-in-None
+returns-in-None c =
+    of_five_words _ c.args.words.now _ c.in-len5.len_at_least c.in-len5.len_below
+    (taken _ (sym c.end.ensures ∙ c.in_ok-at.was)
+    (taken _ (sym c.suite.ensures ∙ c.in_ok-suite.was)
+    (taken _ (sym c.sci.ensures ∙ c.in_ok-sci.was)
+    (taken _ (sym c.decimal.ensures ∙ c.in_ok-max_frame.was)
+    (taken _ (sym c.tag_form.ensures ∙ c.in_ok-form.was) (ap (end_line c.in_ok-at.at) (sym c.in-None.is ∙ c.new.ensures)))))))

@@ -3,8 +3,7 @@ use Rattle.std.proofs.Common.{sym, ap, ◌∙◌, refl}
 use Rattle.std.specs.Prelude.{codes, Ok, Err}
 use Rattle.std.proofs.lemmas.Result.{err_from_is_err_and}
 use Rattle.macsec_commands.specs.declared.event.Event.TheVariants as event
-use Rattle.macsec_script_parser.specs.declared.lines.Line.TheVariants as line
-use Rattle.macsec_script_parser.specs.Kinds.{kinds_at, read_line}
+use Rattle.macsec_script_parser.specs.Kinds.{does, kinds_at, read_line}
 use Rattle.macsec_script_parser.specs.Readings.{Reads}
 use Rattle.macsec_script_parser.proofs.WordsInOrder.{at_one_word, reads_fault, taken}
 use Rattle.macsec_script_parser.proofs.lines.frames.send.Goals as goal
@@ -18,5 +17,5 @@ returns-in_err-frame c =
 
 pub returns : goal.returns
 returns c =
-    at_one_word (λ seen. Reads (read_line (kinds_at c.args.at) (codes "send") seen) (Ok (line.Event (event.Send c.args.at c.in_ok-frame.field-0))))
+    at_one_word (λ seen. Reads (read_line (kinds_at c.args.at) (codes "send") seen) (Ok (does (event.Send c.args.at c.in_ok-frame.field-0))))
     c.args.words.now _ c.in-len1.len_at_least c.in-len1.len_below (sym (taken _ c.in_ok-frame.ensures refl))

@@ -1,0 +1,12 @@
+-- The endpoint is opened beside the journal, and the commands are carried out. This proof is here so that a wrong body
+-- is refused quickly.
+use Rattle.std.proofs.Common.{ap, ◌∙◌, rules}
+use Rattle.macsec_c.specs.Texts.{carried_out}
+use Rattle.macsec_c.proofs.Commanded.{opened_beside}
+use Rattle.macsec_c.proofs.configuring.endpoint_of_beside.Goals as goal
+
+pub returns : goal.returns
+returns c =
+    opened_beside (record { end = c.args.end; commands = c.args.commands.now }) c.args.journal.now _ _
+    c.in_ok-keeper.ensures.0 c.in_ok-keeper.ensures.1 c.in_ok-keeper.ensures.2
+    (c.in_ok-carry_out_lines.ensures ∙ ap (λ k. carried_out k c.args.commands.now) (search rules))

@@ -1,0 +1,26 @@
+-- By lines: what the lines before the index make, with the lines that are left, makes the whole. A faulty line, or one
+-- that is out of order, ends the parsing there.
+use Rattle.macsec_script_parser.specs.declared.script.Begun.TheVariants.{Nothing}
+use Rattle.macsec_script_parser.specs.Scripts.{add_to_script}
+use Rattle.macsec_script_parser.proofs.LinesLeft.{faulty_line, on_after_line, on_after_skipped, stopped}
+use Rattle.macsec_script_parser.proofs.script.parse_script_lines.Goals as goal
+
+pub loop-i-preserved-in-Ok-None : goal.loop-i-preserved-in-Ok-None
+loop-i-preserved-in-Ok-None c =
+    on_after_skipped add_to_script Nothing c.loop-i.begun c.loop-i.i c.args.lines.now _ c.loop-i-test.true c.loop-i.invariant
+    (rw c.in-Ok-None.field-0-is at c.in-Ok-None.ensures)
+
+pub loop-i-preserved : goal.loop-i-preserved
+loop-i-preserved c =
+    on_after_line add_to_script Nothing c.loop-i.begun c.in-Ok.next c.loop-i.i c.args.lines.now _ c.in-Ok-Some.line c.loop-i-test.true c.loop-i.invariant
+    (rw c.in-Ok-Some.field-0-is at c.in-Ok-Some.ensures) c.in-Ok.ensures
+
+pub returns-in-Err : goal.returns-in-Err
+returns-in-Err c =
+    rw c.at_line.ensures
+    (faulty_line add_to_script Nothing c.loop-i.begun _ c.loop-i.i c.args.lines.now _ c.in-Err.fault c.loop-i-test.true c.loop-i.invariant c.in-Err.ensures)
+
+pub returns-in-Err-add : goal.returns-in-Err-add
+returns-in-Err-add c =
+    stopped add_to_script Nothing c.loop-i.begun _ c.loop-i.i c.args.lines.now _ c.in-Ok-Some.line c.in-Err-add.fault c.loop-i-test.true c.loop-i.invariant
+    (rw c.in-Ok-Some.field-0-is at c.in-Ok-Some.ensures) c.in-Err-add.ensures
