@@ -1,14 +1,11 @@
 -- The entries of keys: what they reserve together, and that there is room for them.
-use Rattle.std.proofs.Common.{◌≡◌, ℕ, zero, suc, ◌<◌, ◌≤◌, Bool, true, false, cond, List, [], ◌∷◌, ◌++◌, map, drop, length, refl, ap, sym, ◌∙◌, arith, eqb, ◌||◌, inl, inr}
-use Rattle.std.specs.Prelude.{max, if◌then◌else◌, Option, Some, None, ◌==◌}
-use Rattle.std.specs.List.{IsDistinct, AllByRecursion, list_any}
+use Rattle.std.proofs.Common.{◌≡◌, ℕ, zero, suc, ◌≤◌, Bool, true, false, List, [], ◌∷◌, ◌++◌, map, drop, length, refl, ap, sym, ◌∙◌, arith}
+use Rattle.std.specs.Prelude.{max, if◌then◌else◌}
 use Rattle.std.proofs.lemmas.List.{length-map}
-use Rattle.std.proofs.lemmas.Map.Steps.{length-le_from_distinct_below}
-use Rattle.std.proofs.lemmas.Bool.{ne_eqb, eqb-false}
-use Rattle.std.proofs.lemmas.Bool.Decides.{eqb_tells}
 use Rattle.std.proofs.lemmas.Slice.Eq.{bytes_eq-Decides}
 use Rattle.macsec_gcm.specs.Octets.{same_octets}
-use Rattle.macsec_suite.specs.KeyRows.{AreKeyRows, InstalledKey, key_row, max_key_count}
+use Rattle.macsec_suite.specs.KeyRows.{AreKeyRows, InstalledKey, max_key_count}
+use Rattle.macsec_suite.proofs.KeyLemmas.{at_most_rows}
 use Rattle.macsec_reserve.specs.declared.keeper.NamedKey.{NamedKey}
 use Rattle.macsec_reserve.specs.declared.reservation.Reservation.{Reservation}
 use Rattle.macsec_reserve.specs.Journal.{highest, sending_name}
@@ -70,33 +67,7 @@ entries_of_names salt granted keys names are =
 
 -- ---- room
 
-abbrev numbers_of : List InstalledKey → List ℕ
-numbers_of rows = map (λ row. row.number) rows
-
-cond_none : {A : Type 0} (b : Bool) (x : A) (r : Option A) → cond b (Some x) r ≡ None → (b ≡ false) × (r ≡ None)
-cond_none true x r h = cc
-cond_none false x r h = (refl, h)
-
-numbers_differ : (rows : List InstalledKey) (n : ℕ) → key_row rows n ≡ None → AllByRecursion (λ m. eqb n m ≡ false) (numbers_of rows)
-numbers_differ [] n free = tt
-numbers_differ (row ∷ rows) n free =
-    let parts = cond_none (row.number == n) row (key_row rows n) free in
-    (ne_eqb n row.number (λ e. eqb-false row.number n parts.0 (sym e)), numbers_differ rows n parts.1)
-
-numbers_distinct : (rows : List InstalledKey) → AreKeyRows rows → IsDistinct eqb (numbers_of rows)
-unfolding IsDistinct
-numbers_distinct [] are = tt
-numbers_distinct (row ∷ rows) are = (numbers_differ rows row.number are.1, numbers_distinct rows are.2)
-
-below_from_among : (q n m : ℕ) (rest : Bool) → n < m → (rest ≡ true → q < m) → (eqb q n || rest) ≡ true → q < m
-below_from_among q n m rest small later any = elim (eqb_tells q n) [ inl t ↦ omega arith | inr f ↦ later (rw f.0 at any) ]
-
-numbers_below : (rows : List InstalledKey) → AreKeyRows rows → (q : ℕ) → list_any (eqb q) (numbers_of rows) ≡ true → q < max_key_count
-numbers_below [] are q any = cc
-numbers_below (row ∷ rows) are q any = below_from_among q row.number max_key_count (list_any (eqb q) (numbers_of rows)) are.0.number (λ e. numbers_below rows are.2 q e) any
-
 pub names_fit : (salt : List ℕ) (keys : List InstalledKey) (names : List NamedKey) (room : ℕ) → AreKeyRows keys → HasNames salt keys names → max_key_count ≤ room → length names ≤ room
 names_fit salt keys names room are is within =
-    let fits : length (numbers_of keys) ≤ max_key_count = length-le_from_distinct_below (numbers_of keys) max_key_count (numbers_distinct keys are) (numbers_below keys are) in
     let count : length (map (named salt) keys) ≡ length names = ap length is in
-    omega (arith, fits, count, length-map keys (named salt), length-map keys (λ (row : InstalledKey). row.number), within)
+    omega (arith, at_most_rows keys are, count, length-map keys (named salt), within)

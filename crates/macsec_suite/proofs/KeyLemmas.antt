@@ -53,13 +53,15 @@ has_room keys n h free small =
     (λ q any. lt_from_among q n max_key_count (list_any (eqb q) (numbers_of rows)) small (λ e. numbers-lt rows h q e) any) in
     omega (arith, length-map rows (λ row. row.number), length-map keys stored_row)
 
--- a table has at most as many keys as there are numbers
-pub at_most : (keys : List StoredKey) → AreKeyRows (map stored_row keys) → length keys ≤ max_key_count
+-- there are at most as many keys as there are numbers
+pub at_most_rows : (rows : List InstalledKey) → AreKeyRows rows → length rows ≤ max_key_count
 unfolding IsDistinct
-at_most keys h =
-    let rows : List InstalledKey = map stored_row keys in
+at_most_rows rows h =
     let fits : length (numbers_of rows) ≤ max_key_count = length-le_from_distinct_below (numbers_of rows) max_key_count (IsDistinct-numbers rows h) (numbers-lt rows h) in
-    omega (arith, length-map rows (λ row. row.number), length-map keys stored_row)
+    omega (arith, length-map rows (λ row. row.number))
+
+pub at_most : (keys : List StoredKey) → AreKeyRows (map stored_row keys) → length keys ≤ max_key_count
+at_most keys h = omega (arith, at_most_rows (map stored_row keys) h, length-map keys stored_row)
 
 -- appending a row with another number leaves a number free
 free-push : (rows : List InstalledKey) (new : InstalledKey) (n : ℕ) → key_row rows n ≡ None → (new.number == n) ≡ false → key_row (rows ++ new ∷ []) n ≡ None
