@@ -1,6 +1,6 @@
 # make try           builds the program without proofs, in about a minute, and runs it on the tour; with ARGS='..' on
 #                    those arguments, as in make try ARGS='protect CONFIG IN OUT'
-# make test          builds everything without proofs and runs all tests, in at most 5 minutes
+# make test          builds without proofs and runs most checks, in at most 5 minutes
 # make               proves and builds the program, build/macsec; with CPU=x86-64-v3 build/macsec-x86-64-v3, for
 #                    processors with vectors of 256 bits
 # make run           does the same, and runs it on the tour
