@@ -1,6 +1,6 @@
 -- A run without a fault has written the output of its last stop.
 use Rattle.std.proofs.Common.{◌≡◌, ℕ, List, []}
-use Rattle.std.specs.Prelude.{Option, Some, None, Result, Ok, Err}
+use Rattle.std.specs.Prelude.{Option, None, Result, Ok, Err}
 use Rattle.std.specs.Io.KnownBytes.{Appends}
 use Rattle.macsec_secy.specs.State.{start}
 use Rattle.macsec_script_parser.specs.Parts.{ConfigParts}

@@ -25,6 +25,10 @@ use Rattle.macsec_script.proofs.Unwritten.{carried_over}
 abbrev pub SoundKeepPromises : Type 0
 SoundKeepPromises = (a b : EndConfig) (events : List Event) → AreSound a b events → KeepsPromises a b events
 
+-- the world of the checked ends
+pub ends_made : {w : WorldState} {a b c d : EndConfig} → w ≡ new_world a b → a ≡ c → b ≡ d → w ≡ new_world c d
+ends_made {b = b} {c = c} made first second = made ∙ ap (λ (e : EndConfig). new_world e b) first ∙ ap (λ (e : EndConfig). new_world c e) second
+
 -- the lines after the two ends were carried out
 pub lines_promised : SoundKeepPromises → (script : ScriptParts) (w : WorldState) → w ≡ new_world script.a script.b → IsSound w →
     (answer : Result (Unit {0}) ScriptFault) → OnOk answer (IsSound w → StaysSound w (events_of script.lines)) → OnOk answer (ArePromised script)

@@ -1,17 +1,20 @@
 -- What a run returns if it printed nothing, and if it printed the lines.
-use Rattle.std.proofs.Common.{◌≡◌, ℕ, List, [], drop, refl, sym, ◌∙◌, ap, subst}
-use Rattle.std.specs.Prelude.{Option, Some, None, Result, Ok, Err, IfSome, IfErr, ◌≤◌, length}
+use Rattle.std.proofs.Common.{◌≡◌, ℕ, List, [], arith, drop, refl, sym, ◌∙◌, ap, subst}
+use Rattle.std.proofs.lemmas.Bool.Decides.{nat_tests}
+use Rattle.std.specs.Prelude.{Bool, true, false, ◌||◌, ◌<◌, if◌then◌else◌, nat_lt, Option, Some, None, Result, Ok, Err, IfSome, IfErr, ◌≤◌, length}
 use Rattle.std.specs.Io.KnownBytes.{Keeps}
 use Rattle.std.proofs.KnownBytes.{Appends-nil, Appends-kept, Keeps-refl, starts_with_rest}
 use Rattle.macsec_commands.specs.declared.config.EndConfig.{EndConfig}
 use Rattle.macsec_script_parser.specs.declared.faults.ScriptFault.{ScriptFault}
-use Rattle.macsec_script_parser.specs.declared.faults.ScriptFault.TheVariants.{Memory, Read, Write}
+use Rattle.macsec_script_parser.specs.declared.faults.ScriptFault.TheVariants.{Word, Count, Hex, Number, Ends, LineLong, ScriptLong, Memory, Read, Write}
 use Rattle.macsec_script_parser.specs.Fields.{map_ok}
-use Rattle.macsec_script_parser.specs.Scripts.{script_of}
+use Rattle.macsec_script_parser.specs.Scripts.{script_of, script_of_lines}
+use Rattle.macsec_script_parser.specs.Kinds.{and_then}
+use Rattle.macsec_script_parser.specs.Words.{lines_of}
 use Rattle.macsec_script_parser.specs.Parts.{NumberedLine, ScriptParts}
 use Rattle.macsec_script.specs.Printed.{printed_text, text_of, text_of_any}
 use Rattle.macsec_script.specs.Runs.{IsAfterRead, IsBegun, LeavesText, RunGives, WritesText}
-use Rattle.macsec_script_parser.specs.Readings.{Parses}
+use Rattle.macsec_script_parser.specs.Readings.{IsInputFault, Parses}
 
 -- the empty text is a prefix of every text
 pub begun_by_nothing : (answer : Result (List ℕ) ScriptFault) → IsBegun answer []
@@ -30,6 +33,35 @@ at_fault script old new kept Memory h = out_of_memory script old new kept
 at_fault script old new kept Read h = kept
 at_fault script old new kept Write h = absurd h
 at_fault script old new kept f h = (printed_fault script f h, kept)
+
+-- ---- a script that was not read
+
+too_long : (long many : Bool) (lines : List (List ℕ)) → long ≡ true → and_then (if long || many then Err ScriptLong else Ok lines) script_of_lines ≡ Err ScriptLong
+too_long true many lines is = refl
+too_long false many lines is = cc
+
+above : (n m : ℕ) → n < m → nat_lt n m ≡ true
+above n m less = grind (arith, nat_tests)
+
+unread_over : (text : List ℕ) (old : Option (List ℕ)) (f : ScriptFault) → IsInputFault text f → RunGives text old old (Err f)
+unread_over text old Memory h = out_of_memory text old old (Keeps-refl old)
+unread_over text old Read h = Keeps-refl old
+unread_over text old Write h = absurd h
+unread_over text old ScriptLong h =
+    let is = too_long (nat_lt 1048576 (length text)) (nat_lt 65536 (length (lines_of text))) (lines_of text) (above 1048576 (length text) h) in
+    (printed_fault text ScriptLong is, Keeps-refl old)
+unread_over text old (Word n) h = absurd h
+unread_over text old (Count n) h = absurd h
+unread_over text old (Hex n) h = absurd h
+unread_over text old (Number n) h = absurd h
+unread_over text old (Ends n) h = absurd h
+unread_over text old (LineLong n) h = absurd h
+
+pub unread : (known old : Option (List ℕ)) (f : ScriptFault) → IfSome known (λ text. IsInputFault text f) → IfSome known (λ text. RunGives text old old (Err f))
+unread None old f h = tt
+unread (Some text) old f h = unread_over text old f h
+
+-- ---- a script that was parsed
 
 -- a script of these parts was parsed
 abbrev pub IsParsed : List ℕ → EndConfig → EndConfig → List NumberedLine → Type 0

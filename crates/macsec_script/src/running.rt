@@ -47,7 +47,8 @@ pub fn run_text<W: Write>(alloc: Global, writer: &mut W, script: &[u8]) -> Resul
     // write fails, what was written ends in the text of one line, and the same holds of the lines up to that one.
     ensures promised_before { IfErr result (λ fault. IsPromisedBefore (IsPromisedUpTo script.now) (W.contents writer.old) (W.contents writer.new) fault) }
 {
-    let Some(script) = parse_script(alloc, script)? else {
+    let parsed = parse_script(alloc, script)?;
+    let Some(script) = parsed else {
         return Ok(());
     };
     print_script(alloc, writer, script.a, script.b, script.lines.as_slice())

@@ -1,11 +1,8 @@
 -- A script, and the configuration of one end: each is made of the lines that are not skipped, in order, or has the first
 -- fault.
 use Rattle.std.specs.Prelude.{ℕ, ◌+◌, ◌||◌, List, [], ◌∷◌, ◌++◌, length, Bool, nat_lt, if◌then◌else◌, Option, Some, None, Result, Ok, Err}
-use Rattle.macsec_commands.specs.declared.command.Command.{Command}
-use Rattle.macsec_commands.specs.declared.config.EndConfig.{EndConfig}
 use Rattle.macsec_commands.specs.declared.event.End.TheVariants.{A, B}
 use Rattle.macsec_commands.specs.declared.event.Event.TheVariants as event
-use Rattle.macsec_script_parser.specs.declared.lines.Action.{Action}
 use Rattle.macsec_script_parser.specs.declared.lines.Action.TheVariants as action
 use Rattle.macsec_script_parser.specs.declared.lines.Line.{Line}
 use Rattle.macsec_script_parser.specs.declared.lines.Line.TheVariants as line

@@ -1,8 +1,13 @@
 -- What `run_text` ensures of the text that was read holds of all that the reader had, if that is known.
 use Rattle.std.proofs.lemmas.Result.{err_from_is_err_and}
 use Rattle.macsec_script.proofs.Promised.{before_over, nothing_read, promised_over}
-use Rattle.macsec_script.proofs.Unwritten.{carried_over}
+use Rattle.macsec_script.proofs.Unwritten.{carried_over, unread}
 use Rattle.macsec_script.proofs.running.run_script.Goals as goal
+
+pub returns-in_err-text-clause-run : goal.returns-in_err-text-clause-run
+returns-in_err-text-clause-run g c =
+    let p = err_from_is_err_and c.from_residual.result c.from_residual.ensures.1 in
+    rw (p.1, p.2) (unread _ _ _ c.in_err-text.ensures.text)
 
 pub returns-clause-run : goal.returns-clause-run
 returns-clause-run g c = carried_over _ c.in_ok-text.text.items _ _ c.in_ok-text.ensures.text c.as_slice.ensures.value c.run_text.ensures.run
