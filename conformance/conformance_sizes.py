@@ -23,10 +23,8 @@ TEXTS = [
     "macsec_pcapng/Captures",
     "macsec_cli_runs/Failures",
 ]
-IN_C = [
-    f"macsec_c/{it}"
-    for it in ("Answers", "Configs", "Keys", "SentParts", "ReceivedParts", "Shown", "Texts", "Reserving")
-]
+IN_C = [f"macsec_c/{it}" for it in ("Answers", "Found", "Texts")]
+IN_C += [f"macsec_c_calls/{it}" for it in ("Configs", "Keys", "SentParts", "ReceivedParts", "Shown", "Reserving")]
 
 
 @functools.lru_cache(None)

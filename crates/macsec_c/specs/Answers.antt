@@ -1,44 +1,42 @@
 -- What the calls of a handle return, given the outputs of its endpoint: of the keeping machine of `macsec_reserve`, which
 -- without a journal is the machine.
 use Rattle.std.specs.Prelude.{◌≡◌, ℕ, List, Bool, true, false, Option, Some, None, Ok, Err, option_map}
-use Rattle.macsec_suite.specs.RefusalNumbers.{number_of_refusal}
 use Rattle.macsec_commands.specs.declared.command.Command.{Command}
 use Rattle.macsec_commands.specs.declared.config.EndConfig.{EndConfig}
 use Rattle.macsec_commands.specs.declared.fault.NewFault.{NewFault}
 use Rattle.macsec_commands.specs.declared.fault.NewFault.TheVariants.{Memory}
 use Rattle.macsec_commands.specs.Configs.{config_fault}
-use Rattle.macsec_secy.specs.Step.{Input, Output, done, refused, leaves, dropped_no_sa, dropped_too_long, received, fault, operator_command}
+use Rattle.macsec_secy.specs.Step.{Input, client_frame, link_frame}
+use Rattle.macsec_reserve.specs.declared.reservation.Reservation.{Reservation}
 use Rattle.macsec_reserve.specs.Journal.{is_journal}
-use Rattle.macsec_reserve.specs.Keeping.{Keeping, KeepingOutput, alone, dropped_no_reservation, endpoint_input, endpoint_output, keeping_step, noted, opened}
-use Rattle.macsec_c_numbers.specs.Arguments.{Named}
-use Rattle.macsec_c_numbers.specs.Statuses.{done_status, empty_status, not_journal_status, taken_status, status_of_argument_fault, status_of_new_fault, status_of_frame_fault}
-
--- the status for an output of the machine
-abbrev pub status_of : Output → ℕ
-status_of done = done_status
-status_of (refused r) = number_of_refusal r
-status_of (leaves frame under) = done_status
-status_of dropped_no_sa = done_status
-status_of dropped_too_long = done_status
-status_of (received verdict row shown controlled) = done_status
-status_of (fault f) = status_of_frame_fault f
-
-abbrev pub status_of_kept : KeepingOutput → ℕ
-status_of_kept (endpoint_output output) = status_of output
-status_of_kept dropped_no_reservation = done_status
-status_of_kept noted = done_status
+use Rattle.macsec_reserve.specs.Keeping.{Keeping, alone, endpoint_input, keeping_step, opened}
+use Rattle.macsec_c_calls.specs.Arguments.{Named}
+use Rattle.macsec_c_calls.specs.Commands.{status_of_kept}
+use Rattle.macsec_c_calls.specs.Commands.{commanded as by_endpoint}
+use Rattle.macsec_c_calls.specs.ReceivedParts.{ReceivedParts, unreceived}
+use Rattle.macsec_c_calls.specs.ReceivedParts.{parts_of_kept as received_of_kept}
+use Rattle.macsec_c_calls.specs.Reserving.{reported as reported_to}
+use Rattle.macsec_c_calls.specs.SentParts.{SentParts, unsent}
+use Rattle.macsec_c_calls.specs.SentParts.{parts_of_kept as sent_of_kept}
+use Rattle.macsec_c_calls.specs.Statuses.{done_status, empty_status, not_journal_status, taken_status, status_of_argument_fault, status_of_new_fault}
 
 -- what a handle holds after an input
 abbrev pub after_input : Option Keeping → Input → Option Keeping
 after_input held input = option_map (λ k. (keeping_step k (endpoint_input input)).1) held
 
+-- a status with the endpoint after a call, as the status and what the handle holds
+abbrev pub held_after : ℕ × Keeping → ℕ × Option Keeping
+held_after it = (it.0, Some it.1)
+
 -- the status of a command, or of arguments that name no command, and what the handle holds after it
 abbrev pub commanded : Option Keeping → Named Command → ℕ × Option Keeping
 commanded None c = (empty_status, None)
-commanded (Some k) (Err f) = (status_of_argument_fault f, Some k)
-commanded (Some k) (Ok c) =
-    let after = keeping_step k (endpoint_input (operator_command c)) in
-    (status_of_kept after.0, Some after.1)
+commanded (Some k) c = held_after (by_endpoint k c)
+
+-- the status of a report that what some octets reserve is durable, and what the handle holds after it
+abbrev pub reported : Option Keeping → List Reservation → ℕ × Option Keeping
+reported None read = (empty_status, None)
+reported (Some k) read = held_after (reported_to k read)
 
 -- the status of creating this endpoint, and what the handle holds after it: the fault of the configuration if it has one,
 -- else the endpoint, or out of memory
@@ -67,3 +65,13 @@ Opens None (Ok config) journal status after = MakesBeside (is_journal journal) c
 abbrev pub status_held : Option Keeping → Input → ℕ
 status_held None input = empty_status
 status_held (Some k) input = status_of_kept (keeping_step k (endpoint_input input)).0
+
+-- the result for a client frame
+abbrev pub sent_parts : Option Keeping → List ℕ → SentParts
+sent_parts None frame = unsent empty_status 0
+sent_parts (Some k) frame = sent_of_kept (keeping_step k (endpoint_input (client_frame frame))).0
+
+-- the result for a link frame
+abbrev pub received_parts : Option Keeping → List ℕ → ReceivedParts
+received_parts None frame = unreceived empty_status
+received_parts (Some k) frame = received_of_kept (keeping_step k (endpoint_input (link_frame frame))).0

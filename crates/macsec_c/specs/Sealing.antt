@@ -14,9 +14,9 @@ use Rattle.macsec_suite.specs.InPlace.{protected_octets}
 use Rattle.macsec_suite.specs.Keys.{has_wrong_length, prepared_from}
 use Rattle.macsec_suite.specs.Suites.{iv_of, last_of}
 use Rattle.macsec_secy.specs.declared.fault.FrameFault.TheVariants.{Short, Long}
-use Rattle.macsec_c_numbers.specs.Arguments.{Named, key_of, suite_of}
-use Rattle.macsec_c_numbers.specs.Statuses.{done_status, status_of_argument_fault, status_of_frame_fault}
-use Rattle.macsec_c.specs.declared.commands.Sak.{Sak}
+use Rattle.macsec_c_calls.specs.Arguments.{Named, key_of, suite_of}
+use Rattle.macsec_c_calls.specs.Statuses.{done_status, status_of_argument_fault, status_of_frame_fault}
+use Rattle.macsec_c_calls.specs.declared.commands.Sak.{Sak}
 
 -- the first status that applies: the suite's keys have another length, the packet number is above the suite's last one,
 -- the frame has no 16 octets after its head, or it is too long. The packet number 0 is no fault, nor is any offset

@@ -28,7 +28,7 @@ use Rattle.macsec_reserve.specs.Keeping.{Keeping, KeepingOutput, alone, dropped_
 use Rattle.macsec_c.specs.declared.configuring.ConfigFault.{ConfigFault}
 use Rattle.macsec_c.specs.declared.configuring.ConfigFault.TheVariants.{Text, New, NotJournal, Refused}
 use Rattle.macsec_c.specs.Answers.{commanded}
-use Rattle.macsec_c_numbers.specs.Statuses.{done_status, empty_status, not_journal_status, taken_status, status_of_line_fault, status_of_new_fault, status_of_script_fault}
+use Rattle.macsec_c_calls.specs.Statuses.{done_status, empty_status, not_journal_status, taken_status, status_of_line_fault, status_of_new_fault, status_of_script_fault}
 
 -- the command of a line, if it is a command at end A
 abbrev pub command_of : Line → Option Command

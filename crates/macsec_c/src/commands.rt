@@ -2,15 +2,16 @@
 
 ghost use Rattle.std.specs.Prelude.{◌≡◌, Ok};
 ghost use Rattle.macsec_commands.specs.declared.command.Command.TheVariants as by;
+ghost use Rattle.macsec_c_calls.specs.Arguments.{an_of, form_of, key_number_of, mode_of, naming, naming_both, sci_of};
+ghost use Rattle.macsec_c_calls.specs.Keys.{new_key_of};
 ghost use Rattle.macsec_c.specs.Answers.{commanded};
-ghost use Rattle.macsec_c_numbers.specs.Arguments.{an_of, form_of, key_number_of, mode_of, naming, naming_both, sci_of};
-ghost use Rattle.macsec_c.specs.Keys.{new_key_of};
 
 use crate::endpoint::Endpoint;
-use macsec_c_numbers::{
-    ArgumentFault, DONE, EMPTY, an_of, form_of, key_number_of, key_of, key_suite_of, mode_of,
+use macsec_c_calls::{
+    ArgumentFault, EMPTY, Sak, an_of, form_of, key_number_of, mode_of, new_key_of, rx_sa_of,
+    tx_sa_of,
 };
-use macsec_secy::{Command, NewKey, Sci};
+use macsec_secy::{Command, Sci};
 
 /// Carries out a command, or refuses it and changes nothing. Returns the status.
 pub(crate) fn carry_out(e: &mut Endpoint, command: Result<Command, ArgumentFault>) -> u32
@@ -19,14 +20,7 @@ pub(crate) fn carry_out(e: &mut Endpoint, command: Result<Command, ArgumentFault
     if !e.is_made() {
         return EMPTY;
     }
-    let command = match command {
-        Ok(command) => command,
-        Err(fault) => return fault.status(),
-    };
-    match e.keeper().command(&command) {
-        Ok(()) => DONE,
-        Err(refusal) => u32::from(refusal.number()),
-    }
+    macsec_c_calls::carry_out(e.keeper(), command)
 }
 
 /// Protect client frames, or send them unchanged.
@@ -61,36 +55,6 @@ pub extern "C" fn macsec_set_tag_form(e: &mut Endpoint, form: u32) -> u32
     carry_out(e, form_of(form).map(|form| Command::Tag(form)))
 }
 
-/// A key to install, as C gives it. The key is the first `length` octets of `bytes`.
-#[repr(C)]
-#[derive(Drop)]
-pub struct Sak {
-    pub bytes: [u8; 32],
-    pub salt: [u8; 12],
-    pub ssci: u32,
-    pub suite: u32,
-    pub number: u16,
-    pub length: u8,
-    pub offset: u8,
-}
-
-/// The key that it names, or the first argument that names nothing.
-fn new_key_of(key: &Sak) -> Result<NewKey, ArgumentFault>
-    ensures { result ≡ new_key_of key.now }
-{
-    let suite = key_suite_of(key.suite)?;
-    let number = key_number_of(key.number)?;
-    let bytes = key_of(&key.bytes, key.length)?;
-    Ok(NewKey {
-        number,
-        bytes,
-        salt: key.salt,
-        ssci: key.ssci,
-        offset: key.offset,
-        suite,
-    })
-}
-
 /// Install a key.
 #[unsafe(no_mangle)]
 pub extern "C" fn macsec_install_key(e: &mut Endpoint, key: &Sak) -> u32
@@ -105,20 +69,6 @@ pub extern "C" fn macsec_retire_key(e: &mut Endpoint, key: u16) -> u32
     ensures { (result, e.new.state) ≡ commanded e.old.state (naming by.Retire (key_number_of key)) }
 {
     carry_out(e, key_number_of(key).map(|key| Command::Retire(key)))
-}
-
-/// The command that creates this transmit SA.
-fn tx_sa_of(an: u8, key: u16, next: u64, conf: bool) -> Result<Command, ArgumentFault>
-    ensures { result ≡ naming_both (λ n k. by.TxSa n k next conf) (an_of an) (key_number_of key) }
-{
-    let an = an_of(an)?;
-    let key = key_number_of(key)?;
-    Ok(Command::TxSa {
-        an,
-        key,
-        next,
-        conf,
-    })
 }
 
 /// Create a transmit SA, disabled, whose first packet number is `next`. It encrypts if `conf` is true.
@@ -167,21 +117,6 @@ pub extern "C" fn macsec_delete_rx_sc(e: &mut Endpoint, sci: &[u8; 8]) -> u32
     ensures { (result, e.new.state) ≡ commanded e.old.state (Ok (by.RxScDel (sci_of sci.now))) }
 {
     carry_out(e, Ok(Command::RxScDel(Sci(*sci))))
-}
-
-/// The command that creates this receive SA.
-fn rx_sa_of(sci: Sci, an: u8, key: u16, ssci: u32, lowest: u64) -> Result<Command, ArgumentFault>
-    ensures { result ≡ naming_both (λ n k. by.RxSa sci n k ssci lowest) (an_of an) (key_number_of key) }
-{
-    let an = an_of(an)?;
-    let key = key_number_of(key)?;
-    Ok(Command::RxSa {
-        sci,
-        an,
-        key,
-        ssci,
-        lowest,
-    })
 }
 
 /// Create a receive SA, disabled, whose lowest acceptable packet number is `lowest`.

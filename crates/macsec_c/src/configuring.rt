@@ -8,12 +8,11 @@ ghost use Rattle.macsec_c.specs.Texts.{created_alone, created_beside};
 ghost use Rattle.macsec_c.specs.Texts.{line_of_config_fault, status_of_config_fault};
 
 use crate::commands::carry_out;
-use crate::creating::{endpoint_alone, endpoint_beside};
 use crate::endpoint::Endpoint;
 use crate::loose::Loose;
-use macsec_c_numbers::{
-    DONE, EMPTY, NOT_JOURNAL, TAKEN, status_of_line_fault, status_of_new_fault,
-    status_of_script_fault,
+use macsec_c_calls::{
+    DONE, EMPTY, NOT_JOURNAL, TAKEN, endpoint_alone, endpoint_beside, status_of_line_fault,
+    status_of_new_fault, status_of_script_fault,
 };
 use macsec_commands::{End, Event};
 use macsec_reserve::{Keeper, OpenFault};

@@ -1,77 +1,16 @@
 //! Creating the endpoint of a handle, and freeing it.
 
 ghost use Rattle.std.specs.Prelude.{◌≡◌, None};
-ghost use Rattle.macsec_script_parser.specs.Fields.{map_ok};
-ghost use Rattle.macsec_reserve.specs.Answers.{MakesAlone, MakesKeeper};
+ghost use Rattle.macsec_c_calls.specs.Configs.{config_of};
 ghost use Rattle.macsec_c.specs.Answers.{Makes, Opens};
-ghost use Rattle.macsec_c.specs.Configs.{config_of};
 
 use crate::endpoint::Endpoint;
 use crate::loose::Loose;
-use macsec_c_numbers::{
-    ArgumentFault, DONE, NOT_JOURNAL, TAKEN, form_of, status_of_new_fault, suite_of,
+use macsec_c_calls::{
+    Config, DONE, TAKEN, config_of, endpoint_alone, endpoint_beside, status_of_new_fault,
+    status_of_open_fault,
 };
-use macsec_reserve::{Keeper, OpenFault};
-use macsec_secy::{EndConfig, NewFault, Sci};
 use std::alloc::Global;
-
-/// A configuration as C gives it.
-#[repr(C)]
-#[derive(Drop)]
-pub struct Config {
-    pub sci: [u8; 8],
-    pub suite: u32,
-    pub form: u32,
-    pub max_frame: u32,
-}
-
-/// The configuration that it names, or the first argument that names nothing.
-fn config_of(config: &Config) -> Result<EndConfig, ArgumentFault>
-    ensures { result ≡ config_of config.now }
-{
-    Ok(EndConfig {
-        suite: suite_of(config.suite)?,
-        sci: Sci(config.sci),
-        max_frame: config.max_frame,
-        form: form_of(config.form)?,
-    })
-}
-
-/// Creates an endpoint of this configuration without a journal on the heap.
-pub(crate) fn endpoint_alone(
-    alloc: Global,
-    config: EndConfig,
-) -> Result<Box<Keeper, Global>, NewFault>
-    ensures { MakesAlone config (map_ok (λ keeper. keeper.value) result) }
-{
-    // `?` and a second `match` would need twice the stack for the endpoint.
-    let keeper = match Keeper::new(alloc, config) {
-        Ok(keeper) => keeper,
-        Err(fault) => return Err(fault),
-    };
-    let Ok(keeper) = Box::new(alloc, keeper) else {
-        return Err(NewFault::Memory);
-    };
-    Ok(keeper)
-}
-
-/// Creates an endpoint of this configuration beside a journal on the heap.
-pub(crate) fn endpoint_beside(
-    alloc: Global,
-    config: EndConfig,
-    journal: &[u8],
-) -> Result<Box<Keeper, Global>, OpenFault>
-    ensures { MakesKeeper config journal.now (map_ok (λ keeper. keeper.value) result) }
-{
-    let keeper = match Keeper::open(alloc, config, journal) {
-        Ok(keeper) => keeper,
-        Err(fault) => return Err(fault),
-    };
-    let Ok(keeper) = Box::new(alloc, keeper) else {
-        return Err(OpenFault::Memory);
-    };
-    Ok(keeper)
-}
 
 /// Creates an endpoint of this configuration on the heap, in a handle without one.
 #[unsafe(no_mangle)]
@@ -117,9 +56,7 @@ pub extern "C" fn macsec_reserve_open_raw(
             e.put(Loose::of(keeper));
             DONE
         }
-        Err(OpenFault::Endpoint(fault)) => status_of_new_fault(fault),
-        Err(OpenFault::NotJournal) => NOT_JOURNAL,
-        Err(OpenFault::Memory) => status_of_new_fault(NewFault::Memory),
+        Err(fault) => status_of_open_fault(fault),
     }
 }
 

@@ -1,74 +1,14 @@
 //! Frames that are received (IEEE 802.1AE, 10.6).
 
-ghost use Rattle.std.specs.Prelude.{◌≡◌, ℕ, List, option_map};
-ghost use Rattle.std.specs.Borrow.{Bor, sem};
+ghost use Rattle.std.specs.Prelude.{◌≡◌};
+ghost use Rattle.std.specs.Borrow.{sem};
 ghost use Rattle.macsec_secy.specs.Step.{link_frame};
-ghost use Rattle.macsec_c.specs.Answers.{after_input};
+ghost use Rattle.macsec_c_calls.specs.ReceivedParts.{parts_of_received};
+ghost use Rattle.macsec_c.specs.Answers.{after_input, received_parts};
 ghost use Rattle.macsec_c.specs.Lending.{RestsAs};
-ghost use Rattle.macsec_c.specs.ReceivedParts.{delivered_parts, parts_of_received, place_parts, received_parts, unreceived};
 
 use crate::endpoint::Endpoint;
-use macsec_c_numbers::{DONE, EMPTY, number_of_verdict, status_of_frame_fault};
-
-/// The result of receiving a link frame.
-#[repr(C)]
-#[derive(Drop)]
-pub struct Received<'a> {
-    /// The frame that is delivered at the controlled port, or empty if none is.
-    pub frame: &'a [u8],
-    /// The status.
-    pub status: u32,
-    /// The number of the verdict, 1 to 12, or 0 if the status is not 0.
-    pub verdict: u32,
-    /// The SA that the frame is for, if `has_sa` is true: the SCI of its SC, and its AN.
-    pub sci: [u8; 8],
-    pub an: u8,
-    pub has_sa: bool,
-    /// Whether a frame is delivered.
-    pub delivered: bool,
-    /// Zeros.
-    pub reserved: [u64; 3],
-}
-
-/// The SA of a frame as C sees it: whether there is one, the SCI of its SC, and its AN.
-fn place_of(row: Option<(macsec_secy::Sci, u8)>) -> (bool, [u8; 8], u8)
-    ensures { result ≡ place_parts row }
-{
-    match row {
-        Some((sci, an)) => {
-            let octets = sci.0;
-            (true, octets, an)
-        }
-        None => (false, [0; 8], 0),
-    }
-}
-
-/// The delivered frame as C sees it: its octets, or none, and whether a frame is delivered. If none is, C sees no octet
-/// of the link frame.
-fn delivered_of<'a>(controlled: Option<&'a [u8]>, frame: &'a [u8]) -> (&'a [u8], bool)
-    ensures { (result.1, result.0.now) ≡ delivered_parts (option_map (λ (f : Bor (List ℕ)). f.now) controlled.entry) }
-{
-    match controlled {
-        Some(delivered) => (delivered, true),
-        None => (&frame[..0], false),
-    }
-}
-
-/// The result for a frame that was not received, with this status.
-fn unreceived<'a>(frame: &'a [u8], status: u32) -> Received<'a>
-    ensures { parts_of_received result ≡ unreceived status }
-{
-    Received {
-        frame: &frame[..0],
-        status,
-        verdict: 0,
-        sci: [0; 8],
-        an: 0,
-        has_sa: false,
-        delivered: false,
-        reserved: [0; 3],
-    }
-}
+use macsec_c_calls::{EMPTY, Received, received_of, unreceived};
 
 /// Receives a link frame. The delivered frame borrows from the endpoint or is the caller's.
 fn reception<'a>(e: &'a mut Endpoint, frame: &'a [u8]) -> Received<'a>
@@ -78,23 +18,7 @@ fn reception<'a>(e: &'a mut Endpoint, frame: &'a [u8]) -> Received<'a>
     if !e.is_made() {
         return unreceived(frame, EMPTY);
     }
-    match e.keeper().receive(frame) {
-        Ok(received) => {
-            let (has_sa, sci, an) = place_of(received.row);
-            let (frame, delivered) = delivered_of(received.controlled, frame);
-            Received {
-                frame,
-                status: DONE,
-                verdict: number_of_verdict(received.verdict),
-                sci,
-                an,
-                has_sa,
-                delivered,
-                reserved: [0; 3],
-            }
-        }
-        Err(fault) => unreceived(frame, status_of_frame_fault(fault)),
-    }
+    received_of(e.keeper().receive(frame), frame)
 }
 
 /// Receives a link frame. `macsec_receive` of the header calls this with a result that names no frame, and a frame that

@@ -3,25 +3,19 @@
 ghost use Rattle.std.specs.Prelude.{◌≡◌, IfNone, IfSome};
 ghost use Rattle.macsec_reserve.specs.Journal.{header, record_of, reserved_in};
 ghost use Rattle.macsec_reserve.specs.Keeping.{rx_floor, tx_floor};
-ghost use Rattle.macsec_c_numbers.specs.Arguments.{an_of, key_number_of, sci_of};
-ghost use Rattle.macsec_c_numbers.specs.Statuses.{done_status};
-ghost use Rattle.macsec_c.specs.Reserving.{Compacts, key_after, reported, saved_at, wanted_at};
-ghost use Rattle.macsec_c.specs.Shown.{found_at, status_of_an};
+ghost use Rattle.macsec_c_calls.specs.Arguments.{an_of, key_number_of, sci_of};
+ghost use Rattle.macsec_c_calls.specs.Reserving.{Compacts, key_after, saved_at, wanted_at};
+ghost use Rattle.macsec_c_calls.specs.Statuses.{done_status};
+ghost use Rattle.macsec_c.specs.Answers.{reported};
+ghost use Rattle.macsec_c.specs.Found.{found_at, status_of_an};
 
 use crate::endpoint::Endpoint;
-use macsec_c_numbers::{
-    DONE, EMPTY, NONE, NOT_JOURNAL, NOT_RECORD, an_of, key_number_of, status_of_new_fault,
+use macsec_c_calls::{
+    DONE, EMPTY, Record, note_durable, show_rx_floor, show_to_save, show_tx_floor, show_wanted,
+    write_compacted,
 };
-use macsec_reserve::{Reservation, compacted, header, is_journal};
-use macsec_secy::{NewFault, Sci};
+use macsec_reserve::header;
 use std::alloc::Global;
-
-/// A record of a journal, or its header.
-#[repr(C)]
-#[derive(Drop)]
-pub struct Record {
-    pub octets: [u8; 64],
-}
 
 /// Shows the record of the reservation that the transmit SA with this AN needs next, if fewer than half of `amount`
 /// packet numbers are left to it.
@@ -40,17 +34,7 @@ pub extern "C" fn macsec_reserve_wanted(
     if !e.is_made() {
         return EMPTY;
     }
-    let an = match an_of(an) {
-        Ok(an) => an,
-        Err(fault) => return fault.status(),
-    };
-    match e.keeper().wanted(an, amount) {
-        Some(reservation) => {
-            out.octets = reservation.to_octets();
-            DONE
-        }
-        None => NONE,
-    }
+    show_wanted(e.keeper(), an, amount, out)
 }
 
 /// Shows the record that saves the lowest acceptable packet number of the receive SA with this SCI and AN.
@@ -69,17 +53,7 @@ pub extern "C" fn macsec_reserve_to_save(
     if !e.is_made() {
         return EMPTY;
     }
-    let an = match an_of(an) {
-        Ok(an) => an,
-        Err(fault) => return fault.status(),
-    };
-    match e.keeper().to_save(Sci(*sci), an) {
-        Some(reservation) => {
-            out.octets = reservation.to_octets();
-            DONE
-        }
-        None => NONE,
-    }
+    show_to_save(e.keeper(), sci, an, out)
 }
 
 /// Shows the highest packet number that an earlier run may have used to send under the key of this number.
@@ -93,17 +67,7 @@ pub extern "C" fn macsec_reserve_tx_floor(e: &mut Endpoint, key: u16, out: &mut 
     if !e.is_made() {
         return EMPTY;
     }
-    let key = match key_number_of(key) {
-        Ok(key) => key,
-        Err(fault) => return fault.status(),
-    };
-    match e.keeper().tx_floor(key) {
-        Some(floor) => {
-            *out = floor;
-            DONE
-        }
-        None => NONE,
-    }
+    show_tx_floor(e.keeper(), key, out)
 }
 
 /// Shows the highest packet number that was saved of the receive SA with this SCI and AN under the key of this number.
@@ -123,21 +87,7 @@ pub extern "C" fn macsec_reserve_rx_floor(
     if !e.is_made() {
         return EMPTY;
     }
-    let an = match an_of(an) {
-        Ok(an) => an,
-        Err(fault) => return fault.status(),
-    };
-    let key = match key_number_of(key) {
-        Ok(key) => key,
-        Err(fault) => return fault.status(),
-    };
-    match e.keeper().rx_floor(Sci(*sci), an, key) {
-        Some(floor) => {
-            *out = floor;
-            DONE
-        }
-        None => NONE,
-    }
+    show_rx_floor(e.keeper(), sci, an, key, out)
 }
 
 /// Notes that a record is durable.
@@ -148,13 +98,7 @@ pub extern "C" fn macsec_reserve_granted(e: &mut Endpoint, record: &Record) -> u
     if !e.is_made() {
         return EMPTY;
     }
-    match Reservation::from_octets(&record.octets) {
-        Some(reservation) => {
-            e.keeper().now_durable(&reservation);
-            DONE
-        }
-        None => NOT_RECORD,
-    }
+    note_durable(e.keeper(), record)
 }
 
 /// Shows the header of a new journal with this salt.
@@ -178,17 +122,5 @@ pub extern "C" fn macsec_journal_compacted_raw(
 ) -> u32
     ensures { Compacts journal.now (out.old, written.old) result (out.new, written.new) }
 {
-    if !is_journal(journal) {
-        return NOT_JOURNAL;
-    }
-    let Ok(shorter) = compacted(alloc, journal) else {
-        return status_of_new_fault(NewFault::Memory);
-    };
-    let count = shorter.len();
-    if out.len() < count {
-        return status_of_new_fault(NewFault::Memory);
-    }
-    out[..count].copy_from_slice(shorter.as_slice());
-    *written = count;
-    DONE
+    write_compacted(alloc, journal, out, written)
 }

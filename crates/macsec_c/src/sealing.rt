@@ -2,12 +2,11 @@
 
 ghost use Rattle.std.specs.Prelude.{◌≡◌};
 ghost use Rattle.macsec_aes.specs.Keys.{key_bytes};
-ghost use Rattle.macsec_c_numbers.specs.Arguments.{sci_of};
+ghost use Rattle.macsec_c_calls.specs.Arguments.{sci_of};
 ghost use Rattle.macsec_c.specs.Sealing.{seal_fault, sealed};
 
-use crate::commands::Sak;
 use macsec_aes::Key;
-use macsec_c_numbers::{DONE, key_of, status_of_frame_fault, suite_of};
+use macsec_c_calls::{DONE, Sak, key_of, status_of_frame_fault, suite_of};
 use macsec_gcm::GcmKey;
 use macsec_secy::{FrameFault, Refusal, Sci, Suite};
 use macsec_suite::{iv_of, seal_in_place};

@@ -5,217 +5,16 @@ ghost use Rattle.macsec_suite.specs.KeyNumbers.{max_key_count};
 ghost use Rattle.macsec_tx.specs.Transmit.{tx_row};
 ghost use Rattle.macsec_rx.specs.Channels.{rx_row};
 ghost use Rattle.macsec_secy.specs.Answers.{rx_counters_of, rx_removed_of, rx_sa_counters_of};
-ghost use Rattle.macsec_c_numbers.specs.Arguments.{an_of, sci_of};
-ghost use Rattle.macsec_c.specs.Shown.{counters_shown, options_shown, rx_counters_shown, rx_row_shown, tx_counters_shown, tx_row_shown};
-ghost use Rattle.macsec_c.specs.Shown.{high_half, low_half, number_of_form, number_of_mode};
-ghost use Rattle.macsec_c.specs.Shown.{found, found_at, status_of_an, status_of_found};
+ghost use Rattle.macsec_c_calls.specs.Arguments.{an_of, sci_of};
+ghost use Rattle.macsec_c_calls.specs.Shown.{counters_shown, options_shown, rx_counters_shown, rx_row_shown, tx_counters_shown, tx_row_shown};
+ghost use Rattle.macsec_c.specs.Found.{found, found_at, status_of_an, status_of_found};
 
 use crate::endpoint::Endpoint;
-use macsec_c_numbers::{DONE, EMPTY, NONE, an_of};
-use macsec_secy::{Counters, Mode, Options, RxCounters, RxRow, Sci, TagForm, TxCounters, TxRow};
-
-// The reserved members are 0: a later library may show more there, to callers that know it.
-
-/// The options.
-#[repr(C)]
-#[derive(Drop)]
-pub struct OptionsShown {
-    pub window: u64,
-    pub mode: u32,
-    pub form: u32,
-    pub protect: bool,
-    pub replay: bool,
-    pub reserved: [u64; 5],
-}
-
-/// The endpoint's counters, modulo 2^64.
-#[repr(C)]
-#[derive(Drop)]
-pub struct CountersShown {
-    pub in_pkts_untagged: u64,
-    pub in_pkts_no_tag: u64,
-    pub in_pkts_bad_tag: u64,
-    pub in_pkts_reserved: u64,
-    pub in_pkts_no_sa: u64,
-    pub in_pkts_no_sa_error: u64,
-    pub in_octets_validated: u64,
-    pub in_octets_decrypted: u64,
-    pub out_pkts_untagged: u64,
-    pub out_pkts_too_long: u64,
-    pub out_pkts_no_sa: u64,
-    pub reserved: [u64; 5],
-}
-
-/// The counters of the transmit SC, modulo 2^64.
-#[repr(C)]
-#[derive(Drop)]
-pub struct TxCountersShown {
-    pub out_pkts_protected: u64,
-    pub out_pkts_encrypted: u64,
-    pub out_octets_protected: u64,
-    pub out_octets_encrypted: u64,
-    pub reserved: [u64; 4],
-}
-
-/// The counters of a receive SC or SA, modulo 2^64.
-#[repr(C)]
-#[derive(Drop)]
-pub struct RxCountersShown {
-    pub in_pkts_ok: u64,
-    pub in_pkts_unchecked: u64,
-    pub in_pkts_delayed: u64,
-    pub in_pkts_late: u64,
-    pub in_pkts_invalid: u64,
-    pub in_pkts_not_valid: u64,
-    pub reserved: [u64; 10],
-}
-
-/// A transmit SA. Its next packet number is `next`, plus 2^64 if `next_high` is 1.
-#[repr(C)]
-#[derive(Drop)]
-pub struct TxRowShown {
-    pub next: u64,
-    pub next_high: u64,
-    pub key: u16,
-    pub conf: bool,
-    pub on: bool,
-    pub reserved: [u64; 5],
-}
-
-/// A receive SA. Its next packet number is `next`, plus 2^64 if `next_high` is 1. The same holds of `lowest`.
-#[repr(C)]
-#[derive(Drop)]
-pub struct RxRowShown {
-    pub next: u64,
-    pub next_high: u64,
-    pub lowest: u64,
-    pub lowest_high: u64,
-    pub ssci: u32,
-    pub key: u16,
-    pub on: bool,
-    pub reserved: [u64; 3],
-}
-
-fn number_of_mode(mode: Mode) -> u32
-    ensures { result ≡ number_of_mode mode }
-{
-    match mode {
-        Mode::Disabled => 0,
-        Mode::Check => 1,
-        Mode::Strict => 2,
-    }
-}
-
-fn number_of_form(form: TagForm) -> u32
-    ensures { result ≡ number_of_form form }
-{
-    match form {
-        TagForm::Auto => 0,
-        TagForm::Sci => 1,
-        TagForm::Es => 2,
-        TagForm::Scb => 3,
-    }
-}
-
-/// The low 64 bits of a number.
-fn low_half(number: u128) -> u64
-    ensures { result ≡ low_half number }
-{
-    (number % 0x1_0000_0000_0000_0000) as u64
-}
-
-/// The high 64 bits of a number.
-fn high_half(number: u128) -> u64
-    ensures { result ≡ high_half number }
-{
-    (number / 0x1_0000_0000_0000_0000) as u64
-}
-
-fn options_shown(options: Options) -> OptionsShown
-    ensures { result ≡ options_shown options }
-{
-    OptionsShown {
-        window: options.window,
-        mode: number_of_mode(options.mode),
-        form: number_of_form(options.form),
-        protect: options.protect,
-        replay: options.replay,
-        reserved: [0; 5],
-    }
-}
-
-fn counters_shown(counters: Counters) -> CountersShown
-    ensures { result ≡ counters_shown counters }
-{
-    CountersShown {
-        in_pkts_untagged: counters.in_pkts_untagged,
-        in_pkts_no_tag: counters.in_pkts_no_tag,
-        in_pkts_bad_tag: counters.in_pkts_bad_tag,
-        in_pkts_reserved: counters.in_pkts_reserved,
-        in_pkts_no_sa: counters.in_pkts_no_sa,
-        in_pkts_no_sa_error: counters.in_pkts_no_sa_error,
-        in_octets_validated: counters.in_octets_validated,
-        in_octets_decrypted: counters.in_octets_decrypted,
-        out_pkts_untagged: counters.out_pkts_untagged,
-        out_pkts_too_long: counters.out_pkts_too_long,
-        out_pkts_no_sa: counters.out_pkts_no_sa,
-        reserved: [0; 5],
-    }
-}
-
-fn tx_counters_shown(counters: TxCounters) -> TxCountersShown
-    ensures { result ≡ tx_counters_shown counters }
-{
-    TxCountersShown {
-        out_pkts_protected: counters.out_pkts_protected,
-        out_pkts_encrypted: counters.out_pkts_encrypted,
-        out_octets_protected: counters.out_octets_protected,
-        out_octets_encrypted: counters.out_octets_encrypted,
-        reserved: [0; 4],
-    }
-}
-
-fn rx_counters_shown(counters: RxCounters) -> RxCountersShown
-    ensures { result ≡ rx_counters_shown counters }
-{
-    RxCountersShown {
-        in_pkts_ok: counters.in_pkts_ok,
-        in_pkts_unchecked: counters.in_pkts_unchecked,
-        in_pkts_delayed: counters.in_pkts_delayed,
-        in_pkts_late: counters.in_pkts_late,
-        in_pkts_invalid: counters.in_pkts_invalid,
-        in_pkts_not_valid: counters.in_pkts_not_valid,
-        reserved: [0; 10],
-    }
-}
-
-fn tx_row_shown(row: TxRow) -> TxRowShown
-    ensures { result ≡ tx_row_shown row }
-{
-    TxRowShown {
-        next: low_half(row.next),
-        next_high: high_half(row.next),
-        key: row.key.number(),
-        conf: row.conf,
-        on: row.on,
-        reserved: [0; 5],
-    }
-}
-
-fn rx_row_shown(row: RxRow) -> RxRowShown
-    ensures { result ≡ rx_row_shown row }
-{
-    RxRowShown {
-        next: low_half(row.next),
-        next_high: high_half(row.next),
-        lowest: low_half(row.lowest),
-        lowest_high: high_half(row.lowest),
-        ssci: row.ssci,
-        key: row.key.number(),
-        on: row.on,
-        reserved: [0; 3],
-    }
-}
+use macsec_c_calls::{
+    CountersShown, DONE, EMPTY, OptionsShown, RxCountersShown, RxRowShown, TxCountersShown,
+    TxRowShown, counters_shown, options_shown, show_removed_counters, show_rx_counters, show_rx_sa,
+    show_rx_sa_counters, show_rx_sc, show_tx_sa, tx_counters_shown,
+};
 
 /// Shows the options.
 #[unsafe(no_mangle)]
@@ -292,13 +91,7 @@ pub extern "C" fn macsec_get_rx_counters(
     if !e.is_made() {
         return EMPTY;
     }
-    match e.keeper().secy().rx_counters(Sci(*sci)) {
-        Some(counters) => {
-            *out = rx_counters_shown(counters);
-            DONE
-        }
-        None => NONE,
-    }
+    show_rx_counters(e.keeper(), sci, out)
 }
 
 /// Shows the counters of the receive SA with this SCI and AN.
@@ -317,17 +110,7 @@ pub extern "C" fn macsec_get_rx_sa_counters(
     if !e.is_made() {
         return EMPTY;
     }
-    let an = match an_of(an) {
-        Ok(an) => an,
-        Err(fault) => return fault.status(),
-    };
-    match e.keeper().secy().rx_sa_counters(Sci(*sci), an) {
-        Some(counters) => {
-            *out = rx_counters_shown(counters);
-            DONE
-        }
-        None => NONE,
-    }
+    show_rx_sa_counters(e.keeper(), sci, an, out)
 }
 
 /// Shows the counts of the deleted SAs of the receive SC with this SCI.
@@ -345,13 +128,7 @@ pub extern "C" fn macsec_get_removed_counters(
     if !e.is_made() {
         return EMPTY;
     }
-    match e.keeper().secy().rx_removed(Sci(*sci)) {
-        Some(counters) => {
-            *out = rx_counters_shown(counters);
-            DONE
-        }
-        None => NONE,
-    }
+    show_removed_counters(e.keeper(), sci, out)
 }
 
 /// Shows the SCI of the receive SC at this index in the order of creation, from 0.
@@ -365,14 +142,7 @@ pub extern "C" fn macsec_get_rx_sc(e: &mut Endpoint, place: usize, out: &mut [u8
     if !e.is_made() {
         return EMPTY;
     }
-    match e.keeper().secy().rx_channel(place) {
-        Some(sci) => {
-            let octets = sci.0;
-            *out = octets;
-            DONE
-        }
-        None => NONE,
-    }
+    show_rx_sc(e.keeper(), place, out)
 }
 
 /// Shows the transmit SA with this AN.
@@ -386,17 +156,7 @@ pub extern "C" fn macsec_get_tx_sa(e: &mut Endpoint, an: u8, out: &mut TxRowShow
     if !e.is_made() {
         return EMPTY;
     }
-    let an = match an_of(an) {
-        Ok(an) => an,
-        Err(fault) => return fault.status(),
-    };
-    match e.keeper().secy().tx_row(an) {
-        Some(row) => {
-            *out = tx_row_shown(row);
-            DONE
-        }
-        None => NONE,
-    }
+    show_tx_sa(e.keeper(), an, out)
 }
 
 /// Shows the receive SA with this SCI and AN.
@@ -415,15 +175,5 @@ pub extern "C" fn macsec_get_rx_sa(
     if !e.is_made() {
         return EMPTY;
     }
-    let an = match an_of(an) {
-        Ok(an) => an,
-        Err(fault) => return fault.status(),
-    };
-    match e.keeper().secy().rx_row(Sci(*sci), an) {
-        Some(row) => {
-            *out = rx_row_shown(row);
-            DONE
-        }
-        None => NONE,
-    }
+    show_rx_sa(e.keeper(), sci, an, out)
 }

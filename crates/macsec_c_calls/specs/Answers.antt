@@ -1,0 +1,72 @@
+-- The answer to a line of the script language about end A, by the keeping endpoint of A: how the line ends, the text that is
+-- printed for it, and the endpoint after it.
+use Rattle.std.specs.Prelude.{ℕ, List, [], Option, Some, None, Result, Ok, Err}
+use Rattle.macsec_commands.specs.declared.event.End.TheVariants.{A}
+use Rattle.macsec_commands.specs.declared.event.Event.TheVariants as event
+use Rattle.macsec_suite.specs.RefusalNumbers.{number_of_refusal}
+use Rattle.macsec_secy.specs.Step.{Output, operator_command, refused}
+use Rattle.macsec_reserve.specs.Keeping.{Keeping, KeepingOutput, dropped_no_reservation, endpoint_input, endpoint_output, keeping_step, noted}
+use Rattle.macsec_script_parser.specs.declared.lines.Action.TheVariants as action
+use Rattle.macsec_script_parser.specs.declared.lines.Line.{Line}
+use Rattle.macsec_script_parser.specs.declared.lines.Line.TheVariants as line
+use Rattle.macsec_script_parser.specs.declared.lines.LineFault.{LineFault}
+use Rattle.macsec_script_parser.specs.declared.lines.LineFault.TheVariants as fault
+use Rattle.macsec_script_parser.specs.Faults.{fault_text}
+use Rattle.macsec_script_parser.specs.Kinds.{line_of}
+use Rattle.macsec_script_parser.specs.Scripts.{at_line}
+use Rattle.macsec_script_printer.specs.declared.counters.Label.TheVariants as label
+use Rattle.macsec_script_printer.specs.Counters.{counters_text}
+use Rattle.macsec_script_printer.specs.Numbers.{numbers_text}
+use Rattle.macsec_script_printer.specs.OneEnd.{command_text}
+use Rattle.macsec_c_calls.specs.declared.answering.Ending.{Ending}
+use Rattle.macsec_c_calls.specs.declared.answering.Ending.TheVariants.{Done, Refused, Wrong, TooLong}
+use Rattle.macsec_c_calls.specs.Statuses.{answer_long_status, done_status, status_of_line_fault}
+
+pub record Answer : Type 0 where
+  pub ending : Ending
+  pub text : List ℕ
+  pub after : Keeping
+
+-- a line with a fault changes nothing, and the text of its fault is printed
+abbrev pub wrong : Keeping → ℕ → LineFault → Answer
+wrong k n f = record { ending = Wrong f; text = fault_text (at_line n f); after = k }
+
+-- a text is printed, and nothing changes
+abbrev pub shown : Keeping → List ℕ → Answer
+shown k text = record { ending = Done; text = text; after = k }
+
+-- a management command is done or refused
+abbrev pub ending_of_output : Output → Ending
+ending_of_output (refused r) = Refused r
+ending_of_output other = Done
+
+abbrev pub commanded : ℕ → KeepingOutput → Keeping → Answer
+commanded n (endpoint_output output) after = record { ending = ending_of_output output; text = command_text n output; after = after }
+commanded n dropped_no_reservation after = shown after []
+commanded n noted after = shown after []
+
+-- line n
+abbrev pub answer_of_line : Keeping → ℕ → Line → Answer
+answer_of_line k n (line.Action (action.Event (event.Command A c))) =
+    let after = keeping_step k (endpoint_input (operator_command c)) in
+    commanded n after.0 after.1
+answer_of_line k n (line.Action (action.Counters A)) = shown k (counters_text (label.Line n) k.secy)
+answer_of_line k n (line.Action (action.Numbers A)) = shown k (numbers_text n k.secy)
+answer_of_line k n other = wrong k n fault.Ends
+
+-- line n as it was read; nothing is printed for one that is skipped
+abbrev pub answer_of_read : Keeping → ℕ → Result (Option Line) LineFault → Answer
+answer_of_read k n (Ok None) = shown k []
+answer_of_read k n (Ok (Some said)) = answer_of_line k n said
+answer_of_read k n (Err f) = wrong k n f
+
+-- line n with this text, without its line feed
+abbrev pub answer_of : Keeping → ℕ → List ℕ → Answer
+answer_of k n text = answer_of_read k n (line_of text)
+
+-- the status of how a line ended
+abbrev pub status_of_ending : Ending → ℕ
+status_of_ending Done = done_status
+status_of_ending (Refused refusal) = number_of_refusal refusal
+status_of_ending (Wrong f) = status_of_line_fault f
+status_of_ending TooLong = answer_long_status

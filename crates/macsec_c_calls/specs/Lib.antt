@@ -1,0 +1,12 @@
+pub mod Answers
+pub mod Arguments
+pub mod Commands
+pub mod Configs
+pub mod Keys
+pub mod Laws
+pub mod ReceivedParts
+pub mod Reserving
+pub mod SentParts
+pub mod Shown
+pub mod Statuses
+pub mod Writing

@@ -1,0 +1,50 @@
+//! What the calls of the library for C do, without its handles: the numbers of its interface, the answers to lines, and
+//! for an endpoint each command, each frame and each reader as C sees it. `macsec_c` exports these calls.
+//!
+//! Proved:
+//! - Each number that is passed names what `specs/Arguments.antt` says, or is refused by the fault of its kind. The
+//!   status of each fault and the number of each verdict are the ones in `specs/Statuses.antt`.
+//! - A reader returns the status and shows the value of `specs/Shown.antt` or `specs/Reserving.antt`. If it finds
+//!   nothing, its output is unchanged.
+//! - A command has the status of its output in the machine of `macsec_reserve` (`specs/Commands.antt`). The result for
+//!   a frame shows the output (`specs/SentParts.antt`, `specs/ReceivedParts.antt`).
+//! - `answer` writes the answer of `specs/Answers.antt` to the beginning of the buffer, and leaves the endpoint after
+//!   it. If the buffer is too small, or memory runs out, nothing is written and nothing has changed. A line that is
+//!   wrong, or that is not about end A alone, changes nothing; its answer is the fault's text. A law (`laws`): the text
+//!   is what the line prints in a script, and the endpoint is the one after the line there, unless the journal refuses
+//!   the packet number of a command. `macsec_script::laws::prints_of_end_a` says the same of every world of a script.
+#![tactic(auto)]
+
+mod answering;
+mod arguments;
+mod commands;
+mod creating;
+pub mod laws;
+mod receiving;
+mod reserving;
+mod sending;
+mod showing;
+mod statuses;
+mod texts;
+
+pub use answering::{Answered, Ending, answer};
+pub use arguments::{
+    ArgumentFault, an_of, form_of, key_number_of, key_of, key_suite_of, mode_of, suite_of,
+};
+pub use commands::{Sak, carry_out, new_key_of, rx_sa_of, tx_sa_of};
+pub use creating::{Config, config_of, endpoint_alone, endpoint_beside, status_of_open_fault};
+pub use receiving::{Received, received_of, unreceived};
+pub use reserving::{
+    Record, note_durable, show_rx_floor, show_to_save, show_tx_floor, show_wanted, write_compacted,
+};
+pub use sending::{Sent, sent_of, unsent};
+pub use showing::{
+    CountersShown, OptionsShown, RxCountersShown, RxRowShown, TxCountersShown, TxRowShown,
+    counters_shown, options_shown, show_removed_counters, show_rx_counters, show_rx_sa,
+    show_rx_sa_counters, show_rx_sc, show_tx_sa, tx_counters_shown,
+};
+pub use statuses::{
+    ANSWER_LONG, DONE, EMPTY, FATE_NO_RESERVATION, FATE_NO_SA, FATE_NONE, FATE_PLAIN,
+    FATE_PROTECTED, FATE_TOO_LONG, NONE, NOT_JOURNAL, NOT_RECORD, TAKEN, number_of_verdict,
+    status_of_frame_fault, status_of_line_fault, status_of_new_fault, status_of_script_fault,
+};

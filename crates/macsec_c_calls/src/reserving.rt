@@ -1,0 +1,133 @@
+//! Reservations of packet numbers, which outlive the endpoint in a journal.
+
+ghost use Rattle.std.specs.Prelude.{◌≡◌, IfNone, IfSome};
+ghost use Rattle.macsec_reserve.specs.Journal.{record_of, reserved_in};
+ghost use Rattle.macsec_reserve.specs.Keeping.{rx_floor, tx_floor};
+ghost use Rattle.macsec_c_calls.specs.Arguments.{an_of, key_number_of, sci_of};
+ghost use Rattle.macsec_c_calls.specs.Reserving.{Compacts, key_after, reported, saved_at, wanted_at};
+ghost use Rattle.macsec_c_calls.specs.Shown.{found_at, status_at};
+
+use crate::{DONE, NONE, NOT_JOURNAL, NOT_RECORD, an_of, key_number_of, status_of_new_fault};
+use macsec_reserve::{Keeper, Reservation, compacted, is_journal};
+use macsec_secy::{NewFault, Sci};
+use std::alloc::Global;
+
+/// A record of a journal, or its header.
+#[repr(C)]
+#[derive(Drop)]
+pub struct Record {
+    pub octets: [u8; 64],
+}
+
+/// Shows the record of the reservation that the transmit SA with this AN needs next, if fewer than half of `amount`
+/// packet numbers are left to it.
+pub fn show_wanted(keeper: &Keeper, an: u8, amount: u64, out: &mut Record) -> u32
+    ensures status { result ≡ status_at (an_of an) (wanted_at amount keeper.now) }
+    ensures shown { IfSome (found_at (an_of an) (wanted_at amount keeper.now)) (λ r. out.new.octets ≡ record_of r) }
+    ensures kept { IfNone (found_at (an_of an) (wanted_at amount keeper.now)) (out.new ≡ out.old) }
+{
+    let an = match an_of(an) {
+        Ok(an) => an,
+        Err(fault) => return fault.status(),
+    };
+    match keeper.wanted(an, amount) {
+        Some(reservation) => {
+            out.octets = reservation.to_octets();
+            DONE
+        }
+        None => NONE,
+    }
+}
+
+/// Shows the record that saves the lowest acceptable packet number of the receive SA with this SCI and AN.
+pub fn show_to_save(keeper: &Keeper, sci: &[u8; 8], an: u8, out: &mut Record) -> u32
+    ensures status { result ≡ status_at (an_of an) (saved_at (sci_of sci.now) keeper.now) }
+    ensures shown { IfSome (found_at (an_of an) (saved_at (sci_of sci.now) keeper.now)) (λ r. out.new.octets ≡ record_of r) }
+    ensures kept { IfNone (found_at (an_of an) (saved_at (sci_of sci.now) keeper.now)) (out.new ≡ out.old) }
+{
+    let an = match an_of(an) {
+        Ok(an) => an,
+        Err(fault) => return fault.status(),
+    };
+    match keeper.to_save(Sci(*sci), an) {
+        Some(reservation) => {
+            out.octets = reservation.to_octets();
+            DONE
+        }
+        None => NONE,
+    }
+}
+
+/// Shows the highest packet number that an earlier run may have used to send under the key of this number.
+pub fn show_tx_floor(keeper: &Keeper, key: u16, out: &mut u64) -> u32
+    ensures status { result ≡ status_at (key_number_of key) (tx_floor keeper.now) }
+    ensures shown { IfSome (found_at (key_number_of key) (tx_floor keeper.now)) (λ floor. out.new ≡ floor) }
+    ensures kept { IfNone (found_at (key_number_of key) (tx_floor keeper.now)) (out.new ≡ out.old) }
+{
+    let key = match key_number_of(key) {
+        Ok(key) => key,
+        Err(fault) => return fault.status(),
+    };
+    match keeper.tx_floor(key) {
+        Some(floor) => {
+            *out = floor;
+            DONE
+        }
+        None => NONE,
+    }
+}
+
+/// Shows the highest packet number that was saved of the receive SA with this SCI and AN under the key of this number.
+pub fn show_rx_floor(keeper: &Keeper, sci: &[u8; 8], an: u8, key: u16, out: &mut u64) -> u32
+    ensures status { result ≡ status_at (key_after (an_of an) (key_number_of key)) (rx_floor (sci_of sci.now) an keeper.now) }
+    ensures shown { IfSome (found_at (key_after (an_of an) (key_number_of key)) (rx_floor (sci_of sci.now) an keeper.now)) (λ floor. out.new ≡ floor) }
+    ensures kept { IfNone (found_at (key_after (an_of an) (key_number_of key)) (rx_floor (sci_of sci.now) an keeper.now)) (out.new ≡ out.old) }
+{
+    let an = match an_of(an) {
+        Ok(an) => an,
+        Err(fault) => return fault.status(),
+    };
+    let key = match key_number_of(key) {
+        Ok(key) => key,
+        Err(fault) => return fault.status(),
+    };
+    match keeper.rx_floor(Sci(*sci), an, key) {
+        Some(floor) => {
+            *out = floor;
+            DONE
+        }
+        None => NONE,
+    }
+}
+
+/// Notes that a record is durable.
+pub fn note_durable(keeper: &mut Keeper, saved: &Record) -> u32
+    ensures { (result, keeper.new) ≡ reported keeper.old (reserved_in saved.now.octets) }
+{
+    match Reservation::from_octets(&saved.octets) {
+        Some(reservation) => {
+            keeper.now_durable(&reservation);
+            DONE
+        }
+        None => NOT_RECORD,
+    }
+}
+
+/// Writes a journal that reserves the same, with one record for each name.
+pub fn write_compacted(alloc: Global, journal: &[u8], out: &mut [u8], written: &mut usize) -> u32
+    ensures { Compacts journal.now (out.old, written.old) result (out.new, written.new) }
+{
+    if !is_journal(journal) {
+        return NOT_JOURNAL;
+    }
+    let Ok(shorter) = compacted(alloc, journal) else {
+        return status_of_new_fault(NewFault::Memory);
+    };
+    let count = shorter.len();
+    if out.len() < count {
+        return status_of_new_fault(NewFault::Memory);
+    }
+    out[..count].copy_from_slice(shorter.as_slice());
+    *written = count;
+    DONE
+}
