@@ -119,10 +119,6 @@ pub text_promised : (text : List ℕ) (script : ScriptParts) → script_of text 
 text_promised text script parsed (Ok done) hold = promised_of text (Some script) parsed hold
 text_promised text script parsed (Err fault) hold = tt
 
--- all lines are skipped
-pub none_promised : (text : List ℕ) → script_of text ≡ Ok None → IsPromised text
-none_promised text parsed = promised_of text None parsed tt
-
 -- the script that was read, if what the reader had is known
 pub promised_over : (known : Option (List ℕ)) (text lent : List ℕ) → IfSome known (λ all. (text ≡ all) × (length all ≤ 1048576)) → lent ≡ text →
     (answer : Result (Unit {0}) ScriptFault) → OnOk answer (IsPromised lent) → OnOk answer (IfSome known IsPromised)

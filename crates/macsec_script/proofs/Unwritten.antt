@@ -85,10 +85,6 @@ after_parsing text script old new parsed (Err Memory) (front, begins, adds) = (
 after_parsing text script old new parsed (Err Write) h = (text_of script, ap (map_ok text_of_any) parsed, h)
 after_parsing text script old new parsed (Err other) h = absurd h
 
--- a script whose lines are all skipped
-pub all_skipped : (text : List ℕ) (old : Option (List ℕ)) → script_of text ≡ Ok None → RunGives text old old (Ok tt)
-all_skipped text old parsed = ([], ap (map_ok text_of_any) parsed, Appends-nil old)
-
 -- what holds of a text that was read holds of all that the reader had, if that is known
 pub carried_over : (known : Option (List ℕ)) (text lent : List ℕ) (Holds : List ℕ → Type 0) →
     IfSome known (λ all. (text ≡ all) × (length all ≤ 1048576)) → lent ≡ text → Holds lent → IfSome known Holds
