@@ -120,7 +120,7 @@ controls: build/macsec build/macsec-rattle build/libmacsec.a
 device: $(DEVICE) build/macsecctl
 
 install-device: device
-	install -D -m 755 -t "$(DESTDIR)$(PREFIX)/sbin" build/macsecctl
+	install -D -m 755 -t "$(DESTDIR)$(PREFIX)/sbin" build/macsecctl device/macsec-link
 	install -m 755 $(DEVICE) "$(DESTDIR)$(PREFIX)/sbin/macsecd"
 	install -D -m 644 -t "$(DESTDIR)$(PREFIX)/share/man/man8" man/macsecd.8 man/macsecctl.8
 	install -d "$(DESTDIR)$(PREFIX)/lib/systemd/system"

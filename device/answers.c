@@ -150,6 +150,16 @@ void answer_counts(struct text *t, const struct counts *c) {
         text_add(t, "device %s %" PRIu64 "\n", counts_name(i), counts_value(c, i));
 }
 
+/* LINK, as `ip link` would show it: an isolated one is not in the host's namespace. */
+void answer_link(struct text *t, const struct device *d) {
+    const uint8_t *a = d->link.address;
+    char path[NAMESPACE_PATH] = "shared";
+    if (!d->config.shared)
+        namespace_path(path, d->name);
+    text_add(t, "link %s %s mtu %u address %02x:%02x:%02x:%02x:%02x:%02x namespace %s tap %s\n", d->link.name,
+             d->life.up ? "up" : "down", (unsigned)d->link.mtu, a[0], a[1], a[2], a[3], a[4], a[5], path, d->tap.name);
+}
+
 /* ---- JSON ---- */
 
 static void add_object(struct text *t, const char *name, const char *const *names, const uint64_t *values, int count) {
@@ -218,6 +228,11 @@ void answer_json(struct text *t, const struct device *d) {
     (void)macsec_keys_left(d->endpoint, &left); /* without an endpoint it is 0 */
     text_add(t, "{\"device\":\"%s\",\"tap\":\"%s\",\"link\":\"%s\",\"up\":%s,", d->name, d->tap.name, d->link.name,
              d->life.up ? "true" : "false");
+    if (!d->config.shared) {
+        char path[NAMESPACE_PATH];
+        namespace_path(path, d->name);
+        text_add(t, "\"namespace\":\"%s\",", path);
+    }
     text_add(t, "\"port\":\"%s\",\"keys_left\":%u,", d->port.off ? "off" : "on", (unsigned)left);
     text_add(t, "\"device_counters\":{");
     for (size_t i = 0; i < COUNT_OF_COUNTS; i++)

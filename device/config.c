@@ -138,14 +138,29 @@ static bool take_group(struct config *c, const struct words *w) {
     return true;
 }
 
+/* Takes a line about LINK's namespace, or about TAP when macsecd ends. Returns false if it is another one. */
+static bool take_namespace(struct config *c, const struct words *w) {
+    bool is_alone = words_are(w, 3, "device", "isolate") && words_is(w, 2, "alone");
+    bool *says = words_are(w, 2, "device", "persist")     ? &c->persistent
+                 : words_are(w, 2, "device", "transient") ? &c->transient
+                 : words_are(w, 2, "device", "shared")    ? &c->shared
+                 : words_are(w, 2, "device", "isolate")   ? &c->isolated
+                 : is_alone                               ? &c->alone
+                                                          : NULL;
+    if (says != NULL)
+        *says = true;
+    return says != NULL;
+}
+
 /* Takes a line of the device. Returns what is wrong with it, or NULL. */
 static const char *take_line(struct config *c, const struct words *w) {
     if (words_is(w, 1, "allow"))
         return limits_take(&c->limits, w);
-    if (words_are(w, 2, "device", "persist"))
-        return c->persists = true, NULL;
+    if (take_namespace(c, w))
+        return NULL;
     if (w->count != 3)
-        return "`device link NAME`, `tap NAME`, `group NAME`, `port off`, `persist` or `allow ..` is expected";
+        return "`device link NAME`, `tap NAME`, `group NAME`, `port off`, `persist`, `transient`, `isolate`, `shared` "
+               "or `allow ..` is expected";
     if (words_is(w, 1, "link"))
         return take_name(c->link, w) ? NULL : "no network device can have this name";
     if (words_is(w, 1, "tap"))
@@ -154,7 +169,7 @@ static const char *take_line(struct config *c, const struct words *w) {
         return take_group(c, w) ? NULL : "there is no such group";
     if (words_is(w, 1, "port") && words_is(w, 2, "off"))
         return c->begins_off = true, NULL;
-    return "the word after `device` is not link, tap, group, port, persist or allow";
+    return "the word after `device` is not link, tap, group, port, persist, transient, isolate, shared or allow";
 }
 
 /* Takes the lines of the device, and makes comments of them, so that the others keep their numbers. */
@@ -177,6 +192,23 @@ static int take_lines(struct config *c) {
     return 0;
 }
 
+/* Do the lines agree? A line that lets frames pass without MACsec must not be hidden by another one, nor hide it. */
+static int check_lines(const struct config *c) {
+    if (c->link[0] == '\0')
+        message("%s has no line `device link NAME`, which names the network device below", c->path);
+    else if (strcmp(c->link, c->tap) == 0)
+        message("%s: LINK and TAP have one name, %s: `device tap` names another TAP", c->path, c->tap);
+    else if (c->shared && (c->isolated || c->alone))
+        message("%s: `device shared` and `device isolate` exclude each other", c->path);
+    else if (c->transient && c->persistent)
+        message("%s: `device transient` and `device persist` exclude each other", c->path);
+    else if (c->transient && !c->shared)
+        message("%s: `device transient` needs `device shared`: the TAP of an isolated LINK stays", c->path);
+    else
+        return 0;
+    return ENDS_WRONG;
+}
+
 /* Reads MAX of the `end` line, the first one that is not skipped. The library judges that line; this number is for the
  * MTU of TAP alone. The text ends with a zero. */
 static void take_max_frame(struct config *c) {
@@ -197,10 +229,8 @@ int config_read(struct config *c, const char *name) {
     result = read_file(c, name);
     if (result == 0)
         result = take_lines(c);
-    if (result == 0 && c->link[0] == '\0') {
-        message("%s has no line `device link NAME`, which names the network device below", c->path);
-        result = ENDS_WRONG;
-    }
+    if (result == 0)
+        result = check_lines(c);
     if (result == 0)
         take_max_frame(c);
     else

@@ -33,6 +33,21 @@ int confine_memory(void) {
 
 /* ---- Capabilities ---- */
 
+int confine_namespace(void) {
+    struct __user_cap_header_struct header = { _LINUX_CAPABILITY_VERSION_3, 0 };
+    struct __user_cap_data_struct sets[2];
+    const uint32_t kept = ~(1U << CAP_SYS_ADMIN);
+    if (syscall(SYS_capget, &header, sets) == 0) {
+        sets[0].effective &= kept;
+        sets[0].permitted &= kept;
+        sets[0].inheritable &= kept;
+        if (syscall(SYS_capset, &header, sets) == 0)
+            return 0;
+    }
+    message_of_errno("CAP_SYS_ADMIN can't be given up");
+    return ENDS_FAILED;
+}
+
 static int drop_capabilities(void) {
     struct __user_cap_header_struct header = { _LINUX_CAPABILITY_VERSION_3, 0 };
     const struct __user_cap_data_struct none[2] = { { 0, 0, 0 }, { 0, 0, 0 } };
@@ -114,26 +129,27 @@ static const unsigned allowed[] = {
     SYS_exit_group,
 };
 
-enum { ALLOWED = sizeof allowed / sizeof allowed[0], BEFORE = 3, AFTER = 8 };
+enum { ALLOWED = sizeof allowed / sizeof allowed[0], BEFORE = 3, AFTER = 9 };
 
 #define LOAD(member) BPF_STMT(BPF_LD | BPF_W | BPF_ABS, (unsigned)offsetof(struct seccomp_data, member))
 #define JUMP_IF(test, value, yes, no) BPF_JUMP(BPF_JMP | (test) | BPF_K, (value), (yes), (no))
 
-/* Makes the program: the calls of the list are allowed, mmap without execution, and ioctl for TAP's carrier. Any other
- * ends the process. */
+/* Makes the program: the calls of the list are allowed, mmap without execution, and ioctl for TAP's carrier and for
+ * reading an address. Any other ends the process. */
 static void make_filter(struct sock_filter program[BEFORE + ALLOWED + AFTER]) {
     struct sock_filter *next = program;
     *next++ = (struct sock_filter)LOAD(arch);
-    *next++ = (struct sock_filter)JUMP_IF(BPF_JEQ, AUDIT_ARCH_X86_64, 0, ALLOWED + 7);
+    *next++ = (struct sock_filter)JUMP_IF(BPF_JEQ, AUDIT_ARCH_X86_64, 0, ALLOWED + 8);
     *next++ = (struct sock_filter)LOAD(nr);
     for (unsigned i = 0; i < ALLOWED; i++)
-        *next++ = (struct sock_filter)JUMP_IF(BPF_JEQ, allowed[i], (unsigned char)(ALLOWED - i - 1 + 7), 0);
+        *next++ = (struct sock_filter)JUMP_IF(BPF_JEQ, allowed[i], (unsigned char)(ALLOWED - i - 1 + 8), 0);
     *next++ = (struct sock_filter)JUMP_IF(BPF_JEQ, SYS_mmap, 1, 0);
-    *next++ = (struct sock_filter)JUMP_IF(BPF_JEQ, SYS_ioctl, 2, 4);
+    *next++ = (struct sock_filter)JUMP_IF(BPF_JEQ, SYS_ioctl, 2, 5);
     *next++ = (struct sock_filter)LOAD(args[2]);
-    *next++ = (struct sock_filter)JUMP_IF(BPF_JSET, PROT_EXEC, 2, 3);
+    *next++ = (struct sock_filter)JUMP_IF(BPF_JSET, PROT_EXEC, 3, 4);
     *next++ = (struct sock_filter)LOAD(args[1]);
-    *next++ = (struct sock_filter)JUMP_IF(BPF_JEQ, TUNSETCARRIER, 1, 0);
+    *next++ = (struct sock_filter)JUMP_IF(BPF_JEQ, TUNSETCARRIER, 2, 0);
+    *next++ = (struct sock_filter)JUMP_IF(BPF_JEQ, SIOCGIFHWADDR, 1, 0);
     *next++ = (struct sock_filter)BPF_STMT(BPF_RET | BPF_K, SECCOMP_RET_KILL_PROCESS);
     *next++ = (struct sock_filter)BPF_STMT(BPF_RET | BPF_K, SECCOMP_RET_ALLOW);
 }

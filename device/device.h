@@ -78,7 +78,11 @@ struct config {
     char path[256];
     gid_t group; /* that may use the control socket */
     bool has_group;
-    bool persists;   /* does TAP stay when macsecd ends? */
+    bool persistent; /* does a line say that TAP stays when macsecd ends? It does so unless it is transient. */
+    bool transient;  /* does TAP end with macsecd? */
+    bool isolated;   /* does a line say that LINK is in a network namespace of its own? It is unless it is shared. */
+    bool alone;      /* are the devices below LINK not in that namespace? */
+    bool shared;     /* is LINK in the host's network namespace? */
     bool begins_off; /* is the controlled port off at the start? */
     struct limits limits;
     uint32_t max_frame; /* MAX of the `end` line */
@@ -145,7 +149,7 @@ struct frame {
 /* What became of a call to a device: it was done, it can't be done now, or the device is gone. */
 enum outcome { DONE, BUSY, GONE };
 
-/* Opens LINK. Returns 0, or the exit status after a message. */
+/* Opens LINK, in the namespace that the process is in. Returns 0, or the exit status after a message. */
 int link_open(struct link *l, const char *name);
 /* Reads at most BATCH frames. A VLAN tag that the system took out of a frame is in it again. */
 enum outcome link_read(struct link *l, struct frame frames[BATCH], unsigned *count);
@@ -163,21 +167,35 @@ void link_make_promiscuous(struct link *l);
 /* ---- tap.c: TAP, the network device of the client ---- */
 
 struct tap {
-    int file;
-    int index;
+    int file; /* of /dev/net/tun, opened in the host's network namespace */
     char name[IF_NAMESIZE];
 };
 
 /* The MTU of TAP: 32 octets below LINK's, and so small that no frame is longer than the configuration's largest. */
 uint32_t tap_mtu(uint32_t link_mtu, uint32_t max_frame);
-/* Opens TAP, with LINK's address and this MTU. Returns 0, or the exit status after a message. */
+/* Attaches the file to TAP, which gets LINK's address and this MTU. An isolated LINK's TAP has the MTU already. Returns
+ * 0, or the exit status after a message. */
 int tap_open(struct tap *t, const struct config *c, const struct link *l);
 /* Reads a frame. It is there until the next call. */
 enum outcome tap_read(struct tap *t, struct frame *frame);
 /* Delivers a frame, and counts whether TAP took it. */
 enum outcome tap_write(struct tap *t, const uint8_t *octets, size_t length, struct counts *c);
+/* Reads TAP's address. Returns false if it can't be read, as after TAP was moved to a third namespace. */
+bool tap_address(const struct tap *t, uint8_t address[6]);
 /* Gives TAP carrier, or takes it away. */
 void tap_set_carrier(struct tap *t, bool on);
+
+/* ---- namespace.c: the host's network namespace, which has TAP, and LINK's own ---- */
+
+/* The octets of the path of LINK's namespace. */
+enum { NAMESPACE_PATH = sizeof "/run/netns/macsec-" + IF_NAMESIZE };
+
+/* The path of the namespace of the LINK of NAME. */
+void namespace_path(char path[NAMESPACE_PATH], const char *name);
+/* Opens TAP's file in the host's namespace, enters LINK's unless LINK is shared, and gives up CAP_SYS_ADMIN. To be
+ * called before the journal is read and a socket of a device is opened. Returns 0, or the exit status after a
+ * message. */
+int namespace_enter(struct tap *t, const struct config *c, const char *name);
 
 /* ---- numbers.c: packet numbers that outlive a run ---- */
 
@@ -277,6 +295,8 @@ uint32_t answer_tx_number(struct text *t, const macsec_endpoint *e, uint8_t an);
 uint32_t answer_rx_number(struct text *t, const macsec_endpoint *e, const uint8_t sci[8], uint8_t an);
 /* What the device counts, a line each. */
 void answer_counts(struct text *t, const struct counts *c);
+/* What LINK is, and where. */
+void answer_link(struct text *t, const struct device *d);
 /* All counters as one JSON object, and in the text format of Prometheus. */
 void answer_json(struct text *t, const struct device *d);
 void answer_metrics(struct text *t, const struct device *d);
@@ -328,7 +348,7 @@ void port_own(struct device *d, int client);
 /* To be called when a connection has ended. */
 void port_client_gone(struct device *d, int client);
 
-/* ---- life.c: LINK and TAP go up and down, change and end ---- */
+/* ---- life.c: LINK goes up and down, changes and ends; TAP gets another address ---- */
 
 struct life {
     int socket; /* of rtnetlink */
@@ -337,8 +357,10 @@ struct life {
 
 /* Opens the socket, and gives TAP LINK's carrier. Returns 0, or the exit status after a message. */
 int life_open(struct device *d);
-/* Reads what the system reports. Returns false, after a message, if LINK or TAP is gone. */
+/* Reads what the system reports. Returns false, after a message, if LINK is gone. */
 bool life_read(struct device *d);
+/* To be called each second: looks at TAP's address. */
+void life_tick(struct device *d);
 
 /* ---- service.c: the service manager ---- */
 
@@ -351,6 +373,8 @@ void service_notify(const char *assignment);
 
 /* No core files, and no access to the memory by other processes of the same user: to be called before keys are read. */
 int confine_memory(void);
+/* No CAP_SYS_ADMIN: to be called when LINK's namespace was entered. Returns 0, or the exit status after a message. */
+int confine_namespace(void);
 /* No capabilities, no new privileges, only some system calls, and no files except in the folders of the journal and the
  * control socket: to be called before frames are read. Both return 0, or the exit status after a message. */
 int confine_rights(int state, int run);

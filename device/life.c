@@ -1,4 +1,5 @@
-/* LINK and TAP go up and down, change and end: what rtnetlink reports. */
+/* LINK goes up and down, changes and ends: what rtnetlink reports in LINK's namespace. TAP can be in another one, so
+ * its file says what becomes of it. */
 #define _GNU_SOURCE
 #include "device.h"
 #include <errno.h>
@@ -60,25 +61,29 @@ static void note_link_mtu(struct device *d, uint32_t mtu) {
             (unsigned)mtu, (unsigned)fits, d->tap.name, (unsigned)fits);
 }
 
-/* An operator or a bridge can give TAP or LINK another address. */
-static void note_address(struct device *d, bool is_tap, const uint8_t *address, size_t length) {
+/* An operator or a bridge can give LINK or TAP another address. */
+static void note_address(struct device *d, const uint8_t *address, size_t length) {
     if (length != sizeof d->link.address || memcmp(address, d->link.address, length) == 0)
         return;
-    if (!is_tap)
-        memcpy(d->link.address, address, length);
+    memcpy(d->link.address, address, length);
     link_make_promiscuous(&d->link);
 }
 
+void life_tick(struct device *d) {
+    uint8_t address[6];
+    if (tap_address(&d->tap, address) && memcmp(address, d->link.address, sizeof address) != 0)
+        link_make_promiscuous(&d->link);
+}
+
 static void note_attributes(struct device *d, const struct ifinfomsg *about, size_t length) {
-    bool is_tap = about->ifi_index == d->tap.index;
     const struct rtattr *a = (const struct rtattr *)((const char *)about + NLMSG_ALIGN(sizeof *about));
     length -= NLMSG_ALIGN(sizeof *about);
     while (length >= sizeof *a && a->rta_len >= sizeof *a && a->rta_len <= length) {
         const uint8_t *value = (const uint8_t *)a + RTA_LENGTH(0);
         size_t step = RTA_ALIGN(a->rta_len);
         if (a->rta_type == IFLA_ADDRESS)
-            note_address(d, is_tap, value, a->rta_len - RTA_LENGTH(0));
-        if (a->rta_type == IFLA_MTU && !is_tap && a->rta_len == RTA_LENGTH(sizeof(uint32_t))) {
+            note_address(d, value, a->rta_len - RTA_LENGTH(0));
+        if (a->rta_type == IFLA_MTU && a->rta_len == RTA_LENGTH(sizeof(uint32_t))) {
             uint32_t mtu;
             memcpy(&mtu, value, sizeof mtu);
             note_link_mtu(d, mtu);
@@ -90,24 +95,22 @@ static void note_attributes(struct device *d, const struct ifinfomsg *about, siz
     }
 }
 
-/* Reads one report. Returns false if it says that LINK or TAP is gone. */
+/* Reads one report. Returns false if it says that LINK is gone. That also comes when LINK is moved to another
+ * namespace. */
 static bool read_report(struct device *d, const struct nlmsghdr *header) {
     const struct ifinfomsg *about = NLMSG_DATA(header);
-    bool is_link;
     if (header->nlmsg_len < NLMSG_LENGTH(sizeof *about) ||
         (header->nlmsg_type != RTM_NEWLINK && header->nlmsg_type != RTM_DELLINK))
         return true;
-    is_link = about->ifi_index == d->link.index;
     /* Reports of a bridge, about a device that leaves it, have another family. */
-    if (about->ifi_family != AF_UNSPEC || (!is_link && about->ifi_index != d->tap.index))
+    if (about->ifi_family != AF_UNSPEC || about->ifi_index != d->link.index)
         return true;
     if (header->nlmsg_type == RTM_DELLINK) {
-        message("%s %s was deleted", is_link ? "LINK" : "TAP", is_link ? d->link.name : d->tap.name);
+        message("LINK %s was deleted or moved", d->link.name);
         return false;
     }
     note_attributes(d, about, header->nlmsg_len - NLMSG_LENGTH(0));
-    if (is_link)
-        note_link_up(d, about->ifi_flags);
+    note_link_up(d, about->ifi_flags);
     return true;
 }
 
@@ -117,7 +120,7 @@ static bool read_error(const struct nlmsghdr *header) {
     if (header->nlmsg_len < NLMSG_LENGTH(sizeof *error) || error->error == 0)
         return true;
     errno = -error->error;
-    message_of_errno("LINK or TAP is gone");
+    message_of_errno("LINK is gone");
     return false;
 }
 
@@ -145,7 +148,7 @@ bool life_read(struct device *d) {
         if (length < 0 && errno == EAGAIN)
             return true;
         if (length < 0 && errno == ENOBUFS) { /* reports were lost: ask */
-            if (ask(&d->life, d->link.index) != 0 || ask(&d->life, d->tap.index) != 0)
+            if (ask(&d->life, d->link.index) != 0)
                 return false;
             continue;
         }
@@ -167,7 +170,7 @@ int life_open(struct device *d) {
         return ENDS_FAILED;
     }
     tap_set_carrier(&d->tap, false);
-    if (ask(&d->life, d->link.index) != 0 || ask(&d->life, d->tap.index) != 0)
+    if (ask(&d->life, d->link.index) != 0)
         return ENDS_FAILED;
     return life_read(d) ? 0 : ENDS_FAILED;
 }

@@ -91,16 +91,14 @@ static int on_link(struct device *d, uint32_t events) {
     return outcome == GONE && !life_read(d) ? ENDS_FAILED : GOES_ON;
 }
 
-/* GONE can also mean LINK here. rtnetlink says which, and if it has nothing to say, the loop goes on. */
+/* A TAP that is deleted has an error. GONE can also mean LINK here: rtnetlink says so, else the loop goes on. */
 static int on_tap(struct device *d, uint32_t events) {
     bool failed = (events & (EPOLLERR | EPOLLHUP)) != 0;
-    if (frames_from_client(d) != GONE && !failed)
-        return GOES_ON;
-    if (!life_read(d))
+    if (failed) {
+        message("TAP %s was deleted", d->tap.name);
         return ENDS_FAILED;
-    if (failed)
-        message("TAP %s is gone", d->tap.name);
-    return failed ? ENDS_FAILED : GOES_ON;
+    }
+    return frames_from_client(d) == GONE && !life_read(d) ? ENDS_FAILED : GOES_ON;
 }
 
 static int on_signal(struct device *d) {
@@ -120,6 +118,7 @@ static int on_clock(struct device *d) {
     numbers_tick(d->numbers, d->endpoint);
     link_count_lost(&d->link, &d->counts);
     port_tick(d);
+    life_tick(d);
     service_notify("WATCHDOG=1");
     return GOES_ON;
 }

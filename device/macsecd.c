@@ -2,6 +2,7 @@
  *
  *     macsecd NAME
  *     macsecd --create-journal NAME
+ *     macsecd --settings NAME
  *
  * man/macsecd.8 has the manual. The library of macsec.h judges every frame; this program moves octets. */
 #include "device.h"
@@ -36,6 +37,8 @@ static int start(struct device *d) {
     if (result == 0)
         result = config_read(&d->config, d->name);
     if (result == 0)
+        result = namespace_enter(&d->tap, &d->config, d->name);
+    if (result == 0)
         result = numbers_open(&d->numbers, d->name, &d->counts);
     if (result == 0)
         result = link_open(&d->link, d->config.link);
@@ -54,6 +57,18 @@ static int start(struct device *d) {
     return result == 0 ? confine_rights(numbers_folder(d->numbers), d->control.folder) : result;
 }
 
+/* Says which frames pass beside MACsec, which no line of the configuration can close. */
+static void say_what_is_open(const struct device *d) {
+    if (d->config.shared)
+        message("`device shared`: LINK %s is in the host's network namespace. The host's programs receive frames of it "
+                "that are not protected, and can send such frames",
+                d->link.name);
+    else if (d->config.alone)
+        message("`device isolate alone`: if devices below LINK %s, or others over them, are in the host's network "
+                "namespace, its programs receive frames by them that are not protected",
+                d->link.name);
+}
+
 static int run(struct device *d) {
     int result = loop_block_signals(d);
     if (result == 0)
@@ -65,6 +80,7 @@ static int run(struct device *d) {
     }
     message("protects %s on %s%s", d->tap.name, d->link.name,
             endpoint_is_open(d) ? "" : "; it has no endpoint until a client opens one");
+    say_what_is_open(d);
     service_notify("READY=1");
     result = loop_run(d);
     service_notify("STOPPING=1");
@@ -75,15 +91,40 @@ static int run(struct device *d) {
     return result;
 }
 
+/* Where LINK is: alone in a network namespace, there with the devices below it, or in the host's. */
+static const char *way_of(const struct config *c) {
+    if (c->shared)
+        return "shared";
+    return c->alone ? "alone" : "isolated";
+}
+
+/* Prints what macsec-link needs of the configuration: LINK, TAP, the largest frame, and whether LINK is isolated. */
+static int print_settings(const char *name) {
+    struct config c;
+    int result = confine_memory();
+    if (result == 0)
+        result = config_read(&c, name);
+    if (result != 0)
+        return result;
+    config_wipe(&c);
+    if (printf("%s %s %u %s\n", c.link, c.tap, (unsigned)c.max_frame, way_of(&c)) > 0 && fflush(stdout) == 0)
+        return 0;
+    message_of_errno("standard output");
+    return ENDS_FAILED;
+}
+
 int main(int count, char **words) {
     bool creates = count == 3 && strcmp(words[1], "--create-journal") == 0;
+    bool prints = count == 3 && strcmp(words[1], "--settings") == 0;
     if (count == 2 && strcmp(words[1], "--version") == 0)
         return printf("macsecd %s\n", MACSEC_VERSION) < 0 || fflush(stdout) != 0 ? ENDS_FAILED : 0;
-    if ((count != 2 && !creates) || !config_is_name(words[count - 1])) {
-        message("usage: macsecd NAME, macsecd --create-journal NAME, or macsecd --version");
+    if ((count != 2 && !creates && !prints) || !config_is_name(words[count - 1])) {
+        message("usage: macsecd NAME, macsecd --create-journal NAME, macsecd --settings NAME, or macsecd --version");
         return ENDS_WRONG;
     }
     device.name = words[count - 1];
     messages_name(device.name);
+    if (prints)
+        return print_settings(device.name);
     return creates ? numbers_create(device.name) : run(&device);
 }

@@ -45,6 +45,8 @@ static bool answer_reader(struct device *d, struct text *t, const struct words *
         answer_json(t, d);
     else if (words_is(w, 0, "metrics"))
         answer_metrics(t, d);
+    else if (words_is(w, 0, "link"))
+        answer_link(t, d);
     else if (words_is(w, 0, "port"))
         text_add(t, "port %s\n", d->port.off ? "off" : "on");
     else if (words_is(w, 0, "counters")) {

@@ -2,7 +2,6 @@
 #define _GNU_SOURCE
 #include "device.h"
 #include <errno.h>
-#include <fcntl.h>
 #include <linux/if_tun.h>
 #include <net/if.h>
 #include <string.h>
@@ -40,35 +39,45 @@ static int set_properties(const struct tap *t, const struct config *c, const str
     request.ifr_hwaddr.sa_family = 1; /* ARPHRD_ETHER */
     memcpy(request.ifr_hwaddr.sa_data, l->address, sizeof l->address);
     result = ask(t->file, SIOCSIFHWADDR, &request, t->name, "its address");
+    if (result != 0 || !c->shared)
+        return result;
     memset(&request, 0, sizeof request);
     memcpy(request.ifr_name, t->name, IF_NAMESIZE);
     request.ifr_mtu = (int)mtu;
-    return result == 0 ? ask(l->socket, SIOCSIFMTU, &request, t->name, "its MTU") : result;
+    return ask(l->socket, SIOCSIFMTU, &request, t->name, "its MTU");
+}
+
+/* What is done with a TAP that TUNSETIFF has made. Its MTU can be set in the host's namespace alone, so `macsec-link`
+ * makes the TAP of an isolated LINK. */
+static int persist(const struct tap *t, const struct config *c) {
+    if (!c->shared) {
+        message("TAP %s is not there: `macsec-link isolate` makes it", t->name);
+        return ENDS_FAILED;
+    }
+    if (c->transient || ioctl(t->file, TUNSETPERSIST, 1UL) == 0)
+        return 0;
+    message_of_errno("TAP %s", t->name);
+    return ENDS_FAILED;
 }
 
 int tap_open(struct tap *t, const struct config *c, const struct link *l) {
     struct ifreq request;
     int result;
-    memset(t, 0, sizeof *t);
     memcpy(t->name, c->tap, IF_NAMESIZE);
     memset(&request, 0, sizeof request);
     memcpy(request.ifr_name, t->name, IF_NAMESIZE);
     request.ifr_flags = IFF_TAP | IFF_NO_PI;
-    t->file = open("/dev/net/tun", O_RDWR | O_NONBLOCK | O_CLOEXEC);
-    if (t->file < 0) {
-        message_of_errno("/dev/net/tun");
-        return ENDS_FAILED;
-    }
     result = ask(t->file, TUNSETIFF, &request, t->name, "it can't be made or is in use");
     if (result != 0)
         return result;
     /* No frame from the client lacks its checksum or is longer than the MTU. */
-    if (ioctl(t->file, TUNSETOFFLOAD, 0UL) != 0 || (c->persists && ioctl(t->file, TUNSETPERSIST, 1UL) != 0)) {
+    if (ioctl(t->file, TUNSETOFFLOAD, 0UL) != 0 || ioctl(t->file, TUNGETIFF, &request) != 0) {
         message_of_errno("TAP %s", t->name);
         return ENDS_FAILED;
     }
-    t->index = (int)if_nametoindex(t->name);
-    return set_properties(t, c, l);
+    if ((request.ifr_flags & IFF_PERSIST) == 0)
+        result = persist(t, c);
+    return result == 0 ? set_properties(t, c, l) : result;
 }
 
 /* A TAP that is down, or full, has errors that pass. */
@@ -99,6 +108,15 @@ enum outcome tap_write(struct tap *t, const uint8_t *octets, size_t length, stru
     }
     c->tap_refused++;
     return is_gone(errno) ? GONE : DONE;
+}
+
+bool tap_address(const struct tap *t, uint8_t address[6]) {
+    struct ifreq request;
+    memset(&request, 0, sizeof request);
+    if (ioctl(t->file, SIOCGIFHWADDR, &request) != 0)
+        return false;
+    memcpy(address, request.ifr_hwaddr.sa_data, 6);
+    return true;
 }
 
 void tap_set_carrier(struct tap *t, bool on) {

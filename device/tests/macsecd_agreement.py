@@ -29,7 +29,7 @@ def asking(client: socket.socket, request: str) -> str:
 
 def configure(end: End, *lines: str) -> None:
     """Writes a configuration without an endpoint."""
-    end.config.write_text("\n".join(["device link link0", *lines, ""]))
+    end.config.write_text("\n".join(["device link link0", *lines, "device shared", "device transient", ""]))
     end.config.chmod(0o600)
 
 

@@ -43,7 +43,7 @@ CONTROLS: dict[str, list[tuple[str, str, str]]] = {
              ("macsecctl.c", "    result = load(file, lines);\n", "    result = load(file, lines) & 1;\n")],
     "handover": [("handover.c", "sa.on ? macsec_enable_rx_sa(to, sci, an) : status", "!sa.on ? status : MACSEC_OK"),
                  ("handover.c", "    totals_carry(before);\n", "")],
-    "life": [("life.c", "header->nlmsg_type == RTM_DELLINK) {", "header->nlmsg_type == RTM_DELLINK && !is_link) {"),
+    "life": [("life.c", "header->nlmsg_type == RTM_DELLINK) {", "header->nlmsg_type == RTM_DELLINK && false) {"),
              ("life.c", "    port_set_carrier(d);\n", "")],
     "signals": [("loop.c", "got.ssi_signo == SIGTERM || got.ssi_signo == SIGINT)", "got.ssi_signo == SIGINT)"),
                 ("loop.c", "    sigaddset(&set, SIGUSR2);\n", ""),

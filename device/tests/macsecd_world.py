@@ -202,7 +202,8 @@ A rxsc 02000000000{peer}0001
 A rxsa 02000000000{peer}0001 0 1 1 0000000{peer}
 A rxon 02000000000{peer}0001 0
 {more}"""
-        self.config.write_text(text)
+        shared = "device shared\n" + ("" if "device persist" in device else "device transient\n")
+        self.config.write_text(text.rstrip("\n") + "\n" + shared)
         self.config.chmod(0o600)
 
     def run(self, *words: str) -> subprocess.CompletedProcess:

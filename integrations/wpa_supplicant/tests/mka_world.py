@@ -59,7 +59,7 @@ class End(Namespace):
 
     def start_device(self) -> None:
         """Starts macsecd, and gives its TAP an address."""
-        lines = ["device link link0", "device persist", *(f"device allow {it}" for it in self.allow)]
+        lines = ["device link link0", "device shared", *(f"device allow {it}" for it in self.allow)]
         config = self.folder / "conf/macsec0.conf"
         config.write_text("\n".join(lines) + "\n")
         config.chmod(0o600)
