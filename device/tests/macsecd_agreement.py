@@ -29,7 +29,8 @@ def asking(client: socket.socket, request: str) -> str:
 
 def configure(end: End, *lines: str) -> None:
     """Writes a configuration without an endpoint."""
-    end.config.write_text("\n".join(["device link link0", *lines, "device shared", "device transient", ""]))
+    shared = [] if end.isolated else ["device shared", "device transient"]
+    end.config.write_text("\n".join(["device link link0", *lines, *shared, ""]))
     end.config.chmod(0o600)
 
 
@@ -81,7 +82,7 @@ def check_open(world: World) -> None:
     """Endpoints of two key agreements, one after the other."""
     a, b = world.ends
     owners = [connected(end.socket, 5) for end in world.ends]
-    link = Packets(b.namespace, "link0")
+    link = Packets(b.link_namespace, "link0")
     for owner in owners:
         report(asking(owner, "own") == "ok\n", "`own` without an endpoint")
     for suite, octets in (("gcm128", 16), ("gcm256", 32)):

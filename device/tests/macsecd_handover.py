@@ -122,7 +122,7 @@ class Recorder:
     """The frames on a link with a SecTAG of this SCI, in a thread, until it is stopped."""
 
     def __init__(self, end: End, sci: str) -> None:
-        self.link, self.sci, self.frames, self.goes_on = Packets(end.namespace, "link0"), sci, [], True
+        self.link, self.sci, self.frames, self.goes_on = Packets(end.link_namespace, "link0"), sci, [], True
         self.thread = threading.Thread(target=self.run)
         self.thread.start()
 

@@ -9,7 +9,7 @@ import time
 
 from house.reporting import Failed, report, until
 from macsecd_handover import dropped
-from macsecd_world import IN, OUT, RX, End, Stream, World, tcp, tcp_pair, transfer
+from macsecd_world import IN, OUT, RX, End, Stream, World, inside, tcp, tcp_pair, transfer
 
 
 def count_all(end: End) -> None:
@@ -88,7 +88,9 @@ def check_slow_link(world: World) -> None:
     world.start()
     a, b = world.ends
     slow = ["tc", "qdisc", "add", "dev", "link0", "root", "tbf", "rate", "10mbit", "burst", "10k", "limit", "100m"]
-    if subprocess.run(["ip", "netns", "exec", a.namespace, *slow], capture_output=True).returncode:
+    with inside(a.link_namespace):
+        is_slow = subprocess.run(slow, capture_output=True).returncode == 0
+    if not is_slow:
         print("losses: this system can't slow a device down", flush=True)
         return
     pair = tcp_pair(a)

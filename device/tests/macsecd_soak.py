@@ -25,7 +25,7 @@ class Noise:
 
     def __init__(self, end: End, peer: End, rng: random.Random, good: bytes) -> None:
         self.peer, self.rng, self.good = peer, rng, good
-        self.injector = Packets(end.namespace, "link0")
+        self.injector = Packets(end.link_namespace, "link0")
         self.frames, self.requests, self.goes_on = 0, 0, True
         self.thread = threading.Thread(target=self.run)
         self.thread.start()
@@ -111,7 +111,7 @@ def check_counts(world: World, before: list[dict[str, int]], noise: list[Noise])
 def check_soak(world: World, minutes: float, seed: str) -> None:
     """The run: datagrams, which all have to arrive, 60 changes of keys, and noise in both directions."""
     a, b = world.ends
-    link = Packets(b.namespace, "link0")
+    link = Packets(b.link_namespace, "link0")
     streams = [Stream(a, 0.002, 400), Stream(b, 0.002, 400, port=9011)]
     time.sleep(0.5)
     for each in streams:

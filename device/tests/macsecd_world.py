@@ -15,7 +15,7 @@ import threading
 import time
 from collections.abc import Iterator, Sequence
 
-from house import compiling
+from house import ROOT, compiling
 from house.compiling import INCLUDED, WARNINGS, device_sources
 from house.reporting import Failed, call, report, until
 
@@ -45,9 +45,9 @@ def build(
 
 @contextlib.contextmanager
 def inside(namespace: str) -> Iterator[None]:
-    """Lets this thread be in a network namespace. A socket stays in the one in which it was made."""
+    """Lets this thread be in the network namespace of a name or path. A socket stays where it was made."""
     own = os.open("/proc/thread-self/ns/net", os.O_RDONLY)
-    other = os.open(f"/run/netns/{namespace}", os.O_RDONLY)
+    other = os.open(os.path.join("/run/netns", namespace), os.O_RDONLY)
     try:
         if LIBC.setns(other, 0x40000000):
             raise Failed(f"setns: {os.strerror(ctypes.get_errno())}")
@@ -133,6 +133,27 @@ def connected(path: str, seconds: int) -> socket.socket:
     return it
 
 
+# A host of its own in a network namespace: its /run and /sys are not the machine's. It ends with its standard input.
+HOLD = "mount -t tmpfs none /run && mkdir /run/netns && mount -t sysfs none /sys && echo && exec cat"
+
+
+def hold(*words: str) -> subprocess.Popen[bytes]:
+    """Starts a process that keeps such a host. The arguments are a command that runs the one after it."""
+    it = subprocess.Popen([*words, "unshare", "-m", "sh", "-c", HOLD], stdin=subprocess.PIPE, stdout=subprocess.PIPE)
+    assert it.stdout is not None
+    if it.stdout.readline() != b"\n":
+        raise Failed("a host can't be made")
+    return it
+
+
+def let_go(holder: subprocess.Popen[bytes]) -> None:
+    """Ends it."""
+    for each in (holder.stdin, holder.stdout):
+        assert each is not None
+        each.close()
+    holder.wait()
+
+
 class Namespace:
     """A namespace, and a folder with the files of a macsecd in it."""
 
@@ -176,6 +197,8 @@ class Namespace:
 class End(Namespace):
     """A namespace with a macsecd in it."""
 
+    isolated = False  # is LINK in a namespace of its own?
+
     def __init__(self, world: World, number: int) -> None:
         super().__init__(f"macsecd-{os.getpid()}-{world.folder.name}-{number}", world.folder / str(number))
         self.world, self.number = world, number
@@ -183,6 +206,42 @@ class End(Namespace):
         self.process: subprocess.Popen | None = None
         self.program = world.programs / "macsecd"
         self.prefix: list[str] = []
+        self.holder: subprocess.Popen[bytes] | None = None
+
+    @property
+    def environment(self) -> dict[str, str]:
+        """Where macsecd finds its files, and macsec-link macsecd."""
+        return {"MACSECD": str(self.program), **super().environment}
+
+    @property
+    def enter(self) -> list[str]:
+        """A command that runs the one after it in the namespace."""
+        if self.holder is None:
+            return ["ip", "netns", "exec", self.namespace]
+        return ["nsenter", "-t", str(self.holder.pid), "-m", "-n"]
+
+    @property
+    def link_namespace(self) -> str:
+        """The namespace of LINK, as `inside` takes it."""
+        if self.holder is None:
+            return self.namespace
+        return f"/proc/{self.holder.pid}/root/run/netns/macsec-macsec0"
+
+    def isolate(self) -> None:
+        """Moves LINK into a namespace of its own, if it is to be isolated, and makes TAP."""
+        if not self.isolated:
+            return
+        if self.holder is None:
+            self.holder = hold("nsenter", f"--net=/run/netns/{self.namespace}")
+        ended = subprocess.run(
+            [*self.enter, str(ROOT / "device/macsec-link"), "isolate", "macsec0"],
+            stdin=subprocess.DEVNULL,
+            capture_output=True,
+            text=True,
+            env=self.environment,
+        )
+        if ended.returncode:
+            raise Failed(f"macsec-link: {ended.stderr}")
 
     @property
     def config(self) -> pathlib.Path:
@@ -202,13 +261,14 @@ A rxsc 02000000000{peer}0001
 A rxsa 02000000000{peer}0001 0 1 1 0000000{peer}
 A rxon 02000000000{peer}0001 0
 {more}"""
-        shared = "device shared\n" + ("" if "device persist" in device else "device transient\n")
-        self.config.write_text(text.rstrip("\n") + "\n" + shared)
+        if not self.isolated:
+            text += "device shared\n" + ("" if "device persist" in device else "device transient\n")
+        self.config.write_text(text)
         self.config.chmod(0o600)
 
     def run(self, *words: str) -> subprocess.CompletedProcess:
         """Runs macsecd until it ends."""
-        command = ["ip", "netns", "exec", self.namespace, str(self.program), *words]
+        command = [*self.enter, str(self.program), *words]
         return subprocess.run(
             command, stdin=subprocess.DEVNULL, capture_output=True, text=True, timeout=30, env=self.environment
         )
@@ -222,7 +282,8 @@ A rxon 02000000000{peer}0001 0
     def start(self, wait: bool = True) -> None:
         """Starts macsecd, and gives its TAP addresses once it answers."""
         log = open(self.folder / "log", "ab")
-        command = ["ip", "netns", "exec", self.namespace, *self.prefix, str(self.program), "macsec0"]
+        self.isolate()
+        command = [*self.enter, *self.prefix, str(self.program), "macsec0"]
         self.process = subprocess.Popen(command, stdin=subprocess.DEVNULL, stdout=log, stderr=log, env=self.environment)
         log.close()
         if not wait:
@@ -237,7 +298,8 @@ A rxon 02000000000{peer}0001 0
 
     def address(self) -> str:
         """LINK's address."""
-        return self.ip("-br", "link", "show", "link0").split()[2]
+        with inside(self.link_namespace):
+            return call("ip", "-br", "link", "show", "link0").split()[2]
 
     def answers(self) -> bool:
         """Does macsecd answer? It is an error if it has ended."""
@@ -326,6 +388,8 @@ class World:
         """Writes configurations and journals, and starts both ends."""
         self.prepare(suite)
         for end in self.ends:
+            end.isolate()  # while one LINK moves, the other has no carrier
+        for end in self.ends:
             end.start()
 
     def __exit__(self, *_: object) -> None:
@@ -333,6 +397,8 @@ class World:
             if end.process is not None:
                 end.stop(signal.SIGKILL)
         for end in self.ends:
+            if end.holder is not None:
+                let_go(end.holder)
             subprocess.run(["ip", "netns", "del", end.namespace], capture_output=True)
 
 
