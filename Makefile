@@ -38,7 +38,7 @@ DEVICE_SOURCES := $(filter-out device/macsecctl.c,$(wildcard device/*.c))
 
 # The checks that make a program or a library first, and the others.
 OVER_PROGRAM := altered-frames conformance conformance-controls peer planted stored-runs
-OVER_LIBRARY := c-programs journal macsecd macsecd-controls pages python
+OVER_LIBRARY := c-programs isolated isolated-controls journal macsecd macsecd-controls macsecd-isolated pages python
 CHECKS := $(OVER_PROGRAM) $(OVER_LIBRARY) against allocators any-order c-cost c-header controls device-kernel edits \
     failures fuzz kept-frames kernel-captures lanes-used mka moves needed packages style table version
 
@@ -121,6 +121,7 @@ device: $(DEVICE) build/macsecctl
 
 install-device: device
 	install -D -m 755 -t "$(DESTDIR)$(PREFIX)/sbin" build/macsecctl device/macsec-link
+	sed -i 's|/usr/local|$(PREFIX)|' "$(DESTDIR)$(PREFIX)/sbin/macsec-link"
 	install -m 755 $(DEVICE) "$(DESTDIR)$(PREFIX)/sbin/macsecd"
 	install -D -m 644 -t "$(DESTDIR)$(PREFIX)/share/man/man8" man/macsecd.8 man/macsecctl.8
 	install -d "$(DESTDIR)$(PREFIX)/lib/systemd/system"
