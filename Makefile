@@ -123,7 +123,7 @@ install-device: device
 	install -D -m 755 -t "$(DESTDIR)$(PREFIX)/sbin" build/macsecctl device/macsec-link
 	sed -i 's|/usr/local|$(PREFIX)|' "$(DESTDIR)$(PREFIX)/sbin/macsec-link"
 	install -m 755 $(DEVICE) "$(DESTDIR)$(PREFIX)/sbin/macsecd"
-	install -D -m 644 -t "$(DESTDIR)$(PREFIX)/share/man/man8" man/macsecd.8 man/macsecctl.8
+	install -D -m 644 -t "$(DESTDIR)$(PREFIX)/share/man/man8" man/macsecd.8 man/macsecctl.8 man/macsec-link.8
 	install -d "$(DESTDIR)$(PREFIX)/lib/systemd/system"
 	sed 's|/usr/local|$(PREFIX)|' device/macsecd@.service > "$(DESTDIR)$(PREFIX)/lib/systemd/system/macsecd@.service"
 

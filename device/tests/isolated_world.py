@@ -18,7 +18,6 @@ import threading
 import time
 from collections.abc import Iterator, Sequence
 
-from house import ROOT
 from house.reporting import call, Failed, until
 from macsecd_world import SALT, connected, hold, inside, let_go
 
