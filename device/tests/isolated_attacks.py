@@ -10,10 +10,10 @@ import socket
 import time
 from typing import Callable
 
-from isolated_frames import ALL_NODES, BROADCAST, advertisement, datagram, ethernet, ipv4, ipv6, request, reset
-from isolated_world import Host, Options, Pair, received
 from house import ROOT
 from house.reporting import Failed, report, until
+from isolated_frames import ALL_NODES, BROADCAST, advertisement, datagram, ethernet, ipv4, ipv6, request, reset
+from isolated_world import Host, Options, Pair, received
 from macsecd_world import Packets, build, inside
 
 TAP = "10.9.0.1"

@@ -8,9 +8,9 @@ import subprocess
 import threading
 import time
 
+from house.reporting import report, until
 from isolated_frames import ALL_NODES, advertisement, ethernet
 from isolated_world import Host, Options, Pair, sending
-from house.reporting import report, until
 from macsecd_world import Packets
 
 NETWORKS = (

@@ -7,10 +7,10 @@ import pathlib
 import signal
 import subprocess
 
+from house.reporting import Failed, report, until
 from isolated_attacks import macvlan
 from isolated_world import Host, Options
 from macsecd_controls import altered
-from house.reporting import Failed, report, until
 from macsecd_world import build
 
 SYS_ADMIN = 1 << 21

@@ -18,7 +18,7 @@ import threading
 import time
 from collections.abc import Iterator, Sequence
 
-from house.reporting import call, Failed, until
+from house.reporting import Failed, call, until
 from macsecd_world import SALT, connected, hold, inside, let_go
 
 NOBODY = 65534

@@ -112,6 +112,8 @@ CHECKS: list[Check] = [
           ROOT_USER, 50, "the check isolated-controls", gate="--short --seed {seed}", hand="--seed {seed}"),
     Check("isolated-controls", "plants mistakes in the isolation of LINK", "device/tests/isolated --controls", ROOT_USER,
           900, "it is made of them", hand=""),
+    Check("isolated-unit", "runs the unit of macsecd under systemd", "device/tests/isolated-unit", ROOT_USER, 120,
+          "device/tests/isolated-unit --controls", hand=""),
     Check("macsecd-isolated", "runs the device's other checks with an isolated LINK", "device/tests/macsecd --isolated",
           ROOT_USER, 600, "the check macsecd-controls", hand="--seed {seed}"),
     Check("macsecd-controls", "plants mistakes in the device", "device/tests/macsecd --short --controls", ROOT_USER, 600,
