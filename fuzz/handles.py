@@ -186,6 +186,48 @@ def flag(is_on):
     return "on" if is_on else "off"
 
 
+# The calls that are commands: the keyword of each, and what reads its arguments.
+COMMANDS = {
+    "set_protect": ("protect", flag),
+    "set_validation": ("validate", lambda mode: named(MODES, mode, "E_NO_SUCH_MODE")),
+    "set_replay": ("replay", flag, int),
+    "set_tag_form": ("tag", lambda form: named(FORMS, form, "E_NO_SUCH_FORM")),
+    "retire_key": ("retire", key_number_of),
+    "add_tx_sa": ("txsa", an_of, key_number_of, int, lambda conf: "conf" if conf else "int"),
+    "enable_tx_sa": ("txon", an_of),
+    "disable_tx_sa": ("txoff", an_of),
+    "delete_tx_sa": ("txdel", an_of),
+    "add_rx_sc": ("rxsc", bytes),
+    "delete_rx_sc": ("rxscdel", bytes),
+    "enable_rx_sa": ("rxon", bytes, an_of),
+    "disable_rx_sa": ("rxoff", bytes, an_of),
+    "set_lowest_pn": ("rxlow", bytes, an_of, int),
+    "delete_rx_sa": ("rxdel", bytes, an_of),
+}
+
+# What a call shows if it does nothing. The program sets what most of them fill in to 7 before the call.
+UNSHOWN = {
+    "configure": " 0",
+    "reserve_configure": " 0",
+    "send": f" {CONSTANTS['FATE_NONE']} 0 -",
+    "receive": f" {CONSTANTS['VERDICT_NONE']} 0 {'00' * 8} 0 0 -",
+    "reserve_wanted": " " + "07" * journals.RECORD,
+    "reserve_to_save": " " + "07" * journals.RECORD,
+    "reserve_tx_floor": " 7",
+    "reserve_rx_floor": " 7",
+    "get_options": " 7 7 7 0 0",
+    "keys_left": " 7",
+    "get_counters": " 7" * len(ALL_COUNTERS),
+    "get_tx_counters": " 7" * len(TX_COUNTERS),
+    "get_rx_counters": " 7" * len(expected.RX_COUNTERS),
+    "get_rx_sa_counters": " 7" * len(expected.RX_COUNTERS),
+    "get_removed_counters": " 7" * len(expected.RX_COUNTERS),
+    "get_rx_sc": " " + "07" * 8,
+    "get_tx_sa": f" 7{7:016x} 7 0 0",
+    "get_rx_sa": f" 7{7:016x} 7{7:016x} 7 7 0",
+}
+
+
 class Model:
     """What the handles hold, and what each call answers: the text before its status, and the status."""
 
@@ -195,12 +237,16 @@ class Model:
         self.met = collections.Counter({"OK": 0})
 
     def answer(self, name, handle, *words):
-        shown = getattr(self, "unshown_" + name, lambda: "")()
+        shown = UNSHOWN.get(name, "")
         status = "OK"
         try:
             if name not in HANDLE_FREE and self.ends[handle] is None:
                 raise Status("E_EMPTY")
-            shown = getattr(self, "call_" + name)(handle, *words) or ""
+            if name in COMMANDS:
+                keyword, *readers = COMMANDS[name]
+                self.command(handle, keyword, *(read(it) for read, it in zip(readers, words)))
+            else:
+                shown = getattr(self, "call_" + name)(handle, *words) or ""
         except Status as it:
             status, *told = it.args
             shown = told[0] if told else shown
@@ -225,11 +271,6 @@ class Model:
 
     call_reserve_open = call_new
 
-    def unshown_configure(self):
-        return " 0"
-
-    unshown_reserve_configure = unshown_configure
-
     def call_configure(self, handle, text, journal=None):
         if self.ends[handle] is not None:
             raise Status("E_TAKEN")
@@ -250,12 +291,7 @@ class Model:
     def call_free(self, handle):
         self.ends[handle] = None
 
-    # Reservations. Octets that a call does not write are 7, as the program sets them before it.
-
-    def unshown_reserve_wanted(self):
-        return " " + "07" * journals.RECORD
-
-    unshown_reserve_to_save = unshown_reserve_wanted
+    # Reservations.
 
     def shown_record(self, reservation):
         if reservation is None:
@@ -267,11 +303,6 @@ class Model:
 
     def call_reserve_to_save(self, handle, sci, an):
         return self.shown_record(self.ends[handle].to_save(sci, an_of(an)))
-
-    def unshown_reserve_tx_floor(self):
-        return " 7"
-
-    unshown_reserve_rx_floor = unshown_reserve_tx_floor
 
     def shown_floor(self, handle, number, name_of):
         """The highest number that the journal had when the endpoint was made, under the name made of the key's."""
@@ -304,9 +335,6 @@ class Model:
 
     # Frames.
 
-    def unshown_send(self):
-        return f" {CONSTANTS['FATE_NONE']} 0 -"
-
     def call_send(self, handle, frame):
         end = self.ends[handle]
         key = next((sa.key for sa in end.tx.values() if sa.on), 0) if end.protects else 0
@@ -322,9 +350,6 @@ class Model:
 
     def call_send_uncontrolled(self, handle, frame):
         framed(frame)
-
-    def unshown_receive(self):
-        return f" {CONSTANTS['VERDICT_NONE']} 0 {'00' * 8} 0 0 -"
 
     def call_receive(self, handle, frame):
         end = self.ends[handle]
@@ -356,18 +381,6 @@ class Model:
     def command(self, handle, keyword, *values):
         self.ends[handle].command(keyword, values)
 
-    def call_set_protect(self, handle, on):
-        self.command(handle, "protect", flag(on))
-
-    def call_set_validation(self, handle, mode):
-        self.command(handle, "validate", named(MODES, mode, "E_NO_SUCH_MODE"))
-
-    def call_set_replay(self, handle, on, window):
-        self.command(handle, "replay", flag(on), window)
-
-    def call_set_tag_form(self, handle, form):
-        self.command(handle, "tag", named(FORMS, form, "E_NO_SUCH_FORM"))
-
     def call_install_key(self, handle, octets, salt, ssci, suite, number, length, offset):
         end = self.ends[handle]
         suite = end.suite if suite == CONSTANTS["SUITE_DEFAULT"] else named(SUITES, suite, "E_NO_SUCH_SUITE")
@@ -376,41 +389,8 @@ class Model:
             raise Status("E_NO_SUCH_KEY_OCTETS")
         self.command(handle, "key", number, octets[:length], offset, suite, struct.pack(">I", ssci), salt)
 
-    def call_retire_key(self, handle, key):
-        self.command(handle, "retire", key_number_of(key))
-
-    def call_add_tx_sa(self, handle, an, key, pn, conf):
-        self.command(handle, "txsa", an_of(an), key_number_of(key), pn, "conf" if conf else "int")
-
-    def call_enable_tx_sa(self, handle, an):
-        self.command(handle, "txon", an_of(an))
-
-    def call_disable_tx_sa(self, handle, an):
-        self.command(handle, "txoff", an_of(an))
-
-    def call_delete_tx_sa(self, handle, an):
-        self.command(handle, "txdel", an_of(an))
-
-    def call_add_rx_sc(self, handle, sci):
-        self.command(handle, "rxsc", sci)
-
-    def call_delete_rx_sc(self, handle, sci):
-        self.command(handle, "rxscdel", sci)
-
     def call_add_rx_sa(self, handle, sci, an, key, ssci, pn):
         self.command(handle, "rxsa", sci, an_of(an), key_number_of(key), pn, struct.pack(">I", ssci))
-
-    def call_enable_rx_sa(self, handle, sci, an):
-        self.command(handle, "rxon", sci, an_of(an))
-
-    def call_disable_rx_sa(self, handle, sci, an):
-        self.command(handle, "rxoff", sci, an_of(an))
-
-    def call_set_lowest_pn(self, handle, sci, an, pn):
-        self.command(handle, "rxlow", sci, an_of(an), pn)
-
-    def call_delete_rx_sa(self, handle, sci, an):
-        self.command(handle, "rxdel", sci, an_of(an))
 
     def call_command_line(self, handle, line):
         """A line is read as the second one of a configuration."""
@@ -439,10 +419,7 @@ class Model:
             status = "OK" if result == "done" else "E_" + constant_name(result.split()[2])
         raise Status(status, shown(len(text), text))
 
-    # What an endpoint shows. The program sets all that it has room for to 7 before the call.
-
-    def unshown_get_options(self):
-        return " 7 7 7 0 0"
+    # What an endpoint shows.
 
     def call_get_options(self, handle):
         end = self.ends[handle]
@@ -450,28 +427,14 @@ class Model:
         self.met.update(["MODE_" + end.mode.upper(), "FORM_" + end.form.upper()])
         return f" {end.window} {mode} {form} {int(end.protects)} {int(end.replay)}"
 
-    def unshown_keys_left(self):
-        return " 7"
-
     def call_keys_left(self, handle):
         return f" {CONSTANTS['KEY_COUNT'] - len(self.ends[handle].keys)}"
-
-    def unshown_get_counters(self):
-        return " 7" * len(ALL_COUNTERS)
 
     def call_get_counters(self, handle):
         return "".join(f" {self.ends[handle].counters[it]}" for it in ALL_COUNTERS)
 
-    def unshown_get_tx_counters(self):
-        return " 7" * len(TX_COUNTERS)
-
     def call_get_tx_counters(self, handle):
         return "".join(f" {self.ends[handle].counters[it]}" for it in TX_COUNTERS)
-
-    def unshown_get_rx_counters(self):
-        return " 7" * len(expected.RX_COUNTERS)
-
-    unshown_get_rx_sa_counters = unshown_get_removed_counters = unshown_get_rx_counters
 
     def channel(self, handle, sci):
         found = self.ends[handle].channel(sci)
@@ -495,16 +458,10 @@ class Model:
     def call_get_removed_counters(self, handle, sci):
         return "".join(f" {it}" for it in self.channel(handle, sci).removed.values())
 
-    def unshown_get_rx_sc(self):
-        return " " + "07" * 8
-
     def call_get_rx_sc(self, handle, place):
         if place >= len(self.ends[handle].channels):
             raise Status("E_NOT_FOUND")
         return f" {self.ends[handle].channels[place].sci.hex()}"
-
-    def unshown_get_tx_sa(self):
-        return f" 7{7:016x} 7 0 0"
 
     def call_get_tx_sa(self, handle, an):
         an = an_of(an)
@@ -512,9 +469,6 @@ class Model:
             raise Status("E_NOT_FOUND")
         sa = self.ends[handle].tx[an]
         return f" {sa.next:017x} {sa.key} {int(sa.conf)} {int(sa.on)}"
-
-    def unshown_get_rx_sa(self):
-        return f" 7{7:016x} 7{7:016x} 7 7 0"
 
     def call_get_rx_sa(self, handle, sci, an):
         sa = self.rx_sa(handle, sci, an)
