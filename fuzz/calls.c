@@ -112,19 +112,17 @@ static void leave_rooms(void) {
 }
 
 /* The octets of a word, which nobody can write. */
-static const uint8_t *sealed(const char *word, size_t *length) {
-    uint8_t *room = room_of(*length = length_of(word));
-    *length = octets(word, room, *length);
+static const uint8_t *sealed(const char *word) {
+    uint8_t *room = room_of(length_of(word));
+    octets(word, room, length_of(word));
     seal();
     return room;
 }
 
 static const uint8_t *sealed_sci(const char *word) {
-    size_t length;
-    const uint8_t *sci = sealed(word, &length);
-    if (length != 8)
+    if (length_of(word) != 8)
         fail("an SCI has another length");
-    return sci;
+    return sealed(word);
 }
 
 /* ---- Blocks of the library ---- */
@@ -202,10 +200,8 @@ static void print_halves(uint64_t high, uint64_t low) {
 }
 
 static uint32_t send(macsec_endpoint *e, const char *word) {
-    size_t length;
-    const uint8_t *frame = sealed(word, &length);
     macsec_sent *sent = room_of(sizeof *sent);
-    uint32_t status = macsec_send(e, frame, length, sent);
+    uint32_t status = macsec_send(e, sealed(word), length_of(word), sent);
     if (sent->status != status)
         fail("macsec_send returns another status than it shows");
     check_reserved(MACSEC_OK, RESERVED_OF(*sent));
@@ -215,10 +211,8 @@ static uint32_t send(macsec_endpoint *e, const char *word) {
 }
 
 static uint32_t receive(macsec_endpoint *e, const char *word) {
-    size_t length;
-    const uint8_t *frame = sealed(word, &length);
     macsec_received *received = room_of(sizeof *received);
-    uint32_t status = macsec_receive(e, frame, length, received);
+    uint32_t status = macsec_receive(e, sealed(word), length_of(word), received);
     if (received->status != status)
         fail("macsec_receive returns another status than it shows");
     check_reserved(MACSEC_OK, RESERVED_OF(*received));
@@ -227,12 +221,6 @@ static uint32_t receive(macsec_endpoint *e, const char *word) {
     printf(" %u %d", (unsigned)received->an, received->delivered);
     print_octets(received->frame, received->length);
     return status;
-}
-
-static uint32_t send_uncontrolled(macsec_endpoint *e, const char *word) {
-    size_t length;
-    const uint8_t *frame = sealed(word, &length);
-    return macsec_send_uncontrolled(e, frame, length);
 }
 
 static const macsec_config *sealed_config(char **w) {
@@ -245,47 +233,41 @@ static const macsec_config *sealed_config(char **w) {
     return config;
 }
 
-static uint32_t new_endpoint(macsec_endpoint *e, char **w) {
-    return macsec_new(e, sealed_config(w));
-}
-
-static uint32_t reserve_open(macsec_endpoint *e, char **w) {
-    size_t length;
-    const uint8_t *journal = sealed(w[4], &length);
-    return macsec_reserve_open(e, sealed_config(w), journal, length);
-}
-
-static uint32_t reserve_configure(macsec_endpoint *e, char **w) {
-    size_t text_length, length;
-    const uint8_t *text = sealed(w[0], &text_length), *journal = sealed(w[1], &length);
+static uint32_t configure(macsec_endpoint *e, const char *text) {
     uint32_t *at = room_of(sizeof *at);
     *at = 7;
-    uint32_t status = macsec_reserve_configure(e, text, text_length, journal, length, at);
+    uint32_t status = macsec_configure(e, sealed(text), length_of(text), at);
+    print_number(*at);
+    return status;
+}
+
+static uint32_t reserve_configure(macsec_endpoint *e, const char *text, const char *journal) {
+    uint32_t *at = room_of(sizeof *at);
+    *at = 7;
+    uint32_t status =
+        macsec_reserve_configure(e, sealed(text), length_of(text), sealed(journal), length_of(journal), at);
     print_number(*at);
     return status;
 }
 
 static uint32_t journal_compacted(const char *word) {
-    size_t length;
-    const uint8_t *journal = sealed(word, &length);
+    size_t length = length_of(word);
     uint8_t *out = room_of(length);
     size_t *written = room_of(sizeof *written);
     memset(out, 7, length);
     *written = 7;
-    uint32_t status = macsec_journal_compacted(journal, length, out, written);
+    uint32_t status = macsec_journal_compacted(sealed(word), length, out, written);
     print_number(*written);
     print_octets(out, length);
     return status;
 }
 
 static uint32_t journal_header(const char *word) {
-    size_t length;
-    const uint8_t *salt = sealed(word, &length);
     macsec_record *out = room_of(sizeof *out);
-    if (length != 24)
+    if (length_of(word) != 24)
         fail("a salt has another length");
     memset(out, 7, sizeof *out);
-    uint32_t status = macsec_journal_header(salt, out);
+    uint32_t status = macsec_journal_header(sealed(word), out);
     print_octets(out->octets, sizeof out->octets);
     return status;
 }
@@ -321,30 +303,13 @@ static uint32_t granted(macsec_endpoint *e, const char *word) {
     return macsec_reserve_granted(e, record);
 }
 
-static uint32_t configure(macsec_endpoint *e, const char *word) {
-    size_t length;
-    const uint8_t *text = sealed(word, &length);
-    uint32_t *at = room_of(sizeof *at);
-    *at = 7;
-    uint32_t status = macsec_configure(e, text, length, at);
-    print_number(*at);
-    return status;
-}
-
-static uint32_t command_line(macsec_endpoint *e, const char *word) {
-    size_t length;
-    const uint8_t *text = sealed(word, &length);
-    return macsec_command_line(e, text, length);
-}
-
 static uint32_t answer(macsec_endpoint *e, char **w) {
-    size_t length, room = (size_t)number(w[2]);
-    const uint8_t *text = sealed(w[1], &length);
+    size_t room = (size_t)number(w[2]);
     uint8_t *out = room_of(room);
     size_t *written = room_of(sizeof *written);
     memset(out, 7, room);
     *written = 7;
-    uint32_t status = macsec_answer(e, (uint32_t)number(w[0]), text, length, out, room, written);
+    uint32_t status = macsec_answer(e, (uint32_t)number(w[0]), sealed(w[1]), length_of(w[1]), out, room, written);
     print_number(*written);
     print_octets(out, room);
     return status;
@@ -376,9 +341,8 @@ static uint32_t seal_frame(char **w) {
 }
 
 static uint32_t options(const macsec_endpoint *e) {
-    const macsec_options before = { 7, 7, 7, false, false, { 7, 7, 7, 7, 7 } };
     macsec_options *shown = room_of(sizeof *shown);
-    *shown = before;
+    *shown = (macsec_options){ 7, 7, 7, false, false, { 7, 7, 7, 7, 7 } };
     uint32_t status = macsec_get_options(e, shown);
     check_reserved(status, RESERVED_OF(*shown));
     print_number(shown->window);
@@ -395,9 +359,8 @@ static uint32_t keys_left(const macsec_endpoint *e) {
 }
 
 static uint32_t counters(const macsec_endpoint *e) {
-    const macsec_counters before = { 7, 7, 7, 7, 7, 7, 7, 7, 7, 7, 7, { 7, 7, 7, 7, 7 } };
     macsec_counters *c = room_of(sizeof *c);
-    *c = before;
+    *c = (macsec_counters){ 7, 7, 7, 7, 7, 7, 7, 7, 7, 7, 7, { 7, 7, 7, 7, 7 } };
     uint32_t status = macsec_get_counters(e, c);
     check_reserved(status, RESERVED_OF(*c));
     const uint64_t all[] = { c->in_pkts_untagged,    c->in_pkts_no_tag,      c->in_pkts_bad_tag,
@@ -410,9 +373,8 @@ static uint32_t counters(const macsec_endpoint *e) {
 }
 
 static uint32_t tx_counters(const macsec_endpoint *e) {
-    const macsec_tx_counters before = { 7, 7, 7, 7, { 7, 7, 7, 7 } };
     macsec_tx_counters *c = room_of(sizeof *c);
-    *c = before;
+    *c = (macsec_tx_counters){ 7, 7, 7, 7, { 7, 7, 7, 7 } };
     uint32_t status = macsec_get_tx_counters(e, c);
     check_reserved(status, RESERVED_OF(*c));
     print_number(c->out_pkts_protected);
@@ -424,9 +386,8 @@ static uint32_t tx_counters(const macsec_endpoint *e) {
 
 /* The counters of a channel, of its SA with this AN, or of its deleted SAs. */
 static uint32_t rx_counters(const macsec_endpoint *e, const char *name, char **w) {
-    const macsec_rx_counters before = { 7, 7, 7, 7, 7, 7, SEVENS };
     macsec_rx_counters *c = room_of(sizeof *c);
-    *c = before;
+    *c = (macsec_rx_counters){ 7, 7, 7, 7, 7, 7, SEVENS };
     const uint8_t *sci = sealed_sci(w[0]);
     uint32_t status;
     if (strcmp(name, "get_rx_counters") == 0)
@@ -454,9 +415,8 @@ static uint32_t rx_sc(const macsec_endpoint *e, size_t place) {
 }
 
 static uint32_t tx_sa(const macsec_endpoint *e, uint8_t an) {
-    const macsec_tx_sa before = { 7, 7, 7, false, false, { 7, 7, 7, 7, 7 } };
     macsec_tx_sa *row = room_of(sizeof *row);
-    *row = before;
+    *row = (macsec_tx_sa){ 7, 7, 7, false, false, { 7, 7, 7, 7, 7 } };
     uint32_t status = macsec_get_tx_sa(e, an, row);
     check_reserved(status, RESERVED_OF(*row));
     print_halves(row->next_high, row->next);
@@ -465,9 +425,8 @@ static uint32_t tx_sa(const macsec_endpoint *e, uint8_t an) {
 }
 
 static uint32_t rx_sa(const macsec_endpoint *e, char **w) {
-    const macsec_rx_sa before = { 7, 7, 7, 7, 7, 7, false, { 7, 7, 7 } };
     macsec_rx_sa *row = room_of(sizeof *row);
-    *row = before;
+    *row = (macsec_rx_sa){ 7, 7, 7, 7, 7, 7, false, { 7, 7, 7 } };
     const uint8_t *sci = sealed_sci(w[0]);
     uint32_t status = macsec_get_rx_sa(e, sci, (uint8_t)number(w[1]), row);
     check_reserved(status, RESERVED_OF(*row));
@@ -477,121 +436,79 @@ static uint32_t rx_sa(const macsec_endpoint *e, char **w) {
     return status;
 }
 
-/* A command whose first argument is an SCI. */
-static uint32_t rx_command(macsec_endpoint *e, const char *name, char **w, int count) {
-    const uint8_t *sci = sealed_sci(w[0]);
-    uint8_t an = count > 1 ? (uint8_t)number(w[1]) : 0;
-    if (strcmp(name, "add_rx_sc") == 0)
-        return macsec_add_rx_sc(e, sci);
-    if (strcmp(name, "delete_rx_sc") == 0)
-        return macsec_delete_rx_sc(e, sci);
-    if (strcmp(name, "enable_rx_sa") == 0)
-        return macsec_enable_rx_sa(e, sci, an);
-    if (strcmp(name, "disable_rx_sa") == 0)
-        return macsec_disable_rx_sa(e, sci, an);
-    if (strcmp(name, "delete_rx_sa") == 0)
-        return macsec_delete_rx_sa(e, sci, an);
-    if (strcmp(name, "set_lowest_pn") == 0)
-        return macsec_set_lowest_pn(e, sci, an, number(w[2]));
-    if (strcmp(name, "add_rx_sa") != 0)
-        fail("no such call");
-    return macsec_add_rx_sa(e, sci, an, (uint16_t)number(w[2]), (uint32_t)number(w[3]), number(w[4]));
-}
+/* Returns this result if the line names this call. */
+#define CALL(it, result)                                                                                               \
+    do {                                                                                                               \
+        if (strcmp(name, it) == 0)                                                                                     \
+            return result;                                                                                             \
+    } while (0)
 
-/* A command whose first argument, if any, is a number. */
 static uint32_t command(macsec_endpoint *e, const char *name, char **w) {
-    uint64_t n = number(w[0]);
-    if (strcmp(name, "set_protect") == 0)
-        return macsec_set_protect(e, n != 0);
-    if (strcmp(name, "set_validation") == 0)
-        return macsec_set_validation(e, (uint32_t)n);
-    if (strcmp(name, "set_replay") == 0)
-        return macsec_set_replay(e, n != 0, number(w[1]));
-    if (strcmp(name, "set_tag_form") == 0)
-        return macsec_set_tag_form(e, (uint32_t)n);
-    if (strcmp(name, "retire_key") == 0)
-        return macsec_retire_key(e, (uint16_t)n);
-    if (strcmp(name, "enable_tx_sa") == 0)
-        return macsec_enable_tx_sa(e, (uint8_t)n);
-    if (strcmp(name, "disable_tx_sa") == 0)
-        return macsec_disable_tx_sa(e, (uint8_t)n);
-    if (strcmp(name, "delete_tx_sa") == 0)
-        return macsec_delete_tx_sa(e, (uint8_t)n);
-    if (strcmp(name, "add_tx_sa") != 0)
-        fail("no such call");
-    return macsec_add_tx_sa(e, (uint8_t)n, (uint16_t)number(w[1]), number(w[2]), number(w[3]) != 0);
+    CALL("send_uncontrolled", macsec_send_uncontrolled(e, sealed(w[0]), length_of(w[0])));
+    CALL("command_line", macsec_command_line(e, sealed(w[0]), length_of(w[0])));
+    CALL("set_protect", macsec_set_protect(e, number(w[0]) != 0));
+    CALL("set_validation", macsec_set_validation(e, (uint32_t)number(w[0])));
+    CALL("set_replay", macsec_set_replay(e, number(w[0]) != 0, number(w[1])));
+    CALL("set_tag_form", macsec_set_tag_form(e, (uint32_t)number(w[0])));
+    CALL("install_key", macsec_install_key(e, sealed_key(w)));
+    CALL("retire_key", macsec_retire_key(e, (uint16_t)number(w[0])));
+    CALL("add_tx_sa",
+         macsec_add_tx_sa(e, (uint8_t)number(w[0]), (uint16_t)number(w[1]), number(w[2]), number(w[3]) != 0));
+    CALL("enable_tx_sa", macsec_enable_tx_sa(e, (uint8_t)number(w[0])));
+    CALL("disable_tx_sa", macsec_disable_tx_sa(e, (uint8_t)number(w[0])));
+    CALL("delete_tx_sa", macsec_delete_tx_sa(e, (uint8_t)number(w[0])));
+    CALL("add_rx_sc", macsec_add_rx_sc(e, sealed_sci(w[0])));
+    CALL("delete_rx_sc", macsec_delete_rx_sc(e, sealed_sci(w[0])));
+    CALL("add_rx_sa", macsec_add_rx_sa(e, sealed_sci(w[0]), (uint8_t)number(w[1]), (uint16_t)number(w[2]),
+                                       (uint32_t)number(w[3]), number(w[4])));
+    CALL("enable_rx_sa", macsec_enable_rx_sa(e, sealed_sci(w[0]), (uint8_t)number(w[1])));
+    CALL("disable_rx_sa", macsec_disable_rx_sa(e, sealed_sci(w[0]), (uint8_t)number(w[1])));
+    CALL("set_lowest_pn", macsec_set_lowest_pn(e, sealed_sci(w[0]), (uint8_t)number(w[1]), number(w[2])));
+    CALL("delete_rx_sa", macsec_delete_rx_sa(e, sealed_sci(w[0]), (uint8_t)number(w[1])));
+    CALL("reserve_granted", granted(e, w[0]));
+    fail("no such call");
+    return 0;
 }
 
-static uint32_t reservation(macsec_endpoint *e, const char *name, char **w) {
-    if (strcmp(name, "reserve_open") == 0)
-        return reserve_open(e, w);
-    if (strcmp(name, "reserve_configure") == 0)
-        return reserve_configure(e, w);
-    if (strstr(name, "_floor") != NULL)
-        return reserved_floor(e, name, w);
-    if (strcmp(name, "reserve_granted") == 0)
-        return granted(e, w[0]);
-    if (strcmp(name, "journal_header") == 0)
-        return journal_header(w[0]);
-    if (strcmp(name, "journal_compacted") == 0)
-        return journal_compacted(w[0]);
-    return record(e, name, w);
-}
-
-static uint32_t call(macsec_endpoint *e, const char *name, char **w, int count) {
-    if (strcmp(name, "new") == 0)
-        return new_endpoint(e, w);
-    if (strcmp(name, "configure") == 0)
-        return configure(e, w[0]);
-    if (strcmp(name, "command_line") == 0)
-        return command_line(e, w[0]);
-    if (strcmp(name, "answer") == 0)
-        return answer(e, w);
+static uint32_t call(macsec_endpoint *e, const char *name, char **w) {
     if (strcmp(name, "free") == 0) {
         macsec_free(e);
         return MACSEC_OK;
     }
-    if (strcmp(name, "send") == 0)
-        return send(e, w[0]);
-    if (strcmp(name, "receive") == 0)
-        return receive(e, w[0]);
-    if (strcmp(name, "send_uncontrolled") == 0)
-        return send_uncontrolled(e, w[0]);
-    if (strcmp(name, "install_key") == 0)
-        return macsec_install_key(e, sealed_key(w));
-    if (strcmp(name, "seal") == 0)
-        return seal_frame(w);
-    if (strcmp(name, "get_options") == 0)
-        return options(e);
-    if (strcmp(name, "keys_left") == 0)
-        return keys_left(e);
-    if (strcmp(name, "get_counters") == 0)
-        return counters(e);
-    if (strcmp(name, "get_tx_counters") == 0)
-        return tx_counters(e);
-    if (strcmp(name, "get_rx_sc") == 0)
-        return rx_sc(e, (size_t)number(w[0]));
-    if (strcmp(name, "get_tx_sa") == 0)
-        return tx_sa(e, (uint8_t)number(w[0]));
-    if (strcmp(name, "get_rx_sa") == 0)
-        return rx_sa(e, w);
-    if (strcmp(name, "get_rx_counters") == 0 || strcmp(name, "get_rx_sa_counters") == 0 ||
-        strcmp(name, "get_removed_counters") == 0)
-        return rx_counters(e, name, w);
-    if (strncmp(name, "reserve_", strlen("reserve_")) == 0 || strncmp(name, "journal_", strlen("journal_")) == 0)
-        return reservation(e, name, w);
-    if (strstr(name, "_rx_") != NULL || strcmp(name, "set_lowest_pn") == 0)
-        return rx_command(e, name, w, count);
+    CALL("new", macsec_new(e, sealed_config(w)));
+    CALL("configure", configure(e, w[0]));
+    CALL("reserve_open", macsec_reserve_open(e, sealed_config(w), sealed(w[4]), length_of(w[4])));
+    CALL("reserve_configure", reserve_configure(e, w[0], w[1]));
+    CALL("send", send(e, w[0]));
+    CALL("receive", receive(e, w[0]));
+    CALL("answer", answer(e, w));
+    CALL("seal", seal_frame(w));
+    CALL("get_options", options(e));
+    CALL("keys_left", keys_left(e));
+    CALL("get_counters", counters(e));
+    CALL("get_tx_counters", tx_counters(e));
+    CALL("get_rx_counters", rx_counters(e, name, w));
+    CALL("get_rx_sa_counters", rx_counters(e, name, w));
+    CALL("get_removed_counters", rx_counters(e, name, w));
+    CALL("get_rx_sc", rx_sc(e, (size_t)number(w[0])));
+    CALL("get_tx_sa", tx_sa(e, (uint8_t)number(w[0])));
+    CALL("get_rx_sa", rx_sa(e, w));
+    CALL("reserve_wanted", record(e, name, w));
+    CALL("reserve_to_save", record(e, name, w));
+    CALL("reserve_tx_floor", reserved_floor(e, name, w));
+    CALL("reserve_rx_floor", reserved_floor(e, name, w));
+    CALL("journal_header", journal_header(w[0]));
+    CALL("journal_compacted", journal_compacted(w[0]));
     return command(e, name, w);
 }
 
 /* Makes the call of a line, and checks the blocks that it takes and gives back. */
-static uint32_t checked(unsigned handle, const char *name, char **w, int count) {
+static uint32_t checked(unsigned handle, const char *name, char **w) {
     bool before = made[handle], makes = strcmp(name, "new") == 0 || strcmp(name, "configure") == 0 ||
                                         strcmp(name, "reserve_open") == 0 || strcmp(name, "reserve_configure") == 0;
     asked = 0;
     held = 0;
-    uint32_t status = call(&handles[handle], name, w, count);
+    uint32_t status = call(&handles[handle], name, w);
     if (makes && status == MACSEC_OK)
         made[handle] = true;
     if (strcmp(name, "free") == 0)
@@ -610,7 +527,7 @@ int main(void) {
         if (count < 2 || number(words[1]) >= HANDLES)
             fail("a line names no call of a handle");
         printf("%s", words[0]);
-        printf(" : %u\n", (unsigned)checked((unsigned)number(words[1]), words[0], words + 2, count - 2));
+        printf(" : %u\n", (unsigned)checked((unsigned)number(words[1]), words[0], words + 2));
     }
     for (int i = 0; i < HANDLES; i++)
         macsec_free(&handles[i]);
