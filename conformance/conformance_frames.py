@@ -6,6 +6,7 @@ too, and has to be the same."""
 from __future__ import annotations
 
 import struct
+from collections.abc import Iterator
 from typing import Any
 
 import expected
@@ -158,12 +159,13 @@ def links_of(it: Vector, clients: list[str]) -> list[str]:
     return [frame["link"] for frame in protect("", "", it, clients)["frames"]]
 
 
-def both(name: str, about: str, it: Vector, clients: list[str], **more: Any) -> list[Vector]:
+def both(name: str, about: str, it: Vector, clients: list[str], **more: Any) -> Iterator[Vector]:
     """A vector of a sender, and one of a receiver that gets what it sends."""
     made = protect(f"{name}/protect", about, it, clients)
     links = [frame["link"] for frame in made["frames"] if "link" in frame]
     end = receiver(it["suite"], offset=it["offset"], channel=it["sci"], an=it["an"], pn=it["pn"], **more)
-    return [made, receive(f"{name}/receive", about, end, links)]
+    yield made
+    yield receive(f"{name}/receive", about, end, links)
 
 
 def forged(suite: str, pn: int, tci: int, octets: int, sl: int | None = None, iv_sci: str = SENDER) -> str:
@@ -191,136 +193,119 @@ def altered(link: str, place: int, octet: int) -> str:
 # The groups.
 
 
-def aes() -> list[Vector]:
+def aes() -> Iterator[Vector]:
     """The examples of FIPS 197."""
-    made = []
     for name, (key, result) in AES.items():
         found = expected.encrypt(bytes.fromhex(key), bytes.fromhex(AES_BLOCK)).hex()
         cipher = {"key": key, "plaintext": AES_BLOCK, "ciphertext": same(found, result)}
-        made.append({"id": f"aes/{name}", "kind": "aes", "about": f"FIPS 197, appendix {name}", "cipher": cipher})
-    return made
+        yield {"id": f"aes/{name}", "kind": "aes", "about": f"FIPS 197, appendix {name}", "cipher": cipher}
 
 
-def gcm() -> list[Vector]:
+def gcm() -> Iterator[Vector]:
     """Test cases of the GCM specification."""
-    made = []
     for name, (key, iv, aad, text, tag) in GCM.items():
         sealed = expected.seal(*(bytes.fromhex(it) for it in (key, iv, aad, text))).hex()
         cipher = {"key": key, "iv": iv, "aad": aad, "plaintext": text, "ciphertext": sealed[: len(text)]}
         about = f"test case {name} of the GCM specification"
         cipher["tag"] = same(sealed[-32:], tag)
-        made.append({"id": f"gcm/{name}", "kind": "gcm", "about": about, "cipher": cipher})
-    return made
+        yield {"id": f"gcm/{name}", "kind": "gcm", "about": about, "cipher": cipher}
 
 
-def annex_c() -> list[Vector]:
+def annex_c() -> Iterator[Vector]:
     """The frames of Annex C, sent and received."""
-    made = []
     for (suite, frame), link in ANNEX_C.items():
         encrypt, name = frame == CLIENT_60, f"annex-c/{suite[-3:]}-{len(frame) // 2}"
         about = f"the frame of {len(frame) // 2} octets of Annex C under {suite}"
         it = sender(suite, encrypt, sci=ANNEX_C_SCI, an=2, pn=ANNEX_C_PN)
-        made.append(protect(f"{name}/protect", about, it, [frame], [link]))
+        yield protect(f"{name}/protect", about, it, [frame], [link])
         end = receiver(suite, channel=ANNEX_C_SCI, an=2, pn=ANNEX_C_PN)
-        made.append(receive(f"{name}/receive", f"{about}, and a replay of it", end, [link, link]))
-    return made
+        yield receive(f"{name}/receive", f"{about}, and a replay of it", end, [link, link])
 
 
-def lengths() -> list[Vector]:
+def lengths() -> Iterator[Vector]:
     """Short and long frames under each suite."""
-    made = []
     for suite in SUITES:
         for encrypt in (False, True):
             name = f"lengths/{suite}-{'conf' if encrypt else 'int'}"
             clients = [client(it) for it in (2, 3, 15, 16, 17, 46, 47, 48, 49, 64, 255, 1502)]
             about = "SL is the length of the data below 48 octets, and else 0"
-            made += both(name, about, sender(suite, encrypt), clients)
+            yield from both(name, about, sender(suite, encrypt), clients)
     it = sender("GCM-AES-128", False, max_frame=64)
     about = "a protected frame of 64 octets is sent, one of 65 is dropped and uses no packet number"
-    made.append(protect("lengths/longest", about, it, [client(20), client(21), client(20)]))
-    return made
+    yield protect("lengths/longest", about, it, [client(20), client(21), client(20)])
 
 
-def offsets() -> list[Vector]:
+def offsets() -> Iterator[Vector]:
     """Confidentiality offsets."""
-    made = []
     for suite in ("GCM-AES-128", "GCM-AES-256"):
         for offset in (30, 50):
             clients = [client(it) for it in (2, offset - 1, offset, offset + 1, 80)]
             about = f"the first {offset} octets of the data stay clear"
-            made += both(f"offsets/{suite}-{offset}", about, sender(suite, True, offset=offset), clients)
+            yield from both(f"offsets/{suite}-{offset}", about, sender(suite, True, offset=offset), clients)
     links = links_of(sender("GCM-AES-128", True, offset=30), [client(80)])
     about = "the receiver's key has another offset"
-    made.append(receive("offsets/other", about, receiver("GCM-AES-128", offset=50), links))
-    return made
+    yield receive("offsets/other", about, receiver("GCM-AES-128", offset=50), links)
 
 
-def tag_forms() -> list[Vector]:
+def tag_forms() -> Iterator[Vector]:
     """Each tag form."""
     own, other = client(20), client(20, "020000000009")
-    made = []
     cases = {"sci": SENDER, "es": SENDER, "scb": f"{ADDRESS}0000", "auto": SENDER}
     for form, sci in cases.items():
         it = sender("GCM-AES-128", True, form=form, sci=sci)
         clients = [own] if form == "auto" else [own, other]
         about = f"tag form {form}: the source address is the SCI's, then another one"
-        made += both(f"tag-forms/{form}", about, it, clients)
+        yield from both(f"tag-forms/{form}", about, it, clients)
     it = sender("GCM-AES-128", True, form="auto", receive_channels=2)
-    made.append(protect("tag-forms/auto-two", "with two receive SCs the SecTAG has the SCI", it, [own]))
+    yield protect("tag-forms/auto-two", "with two receive SCs the SecTAG has the SCI", it, [own])
     scb = {"sci": f"{ADDRESS}0000", "an": 0, "pn": "1"}
     end = receiver("GCM-AES-128", channels=[scb])
     links = [forged("GCM-AES-128", 1, 0x5C, 20, iv_sci=f"{ADDRESS}0000")]
-    made.append(receive("tag-forms/es-and-scb", "ES and SCB without SC: SCB decides", end, links))
-    return made
+    yield receive("tag-forms/es-and-scb", "ES and SCB without SC: SCB decides", end, links)
 
 
-def extended() -> list[Vector]:
+def extended() -> Iterator[Vector]:
     """Extended packet numbers."""
-    made = []
     for suite in ("GCM-AES-XPN-128", "GCM-AES-XPN-256"):
         for pn in ("fffffffe", "2fffffffe"):
             it = sender(suite, True, an=1, pn=pn)
-            made += both(f"extended/{suite}-{pn}", "packet numbers across a multiple of 2^32", it, [client(30)] * 4)
+            yield from both(f"extended/{suite}-{pn}", "packet numbers across a multiple of 2^32", it, [client(30)] * 4)
     suite = "GCM-AES-XPN-128"
     numbers = [0x1FFFFFFF0, 0x200000005, 0x1FFFFFFF2, 0x200000004]
     links = [forged(suite, it, 0x2C, 30) for it in numbers]
     end = receiver(suite, pn="1fffffff0", window=16)
-    made.append(receive("extended/order", "a frame from before 2^33 after one from behind it", end, links))
+    yield receive("extended/order", "a frame from before 2^33 after one from behind it", end, links)
     near = [forged(suite, it, 0x2C, 30) for it in (0x17FFFFFFF, 0x17FFFFFFF + 2**31)]
     end = receiver(suite, pn="180000000")
     about = "below the lowest acceptable number, and 2^31 - 1 above it"
-    made.append(receive("extended/recovery", about, end, near))
+    yield receive("extended/recovery", about, end, near)
     links = [forged(suite, 2**64 - 1, 0x2C, 30), forged(suite, 2**32, 0x2C, 30)]
     end = receiver(suite, pn="ffffffffffffffff")
-    made.append(receive("extended/last", "the last number, and then one that can't be recovered", end, links))
-    return made
+    yield receive("extended/last", "the last number, and then one that can't be recovered", end, links)
 
 
-def last_numbers() -> list[Vector]:
+def last_numbers() -> Iterator[Vector]:
     """The last packet number of 32 bits."""
     it = sender("GCM-AES-128", False, pn="ffffffff")
     about = "the last packet number is used, and then nothing is sent"
-    made = [protect("last-numbers/protect", about, it, [client(20)] * 3)]
+    yield protect("last-numbers/protect", about, it, [client(20)] * 3)
     links = links_of(it, [client(20)]) * 2
     end = receiver("GCM-AES-128", pn="ffffffff")
-    made.append(receive("last-numbers/receive", "the frame with the last packet number, twice", end, links))
-    return made
+    yield receive("last-numbers/receive", "the frame with the last packet number, twice", end, links)
 
 
-def replay() -> list[Vector]:
+def replay() -> Iterator[Vector]:
     """Orders of packet numbers under several windows."""
-    made = []
     orders = {"in-order": (1, 2, 3), "repeat": (1, 1, 2, 2), "late": (1, 3, 2, 3, 4), "window": (5, 3, 4, 2, 5, 9, 5)}
     for name, order in orders.items():
         for replayed, window in ((True, 0), (True, 2), (False, 0)):
             links = [forged("GCM-AES-128", it, 0x2C, 20) for it in order]
             end = receiver("GCM-AES-128", replay=replayed, window=window)
             about = f"packet numbers {', '.join(map(str, order))}; replay protection {'on' if replayed else 'off'}"
-            made.append(receive(f"replay/{name}-{'on' if replayed else 'off'}-{window}", about, end, links))
-    return made
+            yield receive(f"replay/{name}-{'on' if replayed else 'off'}-{window}", about, end, links)
 
 
-def tag_faults() -> list[Vector]:
+def tag_faults() -> Iterator[Vector]:
     """Frames whose SecTAG has a fault, each with a valid ICV, so that the ICV is not why they are dropped."""
     suite = "GCM-AES-128"
     good = forged(suite, 1, 0x2C, 20)
@@ -340,74 +325,63 @@ def tag_faults() -> list[Vector]:
         "cut-in-sci": ("the frame ends in the SCI", good[:54]),
         "cut-in-icv": ("the last octet is missing", good[:-2]),
     }
-    made = []
     for name, (about, link) in cases.items():
         for mode in ("strict", "check"):
             end = receiver(suite, validate=mode)
-            made.append(receive(f"tag-faults/{name}-{mode}", f"{about}; then a good frame", end, [link, good]))
-    return made
+            yield receive(f"tag-faults/{name}-{mode}", f"{about}; then a good frame", end, [link, good])
 
 
-def c_without_e() -> list[Vector]:
+def c_without_e() -> Iterator[Vector]:
     """C set and E clear, in each mode."""
-    made = []
     for mode in ("strict", "check", "disabled"):
         good = forged("GCM-AES-128", 1, 0x24, 20)
         links = [altered(good, len(good) // 2 - 1, 0), good]
         end = receiver("GCM-AES-128", validate=mode)
         about = "C is set and E is clear: an altered ICV, then a valid one"
-        made.append(receive(f"c-without-e/{mode}", about, end, links))
-    return made
+        yield receive(f"c-without-e/{mode}", about, end, links)
 
 
-def alterations() -> list[Vector]:
+def alterations() -> Iterator[Vector]:
     """Each octet altered; then the frame as it was sent."""
-    made = []
     for (suite, frame), link in ANNEX_C.items():
         links = [altered(link, it, int(link[2 * it : 2 * it + 2], 16) ^ 1) for it in range(len(link) // 2)]
         end = receiver(suite, channel=ANNEX_C_SCI, an=2, pn=ANNEX_C_PN)
         name = f"alterations/{suite[-3:]}-{len(frame) // 2}"
         about = "one bit of each octet altered, one after another; then the frame"
-        made.append(receive(name, about, end, [*links, link]))
-    return made
+        yield receive(name, about, end, [*links, link])
 
 
-def validation() -> list[Vector]:
+def validation() -> Iterator[Vector]:
     """Untagged, altered and good frames in each mode."""
-    made = []
     for mode in ("strict", "check", "disabled"):
         for encrypt in (False, True):
             good = links_of(sender("GCM-AES-128", encrypt), [client(20)] * 2)
             links = [client(20), altered(good[0], len(good[0]) // 2 - 1, 0), *good]
             end = receiver("GCM-AES-128", validate=mode)
             name = f"validation/{mode}-{'conf' if encrypt else 'int'}"
-            made.append(receive(name, "an untagged frame, one with an altered ICV, and two good ones", end, links))
-    return made
+            yield receive(name, "an untagged frame, one with an altered ICV, and two good ones", end, links)
 
 
-def no_association() -> list[Vector]:
+def no_association() -> Iterator[Vector]:
     """No receive SC, and no SA of that AN."""
-    made = []
     links = [links_of(sender("GCM-AES-128", it), [client(20)])[0] for it in (False, True)]
     for mode in ("strict", "check", "disabled"):
         for name, channels in (("channel", []), ("association", [{"sci": SENDER, "an": 1, "pn": "1"}])):
             end = receiver("GCM-AES-128", validate=mode, channels=channels)
             about = f"no receive {name}: a frame with integrity alone, and an encrypted one"
-            made.append(receive(f"no-association/{name}-{mode}", about, end, links))
-    return made
+            yield receive(f"no-association/{name}-{mode}", about, end, links)
 
 
-def padding() -> list[Vector]:
+def padding() -> Iterator[Vector]:
     """Octets after the ICV."""
     short = links_of(sender("GCM-AES-128", True), [client(2), client(2)])
     padded = [it.ljust(120, "0") for it in short]
-    made = [receive("padding/minimum", "short frames padded to 60 octets", receiver("GCM-AES-128"), padded)]
+    yield receive("padding/minimum", "short frames padded to 60 octets", receiver("GCM-AES-128"), padded)
     about = "octets other than 0 after the ICV"
-    made.append(receive("padding/other", about, receiver("GCM-AES-128"), [short[0] + "ff" * 9]))
+    yield receive("padding/other", about, receiver("GCM-AES-128"), [short[0] + "ff" * 9])
     long = links_of(sender("GCM-AES-128", True), [client(48)])[0]
     about = "octets after a frame whose SL is 0 are taken for the ICV"
-    made.append(receive("padding/long", about, receiver("GCM-AES-128"), [long + "deadbeef", long]))
-    return made
+    yield receive("padding/long", about, receiver("GCM-AES-128"), [long + "deadbeef", long])
 
 
 ABOUT = {
@@ -431,4 +405,4 @@ ABOUT = {
 
 def groups() -> list[Vector]:
     """All groups."""
-    return [{"name": name, "about": about, "vectors": make()} for name, (make, about) in ABOUT.items()]
+    return [{"name": name, "about": about, "vectors": list(make())} for name, (make, about) in ABOUT.items()]
