@@ -24,31 +24,32 @@ import expected
 import inputs
 import promises
 
-# The mistake, a text that occurs once in the rules, and the text that replaces it.
+# The mistake, a text that occurs once in the rules, the text that replaces it, and the promise that it breaks, if any.
 # fmt: off
 PLANTED = [
     ("a late frame is one at the lowest acceptable number too", "is_late = pn < sa.lowest",
-     "is_late = pn <= sa.lowest"),
+     "is_late = pn <= sa.lowest", "acceptance"),
     ("after a frame is accepted its own number stays acceptable",
      "        sa.lowest = max(sa.lowest, sa.next - self.window)\n",
-     "        sa.lowest = max(sa.lowest, pn - self.window)\n"),
+     "        sa.lowest = max(sa.lowest, pn - self.window)\n", "order"),
     ("an invalid frame moves the numbers on", "        if opened is None:\n",
      "        sa.next = max(sa.next, pn + 1)\n        if opened is None:\n"),
-    ("a replay command leaves the lowest numbers", "sa.lowest = max(sa.lowest, sa.next - window)", "pass"),
+    ("a replay command leaves the lowest numbers", "sa.lowest = max(sa.lowest, sa.next - window)", "pass", "window"),
     ("the lowest number falls where the window grows", "sa.lowest = max(sa.lowest, sa.next - window)",
      "sa.lowest = sa.next - window"),
-    ("an extended number keeps the upper half of the lowest one", "            upper += 1\n", "            pass\n"),
+    ("an extended number keeps the upper half of the lowest one", "            upper += 1\n", "            pass\n",
+     "acceptance"),
     ("an extended number is recovered from the next one", "divmod(sa.lowest, 2**32)", "divmod(sa.next, 2**32)"),
     ("the IV has 32 bits of an extended number", 'ssci + struct.pack(">Q", pn)',
-     'ssci + struct.pack(">Q", pn % 2**32)'),
+     'ssci + struct.pack(">Q", pn % 2**32)', "seals"),
     ("a transmit association begins below the key's first unused number", 'refuse("PnFloor", pn < key.first_unused)',
-     "pass"),
+     "pass", "ivs"),
     ("a retired key's octets are taken again", "it.octets == octets for it",
-     "it.octets == octets and not it.retired for it"),
+     "it.octets == octets and not it.retired for it", "ivs"),
     ("a key of another transmit association is taken",
-     'refuse("KeyInUse", any(sa.key == number for sa in self.tx.values()))', "pass"),
-    ("a receive channel of the own SCI", 'refuse("OwnSci", sci == self.sci)', "pass"),
-    ("a receive association of the own SSCI", 'refuse("SsciOwn", key.is_xpn and ssci == key.ssci)', "pass"),
+     'refuse("KeyInUse", any(sa.key == number for sa in self.tx.values()))', "pass", "ivs"),
+    ("a receive channel of the own SCI", 'refuse("OwnSci", sci == self.sci)', "pass", "origin"),
+    ("a receive association of the own SSCI", 'refuse("SsciOwn", key.is_xpn and ssci == key.ssci)', "pass", "origin"),
     ("an exhausted association is enabled", 'refuse("Exhausted", self.is_exhausted(self.tx[an]))', "pass"),
     ("a number is used by a frame that is too long",
      '24) > self.max_frame:\n            self.count("OutPktsTooLong")\n',
@@ -56,16 +57,16 @@ PLANTED = [
     ("another association stays enabled", "sa.on = number == an", "sa.on = sa.on or number == an"),
     ("SL 48 is taken", "short >= 48", "short >= 49"),
     ("a frame with SL 0 has 47 octets of data", "else 64)", "else 63)"),
-    ("padding is taken for data", "size = short or len(rest) - 16\n", "size = len(rest) - 16\n"),
+    ("padding is taken for data", "size = short or len(rest) - 16\n", "size = len(rest) - 16\n", "acceptance"),
     ("an SCI beside ES", "(tci & 0x20 and tci & 0x50)", "(tci & 0x20 and tci & 0x10)"),
     ("ES before SCB", 'if read["tci"] & 0x10:', 'if read["tci"] & 0x10 and not read["tci"] & 0x40:'),
     ("number 0 under a key of 32-bit ones", "return low or None", "return low"),
     ("by the endpoint's suite number 0 is a fault of the SecTAG", 'if read == "Bad":',
      'if read == "Bad" or (read["pn"] == 0 and not SUITES[self.suite][1]):'),
     ("the IV is that of the endpoint's suite", 'if not key.is_xpn:\n            return sci + struct.pack(">I", pn)',
-     'if not SUITES[self.suite][1]:\n            return sci + struct.pack(">I", pn % 2**32)'),
+     'if not SUITES[self.suite][1]:\n            return sci + struct.pack(">I", pn % 2**32)', "seals"),
     ("no number is extended where those of the endpoint's suite are not", "if not self.keys[sa.key].is_xpn:",
-     "if not (self.keys[sa.key].is_xpn and SUITES[self.suite][1]):"),
+     "if not (self.keys[sa.key].is_xpn and SUITES[self.suite][1]):", "acceptance"),
     ("a 32-bit number is extended where those of the endpoint's suite are", "return low or None",
      "return None if SUITES[self.suite][1] and low < 2**31 <= sa.lowest % 2**32 else low or None"),
     ("no number is above the last one of the endpoint's suite", "return sa.next > self.keys[sa.key].last",
@@ -86,7 +87,8 @@ PLANTED = [
     ("a key has the length of the endpoint's suite", 'refuse("KeyLength", len(octets) != key_length)',
      'refuse("KeyLength", len(octets) != SUITES[self.suite][0])'),
     ("the offset counts for frames of integrity only",
-     "clear = min(key.offset, len(data)) if is_encrypted else len(data)", "clear = min(key.offset, len(data))"),
+     "clear = min(key.offset, len(data)) if is_encrypted else len(data)", "clear = min(key.offset, len(data))",
+     "acceptance"),
     ("an encrypted invalid frame is delivered", 'if c or self.mode == "strict" else ("Invalid"',
      'if self.mode == "strict" else ("Invalid"'),
     ("a frame is counted by its channel alone", "for it in counting or (self,):",
@@ -138,45 +140,19 @@ PLANTED = [
 # fmt: on
 
 
-# The promise that is broken, the mistake, and the two texts.
+# The promise that is broken, the mistake, and the two texts: of those above, and of some that only break a promise.
 # fmt: off
-BREAKING = [
-    ("ivs", "a transmit association begins below the key's first unused number",
-     'refuse("PnFloor", pn < key.first_unused)', "pass"),
-    ("ivs", "a retired key's octets are taken again", "it.octets == octets for it",
-     "it.octets == octets and not it.retired for it"),
-    ("ivs", "a key of another transmit association is taken",
-     'refuse("KeyInUse", any(sa.key == number for sa in self.tx.values()))', "pass"),
-    ("seals", "the IV has 32 bits of an extended number", 'ssci + struct.pack(">Q", pn)',
-     'ssci + struct.pack(">Q", pn % 2**32)'),
-    ("seals", "the IV is that of the endpoint's suite",
-     'if not key.is_xpn:\n            return sci + struct.pack(">I", pn)',
-     'if not SUITES[self.suite][1]:\n            return sci + struct.pack(">I", pn % 2**32)'),
+BREAKING = [(promise, *rule) for *rule, promise in (it for it in PLANTED if len(it) == 4)] + [
     ("seals", "the key does not note that a number is used", "sa.next, key.first_unused = pn + 1, pn + 1",
      "sa.next = pn + 1"),
     ("seals", "the last octet of a frame is not what was sealed", "        return head + sealed\n",
      '        return head + sealed[:-1] + b"\\0"\n'),
     ("origin", "a strict end delivers an invalid frame of integrity only",
      'if c or self.mode == "strict" else ("Invalid"', 'if c else ("Invalid"'),
-    ("origin", "a receive channel of the own SCI", 'refuse("OwnSci", sci == self.sci)', "pass"),
-    ("origin", "a receive association of the own SSCI", 'refuse("SsciOwn", key.is_xpn and ssci == key.ssci)', "pass"),
-    ("order", "after a frame is accepted its own number stays acceptable",
-     "        sa.lowest = max(sa.lowest, sa.next - self.window)\n",
-     "        sa.lowest = max(sa.lowest, pn - self.window)\n"),
     ("order", "a strict end delivers late frames", "if self.replay and is_late",
      'if self.replay and is_late and self.mode != "strict"'),
     ("window", "the window is one wider than it is set", "        sa.lowest = max(sa.lowest, sa.next - self.window)\n",
      "        sa.lowest = max(sa.lowest, sa.next - self.window - 1)\n"),
-    ("window", "a replay command leaves the lowest numbers", "sa.lowest = max(sa.lowest, sa.next - window)", "pass"),
-    ("acceptance", "a late frame is one at the lowest acceptable number too", "is_late = pn < sa.lowest",
-     "is_late = pn <= sa.lowest"),
-    ("acceptance", "an extended number keeps the upper half of the lowest one", "            upper += 1\n",
-     "            pass\n"),
-    ("acceptance", "no number is extended where those of the endpoint's suite are not",
-     "if not self.keys[sa.key].is_xpn:", "if not (self.keys[sa.key].is_xpn and SUITES[self.suite][1]):"),
-    ("acceptance", "the offset counts for frames of integrity only",
-     "clear = min(key.offset, len(data)) if is_encrypted else len(data)", "clear = min(key.offset, len(data))"),
-    ("acceptance", "padding is taken for data", "size = short or len(rest) - 16\n", "size = len(rest) - 16\n"),
     ("acceptance", "data are delivered as they were received", "frame[:12] + opened, counting", "plain, counting"),
 ]
 # fmt: on
@@ -253,7 +229,7 @@ def main():
     parser.add_argument("--jobs", type=int, default=os.cpu_count(), help="how many processes")
     options = parser.parse_args()
     began, shown = time.monotonic(), {}
-    rules = list(enumerate([(None, *rule) for rule in PLANTED] + BREAKING))
+    rules = list(enumerate([(None, *rule[:3]) for rule in PLANTED] + BREAKING))
     same = list(enumerate(SAME, len(rules)))
     jobs = [(rules[it :: options.jobs], options.seed, options.inputs) for it in range(options.jobs)]
     with concurrent.futures.ProcessPoolExecutor(options.jobs) as pool:
