@@ -6,10 +6,12 @@ what they print is compared. A function here returns None if the evidence is goo
 from __future__ import annotations
 
 import functools
+import itertools
 import os
 import re
 import subprocess
 import tempfile
+from pathlib import Path
 
 from house import ROOT
 
@@ -23,12 +25,9 @@ FUNCTION = re.compile(r"^\s*(?:pub(?:\(crate\))? )?fn (\w+)\b")
 CLAUSE = re.compile(r"^\s*ensures\*? (?:(\w+) )?\{")
 
 
-def text_of(path: str) -> str | None:
+def text_of(path: str | Path) -> str | None:
     """A text file of the project, None if it is not there."""
-    if not os.path.isfile(path):
-        return None
-    with open(path, encoding="utf-8") as it:
-        return it.read()
+    return Path(path).read_text(encoding="utf-8") if os.path.isfile(path) else None
 
 
 @functools.lru_cache(None)
@@ -138,18 +137,16 @@ class Runs:
             lines = " ".join(re.findall(r"^record \d+ (\w+)", printed, re.M))
             if status or lines != it["verdicts"]:
                 return f"capture {name}: {lines}, and not {it['verdicts']}; status {status}"
-            if "out" in it and octets_of(out) != octets_of(f"{CAPTURES}/{it['out']}"):
+            if "out" in it and Path(out).read_bytes() != Path(CAPTURES, it["out"]).read_bytes():
                 return f"capture {name}: OUT is not {it['out']}"
         return None
 
     def test_test(self, name: str) -> str | None:
         """CRATE::FUNCTION: a test that the gate runs. Only that it is there is tested here."""
         crate, _, function = name.partition("::")
-        for folder, _, files in os.walk(f"{ROOT}/crates/{crate}/src"):
-            for file in files:
-                text = text_of(f"{folder}/{file}") or ""
-                if re.search(rf"#\[test\]\s+(?:pub )?fn {function}\b", text):
-                    return None
+        for path in Path(ROOT, "crates", crate, "src").rglob("*.rt"):
+            if re.search(rf"#\[test\]\s+(?:pub )?fn {function}\b", path.read_text(encoding="utf-8")):
+                return None
         return f"crates/{crate}/src has no test {function}"
 
     def test_tool(self, name: str) -> str | None:
@@ -164,17 +161,10 @@ class Runs:
         return f"vectors {name}: {wrong[0]}, {len(wrong)} wrong" if wrong else None
 
 
-def octets_of(path: str) -> bytes:
-    """The octets of a file."""
-    with open(path, "rb") as it:
-        return it.read()
-
-
 def first_difference(found: str, wanted: str) -> str:
     """The first line that differs."""
-    lines, others = found.split("\n"), wanted.split("\n")
-    for number in range(max(len(lines), len(others))):
-        line, other = ("".join(it[number : number + 1]) for it in (lines, others))
+    lines = itertools.zip_longest(found.split("\n"), wanted.split("\n"), fillvalue="")
+    for number, (line, other) in enumerate(lines, 1):
         if line != other:
-            return f"line {number + 1} is {line[:60]!r}, and not {other[:60]!r}"
+            return f"line {number} is {line[:60]!r}, and not {other[:60]!r}"
     return "no line differs"

@@ -225,8 +225,8 @@ def controls(named: dict[str, Vector]) -> int:
 
 def main() -> int:
     """Compares all vectors."""
-    with open(f"{ROOT}/vectors/macsec-vectors.json", encoding="utf-8") as it:
-        vectors = [vector for group in json.load(it)["groups"] for vector in group["vectors"]]
+    groups = json.loads((ROOT / "vectors/macsec-vectors.json").read_text(encoding="utf-8"))["groups"]
+    vectors = [vector for group in groups for vector in group["vectors"]]
     if "--controls" in sys.argv[1:]:
         return controls({it["id"]: it for it in vectors})
     report = Report("--all" in sys.argv[1:])

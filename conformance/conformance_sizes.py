@@ -7,6 +7,7 @@ import glob
 import os
 import re
 from collections.abc import Iterable
+from pathlib import Path
 
 from house import ROOT
 
@@ -31,11 +32,10 @@ IN_C += [f"macsec_c_calls/{it}" for it in ("Configs", "Keys", "SentParts", "Rece
 def cited(name: str) -> tuple[str, ...]:
     """The files of definitions that one cites."""
     crate, file = name.split("/")
-    path = f"{ROOT}/crates/{crate}/specs/{file}.antt"
-    if not os.path.isfile(path):
+    path = ROOT / "crates" / crate / "specs" / f"{file}.antt"
+    if not path.is_file():
         return ()
-    with open(path, encoding="utf-8") as it:
-        found = [f"{a}/{b}" for a, b in CITED.findall(it.read())]
+    found = [f"{a}/{b}" for a, b in CITED.findall(path.read_text(encoding="utf-8"))]
     return tuple(it for it in found if os.path.isfile(f"{ROOT}/crates/{it.replace('/', '/specs/')}.antt"))
 
 
@@ -53,11 +53,8 @@ def below(names: Iterable[str]) -> set[str]:
 
 def lines(paths: Iterable[str]) -> int:
     """The number of lines that are not empty."""
-    count = 0
-    for path in paths:
-        with open(path, encoding="utf-8", errors="replace") as it:
-            count += sum(bool(line.strip()) for line in it)
-    return count
+    texts = (Path(it).read_text(encoding="utf-8", errors="replace") for it in paths)
+    return sum(bool(line.strip()) for text in texts for line in text.split("\n"))
 
 
 def rounded(count: int) -> int:

@@ -5,6 +5,7 @@ rules give. vectors/schema.json describes the file, and docs/CONFORMANCE.md how 
 
 from __future__ import annotations
 
+import itertools
 import json
 import re
 import subprocess
@@ -14,8 +15,7 @@ from typing import Any
 
 from house import ROOT
 
-VECTORS = f"{ROOT}/vectors/macsec-vectors.json"
-SCHEMA = f"{ROOT}/vectors/schema.json"
+VECTORS, SCHEMA = ROOT / "vectors/macsec-vectors.json", ROOT / "vectors/schema.json"
 sys.dont_write_bytecode = True
 sys.path.insert(0, f"{ROOT}/fuzz")
 import expected
@@ -107,9 +107,9 @@ def differences(program: str, vector: Vector) -> str | None:
     is_protect = vector["kind"] == "protect"
     found = results_of_sending(text) if is_protect else results_of_receiving(text, len(vector["frames"]))
     wanted = expected_of(vector)
-    for number in range(max(len(found), len(wanted))):
-        if found[number : number + 1] != wanted[number : number + 1]:
-            return f"{vector['id']}: frame {number} gives {found[number : number + 1]}"
+    for number, (result, due) in enumerate(itertools.zip_longest(found, wanted)):
+        if result != due:
+            return f"{vector['id']}: frame {number} gives {result}"
     return None
 
 
@@ -153,8 +153,7 @@ def made() -> str:
 
 def loaded() -> Vector:
     """The vectors of the file."""
-    with open(VECTORS, encoding="utf-8") as it:
-        return json.load(it)
+    return json.loads(VECTORS.read_text(encoding="utf-8"))
 
 
 # The schema, as far as this tool needs it: "type", "enum", "pattern", "required", "properties", "additionalProperties",
@@ -193,6 +192,5 @@ def faults_by_schema(value: Any, schema: Vector, whole: Vector, where: str = "")
 
 def schema_faults(vectors: Vector) -> list[str]:
     """How the vectors differ from what vectors/schema.json asks for."""
-    with open(SCHEMA, encoding="utf-8") as it:
-        schema = json.load(it)
+    schema = json.loads(SCHEMA.read_text(encoding="utf-8"))
     return list(faults_by_schema(vectors, schema, schema, "vectors"))

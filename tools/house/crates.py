@@ -9,6 +9,7 @@ import re
 import shutil
 import subprocess
 import sys
+from pathlib import Path
 
 from house import ROOT
 
@@ -26,8 +27,8 @@ TARGET = "x86_64-unknown-linux-gnu"
 
 def listed() -> dict[str, list[str]]:
     """Each crate of crates.txt, with the libraries that it is listed with."""
-    with open(f"{ROOT}/crates.txt", encoding="utf-8") as it:
-        lines = [line.split(":") for line in it if line.strip() and not line.startswith("#")]
+    text = (ROOT / "crates.txt").read_text(encoding="utf-8")
+    lines = [line.split(":") for line in text.splitlines() if line.strip() and not line.startswith("#")]
     return {name.split()[0]: libraries.split() for name, libraries in lines}
 
 
@@ -66,17 +67,13 @@ def root_file(name: str) -> str:
 
 def has_tests(name: str) -> bool:
     """Has the crate a `#[test]` function?"""
-    for path in files(name, ("src",)):
-        with open(path, encoding="utf-8") as it:
-            if re.search(r"^\s*#\[test\]", it.read(), re.M):
-                return True
-    return False
+    texts = (Path(it).read_text(encoding="utf-8") for it in files(name, ("src",)))
+    return any(re.search(r"^\s*#\[test\]", it, re.M) for it in texts)
 
 
 def kit_id() -> str:
     """What identifies the kit: its version and logic, not where it is installed."""
-    with open(f"{KIT}/KIT-ID", encoding="utf-8") as it:
-        return it.read()
+    return Path(f"{KIT}/KIT-ID").read_text(encoding="utf-8")
 
 
 @functools.cache
@@ -85,15 +82,13 @@ def sum_of(name: str) -> str:
     and of those below it."""
     made = hashlib.sha256(repr([kit_id(), CRATES[name], *map(sum_of, own(name))]).encode())
     for path in files(name):
-        with open(path, "rb") as it:
-            made.update(repr((os.path.relpath(path, ROOT), it.read())).encode())
+        made.update(repr((os.path.relpath(path, ROOT), Path(path).read_bytes())).encode())
     return made.hexdigest()
 
 
 def hash_of(path: str) -> str:
     """The SHA-256 of a file."""
-    with open(path, "rb") as it:
-        return hashlib.sha256(it.read()).hexdigest()
+    return hashlib.sha256(Path(path).read_bytes()).hexdigest()
 
 
 def record(path: str, crate: str, run: str) -> str:
@@ -113,8 +108,7 @@ def proved_by(path: str, crate: str) -> str | None:
     that are here."""
     if not os.path.isfile(path) or not os.path.isfile(record_file(path)):
         return None
-    with open(record_file(path), encoding="utf-8") as it:
-        text = it.read()
+    text = Path(record_file(path)).read_text(encoding="utf-8")
     run = text.partition("\n")[0]
     return run if text == record(path, crate, run) else None
 

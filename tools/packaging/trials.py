@@ -8,6 +8,7 @@ import re
 import shutil
 import subprocess
 import sys
+from pathlib import Path
 from typing import Callable
 
 from house.crates import ROOT
@@ -55,8 +56,7 @@ def quietly(*words: str) -> None:
 
 
 def read(path: str) -> bytes:
-    with open(path, "rb") as it:
-        return it.read()
+    return Path(path).read_bytes()
 
 
 def python_commands() -> list[str]:
