@@ -109,24 +109,9 @@ def pack(folder: pathlib.Path, files: dict[str, str], out: pathlib.Path) -> path
 
 def words_of(kernel: pathlib.Path, initrd: pathlib.Path, memory: int, more: str = "") -> list[str]:
     """qemu's arguments, but for cards and consoles."""
-    return [
-        "qemu-system-x86_64",
-        "-accel",
-        "tcg",
-        "-m",
-        str(memory),
-        "-display",
-        "none",
-        "-no-reboot",
-        "-nic",
-        "none",
-        "-kernel",
-        str(kernel),
-        "-initrd",
-        str(initrd),
-        "-append",
-        f"console=ttyS0 quiet panic=-1 {more}",
-    ]
+    words = f"qemu-system-x86_64 -accel tcg -m {memory} -display none -no-reboot -nic none".split()
+    append = f"console=ttyS0 quiet panic=-1 {more}"
+    return [*words, "-kernel", str(kernel), "-initrd", str(initrd), "-append", append]
 
 
 class Machine:

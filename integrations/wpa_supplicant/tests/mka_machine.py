@@ -11,7 +11,7 @@ import subprocess
 
 from house.machine import Machine, pack, prepare, words_of
 from house.reporting import Failed, call
-from mka_world import CAK, CKN, World, stopped
+from mka_world import World, network, stopped
 
 # Frames that come before the machine has their channel or SA are no fault: the key server sends first.
 FAULTS = re.compile("Late|NotValid|Invalid|Delayed|BadTag")
@@ -50,34 +50,12 @@ class Member(Machine):
         hub = world.hub
         call("ip", "-n", hub, "tuntap", "add", "vtap", "mode", "tap")
         call("ip", "-n", hub, "link", "set", "vtap", "master", "hub0", "up")
-        all_settings = {
-            "key_mgmt": "NONE",
-            "eapol_flags": "0",
-            "macsec_policy": "1",
-            "mka_cak": CAK,
-            "mka_ckn": CKN,
-            "macsec_replay_protect": "1",
-            "macsec_replay_window": "0",
-            **settings,
-        }
-        lines = "".join(f"\t{name}={value}\n" for name, value in all_settings.items())
-        files = {"job": JOB, "wpa.conf": f"eapol_version=3\nap_scan=0\nnetwork={{\n{lines}}}\n"}
-        initrd = pack(folder, files, world.folder / "initrd")
-        words = [
-            *words_of(kernel, initrd, 384, "random.trust_cpu=on"),
-            "-cpu",
-            "max",
-            "-serial",
-            f"file:{world.folder}/console",
-            "-serial",
-            f"file:{self.log}",
-            "-netdev",
-            "tap,id=n,ifname=vtap,script=no,downscript=no",
-            "-device",
-            f"virtio-net-pci,id=d,netdev=n,mac={MAC},romfile=",
-            "-qmp",
-            f"unix:{world.folder}/qmp,server=on,wait=off",
-        ]
+        initrd = pack(folder, {"job": JOB, "wpa.conf": network(settings)}, world.folder / "initrd")
+        words = [*words_of(kernel, initrd, 384, "random.trust_cpu=on"), "-cpu", "max"]
+        words += ["-serial", f"file:{world.folder}/console", "-serial", f"file:{self.log}"]
+        words += ["-netdev", "tap,id=n,ifname=vtap,script=no,downscript=no"]
+        words += ["-device", f"virtio-net-pci,id=d,netdev=n,mac={MAC},romfile="]
+        words += ["-qmp", f"unix:{world.folder}/qmp,server=on,wait=off"]
         with open(world.folder / "qemu.log", "wb") as log:
             super().__init__(hub, words, world.folder / "console", log)
         world.processes.append(self.process)

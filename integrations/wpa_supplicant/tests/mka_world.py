@@ -37,6 +37,14 @@ def stopped(process: subprocess.Popen[bytes] | None, number: int = signal.SIGTER
         process.wait()
 
 
+def network(settings: dict[str, str]) -> str:
+    """The configuration of wpa_supplicant for a network with MACsec, with these settings among the usual ones."""
+    usual = {"key_mgmt": "NONE", "eapol_flags": "0", "macsec_policy": "1", "mka_cak": CAK, "mka_ckn": CKN}
+    all_settings = {**usual, "macsec_replay_protect": "1", "macsec_replay_window": "0", **settings}
+    lines = "".join(f"\t{name}={value}\n" for name, value in all_settings.items())
+    return f"eapol_version=3\nap_scan=0\nnetwork={{\n{lines}}}\n"
+
+
 class End(Namespace):
     """A namespace with a macsecd and a wpa_supplicant that drives it."""
 
@@ -82,24 +90,9 @@ class End(Namespace):
 
     def start_wpa(self) -> None:
         """Starts wpa_supplicant."""
-        settings = {
-            "key_mgmt": "NONE",
-            "eapol_flags": "0",
-            "macsec_policy": "1",
-            "mka_cak": CAK,
-            "mka_ckn": CKN,
-            "macsec_replay_protect": "1",
-            "macsec_replay_window": "0",
-            **self.settings,
-        }
         path = self.relay.path if self.relay else self.socket
         config = self.folder / "wpa.conf"
-        config.write_text(
-            f"ctrl_interface={self.folder}/control\neapol_version=3\nap_scan=0\n"
-            f"driver_param=socket={path}\nnetwork={{\n"
-            + "".join(f"\t{name}={value}\n" for name, value in settings.items())
-            + "}\n"
-        )
+        config.write_text(f"ctrl_interface={self.folder}/control\ndriver_param=socket={path}\n{network(self.settings)}")
         config.chmod(0o600)
         program = str(self.world.wpa / "wpa_supplicant")
         self.wpa = self.spawn("wpa.log", program, "-D", "macsec_macsecd", "-i", "link0", "-c", str(config), "-ddtK")
@@ -115,18 +108,8 @@ class End(Namespace):
 
     def cli(self, *words: str) -> str:
         """Runs wpa_cli."""
-        command = [
-            "ip",
-            "netns",
-            "exec",
-            self.namespace,
-            str(self.world.wpa / "wpa_cli"),
-            "-p",
-            str(self.folder / "control"),
-            "-i",
-            "link0",
-            *words,
-        ]
+        inside = ["ip", "netns", "exec", self.namespace]
+        command = [*inside, str(self.world.wpa / "wpa_cli"), "-p", str(self.folder / "control"), "-i", "link0", *words]
         return subprocess.run(command, stdin=subprocess.DEVNULL, capture_output=True, text=True).stdout
 
     def status(self) -> dict[str, str]:
@@ -398,9 +381,5 @@ class Relay(threading.Thread):
 
 def ivs(records: list[tuple[str, str, int]]) -> tuple[int, int]:
     """Of opened frames, each as key, SCI and packet number: how many IVs there are, and how many occur twice."""
-    seen: set[tuple[str, str, int]] = set()
-    repeated = 0
-    for it in records:
-        repeated += it in seen
-        seen.add(it)
-    return len(seen), repeated
+    count = len(set(records))
+    return count, len(records) - count
