@@ -162,7 +162,6 @@ class Runs:
 
 
 def first_difference(found: str, wanted: str) -> str:
-    """The first line that differs."""
     lines = itertools.zip_longest(found.split("\n"), wanted.split("\n"), fillvalue="")
     for number, (line, other) in enumerate(lines, 1):
         if line != other:

@@ -194,7 +194,6 @@ def altered(link: str, place: int, octet: int) -> str:
 
 
 def aes() -> Iterator[Vector]:
-    """The examples of FIPS 197."""
     for name, (key, result) in AES.items():
         found = expected.encrypt(bytes.fromhex(key), bytes.fromhex(AES_BLOCK)).hex()
         cipher = {"key": key, "plaintext": AES_BLOCK, "ciphertext": same(found, result)}
@@ -202,7 +201,6 @@ def aes() -> Iterator[Vector]:
 
 
 def gcm() -> Iterator[Vector]:
-    """Test cases of the GCM specification."""
     for name, (key, iv, aad, text, tag) in GCM.items():
         sealed = expected.seal(*(bytes.fromhex(it) for it in (key, iv, aad, text))).hex()
         cipher = {"key": key, "iv": iv, "aad": aad, "plaintext": text, "ciphertext": sealed[: len(text)]}
@@ -212,7 +210,6 @@ def gcm() -> Iterator[Vector]:
 
 
 def annex_c() -> Iterator[Vector]:
-    """The frames of Annex C, sent and received."""
     for (suite, frame), link in ANNEX_C.items():
         encrypt, name = frame == CLIENT_60, f"annex-c/{suite[-3:]}-{len(frame) // 2}"
         about = f"the frame of {len(frame) // 2} octets of Annex C under {suite}"
@@ -223,7 +220,6 @@ def annex_c() -> Iterator[Vector]:
 
 
 def lengths() -> Iterator[Vector]:
-    """Short and long frames under each suite."""
     for suite in SUITES:
         for encrypt in (False, True):
             name = f"lengths/{suite}-{'conf' if encrypt else 'int'}"
@@ -236,7 +232,6 @@ def lengths() -> Iterator[Vector]:
 
 
 def offsets() -> Iterator[Vector]:
-    """Confidentiality offsets."""
     for suite in ("GCM-AES-128", "GCM-AES-256"):
         for offset in (30, 50):
             clients = [client(it) for it in (2, offset - 1, offset, offset + 1, 80)]
@@ -248,7 +243,6 @@ def offsets() -> Iterator[Vector]:
 
 
 def tag_forms() -> Iterator[Vector]:
-    """Each tag form."""
     own, other = client(20), client(20, "020000000009")
     cases = {"sci": SENDER, "es": SENDER, "scb": f"{ADDRESS}0000", "auto": SENDER}
     for form, sci in cases.items():
@@ -265,7 +259,6 @@ def tag_forms() -> Iterator[Vector]:
 
 
 def extended() -> Iterator[Vector]:
-    """Extended packet numbers."""
     for suite in ("GCM-AES-XPN-128", "GCM-AES-XPN-256"):
         for pn in ("fffffffe", "2fffffffe"):
             it = sender(suite, True, an=1, pn=pn)
@@ -285,7 +278,6 @@ def extended() -> Iterator[Vector]:
 
 
 def last_numbers() -> Iterator[Vector]:
-    """The last packet number of 32 bits."""
     it = sender("GCM-AES-128", False, pn="ffffffff")
     about = "the last packet number is used, and then nothing is sent"
     yield protect("last-numbers/protect", about, it, [client(20)] * 3)
@@ -295,7 +287,6 @@ def last_numbers() -> Iterator[Vector]:
 
 
 def replay() -> Iterator[Vector]:
-    """Orders of packet numbers under several windows."""
     orders = {"in-order": (1, 2, 3), "repeat": (1, 1, 2, 2), "late": (1, 3, 2, 3, 4), "window": (5, 3, 4, 2, 5, 9, 5)}
     for name, order in orders.items():
         for replayed, window in ((True, 0), (True, 2), (False, 0)):
@@ -332,7 +323,6 @@ def tag_faults() -> Iterator[Vector]:
 
 
 def c_without_e() -> Iterator[Vector]:
-    """C set and E clear, in each mode."""
     for mode in ("strict", "check", "disabled"):
         good = forged("GCM-AES-128", 1, 0x24, 20)
         links = [altered(good, len(good) // 2 - 1, 0), good]
@@ -342,7 +332,6 @@ def c_without_e() -> Iterator[Vector]:
 
 
 def alterations() -> Iterator[Vector]:
-    """Each octet altered; then the frame as it was sent."""
     for (suite, frame), link in ANNEX_C.items():
         links = [altered(link, it, int(link[2 * it : 2 * it + 2], 16) ^ 1) for it in range(len(link) // 2)]
         end = receiver(suite, channel=ANNEX_C_SCI, an=2, pn=ANNEX_C_PN)
@@ -352,7 +341,6 @@ def alterations() -> Iterator[Vector]:
 
 
 def validation() -> Iterator[Vector]:
-    """Untagged, altered and good frames in each mode."""
     for mode in ("strict", "check", "disabled"):
         for encrypt in (False, True):
             good = links_of(sender("GCM-AES-128", encrypt), [client(20)] * 2)
@@ -363,7 +351,6 @@ def validation() -> Iterator[Vector]:
 
 
 def no_association() -> Iterator[Vector]:
-    """No receive SC, and no SA of that AN."""
     links = [links_of(sender("GCM-AES-128", it), [client(20)])[0] for it in (False, True)]
     for mode in ("strict", "check", "disabled"):
         for name, channels in (("channel", []), ("association", [{"sci": SENDER, "an": 1, "pn": "1"}])):
@@ -373,7 +360,6 @@ def no_association() -> Iterator[Vector]:
 
 
 def padding() -> Iterator[Vector]:
-    """Octets after the ICV."""
     short = links_of(sender("GCM-AES-128", True), [client(2), client(2)])
     padded = [it.ljust(120, "0") for it in short]
     yield receive("padding/minimum", "short frames padded to 60 octets", receiver("GCM-AES-128"), padded)
@@ -404,5 +390,4 @@ ABOUT = {
 
 
 def groups() -> list[Vector]:
-    """All groups."""
     return [{"name": name, "about": about, "vectors": list(make())} for name, (make, about) in ABOUT.items()]

@@ -22,7 +22,6 @@ def clause_of(row: Row) -> str:
 
 
 def coded(names: list[str]) -> str:
-    """Names as code."""
     return ", ".join(f"`{it}`" for it in names)
 
 
@@ -68,7 +67,6 @@ def names(rows: list[Row], first: tuple[str, str]) -> str:
 
 
 def vector_groups(vectors: dict[str, Any]) -> str:
-    """The groups of vectors."""
     lines = ["| group | has | vectors | frames or blocks |", "|---|---|---|---|"]
     for group in vectors["groups"]:
         frames = sum(len(it.get("frames", [0])) for it in group["vectors"])

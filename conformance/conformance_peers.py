@@ -40,7 +40,6 @@ EXPLAINED = {("padding", "OK", "closed"): "Scapy does not read SL, so padding is
 
 
 def octets(text: str) -> bytes:
-    """Octets in hex."""
     return bytes.fromhex(text)
 
 
@@ -66,7 +65,6 @@ def number_of(it: Vector, lowest: int, low: int) -> int:
 
 
 def iv_of(it: Vector, sci: str, ssci: str, pn: int) -> bytes:
-    """The IV of a frame."""
     if "XPN" not in it["suite"]:
         return octets(sci) + pn.to_bytes(4, "big")
     return bytes(a ^ b for a, b in zip(octets(it["salt"]), octets(ssci) + (pn % 2**64).to_bytes(8, "big")))
@@ -112,7 +110,6 @@ def opened_by_scapy(it: Vector, frame: bytes, channel: Vector, lowest: int) -> b
 
 
 def sent_by_scapy(it: Vector, client: bytes, pn: int) -> bytes:
-    """The link frame that Scapy makes."""
     own = client[6:12] == octets(it["sci"])[:6]
     bare = it["form"] == "auto" and it["receive_channels"] < 2 or it["form"] in ("es", "scb") and own
     sa = association(it, it["sci"], it.get("own_ssci", ""), it["an"], pn, not bare, it["encrypt"])
@@ -161,7 +158,6 @@ class Report:
 
 
 def test_cipher(vector: Vector, report: Report) -> None:
-    """AES or GCM."""
     it = {name: octets(value) for name, value in vector["cipher"].items()}
     if vector["kind"] == "aes":
         made = Cipher(algorithms.AES(it["key"]), modes.ECB()).encryptor().update(it["plaintext"])
@@ -172,7 +168,6 @@ def test_cipher(vector: Vector, report: Report) -> None:
 
 
 def test_protect(vector: Vector, report: Report) -> None:
-    """Link frames that a sender makes."""
     it, pn = vector["sender"], int(vector["sender"]["pn"], 16)
     for frame in vector["frames"]:
         if "dropped" in frame:
@@ -189,7 +184,6 @@ def test_protect(vector: Vector, report: Report) -> None:
 
 
 def test_receive(vector: Vector, report: Report) -> None:
-    """Link frames that a receiver judges."""
     it = vector["receiver"]
     for number, frame in enumerate(vector["frames"]):
         before = vector["frames"][number - 1]["numbers"] if number else []
@@ -224,7 +218,6 @@ def controls(named: dict[str, Vector]) -> int:
 
 
 def main() -> int:
-    """Compares all vectors."""
     groups = json.loads((ROOT / "vectors/macsec-vectors.json").read_text(encoding="utf-8"))["groups"]
     vectors = [vector for group in groups for vector in group["vectors"]]
     if "--controls" in sys.argv[1:]:

@@ -70,7 +70,6 @@ def paths(*patterns: str) -> list[str]:
 
 
 def row(what: str, files: list[str], wrong: str) -> str:
-    """A row of the table."""
     return f"| {what} | {rounded(lines(files)):,} | {wrong} |"
 
 
@@ -80,7 +79,6 @@ def of_definitions(names: set[str]) -> list[str]:
 
 
 def table() -> str:
-    """The table of sizes."""
     machine = below(MACHINE)
     promises = below(PROMISES) - machine
     restarts = below(RESTARTS) - machine - promises

@@ -143,7 +143,6 @@ def frame_count(vectors: Vector) -> int:
 
 
 def made() -> str:
-    """The text of the file."""
     head = {"format": "macsec-vectors-1", "schema": "schema.json"}
     text = json.dumps({**head, "groups": groups()}, indent=1)
     # A frame is on one line.
@@ -152,7 +151,6 @@ def made() -> str:
 
 
 def loaded() -> Vector:
-    """The vectors of the file."""
     return json.loads(VECTORS.read_text(encoding="utf-8"))
 
 

@@ -52,7 +52,6 @@ def read_header(file):
 
 
 def read_records(file, order):
-    """The records of a pcap file."""
     place = 24
     while place < len(file):
         if len(file) - place < 16:
@@ -169,7 +168,6 @@ def read_interface(order, body):
 
 
 def interface_of(interfaces, number):
-    """The interface of a packet."""
     if number >= len(interfaces):
         raise PcapFault("NoInterface")
     return interfaces[number]

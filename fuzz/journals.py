@@ -33,7 +33,6 @@ def receiving_name(name: bytes, sci: bytes, an: int) -> bytes:
 
 
 def record(reservation: Reservation) -> bytes:
-    """The octets of a record."""
     name, last = reservation
     number = struct.pack(">Q", last)
     return name + number + digest(b"macsec reserve: check", name, number)[:24]
@@ -46,7 +45,6 @@ def read_record(octets: bytes) -> Reservation | None:
 
 
 def header(salt: bytes) -> bytes:
-    """The first octets of a journal."""
     return TITLE + salt + digest(b"macsec reserve: header", TITLE, salt)[:24]
 
 
@@ -56,7 +54,6 @@ def is_journal(octets: bytes) -> bool:
 
 
 def salt_of(journal: bytes) -> bytes:
-    """The salt of a journal."""
     return journal[16:40]
 
 

@@ -37,7 +37,6 @@ def verdicts(of: hostile.Source, key: bytes | None = None) -> dict[str, tuple[Ve
 
 
 def named(of: hostile.Source) -> dict[str, str]:
-    """The verdicts that the list names."""
     return {it.name: it.verdict.name for it, _ in hostile.hostile_list(of)}
 
 

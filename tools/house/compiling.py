@@ -15,7 +15,6 @@ SANITIZED = ["-g", "-fsanitize=address,undefined", "-fno-sanitize-recover=all"]
 
 
 def device_sources(folder: pathlib.Path = ROOT / "device") -> list[str]:
-    """The sources of macsecd."""
     return [str(it) for it in sorted(folder.glob("*.c")) if it.name != "macsecctl.c"]
 
 

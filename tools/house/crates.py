@@ -66,7 +66,6 @@ def root_file(name: str) -> str:
 
 
 def has_tests(name: str) -> bool:
-    """Has the crate a `#[test]` function?"""
     texts = (Path(it).read_text(encoding="utf-8") for it in files(name, ("src",)))
     return any(re.search(r"^\s*#\[test\]", it, re.M) for it in texts)
 
@@ -87,7 +86,6 @@ def sum_of(name: str) -> str:
 
 
 def hash_of(path: str) -> str:
-    """The SHA-256 of a file."""
     return hashlib.sha256(Path(path).read_bytes()).hexdigest()
 
 

@@ -89,7 +89,6 @@ class Running:
             out.close()
 
     def ended(self) -> bool:
-        """Has it ended?"""
         return self.process.poll() is not None
 
     def seconds(self) -> str:

@@ -60,7 +60,6 @@ def read(path: str) -> bytes:
 
 
 def python_commands() -> list[str]:
-    """The commands of the Python package, which python/pyproject.toml names."""
     return re.findall("^(macsec-[a-z]+) = ", read(f"{ROOT}/python/pyproject.toml").decode(), re.M)
 
 
@@ -72,7 +71,6 @@ def see(what: str, holds: bool) -> None:
 
 
 def text(path: str) -> str:
-    """A text of the project."""
     return read(f"{ROOT}/{path}").decode()
 
 

@@ -95,6 +95,5 @@ class Member(Machine):
         return bad
 
     def versions(self) -> str:
-        """What runs in it."""
         found = re.search(r"Linux \S+", self.text())
         return f"{found[0] if found else ''}; {(self.base / 'versions').read_text()}"

@@ -81,7 +81,6 @@ class End(Namespace):
         self.ip("link", "set", "macsec0", "up")
 
     def answers(self) -> bool:
-        """Does macsecd answer?"""
         if self.device is not None and self.device.poll() is not None:
             raise Failed(f"macsecd ended: {(self.folder / 'macsecd.log').read_text()}")
         with contextlib.suppress(OSError):
@@ -89,7 +88,6 @@ class End(Namespace):
         return False
 
     def start_wpa(self) -> None:
-        """Starts wpa_supplicant."""
         path = self.relay.path if self.relay else self.socket
         config = self.folder / "wpa.conf"
         config.write_text(f"ctrl_interface={self.folder}/control\ndriver_param=socket={path}\n{network(self.settings)}")
@@ -107,7 +105,6 @@ class End(Namespace):
         return self.ask("port").strip() == "port on"
 
     def cli(self, *words: str) -> str:
-        """Runs wpa_cli."""
         inside = ["ip", "netns", "exec", self.namespace]
         command = [*inside, str(self.world.wpa / "wpa_cli"), "-p", str(self.folder / "control"), "-i", "link0", *words]
         return subprocess.run(command, stdin=subprocess.DEVNULL, capture_output=True, text=True).stdout
@@ -160,7 +157,6 @@ class Capture(threading.Thread):
                     out.write(captures.pcap_record(time.time_ns(), frame))
 
     def frames(self) -> list[bytes]:
-        """The frames so far."""
         return captures.frames_so_far(self.path)
 
     def close(self) -> int:
