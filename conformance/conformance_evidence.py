@@ -58,9 +58,8 @@ def test_definition(reference: str) -> str | None:
     parts = re.fullmatch(r"(\w+)/(\w+)\.(\w+)", reference)
     if not parts:
         return f"{reference} does not have the form CRATE/FILE.NAME"
-    if parts[3] not in definitions(parts[1], parts[2]):
-        return f"crates/{parts[1]}/specs/{parts[2]}.antt does not define {parts[3]}"
-    return None
+    crate, file, name = parts.groups()
+    return None if name in definitions(crate, file) else f"crates/{crate}/specs/{file}.antt does not define {name}"
 
 
 def test_contract(reference: str) -> str | None:
@@ -68,9 +67,8 @@ def test_contract(reference: str) -> str | None:
     parts = re.fullmatch(r"(\w+)/(\w+) ([\w.]+)", reference)
     if not parts:
         return f"{reference} does not have the form CRATE/FILE FUNCTION.CLAUSE"
-    if parts[3] not in clauses(parts[1], parts[2]):
-        return f"crates/{parts[1]}/src/{parts[2]}.rt has no clause {parts[3]}"
-    return None
+    crate, file, name = parts.groups()
+    return None if name in clauses(crate, file) else f"crates/{crate}/src/{file}.rt has no clause {name}"
 
 
 class Runs:

@@ -174,17 +174,14 @@ class Calls:
 
     def asked(self):
         """A line of a script, most often about end A."""
-        others = (
-            "A counters",
-            "A counters",
-            "A numbers",
-            "A send 00",
-            "A deliver 0",
-            "B counters",
-            "pad 0",
-            "A counters 1",
+        others = "A counters, A counters, A numbers, A send 00, A deliver 0, B counters, pad 0, A counters 1".split(
+            ", "
         )
         return self.line() if self.random.random() < 0.7 else self.pick(others).encode()
+
+    def answering(self):
+        handle, number = self.handle(), self.pick((0, 1, 3, 65_536, 2**32 - 1))
+        return handle, number, self.asked(), self.pick((0, 63, 64, 64, 400, 9_000))
 
     def configuration(self, sci, suite, *lines):
         """The text of a configuration: of these commands after the line of the end."""
@@ -212,12 +209,7 @@ class Calls:
             "new": self.new,
             "configure": lambda: (h(), self.text()),
             "command_line": lambda: (h(), self.line()),
-            "answer": lambda: (
-                h(),
-                pick((0, 1, 3, 65_536, 2**32 - 1)),
-                self.asked(),
-                pick((0, 63, 64, 64, 400, 9_000)),
-            ),
+            "answer": self.answering,
             "free": lambda: (h(),),
             "reserve_open": lambda: (*self.new(), self.journal()),
             "reserve_configure": lambda: (h(), self.text(), self.journal()),

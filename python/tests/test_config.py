@@ -5,6 +5,7 @@ from __future__ import annotations
 import collections
 import json
 import os
+import pathlib
 import random
 import subprocess
 import sys
@@ -101,9 +102,8 @@ class Ip(Made):
             f"A rxsc {SENDER}", f"A rxsa {SENDER} 0 0 400", f"A rxon {SENDER} 0",
         ])  # fmt: skip
         peer = self.config("--ip", path, "--as", "peer")
-        self.assertEqual(
-            lines_of(peer)[:3], [f"end A gcm128 {SENDER} 1514 sci", f"A key 0 {KEYS[0].hex()} 0", "A txsa 0 0 400 conf"]
-        )
+        first = [f"end A gcm128 {SENDER} 1514 sci", f"A key 0 {KEYS[0].hex()} 0", "A txsa 0 0 400 conf"]
+        self.assertEqual(lines_of(peer)[:3], first)
         with SecY.configure(end) as a, SecY.configure(peer) as b:
             self.assertEqual(b.receive(a.send(bytes(60)).frame).verdict.name, "OK")
             self.assertEqual(a.receive(b.send(bytes(60)).frame).verdict.name, "OK")
@@ -124,13 +124,11 @@ class Ip(Made):
 
     def test_devices_below(self) -> None:
         """A VLAN device has the address of the device below it; without SCIs an observer has one channel."""
-        text = IP_COMMANDS.replace(
-            "sudo ip link add link eth0", "ip link add link eth0 name v7 type vlan id 7\nip link add link v7"
-        )
+        vlan = "ip link add link eth0 name v7 type vlan id 7\nip link add link v7"
+        text = IP_COMMANDS.replace("sudo ip link add link eth0", vlan)
         self.assertIn(f"end A gcm128 {OTHER} ", self.config("--ip", self.put("commands", text)))
-        auto = self.config(
-            "--ip", self.put("commands", IP_COMMANDS.replace("send_sci on", "send_sci off")), "--as", "observer"
-        )
+        text = IP_COMMANDS.replace("send_sci on", "send_sci off")
+        auto = self.config("--ip", self.put("commands", text), "--as", "observer")
         self.assertEqual(auto.count("A rxsc"), 1)
         self.assertIn("# frames without an SCI", auto)
 
@@ -142,8 +140,7 @@ class Ip(Made):
         for name in ("peer", "observer", "xpn", "sender"):
             back = self.put("again", self.config("--to-ip", CAPTURES / f"{name}.config"))
             again = self.config("--ip", back)
-            with open(back, encoding="ascii") as file:
-                self.assertEqual(self.config("--to-ip", self.put("CONFIG", again)), file.read())
+            self.assertEqual(self.config("--to-ip", self.put("CONFIG", again)), pathlib.Path(back).read_text())
 
     def test_faults(self) -> None:
         wrong = ("ip link set eth0 address", "tx sa 0 pn", "gcm-aes-128", "encrypt")
@@ -250,9 +247,8 @@ class Lint(Made):
             self.assertEqual(self.config("--lint", text, status=3), expected)
         hinted = self.config("--lint", self.put("CONFIG", good.replace("0 1 conf", "0 57 conf")))
         self.assertEqual(hinted, "line 3, argument 5: hint: packet numbers are hex: 57 is 87; decimal 57 is 39\n")
-        shown = json.loads(
-            self.config("--lint", self.put("CONFIG", good.replace("345 0", "345f 0")), "--json", status=3)
-        )
+        text = self.put("CONFIG", good.replace("345 0", "345f 0"))
+        shown = json.loads(self.config("--lint", text, "--json", status=3))
         self.assertEqual((shown["name"], shown["line"], shown["word"]), ("Hex", 2, 4))
 
     def test_the_first_fault_is_the_library_s(self) -> None:
@@ -284,16 +280,16 @@ class Next(Made):
         path = self.put("CONFIG", config)
         made = self.config("--next", self.put("TEXT", text), path)
         self.assertEqual(made, config.replace("fffffffa", "fffffffc"))
-        for old, new in (
-            ("end OutPktsEncrypted 2\n", ""),
-            ("2 done", "2 refused 5 NoKey"),
-            ("2 done\n", ""),
-            ("Encrypted 2", "Encrypted 3"),
-        ):
+        wrong = {
+            "end OutPktsEncrypted 2\n": "",
+            "2 done": "2 refused 5 NoKey",
+            "2 done\n": "",
+            "Encrypted 2": "Encrypted 3",
+        }
+        for old, new in wrong.items():
             self.assertEqual(main_of(main, "--next", self.put("TEXT", text.replace(old, new)), path)[0], 2)
-        long = text.replace("record 0 link 74\n", "".join(f"record {n} link 74\n" for n in range(5))).replace(
-            "Encrypted 2", "Encrypted 6"
-        )
+        long = text.replace("record 0 link 74\n", "".join(f"record {n} link 74\n" for n in range(5)))
+        long = long.replace("Encrypted 2", "Encrypted 6")
         status, _, error = main_of(main, "--next", self.put("TEXT", long), path)
         self.assertEqual(status, 2)
         self.assertIn("no packet number left", error)
@@ -303,18 +299,13 @@ class Next(Made):
         numbers = []
         config = CAPTURES / "sender.config"
         for run in range(3):
-            words = [
-                os.environ["MACSEC_PROGRAM"],
-                "protect",
-                str(config),
-                str(CAPTURES / "client.pcap"),
-                str(self.folder / "OUT"),
-            ]
+            out = str(self.folder / "OUT")
+            words = [os.environ["MACSEC_PROGRAM"], "protect", str(config), str(CAPTURES / "client.pcap"), out]
             text = subprocess.run(words, capture_output=True, text=True, check=True).stdout
-            numbers += [it.frame[16:20] for it in capture.read(str(self.folder / "OUT"))]
+            numbers += [it.frame[16:20] for it in capture.read(out)]
             made = self.config("--next", self.put("TEXT", text), config)
-            (self.folder / f"{run}.config").write_text(made)
             config = self.folder / f"{run}.config"
+            config.write_text(made)
         self.assertEqual([int.from_bytes(it, "big") for it in numbers], list(range(1, 10)))
 
 

@@ -82,9 +82,8 @@ class Decrypt(Opening):
         (frame,), (link,) = client_frames(1), protected(client_frames(1))
         for tags in ("81000064", "88a8000a81000064"):
             octets = bytes.fromhex(tags)
-            self.assertEqual(
-                self.opened([link[:12] + octets + link[12:]], *self.keys(0)), [frame[:12] + octets + frame[12:]]
-            )
+            opened = self.opened([link[:12] + octets + link[12:]], *self.keys(0))
+            self.assertEqual(opened, [frame[:12] + octets + frame[12:]])
 
     def test_check_sequences_are_cut_off(self) -> None:
         frames = client_frames(2, length=30) + client_frames(2)
@@ -188,36 +187,17 @@ class Files(Opening):
         self.assertEqual(self.packets[0].length, len(link))
 
     def test_examples(self) -> None:
-        for name, which in (
-            ("rekey", (0, 1, 2)),
-            ("observed", (0,)),
-            ("linux", (0,)),
-            ("no-sci", (0,)),
-            ("fcs", (0,)),
-            ("vlan", (0,)),
-        ):
-            self.opened(CAPTURES / f"{name}.pcap", *self.keys(*which))
-        self.assertEqual(
-            self.opened(CAPTURES / "link.pcap", *self.keys(0)),
-            [it.frame for it in capture.read(str(CAPTURES / "client.pcap"))],
-        )
+        self.opened(CAPTURES / "rekey.pcap", *self.keys(0, 1, 2))
+        for name in ("observed", "linux", "no-sci", "fcs", "vlan"):
+            self.opened(CAPTURES / f"{name}.pcap", *self.keys(0))
+        clients = [it.frame for it in capture.read(str(CAPTURES / "client.pcap"))]
+        self.assertEqual(self.opened(CAPTURES / "link.pcap", *self.keys(0)), clients)
 
     @unittest.skipIf(shutil.which("tshark") is None, "tshark is not installed")
     def test_tshark_reads_it(self) -> None:
         self.opened(CAPTURES / "observed.pcap", *self.keys(0))
-        words = [
-            "tshark",
-            "-r",
-            str(self.folder / "OUT"),
-            "-T",
-            "fields",
-            "-e",
-            "frame.time_epoch",
-            "-e",
-            "icmp.seq",
-            "-e",
-            "frame.comment",
-        ]
+        fields = "-T fields -e frame.time_epoch -e icmp.seq -e frame.comment".split()
+        words = ["tshark", "-r", str(self.folder / "OUT"), *fields]
         shown = subprocess.run(words, capture_output=True, text=True, check=True).stdout.splitlines()
         self.assertEqual(shown[2], "1700000000.001000000\t1\tmacsec: OK, SCI 0200000000010001, AN 0, PN 0x1f5, key 1")
         self.assertEqual(shown[5].split("\t")[2], "macsec: not protected")

@@ -45,17 +45,13 @@ class Sealed(unittest.TestCase):
         """The integrity-protected frame of 54 octets of IEEE Std 802.1AE, Annex C, in the two suites without XPN."""
         data = bytes.fromhex("08000f10") + bytes(range(0x11, 0x35)) + b"\0\1"
         head = bytes.fromhex("d609b1f056637a0d46df998d88e5222ab2c2846512153524c0895e81")
+        long_key = bytes.fromhex("e3c08a8f06c6e3ad95a70557b23f75483ce33021a9c72b7025666204c69c0b72")
+        how = {"sci": "12153524c0895e81", "pn": 0xB2C28465, "conf": False}
         for suite, key, icv in (
             (Suite.gcm128, KEYS[0], "f09478a9b09007d06f46e9b6a1da25dd"),
-            (
-                Suite.gcm256,
-                bytes.fromhex("e3c08a8f06c6e3ad95a70557b23f75483ce33021a9c72b7025666204c69c0b72"),
-                "2f0bc5af409e06d609ea8b7d0fa5ea50",
-            ),
+            (Suite.gcm256, long_key, "2f0bc5af409e06d609ea8b7d0fa5ea50"),
         ):
-            frame = seal(
-                head + data, len(head), key=key, sci="12153524c0895e81", pn=0xB2C28465, suite=suite, conf=False
-            )
+            frame = seal(head + data, len(head), key=key, suite=suite, **how)  # type: ignore[arg-type]
             self.assertEqual(frame.hex(), (head + data).hex() + icv)
 
     def test_as_an_endpoint_sends(self) -> None:
@@ -87,11 +83,8 @@ class Judged(unittest.TestCase):
 
     def test_another_port(self) -> None:
         """A SecTAG without an SCI means port 0001 with ES, 0000 with SCB."""
-        for port, opened in (
-            ("0000", {"no-sci", "scb", "es-and-scb"}),
-            ("0001", {"no-sci", "es"}),
-            ("0002", {"no-sci"}),
-        ):
+        ports = {"0000": {"no-sci", "scb", "es-and-scb"}, "0001": {"no-sci", "es"}, "0002": {"no-sci"}}
+        for port, opened in ports.items():
             of = source()._replace(sci=bytes.fromhex(SENDER[:12] + port))
             found = verdicts(of)
             self.assertEqual({name for name, (given, expected) in found.items() if given != expected}, set())

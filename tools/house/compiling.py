@@ -6,6 +6,7 @@ import pathlib
 import re
 import subprocess
 import sys
+from typing import Callable
 
 from house import ROOT
 
@@ -24,6 +25,16 @@ def run(words: list[str], environment: dict[str, str] | None = None) -> str:
     if ended.returncode or ": false" in ended.stdout:
         sys.exit(f"{' '.join(words)} ended with status {ended.returncode}: {ended.stderr[-300:]}")
     return ended.stderr
+
+
+# The instructions of a frame are the difference between runs over so many frames.
+MORE, FEWER = 300, 100
+
+
+def instructions_of_frame(folder: str, words_of: Callable[[int], list[str]], environment: dict | None = None) -> float:
+    """The instructions of a frame, of a program with these arguments for a number of frames."""
+    more, fewer = (instructions(folder, words_of(count), environment) for count in (MORE, FEWER))
+    return (more - fewer) / (MORE - FEWER)
 
 
 def instructions(folder: str, words: list[str], environment: dict[str, str] | None = None) -> int:
