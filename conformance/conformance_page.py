@@ -5,6 +5,8 @@ from __future__ import annotations
 import re
 from typing import Any
 
+from house.written import table
+
 Row = "dict[str, Any]"
 
 SUPPORT = {"yes": "yes", "own": "own profile", "no": "not supported", "n/a": "not applicable"}
@@ -36,22 +38,18 @@ def evidence_of(row: Row) -> str:
     return "; ".join(parts)
 
 
-def table(rows: list[Row]) -> str:
+def clause_table(rows: list[Row]) -> str:
     """The rows of one clause."""
-    lines = ["| row | clause | requirement | support | evidence, or why not |", "|---|---|---|---|---|"]
-    for it in rows:
-        cells = [it["id"], clause_of(it), joined(it["requirement"]), SUPPORT[it["support"]], evidence_of(it)]
-        lines.append(f"| {' | '.join(cells)} |")
-    return "\n".join(lines)
+    cells = (
+        (it["id"], clause_of(it), joined(it["requirement"]), SUPPORT[it["support"]], evidence_of(it)) for it in rows
+    )
+    return table("row | clause | requirement | support | evidence, or why not", cells)
 
 
 def own_rows(rows: list[Row]) -> str:
     """Where the profile is stricter or different."""
-    lines = ["| row | what a strict reading would do | why it differs here |", "|---|---|---|"]
-    for it in rows:
-        if it["support"] == "own":
-            lines.append(f"| {it['id']} | {joined(it['strict'])} | {joined(it['reason'])} |")
-    return "\n".join(lines)
+    cells = ((it["id"], joined(it["strict"]), joined(it["reason"])) for it in rows if it["support"] == "own")
+    return table("row | what a strict reading would do | why it differs here", cells)
 
 
 def names(rows: list[Row], first: tuple[str, str]) -> str:
@@ -60,18 +58,13 @@ def names(rows: list[Row], first: tuple[str, str]) -> str:
     keys.update(dpdk="DPDK `rte_security`", wpa="wpa_supplicant", differs="differs")
     if any("standard" in it for it in rows):
         keys = {first[0]: first[1], "standard": "10.7*", **{key: it for key, it in keys.items() if key != first[0]}}
-    lines = [f"| {' | '.join(keys.values())} |", "|" + "---|" * len(keys)]
-    for it in rows:
-        lines.append(f"| {' | '.join(joined(it[key]) for key in keys)} |")
-    return "\n".join(lines)
+    return table(" | ".join(keys.values()), ([joined(it[key]) for key in keys] for it in rows))
 
 
 def vector_groups(vectors: dict[str, Any]) -> str:
-    lines = ["| group | has | vectors | frames or blocks |", "|---|---|---|---|"]
-    for group in vectors["groups"]:
-        frames = sum(len(it.get("frames", [0])) for it in group["vectors"])
-        lines.append(f"| `{group['name']}` | {group['about']} | {len(group['vectors'])} | {frames} |")
-    return "\n".join(lines)
+    frames = lambda group: sum(len(it.get("frames", [0])) for it in group["vectors"])
+    cells = ((f"`{it['name']}`", it["about"], len(it["vectors"]), frames(it)) for it in vectors["groups"])
+    return table("group | has | vectors | frames or blocks", cells)
 
 
 def counted(rows: list[Row]) -> str:
@@ -92,7 +85,7 @@ def made_review(review: str, sizes: str) -> str:
 def made(page: str, tables: dict[str, Any], vectors: dict[str, Any], linux: str) -> str:
     """The page with its parts made again. `linux` is the table of what Linux does otherwise."""
     rows = [row for it in tables["clauses"].values() for row in it["rows"]]
-    parts = {name: table(it["rows"]) for name, it in tables["clauses"].items()}
+    parts = {name: clause_table(it["rows"]) for name, it in tables["clauses"].items()}
     parts["count"] = counted(rows)
     parts["own"] = own_rows(rows)
     parts["counters"] = names(tables["names"]["counters"], ("here", "here"))

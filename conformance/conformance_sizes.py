@@ -10,6 +10,7 @@ from collections.abc import Iterable
 from pathlib import Path
 
 from house import ROOT
+from house.written import table
 
 CITED = re.compile(r"^use (?:denote )?Rattle\.(macsec_\w+)\.specs\.(\w+)", re.M)
 # Files of definitions, as CRATE/FILE: where each part of what is proved begins.
@@ -69,16 +70,12 @@ def paths(*patterns: str) -> list[str]:
     return sorted(it for it in found if os.path.isfile(it))
 
 
-def row(what: str, files: list[str], wrong: str) -> str:
-    return f"| {what} | {rounded(lines(files)):,} | {wrong} |"
-
-
 def of_definitions(names: set[str]) -> list[str]:
     """The paths of files of definitions."""
     return [f"{ROOT}/crates/{it.replace('/', '/specs/')}.antt" for it in sorted(names)]
 
 
-def table() -> str:
+def size_table() -> str:
     machine = below(MACHINE)
     promises = below(PROMISES) - machine
     restarts = below(RESTARTS) - machine - promises
@@ -86,24 +83,20 @@ def table() -> str:
     in_c = below(IN_C) - machine - restarts - promises - texts
     code = [it for it in paths("crates/*/src/**/*.rt") if "_tests/" not in it and "_bench/" not in it]
     device = paths("device/*.[ch]", "include/macsec.h", "examples/c/*.c")
-    return "\n".join(
-        [
-            "| what | lines | if it is wrong |",
-            "|---|---|---|",
-            row("definitions of the machine", of_definitions(machine), "the theorem says something else than MACsec"),
-            row("definitions that the promises add", of_definitions(promises), "a promise says less than its name"),
-            row("definitions that restarts add", of_definitions(restarts), "an IV repeats after a crash"),
-            row("definitions of texts and files", of_definitions(texts), "a printed text means something else"),
-            row("definitions for the library for C", of_definitions(in_c), "a call does not do what the header says"),
-            row("code in Rattle", code, "the prover refuses it, as far as its contracts say"),
-            row("proofs", paths("crates/*/proofs/**/*.antt"), "the prover refuses it"),
-            row("must-fail edits", paths("crates/*/must-fail/*.edit"), "a weak contract is not noticed"),
-            row("C: header, device, examples", device, "anything that they do: tested, not proved"),
-            row("Python: rules and searches", paths("fuzz/*.py"), "a search finds less"),
-            row(
-                "Python: package `macsec`",
-                paths("python/macsec/*.py") + paths("python/macsec/cli/*.py"),
-                "a cause is wrong; it judges no frame",
-            ),
-        ]
+    python = paths("python/macsec/*.py") + paths("python/macsec/cli/*.py")
+    rows = [
+        ("definitions of the machine", of_definitions(machine), "the theorem says something else than MACsec"),
+        ("definitions that the promises add", of_definitions(promises), "a promise says less than its name"),
+        ("definitions that restarts add", of_definitions(restarts), "an IV repeats after a crash"),
+        ("definitions of texts and files", of_definitions(texts), "a printed text means something else"),
+        ("definitions for the library for C", of_definitions(in_c), "a call does not do what the header says"),
+        ("code in Rattle", code, "the prover refuses it, as far as its contracts say"),
+        ("proofs", paths("crates/*/proofs/**/*.antt"), "the prover refuses it"),
+        ("must-fail edits", paths("crates/*/must-fail/*.edit"), "a weak contract is not noticed"),
+        ("C: header, device, examples", device, "anything that they do: tested, not proved"),
+        ("Python: rules and searches", paths("fuzz/*.py"), "a search finds less"),
+        ("Python: package `macsec`", python, "a cause is wrong; it judges no frame"),
+    ]
+    return table(
+        "what | lines | if it is wrong", ((what, f"{rounded(lines(it)):,}", wrong) for what, it, wrong in rows)
     )

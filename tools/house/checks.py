@@ -4,6 +4,8 @@ from __future__ import annotations
 
 from typing import NamedTuple
 
+from house.written import table
+
 # What a check needs, in the order in which the gate makes it: nothing but sources; the compiler of `rt`, or its log;
 # the program, also as Rattle's own compiler builds it; the libraries for C; and all of these.
 NOTHING, TOOLCHAIN, LOG = "nothing", "rt", "the log of rt ci"
@@ -156,11 +158,11 @@ def listed() -> str:
 
 def markdown() -> str:
     """The table for docs/MAINTAINING.md."""
-    lines = ["| check | does | needs | `make test` | gate | is shown |", "|---|---|---|---|---|---|"]
+    rows = []
     for it in CHECKS:
         marks = ["yes" if it.test is not None else "", f"{it.seconds} s" if it.gate is not None else ""]
-        lines.append(f"| `{it.name}` | {it.does} | {it.needs} | {' | '.join(marks)} | {it.control or '**nothing**'} |")
-    return "\n".join(lines) + "\n"
+        rows.append([f"`{it.name}`", it.does, it.needs, *marks, it.control or "**nothing**"])
+    return table("check | does | needs | `make test` | gate | is shown", rows) + "\n"
 
 
 def targets() -> list[Check]:

@@ -1,12 +1,19 @@
-"""Files that a tool writes from the sources, or compares with those that are there."""
+"""Files that a tool writes from the sources, or compares with those that are there, and tables in them."""
 
 from __future__ import annotations
 
 import pathlib
 import sys
+from collections.abc import Iterable
 from typing import Callable
 
 from house import ROOT
+
+
+def table(head: str, rows: Iterable[Iterable[object]]) -> str:
+    """A table in Markdown, without a newline at its end. The titles of its columns are in one text, as in a row."""
+    lines = [f"| {head} |", "|---" * (head.count(" | ") + 1) + "|"]
+    return "\n".join([*lines, *(f"| {' | '.join(map(str, row))} |" for row in rows)])
 
 
 def write_or_check(
