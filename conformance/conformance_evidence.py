@@ -32,7 +32,6 @@ def text_of(path: str | Path) -> str | None:
 
 @functools.lru_cache(None)
 def definitions(crate: str, name: str) -> frozenset[str]:
-    """The names that a file of definitions defines."""
     text = text_of(f"{ROOT}/crates/{crate}/specs/{name}.antt")
     return frozenset(a or b for a, b in DEFINITION.findall(text or ""))
 

@@ -155,7 +155,6 @@ def receive(name: str, about: str, it: Vector, links: list[str]) -> Vector:
 
 
 def links_of(it: Vector, clients: list[str]) -> list[str]:
-    """What a sender sends for some client frames."""
     return [frame["link"] for frame in protect("", "", it, clients)["frames"]]
 
 

@@ -39,7 +39,6 @@ def evidence_of(row: Row) -> str:
 
 
 def clause_table(rows: list[Row]) -> str:
-    """The rows of one clause."""
     cells = (
         (it["id"], clause_of(it), joined(it["requirement"]), SUPPORT[it["support"]], evidence_of(it)) for it in rows
     )
@@ -53,7 +52,6 @@ def own_rows(rows: list[Row]) -> str:
 
 
 def names(rows: list[Row], first: tuple[str, str]) -> str:
-    """The names of counters or of managed objects."""
     keys = {first[0]: first[1], "mib": "MIB*", "ip": "`ip macsec`", "linux": "`if_macsec.h`"}
     keys.update(dpdk="DPDK `rte_security`", wpa="wpa_supplicant", differs="differs")
     if any("standard" in it for it in rows):

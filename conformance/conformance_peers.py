@@ -130,7 +130,6 @@ class Report:
         self.different: collections.Counter[tuple[str, str, str, str]] = collections.Counter()
 
     def compare(self, peer: str, vector: Vector, frame: Vector, found: bytes | None) -> None:
-        """Compares what a peer opened with a verdict."""
         group, verdict = vector["id"].split("/")[0], frame["verdict"]
         said = "closed" if found is None else "opened"
         key = (peer, group, verdict, said)

@@ -53,7 +53,6 @@ def below(names: Iterable[str]) -> set[str]:
 
 
 def lines(paths: Iterable[str]) -> int:
-    """The number of lines that are not empty."""
     texts = (Path(it).read_text(encoding="utf-8", errors="replace") for it in paths)
     return sum(bool(line.strip()) for text in texts for line in text.split("\n"))
 
@@ -71,7 +70,6 @@ def paths(*patterns: str) -> list[str]:
 
 
 def of_definitions(names: set[str]) -> list[str]:
-    """The paths of files of definitions."""
     return [f"{ROOT}/crates/{it.replace('/', '/specs/')}.antt" for it in sorted(names)]
 
 

@@ -189,6 +189,5 @@ def faults_by_schema(value: Any, schema: Vector, whole: Vector, where: str = "")
 
 
 def schema_faults(vectors: Vector) -> list[str]:
-    """How the vectors differ from what vectors/schema.json asks for."""
     schema = json.loads(SCHEMA.read_text(encoding="utf-8"))
     return list(faults_by_schema(vectors, schema, schema, "vectors"))

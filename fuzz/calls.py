@@ -34,9 +34,7 @@ from handles import CONSTANTS, ROOT, SUITES, Model, hex_of
 class Calls:
     """Random calls, each made when its turn has come: some depend on what the handles hold."""
 
-    SCIS = [
-        bytes.fromhex(it) for it in ("0200000000010001", "0200000000020001", "0200000000030000", "0200000000030001")
-    ]
+    SCIS = [bytes.fromhex(f"020000000{it}") for it in ("0010001", "0020001", "0030000", "0030001")]
     PNS = [0, 1, 1, 2, 3, 9, 2**31, 2**32 - 2, 2**32 - 1, 2**32, 2**63, 2**64 - 2, 2**64 - 1]
     WINDOWS = [0, 0, 1, 5, 2**30 - 1, 2**30, 2**32 - 1, 2**32, 2**64 - 1]
     NUMBERS = [0, 1, 2, 3, 4, 5, 4095, 4096, 65535]
@@ -140,7 +138,6 @@ class Calls:
         return *self.key(), self.sci(), self.pick(self.PNS), self.pick((0, 1)), head, frame
 
     def word(self, field):
-        """A word of a line."""
         pick = self.pick
         words = {
             "an": str(pick((0, 0, 0, 1, 2, 3, 4))), "number": str(pick(self.NUMBERS)),
@@ -153,7 +150,6 @@ class Calls:
         return words[field]
 
     def altered(self, words):
-        """Words with one of them changed, missing or added."""
         place, chance = self.random.randrange(len(words)), self.random.random()
         other = self.pick(("B", "x", "0", "4096", "9" * 21, "0g", "abc", "on", "end", "#"))
         if chance < 0.6:
@@ -174,9 +170,7 @@ class Calls:
 
     def asked(self):
         """A line of a script, most often about end A."""
-        others = "A counters, A counters, A numbers, A send 00, A deliver 0, B counters, pad 0, A counters 1".split(
-            ", "
-        )
+        others = "A counters,A counters,A numbers,A send 00,A deliver 0,B counters,pad 0,A counters 1".split(",")
         return self.line() if self.random.random() < 0.7 else self.pick(others).encode()
 
     def answering(self):
@@ -350,7 +344,6 @@ class Calls:
         yield "journal_compacted", (2, self.JOURNAL + 3 * journals.record(saved) + bytes(64))
 
     def crowded(self):
-        """More channels than there can be."""
         yield "free", (2,)
         yield "new", (2, self.SCIS[0], 1, 0, 1518)
         for it in range(CONSTANTS["RX_CHANNEL_COUNT"] + 1):
@@ -481,7 +474,6 @@ class Calls:
             yield " ".join([name, *(hex_of(it) if isinstance(it, bytes) else str(it) for it in words)]), answer
 
     def meet(self, name, words):
-        """Notes the suites that a call names."""
         place = {"new": 2, "reserve_open": 2, "install_key": 4, "seal": 4}.get(name)
         for it, value in CONSTANTS.items():
             if place and it.startswith("SUITE_") and value == words[place]:

@@ -131,7 +131,6 @@ def difference_of_files(found, wanted):
 
 
 def difference(found, wanted):
-    """Where two answers differ."""
     if not isinstance(found, bytes) or not isinstance(wanted, bytes):
         return f"{found!r} and not {wanted!r}"
     place = next((it for it, (a, b) in enumerate(zip(found, wanted)) if a != b), min(len(found), len(wanted)))
@@ -162,16 +161,10 @@ class Tally:
     def merge(self, other):
         self.count += other.count
         self.findings += other.findings
-        for mine, others in (
-            (self.answers, other.answers),
-            (self.outcomes, other.outcomes),
-            (self.met, other.met),
-            (self.meeting, other.meeting),
-        ):
-            mine.update(others)
+        for name in ("answers", "outcomes", "met", "meeting"):
+            getattr(self, name).update(getattr(other, name))
 
     def unmet(self):
-        """What of EXPECTED no input met."""
         met = {it for it, many in self.meeting.items() if many} | {it.decode() for it in self.outcomes}
         met |= {it for answer in self.answers for it in answer}
         return [f"{what} `{it}`" for what, names in EXPECTED.items() for it in names if it not in met]
@@ -225,7 +218,6 @@ def report(options, tally, seconds):
 
 
 def show(options):
-    """Runs one input alone, and prints it."""
     case = case_of(options.seed, options.only, Corpus())
     print(f"words: {case.words}\nstandard input: {case.stdin!r}")
     for name, octets in case.files.items():

@@ -36,7 +36,6 @@ class Case:
         self.met, self.out = met or {}, out
 
     def files_after(self):
-        """The files that must exist after the run."""
         return self.files if self.answer[3] is None else {**self.files, self.out: self.answer[3]}
 
 

@@ -23,7 +23,6 @@ def digest(*parts: bytes) -> bytes:
 
 
 def sending_name(salt: bytes, key: bytes) -> bytes:
-    """The name of a key for sending."""
     return digest(b"macsec reserve: sending", salt, key)
 
 

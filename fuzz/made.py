@@ -37,7 +37,6 @@ class Maker:
         return value, choose() if self.rng.random() < odds else value
 
     def add(self, line):
-        """Adds a line and carries it out."""
         keyword, end, values = expected.parse_words(line.split())
         self.lines.append(line)
         if keyword == "end":
@@ -299,7 +298,6 @@ class Maker:
         return self.rng.choice([it for it, key in keys.items() if key.first_unused > 1] or list(keys) or [0])
 
     def free(self, end, number):
-        """Deletes the SAs under a key."""
         endpoint = self.ends[end]
         for an in [it for it, sa in endpoint.tx.items() if sa.key == number]:
             self.add(f"{end} txdel {an}")

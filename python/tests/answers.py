@@ -170,7 +170,6 @@ MAKES = ("new", "configure", "reserve_open", "reserve_configure")
 
 
 def made(name: str, words: list[str]) -> SecY:
-    """The endpoint that a call makes."""
     if name == "configure":
         return SecY.configure(octets(words[0]))
     if name == "reserve_configure":
@@ -202,7 +201,6 @@ def creation(name: str, handle: int, words: list[str]) -> tuple[str, int]:
 
 
 def answer(name: str, handle: int, words: list[str]) -> tuple[str, int]:
-    """What a call shows, and its status."""
     if name in (*MAKES, "free"):
         return creation(name, handle, words)
     if name in FREE_CALLS:

@@ -15,7 +15,6 @@ def config(
     suite: str = "gcm128", key: bytes = KEYS[0], offset: int = 0, sci: str = SENDER, an: int = 0, pn: str = "1",
     ssci: str = "00000001", on: bool = True, own: str = RECEIVER, more: str = "",
 ) -> str:  # fmt: skip
-    """A CONFIG that receives."""
     extended = suite.startswith("xpn")
     return "\n".join([
         f"end A {suite} {own} 1546 sci",
@@ -55,9 +54,8 @@ class Planted(InFolder):
     def test_suite(self) -> None:
         self.assertEqual(self.causes(config(suite="xpn128"), self.link), {"suite"})
         extended = protected(self.frames, suite=Suite.xpn128)
-        text = config(more=f"A key 1 {KEYS[1].hex()} 0").replace(
-            f"{KEYS[0].hex()} 0", f"{KEYS[0].hex()} 0 00000009 {SALT.hex()}"
-        )
+        key = f"{KEYS[0].hex()} 0"
+        text = config(more=f"A key 1 {KEYS[1].hex()} 0").replace(key, f"{key} 00000009 {SALT.hex()}")
         self.assertIn("suite", self.causes(text, extended))
 
     def test_order_of_the_ssci(self) -> None:

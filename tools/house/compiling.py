@@ -38,7 +38,6 @@ def instructions_of_frame(folder: str, words_of: Callable[[int], list[str]], env
 
 
 def instructions(folder: str, words: list[str], environment: dict[str, str] | None = None) -> int:
-    """The instructions of a run, which callgrind counts."""
     told = run(["valgrind", "--tool=callgrind", f"--callgrind-out-file={folder}/callgrind", *words], environment)
     found = re.search(r"Collected : (\d+)", told)
     assert found, told

@@ -41,7 +41,6 @@ def own(name: str) -> list[str]:
 
 
 def of_kit(name: str) -> list[str]:
-    """The libraries of the kit that a crate uses."""
     return ["std", *(each for each in CRATES[name] if each not in CRATES)]
 
 

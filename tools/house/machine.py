@@ -129,10 +129,8 @@ class Machine:
         self.process = subprocess.Popen(["ip", "netns", "exec", namespace, *words], stdin=into, stdout=out, stderr=out)
 
     def text(self) -> str:
-        """What its console shows."""
         return self.console.read_text(errors="replace").replace("\r", "") if self.console.exists() else ""
 
     def waits_for(self, text: str, seconds: float) -> bool:
-        """Waits for a text on the console."""
         until(lambda: text in self.text() or self.process.poll() is not None, seconds)
         return text in self.text()

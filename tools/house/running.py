@@ -92,11 +92,9 @@ class Running:
         return self.process.poll() is not None
 
     def seconds(self) -> str:
-        """How long it has run."""
         return f"{time.monotonic() - self.began:.0f} s"
 
     def text(self) -> str:
-        """What it has printed."""
         return self.log.read_text(errors="replace") if self.log.exists() else ""
 
 
@@ -109,7 +107,6 @@ class Runner:
         logs.mkdir(parents=True, exist_ok=True)
 
     def say(self, line: str) -> None:
-        """Prints a line at once."""
         print(line, flush=True)
 
     def go(self, jobs: Iterable[Job], at_a_time: int = 64) -> bool:

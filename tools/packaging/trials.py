@@ -150,7 +150,6 @@ def tried_below(where: str, root: str) -> None:
 
 
 def unpacked(names: list[str], root: str) -> None:
-    """Unpacks the packages of Debian, and tries them."""
     for name in names:
         run("dpkg", "-x", name, root)
     tried_below("unpacked", root)

@@ -2,6 +2,7 @@
 
 from __future__ import annotations
 
+import collections
 import json
 import pathlib
 import re
@@ -81,18 +82,16 @@ class Member(Machine):
 
     def faults(self) -> dict[str, int]:
         """Its counters of late and invalid frames that are not 0, from `ip -s macsec show`."""
-        bad: dict[str, int] = {}
+        bad: collections.Counter[str] = collections.Counter()
         names: list[str] = []
         for line in self.text().splitlines():
             words = line.split()
-            if words and words[0] in ("stats:",):
+            if words[:1] == ["stats:"]:
                 names = words[1:]
             elif names and words and all(it.isdigit() for it in words):
-                for name, value in zip(names, words):
-                    if int(value) and FAULTS.search(name):
-                        bad[name] = bad.get(name, 0) + int(value)
+                bad.update({name: int(value) for name, value in zip(names, words) if FAULTS.search(name)})
                 names = []
-        return bad
+        return {name: count for name, count in bad.items() if count}
 
     def versions(self) -> str:
         found = re.search(r"Linux \S+", self.text())

@@ -60,7 +60,6 @@ class End(Namespace):
         self.wpa: subprocess.Popen[bytes] | None = None
 
     def spawn(self, log: str, *words: str) -> subprocess.Popen[bytes]:
-        """Starts a program in the namespace."""
         with open(self.folder / log, "ab") as it:
             command = ["ip", "netns", "exec", self.namespace, *words]
             return subprocess.Popen(command, stdin=subprocess.DEVNULL, stdout=it, stderr=it, env=self.environment)
@@ -96,7 +95,6 @@ class End(Namespace):
         self.wpa = self.spawn("wpa.log", program, "-D", "macsec_macsecd", "-i", "link0", "-c", str(config), "-ddtK")
 
     def start(self) -> None:
-        """Starts both."""
         self.start_device()
         self.start_wpa()
 
@@ -119,7 +117,6 @@ class End(Namespace):
         return logged(self.folder / "wpa.log", pattern)
 
     def stop(self) -> None:
-        """Ends both."""
         stopped(self.wpa)
         stopped(self.device)
         if self.relay:
@@ -160,7 +157,6 @@ class Capture(threading.Thread):
         return captures.frames_so_far(self.path)
 
     def close(self) -> int:
-        """Ends it. Returns how many frames its socket had no space for."""
         self.goes_on = False
         self.join()
         _, lost = struct.unpack("II", self.socket.getsockopt(SOL_PACKET, STATISTICS, 8))
@@ -208,7 +204,6 @@ class World:
         call("ip", "-n", self.hub, "link", "set", "hub0", "type", "bridge", "group_fwd_mask", mask)
 
     def start(self) -> float:
-        """Starts all ends. Returns when the first wpa_supplicant was started."""
         for end in self.ends:
             end.start_device()
         now = time.time()
@@ -300,7 +295,6 @@ class Ping:
         return None
 
     def stop(self) -> Pinged:
-        """Stops it."""
         self.goes_on = False
         for thread in self.threads:
             thread.join()
@@ -371,7 +365,6 @@ class Relay(threading.Thread):
                 raise SystemExit(f"mka: load: {answer[:60]}")
 
     def close(self) -> None:
-        """Ends it."""
         self.listener.close()
 
 
