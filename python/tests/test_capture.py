@@ -88,8 +88,7 @@ class Writing(InFolder):
             [(it.time, it.frame) for it in capture.read(path)],
             [(10**18 + n, bytes([n]) * (14 + n)) for n in range(9)],
         )
-        with open(path, "rb") as file:
-            octets = file.read()
+        octets = (self.folder / "OUT").read_bytes()
         self.assertEqual([it[2] for it in captures.read_capture(octets)[1]], [bytes([n]) * (14 + n) for n in range(9)])
 
     def test_a_file_that_appears_meanwhile_is_kept(self) -> None:

@@ -47,61 +47,40 @@ class Planted(InFolder):
         self.assertEqual(self.causes(config(key=KEYS[1], more=other), self.link), {"key"})
         self.assertEqual(self.causes(config(key=KEYS[1]), self.link, "--key", KEYS[0].hex()), {"key"})
 
-    def test_offset(self) -> None:
-        self.assertEqual(self.causes(config(offset=50), self.link), {"offset"})
-        self.assertEqual(self.causes(config(), protected(self.frames, offset=30)), {"offset"})
+    def test_planted_causes(self) -> None:
+        def sent(**how: object) -> list[bytes]:
+            return protected(self.frames, **how)
 
-    def test_suite(self) -> None:
-        self.assertEqual(self.causes(config(suite="xpn128"), self.link), {"suite"})
-        extended = protected(self.frames, suite=Suite.xpn128)
+        tagged = [it[:12] + bytes.fromhex("81000064") + it[12:] for it in self.link]
+        twice = [it[:12] + bytes.fromhex("88a8000a") + it[12:] for it in tagged]
+        extended, salted = config(suite="xpn128"), config(suite="xpn128").replace(SALT.hex(), SALT[::-1].hex())
+        for causes, text, link in (
+            ("offset", config(offset=50), self.link),
+            ("offset", config(), sent(offset=30)),
+            ("suite", extended, self.link),
+            ("ssci", config(suite="xpn128", ssci="02000000"), sent(suite=Suite.xpn128, ssci=2)),
+            ("ssci", config(suite="xpn128", ssci="00000007"), sent(suite=Suite.xpn128, ssci=2)),
+            ("upper", extended, sent(suite=Suite.xpn128, pn=0x5_0000_0001)),
+            ("salt", salted, sent(suite=Suite.xpn128)),
+            ("sci", config(sci=OTHER), self.link),
+            ("sci", config(sci="0200000000010002"), sent(form="auto")),
+            ("an", config(an=1), self.link),
+            ("off", config(on=False), self.link),
+            ("own-sci", config(own=SENDER, sci=OTHER), self.link),
+            ("fcs", config(), [it + b"\xde\xad\xbe\xef" for it in self.link]),
+            ("vlan", config(), tagged),
+            ("vlan offset", config(offset=30), twice),
+            ("padding", config(), [it + bytes(6) for it in self.link]),
+            ("pn", config(pn="57"), self.link),
+            ("offset fcs", config(), [it + b"\xde\xad\xbe\xef" for it in sent(offset=30)]),
+        ):
+            with self.subTest(causes=causes, text=text):
+                self.assertEqual(self.causes(text, link), set(causes.split()))
+
+    def test_suite_of_a_key(self) -> None:
         key = f"{KEYS[0].hex()} 0"
         text = config(more=f"A key 1 {KEYS[1].hex()} 0").replace(key, f"{key} 00000009 {SALT.hex()}")
-        self.assertIn("suite", self.causes(text, extended))
-
-    def test_order_of_the_ssci(self) -> None:
-        link = protected(self.frames, suite=Suite.xpn128, ssci=2)
-        self.assertEqual(self.causes(config(suite="xpn128", ssci="02000000"), link), {"ssci"})
-        self.assertEqual(self.causes(config(suite="xpn128", ssci="00000007"), link), {"ssci"})
-
-    def test_upper_half(self) -> None:
-        link = protected(self.frames, suite=Suite.xpn128, pn=0x5_0000_0001)
-        self.assertEqual(self.causes(config(suite="xpn128"), link), {"upper"})
-
-    def test_salt(self) -> None:
-        link = protected(self.frames, suite=Suite.xpn128)
-        text = config(suite="xpn128").replace(SALT.hex(), SALT[::-1].hex())
-        self.assertEqual(self.causes(text, link), {"salt"})
-
-    def test_sci(self) -> None:
-        self.assertEqual(self.causes(config(sci=OTHER), self.link), {"sci"})
-
-    def test_sci_that_is_not_in_the_tag(self) -> None:
-        link = protected(self.frames, form="auto")
-        self.assertEqual(self.causes(config(sci="0200000000010002"), link), {"sci"})
-
-    def test_association_number(self) -> None:
-        self.assertEqual(self.causes(config(an=1), self.link), {"an"})
-
-    def test_association_off(self) -> None:
-        self.assertEqual(self.causes(config(on=False), self.link), {"off"})
-
-    def test_own_sci(self) -> None:
-        self.assertEqual(self.causes(config(own=SENDER, sci=OTHER), self.link), {"own-sci"})
-
-    def test_frame_check_sequence(self) -> None:
-        self.assertEqual(self.causes(config(), [it + b"\xde\xad\xbe\xef" for it in self.link]), {"fcs"})
-
-    def test_vlan(self) -> None:
-        tagged = [it[:12] + bytes.fromhex("81000064") + it[12:] for it in self.link]
-        self.assertEqual(self.causes(config(), tagged), {"vlan"})
-        twice = [it[:12] + bytes.fromhex("88a8000a") + it[12:] for it in tagged]
-        self.assertEqual(self.causes(config(offset=30), twice), {"vlan", "offset"})
-
-    def test_padding(self) -> None:
-        self.assertEqual(self.causes(config(), [it + bytes(6) for it in self.link]), {"padding"})
-
-    def test_packet_number(self) -> None:
-        self.assertEqual(self.causes(config(pn="57"), self.link), {"pn"})
+        self.assertIn("suite", self.causes(text, protected(self.frames, suite=Suite.xpn128)))
 
     def test_repeats(self) -> None:
         self.assertEqual(self.causes(config(), self.link + self.link[3:5], count=2), {"replay"})
@@ -110,10 +89,6 @@ class Planted(InFolder):
         later = protected(client_frames(4), key=KEYS[1], pn=9)
         more = f"A key 1 {KEYS[1].hex()} 0"
         self.assertEqual(self.causes(config(more=more), self.link + later, count=4), {"rekey"})
-
-    def test_several(self) -> None:
-        link = [it + b"\xde\xad\xbe\xef" for it in protected(self.frames, offset=30)]
-        self.assertEqual(self.causes(config(), link), {"offset", "fcs"})
 
 
 class Untouched(InFolder):
