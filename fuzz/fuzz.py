@@ -80,13 +80,8 @@ def answer_of(program, case, folder):
     for name, octets in case.files.items():
         (folder / name).write_bytes(octets)
     try:
-        done = subprocess.run(
-            [program, *(it.encode("utf-8", "surrogateescape") for it in case.words)],
-            input=case.stdin,
-            capture_output=True,
-            timeout=SECONDS,
-            cwd=folder,
-        )
+        words = [program, *(it.encode("utf-8", "surrogateescape") for it in case.words)]
+        done = subprocess.run(words, input=case.stdin, capture_output=True, timeout=SECONDS, cwd=folder)
     except subprocess.TimeoutExpired:
         return f"no end within {SECONDS} seconds"
     finally:

@@ -77,14 +77,8 @@ class Running:
             out = None
         else:
             words, out = job.words, open(self.log, "wb")
-        self.process = subprocess.Popen(
-            words,
-            stdin=subprocess.DEVNULL,
-            stdout=out,
-            stderr=out and subprocess.STDOUT,
-            cwd=ROOT,
-            start_new_session=True,
-        )
+        streams = {"stdin": subprocess.DEVNULL, "stdout": out, "stderr": out and subprocess.STDOUT}
+        self.process = subprocess.Popen(words, cwd=ROOT, start_new_session=True, **streams)
         if out:
             out.close()
 
