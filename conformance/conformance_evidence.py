@@ -77,7 +77,6 @@ class Runs:
         """Takes the program, the captures, and what is wrong with each group of vectors."""
         self.program = program
         self.captures = captures
-        # The groups of vectors, and what is wrong with each.
         self.vectors = vectors
         self.known: dict[str, str | None] = {}
         # Expected texts that the controls have replaced.

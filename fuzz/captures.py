@@ -8,7 +8,6 @@ from __future__ import annotations
 import struct
 
 MAX_RECORD, MAX_BODY, MAX_INTERFACES = 262_144, 262_164, 256
-# The link type of Ethernet.
 ETHERNET = 1
 # The types of the blocks that are not skipped, and their minimum lengths in octets; it is 12 for any other block.
 SECTION, INTERFACE, OBSOLETE, SIMPLE, ENHANCED = 0x0A0D0D0A, 1, 2, 3, 6

@@ -9,7 +9,6 @@ from typing import Callable
 # After so many lines nothing more is printed of what does not hold.
 MANY = 20
 
-# What does not hold.
 wrong: list[str] = []
 
 
@@ -41,9 +40,3 @@ def until(holds: Callable[[], bool], seconds: float = 15.0) -> bool:
             return False
         time.sleep(0.01)
     return True
-
-
-def all_hold(name: str) -> int:
-    """Prints whether everything held. Returns the status."""
-    print(f"{name}: {len(wrong)} wrong" if wrong else f"{name}: all checks hold", flush=True)
-    return 1 if wrong else 0
