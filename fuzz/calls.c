@@ -127,33 +127,8 @@ static const uint8_t *sealed_sci(const char *word) {
 
 /* ---- Blocks of the library ---- */
 
-static unsigned asked; /* how often the library asked for a block in this call, and how many blocks it got more */
-static int held;
-
 #ifndef UNCOUNTED
-void *__real_malloc(size_t size);
-void *__wrap_malloc(size_t size);
-void *__real_realloc(void *block, size_t size);
-void *__wrap_realloc(void *block, size_t size);
-void __real_free(void *block);
-void __wrap_free(void *block);
-
-void *__wrap_malloc(size_t size) {
-    asked++;
-    held++;
-    return __real_malloc(size);
-}
-
-void *__wrap_realloc(void *block, size_t size) {
-    asked++;
-    held += block == NULL;
-    return __real_realloc(block, size);
-}
-
-void __wrap_free(void *block) {
-    held -= block != NULL;
-    __real_free(block);
-}
+#include "../tests/library/c/blocks.h"
 
 /* An endpoint has seven blocks, and one more beside a journal with records. Only the calls that make one, a line and a
  * journal ask for blocks. */
@@ -172,6 +147,9 @@ static void check_blocks(const char *name, unsigned handle, bool held_before) {
         blocks[handle] = held;
 }
 #else
+static unsigned asked;
+static int held;
+
 static void check_blocks(const char *name, unsigned handle, bool held_before) {
     (void)name, (void)handle, (void)held_before, (void)blocks;
 }

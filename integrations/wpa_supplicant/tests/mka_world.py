@@ -103,8 +103,8 @@ class End(Namespace):
         return self.ask("port").strip() == "port on"
 
     def cli(self, *words: str) -> str:
-        inside = ["ip", "netns", "exec", self.namespace]
-        command = [*inside, str(self.world.wpa / "wpa_cli"), "-p", str(self.folder / "control"), "-i", "link0", *words]
+        there = ["ip", "netns", "exec", self.namespace]
+        command = [*there, str(self.world.wpa / "wpa_cli"), "-p", str(self.folder / "control"), "-i", "link0", *words]
         return subprocess.run(command, stdin=subprocess.DEVNULL, capture_output=True, text=True).stdout
 
     def status(self) -> dict[str, str]:

@@ -2,8 +2,8 @@
  * `macsec run` prints, and with `answers` the same text by the calls. Without one it also prints what it answers to
  * wrong lines, to lines about more than end A, to small buffers and without memory. Linked so that the library's calls
  * of malloc and realloc come here first. */
+#include "blocks.h"
 #include "macsec.h"
-#include "refusing.h"
 #include <stdio.h>
 #include <string.h>
 
@@ -83,6 +83,7 @@ int main(int count, char **arguments) {
     const char *asks = count > 1 ? arguments[1] : "";
     uint32_t line, status;
     size_t written = 7;
+    refused_after = true;
     if (strcmp(asks, "script") == 0) {
         print_script();
         return 0;

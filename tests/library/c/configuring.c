@@ -1,8 +1,8 @@
 /* Texts: what macsec_configure and macsec_command_line answer to them, with the line that is at fault; what an endpoint
  * does that a text has made; and their allocations refused from each on. Linked so that the library's calls of malloc
  * and realloc come here first. */
+#include "blocks.h"
 #include "macsec.h"
-#include "refusing.h"
 #include <stdio.h>
 #include <string.h>
 
@@ -83,6 +83,7 @@ int main(void) {
     const uint8_t client[60] = { 0 };
     macsec_sent sent;
     uint32_t line;
+    refused_after = true;
 
     for (size_t i = 0; i < sizeof texts / sizeof texts[0]; i++) {
         uint32_t status = configured(&e, texts[i], &line);

@@ -2,37 +2,10 @@
  * journal; and handles that hold no endpoint, after none was created or after it was freed. The program is linked so
  * that the library's calls of malloc, realloc and free come here first: no contract says that macsec_free gives back
  * each block, so it is counted. */
+#include "blocks.h"
 #include "macsec.h"
 #include <stdio.h>
-#include <stdlib.h>
 #include <string.h>
-
-void *__real_malloc(size_t size);
-void *__real_realloc(void *old, size_t size);
-void __real_free(void *block);
-void *__wrap_malloc(size_t size);
-void *__wrap_realloc(void *old, size_t size);
-void __wrap_free(void *block);
-
-static unsigned asked, refused; /* how often the library asked for memory, and which time it gets none */
-static int held;                /* how many blocks it holds */
-
-void *__wrap_malloc(size_t size) {
-    void *block = ++asked == refused ? NULL : __real_malloc(size);
-    held += block != NULL;
-    return block;
-}
-
-void *__wrap_realloc(void *old, size_t size) {
-    void *block = ++asked == refused ? NULL : __real_realloc(old, size);
-    held += block != NULL && old == NULL;
-    return block;
-}
-
-void __wrap_free(void *block) {
-    held -= block != NULL;
-    __real_free(block);
-}
 
 static const uint8_t own_sci[8] = { 2, 0, 0, 0, 0, 1, 0, 1 };
 
