@@ -93,16 +93,14 @@ def sender(suite: str, encrypt: bool, **more: Any) -> Vector:
     return {**it, **more}
 
 
-def receiver(suite: str, **more: Any) -> Vector:
+def receiver(suite: str, channel: str = SENDER, an: int = 0, pn: str = "1", **more: Any) -> Vector:
     """A receiver with one channel, that of the usual sender, and what differs from the usual values."""
     it: Vector = {"suite": suite, "key": SUITES[suite][1], "offset": 0, "sci": RECEIVER}
     it.update(validate="strict", replay=True, window=0)
     if "XPN" in suite:
         it.update(own_ssci="00000002", salt=SALT)
-    names = {name: more.pop(name) for name in ("channel", "an", "pn") if name in more}
     ssci = {"ssci": "00000001"} if "XPN" in suite else {}
-    one = {"sci": names.get("channel", SENDER), "an": names.get("an", 0), "pn": names.get("pn", "1"), **ssci}
-    return {**it, "channels": [one], **more}
+    return {**it, "channels": [{"sci": channel, "an": an, "pn": pn, **ssci}], **more}
 
 
 def endpoint(it: Vector, form: str = "sci", max_frame: int = 9248) -> expected.Endpoint:
