@@ -2,6 +2,7 @@
 
 from __future__ import annotations
 
+import contextlib
 import sys
 
 from house import ROOT
@@ -18,9 +19,7 @@ __all__ = ["Packet", "frames_so_far", "pcap_header", "pcap_record", "read", "wri
 def frames_so_far(path: object) -> list[bytes]:
     """The whole frames of a capture file that may end in a record."""
     frames: list[bytes] = []
-    try:
+    with contextlib.suppress(CaptureError):
         for packet in read(str(path)):
             frames.append(packet.frame)
-    except CaptureError:
-        pass
     return frames

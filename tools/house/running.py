@@ -2,6 +2,7 @@
 
 from __future__ import annotations
 
+import contextlib
 import os
 import pathlib
 import re
@@ -60,10 +61,8 @@ def started_by(leaders: Iterable[int]) -> set[int]:
 def signalled(numbers: Iterable[int], number: int) -> None:
     """Sends a signal to processes that may have ended."""
     for it in numbers:
-        try:
+        with contextlib.suppress(OSError):
             os.kill(it, number)
-        except OSError:
-            pass
 
 
 class Running:

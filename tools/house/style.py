@@ -37,8 +37,7 @@ def is_python(name: str) -> bool:
     """Is it a module, or a program by its first line?"""
     if "." in pathlib.PurePath(name).name:
         return name.endswith(".py")
-    with open(ROOT / name, "rb") as it:
-        return it.readline(64).startswith(b"#!/usr/bin/env python3")
+    return (ROOT / name).read_bytes().startswith(b"#!/usr/bin/env python3")
 
 
 def is_reported(command: str, suffix: str) -> bool:
