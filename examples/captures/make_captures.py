@@ -112,6 +112,9 @@ def main() -> None:
     # Three SAKs: AN 0, AN 1, and AN 0 again.
     keyed = [sent(from_1[:2], SCI_1, KEYS[0], 0, "1"), sent(later[:1], SCI_1, KEYS[1], 1, "1")]
     put("rekey.pcap", [*keyed[0], *keyed[1], *sent(later[1:], SCI_1, KEYS[2], 0, "1")])
+    # Two runs with one CONFIG, whose third client frames differ.
+    changed = [*((5_000_000 + time, frame) for time, frame in from_1[:2]), (6_001_000, ping(8, one, two, 7))]
+    put("two-runs.pcap", [*link, *sent(changed, SCI_1, KEYS[0], 0, "1")])
     # The frame check sequence left on; a VLAN tag before the SecTAG.
     put("fcs.pcap", [(time, frame + bytes.fromhex("deadbeef")) for time, frame in link])
     put("vlan.pcap", [(time, frame[:12] + bytes.fromhex("81000064") + frame[12:]) for time, frame in link])

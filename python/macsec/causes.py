@@ -137,7 +137,8 @@ class Search:
             first = (Change("vlan", f"without the VLAN tag {tags.hex()} before the SecTAG"),)
             verdict = self.configuration.alone(plain).verdict
             if verdict in OPENED:
-                return Found(first)
+                row = self._row_of(plain)
+                return Found(first, self._setting(*row) if row else None)
         if read_tag(plain) is None:
             return Found(first) if first else None
         if verdict in (Verdict.NoSAError, Verdict.NoSA):
@@ -174,6 +175,11 @@ class Search:
             named = scis[0] if len(scis) == 1 else named
         sa = self.configuration.rx_sa(named, tag.an)
         return (named, tag.an, sa) if sa else None
+
+    def setting(self, sci: bytes, an: int) -> Setting | None:
+        """What CONFIG opens the frames of an association under; None if it has none."""
+        sa = self.configuration.rx_sa(sci, an)
+        return self._setting(sci, an, sa) if sa else None
 
     def _setting(self, sci: bytes, an: int, sa: RxSa) -> Setting | None:
         line = self.configuration.keys.get(sa.key)

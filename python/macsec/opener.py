@@ -8,6 +8,7 @@ from typing import NamedTuple
 
 from .errors import FrameFault
 from .frames import MACSEC, SecTag, has_fcs, read_tag, sender_of, without_vlan
+from .ivs import UsedIvs
 from .names import Suite, Verdict
 from .trial import OPENED, Key, KeyArgument, Trial, Trials
 
@@ -20,7 +21,8 @@ _FCS = 4
 
 
 class Opened(NamedTuple):
-    """What became of a record. `frame` is the client's, or what was captured if it is not opened."""
+    """What became of a record. `frame` is the client's, or what was captured if it is not opened. `iv_also_in` is a
+    record with the same IV under the same key and other octets."""
 
     frame: bytes
     state: str  # "opened", "not opened", "not protected"
@@ -29,6 +31,7 @@ class Opened(NamedTuple):
     an: int | None = None
     pn: int | None = None
     key: str = ""
+    iv_also_in: int | None = None
 
     @property
     def comment(self) -> str:
@@ -37,7 +40,9 @@ class Opened(NamedTuple):
             return f"macsec: {self.state}"
         number = "" if self.pn is None else f", PN 0x{self.pn:x}"
         what = self.verdict if self.state == "opened" else f"{self.state} ({self.verdict})"
-        return f"macsec: {what}, SCI {self.sci}, AN {self.an}{number}" + (f", {self.key}" if self.key else "")
+        key = f", {self.key}" if self.key else ""
+        twice = "" if self.iv_also_in is None else f"; IV USED TWICE: also in record {self.iv_also_in}"
+        return f"macsec: {what}, SCI {self.sci}, AN {self.an}{number}{key}{twice}"
 
 
 class Live(NamedTuple):
@@ -73,9 +78,15 @@ class Event(NamedTuple):
 
 
 class Opener:
-    """Opens frames under keys."""
+    """Opens frames under keys, and notes their IVs. `ivs` has those of an earlier run over the same capture."""
 
-    def __init__(self, keys: Sequence[KeyArgument], suite: Suite | None = None, offset: int | None = None) -> None:
+    def __init__(
+        self,
+        keys: Sequence[KeyArgument],
+        suite: Suite | None = None,
+        offset: int | None = None,
+        ivs: UsedIvs | None = None,
+    ) -> None:
         self._keys = list(keys)
         self._suite = suite
         self._offsets = (0, 30, 50) if offset is None else (offset,)
@@ -83,6 +94,7 @@ class Opener:
         self._sscis: dict[bytes, int] = {}
         self._trials = Trials()
         self._wide_searches = 0
+        self.ivs = ivs or UsedIvs()
         self.events: list[Event] = []
         # How the last frame was opened, or None.
         self.last: Live | None = None
@@ -110,7 +122,7 @@ class Opener:
     ) -> Opened | None:
         """Opens a frame under an association of its stream, or under another key."""
         for live in stream.live:
-            opened = self._under(live, stream, plain, tag, tags)
+            opened = self._under(record, live, stream, plain, tag, tags)
             if opened:
                 return opened
         found = self._search(stream, plain, tag, may_cut)
@@ -124,9 +136,9 @@ class Opener:
         if self._latest.get(event[1:3]) != key.name:
             self.events.append(event)
             self._latest[event[1:3]] = key.name
-        return self._under(Live(trial, cut), stream, plain, tag, tags)
+        return self._under(record, Live(trial, cut), stream, plain, tag, tags)
 
-    def _under(self, live: Live, stream: _Stream, plain: bytes, tag: SecTag, tags: bytes) -> Opened | None:
+    def _under(self, record: int, live: Live, stream: _Stream, plain: bytes, tag: SecTag, tags: bytes) -> Opened | None:
         octets = plain[: len(plain) - live.cut] if live.cut else plain
         received = live.trial.receive(octets)
         if received.verdict not in OPENED or received.frame is None:
@@ -135,13 +147,16 @@ class Opener:
             stream.keep(live)
         stream.failures = 0
         self.last = live
-        number: int | None = tag.pn
-        if live.trial.key.suite.is_extended:
-            number = live.trial.packet_number() if received.verdict == Verdict.OK else None
-            stream.upper = number >> 32 if number is not None else stream.upper
+        trial = live.trial
+        number = tag.pn
+        if trial.key.suite.is_extended:
+            number = trial.packet_number(tag.pn)
+            stream.upper = number >> 32
         client = received.frame[:12] + tags + received.frame[12:]
-        sci = live.trial.sci.hex()
-        return Opened(client, "opened", received.verdict.name, sci, tag.an, number, live.trial.key.name)
+        again = self.ivs.add(record, trial.key, trial.sci, trial.ssci, number, octets, tag)
+        other = again[1] if again else None
+        verdict = received.verdict.name
+        return Opened(client, "opened", verdict, trial.sci.hex(), tag.an, number, trial.key.name, other)
 
     def _failed(self, stream: _Stream, whole: bytes, plain: bytes, tag: SecTag) -> Opened:
         """A frame that no key opens: its verdict is that under the first one which it can have."""
@@ -209,7 +224,8 @@ class Opener:
             count = _SSCIS if is_wide else _FEW_SSCIS
             sscis = [*([self._sscis[sci]] if sci in self._sscis else []), *range(1, count + 1)]
             sscis += [it << 24 for it in range(1, _FEW_SSCIS + 1)]
-        uppers = [stream.upper, stream.upper + 1, *range(_UPPER_HALVES if is_wide else _FEW_UPPER_HALVES)]
+        near = [stream.upper, stream.upper + 1, max(stream.upper - 1, 0)]
+        uppers = [*near, *range(_UPPER_HALVES if is_wide else _FEW_UPPER_HALVES)]
         # One endpoint tries all upper halves, so these are the inner loop.
         for ssci in dict.fromkeys(sscis):
             for upper in dict.fromkeys(uppers):

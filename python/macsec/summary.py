@@ -4,7 +4,7 @@ from __future__ import annotations
 
 import collections
 from collections import Counter
-from collections.abc import Sequence
+from collections.abc import Mapping, Sequence
 
 from .frames import SecTag, ethertype, read_tag, sender_of, without_vlan
 
@@ -37,12 +37,14 @@ class Association:
 
     def __init__(self, sci: str, an: int) -> None:
         self.sci, self.an, self.frames, self.repeats = sci, an, 0, 0
-        # Records that have a packet number of an earlier one, and other octets.
-        self.reused: list[int] = []
+        # Records that have a packet number of an earlier one, and other octets; each with that one.
+        self.reused: dict[int, int] = {}
+        # Those of them that are known to be under another key than the earlier one.
+        self.rekeyed: list[int] = []
         self.flags: Counter[str] = collections.Counter()
         self.verdicts: Counter[str] = collections.Counter()
         self._last = 0
-        self._seen: dict[int, int] = {}
+        self._seen: dict[int, tuple[int, int]] = {}
 
     def add(self, record: int, tag: SecTag, frame: bytes, verdict: str) -> None:
         """Counts a frame. A number that falls by more than half of all is taken for one of the next upper half."""
@@ -55,12 +57,20 @@ class Association:
         elif number > self._last + _HALF and number >= 1 << 32:
             number -= 1 << 32
         octets = hash(frame)
-        if self._seen.setdefault(number, octets) != octets:
-            self._seen[number] = octets
-            self.reused.append(record)
+        earlier, before = self._seen.setdefault(number, (record, octets))
+        if before != octets:
+            self._seen[number] = record, octets
+            self.reused[record] = earlier
         elif len(self._seen) + self.repeats + len(self.reused) < self.frames:
             self.repeats += 1
         self._last = max(self._last, number)
+
+    def note_keys(self, keys: Mapping[int, bytes]) -> None:
+        """Notes which of the records that reuse a number are under another key, given the keys of opened records."""
+        self.rekeyed = [
+            record for record, earlier in self.reused.items()
+            if record in keys and earlier in keys and keys[record] != keys[earlier]
+        ]  # fmt: skip
 
     @property
     def missing(self) -> int:
@@ -71,13 +81,16 @@ class Association:
         return {
             "sci": self.sci, "an": self.an, "frames": self.frames, "first": f"{min(self._seen) & 0xFFFFFFFF:08x}",
             "last": f"{self._last & 0xFFFFFFFF:08x}", "missing": self.missing, "repeated": self.repeats,
-            "reused": self.reused, "flags": dict(self.flags), "verdicts": dict(self.verdicts),
+            "reused": list(self.reused), "rekeyed": self.rekeyed, "flags": dict(self.flags), "verdicts": dict(self.verdicts),
         }  # fmt: skip
 
     def __str__(self) -> str:
         it = self.as_dict()
         verdicts = ", ".join(f"{name} {count}" for name, count in self.verdicts.most_common())
-        reused = f"; a number again with other octets in record {ranges(self.reused)}: a rekey" if self.reused else ""
+        rekeyed = set(self.rekeyed)
+        others = [record for record in self.reused if record not in rekeyed]
+        reused = f"; a number again with other octets in record {ranges(others)}" if others else ""
+        reused += f"; a number again under another key in record {ranges(self.rekeyed)}: a rekey" * bool(self.rekeyed)
         return (
             f"SCI {self.sci} AN {self.an}: {frames_text(self.frames)}, PN {it['first']} to {it['last']}, "
             f"{self.missing} missing, {self.repeats} repeated: {verdicts}{reused}"
@@ -105,6 +118,11 @@ class Summary:
             self.associations[place] = Association(*place)
         self.associations[place].add(record, tag, plain, verdict)
         return place
+
+    def note_keys(self, keys: Mapping[int, bytes]) -> None:
+        """Notes under which keys records opened: a number that comes again under another key is a rekey."""
+        for each in self.associations.values():
+            each.note_keys(keys)
 
     def lines(self) -> list[str]:
         """The summary as text. An SCI in parentheses is a source address: the tag names no sender."""

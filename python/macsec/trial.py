@@ -32,6 +32,16 @@ def own_sci(*others: bytes) -> bytes:
     return next(it for it in (*_OWN_SCIS, *(bytes([2, *[0] * 6, n]) for n in range(256))) if it not in others)
 
 
+def whole_number(pn: int, next_number: int) -> int:
+    """The whole packet number of a frame with this PN in its SecTAG that was opened, or was late: the highest one
+    below the next expected number. Windows have fewer than 2^31 numbers, so no other one can be.
+
+    >>> hex(whole_number(0xffffffff, 0x300000002)), hex(whole_number(1, 0x300000002))
+    ('0x2ffffffff', '0x300000001')
+    """
+    return next_number - 1 - (next_number - 1 - pn) % 2**32
+
+
 class Trial:
     """An endpoint with one key and one channel, which opens frames of one association, late ones too."""
 
@@ -56,9 +66,9 @@ class Trial:
         """What becomes of a frame. `begin` comes first."""
         return self.secy.receive(frame)
 
-    def packet_number(self) -> int:
-        """The packet number after a frame with the verdict OK: that of the frame, since the window is 0."""
-        return self.secy.rx_sa(self.sci, self.an).next - 1
+    def packet_number(self, pn: int) -> int:
+        """The whole packet number of the last frame, which was opened and has this PN in its SecTAG."""
+        return whole_number(pn, self.secy.rx_sa(self.sci, self.an).next)
 
     def close(self) -> None:
         self.secy.close()

@@ -11,6 +11,7 @@ from collections.abc import Sequence
 
 from .. import capture
 from ..errors import UsageError
+from ..ivs import UsedIvs, dicts_of, lines_of
 from ..names import Suite
 from ..opener import Opener
 from ..summary import frames_text
@@ -57,8 +58,10 @@ def main(words: Sequence[str] | None = None) -> int:
         prog="macsec-decrypt",
         description="Opens the frames of IN, of all senders, and writes them to OUT with verdict and packet number as "
         "comments. OUT is a new pcapng file, which appears when it is complete. Frames that do not open, or are not "
-        "protected, are kept as they are: nobody authenticated them.",
-        epilog="Exit status: 0 if every protected frame was opened, 3 if not; 1 for a file, 2 for arguments.",
+        "protected, are kept as they are: nobody authenticated them. Frames with other octets that use one IV under "
+        "one key are named first.",
+        epilog="Exit status: 0 if every protected frame was opened, 3 if not, or if an IV is used twice; 1 for a file, "
+        "2 for arguments.",
     )
     parser.add_argument("capture", metavar="IN", help="pcap or pcapng, also compressed by gzip")
     parser.add_argument("out", metavar="OUT", help="a new file")
@@ -73,40 +76,65 @@ def main(words: Sequence[str] | None = None) -> int:
 
 
 def _decrypt(asked: argparse.Namespace) -> int:
-    opener = Opener(key_arguments(asked), Suite[asked.suite] if asked.suite else None, asked.offset)
-    # The input is opened first, so that a wrong name leaves no file.
-    with open(asked.capture, "rb"):
-        out = capture.PcapngFile(asked.out)
+    keys = key_arguments(asked)
+    made = _Made(asked, keys, UsedIvs())
     try:
-        counts = _write(opener, asked, out)
-        out.close()
+        if made.ivs.twice:
+            # Written again, so that each of the frames with one IV names another one, the first of them too.
+            made.out.discard()
+            made = _Made(asked, keys, made.ivs)
+        made.out.close()
     finally:
-        out.discard()
-        opener.close()
-    if not asked.json:
-        for event in opener.events:
-            print(f"record {event.record}: SCI {event.sci} AN {event.an} under {event.key}")
-        print("; ".join(f"{frames_text(count)} {state}" for state, count in counts.items()) or "0 frames")
-    return 3 if counts["not opened"] else 0
+        made.out.discard()
+    twice = made.ivs.twice
+    if asked.json:
+        lines = [*map(json.dumps, dicts_of(twice)), *made.records]
+    else:
+        lines = lines_of(twice)
+        lines += [f"record {it.record}: SCI {it.sci} AN {it.an} under {it.key}" for it in made.events]
+        counts = made.counts.items()
+        lines.append("; ".join(f"{frames_text(count)} {state}" for state, count in counts) or "0 frames")
+    sys.stdout.write("".join(f"{it}\n" for it in lines))
+    return 3 if made.counts["not opened"] or twice else 0
 
 
-def _write(opener: Opener, asked: argparse.Namespace, out: capture.PcapngFile) -> Counter[str]:
-    """Opens all records, writes them and counts them."""
-    counts: Counter[str] = collections.Counter()
-    for packet in capture.read(asked.capture):
+class _Made:
+    """What a run over the capture makes: OUT, which is not complete until it is closed, and what is printed. `ivs` has
+    the IVs of an earlier run, or none."""
+
+    def __init__(self, asked: argparse.Namespace, keys: Sequence[KeyArgument], ivs: UsedIvs) -> None:
+        self.ivs = ivs
+        self.counts: Counter[str] = collections.Counter()
+        self.records: list[str] = []
+        self._asked = asked
+        opener = Opener(keys, Suite[asked.suite] if asked.suite else None, asked.offset, ivs)
+        # The input is opened first, so that a wrong name leaves no file.
+        with open(asked.capture, "rb"):
+            self.out = capture.PcapngFile(asked.out)
+        try:
+            for packet in capture.read(asked.capture):
+                self._add(opener, packet)
+        except BaseException:
+            self.out.discard()
+            raise
+        finally:
+            opener.close()
+        self.events = opener.events
+
+    def _add(self, opener: Opener, packet: capture.Packet) -> None:
+        """Opens a record, writes it and counts it."""
         if not packet.is_whole:
-            counts["not whole or not Ethernet"] += 1
-            if not asked.only_opened:
-                out.write(packet.time, packet.frame, packet.length, "", packet.link_type)
-            continue
+            self.counts["not whole or not Ethernet"] += 1
+            if not self._asked.only_opened:
+                self.out.write(packet.time, packet.frame, packet.length, "", packet.link_type)
+            return
         it = opener.open(packet.number, packet.frame, packet.fcs)
-        counts[it.state] += 1
-        if asked.json:
+        self.counts[it.state] += 1
+        if self._asked.json:
             about = {key: value for key, value in it._asdict().items() if key != "frame" and value not in (None, "")}
-            print(json.dumps({"record": packet.number, **about, "length": len(it.frame)}))
-        if it.state == "opened" or not asked.only_opened:
-            out.write(packet.time, it.frame, len(it.frame), it.comment)
-    return counts
+            self.records.append(json.dumps({"record": packet.number, **about, "length": len(it.frame)}))
+        if it.state == "opened" or not self._asked.only_opened:
+            self.out.write(packet.time, it.frame, len(it.frame), it.comment)
 
 
 if __name__ == "__main__":

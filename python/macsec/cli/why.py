@@ -13,10 +13,12 @@ from .. import capture
 from ..causes import Change, Found, Search, Setting
 from ..endpoint_of_config import Configuration
 from ..errors import FrameFault, UsageError
-from ..frames import ethertype, read_tag, without_vlan
+from ..frames import SecTag, ethertype, read_tag, without_vlan
+from ..ivs import UsedIvs, UsedTwice, dicts_of, lines_of
 from ..names import Verdict
+from ..secy import Received
 from ..summary import Summary, frames_text, ranges
-from ..trial import OPENED, Key, Trial, key_argument
+from ..trial import OPENED, Key, Trial, key_argument, whole_number
 from . import run
 
 _DELIVERED_AS_SENT = (Verdict.OK, Verdict.Delayed)
@@ -59,11 +61,54 @@ class Group(NamedTuple):
         return found + ([f"  {self.note}"] if self.note else [])
 
 
+class Ivs:
+    """The keys and IVs of the frames that open: under CONFIG, or under the setting that explains them."""
+
+    def __init__(self, configuration: Configuration, search: Search, only: int | None) -> None:
+        self.keys: dict[int, bytes] = {}
+        self._configuration, self._search, self._only = configuration, search, only
+        self._used = UsedIvs()
+        self._of_only: list[UsedTwice] = []
+        self._bases: dict[tuple[bytes, int], Setting | None] = {}
+
+    def add(self, record: int, setting: Setting, number: int, frame: bytes, tag: SecTag) -> None:
+        """Adds a frame that opens under a setting, with its whole packet number."""
+        self.keys[record] = setting.key.octets
+        found = self._used.add(record, setting.key, setting.sci, setting.ssci, number, frame, tag)
+        if found and record == self._only:
+            self._of_only = [found[0]]
+
+    def add_received(self, record: int, frame: bytes, received: Received) -> None:
+        """Adds a frame that is OK, Delayed or Late, if its ICV is valid."""
+        tag = read_tag(frame)
+        if tag is None or received.sci is None or received.an is None:
+            return
+        place = received.sci, received.an
+        if place not in self._bases:
+            self._bases[place] = self._search.setting(*place)
+        base = self._bases[place]
+        if base is None:
+            return
+        number = tag.pn
+        if base.key.suite.is_extended:
+            number = whole_number(tag.pn, self._configuration.secy.rx_sa(*place).next)
+        # The ICV of a late frame is not checked if it is dropped, nor under `validate disabled`.
+        is_checked = received.verdict == Verdict.OK
+        if is_checked or base._replace(upper=number >> 32).opens(self._search.trials, frame):
+            self.add(record, base, number, frame, tag)
+
+    @property
+    def twice(self) -> list[UsedTwice]:
+        """The IVs that are used twice: all, or that of the record that was asked for."""
+        return self._used.twice if self._only is None else self._of_only
+
+
 class Run:
     """What `macsec validate` makes of a capture, and the frames that it did not open."""
 
-    def __init__(self, configuration: Configuration, path: str, only: int | None) -> None:
+    def __init__(self, configuration: Configuration, search: Search, path: str, only: int | None) -> None:
         self.summary = Summary()
+        self.ivs = Ivs(configuration, search, only)
         self.unopened: dict[_Kind, list[Seen]] = {}
         self.first_opened: dict[tuple[str, int | None], int] = {}
         self.others: dict[str, list[int]] = collections.defaultdict(list)
@@ -84,10 +129,13 @@ class Run:
             self.others[name].append(packet.number)
             return name
         try:
-            verdict = configuration.secy.receive(packet.frame).verdict
+            received = configuration.secy.receive(packet.frame)
         except FrameFault as why:
             self.others[why.name].append(packet.number)
             return why.name
+        verdict = received.verdict
+        if verdict in (*_DELIVERED_AS_SENT, Verdict.Late):
+            self.ivs.add_received(packet.number, packet.frame, received)
         of = self.summary.add(packet.number, packet.frame, verdict.name)
         if verdict in _DELIVERED_AS_SENT:
             self.first_opened.setdefault(of, packet.number)
@@ -98,8 +146,8 @@ class Run:
         return verdict.name
 
 
-def _opened_by(setting: Setting, seen: Sequence[Seen]) -> list[int]:
-    """The records of the frames that open under a setting, one after another."""
+def _opened_by(setting: Setting, seen: Sequence[Seen], ivs: Ivs) -> list[int]:
+    """The records of the frames that open under a setting, one after another. Their IVs are noted."""
     trial = Trial(setting.key, setting.sci, setting.an, setting.ssci)
     trial.begin(setting.upper)
     found = []
@@ -109,6 +157,7 @@ def _opened_by(setting: Setting, seen: Sequence[Seen]) -> list[int]:
         tag = read_tag(octets)
         if tag is not None and len(octets) >= 14 and trial.receive(octets).verdict in OPENED:
             found.append(each.record)
+            ivs.add(each.record, setting, trial.packet_number(tag.pn), octets, tag)
     trial.close()
     return found
 
@@ -125,7 +174,8 @@ def _note_of(run_: Run, kind: _Kind, seen: Seen) -> str:
     first = run_.first_opened.get((sender, an))
     if first is not None and verdict in (Verdict.NotValid, Verdict.Invalid):
         return (
-            f"no change that was tried opens it; others of the association open (record {first}): altered, or a rekey"
+            f"no change that was tried opens it; others of the association open (record {first}): altered, or under a "
+            "key that is not given"
         )
     return "no change that was tried opens it: another key, or salt; give more keys by --key"
 
@@ -173,7 +223,7 @@ class Explanation:
     def _records(self, found: Found, left: list[Seen], verdict: Verdict) -> list[int]:
         """The records of the first frame, and of those that have the same cause."""
         if found.setting is not None:
-            return [left[0].record, *_opened_by(found.setting, left[1:])]
+            return sorted({left[0].record, *_opened_by(found.setting, left, self._run.ivs)})
         return [left[0].record, *(it.record for it in left[1:] if _is_same(self._search, found, it, verdict))]
 
 
@@ -215,8 +265,10 @@ def main(words: Sequence[str] | None = None) -> int:
     """Runs the command, and returns its exit status."""
     parser = argparse.ArgumentParser(
         prog="macsec-why",
-        description="Names the cause of each verdict other than OK and Delayed, and summarizes a capture.",
-        epilog="Exit status: 0 if every protected frame opens, 3 if not; 1 for a file, 2 for arguments or CONFIG.",
+        description="Names the frames with other octets that use one IV under one key, and the cause of each verdict "
+        "other than OK and Delayed, and summarizes a capture.",
+        epilog="Exit status: 0 if every protected frame opens, 3 if not, or if an IV is used twice; 1 for a file, 2 "
+        "for arguments or CONFIG.",
     )
     parser.add_argument("config", metavar="CONFIG", help="the configuration of `macsec validate`")
     parser.add_argument("capture", metavar="IN", help="pcap or pcapng, also compressed by gzip")
@@ -231,22 +283,24 @@ def _why(asked: argparse.Namespace) -> int:
     with open(asked.config, "rb") as file:
         configuration = Configuration(file.read())
     search = Search(configuration, _more_keys(asked.key))
-    made = Run(configuration, asked.capture, asked.record)
+    made = Run(configuration, search, asked.capture, asked.record)
     groups = Explanation(made, search).groups
     search.trials.close()
+    made.summary.note_keys(made.ivs.keys)
+    twice = made.ivs.twice
     if asked.json:
-        objects: list[dict[str, object]] = [{"refused": it._asdict()} for it in configuration.refusals]
+        objects = [*dicts_of(twice), *({"refused": it._asdict()} for it in configuration.refusals)]
         objects += [] if asked.record is not None else made.summary.as_dicts()
         objects += [{"not seen": name, "records": records} for name, records in made.others.items()]
         objects += [{"unopened": it.as_dict()} for it in groups]
         lines = [json.dumps(it) for it in objects]
     else:
-        lines = [f"{it.message}" for it in configuration.refusals]
+        lines = [*lines_of(twice), *(f"{it.message}" for it in configuration.refusals)]
         lines += _record_lines(made.only, made.only_verdict) if made.only else made.summary.lines()
         lines += [f"record {ranges(records)}: {name}" for name, records in made.others.items()]
         lines += [line for it in groups for line in it.lines()]
     sys.stdout.write("".join(f"{it}\n" for it in lines))
-    return 3 if any(it.an is not None or it.changes for it in groups) else 0
+    return 3 if twice or any(it.an is not None or it.changes for it in groups) else 0
 
 
 if __name__ == "__main__":

@@ -1,0 +1,115 @@
+"""Finds initialization vectors (IVs) that frames with other octets use under one key. That breaks GCM."""
+
+from __future__ import annotations
+
+import hashlib
+from collections.abc import Sequence
+from typing import NamedTuple
+
+from .frames import ICV_OCTETS, SecTag
+from .summary import ranges
+from .trial import Key
+
+_MOST_LINES = 8
+
+
+def iv_of(key: Key, sci: bytes, ssci: int, pn: int) -> bytes:
+    """The IV of a frame: SCI and packet number, or under an extended suite SSCI and packet number XOR the salt.
+
+    >>> from .names import Suite
+    >>> iv_of(Key(bytes(16), Suite.gcm128), bytes.fromhex("0200000000010001"), 0, 3).hex()
+    '020000000001000100000003'
+    >>> iv_of(Key(bytes(16), Suite.xpn128, salt=bytes(11) + b"\\x01"), bytes(8), 5, 0x200000003).hex()
+    '000000050000000200000002'
+    """
+    if not key.suite.is_extended:
+        return sci + pn.to_bytes(4, "big")
+    return (int.from_bytes(key.salt, "big") ^ (ssci << 64 | pn)).to_bytes(12, "big")
+
+
+def _digest(frame: bytes, tag: SecTag) -> bytes:
+    """What distinguishes the octets of a frame. Padding after the ICV is left out: it is not of the frame."""
+    end = tag.end + tag.sl + ICV_OCTETS if tag.sl else len(frame)
+    return hashlib.blake2b(frame[:end], digest_size=16).digest()
+
+
+class _Use(NamedTuple):
+    """A frame that opened: its record and a digest of its octets, the name of the key, SCI and packet number."""
+
+    record: int
+    digest: bytes
+    key: str
+    sci: bytes
+    pn: int
+
+
+class UsedTwice:
+    """An IV that several frames with other octets use under one key."""
+
+    def __init__(self, first: _Use) -> None:
+        self._uses = {first.digest: first}
+
+    def add(self, use: _Use) -> int:
+        """Adds a frame, unless it repeats one of them. Returns the record of one that has other octets."""
+        self._uses.setdefault(use.digest, use)
+        return next(it.record for it in self._uses.values() if it.digest != use.digest)
+
+    @property
+    def records(self) -> list[int]:
+        """The records, in order, each with other octets."""
+        return sorted(it.record for it in self._uses.values())
+
+    def as_dict(self) -> dict[str, object]:
+        """The records, key and SCI by their names, and the packet number. Several names are joined by `and`."""
+        uses = list(self._uses.values())
+        keys, scis = dict.fromkeys(it.key for it in uses), dict.fromkeys(it.sci.hex() for it in uses)
+        return {"records": self.records, "key": " and ".join(keys), "sci": " and ".join(scis), "pn": uses[0].pn}
+
+    def __str__(self) -> str:
+        it = self.as_dict()
+        records = " and ".join(map(str, self.records)) if len(self.records) == 2 else ranges(self.records)
+        return f"IV USED TWICE: records {records}, {it['key']}, SCI {it['sci']}, PN 0x{it['pn']:x}"
+
+
+class UsedIvs:
+    """The IVs that the frames of a capture use, of each key. A frame that is repeated octet for octet is one use."""
+
+    def __init__(self) -> None:
+        self._first: dict[bytes, dict[bytes, _Use]] = {}
+        self._twice: dict[tuple[bytes, bytes], UsedTwice] = {}
+
+    def add(
+        self, record: int, key: Key, sci: bytes, ssci: int, pn: int, frame: bytes, tag: SecTag
+    ) -> tuple[UsedTwice, int] | None:
+        """Adds a frame that opened under a key. `frame` is what the ICV was checked for, without VLAN tags before the
+        SecTAG; `pn` is the whole packet number. Returns its IV, and the record of a frame that used it with other
+        octets, if there is one so far."""
+        iv = iv_of(key, sci, ssci, pn)
+        use = _Use(record, _digest(frame, tag), key.name, sci, pn)
+        first = self._first.setdefault(key.octets, {}).setdefault(iv, use)
+        found = self._twice.get((key.octets, iv))
+        if found is None and first.digest == use.digest:
+            return None
+        if found is None:
+            found = self._twice[key.octets, iv] = UsedTwice(first)
+        return found, found.add(use)
+
+    @property
+    def twice(self) -> list[UsedTwice]:
+        """The IVs that are used twice."""
+        return sorted(self._twice.values(), key=lambda it: it.records)
+
+
+def lines_of(found: Sequence[UsedTwice]) -> list[str]:
+    """A line for each IV that is used twice; many are summarized in the last line."""
+    more = found[_MOST_LINES:]
+    lines = [str(it) for it in found[:_MOST_LINES]]
+    if more:
+        records = sorted(record for it in more for record in it.records)
+        lines.append(f"IV USED TWICE: {len(more)} more, records {ranges(records)}")
+    return lines
+
+
+def dicts_of(found: Sequence[UsedTwice]) -> list[dict[str, object]]:
+    """An object for each IV that is used twice."""
+    return [{"iv used twice": it.as_dict()} for it in found]
