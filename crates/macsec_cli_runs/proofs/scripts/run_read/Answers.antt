@@ -3,9 +3,14 @@ use Rattle.std.proofs.Common.{inl}
 use Rattle.std.proofs.KnownBytes.{Keeps-refl}
 use Rattle.std.proofs.lemmas.Result.{err_from_is_err_and}
 use Rattle.macsec_script.proofs.Promised.{promised_over}
-use Rattle.macsec_script.proofs.Unwritten.{carried_over}
+use Rattle.macsec_script.proofs.Unwritten.{carried_over, unread}
 use Rattle.macsec_cli_runs.proofs.FlushedText.{of_text}
 use Rattle.macsec_cli_runs.proofs.scripts.run_read.Goals as goal
+
+pub returns-in_err-text-clause-run : goal.returns-in_err-text-clause-run
+returns-in_err-text-clause-run g c =
+    let p = err_from_is_err_and c.from_residual.result c.from_residual.ensures.1 in
+    rw (p.1, p.2) (unread _ _ _ c.in_err-text.ensures.text)
 
 pub returns-in_err-text-clause-some_text : goal.returns-in_err-text-clause-some_text
 returns-in_err-text-clause-some_text g c =
