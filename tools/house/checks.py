@@ -17,6 +17,9 @@ QUICK = 10
 
 PROOFS = "proofs"
 
+# The line of `rt ci` after which it goes on with the other crates, and can only fail.
+NOT_PROVED = r"^rt: \S+(: its tests are)? NOT PROVED"
+
 
 class Check(NamedTuple):
     """A check. `test`, `gate` and `hand` are the arguments with which `make test`, the gate and a person run its

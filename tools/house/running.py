@@ -27,13 +27,15 @@ COUNTS = re.compile(r"(\d+) passed, (\d+) failed")
 
 class Job(NamedTuple):
     """A command and its name. `shown` is for one whose lines appear as it prints them, `counted` the form of a line that
-    it prints for each test that passed, `then` a job that begins when this one has passed."""
+    it prints for each test that passed, `lost` the form of a line after which it can only fail, and `then` a job that
+    begins when this one has passed."""
 
     name: str
     words: list[str]
     shown: bool = False
     counted: str | None = None
     log: pathlib.Path | None = None
+    lost: str | None = None
     then: Job | None = None
 
 
@@ -80,6 +82,17 @@ class Running:
         self.process = subprocess.Popen(words, cwd=ROOT, start_new_session=True, **streams)
         if out:
             out.close()
+        self.read = 0
+
+    def is_lost(self) -> bool:
+        """Has it printed, since this was last asked, the line after which it can only fail?"""
+        if not self.job.lost or not self.log.exists() or self.log.stat().st_size == self.read:
+            return False
+        with open(self.log, "rb") as log:
+            log.seek(self.read)
+            lines, end, _ = log.read().rpartition(b"\n")
+        self.read += len(lines + end)
+        return bool(re.search(self.job.lost.encode(), lines, re.M))
 
     def ended(self) -> bool:
         return self.process.poll() is not None
@@ -115,6 +128,10 @@ class Runner:
                     good &= passed
                     if passed and each.job.then:
                         waiting.append(each.job.then)
+                for each in [it for it in running if self.stops and it.is_lost()]:
+                    running.remove(each)
+                    self.stop([each])
+                    good &= self.note(each)
                 if not good and self.stops:
                     break
                 time.sleep(0.05)
