@@ -5,6 +5,10 @@
  * pages that can't be written meanwhile, and it ends, or begins, where a page follows that can't be read; so do the
  * structs that a call fills in. Linked so that the library's calls of malloc, realloc and free come here first, the
  * program ends at a call that takes or gives back other blocks than the header says; with -DUNCOUNTED it doesn't look.
+ *
+ * The call of a line that begins with ! or ? is made several times: first with its first allocation refused, then with
+ * its second, and so on until none is refused, which is the call itself. With ? all allocations after that one are
+ * refused too. Each time an answer is printed.
  */
 #define _DEFAULT_SOURCE
 #include "macsec.h"
@@ -81,9 +85,12 @@ struct room {
 static struct room rooms[MOST_ROOMS];
 static unsigned room_count, line_count;
 
-/* Returns so much memory. In every other line it begins at the page that can't be read, else it ends there. */
+/* Returns so much memory, full of 7. In every other line it begins at the page that can't be read, and there is none if
+ * the size is 0; else it ends there. */
 static void *room_of(size_t size) {
     size_t page = (size_t)sysconf(_SC_PAGESIZE), inside = (size + page - 1) / page * page;
+    if (size == 0 && line_count % 2 != 0)
+        return NULL;
     struct room *it = &rooms[room_count++];
     if (room_count > MOST_ROOMS)
         fail("too many rooms");
@@ -93,7 +100,7 @@ static void *room_of(size_t size) {
     if (it->pages == MAP_FAILED || (inside != 0 && mprotect(it->pages + page, inside, PROT_READ | PROT_WRITE) != 0))
         fail("out of memory");
     it->at = it->pages + page + (line_count % 2 ? 0 : inside - size);
-    return it->at;
+    return memset(it->at, 7, size);
 }
 
 /* Lets nobody write to the last memory that was asked for. */
@@ -114,8 +121,8 @@ static void leave_rooms(void) {
 /* The octets of a word, which nobody can write. */
 static const uint8_t *sealed(const char *word) {
     uint8_t *room = room_of(length_of(word));
-    octets(word, room, length_of(word));
-    seal();
+    if (octets(word, room, length_of(word)) != 0)
+        seal();
     return room;
 }
 
@@ -131,8 +138,9 @@ static const uint8_t *sealed_sci(const char *word) {
 #include "../tests/library/c/blocks.h"
 
 /* An endpoint has seven blocks, and one more beside a journal with records. Only the calls that make one, a line and a
- * journal ask for blocks. */
-static void check_blocks(const char *name, unsigned handle, bool held_before) {
+ * journal ask for blocks, and not of a handle that holds an endpoint if they make one, or else of one that holds none.
+ */
+static void check_blocks(const char *name, unsigned handle, bool held_before, uint32_t status) {
     const char *reading[] = { "configure",    "command_line",      "answer",
                               "reserve_open", "reserve_configure", "journal_compacted" };
     bool beside = strncmp(name, "reserve_", strlen("reserve_")) == 0, may_ask = false;
@@ -141,31 +149,29 @@ static void check_blocks(const char *name, unsigned handle, bool held_before) {
     int changed = made[handle] == held_before ? 0 : held_before ? -blocks[handle] : held;
     if (held != changed || (changed > 0 && held != 7 && (held != 8 || !beside)))
         fail("the library holds another number of blocks");
-    if (!may_ask && asked != (changed > 0 ? 7u : 0u))
+    if (refused == 0 && !may_ask && asked != (changed > 0 ? 7u : 0u))
         fail("the library asked for another number of blocks");
+    if ((status == MACSEC_E_TAKEN || status == MACSEC_E_EMPTY) && asked != 0)
+        fail("the library asked for blocks in vain");
     if (changed > 0)
         blocks[handle] = held;
 }
 #else
-static unsigned asked;
+static unsigned asked, refused;
+static bool refused_after;
 static int held;
 
-static void check_blocks(const char *name, unsigned handle, bool held_before) {
-    (void)name, (void)handle, (void)held_before, (void)blocks;
+static void check_blocks(const char *name, unsigned handle, bool held_before, uint32_t status) {
+    (void)name, (void)handle, (void)held_before, (void)status, (void)blocks, (void)refused_after;
 }
 #endif
 
 /* ---- The calls ---- */
 
-/* What every reserved member has before a call. */
-#define SEVENS                                                                                                         \
-    { 7, 7, 7, 7, 7, 7, 7, 7, 7, 7 }
-static const uint64_t sevens[] = SEVENS;
-
 /* The reserved members of an answer are zeros if it is filled in; else they are as they were. */
 static void check_reserved(uint32_t status, const uint64_t *reserved, size_t count) {
     for (size_t i = 0; i < count; i++) {
-        if (reserved[i] != (status == MACSEC_OK ? 0 : sevens[i]))
+        if (reserved[i] != (status == MACSEC_OK ? 0 : 7))
             fail("a reserved member has another value");
     }
 }
@@ -211,19 +217,14 @@ static const macsec_config *sealed_config(char **w) {
     return config;
 }
 
-static uint32_t configure(macsec_endpoint *e, const char *text) {
-    uint32_t *at = room_of(sizeof *at);
-    *at = 7;
-    uint32_t status = macsec_configure(e, sealed(text), length_of(text), at);
-    print_number(*at);
-    return status;
-}
-
-static uint32_t reserve_configure(macsec_endpoint *e, const char *text, const char *journal) {
-    uint32_t *at = room_of(sizeof *at);
-    *at = 7;
-    uint32_t status =
-        macsec_reserve_configure(e, sealed(text), length_of(text), sealed(journal), length_of(journal), at);
+/* Makes an endpoint of a text, and beside a journal if there is one. */
+static uint32_t configure(macsec_endpoint *e, const char *text, const char *journal) {
+    uint32_t *at = room_of(sizeof *at), status;
+    const uint8_t *lines = sealed(text);
+    if (journal == NULL)
+        status = macsec_configure(e, lines, length_of(text), at);
+    else
+        status = macsec_reserve_configure(e, lines, length_of(text), sealed(journal), length_of(journal), at);
     print_number(*at);
     return status;
 }
@@ -232,7 +233,6 @@ static uint32_t journal_compacted(const char *word) {
     size_t length = length_of(word);
     uint8_t *out = room_of(length);
     size_t *written = room_of(sizeof *written);
-    memset(out, 7, length);
     *written = 7;
     uint32_t status = macsec_journal_compacted(sealed(word), length, out, written);
     print_number(*written);
@@ -244,7 +244,6 @@ static uint32_t journal_header(const char *word) {
     macsec_record *out = room_of(sizeof *out);
     if (length_of(word) != 24)
         fail("a salt has another length");
-    memset(out, 7, sizeof *out);
     uint32_t status = macsec_journal_header(sealed(word), out);
     print_octets(out->octets, sizeof out->octets);
     return status;
@@ -253,7 +252,6 @@ static uint32_t journal_header(const char *word) {
 /* The record that a transmit association needs next, or what is to be saved of a receive association. */
 static uint32_t record(const macsec_endpoint *e, const char *name, char **w) {
     macsec_record *out = room_of(sizeof *out);
-    memset(out, 7, sizeof *out);
     uint32_t status = strcmp(name, "reserve_wanted") == 0
                           ? macsec_reserve_wanted(e, (uint8_t)number(w[0]), number(w[1]), out)
                           : macsec_reserve_to_save(e, sealed_sci(w[0]), (uint8_t)number(w[1]), out);
@@ -285,7 +283,6 @@ static uint32_t answer(macsec_endpoint *e, char **w) {
     size_t room = (size_t)number(w[2]);
     uint8_t *out = room_of(room);
     size_t *written = room_of(sizeof *written);
-    memset(out, 7, room);
     *written = 7;
     uint32_t status = macsec_answer(e, (uint32_t)number(w[0]), sealed(w[1]), length_of(w[1]), out, room, written);
     print_number(*written);
@@ -365,7 +362,7 @@ static uint32_t tx_counters(const macsec_endpoint *e) {
 /* The counters of a channel, of its SA with this AN, or of its deleted SAs. */
 static uint32_t rx_counters(const macsec_endpoint *e, const char *name, char **w) {
     macsec_rx_counters *c = room_of(sizeof *c);
-    *c = (macsec_rx_counters){ 7, 7, 7, 7, 7, 7, SEVENS };
+    *c = (macsec_rx_counters){ 7, 7, 7, 7, 7, 7, { 7, 7, 7, 7, 7, 7, 7, 7, 7, 7 } };
     const uint8_t *sci = sealed_sci(w[0]);
     uint32_t status;
     if (strcmp(name, "get_rx_counters") == 0)
@@ -386,7 +383,6 @@ static uint32_t rx_counters(const macsec_endpoint *e, const char *name, char **w
 
 static uint32_t rx_sc(const macsec_endpoint *e, size_t place) {
     uint8_t *sci = room_of(8);
-    memset(sci, 7, 8);
     uint32_t status = macsec_get_rx_sc(e, place, sci);
     print_octets(sci, 8);
     return status;
@@ -454,9 +450,9 @@ static uint32_t call(macsec_endpoint *e, const char *name, char **w) {
         return MACSEC_OK;
     }
     CALL("new", macsec_new(e, sealed_config(w)));
-    CALL("configure", configure(e, w[0]));
+    CALL("configure", configure(e, w[0], NULL));
     CALL("reserve_open", macsec_reserve_open(e, sealed_config(w), sealed(w[4]), length_of(w[4])));
-    CALL("reserve_configure", reserve_configure(e, w[0], w[1]));
+    CALL("reserve_configure", configure(e, w[0], w[1]));
     CALL("send", send(e, w[0]));
     CALL("receive", receive(e, w[0]));
     CALL("answer", answer(e, w));
@@ -491,12 +487,14 @@ static uint32_t checked(unsigned handle, const char *name, char **w) {
         made[handle] = true;
     if (strcmp(name, "free") == 0)
         made[handle] = false;
-    check_blocks(name, handle, before);
+    check_blocks(name, handle, before, status);
     leave_rooms();
     return status;
 }
 
 int main(void) {
+    if (macsec_version() != MACSEC_VERSION_NUMBER)
+        fail("the library has another version than the header");
     for (; fgets(line, sizeof line, stdin) != NULL; line_count++) {
         char *words[MOST_WORDS] = { NULL }, *rest = line;
         int count = 0;
@@ -504,10 +502,16 @@ int main(void) {
             words[count++] = word;
         if (count < 2 || number(words[1]) >= HANDLES)
             fail("a line names no call of a handle");
-        printf("%s", words[0]);
-        printf(" : %u\n", (unsigned)checked((unsigned)number(words[1]), words[0], words + 2));
+        refused_after = *words[0] == '?';
+        refused = refused_after || *words[0] == '!';
+        words[0] += refused;
+        do {
+            printf("%s", words[0]);
+            printf(" : %u\n", (unsigned)checked((unsigned)number(words[1]), words[0], words + 2));
+        } while (refused != 0 && asked >= refused++);
     }
     for (int i = 0; i < HANDLES; i++)
         macsec_free(&handles[i]);
+    macsec_free(NULL);
     return fflush(stdout) == 0 && !ferror(stdout) ? 0 : 1;
 }

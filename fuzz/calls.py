@@ -9,8 +9,9 @@
 It needs Python 3.9 or later and its standard library alone. The calls go to three handles: with endpoints, without one,
 and freed. Numbers, lengths and frames are of all kinds, also those that nothing has. Statuses, suites, forms, modes,
 fates and verdicts are compared by the names that include/macsec.h gives them, and at the end each of these names must
-have been met at least once (but MACSEC_E_MEMORY). Call number N of a seed, which is any text, is the same on every
-machine.
+have been met at least once. Of the calls that allocate, one in EVERY is first made with each of its allocations
+refused: then it has to answer MACSEC_E_MEMORY and do nothing. Call number N of a seed, which is any text, is the same
+on every machine.
 """
 
 from __future__ import annotations
@@ -28,7 +29,13 @@ import sys
 sys.dont_write_bytecode = True
 import expected
 import journals
-from handles import CONSTANTS, ROOT, SUITES, Model, hex_of
+from handles import CONSTANTS, ROOT, SUITES, Model, hex_of, without_memory
+
+# The calls that allocate: whether one allocation is refused (!), or also all after it (?), since a text's vector that is
+# refused twice its size may get a smaller one.
+ALLOCATING = {"new": "!", "reserve_open": "!", "journal_compacted": "!"}
+ALLOCATING |= dict.fromkeys(("configure", "reserve_configure", "command_line", "answer"), "?")
+EVERY = 8
 
 
 class Calls:
@@ -350,6 +357,42 @@ class Calls:
             yield "add_rx_sc", (2, bytes([6, 0, 0, 0, 0, it, 0, 1]))
         yield "get_rx_sc", (2, CONSTANTS["RX_CHANNEL_COUNT"] - 1)
 
+    # Texts of configurations, and lines, that random ones seldom are.
+    END = "end A gcm128 1215352400000001 1518 sci\n"
+    KEY = "A key 0 ad7a2bd03eac835a6f620fdcb506b345 0\n"
+    TEXTS = (
+        "", "# nothing\n\n", END, f"{END}{KEY}A txsa 0 0 1 conf\nA txon 0\r\n# the end", KEY + END, END + END,
+        END + "A send 00\n", END + "B protect on\n", END.replace("1518", "63"), END.replace("sci", "scb"),
+        f"\n{END}A proetct on\n", END + "A protect on on\n", END + "A rxsc 0\n", END + "A txon 4\n", END + KEY + KEY,
+        f"{END}A txon 0\n{KEY}A txoff 0\n",
+    )  # fmt: skip
+    WORDS = (
+        ",# A txoff 0,A txoff 0,A txoff 0\r,A txoff,A txoff 4,txoff 0,A txof 0,A txoff 1,A rxsc 0,B txoff 0,A counters,A txon 0,"
+        "A,A txon 4,A counters 0,B counters,A send 00,A sendu 00,A deliver 0,alter 0 0 00,pad 0,inject 00," + END[:-1]
+    )
+
+    def rarely_written(self):
+        """Texts with each fault, a frame by an endpoint that a text has made, and lines in buffers of each size."""
+        for text in self.TEXTS:
+            yield "free", (2,)
+            yield "configure", (2, text.encode())
+        yield "command_line", (2, b"A txoff 0")
+        yield "free", (2,)
+        yield "command_line", (2, b"A txoff 0")
+        for _ in range(2):
+            yield "configure", (2, self.TEXTS[3].encode())
+        yield "send", (2, bytes(60))
+        for line in self.WORDS.encode().split(b","):
+            yield "command_line", (2, line)
+            yield "answer", (2, 2**32 - 1, line, 9_000)
+            yield "get_tx_sa", (2, 0)
+        for line in (b"A txoff 0", b"A numbers", b"A counters", b"A txoff"):
+            yield "enable_tx_sa", (2, 0)
+            needed = len(expected.text_of(self.model.ends[2].counter_lines(1))) if line == b"A counters" else 64
+            for room in (0, needed - 1, needed):
+                yield "answer", (2, 1, line, room)
+                yield "get_tx_sa", (2, 0)
+
     def rarely_refused(self):
         """What random calls seldom come to."""
         own, other = self.SCIS[2], self.SCIS[0]
@@ -442,7 +485,8 @@ class Calls:
 
     def all(self, count):
         """So many calls: the lines, and their answers."""
-        waiting = itertools.chain(self.crowded(), self.rarely_refused(), self.rarely_made(), self.rarely_reserved())
+        rare = (self.crowded, self.rarely_written, self.rarely_refused, self.rarely_made, self.rarely_reserved)
+        waiting = itertools.chain.from_iterable(it() for it in rare)
         names, weights = list(self.WEIGHTS), list(self.WEIGHTS.values())
         for _ in range(count):
             made = next(waiting, None)
@@ -473,12 +517,28 @@ def compare(program, seed, lines, answers):
     """Has a program make the calls of these lines, and compares its answers. Ends at the first that differs."""
     ran = subprocess.run(program, input="".join(f"{it}\n" for it in lines).encode(), stdout=subprocess.PIPE)
     # Each answer ends with a newline; `splitlines` would also end one at a vertical tab.
-    given = ran.stdout.decode(errors="replace").removesuffix("\n").split("\n")
-    for number, (line, answer, gave) in enumerate(zip(lines, answers, [*given, *[None] * len(lines)])):
+    given = collections.deque(ran.stdout.decode(errors="replace").removesuffix("\n").split("\n"))
+    met, count = collections.Counter(), len(given)
+    for number, (line, answer) in enumerate(zip(lines, answers)):
+        while line[0] in "!?" and given and given[0] == without_memory(line[1:]):
+            met[line[1:].split()[0]] += 1
+            given.popleft()
+        gave = given.popleft() if given else None
         if answer != gave:
             sys.exit(f"call {number} of seed {seed}: {line}\n  expected {answer}\n  answered {gave}")
-    if ran.returncode or len(given) != len(lines):
-        sys.exit(f"the program ended with status {ran.returncode} after {len(given)} answers to {len(lines)} calls")
+    if ran.returncode or given:
+        answered = count - sum(met.values())
+        sys.exit(f"the program ended with status {ran.returncode} after {answered} answers to {len(lines)} calls")
+    return met
+
+
+def marked(lines):
+    """These lines, one in EVERY of each call that allocates with the mark for refused allocations."""
+    made = collections.Counter()
+    for line in lines:
+        name = line.split(" ", 1)[0]
+        made[name] += 1
+        yield ALLOCATING[name] + line if name in ALLOCATING and made[name] % EVERY == 1 else line
 
 
 def main():
@@ -491,15 +551,18 @@ def main():
     asked = parser.parse_args()
     calls = Calls(asked.seed)
     lines, answers = zip(*calls.all(asked.calls))
+    refused = collections.Counter()
     for program in (asked.program, *([it] for it in asked.also)):
-        compare(program, asked.seed, lines, answers)
+        refused |= compare(program, asked.seed, list(marked(lines)), answers)
         print(f"{len(answers)} calls of seed {asked.seed}: each was answered as expected by {program[-1]}")
     lines = collections.Counter(line.split()[0] for line in lines)
     print("calls: " + ", ".join(f"{name} {count}" for name, count in sorted(lines.items())))
     print("met: " + ", ".join(f"{name} {count}" for name, count in sorted(calls.model.met.items())))
+    print("allocations refused: " + ", ".join(f"{name} {count}" for name, count in sorted(refused.items())))
     others = re.compile("FATE_NONE|VERDICT_NONE|E_MEMORY|FRAME_M..|VERSION_NUMBER|RECORD_LENGTH|ANSWER_MIN|.*_COUNT")
     unmet = [it for it in CONSTANTS if not calls.model.met[it] and not others.fullmatch(it)]
     missing = [it for it in Calls.WEIGHTS if it not in lines]
+    missing += [f"a refused allocation of {it}" for it in ALLOCATING if not refused[it]]
     if asked.calls >= asked.met_from and (unmet or missing):
         sys.exit(f"never met: {', '.join(unmet + missing)}")
 

@@ -228,6 +228,17 @@ UNSHOWN = {
 }
 
 
+def without_memory(line):
+    """The answer to the call of a line that is refused an allocation: it does nothing."""
+    name, *words = line.split()
+    shown = UNSHOWN.get(name, "")
+    if name == "answer":
+        shown = f" 0 {hex_of(bytes([7]) * int(words[-1]))}"
+    elif name == "journal_compacted":
+        shown = f" 7 {'07' * (len(words[-1]) // 2) or '-'}"
+    return f"{name}{shown} : {CONSTANTS['E_MEMORY']}"
+
+
 class Model:
     """What the handles hold, and what each call answers: the text before its status, and the status."""
 

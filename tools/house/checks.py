@@ -94,7 +94,7 @@ CHECKS: list[Check] = [
           PROGRAMS, 15, "programs that do not fail, or otherwise; other lists", gate="", hand="calls"),
     Check("c-programs", "builds and runs the programs over the library for C, and makes random calls",
           "tests/library/c-programs", LIBRARY, 50, "other texts, programs that are missing, calls with other answers",
-          test="--library {library} --calls 600 --seed {seed}",
+          test="--library {library} --calls 800 --seed {seed}",
           gate="--calls 6000 --seed {seed} --x86-64-v3 build/glibc-hwcaps/x86-64-v3/libmacsec.a",
           hand="--calls {inputs} --seed {seed}"),
     Check("pages", "runs the examples of the pages, and checks their links", "tools/pages", LIBRARY, 10,
