@@ -5,6 +5,7 @@ too, and has to be the same."""
 
 from __future__ import annotations
 
+import re
 import struct
 from collections.abc import Iterator
 from typing import Any
@@ -103,53 +104,95 @@ def receiver(suite: str, channel: str = SENDER, an: int = 0, pn: str = "1", **mo
     return {**it, "channels": [{"sci": channel, "an": an, "pn": pn, **ssci}], **more}
 
 
-def endpoint(it: Vector, form: str = "sci", max_frame: int = 9248) -> expected.Endpoint:
-    """The endpoint of the rules for an end, with its key."""
-    made = expected.Endpoint(SUITES[it["suite"]][0], bytes.fromhex(it["sci"]), max_frame, form)
-    extended = [bytes.fromhex(it[name]) for name in ("own_ssci", "salt") if name in it]
-    made.command("key", [0, bytes.fromhex(it["key"]), it["offset"], *extended])
-    return made
+def key_line(end: str, it: Vector) -> str:
+    """The line that installs the key of a sender or a receiver."""
+    extended = f" {it['own_ssci']} {it['salt']}" if "salt" in it else ""
+    return f"{end} key 0 {it['key']} {it['offset']}{extended}"
+
+
+def sender_lines(it: Vector) -> Iterator[str]:
+    """The lines of a script up to the first frame that the sender gets."""
+    yield f"end A {SUITES[it['suite']][0]} {it['sci']} {it['max_frame']} {it['form']}"
+    yield "end B gcm128 02ffffffffff0001 9248 sci"
+    yield key_line("A", it)
+    for number in range(it["receive_channels"]):
+        yield f"A rxsc 02000000ff{number:02x}0001"
+    yield f"A txsa {it['an']} 0 {it['pn']} {'conf' if it['encrypt'] else 'int'}"
+    yield f"A txon {it['an']}"
+
+
+def receiver_lines(it: Vector) -> Iterator[str]:
+    """The lines of a script up to the first frame that the receiver gets."""
+    yield "end A gcm128 02ffffffffff0002 9248 sci"
+    yield f"end B {SUITES[it['suite']][0]} {it['sci']} 9248 sci"
+    yield f"B validate {it['validate']}"
+    yield f"B replay {'on' if it['replay'] else 'off'} {it['window']}"
+    yield key_line("B", it)
+    for channel in it["channels"]:
+        ssci = f" {channel['ssci']}" if "ssci" in channel else ""
+        yield f"B rxsc {channel['sci']}"
+        yield f"B rxsa {channel['sci']} {channel['an']} 0 {channel['pn']}{ssci}"
+        yield f"B rxon {channel['sci']} {channel['an']}"
+
+
+def script_of(vector: Vector) -> str:
+    """A script that carries out a vector."""
+    if vector["kind"] == "protect":
+        lines = [*sender_lines(vector["sender"]), *(f"A send {it['client']}" for it in vector["frames"])]
+    else:
+        lines = list(receiver_lines(vector["receiver"]))
+        for number, it in enumerate(vector["frames"]):
+            lines += [f"inject {it['link']}", f"B deliver {number}", "B numbers"]
+    return "".join(f"{it}\n" for it in lines)
+
+
+def results_of(vector: Vector, text: str) -> list[Vector]:
+    """What such a script printed of each frame: the link frame, or why it was dropped; or the verdict, the client frame,
+    and the packet numbers."""
+    if vector["kind"] == "protect":
+        found = re.findall(r"^\d+ (?:frame \d+ (\w+)|dropped (\w+))$", text, re.M)
+        return [{"link": link} if link else {"dropped": reason} for link, reason in found]
+    results: list[Vector] = []
+    for line in text.split("\n"):
+        words = line.split()
+        if len(words) < 2 or words[1] in ("done", "frame"):
+            continue
+        if words[1] == "rx":
+            results[-1].setdefault("numbers", []).append(f"{words[5]} {words[6]}")
+        elif len(results) < len(vector["frames"]):
+            results.append({"verdict": words[1], "client": words[2] if len(words) > 2 else None, "numbers": []})
+    return results
+
+
+def filled(vector: Vector) -> Vector:
+    """A vector with the results by the rules in its frames."""
+    _, text, _ = expected.run_script(script_of(vector).encode())
+    for frame, result in zip(vector["frames"], results_of(vector, text.decode())):
+        frame.update(result)
+    return vector
+
+
+def iv_of(suite: str, sci: str, pn: int) -> str:
+    """The IV under the usual salt, with the SSCI of the usual sender."""
+    if "XPN" not in suite:
+        return f"{sci}{pn:08x}"
+    return bytes(a ^ b for a, b in zip(bytes.fromhex(SALT), bytes.fromhex(f"00000001{pn:016x}"))).hex()
 
 
 def protect(name: str, about: str, it: Vector, clients: list[str], links: list[str] | None = None) -> Vector:
     """A vector of client frames that a sender protects."""
-    end = endpoint(it, it["form"], it["max_frame"])
-    for number in range(it["receive_channels"]):
-        end.command("rxsc", [bytes.fromhex(f"02000000ff{number:02x}0001")])
-    end.command("txsa", [it["an"], 0, int(it["pn"], 16), "conf" if it["encrypt"] else "int"])
-    end.command("txon", [it["an"]])
-    frames = []
-    for number, frame in enumerate(clients):
-        sa = end.tx[it["an"]]
-        iv = end.iv(end.keys[0], end.sci, end.keys[0].ssci, sa.next) if sa.next <= end.keys[0].last else b""
-        link, dropped = end.send(bytes.fromhex(frame))
-        if link is None:
-            frames.append({"client": frame, "dropped": dropped})
-            continue
-        same(link.hex(), links[number] if links else link.hex())
-        frames.append({"client": frame, "link": link.hex(), "iv": iv.hex()})
-    return {"id": name, "kind": "protect", "about": about, "sender": it, "frames": frames}
+    frames = [{"client": frame} for frame in clients]
+    made = filled({"id": name, "kind": "protect", "about": about, "sender": it, "frames": frames})
+    for number, frame in enumerate(it for it in frames if "link" in it):
+        same(frame["link"], links[number] if links else frame["link"])
+        frame["iv"] = iv_of(it["suite"], it["sci"], int(it["pn"], 16) + number)
+    return made
 
 
 def receive(name: str, about: str, it: Vector, links: list[str]) -> Vector:
     """A vector of link frames that a receiver gets one after another."""
-    end = endpoint(it)
-    end.command("validate", [it["validate"]])
-    end.command("replay", ["on" if it["replay"] else "off", it["window"]])
-    for channel in it["channels"]:
-        sci = bytes.fromhex(channel["sci"])
-        ssci = [bytes.fromhex(channel["ssci"])] if "ssci" in channel else []
-        end.command("rxsc", [sci])
-        end.command("rxsa", [sci, channel["an"], 0, int(channel["pn"], 16), *ssci])
-        end.command("rxon", [sci, channel["an"]])
-    frames = []
-    for link in links:
-        verdict, delivered = end.receive(bytes.fromhex(link))
-        rows = [row for channel in end.channels for _, row in sorted(channel.sas.items())]
-        numbers = [f"{row.next:016x} {row.lowest:016x}" for row in rows]
-        given = None if delivered is None else delivered.hex()
-        frames.append({"link": link, "verdict": verdict, "client": given, "numbers": numbers})
-    return {"id": name, "kind": "receive", "about": about, "receiver": it, "frames": frames}
+    frames = [{"link": link} for link in links]
+    return filled({"id": name, "kind": "receive", "about": about, "receiver": it, "frames": frames})
 
 
 def links_of(it: Vector, clients: list[str]) -> list[str]:
@@ -173,13 +216,9 @@ def forged(suite: str, pn: int, tci: int, octets: int, sl: int | None = None, iv
     tag = b"\x88\xe5" + bytes([tci, short]) + struct.pack(">I", pn % 2**32)
     if tci & 0x20:
         tag += bytes.fromhex(SENDER)
-    ssci_and_pn = bytes.fromhex("00000001") + struct.pack(">Q", pn)
-    iv = bytes(a ^ b for a, b in zip(bytes.fromhex(SALT), ssci_and_pn))
-    if "XPN" not in suite:
-        iv = bytes.fromhex(iv_sci) + struct.pack(">I", pn)
     clear = 0 if tci & 8 else len(data)
     head = frame[:12] + tag + data[:clear]
-    return (head + expected.seal(key, iv, head, data[clear:])).hex()
+    return (head + expected.seal(key, bytes.fromhex(iv_of(suite, iv_sci, pn)), head, data[clear:])).hex()
 
 
 def altered(link: str, place: int, octet: int) -> str:

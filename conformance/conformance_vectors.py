@@ -19,74 +19,10 @@ VECTORS, SCHEMA = ROOT / "vectors/macsec-vectors.json", ROOT / "vectors/schema.j
 sys.dont_write_bytecode = True
 sys.path.insert(0, f"{ROOT}/fuzz")
 import expected
-from conformance_frames import groups
+from conformance_frames import groups, results_of, script_of
 
-# What a script calls each suite and each tag form.
-SUITES = {"GCM-AES-128": "gcm128", "GCM-AES-256": "gcm256", "GCM-AES-XPN-128": "xpn128", "GCM-AES-XPN-256": "xpn256"}
 SECONDS = 60
 Vector = "dict[str, Any]"
-
-
-def key_line(end: str, it: Vector) -> str:
-    """The line that installs the key of a sender or a receiver."""
-    extended = f" {it['own_ssci']} {it['salt']}" if "salt" in it else ""
-    return f"{end} key 0 {it['key']} {it['offset']}{extended}"
-
-
-def sender_lines(it: Vector) -> Iterator[str]:
-    """The lines of a script up to the first frame that the sender gets."""
-    yield f"end A {SUITES[it['suite']]} {it['sci']} {it['max_frame']} {it['form']}"
-    yield "end B gcm128 02ffffffffff0001 9248 sci"
-    yield key_line("A", it)
-    for number in range(it["receive_channels"]):
-        yield f"A rxsc 02000000ff{number:02x}0001"
-    yield f"A txsa {it['an']} 0 {it['pn']} {'conf' if it['encrypt'] else 'int'}"
-    yield f"A txon {it['an']}"
-
-
-def receiver_lines(it: Vector) -> Iterator[str]:
-    """The lines of a script up to the first frame that the receiver gets."""
-    yield "end A gcm128 02ffffffffff0002 9248 sci"
-    yield f"end B {SUITES[it['suite']]} {it['sci']} 9248 sci"
-    yield f"B validate {it['validate']}"
-    yield f"B replay {'on' if it['replay'] else 'off'} {it['window']}"
-    yield key_line("B", it)
-    for channel in it["channels"]:
-        ssci = f" {channel['ssci']}" if "ssci" in channel else ""
-        yield f"B rxsc {channel['sci']}"
-        yield f"B rxsa {channel['sci']} {channel['an']} 0 {channel['pn']}{ssci}"
-        yield f"B rxon {channel['sci']} {channel['an']}"
-
-
-def script_of(vector: Vector) -> str:
-    """A script that carries out a vector."""
-    if vector["kind"] == "protect":
-        lines = [*sender_lines(vector["sender"]), *(f"A send {it['client']}" for it in vector["frames"])]
-    else:
-        lines = list(receiver_lines(vector["receiver"]))
-        for number, it in enumerate(vector["frames"]):
-            lines += [f"inject {it['link']}", f"B deliver {number}", "B numbers"]
-    return "".join(f"{it}\n" for it in lines)
-
-
-def results_of_sending(text: str) -> list[Vector]:
-    """What a script that sends printed of each frame: the link frame, or why it was dropped."""
-    found = re.findall(r"^\d+ (?:frame \d+ (\w+)|dropped (\w+))$", text, re.M)
-    return [{"link": link} if link else {"dropped": reason} for link, reason in found]
-
-
-def results_of_receiving(text: str, count: int) -> list[Vector]:
-    """What a script that receives printed of each frame: the verdict, the client frame, and the packet numbers."""
-    results: list[Vector] = []
-    for line in text.split("\n"):
-        words = line.split()
-        if len(words) < 2 or words[1] in ("done", "frame"):
-            continue
-        if words[1] == "rx":
-            results[-1].setdefault("numbers", []).append(f"{words[5]} {words[6]}")
-        elif len(results) < count:
-            results.append({"verdict": words[1], "client": words[2] if len(words) > 2 else None, "numbers": []})
-    return results
 
 
 def expected_of(vector: Vector) -> list[Vector]:
@@ -104,10 +40,8 @@ def differences(program: str, vector: Vector) -> str | None:
     text = ran.stdout.decode(errors="replace")
     if ran.returncode or " refused " in text or " fault " in text:
         return f"{vector['id']}: status {ran.returncode}, or a line is refused"
-    is_protect = vector["kind"] == "protect"
-    found = results_of_sending(text) if is_protect else results_of_receiving(text, len(vector["frames"]))
     wanted = expected_of(vector)
-    for number, (result, due) in enumerate(itertools.zip_longest(found, wanted)):
+    for number, (result, due) in enumerate(itertools.zip_longest(results_of(vector, text), wanted)):
         if result != due:
             return f"{vector['id']}: frame {number} gives {result}"
     return None
