@@ -79,6 +79,10 @@ class Calls:
     def pick(self, pool):
         return self.random.choice(pool)
 
+    def key_of(self, suite, ssci):
+        """A key of this suite, with the suite's number as its own."""
+        return self.keys[suite], self.SALT, ssci, suite, suite, 32 if suite in (2, 4) else 16, 0
+
     def client_frame(self):
         source = self.pick(self.SCIS)[:6]
         head = self.pick((b"\xff" * 6, self.random.randbytes(6))) + source + b"\x08\x00"
@@ -260,18 +264,17 @@ class Calls:
     def paired(self):
         """Calls that let endpoint 0 send to endpoint 1 under a key of one suite, as they are mostly seen in use."""
         suite = self.pick((1, 1, 2, 3, 4))
-        key = lambda ssci: (self.keys[suite], self.SALT, ssci, suite, suite, 32 if suite in (2, 4) else 16, 0)
         an, pn = self.random.randrange(4), self.pick((1, 1, 7, 2**32 - 3, 2**32 - 3 if suite < 3 else 2**64 - 3))
         sender = self.model.ends[0].sci if self.model.ends[0] else self.SCIS[0]
         yield "free", (1,)
         yield "new", (1, self.pick([it for it in self.SCIS if it != sender]), suite, 1, 1518)
         yield "new", (0, sender, suite, 1, 1518)
-        yield "install_key", (0, *key(1))
+        yield "install_key", (0, *self.key_of(suite, 1))
         yield "delete_tx_sa", (0, an)
         yield "add_tx_sa", (0, an, suite, pn, self.random.randrange(2))
         yield "enable_tx_sa", (0, an)
         yield "set_protect", (0, 1)
-        yield "install_key", (1, *key(2))
+        yield "install_key", (1, *self.key_of(suite, 2))
         yield "add_rx_sc", (1, sender)
         yield "add_rx_sa", (1, sender, an, suite, 1, pn)
         yield "enable_rx_sa", (1, sender, an)
@@ -298,10 +301,9 @@ class Calls:
     def kept(self):
         """Endpoint 0 beside a journal, which it sends from: numbers are reserved before they are used, or not."""
         suite, sender, an = self.pick((1, 1, 2, 3, 4)), self.sci(), self.random.randrange(4)
-        key = (self.keys[suite], self.SALT, 1, suite, suite, 32 if suite in (2, 4) else 16, 0)
         yield "free", (0,)
         yield "reserve_open", (0, sender, suite, 1, 1518, self.JOURNAL + b"".join(self.records[-8:]))
-        yield "install_key", (0, *key)
+        yield "install_key", (0, *self.key_of(suite, 1))
         end = self.model.ends[0]
         for pn in (1, 1 + journals.highest(end.before, end.key_name(suite))):
             yield "add_tx_sa", (0, an, suite, min(pn, journals.LAST), self.random.randrange(2))

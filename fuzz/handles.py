@@ -90,11 +90,19 @@ class Endpoint(expected.Endpoint):
     def to_save(self, sci, an):
         """What is to be saved of a receive association, if it exists."""
         channel = self.channel(sci)
-        if channel is None or an not in channel.sas:
+        sa = channel and channel.sas.get(an)
+        if not sa:
             return None
-        sa = channel.sas[an]
         name = journals.receiving_name(self.key_name(sa.key), sci, an)
         return name, min(max(sa.lowest - 1, 0), journals.LAST)
+
+    def floor(self, receiving, number):
+        """The highest number that the journal had when the endpoint was made, under a key's name, or under its name for
+        receiving from an SCI and AN; or None."""
+        if number not in self.keys:
+            return None
+        name = self.key_name(number)
+        return journals.highest(self.before, journals.receiving_name(name, *receiving) if receiving else name)
 
     def note_durable(self, reservation):
         """A reservation is durable: the entries of its name are raised."""
@@ -129,18 +137,18 @@ def named(table, number, status):
     return table[number]
 
 
-def below(count, number, status):
-    if number >= count:
-        raise Status(status)
-    return number
-
-
 def an_of(number):
-    return below(CONSTANTS["AN_COUNT"], number, "E_NO_SUCH_AN")
+    return named(range(CONSTANTS["AN_COUNT"]), number, "E_NO_SUCH_AN")
 
 
 def key_number_of(number):
-    return below(CONSTANTS["KEY_COUNT"], number, "E_NO_SUCH_KEY_NUMBER")
+    return named(range(CONSTANTS["KEY_COUNT"]), number, "E_NO_SUCH_KEY_NUMBER")
+
+
+def found(it):
+    if it is None:
+        raise Status("E_NOT_FOUND")
+    return it
 
 
 def framed(frame):
@@ -205,6 +213,37 @@ COMMANDS = {
     "delete_rx_sa": ("rxdel", bytes, an_of),
 }
 
+
+def rx_sa_of(end, sci, an):
+    an = an_of(an)
+    return found(found(end.channel(sci)).sas.get(an))
+
+
+def shown_tx_sa(sa):
+    return f"{sa.next:017x}", sa.key, int(sa.conf), int(sa.on)
+
+
+def shown_rx_sa(sa):
+    return f"{sa.next:017x}", f"{sa.lowest:017x}", int.from_bytes(sa.ssci, "big"), sa.key, int(sa.on)
+
+
+# The calls that show something of an endpoint.
+SHOWING = {
+    "keys_left": lambda end: [CONSTANTS["KEY_COUNT"] - len(end.keys)],
+    "get_counters": lambda end: (end.counters[it] for it in ALL_COUNTERS),
+    "get_tx_counters": lambda end: (end.counters[it] for it in TX_COUNTERS),
+    "get_rx_counters": lambda end, sci: found(end.channel(sci)).counters.values(),
+    "get_rx_sa_counters": lambda end, sci, an: rx_sa_of(end, sci, an).counters.values(),
+    "get_removed_counters": lambda end, sci: found(end.channel(sci)).removed.values(),
+    "get_rx_sc": lambda end, place: [found(dict(enumerate(end.channels)).get(place)).sci.hex()],
+    "get_tx_sa": lambda end, an: shown_tx_sa(found(end.tx.get(an_of(an)))),
+    "get_rx_sa": lambda end, sci, an: shown_rx_sa(rx_sa_of(end, sci, an)),
+    "reserve_wanted": lambda end, an, amount: [journals.record(found(end.wanted(an_of(an), amount))).hex()],
+    "reserve_to_save": lambda end, sci, an: [journals.record(found(end.to_save(sci, an_of(an)))).hex()],
+    "reserve_tx_floor": lambda end, number: [found(end.floor((), key_number_of(number)))],
+    "reserve_rx_floor": lambda end, sci, an, number: [found(end.floor((sci, an_of(an)), key_number_of(number)))],
+}
+
 # What a call shows if it does nothing. The program sets what most of them fill in to 7 before the call.
 UNSHOWN = {
     "configure": " 0",
@@ -256,6 +295,8 @@ class Model:
             if name in COMMANDS:
                 keyword, *readers = COMMANDS[name]
                 self.command(handle, keyword, *(read(it) for read, it in zip(readers, words)))
+            elif name in SHOWING:
+                shown = "".join(f" {it}" for it in SHOWING[name](self.ends[handle], *words))
             else:
                 shown = getattr(self, "call_" + name)(handle, *words) or ""
         except Status as it:
@@ -303,31 +344,6 @@ class Model:
         self.ends[handle] = None
 
     # Reservations.
-
-    def shown_record(self, reservation):
-        if reservation is None:
-            raise Status("E_NOT_FOUND")
-        return f" {journals.record(reservation).hex()}"
-
-    def call_reserve_wanted(self, handle, an, amount):
-        return self.shown_record(self.ends[handle].wanted(an_of(an), amount))
-
-    def call_reserve_to_save(self, handle, sci, an):
-        return self.shown_record(self.ends[handle].to_save(sci, an_of(an)))
-
-    def shown_floor(self, handle, number, name_of):
-        """The highest number that the journal had when the endpoint was made, under the name made of the key's."""
-        end = self.ends[handle]
-        if number not in end.keys:
-            raise Status("E_NOT_FOUND")
-        return f" {journals.highest(end.before, name_of(end.key_name(number)))}"
-
-    def call_reserve_tx_floor(self, handle, number):
-        return self.shown_floor(handle, key_number_of(number), lambda name: name)
-
-    def call_reserve_rx_floor(self, handle, sci, an, number):
-        an, number = an_of(an), key_number_of(number)
-        return self.shown_floor(handle, number, lambda name: journals.receiving_name(name, sci, an))
 
     def call_reserve_granted(self, handle, octets):
         read = journals.read_record(octets)
@@ -437,51 +453,3 @@ class Model:
         mode, form = CONSTANTS["MODE_" + end.mode.upper()], CONSTANTS["FORM_" + end.form.upper()]
         self.met.update(["MODE_" + end.mode.upper(), "FORM_" + end.form.upper()])
         return f" {end.window} {mode} {form} {int(end.protects)} {int(end.replay)}"
-
-    def call_keys_left(self, handle):
-        return f" {CONSTANTS['KEY_COUNT'] - len(self.ends[handle].keys)}"
-
-    def call_get_counters(self, handle):
-        return "".join(f" {self.ends[handle].counters[it]}" for it in ALL_COUNTERS)
-
-    def call_get_tx_counters(self, handle):
-        return "".join(f" {self.ends[handle].counters[it]}" for it in TX_COUNTERS)
-
-    def channel(self, handle, sci):
-        found = self.ends[handle].channel(sci)
-        if found is None:
-            raise Status("E_NOT_FOUND")
-        return found
-
-    def rx_sa(self, handle, sci, an):
-        an = an_of(an)
-        sas = self.channel(handle, sci).sas
-        if an not in sas:
-            raise Status("E_NOT_FOUND")
-        return sas[an]
-
-    def call_get_rx_counters(self, handle, sci):
-        return "".join(f" {it}" for it in self.channel(handle, sci).counters.values())
-
-    def call_get_rx_sa_counters(self, handle, sci, an):
-        return "".join(f" {it}" for it in self.rx_sa(handle, sci, an).counters.values())
-
-    def call_get_removed_counters(self, handle, sci):
-        return "".join(f" {it}" for it in self.channel(handle, sci).removed.values())
-
-    def call_get_rx_sc(self, handle, place):
-        if place >= len(self.ends[handle].channels):
-            raise Status("E_NOT_FOUND")
-        return f" {self.ends[handle].channels[place].sci.hex()}"
-
-    def call_get_tx_sa(self, handle, an):
-        an = an_of(an)
-        if an not in self.ends[handle].tx:
-            raise Status("E_NOT_FOUND")
-        sa = self.ends[handle].tx[an]
-        return f" {sa.next:017x} {sa.key} {int(sa.conf)} {int(sa.on)}"
-
-    def call_get_rx_sa(self, handle, sci, an):
-        sa = self.rx_sa(handle, sci, an)
-        ssci = int.from_bytes(sa.ssci, "big")
-        return f" {sa.next:017x} {sa.lowest:017x} {ssci} {sa.key} {int(sa.on)}"
