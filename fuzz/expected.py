@@ -652,30 +652,27 @@ def xtime(a):
     return (a << 1) ^ (0x11B if a & 0x80 else 0)
 
 
-def product(a, b):
-    result = 0
-    while b:
-        if b & 1:
-            result ^= a
-        a, b = xtime(a), b >> 1
-    return result
+# The powers of 3 in the field of AES. The inverse of the one at an index is the one at the negative index.
+POWERS = [1]
+while len(POWERS) < 255:
+    POWERS.append(POWERS[-1] ^ xtime(POWERS[-1]))
 
 
 def s_box_of(a):
-    inverse = next((it for it in range(256) if product(a, it) == 1), 0)
+    inverse = POWERS[-POWERS.index(a) % 255] if a else 0
     rotations = (((inverse << it) | (inverse >> (8 - it))) & 0xFF for it in range(5))
     return functools.reduce(lambda x, y: x ^ y, rotations, 0x63)
 
 
+def mixed(octet, row):
+    """MixColumns of one octet in this row, as a word."""
+    octets = bytes((xtime(octet), octet, octet, octet ^ xtime(octet)))
+    return int.from_bytes(octets[-row:] + octets[:-row], "big")
+
+
 S_BOX = [s_box_of(it) for it in range(256)]
-# SubBytes and MixColumns of one octet, as a word for each of the four rows.
-MIXED = [
-    [
-        int.from_bytes(bytes(product(S_BOX[it], factor) for factor in (2, 1, 1, 3)[-row:] + (2, 1, 1, 3)[:-row]), "big")
-        for it in range(256)
-    ]
-    for row in range(4)
-]
+# SubBytes and MixColumns of one octet, for each of the four rows.
+MIXED = [[mixed(it, row) for it in S_BOX] for row in range(4)]
 
 
 def sub_word(word):

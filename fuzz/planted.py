@@ -20,7 +20,6 @@ import time
 import types
 
 sys.dont_write_bytecode = True
-import expected
 import inputs
 import promises
 
@@ -193,12 +192,7 @@ class Plant:
         return False
 
 
-# A table of AES, which no rule alters, and which takes most of the time of making a copy.
-TABLE = "S_BOX = [s_box_of(it) for it in range(256)]"
-
-
 def module_of(text):
-    text = text.replace(TABLE, f"S_BOX = {expected.S_BOX}")
     module = types.ModuleType("planted")
     exec(compile(text, "planted", "exec"), module.__dict__)
     return module
