@@ -2,15 +2,13 @@
 
 from __future__ import annotations
 
-import re
 from typing import Any
 
-from house.written import table
+from house.written import table, with_parts
 
 Row = "dict[str, Any]"
 
 SUPPORT = {"yes": "yes", "own": "own profile", "no": "not supported", "n/a": "not applicable"}
-PART = re.compile(r"(<!-- made: ([\w-]+) -->\n).*?(<!-- end -->)", re.S)
 
 
 def joined(text: str | list[str]) -> str:
@@ -73,13 +71,6 @@ def counted(rows: list[Row]) -> str:
     return f"{len(rows)} rows: {text}. The clause numbers of {memory} are from memory."
 
 
-def made_review(review: str, sizes: str) -> str:
-    """The page for reviewers with its table of sizes made again."""
-    if [it[1] for it in PART.findall(review)] != ["sizes"]:
-        raise ValueError("docs/REVIEW.md has other parts than the sizes")
-    return PART.sub(lambda it: f"{it[1]}\n{sizes}\n\n{it[3]}", review)
-
-
 def made(page: str, tables: dict[str, Any], vectors: dict[str, Any], linux: str) -> str:
     """The page with its parts made again. `linux` is the table of what Linux does otherwise."""
     rows = [row for it in tables["clauses"].values() for row in it["rows"]]
@@ -90,7 +81,4 @@ def made(page: str, tables: dict[str, Any], vectors: dict[str, Any], linux: str)
     parts["objects"] = names(tables["names"]["objects"], ("here", "here"))
     parts["vectors"] = vector_groups(vectors)
     parts["linux"] = linux
-    found = {it[1] for it in PART.findall(page)}
-    if found != set(parts):
-        raise ValueError(f"docs/CONFORMANCE.md has the parts {sorted(found)}, and not {sorted(parts)}")
-    return PART.sub(lambda it: f"{it[1]}\n{parts[it[2]]}\n\n{it[3]}", page)
+    return with_parts(page, parts)

@@ -3,6 +3,7 @@
 from __future__ import annotations
 
 import pathlib
+import re
 import sys
 from collections.abc import Iterable
 from typing import Callable
@@ -14,6 +15,17 @@ def table(head: str, rows: Iterable[Iterable[object]]) -> str:
     """A table in Markdown, without a newline at its end. The titles of its columns are in one text, as in a row."""
     lines = [f"| {head} |", "|---" * (head.count(" | ") + 1) + "|"]
     return "\n".join([*lines, *(f"| {' | '.join(map(str, row))} |" for row in rows)])
+
+
+PART = re.compile(r"(<!-- made: ([\w-]+) -->\n).*?(<!-- end -->)", re.S)
+
+
+def with_parts(page: str, parts: dict[str, str]) -> str:
+    """A page with its made parts made again. It must have these parts and no others."""
+    found = {it[1] for it in PART.findall(page)}
+    if found != set(parts):
+        raise ValueError(f"a page has the parts {sorted(found)}, and not {sorted(parts)}")
+    return PART.sub(lambda it: f"{it[1]}\n{parts[it[2]]}\n\n{it[3]}", page)
 
 
 def write_or_check(
