@@ -165,7 +165,7 @@ def markdown() -> str:
     for it in CHECKS:
         marks = ["yes" if it.test is not None else "", f"{it.seconds} s" if it.gate is not None else ""]
         rows.append([f"`{it.name}`", it.does, it.needs, *marks, it.control or "**nothing**"])
-    return table("check | does | needs | `make test` | gate | is shown", rows) + "\n"
+    return table("check | does | needs | `make test` | gate | is shown", rows)
 
 
 def targets() -> list[Check]:
