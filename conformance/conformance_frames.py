@@ -7,7 +7,7 @@ from __future__ import annotations
 
 import re
 import struct
-from collections.abc import Iterator
+from collections.abc import Iterable, Iterator
 from typing import Any
 
 import expected
@@ -133,6 +133,12 @@ def receiver_lines(it: Vector) -> Iterator[str]:
         yield f"B rxsc {channel['sci']}"
         yield f"B rxsa {channel['sci']} {channel['an']} 0 {channel['pn']}{ssci}"
         yield f"B rxon {channel['sci']} {channel['an']}"
+
+
+def config_of(lines: Iterable[str], end: str) -> str:
+    """The lines of one end of a script as a configuration."""
+    ours = (it for it in lines if it.startswith((f"{end} ", f"end {end} ")))
+    return "".join(f"{it.replace(end, 'A', 1)}\n" for it in ours)
 
 
 def script_of(vector: Vector) -> str:
