@@ -4,6 +4,7 @@ from __future__ import annotations
 
 import argparse
 import json
+import pathlib
 import sys
 from collections.abc import Sequence
 
@@ -13,6 +14,7 @@ from ..iproute import Devices, address_of, commands_of, plan_of_json
 from ..lint import lint
 from ..names import Suite
 from ..nextrun import next_config
+from ..pair import end_of, write_pair
 from ..plan import Plan, plan_of
 from ..scan import scan
 from ..secy import sci_of
@@ -46,6 +48,12 @@ def main(words: Sequence[str] | None = None) -> int:
     source.add_argument(
         "--next", nargs=2, metavar=("TEXT", "CONFIG"), help="CONFIG for the next run, after the one that printed TEXT"
     )
+    source.add_argument(
+        "--pair", nargs=2, metavar=("NAME=MAC[@LINK]", "NAME=MAC[@LINK]"),
+        help="write the files of two ends, with random keys: NAME.conf for macsecd",
+    )  # fmt: skip
+    parser.add_argument("--ip-end", metavar="NAME", help="with --pair: this end gets NAME.sh, with commands of ip")
+    parser.add_argument("--folder", default=".", metavar="FOLDER", help="with --pair: where to write (.)")
     parser.add_argument(
         "--as",
         dest="role",
@@ -82,6 +90,12 @@ def _config(asked: argparse.Namespace) -> int:
         text = _read(asked.next[0]).decode("latin-1")
         sys.stdout.write(next_config(_read(asked.next[1]), text).decode("latin-1"))
         return 0
+    if asked.pair:
+        ends = end_of(asked.pair[0]), end_of(asked.pair[1])
+        suite, device = Suite[asked.suite or "gcm128"], asked.name or "macsec0"
+        for path in write_pair(ends, suite, asked.mtu, device, asked.ip_end, pathlib.Path(asked.folder)):
+            print(path)
+        return 0
     if asked.to_ip:
         plan = plan_of(Configuration(_read(asked.to_ip)))
         print("\n".join(commands_of(_as(plan, asked.role or "end"), asked.dev, asked.name or "macsec0")))
@@ -102,7 +116,7 @@ def _config(asked: argparse.Namespace) -> int:
     elif len(asked.wpa) == 1:
         plan = plan_of_log(_read(asked.wpa[0]).decode(errors="replace"), asked.mtu)
     else:
-        raise UsageError("name a source: --capture, --ip, --ip-json, --wpa, --to-ip, --next or --lint")
+        raise UsageError("name a source: --capture, --ip, --ip-json, --wpa, --pair, --to-ip, --next or --lint")
     # A log is of an endpoint that still sends.
     sys.stdout.write(_text(_as(plan, asked.role or ("observer" if asked.wpa and not asked.ip_json else "end"))))
     return 0
