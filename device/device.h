@@ -301,6 +301,33 @@ void answer_link(struct text *t, const struct device *d);
 void answer_json(struct text *t, const struct device *d);
 void answer_metrics(struct text *t, const struct device *d);
 
+/* ---- history.c: when frames last went each way ---- */
+
+/* Times are in seconds since the system started, and one more; 0 is never. */
+struct heard {
+    uint8_t sci[8];
+    uint64_t time;
+};
+
+struct history {
+    uint64_t sent, dropped;
+    bool from_link;                              /* did LINK bring the last frame that was dropped? Else TAP did. */
+    uint32_t why;                                /* its verdict, or its fate */
+    struct heard heard[MACSEC_RX_CHANNEL_COUNT]; /* when a channel's last frame was delivered */
+};
+
+/* Note what became of a frame. */
+void history_sent(struct history *h, const macsec_sent *sent);
+void history_received(struct history *h, const macsec_received *got);
+/* How long ago that was. Returns false if it never was. */
+bool history_age(uint64_t time, uint64_t *seconds);
+/* How long ago a frame of this channel was delivered. */
+bool history_heard(const struct history *h, const uint8_t sci[8], uint64_t *seconds);
+
+/* ---- show.c: the state of the device for people ---- */
+
+void answer_show(struct text *t, const struct device *d);
+
 /* ---- requests.c: requests and their answers ---- */
 
 /* The most octets of a request, which is `load` with its lines. */
@@ -395,6 +422,7 @@ struct device {
     macsec_endpoint *endpoint; /* one of them. It is empty if there is no endpoint; the other one always is. */
     char end_line[END_LINE];   /* the line that created it */
     struct counts counts;
+    struct history history;
     struct link link;
     struct tap tap;
     struct life life;

@@ -22,6 +22,7 @@ static bool send_one(struct device *d, const struct frame *frame) {
     count_fault(status, &d->counts.tap_too_short, &d->counts.tap_too_long);
     if (sent.fate == MACSEC_FATE_NO_RESERVATION)
         d->counts.no_reservation++;
+    history_sent(&d->history, &sent);
     if (sent.length > 0)
         link_append(sent.frame, sent.length);
     return sent.fate == MACSEC_FATE_PROTECTED;
@@ -61,6 +62,7 @@ enum outcome frames_from_link(struct device *d) {
         d->counts.link_in++;
         count_fault(status, &d->counts.link_too_short, &d->counts.link_too_long);
         d->counts.no_endpoint += status == MACSEC_E_EMPTY;
+        history_received(&d->history, &got);
         if (got.delivered && deliver(d, &got) == GONE)
             return GONE;
     }

@@ -45,6 +45,8 @@ static bool answer_reader(struct device *d, struct text *t, const struct words *
         answer_json(t, d);
     else if (words_is(w, 0, "metrics"))
         answer_metrics(t, d);
+    else if (words_is(w, 0, "show"))
+        answer_show(t, d);
     else if (words_is(w, 0, "link"))
         answer_link(t, d);
     else if (words_is(w, 0, "port"))

@@ -11,7 +11,8 @@ from house.reporting import Failed
 # fmt: off
 CONTROLS: dict[str, list[tuple[str, str, str]]] = {
     "traffic": [("frames.c", "d->counts.tap_in++;", "d->counts.tap_in += 2;"),
-                ("tap.c", "frame - HEADER - MACSEC_OVERHEAD_MAX;", "frame - HEADER;")],
+                 ("tap.c", "frame - HEADER - MACSEC_OVERHEAD_MAX;", "frame - HEADER;"),
+                ("show.c", "extended ? UINT64_MAX : UINT32_MAX", "UINT32_MAX")],
     "rekey": [("frames.c", "if (sent.length > 0)", "if (sent.length > 0 && sent.key != 2)")],
     "restart": [("numbers.c", "n->journal.octets, n->journal.length, &number)", "n->journal.octets, 0, &number)"),
                 ("numbers.c", "result = status == MACSEC_OK ? journal_save(&n->journal, e, sci, an, &fault) : 0;",
@@ -28,6 +29,8 @@ CONTROLS: dict[str, list[tuple[str, str, str]]] = {
              ("link.c", "if (length < TAG_AT || !vlan_tag", "if (length < TAG_AT || true || !vlan_tag")],
     "control": [("control.c", "request, REQUEST, MSG_DONTWAIT)", "request, 20000, MSG_DONTWAIT)"),
                 ("answers.c", "\"InPktsReserved\"", "\"InPktsOther\""),
+                ("history.c", "    h->from_link = from_link;\n", ""),
+                ("show.c", "last - next + 1", "last - next"),
                 ("answers.c", "\"refused %u %s\\n\", (unsigned)r->status, macsec_status_name(r->status)",
                  "\"refused %u\\n\", (unsigned)r->status"),
                 ("requests.c", "words_split(&w, request, length);", "words_split(&w, request, strlen(request));"),

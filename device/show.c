@@ -1,0 +1,153 @@
+/* The answer to `show`: the state of the device for people, as `wg show` prints it. Programs read `json`. */
+#include "device.h"
+#include <inttypes.h>
+#include <stdio.h>
+#include <string.h>
+
+/* The octets of an age, and of a packet number. */
+enum { AGE = 40, NUMBER = 24 };
+
+/* ---- Words ---- */
+
+/* "3 s ago", "2 min ago", "never". */
+static void age_text(bool ever, uint64_t seconds, char text[AGE]) {
+    if (!ever)
+        snprintf(text, AGE, "never");
+    else if (seconds < 120)
+        snprintf(text, AGE, "%" PRIu64 " s ago", seconds);
+    else if (seconds < 7200)
+        snprintf(text, AGE, "%" PRIu64 " min ago", seconds / 60);
+    else if (seconds < 172800)
+        snprintf(text, AGE, "%" PRIu64 " h ago", seconds / 3600);
+    else
+        snprintf(text, AGE, "%" PRIu64 " days ago", seconds / 86400);
+}
+
+static void number_text(uint64_t number, uint64_t high, char text[NUMBER]) {
+    if (high != 0)
+        snprintf(text, NUMBER, "none left");
+    else
+        snprintf(text, NUMBER, "%" PRIu64, number);
+}
+
+/* Has this key's suite extended packet numbers? The line of a key may name its suite; else it is the endpoint's. */
+static bool is_extended(const struct device *d, uint16_t key) {
+    struct words w;
+    size_t length = 0;
+    const char *line = keys_line(key, &length);
+    words_split(&w, line != NULL ? line : "", length);
+    if (w.count == 6 || w.count == 8)
+        return w.length[5] > 3 && memcmp(w.at[5], "xpn", 3) == 0;
+    words_split(&w, d->end_line, strlen(d->end_line));
+    return w.count > 2 && w.length[2] > 3 && memcmp(w.at[2], "xpn", 3) == 0;
+}
+
+/* How many packet numbers a key has from this one on. */
+static void left_text(bool extended, uint64_t next, uint64_t high, char text[NUMBER]) {
+    uint64_t last = extended ? UINT64_MAX : UINT32_MAX;
+    if (high != 0 || next > last)
+        snprintf(text, NUMBER, "0");
+    else if (last - next > 999999999999)
+        snprintf(text, NUMBER, "> 10^12");
+    else
+        snprintf(text, NUMBER, "%" PRIu64, last - next + 1);
+}
+
+/* ---- Parts ---- */
+
+static void add_link(struct text *t, const struct device *d) {
+    const uint8_t *a = d->link.address;
+    char path[NAMESPACE_PATH] = "";
+    if (!d->config.shared)
+        namespace_path(path, d->name);
+    text_add(t, "  link %s: %s, MTU %u, %02x:%02x:%02x:%02x:%02x:%02x, %s%s\n", d->link.name,
+             d->life.up ? "up" : "down", (unsigned)d->link.mtu, a[0], a[1], a[2], a[3], a[4], a[5],
+             d->config.shared ? "in the host's network namespace" : "in ", path);
+    text_add(t, "  tap %s: port %s\n", d->tap.name, d->port.off ? "off" : "on");
+}
+
+static void add_last(struct text *t, const struct history *h) {
+    char text[AGE];
+    uint64_t seconds;
+    bool ever = history_age(h->sent, &seconds);
+    age_text(ever, seconds, text);
+    text_add(t, "  last frame sent: %s\n", text);
+    ever = history_age(h->dropped, &seconds);
+    age_text(ever, seconds, text);
+    text_add(t, "  last drop: %s", text);
+    if (ever)
+        text_add(t, ", from %s: %s", h->from_link ? "the link" : "the client",
+                 h->from_link ? macsec_verdict_name(h->why) : macsec_fate_name(h->why));
+    text_add(t, "\n");
+}
+
+static void add_endpoint(struct text *t, const struct device *d) {
+    struct words w;
+    uint32_t left = 0;
+    if (macsec_keys_left(d->endpoint, &left) != MACSEC_OK) {
+        text_add(t, "  no endpoint: a client opens one\n");
+        return;
+    }
+    words_split(&w, d->end_line, strlen(d->end_line));
+    if (w.count > 3)
+        text_add(t, "  suite %.*s, SCI %.*s, %u keys left\n", (int)w.length[2], w.at[2], (int)w.length[3], w.at[3],
+                 (unsigned)left);
+}
+
+static void add_transmit(struct text *t, const struct device *d) {
+    bool any = false;
+    for (uint8_t an = 0; an < MACSEC_AN_COUNT; an++) {
+        macsec_tx_sa sa;
+        char next[NUMBER], left[NUMBER], state[AGE];
+        if (macsec_get_tx_sa(d->endpoint, an, &sa) != MACSEC_OK)
+            continue;
+        if (!any)
+            text_add(t, "\nsends:\n  AN   key  state                        next PN         PNs left\n");
+        any = true;
+        number_text(sa.next, sa.next_high, next);
+        left_text(is_extended(d, sa.key), sa.next, sa.next_high, left);
+        snprintf(state, sizeof state, "%s, %s", sa.on ? "on" : "off", sa.conf ? "encrypts" : "integrity only");
+        text_add(t, "  %2u  %4u  %-19s  %15s  %15s\n", an, sa.key, state, next, left);
+    }
+}
+
+static void add_associations(struct text *t, const struct device *d, const uint8_t sci[8]) {
+    bool any = false;
+    for (uint8_t an = 0; an < MACSEC_AN_COUNT; an++) {
+        macsec_rx_sa sa;
+        uint64_t values[RX_COUNTERS];
+        char next[NUMBER], lowest[NUMBER];
+        if (macsec_get_rx_sa(d->endpoint, sci, an, &sa) != MACSEC_OK ||
+            totals_rx(d->endpoint, sci, an, values) != MACSEC_OK)
+            continue;
+        if (!any)
+            text_add(t, "  AN   key  state          next PN       lowest PN          OK        late   not valid\n");
+        any = true;
+        number_text(sa.next, sa.next_high, next);
+        number_text(sa.lowest, sa.lowest_high, lowest);
+        text_add(t, "  %2u  %4u  %-5s  %15s %15s %11" PRIu64 " %11" PRIu64 " %11" PRIu64 "\n", an, sa.key,
+                 sa.on ? "on" : "off", next, lowest, values[0], values[3], values[5]);
+    }
+}
+
+static void add_peers(struct text *t, const struct device *d) {
+    uint8_t sci[8];
+    for (size_t place = 0; macsec_get_rx_sc(d->endpoint, place, sci) == MACSEC_OK; place++) {
+        char name[SCI_TEXT], text[AGE];
+        uint64_t seconds = 0;
+        bool ever = history_heard(&d->history, sci, &seconds);
+        sci_text(sci, name);
+        age_text(ever, seconds, text);
+        text_add(t, "\npeer %s: last frame %s\n", name, text);
+        add_associations(t, d, sci);
+    }
+}
+
+void answer_show(struct text *t, const struct device *d) {
+    text_add(t, "%s\n", d->name);
+    add_link(t, d);
+    add_endpoint(t, d);
+    add_last(t, &d->history);
+    add_transmit(t, d);
+    add_peers(t, d);
+}

@@ -1,0 +1,66 @@
+"""`macsecctl NAME show`: what it says agrees with `json`, and it names the last drop."""
+
+from __future__ import annotations
+
+import json
+import re
+
+from house.reporting import report, until
+from macsecd_world import End, Packets, ping
+
+# The rows of the tables: AN, key and state, then numbers.
+SENDS = re.compile(r"^ +(\d) +(\d+)  (on|off), (encrypts|integrity only) +(\d+|none left) +(\S+( 10\^12)?)$", re.M)
+RECEIVES = re.compile(r"^ +(\d) +(\d+)  (on|off) +(\d+|none left) +(\d+|none left) +(\d+) +(\d+) +(\d+)$", re.M)
+AGE = r"\d+ s ago"
+
+
+def rows_of_json(end: End) -> tuple[list[tuple[str, ...]], list[tuple[str, ...]]]:
+    """The rows that the tables must have."""
+    shown = json.loads(end.ask("json"))
+    last = 2**64 if "xpn" in end.config.read_text() else 2**32
+    sends, receives = [], []
+    for it in shown["transmit"]:
+        number, left = int(it["next"], 16), last - int(it["next"], 16)
+        state = "on" if it["on"] else "off", "encrypts" if it["conf"] else "integrity only"
+        sends.append((f"{it['an']}", f"{it['key']}", *state, f"{number}", "> 10^12" if left > 10**12 else f"{left}"))
+    for channel in shown["receive"]:
+        for it in channel["associations"]:
+            counts = (f"{it['counters'][name]}" for name in ("InPktsOK", "InPktsLate", "InPktsNotValid"))
+            numbers = (f"{int(it[name], 16)}" for name in ("next", "lowest"))
+            receives.append((f"{it['an']}", f"{it['key']}", "on" if it["on"] else "off", *numbers, *counts))
+    return sends, receives
+
+
+def rows_of_text(text: str) -> tuple[list[tuple[str, ...]], list[tuple[str, ...]]]:
+    return [it[:6] for it in SENDS.findall(text)], RECEIVES.findall(text)
+
+
+def send_in_clear(end: End) -> None:
+    """Brings a frame without a tag to LINK, from the other end of the wire."""
+    other = Packets(end.world.ends[2 - end.number].link_namespace, "link0")
+    other.send(bytes.fromhex("ffffffffffff02000000009988b5") + bytes(50))
+    other.close()
+
+
+def check_rows(end: End) -> None:
+    """The tables are those of `json`, with one association in each."""
+    report(until(lambda: rows_of_text(end.ask("show")) == rows_of_json(end)), f"show has other rows: {end.ask('show')}")
+    text = end.ask("show")
+    report(len(rows_of_text(text)[0]) == 1 == len(rows_of_text(text)[1]), f"show has not one row each: {text}")
+
+
+def check_show(end: End) -> None:
+    """The text of a device that has sent, received and dropped frames."""
+    peer = f"02000000000{3 - end.number}0001"
+    report(ping(end) == 3, "no replies")
+    check_rows(end)
+    text = end.ask("show")
+    for form in (
+        rf"\Amacsec0\n  link link0: up, MTU \d+, [0-9a-f]{{2}}(:[0-9a-f]{{2}}){{5}}, in .+\n  tap macsec0: port on\n",
+        rf"^  suite \w+, SCI {end.sci}, \d+ keys left$", rf"^  last frame sent: {AGE}$",
+        rf"^peer {peer}: last frame {AGE}$",
+    ):  # fmt: skip
+        report(re.search(form, text, re.M) is not None, f"show has no {form}: {text}")
+    send_in_clear(end)
+    wanted = rf"^  last drop: {AGE}, from the link: NoTag$"
+    report(until(lambda: re.search(wanted, end.ask("show"), re.M) is not None), f"show: {end.ask('show')}")
