@@ -1,7 +1,7 @@
-"""Makes vectors/macsec-vectors.json by the rules in Python, and runs its vectors on the program.
+"""Makes the results in vectors/macsec-vectors.json by the rules in Python, and runs its vectors on the program.
 
-The rules are those of fuzz/expected.py: no vector comes from the program. Published results are compared with what the
-rules give. vectors/schema.json describes the file, and docs/CONFORMANCE.md how another maker uses it."""
+The rules are those of fuzz/expected.py: no result comes from the program. Those of the groups aes, gcm and annex-c are
+published. vectors/schema.json describes the file, and docs/CONFORMANCE.md how another maker uses it."""
 
 from __future__ import annotations
 
@@ -18,19 +18,10 @@ from house import ROOT
 VECTORS, SCHEMA = ROOT / "vectors/macsec-vectors.json", ROOT / "vectors/schema.json"
 sys.dont_write_bytecode = True
 sys.path.insert(0, f"{ROOT}/fuzz")
-import expected
-from conformance_frames import groups, results_of, script_of
+from conformance_frames import by_rules, parts_of, results_of, script_of, stored
 
 SECONDS = 60
 Vector = "dict[str, Any]"
-
-
-def expected_of(vector: Vector) -> list[Vector]:
-    """The results that a vector lists, in the same form."""
-    if vector["kind"] == "protect":
-        return [{it: frame[it] for it in ("link", "dropped") if it in frame} for frame in vector["frames"]]
-    keys = ("verdict", "client", "numbers")
-    return [{key: frame[key] for key in keys} for frame in vector["frames"]]
 
 
 def differences(program: str, vector: Vector) -> str | None:
@@ -40,7 +31,7 @@ def differences(program: str, vector: Vector) -> str | None:
     text = ran.stdout.decode(errors="replace")
     if ran.returncode or " refused " in text or " fault " in text:
         return f"{vector['id']}: status {ran.returncode}, or a line is refused"
-    wanted = expected_of(vector)
+    wanted = [{name: it for name, it in result.items() if name != "iv"} for result in stored(vector)]
     for number, (result, due) in enumerate(itertools.zip_longest(results_of(vector, text), wanted)):
         if result != due:
             return f"{vector['id']}: frame {number} gives {result}"
@@ -48,15 +39,9 @@ def differences(program: str, vector: Vector) -> str | None:
 
 
 def tested_cipher(vector: Vector) -> str | None:
-    """A vector of the cipher, which the program has no command for: compared with the rules again. The tests of the
-    crates run these values on the proved code."""
-    values = {name: bytes.fromhex(it) for name, it in vector["cipher"].items()}
-    if vector["kind"] == "aes":
-        good = expected.encrypt(values["key"], values["plaintext"]) == values["ciphertext"]
-    else:
-        sealed = expected.seal(values["key"], values["iv"], values["aad"], values["plaintext"])
-        good = sealed == values["ciphertext"] + values["tag"]
-    return None if good else f"{vector['id']}: another result"
+    """A vector of the cipher, which the program has no command for: compared with the rules. The tests of the crates
+    run these values on the proved code."""
+    return None if stored(vector) == by_rules(vector) else f"{vector['id']}: another result"
 
 
 def test(program: str, vectors: Vector) -> dict[str, list[str]]:
@@ -73,15 +58,31 @@ def test(program: str, vectors: Vector) -> dict[str, list[str]]:
 
 def frame_count(vectors: Vector) -> int:
     """The number of frames and of blocks of the cipher."""
-    return sum(len(it.get("frames", [0])) for group in vectors["groups"] for it in group["vectors"])
+    return sum(len(parts_of(it)) for it in vectors_of(vectors))
 
 
-def made() -> str:
-    head = {"format": "macsec-vectors-1", "schema": "schema.json"}
-    text = json.dumps({**head, "groups": groups()}, indent=1)
+def vectors_of(vectors: Vector) -> list[Vector]:
+    return [vector for group in vectors["groups"] for vector in group["vectors"]]
+
+
+def others(vectors: Vector) -> list[str]:
+    """The vectors that have other results than the rules, in so far as they have any."""
+    return [
+        f"{vector['id']}, {number}: {has}"
+        for vector in vectors_of(vectors)
+        for number, (has, result) in enumerate(itertools.zip_longest(stored(vector), by_rules(vector)))
+        if has and has != result
+    ]
+
+
+def made(vectors: Vector) -> str:
+    """The file of these vectors, with their results by the rules."""
+    for vector in vectors_of(vectors):
+        for part, result in zip(parts_of(vector), by_rules(vector)):
+            part.update(result)
     # A frame is on one line.
     frame = re.compile(r"\{\s+(\"(?:client|link)\"[^{}]*?)\s+\}")
-    return frame.sub(lambda it: "{" + " ".join(it[1].split()) + "}", text) + "\n"
+    return frame.sub(lambda it: "{" + " ".join(it[1].split()) + "}", json.dumps(vectors, indent=1)) + "\n"
 
 
 def loaded() -> Vector:
