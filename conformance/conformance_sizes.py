@@ -17,14 +17,8 @@ CITED = re.compile(r"^use (?:denote )?Rattle\.(macsec_\w+)\.specs\.(\w+)", re.M)
 MACHINE = [*(f"macsec_secy/{it}" for it in ("Step", "Answers", "Rests")), "macsec_suite/KeyNumbers"]
 PROMISES = [f"macsec_link/{it}" for it in ("Step", "Beginnings", "UniqueIvs", "Origin", "Window", "Acceptance")]
 RESTARTS = [f"macsec_reserve/{it}" for it in ("Unique", "TwoEnds", "Replay", "Crashes")]
-TEXTS = [
-    "macsec_script/Printed",
-    "macsec_script/Promised",
-    "macsec_script_parser/Scripts",
-    "macsec_capture/Captured",
-    "macsec_pcapng/Captures",
-    "macsec_cli_runs/Failures",
-]
+TEXTS = ["macsec_script/Printed", "macsec_script/Promised", "macsec_script_parser/Scripts", "macsec_capture/Captured"]
+TEXTS += ["macsec_pcapng/Captures", "macsec_cli_runs/Failures"]
 IN_C = [f"macsec_c/{it}" for it in ("Answers", "Found", "Texts")]
 IN_C += [f"macsec_c_calls/{it}" for it in ("Configs", "Keys", "SentParts", "ReceivedParts", "Shown", "Reserving")]
 

@@ -102,18 +102,10 @@ class Corpus:
                     self.runs.append((direction, b"\n".join(config) + b"\n", frames[:60]))
 
 
-KEYWORDS = [
-    ("A", "B"),
-    ("on", "off"),
-    ("int", "conf"),
-    tuple(expected.SUITES),
-    expected.FORMS,
-    expected.MODES,
-    ("send", "sendu"),
-    ("txon", "txoff", "txdel", "retire", "deliver"),
-    ("rxon", "rxoff", "rxdel"),
-    ("rxsc", "rxscdel"),
-]
+# Words of one kind.
+KEYWORDS = [tuple(expected.SUITES), expected.FORMS, expected.MODES]
+ALIKE = "A B,on off,int conf,send sendu,txon txoff txdel retire deliver,rxon rxoff rxdel,rxsc rxscdel"
+KEYWORDS += [tuple(it.split()) for it in ALIKE.split(",")]
 EDGES = (
     b"0 1 3 4 30 50 63 64 255 256 4095 4096 1073741823 1073741824 4294967295 4294967296 9248 9249 "
     b"18446744073709551615 18446744073709551616 00000000000000000000 000000000000000000000 ffffffff 100000000 "
