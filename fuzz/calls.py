@@ -50,14 +50,6 @@ class Calls:
     JOURNAL_SALT = bytes(range(24))
     JOURNAL = journals.header(JOURNAL_SALT)
     AMOUNTS = [0, 1, 2, 2, 3, 3, 8, 64, 2**32, 2**63, 2**64 - 1]
-    # The lines of commands, by what their words are.
-    LINES = (
-        "protect switch", "validate mode", "replay switch window", "tag form", "key number octets offset",
-        "key number octets offset suite", "key number octets offset ssci salt", "retire number", "txon an", "txoff an",
-        "key number octets offset suite ssci salt", "txsa an number pn protection", "txdel an", "rxsc sci",
-        "rxscdel sci", "rxsa sci an number pn", "rxsa sci an number pn ssci", "rxon sci an", "rxoff sci an",
-        "rxlow sci an pn", "rxdel sci an",
-    )  # fmt: skip
 
     def __init__(self, seed):
         self.random = random.Random(int.from_bytes(hashlib.sha256(seed.encode()).digest(), "big"))
@@ -169,7 +161,7 @@ class Calls:
 
     def line(self):
         """A line of a configuration, most often a command."""
-        keyword, *fields = self.pick(self.LINES).split()
+        keyword, *fields = self.pick(expected.LINES).split()
         words = ["A", keyword, *(self.word(it) for it in fields)]
         chance = self.random.random()
         if chance < 0.2:

@@ -89,44 +89,37 @@ def is_hex(word):
     return all(it in "0123456789abcdefABCDEF" for it in word)
 
 
-AN, NUMBER, OFFSET, LINK_NUMBER = decimal(0, 3), decimal(0, 4095), decimal(0, 255), decimal(0, 2**32 - 1)
-SCI, SSCI, SALT, FRAME, OCTET = hexadecimal(8), hexadecimal(4), hexadecimal(12), hexadecimal(), hexadecimal(1)
-WINDOW, SUITE = decimal(0, 2**64 - 1), one_of(*SUITES)
-# The words of a key that are always present.
-KEY = (NUMBER, hexadecimal(16, 32), OFFSET)
-# The lines that do not begin with an end, and those that do: the words after the keyword, for each form.
-PLAIN = {
-    "end": [(one_of("A", "B"), SUITE, SCI, decimal(64, MAX_FRAME), one_of(*FORMS))],
-    "alter": [(LINK_NUMBER, LINK_NUMBER, OCTET)],
-    "pad": [(LINK_NUMBER,)],
-    "inject": [(FRAME,)],
-}
-COMMANDS = {
-    "protect": [(one_of("on", "off"),)],
-    "validate": [(one_of(*MODES),)],
-    "replay": [(one_of("on", "off"), WINDOW)],
-    "tag": [(one_of(*FORMS),)],
-    "key": [KEY, (*KEY, SUITE), (*KEY, SSCI, SALT), (*KEY, SUITE, SSCI, SALT)],
-    "retire": [(NUMBER,)],
-    "txsa": [(AN, NUMBER, packet_number, one_of("int", "conf"))],
-    "txon": [(AN,)],
-    "txoff": [(AN,)],
-    "txdel": [(AN,)],
-    "rxsc": [(SCI,)],
-    "rxscdel": [(SCI,)],
-    "rxsa": [(SCI, AN, NUMBER, packet_number), (SCI, AN, NUMBER, packet_number, SSCI)],
-    "rxon": [(SCI, AN)],
-    "rxoff": [(SCI, AN)],
-    "rxlow": [(SCI, AN, packet_number)],
-    "rxdel": [(SCI, AN)],
-}
-AT_END = COMMANDS | {
-    "send": [(FRAME,)],
-    "sendu": [(FRAME,)],
-    "deliver": [(LINK_NUMBER,)],
-    "counters": [()],
-    "numbers": [()],
-}
+# What a word of a line has to be.
+FIELDS = {
+    "an": decimal(0, 3), "number": decimal(0, 4095), "offset": decimal(0, 255), "window": decimal(0, 2**64 - 1),
+    "link": decimal(0, 2**32 - 1), "most": decimal(64, MAX_FRAME), "pn": packet_number, "sci": hexadecimal(8),
+    "ssci": hexadecimal(4), "salt": hexadecimal(12), "octets": hexadecimal(16, 32), "octet": hexadecimal(1),
+    "frame": hexadecimal(), "suite": one_of(*SUITES), "form": one_of(*FORMS), "mode": one_of(*MODES),
+    "switch": one_of("on", "off"), "protection": one_of("int", "conf"), "end": one_of("A", "B"),
+}  # fmt: skip
+# The lines of commands, after the end.
+LINES = (
+    "protect switch", "validate mode", "replay switch window", "tag form", "key number octets offset",
+    "key number octets offset suite", "key number octets offset ssci salt", "retire number", "txon an", "txoff an",
+    "key number octets offset suite ssci salt", "txsa an number pn protection", "txdel an", "rxsc sci",
+    "rxscdel sci", "rxsa sci an number pn", "rxsa sci an number pn ssci", "rxon sci an", "rxoff sci an",
+    "rxlow sci an pn", "rxdel sci an",
+)  # fmt: skip
+
+
+def forms_of(*lines):
+    """The keywords of lines, and what the words after each have to be, for each form."""
+    forms = {}
+    for line in lines:
+        keyword, *fields = line.split()
+        forms.setdefault(keyword, []).append([FIELDS[it] for it in fields])
+    return forms
+
+
+# The lines that do not begin with an end, and those that do.
+PLAIN = forms_of("end end suite sci most form", "alter link link octet", "pad link", "inject frame")
+COMMANDS = forms_of(*LINES)
+AT_END = COMMANDS | forms_of("send frame", "sendu frame", "deliver link", "counters", "numbers")
 
 
 def parse_words(words):

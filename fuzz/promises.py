@@ -35,27 +35,21 @@ class Watch:
     """Two ends and the link in the module `model`, which is expected.py or a copy of it with a mistake."""
 
     def __init__(self, ends, model=expected):
-        self.ends, self.world = ends, model.World(ends)
+        self.ends, self.world, self.model = ends, model.World(ends), model
         self.uses, self.ivs, self.sent, self.on_link = set(), set(), [], collections.defaultdict(list)
         self.logs, self.met, self.is_genuine = {"A": [], "B": []}, collections.Counter(), True
         self.sealed, self.asked = [], []
         for endpoint in ends.values():
-            endpoint.seal = self.noting(model.seal, self.note_sealed)
-            endpoint.open_sealed = self.noting(model.open_sealed, self.note_asked)
+            endpoint.seal, endpoint.open_sealed = self.seal, self.open_sealed
 
-    def noting(self, call, note):
-        def noted(*parts):
-            result = call(*parts)
-            note(parts, result)
-            return result
+    def seal(self, key, iv, aad, plaintext):
+        sealed = self.model.seal(key, iv, aad, plaintext)
+        self.sealed.append((Use(key, iv, aad, sealed[:-16], sealed[-16:]), plaintext))
+        return sealed
 
-        return noted
-
-    def note_sealed(self, parts, result):
-        self.sealed.append((Use(*parts[:3], result[:-16], result[-16:]), parts[3]))
-
-    def note_asked(self, parts, result):
-        self.asked.append((Use(*parts), result))
+    def open_sealed(self, *parts):
+        self.asked.append((Use(*parts), self.model.open_sealed(*parts)))
+        return self.asked[-1][1]
 
     def result(self, keyword, end, values):
         """Carries out a command or an event, and returns what it prints."""
