@@ -20,7 +20,6 @@ from __future__ import annotations
 
 import collections
 import copy
-import json
 import pathlib
 import sys
 
@@ -31,7 +30,7 @@ from scapy.all import Ether, raw
 from scapy.contrib.macsec import MACsec, MACsecSA
 
 sys.path.insert(0, str(pathlib.Path(__file__).resolve().parents[1] / "tools"))
-from house import ROOT
+from conformance_vectors import iv_of, loaded, vectors_of
 
 Vector = "dict[str, Any]"
 
@@ -64,12 +63,6 @@ def number_of(it: Vector, lowest: int, low: int) -> int:
     return (upper + (low < 2**31 <= part)) * 2**32 + low
 
 
-def iv_of(it: Vector, sci: str, ssci: str, pn: int) -> bytes:
-    if "XPN" not in it["suite"]:
-        return octets(sci) + pn.to_bytes(4, "big")
-    return bytes(a ^ b for a, b in zip(octets(it["salt"]), octets(ssci) + (pn % 2**64).to_bytes(8, "big")))
-
-
 def opened_by_openssl(it: Vector, frame: bytes, channel: Vector, lowest: int) -> bytes | None:
     """The client frame, or None if the ICV is invalid or the frame can't be cut."""
     parts = cut(frame)
@@ -78,7 +71,7 @@ def opened_by_openssl(it: Vector, frame: bytes, channel: Vector, lowest: int) ->
     head, data, icv = parts
     clear = min(it["offset"], len(data)) if frame[14] & 8 else len(data)
     pn = number_of(it, lowest, int.from_bytes(frame[16:20], "big"))
-    iv = iv_of(it, channel["sci"], channel.get("ssci", ""), pn)
+    iv = octets(iv_of(it, channel["sci"], channel.get("ssci", ""), pn))
     try:
         text = AESGCM(octets(it["key"])).decrypt(iv, data[clear:] + icv, head + data[:clear])
     except InvalidTag:
@@ -160,10 +153,9 @@ def test_cipher(vector: Vector, report: Report) -> None:
     it = {name: octets(value) for name, value in vector["cipher"].items()}
     if vector["kind"] == "aes":
         made = Cipher(algorithms.AES(it["key"]), modes.ECB()).encryptor().update(it["plaintext"])
-        report.same("OpenSSL", vector, made == it["ciphertext"])
     else:
         made = AESGCM(it["key"]).encrypt(it["iv"], it["plaintext"], it["aad"])
-        report.same("OpenSSL", vector, made == it["ciphertext"] + it["tag"])
+    report.same("OpenSSL", vector, made == it["ciphertext"] + it.get("tag", b""))
 
 
 def test_protect(vector: Vector, report: Report) -> None:
@@ -217,8 +209,7 @@ def controls(named: dict[str, Vector]) -> int:
 
 
 def main() -> int:
-    groups = json.loads((ROOT / "vectors/macsec-vectors.json").read_text(encoding="utf-8"))["groups"]
-    vectors = [vector for group in groups for vector in group["vectors"]]
+    vectors = vectors_of(loaded())
     if "--controls" in sys.argv[1:]:
         return controls({it["id"]: it for it in vectors})
     report = Report("--all" in sys.argv[1:])

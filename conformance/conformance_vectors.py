@@ -100,11 +100,11 @@ def results_of(vector: Vector, text: str) -> list[Vector]:
     return results
 
 
-def iv_of(it: Vector, pn: int) -> str:
-    """The IV of a sender's frame."""
+def iv_of(it: Vector, sci: str, ssci: str, pn: int) -> str:
+    """The IV of a frame under an end's key."""
     if "XPN" not in it["suite"]:
-        return f"{it['sci']}{pn:08x}"
-    return bytes(a ^ b for a, b in zip(bytes.fromhex(it["salt"]), bytes.fromhex(f"{it['own_ssci']}{pn:016x}"))).hex()
+        return f"{sci}{pn:08x}"
+    return f"{int(it['salt'], 16) ^ int(f'{ssci}{pn % 2**64:016x}', 16):024x}"
 
 
 def parts_of(vector: Vector) -> list[Vector]:
@@ -123,7 +123,8 @@ def by_rules(vector: Vector) -> list[Vector]:
     _, text, _ = expected.run_script(script_of(vector).encode())
     results = results_of(vector, text.decode())
     for number, result in enumerate(it for it in results if "link" in it):
-        result["iv"] = iv_of(vector["sender"], int(vector["sender"]["pn"], 16) + number)
+        it = vector["sender"]
+        result["iv"] = iv_of(it, it["sci"], it.get("own_ssci", ""), int(it["pn"], 16) + number)
     return results
 
 
