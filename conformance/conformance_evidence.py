@@ -6,7 +6,6 @@ what they print is compared. A function here returns None if the evidence is goo
 from __future__ import annotations
 
 import functools
-import itertools
 import os
 import re
 import subprocess
@@ -15,7 +14,6 @@ from pathlib import Path
 
 from house import ROOT
 
-SCRIPTS = f"{ROOT}/examples/scripts"
 CAPTURES = f"{ROOT}/examples/captures"
 SECONDS = 60
 
@@ -79,8 +77,6 @@ class Runs:
         self.captures = captures
         self.vectors = vectors
         self.known: dict[str, str | None] = {}
-        # Expected texts that the controls have replaced.
-        self.replaced: dict[str, str] = {}
 
     def test(self, reference: str) -> str | None:
         """What is wrong with a script, a stored run, a capture, a test or a group of vectors."""
@@ -90,37 +86,24 @@ class Runs:
             self.known[reference] = test(name) if test and name else f"{reference} has no kind that is known"
         return self.known[reference]
 
-    def printed(self, words: list[str], text: str = "", folder: str | None = None) -> tuple[int, str]:
-        """The exit status of the program, and what it prints on standard output and standard error."""
-        streams = {"capture_output": True, "timeout": SECONDS, "cwd": folder}
-        ran = subprocess.run([self.program, *words], input=text.encode(), **streams)
-        return ran.returncode, (ran.stdout + ran.stderr).decode(errors="replace")
+    @functools.lru_cache(None)
+    def stored(self) -> dict[str, str]:
+        """What tests/program/stored-runs says of each script of examples/scripts and each stored run."""
+        words = [f"{ROOT}/tests/program/stored-runs", "--program", self.program]
+        ran = subprocess.run(words, capture_output=True, text=True)
+        lines = (re.fullmatch(r"  (?:WRONG: )?(script )?([\w-]+): (.*)", it) for it in ran.stdout.split("\n"))
+        return {f"{it[1] or 'run '}{it[2]}": it[3] for it in lines if it}
 
     def test_script(self, name: str) -> str | None:
         """A script of examples/scripts: what it prints is stored beside it."""
-        script, expected = (text_of(f"{SCRIPTS}/{name}.{it}") for it in ("macsec", "txt"))
-        if script is None or expected is None:
-            return f"examples/scripts has no {name}.macsec with a {name}.txt"
-        status, printed = self.printed(["run", "-"], script)
-        wanted = self.replaced.get(name, expected)
-        if status or printed != wanted:
-            return f"script {name}: {first_difference(printed, wanted)}, status {status}"
-        return None
+        return self.test_run(name, "script", "examples/scripts")
 
-    @functools.lru_cache(None)
-    def stored(self) -> dict[str, str]:
-        """What tests/program/stored-runs says of each stored run."""
-        words = [f"{ROOT}/tests/program/stored-runs", "--program", self.program]
-        ran = subprocess.run(words, capture_output=True, text=True)
-        lines = (re.fullmatch(r"  (?:WRONG: )?([\w-]+): (.*)", it) for it in ran.stdout.split("\n"))
-        return {it[1]: it[2] for it in lines if it}
-
-    def test_run(self, name: str) -> str | None:
+    def test_run(self, name: str, kind: str = "run", folder: str = "tests/program/runs") -> str | None:
         """A run of tests/program/runs."""
-        if name not in self.stored():
-            return f"tests/program/runs has no {name}"
-        said = self.stored()[name]
-        return None if said == "as stored" else f"run {name}: {said}"
+        said = self.stored().get(f"{kind} {name}")
+        if said is None:
+            return f"{folder} has no {name}"
+        return None if said == "as stored" else f"{kind} {name}: {said}"
 
     def test_capture(self, name: str) -> str | None:
         """A run over a capture of examples/captures: OUT is another of these captures, or the lines are as listed."""
@@ -129,7 +112,9 @@ class Runs:
         it = self.captures[name]
         with tempfile.TemporaryDirectory() as folder:
             out = f"{folder}/out.pcap"
-            status, printed = self.printed([it["command"], it["config"], it["in"], out], folder=CAPTURES)
+            words = [self.program, it["command"], it["config"], it["in"], out]
+            ran = subprocess.run(words, capture_output=True, timeout=SECONDS, cwd=CAPTURES)
+            status, printed = ran.returncode, (ran.stdout + ran.stderr).decode(errors="replace")
             lines = " ".join(re.findall(r"^record \d+ (\w+)", printed, re.M))
             if status or lines != it["verdicts"]:
                 return f"capture {name}: {lines}, and not {it['verdicts']}; status {status}"
@@ -155,11 +140,3 @@ class Runs:
             return f"vectors/macsec-vectors.json has no group {name}"
         wrong = self.vectors[name]
         return f"vectors {name}: {wrong[0]}, {len(wrong)} wrong" if wrong else None
-
-
-def first_difference(found: str, wanted: str) -> str:
-    lines = itertools.zip_longest(found.split("\n"), wanted.split("\n"), fillvalue="")
-    for number, (line, other) in enumerate(lines, 1):
-        if line != other:
-            return f"line {number} is {line[:60]!r}, and not {other[:60]!r}"
-    return "no line differs"
