@@ -132,14 +132,41 @@ static const uint8_t *sealed_sci(const char *word) {
     return sealed(word);
 }
 
-/* ---- Blocks of the library ---- */
+/* ---- Blocks of the library, whose calls of malloc, realloc and free come here first ---- */
+
+static unsigned asked, refused; /* how often the library asked for memory, and which time it gets none, if not 0 */
+static bool refused_after;      /* whether it gets none after that time either */
+static int held;                /* how many blocks it holds */
 
 #ifndef UNCOUNTED
-#include "../tests/library/c/blocks.h"
+void *__real_malloc(size_t size);
+void *__real_realloc(void *old, size_t size);
+void __real_free(void *block);
+
+static bool is_refused(void) {
+    asked++;
+    return refused != 0 && (asked == refused || (refused_after && asked > refused));
+}
+
+void *__wrap_malloc(size_t size) {
+    void *block = is_refused() ? NULL : __real_malloc(size);
+    held += block != NULL;
+    return block;
+}
+
+void *__wrap_realloc(void *old, size_t size) {
+    void *block = is_refused() ? NULL : __real_realloc(old, size);
+    held += block != NULL && old == NULL;
+    return block;
+}
+
+void __wrap_free(void *block) {
+    held -= block != NULL;
+    __real_free(block);
+}
 
 /* An endpoint has seven blocks, and one more beside a journal with records. Only the calls that make one, a line and a
- * journal ask for blocks, and not of a handle that holds an endpoint if they make one, or else of one that holds none.
- */
+ * journal ask for blocks; one that answers MACSEC_E_TAKEN or MACSEC_E_EMPTY does not. */
 static void check_blocks(const char *name, unsigned handle, bool held_before, uint32_t status) {
     const char *reading[] = { "configure",    "command_line",      "answer",
                               "reserve_open", "reserve_configure", "journal_compacted" };
@@ -157,10 +184,6 @@ static void check_blocks(const char *name, unsigned handle, bool held_before, ui
         blocks[handle] = held;
 }
 #else
-static unsigned asked, refused;
-static bool refused_after;
-static int held;
-
 static void check_blocks(const char *name, unsigned handle, bool held_before, uint32_t status) {
     (void)name, (void)handle, (void)held_before, (void)status, (void)blocks, (void)refused_after;
 }
