@@ -261,22 +261,21 @@ void journal_close(struct journal *journal) {
 
 /* ---- Rewriting ---- */
 
-/* Makes room for twice as many octets as a journal has when it has been written anew. */
-static int grow(struct journal *journal, size_t length, struct journal_fault *fault) {
+int journal_make_room(struct journal *journal, size_t length, struct journal_fault *fault) {
     uint8_t *grown;
-    if (2 * length <= journal->room)
+    if (length <= journal->room)
         return 0;
-    if (2 * length > JOURNAL_MAX)
+    if (length > JOURNAL_MAX)
         return failed(fault, JOURNAL_LENGTH, EFBIG);
-    grown = realloc(journal->octets, 2 * length);
+    grown = realloc(journal->octets, length);
     if (grown == NULL)
         return failed(fault, JOURNAL_MEMORY, ENOMEM);
     journal->octets = grown;
-    grown = realloc(journal->spare, 2 * length);
+    grown = realloc(journal->spare, length);
     if (grown == NULL)
         return failed(fault, JOURNAL_MEMORY, ENOMEM);
     journal->spare = grown;
-    journal->room = 2 * length;
+    journal->room = length;
     return 0;
 }
 
@@ -293,14 +292,10 @@ static int take_new_file(struct journal *journal, int file, size_t length, struc
     return note_file(journal, &written, fault);
 }
 
-int journal_rewrite(struct journal *journal, struct journal_fault *fault) {
-    size_t length = 0;
+/* Puts a new file with so many octets of `spare` in the place of the journal. */
+static int put_spare(struct journal *journal, size_t length, struct journal_fault *fault) {
     int file;
-    uint32_t status = macsec_journal_compacted(journal->octets, journal->length, journal->spare, &length);
-    journal->in_doubt = true;
-    if (status != MACSEC_OK)
-        return failed_in_library(fault, status);
-    if (grow(journal, length, fault) != 0 || check_named(journal, fault) != 0)
+    if (check_named(journal, fault) != 0)
         return -1;
     /* This process holds the lock, so a file of this name is left over. */
     if (unlinkat(journal->folder, journal->new_name, 0) != 0 && errno != ENOENT)
@@ -310,6 +305,23 @@ int journal_rewrite(struct journal *journal, struct journal_fault *fault) {
         return -1;
     journal->in_doubt = false;
     return 0;
+}
+
+int journal_rewrite(struct journal *journal, struct journal_fault *fault) {
+    size_t length = 0;
+    uint32_t status = macsec_journal_compacted(journal->octets, journal->length, journal->spare, &length);
+    journal->in_doubt = true;
+    if (status != MACSEC_OK)
+        return failed_in_library(fault, status);
+    return journal_make_room(journal, 2 * length, fault) != 0 ? -1 : put_spare(journal, length, fault);
+}
+
+int journal_replace(struct journal *journal, const uint8_t *octets, size_t length, struct journal_fault *fault) {
+    journal->in_doubt = true;
+    if (length > journal->room)
+        return failed(fault, JOURNAL_LENGTH, EFBIG);
+    memcpy(journal->spare, octets, length);
+    return put_spare(journal, length, fault);
 }
 
 /* ---- Records ---- */
@@ -322,23 +334,28 @@ static bool has_record(const struct journal *journal, const macsec_record *recor
     return false;
 }
 
-int journal_append(struct journal *journal, const macsec_record *record, struct journal_fault *fault) {
-    if (!journal->in_doubt && has_record(journal, record))
-        return 0;
-    if ((journal->in_doubt || journal->length + MACSEC_RECORD_LENGTH > journal->room) &&
-        journal_rewrite(journal, fault) != 0)
+int journal_append_all(struct journal *journal, const uint8_t *records, size_t length, struct journal_fault *fault) {
+    if ((journal->in_doubt || journal->length + length > journal->room) && journal_rewrite(journal, fault) != 0)
+        return -1;
+    if (journal_make_room(journal, journal->length + length, fault) != 0)
         return -1;
     journal->in_doubt = true;
-    if (write_all(journal->file, record->octets, MACSEC_RECORD_LENGTH, (off_t)journal->length) != 0)
+    if (write_all(journal->file, records, length, (off_t)journal->length) != 0)
         return failed(fault, JOURNAL_WRITE, errno);
     if (fdatasync(journal->file) != 0)
         return failed(fault, JOURNAL_SYNC, errno);
     if (check_named(journal, fault) != 0)
         return -1;
-    memcpy(journal->octets + journal->length, record->octets, MACSEC_RECORD_LENGTH);
-    journal->length += MACSEC_RECORD_LENGTH;
+    memcpy(journal->octets + journal->length, records, length);
+    journal->length += length;
     journal->in_doubt = false;
     return 0;
+}
+
+int journal_append(struct journal *journal, const macsec_record *record, struct journal_fault *fault) {
+    if (!journal->in_doubt && has_record(journal, record))
+        return 0;
+    return journal_append_all(journal, record->octets, MACSEC_RECORD_LENGTH, fault);
 }
 
 /* Makes a record durable, and then reports it to the endpoint. */

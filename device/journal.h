@@ -39,6 +39,9 @@
  *            file that takes its place. The limit grows to twice the length of that file, if it was lower. Names of old
  *            keys stay in the journal. If they fill half of JOURNAL_MAX, nothing more can be written (EFBIG): create
  *            another journal, and install new keys.
+ * RECORDS    A record is a name of 32 octets, a packet number of 8 with the most significant octet first, and a check
+ * of
+ *            24. The last record of a name need not be the greatest. Other octets of 64 are skipped.
  * TIME       The library compares each record with each name when it opens or rewrites a journal, and the endpoint
  *            waits for it. Of 1,024 records this took 3 ms of a processor with 2 names, and 24 ms with 512; of 4,096
  *            records with 2,048 names 350 ms (x86-64, an unproved build). So keep the limit low.
@@ -121,6 +124,9 @@ int journal_open(struct journal *journal, const char *path, size_t limit, struct
 /* Makes a record durable. One that this process has made durable is not written again. */
 int journal_append(struct journal *journal, const macsec_record *record, struct journal_fault *fault);
 
+/* Makes several records durable by one write and one synchronization. */
+int journal_append_all(struct journal *journal, const uint8_t *records, size_t length, struct journal_fault *fault);
+
 /* Reserves `amount` packet numbers for a transmit association if the endpoint has fewer than half of them left; else it
  * does nothing, as for an association that does not exist. Call it after the association was added and before it is
  * enabled, and then at least twice as often as `amount` frames are sent. */
@@ -136,6 +142,11 @@ int journal_save(struct journal *journal, macsec_endpoint *e, const uint8_t sci[
 
 /* Writes the journal anew, with one record for each name. The calls above do this when it is needed. */
 int journal_rewrite(struct journal *journal, struct journal_fault *fault);
+
+/* For a program that keeps the records itself: puts the octets of a whole journal in the place of the file, and makes
+ * room for so many first. The second call alone allocates memory. */
+int journal_replace(struct journal *journal, const uint8_t *octets, size_t length, struct journal_fault *fault);
+int journal_make_room(struct journal *journal, size_t length, struct journal_fault *fault);
 
 /* Unlocks and closes an open journal. Nothing is lost: each record was made durable when it was written. */
 void journal_close(struct journal *journal);
