@@ -30,7 +30,7 @@ SEED := 1
 PREFIX ?= /usr/local
 CPU ?= x86-64-v2
 BUILT := build/macsec$(if $(filter x86-64-v3,$(CPU)),-x86-64-v3)
-DEVICE_FLAGS := -std=c11 -Wall -Wextra -Werror -pedantic -Iinclude -O2 -fstack-protector-strong -D_FORTIFY_SOURCE=2 \
+DEVICE_FLAGS := -std=c11 -pthread -Wall -Wextra -Werror -pedantic -Iinclude -O2 -fstack-protector-strong -D_FORTIFY_SOURCE=2 \
     -fPIE -pie -Wl,-z,relro -Wl,-z,now -Wl,-z,noexecstack
 HWCAPS := glibc-hwcaps/x86-64-v3
 DEVICE := build/macsecd$(if $(filter x86-64-v3,$(CPU)),-x86-64-v3)

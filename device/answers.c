@@ -234,6 +234,7 @@ void answer_json(struct text *t, const struct device *d) {
         text_add(t, "\"namespace\":\"%s\",", path);
     }
     text_add(t, "\"port\":\"%s\",\"keys_left\":%u,", d->port.off ? "off" : "on", (unsigned)left);
+    text_add(t, "\"journal_names\":%zu,\"journal_names_max\":%zu,", numbers_names(d->numbers), numbers_names_max());
     text_add(t, "\"device_counters\":{");
     for (size_t i = 0; i < COUNT_OF_COUNTS; i++)
         text_add(t, "%s\"%s\":%" PRIu64, i == 0 ? "" : ",", counts_name(i), counts_value(&d->counts, i));
@@ -300,6 +301,10 @@ static void add_gauges(struct text *t, const struct device *d) {
     text_add(t, "# TYPE macsec_link_up gauge\nmacsec_link_up{device=\"%s\"} %d\n", d->name, d->life.up);
     text_add(t, "# TYPE macsec_port_on gauge\nmacsec_port_on{device=\"%s\"} %d\n", d->name, !d->port.off);
     text_add(t, "# TYPE macsec_keys_left gauge\nmacsec_keys_left{device=\"%s\"} %u\n", d->name, (unsigned)left);
+    text_add(t, "# TYPE macsec_journal_names gauge\nmacsec_journal_names{device=\"%s\"} %zu\n", d->name,
+             numbers_names(d->numbers));
+    text_add(t, "# TYPE macsec_journal_names_max gauge\nmacsec_journal_names_max{device=\"%s\"} %zu\n", d->name,
+             numbers_names_max());
     text_add(t, "# TYPE macsec_next_packet_number gauge\n");
     for (uint8_t an = 0; an < MACSEC_AN_COUNT; an++) {
         macsec_tx_sa sa;

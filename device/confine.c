@@ -1,5 +1,5 @@
-/* What macsecd gives up. libseccomp is not used: the list of system calls is short, for one processor, and never
- * changes while macsecd runs. Without it the program needs the C library alone. */
+/* What macsecd gives up. libseccomp is not used: the lists of system calls are short, for one processor, and never
+ * change while macsecd runs. Without it the program needs the C library alone. */
 #define _GNU_SOURCE
 #include "device.h"
 #include <errno.h>
@@ -91,8 +91,9 @@ static int restrict_files(int state, int run) {
 
 /* ---- System calls ---- */
 
-static const unsigned allowed[] = {
-    /* frames, control, reports, signals and the clock */
+/* Those of the thread that has the endpoint. It opens no file and writes to none. */
+static const unsigned of_frames[] = {
+    /* frames, control, reports, signals, the clock and the thread of the journal */
     SYS_read,
     SYS_write,
     SYS_recvmmsg,
@@ -107,20 +108,11 @@ static const unsigned allowed[] = {
     SYS_epoll_pwait,
     SYS_epoll_ctl,
     SYS_clock_gettime,
+    SYS_futex,
     SYS_restart_syscall,
-    /* the journal, also when it is rewritten */
-    SYS_openat,
-    SYS_pread64,
-    SYS_pwrite64,
-    SYS_fdatasync,
-    SYS_fsync,
-    SYS_flock,
-    SYS_fstat,
-    SYS_newfstatat,
-    SYS_renameat,
-    SYS_renameat2,
+    /* the control socket is removed */
     SYS_unlinkat,
-    /* memory, for the words of a line */
+    /* memory, for the words of a line and for names */
     SYS_brk,
     SYS_munmap,
     SYS_mremap,
@@ -129,22 +121,46 @@ static const unsigned allowed[] = {
     SYS_exit_group,
 };
 
-enum { ALLOWED = sizeof allowed / sizeof allowed[0], BEFORE = 3, AFTER = 9 };
+/* Those of the thread of the journal. It has no memory to allocate, and uses no socket. */
+static const unsigned of_journal[] = {
+    SYS_write, /* that an order was carried out */
+    SYS_pwrite64,
+    SYS_fdatasync,
+    SYS_newfstatat,
+    SYS_clock_gettime,
+    SYS_futex,
+    SYS_restart_syscall,
+    /* the journal is written anew */
+    SYS_openat,
+    SYS_fsync,
+    SYS_flock,
+    SYS_fstat,
+    SYS_renameat,
+    SYS_renameat2,
+    SYS_unlinkat,
+    SYS_close,
+    /* the thread ends */
+    SYS_rt_sigprocmask,
+    SYS_madvise,
+    SYS_exit,
+};
+
+enum { BEFORE = 3, AFTER = 9, CALLS_MAX = 32 };
 
 #define LOAD(member) BPF_STMT(BPF_LD | BPF_W | BPF_ABS, (unsigned)offsetof(struct seccomp_data, member))
 #define JUMP_IF(test, value, yes, no) BPF_JUMP(BPF_JMP | (test) | BPF_K, (value), (yes), (no))
 
-/* Makes the program: the calls of the list are allowed, mmap without execution, and ioctl for TAP's carrier and for
- * reading an address. Any other ends the process. */
-static void make_filter(struct sock_filter program[BEFORE + ALLOWED + AFTER]) {
+/* Makes the program: the calls of a list are allowed, and for frames mmap without execution, and ioctl for TAP's
+ * carrier and for reading an address. Any other ends the process. */
+static unsigned short make_filter(struct sock_filter *program, const unsigned *calls, unsigned count) {
     struct sock_filter *next = program;
     *next++ = (struct sock_filter)LOAD(arch);
-    *next++ = (struct sock_filter)JUMP_IF(BPF_JEQ, AUDIT_ARCH_X86_64, 0, ALLOWED + 8);
+    *next++ = (struct sock_filter)JUMP_IF(BPF_JEQ, AUDIT_ARCH_X86_64, 0, (unsigned char)(count + 8));
     *next++ = (struct sock_filter)LOAD(nr);
-    for (unsigned i = 0; i < ALLOWED; i++)
-        *next++ = (struct sock_filter)JUMP_IF(BPF_JEQ, allowed[i], (unsigned char)(ALLOWED - i - 1 + 8), 0);
-    *next++ = (struct sock_filter)JUMP_IF(BPF_JEQ, SYS_mmap, 1, 0);
-    *next++ = (struct sock_filter)JUMP_IF(BPF_JEQ, SYS_ioctl, 2, 5);
+    for (unsigned i = 0; i < count; i++)
+        *next++ = (struct sock_filter)JUMP_IF(BPF_JEQ, calls[i], (unsigned char)(count - i - 1 + 8), 0);
+    *next++ = (struct sock_filter)JUMP_IF(BPF_JEQ, calls == of_frames ? SYS_mmap : UINT32_MAX, 1, 0);
+    *next++ = (struct sock_filter)JUMP_IF(BPF_JEQ, calls == of_frames ? SYS_ioctl : UINT32_MAX, 2, 5);
     *next++ = (struct sock_filter)LOAD(args[2]);
     *next++ = (struct sock_filter)JUMP_IF(BPF_JSET, PROT_EXEC, 3, 4);
     *next++ = (struct sock_filter)LOAD(args[1]);
@@ -152,16 +168,28 @@ static void make_filter(struct sock_filter program[BEFORE + ALLOWED + AFTER]) {
     *next++ = (struct sock_filter)JUMP_IF(BPF_JEQ, SIOCGIFHWADDR, 1, 0);
     *next++ = (struct sock_filter)BPF_STMT(BPF_RET | BPF_K, SECCOMP_RET_KILL_PROCESS);
     *next++ = (struct sock_filter)BPF_STMT(BPF_RET | BPF_K, SECCOMP_RET_ALLOW);
+    return (unsigned short)(next - program);
 }
 
-static int filter_calls(void) {
-    struct sock_filter program[BEFORE + ALLOWED + AFTER];
-    struct sock_fprog filter = { BEFORE + ALLOWED + AFTER, program };
-    make_filter(program);
+/* Filters the calls of this thread. */
+static int filter_calls(const unsigned *calls, unsigned count) {
+    struct sock_filter program[BEFORE + CALLS_MAX + AFTER];
+    struct sock_fprog filter = { make_filter(program, calls, count), program };
     if (prctl(PR_SET_SECCOMP, SECCOMP_MODE_FILTER, &filter, 0, 0) == 0)
         return 0;
     message_of_errno("the list of system calls");
     return ENDS_FAILED;
+}
+
+_Static_assert(sizeof of_frames / sizeof of_frames[0] <= CALLS_MAX, "the list of calls is too long");
+_Static_assert(sizeof of_journal / sizeof of_journal[0] <= CALLS_MAX, "the list of calls is too long");
+
+int confine_calls(void) {
+    return filter_calls(of_frames, sizeof of_frames / sizeof of_frames[0]);
+}
+
+int confine_saver(void) {
+    return filter_calls(of_journal, sizeof of_journal / sizeof of_journal[0]);
 }
 
 #else
@@ -172,8 +200,12 @@ static int restrict_files(int state, int run) {
     return 0;
 }
 
-static int filter_calls(void) {
+int confine_calls(void) {
     message("this build restricts neither its files nor its system calls");
+    return 0;
+}
+
+int confine_saver(void) {
     return 0;
 }
 
@@ -183,5 +215,5 @@ int confine_rights(int state, int run) {
     int result = drop_capabilities();
     if (result == 0)
         result = restrict_files(state, run);
-    return result == 0 ? filter_calls() : result;
+    return result;
 }

@@ -101,6 +101,7 @@ void control_close(struct control *k) {
 static void close_client(struct device *d, int index) {
     (void)close(d->control.clients[index]); /* this also takes it out of what the loop waits for */
     d->control.clients[index] = -1;
+    waits_client_gone(d, index);
     port_client_gone(d, index);
 }
 
@@ -121,9 +122,20 @@ int control_accept(struct control *k) {
 
 /* ---- Requests ---- */
 
+bool control_send(struct device *d, int index, const char *octets, size_t length) {
+    ssize_t sent;
+    do
+        sent = send(d->control.clients[index], octets, length, MSG_DONTWAIT | MSG_NOSIGNAL);
+    while (sent < 0 && errno == EINTR);
+    if (sent < 0)
+        close_client(d, index); /* it does not read its answers, or has gone */
+    return sent >= 0;
+}
+
 bool control_answer(struct device *d, int index) {
     struct text t = { answer, 0, sizeof answer, false };
     int client = d->control.clients[index];
+    bool waits;
     ssize_t count, length = recv(client, request, REQUEST, MSG_DONTWAIT);
     if (length < 0 && (errno == EAGAIN || errno == EINTR))
         return true;
@@ -134,12 +146,7 @@ bool control_answer(struct device *d, int index) {
     count = length;
     request[length] = '\0';
     d->counts.requests++;
-    requests_answer(d, &t, index, request, (size_t)length);
+    waits = requests_answer(d, &t, index, request, (size_t)length);
     explicit_bzero(request, (size_t)count); /* it may be a key */
-    do
-        length = send(client, answer, t.length, MSG_DONTWAIT | MSG_NOSIGNAL);
-    while (length < 0 && errno == EINTR);
-    if (length < 0)
-        close_client(d, index); /* it does not read its answers, or has gone */
-    return length >= 0;
+    return (waits && waits_keep(d, index, answer, t.length)) || control_send(d, index, answer, t.length);
 }

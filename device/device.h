@@ -197,6 +197,95 @@ void namespace_path(char path[NAMESPACE_PATH], const char *name);
  * message. */
 int namespace_enter(struct tap *t, const struct config *c, const char *name);
 
+/* ---- names.c: the names in the journal, and their records ---- */
+
+/* The octets of a name; the number of no key; and how many names of keys that were given up stay in the journal. */
+enum { NAME = 32, NO_KEY = MACSEC_KEY_COUNT, KEPT_NAMES = 256 };
+
+struct name {
+    macsec_record made;    /* the record with the greatest packet number: durable, being written, or to be written */
+    macsec_record durable; /* the durable one, and its packet number */
+    uint64_t durable_last;
+    uint64_t given_up; /* at which turn its key was given up; 0: it was not */
+    uint32_t key;      /* the key's number in the endpoint, or NO_KEY */
+    bool is_durable;   /* is there a durable record? */
+    bool sends;        /* does a transmit association use it? */
+    bool came_again;   /* was the name in the journal before the key was installed? Then that may happen again */
+    bool again;        /* is the record to be written again, after a mark? */
+    bool marked;       /* is the mark durable? */
+    bool changed;      /* is it among the changed names? */
+};
+
+struct names {
+    uint8_t header[MACSEC_RECORD_LENGTH];
+    struct name *at;
+    size_t count, room;
+    uint32_t *slots; /* of the hash table: 0, or 1 more than the index of a name */
+    size_t slot_count;
+    uint32_t *changed; /* the indices of names with something to be written */
+    size_t changed_count;
+    uint64_t given_up; /* how many names were given up */
+};
+
+/* Reads the octets of a journal. Returns the library's status. */
+uint32_t names_read(struct names *n, const uint8_t *octets, size_t length);
+/* The name in a record, or NULL if it is new. It is there until the next call that adds or takes out names. */
+struct name *names_find(const struct names *n, const uint8_t *record);
+/* The greatest packet number of its records. */
+uint64_t names_last(const struct name *name);
+/* Notes a record that the library has made for a key of this number. It is written later if it says something new.
+ * Returns its name, or NULL if memory runs out. */
+struct name *names_note(struct names *n, const macsec_record *record, uint32_t key, bool sends);
+/* Gives up the names of a key, which will not be installed again. One that came again before stays. */
+void names_give_up(struct names *n, uint32_t key);
+/* The number of the key, or each number if it is NO_KEY, stands for another key from now on. */
+void names_detach(struct names *n, uint32_t key);
+/* Writes what has changed to a buffer, and how long that can be. Returns its length. */
+size_t names_changes(struct names *n, uint8_t *out);
+size_t names_change_room(const struct names *n);
+/* Writes the whole journal, without the names that may leave it. Returns its length. */
+size_t names_all(struct names *n, uint8_t *out);
+size_t names_room(const struct names *n);
+/* How many names stay in it. */
+size_t names_count(const struct names *n);
+/* Writes the header and the greatest record of each name, with these records instead of those of their names. */
+size_t names_copy(const struct names *n, const macsec_record *instead, size_t count, uint8_t *out);
+/* Octets are durable that one of these two calls has written. Those records of transmit associations that say something
+ * new are reported. */
+void names_written(struct names *n, const uint8_t *records, size_t length,
+                   void (*report)(void *context, const macsec_record *record), void *context);
+void names_free(struct names *n);
+
+/* ---- saver.c: the thread that writes the journal ---- */
+
+struct journal;
+struct saver;
+
+/* What became of an order. */
+struct saved {
+    bool good;
+    int step, error; /* as in struct journal_fault */
+    uint32_t status;
+    double seconds;
+};
+
+/* Notes the journal, which belongs to the thread while it works. Returns 0, or the exit status after a message. */
+int saver_open(struct saver **s, struct journal *journal);
+/* Starts the thread. Without it, orders are carried out at once. Returns 0, or the exit status after a message. */
+int saver_start(struct saver *s);
+/* A descriptor that can be read when an order was carried out. */
+int saver_file(const struct saver *s);
+/* Is an order under way? */
+bool saver_is_busy(const struct saver *s);
+/* Orders that octets be appended to the journal, or be the whole journal. They stay as they are until it is done. */
+void saver_order(struct saver *s, const uint8_t *octets, size_t length, bool whole);
+/* Has the order been carried out? Then the saver has none any more. */
+bool saver_is_done(struct saver *s, struct saved *saved);
+/* Waits until then, at most so long. */
+void saver_wait(struct saver *s, int milliseconds);
+/* Ends the thread, unless it has an order. Returns false if it has. */
+bool saver_close(struct saver *s);
+
 /* ---- numbers.c: packet numbers that outlive a run ---- */
 
 struct numbers;
@@ -205,21 +294,54 @@ struct numbers;
 int numbers_create(const char *name);
 /* Opens it. Returns 0, or the exit status after a message. */
 int numbers_open(struct numbers **n, const char *name, struct counts *counts);
-/* The descriptor of the journal's folder. */
+/* Starts the thread that writes it. Until then, calls wait for the disk. Returns 0, or the exit status after a message.
+ */
+int numbers_start(struct numbers *n, macsec_endpoint *e);
+/* The descriptor of the journal's folder, and one that can be read when records were written. */
 int numbers_folder(const struct numbers *n);
-/* Creates the endpoint of an `end` line, beside the journal. Returns the library's status. */
-uint32_t numbers_configure(const struct numbers *n, macsec_endpoint *e, const char *line, size_t length);
-/* Carries out a line. If an association begins above the packet number of the line, since lower ones may have been used
- * in an earlier run, `raised` is where; else it is 0. */
-uint32_t numbers_command(macsec_endpoint *e, const char *line, size_t length, uint64_t *raised);
-/* Makes the reservations that transmit associations want. Returns false if one could not be made durable. */
-bool numbers_reserve(struct numbers *n, macsec_endpoint *e);
-/* Notes that frames were sent, and reserves in time. */
-void numbers_used(struct numbers *n, macsec_endpoint *e, unsigned frames);
-/* To be called each second: fits the reservations to the rate, and saves some of the received packet numbers. */
+int numbers_file(const struct numbers *n);
+/* To be called then: reports the records to the endpoint, and has the next ones written. */
+void numbers_go_on(struct numbers *n, macsec_endpoint *e);
+/* Creates the endpoint of an `end` line, beside the journal, where some records stand in place of those of their names.
+ * Returns the library's status. */
+uint32_t numbers_configure(const struct numbers *n, macsec_endpoint *e, const char *line, size_t length,
+                           const macsec_record *instead, size_t count);
+/* The same beside a journal that reserves nothing. Such an endpoint sends nothing. */
+uint32_t numbers_configure_empty(const struct numbers *n, macsec_endpoint *e, const char *line, size_t length);
+/* What was noted for the line of a key, and for its retirement. `passes`: a key agreement has brought the key or
+ * retires it, so it is given up. */
+void numbers_note_key(struct numbers *n, uint64_t key, bool passes);
+void numbers_note_retired(struct numbers *n, uint64_t key, bool passes);
+/* Makes the reservations that transmit associations want. */
+void numbers_reserve(struct numbers *n, macsec_endpoint *e);
+/* The same for an endpoint that is to take over: it waits so long for the disk if an enabled association has nothing
+ * reserved. Returns false if it has nothing then, and the journal can't be written. */
+bool numbers_reserve_soon(struct numbers *n, macsec_endpoint *e, int milliseconds);
+/* Notes that frames were sent, and whether one lacked a reservation; reserves in time. */
+void numbers_used(struct numbers *n, macsec_endpoint *e, unsigned frames, bool lacked);
+/* To be called each second: fits the reservations to the rate, and saves the received packet numbers. */
 void numbers_tick(struct numbers *n, macsec_endpoint *e);
-/* Saves all received packet numbers, and closes the journal. */
-void numbers_close(struct numbers *n, macsec_endpoint *e);
+/* Saves what the receive associations of a channel have accepted, or all if `sci` is NULL: before one ends, or the
+ * endpoint does. One that comes again under its key begins above that. */
+void numbers_save(struct numbers *n, macsec_endpoint *e, const uint8_t *sci);
+/* To be called when an endpoint has ended: the numbers of its keys stand for other keys from now on. */
+void numbers_forget(struct numbers *n);
+/* The highest packet number that a receive association has accepted, in this run or an earlier one; 0 if none. */
+uint64_t numbers_accepted(const struct numbers *n, const macsec_endpoint *e, const uint8_t sci[8], uint8_t an);
+/* A ticket for the records that are to be written, and whether they were, or could not be. */
+uint64_t numbers_ticket(const struct numbers *n);
+bool numbers_is_written(const struct numbers *n, uint64_t ticket);
+/* How many names are in the journal, and how many there can be. */
+size_t numbers_names(const struct numbers *n);
+size_t numbers_names_max(void);
+/* Saves all received packet numbers, and closes the journal. Returns false, after a message, if that fails. */
+bool numbers_close(struct numbers *n, macsec_endpoint *e);
+
+/* ---- lines.c: lines for the endpoint that begin and end associations ---- */
+
+/* Carries out a line. If an association begins above the packet number of the line, since lower ones may have been
+ * used, `raised` is where; else it is 0. */
+uint32_t lines_carry_out(struct numbers *n, macsec_endpoint *e, const char *line, size_t length, uint64_t *raised);
 
 /* ---- keys.c: the keys that an endpoint has, for one that takes over from it ---- */
 
@@ -256,7 +378,7 @@ enum { END_LINE = 96 };
 struct result {
     const char *fault; /* NULL, or why macsecd did not give it to the endpoint */
     uint32_t status;   /* the library's */
-    uint64_t raised;   /* as of numbers_command */
+    uint64_t raised;   /* as of lines_carry_out */
 };
 
 /* Creates the endpoint of a configuration's text, or none if the text has no line. Returns the status of the first line
@@ -274,7 +396,7 @@ void endpoint_load(struct device *d, struct text *t, const char *lines, size_t l
 /* ---- handover.c: a second endpoint ---- */
 
 /* Makes a second endpoint in the free handle: a copy with the keys that are not retired, the channels and the
- * associations, which send above all numbers that were reserved. Returns NULL, after a message, if it can't be made. */
+ * associations, which go on with the reservations. Returns NULL, after a message, if it can't be made. */
 macsec_endpoint *handover_begin(struct device *d);
 /* Reserves for it, and lets it take over from the first. Returns false, after a message, if no record can be written:
  * then it is freed. */
@@ -333,12 +455,40 @@ void answer_show(struct text *t, const struct device *d);
 /* The most octets of a request, which is `load` with its lines. */
 enum { REQUEST_MAX = 128 * 1024 };
 
-/* Answers a request of a client, which ends with a zero and may have others. */
-void requests_answer(struct device *d, struct text *t, int client, char *request, size_t length);
+/* Answers a request of a client, which ends with a zero and may have others. Returns true if the answer is to wait for
+ * the journal. */
+bool requests_answer(struct device *d, struct text *t, int client, char *request, size_t length);
+
+/* ---- waits.c: answers that wait for the journal ---- */
+
+/* The most clients of the control socket, and octets of an answer that can wait. */
+enum { CLIENTS = 16, KEPT_ANSWER = 64 };
+
+struct waiting {
+    size_t length; /* of the answer; 0: there is none */
+    char answer[KEPT_ANSWER];
+    uint64_t ticket;
+    int64_t until;  /* in milliseconds */
+    bool unwatched; /* does the loop not read its requests? */
+};
+
+struct waits {
+    struct waiting clients[CLIENTS];
+};
+
+/* Keeps the answer of a client until the records of its request are on the disk. Returns false if they are, or if the
+ * answer is too long to be kept: it is to be sent at once. */
+bool waits_keep(struct device *d, int client, const char *answer, size_t length);
+/* Does the client wait for an answer? Its next requests are read after that. */
+bool waits_for(const struct device *d, int client);
+/* Sends the answers whose records are on the disk, and those that have waited too long. */
+void waits_send(struct device *d);
+/* How many milliseconds the loop may wait; -1: for ever. */
+int waits_left(const struct device *d);
+/* To be called when a connection has ended. */
+void waits_client_gone(struct device *d, int client);
 
 /* ---- control.c: the control socket ---- */
-
-enum { CLIENTS = 16 };
 
 struct control {
     int listener, folder;
@@ -352,6 +502,8 @@ int control_open(struct control *k, const char *name, const struct config *c);
 int control_accept(struct control *k);
 /* Answers a request of a client. Returns false if the connection has ended; it is closed then. */
 bool control_answer(struct device *d, int index);
+/* Sends an answer to a client. Returns false if the connection has ended; it is closed then. */
+bool control_send(struct device *d, int index, const char *octets, size_t length);
 /* Removes the socket. */
 void control_close(struct control *k);
 
@@ -371,6 +523,7 @@ void port_set(struct device *d, bool on);
 void port_tick(struct device *d);
 /* May a client change something? Then it may become the owner. */
 bool port_may_change(const struct device *d, int client);
+bool port_has_owner(const struct device *d);
 void port_own(struct device *d, int client);
 /* To be called when a connection has ended. */
 void port_client_gone(struct device *d, int client);
@@ -402,9 +555,12 @@ void service_notify(const char *assignment);
 int confine_memory(void);
 /* No CAP_SYS_ADMIN: to be called when LINK's namespace was entered. Returns 0, or the exit status after a message. */
 int confine_namespace(void);
-/* No capabilities, no new privileges, only some system calls, and no files except in the folders of the journal and the
- * control socket: to be called before frames are read. Both return 0, or the exit status after a message. */
+/* No capabilities, no new privileges, and no files except in the folders of the journal and the control socket: to be
+ * called before the thread of the journal is started. All return 0, or the exit status after a message. */
 int confine_rights(int state, int run);
+/* Only some system calls: in the thread that has the frames, and in that of the journal, which has other ones. */
+int confine_calls(void);
+int confine_saver(void);
 
 /* ---- frames.c: the path of frames ---- */
 
@@ -427,6 +583,7 @@ struct device {
     struct tap tap;
     struct life life;
     struct control control;
+    struct waits waits;
     struct port port;
     struct numbers *numbers;
     int signals, clock, events;

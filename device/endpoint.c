@@ -3,13 +3,20 @@
 #include <stdio.h>
 #include <string.h>
 
-/* What a line that was carried out means for the device. */
-static void note(struct device *d, const struct words *w) {
+/* What a line that was carried out means for the device. `passes`: a key agreement owns the device, so the key of the
+ * line does not come again once it is retired. */
+static void note(struct device *d, const struct words *w, bool passes) {
+    uint64_t key;
     keys_note(w);
     totals_note(w);
-    /* If it fails, that is reported, and frames are dropped until it succeeds. */
+    if (words_is(w, 0, "A") && words_number(w, 2, &key)) {
+        if (words_is(w, 1, "key"))
+            numbers_note_key(d->numbers, key, passes);
+        if (words_is(w, 1, "retire"))
+            numbers_note_retired(d->numbers, key, passes);
+    }
     if (words_is(w, 0, "A") && words_is(w, 1, "txsa"))
-        (void)numbers_reserve(d->numbers, d->endpoint);
+        numbers_reserve(d->numbers, d->endpoint);
 }
 
 /* ---- Creation and end ---- */
@@ -21,6 +28,8 @@ bool endpoint_is_open(const struct device *d) {
 
 void endpoint_close(struct device *d) {
     port_set(d, false);
+    numbers_save(d->numbers, d->endpoint, NULL);
+    numbers_forget(d->numbers);
     macsec_free(d->endpoint);
     keys_wipe();
     totals_clear();
@@ -31,7 +40,9 @@ static uint32_t create(struct device *d, const char *line, size_t length) {
     macsec_endpoint *e = &d->handles[d->endpoint == &d->handles[0]];
     struct words w;
     size_t end = 0;
-    uint32_t status = numbers_configure(d->numbers, e, line, length);
+    uint32_t status;
+    numbers_save(d->numbers, d->endpoint, NULL); /* the new one reads what the old one has accepted */
+    status = numbers_configure(d->numbers, e, line, length, NULL, 0);
     if (status != MACSEC_OK)
         return status;
     endpoint_close(d);
@@ -65,12 +76,12 @@ static uint32_t configure_lines(struct device *d, const char *text, size_t left,
     while ((line = words_line(&text, &left, &length)) != NULL) {
         struct words w;
         uint64_t raised;
-        uint32_t status = numbers_command(d->endpoint, line, length, &raised);
+        uint32_t status = lines_carry_out(d->numbers, d->endpoint, line, length, &raised);
         ++*number;
         if (status != MACSEC_OK)
             return status;
         words_split(&w, line, length);
-        note(d, &w);
+        note(d, &w, false);
         if (raised != 0)
             message("line %u: the association begins at packet number %llx, since lower ones may have been used",
                     (unsigned)*number, (unsigned long long)raised);
@@ -116,7 +127,7 @@ static struct result command_of_next(struct device *d, const char *line, size_t 
     macsec_endpoint *e = handover_begin(d);
     if (e == NULL)
         return r;
-    r.status = numbers_command(e, line, length, &r.raised);
+    r.status = lines_carry_out(d->numbers, e, line, length, &r.raised);
     if (r.status != MACSEC_OK)
         macsec_free(e);
     else if (!handover_finish(d, e))
@@ -134,11 +145,11 @@ struct result endpoint_command(struct device *d, const char *line, size_t length
         r.fault = "NotAllowed";
         return r;
     }
-    r.status = numbers_command(d->endpoint, line, length, &r.raised);
+    r.status = lines_carry_out(d->numbers, d->endpoint, line, length, &r.raised);
     if (r.status == MACSEC_E_KEY_NUMBER_USED && is_at_end(d, &w))
         r = command_of_next(d, line, length);
     if (r.fault == NULL && r.status == MACSEC_OK)
-        note(d, &w);
+        note(d, &w, port_has_owner(d));
     return r;
 }
 
@@ -159,7 +170,7 @@ static bool load_lines(const struct device *d, macsec_endpoint *e, struct text *
         if (!limits_allow(&d->config.limits, &w))
             r.fault = "NotAllowed";
         else
-            r.status = numbers_command(e, line, length, &r.raised);
+            r.status = lines_carry_out(d->numbers, e, line, length, &r.raised);
         fails = r.fault != NULL || r.status != MACSEC_OK;
         if (w.count == 0 && !fails)
             continue;
@@ -173,15 +184,14 @@ static bool load_lines(const struct device *d, macsec_endpoint *e, struct text *
     return !fails && !t->full;
 }
 
-/* What the lines mean for the device, now that they are carried out. Reservations were made. */
-static void note_lines(const char *lines, size_t left) {
+/* What the lines mean for the device, now that they are carried out. */
+static void note_lines(struct device *d, const char *lines, size_t left) {
     const char *line;
     size_t length;
     while ((line = words_line(&lines, &left, &length)) != NULL) {
         struct words w;
         words_split(&w, line, length);
-        keys_note(&w);
-        totals_note(&w);
+        note(d, &w, port_has_owner(d));
     }
 }
 
@@ -196,7 +206,7 @@ void endpoint_load(struct device *d, struct text *t, const char *lines, size_t l
             return;
         }
         if (handover_finish(d, e)) {
-            note_lines(lines, length);
+            note_lines(d, lines, length);
             return;
         }
         r.fault = "Journal";

@@ -8,24 +8,22 @@ static void count_fault(uint32_t status, uint64_t *too_short, uint64_t *too_long
         ++*too_long;
 }
 
-/* Adds to the waiting frames what the endpoint makes of a client frame. Returns true if that used a packet number. */
-static bool send_one(struct device *d, const struct frame *frame) {
+/* Adds to the waiting frames what the endpoint makes of a client frame. Returns its fate. */
+static uint32_t send_one(struct device *d, const struct frame *frame) {
     macsec_sent sent;
     uint32_t status;
     if (d->port.off) {
         d->counts.port_out++;
-        return false;
+        return MACSEC_FATE_NONE;
     }
     status = macsec_send(d->endpoint, frame->octets, frame->length, &sent);
-    if (sent.fate == MACSEC_FATE_NO_RESERVATION && numbers_reserve(d->numbers, d->endpoint))
-        status = macsec_send(d->endpoint, frame->octets, frame->length, &sent);
     count_fault(status, &d->counts.tap_too_short, &d->counts.tap_too_long);
     if (sent.fate == MACSEC_FATE_NO_RESERVATION)
         d->counts.no_reservation++;
     history_sent(&d->history, &sent);
     if (sent.length > 0)
         link_append(sent.frame, sent.length);
-    return sent.fate == MACSEC_FATE_PROTECTED;
+    return sent.fate;
 }
 
 /* Delivers a frame, while the controlled port is on. The endpoint has judged it in any case. */
@@ -37,18 +35,21 @@ static enum outcome deliver(struct device *d, const macsec_received *got) {
 }
 
 enum outcome frames_from_client(struct device *d) {
-    unsigned used = 0;
+    unsigned used = 0, lacked = 0;
     for (unsigned i = link_waiting(); i < BATCH; i++) {
         struct frame frame;
+        uint32_t fate;
         enum outcome outcome = tap_read(&d->tap, &frame);
         if (outcome == GONE)
             return outcome;
         if (outcome == BUSY)
             break;
         d->counts.tap_in++;
-        used += send_one(d, &frame);
+        fate = send_one(d, &frame);
+        used += fate == MACSEC_FATE_PROTECTED;
+        lacked += fate == MACSEC_FATE_NO_RESERVATION;
     }
-    numbers_used(d->numbers, d->endpoint, used);
+    numbers_used(d->numbers, d->endpoint, used, lacked > 0);
     return link_flush(&d->link, &d->counts);
 }
 

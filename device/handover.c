@@ -1,9 +1,11 @@
 /* A second endpoint. The first one has taken all the keys that an endpoint can take, or lines are carried out all or
  * none: then a copy of it takes over between two frames, so that none is lost.
  *
- * The copy is made beside the journal, as after a restart. So its transmit associations begin above all numbers that
- * the first endpoint has reserved, and no number is used twice. The copy does not know the retired keys. An association
- * that has no packet number left is not in it either: it can send and receive nothing. */
+ * The copy is made beside the journal, as after a restart, with one difference: of each key that the first endpoint
+ * sends under, it reads up to where that has sent, and not what it has reserved. So a transmit association goes on one
+ * packet number later, with the reservation that is there, and no number is used twice: the first endpoint sends
+ * nothing more once the copy has taken over, and the copy sends nothing before. The copy does not know the retired
+ * keys. An association that has no packet number left is not in it either: it can send and receive nothing. */
 #include "device.h"
 #include <inttypes.h>
 #include <stdio.h>
@@ -11,10 +13,45 @@
 
 enum { LINE = 128 };
 
+/* How many milliseconds the copy waits for the reservations of new transmit associations before it takes over. */
+enum { WAITS = 50 };
+
+/* ---- Up to where the first endpoint has sent ---- */
+
+/* The record that says that the packet numbers up to the next one of a transmit association may have been used. An
+ * endpoint that has reserved nothing asks for it. */
+static uint32_t sent_record(macsec_endpoint *e, uint8_t an, const macsec_tx_sa *sa, macsec_record *record) {
+    size_t length;
+    const char *key = keys_line(sa->key, &length);
+    uint32_t status = key == NULL ? MACSEC_E_NO_KEY : macsec_command_line(e, (const uint8_t *)key, length);
+    if (status == MACSEC_OK)
+        status = macsec_add_tx_sa(e, an, sa->key, sa->next, sa->conf);
+    return status == MACSEC_OK ? macsec_reserve_wanted(e, an, 0, record) : status;
+}
+
+/* The records of all transmit associations that have a packet number left. Returns how many; without one, its
+ * association begins above what is reserved. */
+static size_t sent_records(struct device *d, macsec_record records[MACSEC_AN_COUNT]) {
+    macsec_endpoint e = MACSEC_ENDPOINT_INIT;
+    size_t count = 0;
+    if (numbers_configure_empty(d->numbers, &e, d->end_line, strlen(d->end_line)) != MACSEC_OK)
+        return 0;
+    for (uint8_t an = 0; an < MACSEC_AN_COUNT; an++) {
+        macsec_tx_sa sa;
+        if (macsec_get_tx_sa(d->endpoint, an, &sa) == MACSEC_OK && sa.next_high == 0 &&
+            sent_record(&e, an, &sa, &records[count]) == MACSEC_OK)
+            count++;
+    }
+    macsec_free(&e);
+    return count;
+}
+
+/* ---- The copy ---- */
+
 /* Carries out a line at the copy. An association without a packet number is left out. */
-static uint32_t add_association(macsec_endpoint *e, const char *line) {
+static uint32_t add_association(struct numbers *n, macsec_endpoint *e, const char *line) {
     uint64_t raised;
-    uint32_t status = numbers_command(e, line, strlen(line), &raised);
+    uint32_t status = lines_carry_out(n, e, line, strlen(line), &raised);
     return status == MACSEC_E_PN_RANGE || status == MACSEC_E_PN_FLOOR ? MACSEC_E_NOT_FOUND : status;
 }
 
@@ -41,7 +78,8 @@ static uint32_t copy_keys(macsec_endpoint *to) {
     return status;
 }
 
-static uint32_t copy_rx_sa(macsec_endpoint *to, const macsec_endpoint *from, const uint8_t sci[8], uint8_t an) {
+static uint32_t copy_rx_sa(struct numbers *n, macsec_endpoint *to, const macsec_endpoint *from, const uint8_t sci[8],
+                           uint8_t an) {
     macsec_rx_sa sa;
     char line[LINE], name[SCI_TEXT];
     uint32_t status = macsec_get_rx_sa(from, sci, an, &sa);
@@ -51,17 +89,17 @@ static uint32_t copy_rx_sa(macsec_endpoint *to, const macsec_endpoint *from, con
         return MACSEC_E_NOT_FOUND;
     sci_text(sci, name);
     snprintf(line, sizeof line, "A rxsa %s %u %u %" PRIx64 " %08" PRIx32, name, an, sa.key, sa.lowest, sa.ssci);
-    status = add_association(to, line);
+    status = add_association(n, to, line);
     return status == MACSEC_OK && sa.on ? macsec_enable_rx_sa(to, sci, an) : status;
 }
 
-static uint32_t copy_channels(macsec_endpoint *to, const macsec_endpoint *from) {
+static uint32_t copy_channels(struct numbers *n, macsec_endpoint *to, const macsec_endpoint *from) {
     uint32_t status = MACSEC_OK;
     uint8_t sci[8];
     for (size_t place = 0; status == MACSEC_OK && macsec_get_rx_sc(from, place, sci) == MACSEC_OK; place++) {
         status = macsec_add_rx_sc(to, sci);
         for (uint8_t an = 0; an < MACSEC_AN_COUNT && status == MACSEC_OK; an++) {
-            status = copy_rx_sa(to, from, sci, an);
+            status = copy_rx_sa(n, to, from, sci, an);
             if (status == MACSEC_E_NOT_FOUND)
                 status = MACSEC_OK;
         }
@@ -69,7 +107,7 @@ static uint32_t copy_channels(macsec_endpoint *to, const macsec_endpoint *from) 
     return status;
 }
 
-static uint32_t copy_tx_sa(macsec_endpoint *to, const macsec_endpoint *from, uint8_t an) {
+static uint32_t copy_tx_sa(struct numbers *n, macsec_endpoint *to, const macsec_endpoint *from, uint8_t an) {
     macsec_tx_sa sa;
     char line[LINE];
     uint32_t status = macsec_get_tx_sa(from, an, &sa);
@@ -78,18 +116,18 @@ static uint32_t copy_tx_sa(macsec_endpoint *to, const macsec_endpoint *from, uin
     if (sa.next_high != 0)
         return MACSEC_E_NOT_FOUND;
     snprintf(line, sizeof line, "A txsa %u %u %" PRIx64 " %s", an, sa.key, sa.next, sa.conf ? "conf" : "int");
-    status = add_association(to, line);
+    status = add_association(n, to, line);
     return status == MACSEC_OK && sa.on ? macsec_enable_tx_sa(to, an) : status;
 }
 
-static uint32_t copy(macsec_endpoint *to, const macsec_endpoint *from) {
+static uint32_t copy(struct numbers *n, macsec_endpoint *to, const macsec_endpoint *from) {
     uint32_t status = copy_options(to, from);
     if (status == MACSEC_OK)
         status = copy_keys(to);
     if (status == MACSEC_OK)
-        status = copy_channels(to, from);
+        status = copy_channels(n, to, from);
     for (uint8_t an = 0; an < MACSEC_AN_COUNT && status == MACSEC_OK; an++) {
-        status = copy_tx_sa(to, from, an);
+        status = copy_tx_sa(n, to, from, an);
         if (status == MACSEC_E_NOT_FOUND)
             status = MACSEC_OK;
     }
@@ -98,9 +136,13 @@ static uint32_t copy(macsec_endpoint *to, const macsec_endpoint *from) {
 
 macsec_endpoint *handover_begin(struct device *d) {
     macsec_endpoint *e = &d->handles[d->endpoint == &d->handles[0]];
-    uint32_t status = numbers_configure(d->numbers, e, d->end_line, strlen(d->end_line));
+    macsec_record records[MACSEC_AN_COUNT];
+    size_t count = sent_records(d, records);
+    uint32_t status;
+    numbers_save(d->numbers, d->endpoint, NULL); /* the copy reads what the first one has accepted */
+    status = numbers_configure(d->numbers, e, d->end_line, strlen(d->end_line), records, count);
     if (status == MACSEC_OK)
-        status = copy(e, d->endpoint);
+        status = copy(d->numbers, e, d->endpoint);
     if (status == MACSEC_OK)
         return e;
     message("no second endpoint can be made: %s", macsec_status_name(status));
@@ -110,7 +152,7 @@ macsec_endpoint *handover_begin(struct device *d) {
 
 bool handover_finish(struct device *d, macsec_endpoint *e) {
     macsec_endpoint *before = d->endpoint;
-    if (!numbers_reserve(d->numbers, e)) {
+    if (!numbers_reserve_soon(d->numbers, e, WAITS)) {
         message("the second endpoint does not take over: its packet numbers can't be reserved");
         macsec_free(e);
         return false;

@@ -10,7 +10,7 @@
 #include <unistd.h>
 
 /* What an event is about. Clients are numbered from CLIENT on. */
-enum { TAP, LINK, SIGNALS, CLOCK, LIFE, LISTENER, CLIENT };
+enum { TAP, LINK, SIGNALS, CLOCK, LIFE, LISTENER, JOURNAL, CLIENT };
 
 /* The most events of a wait. */
 enum { EVENTS = CLIENT + CLIENTS };
@@ -56,7 +56,8 @@ static int open_clock(struct device *d) {
 }
 
 int loop_open(struct device *d) {
-    const int files[CLIENT] = { d->tap.file, d->link.socket, d->signals, -1, d->life.socket, d->control.listener };
+    const int files[CLIENT] = { d->tap.file,         d->link.socket,          d->signals, -1, d->life.socket,
+                                d->control.listener, numbers_file(d->numbers) };
     int result = open_clock(d);
     d->events = epoll_create1(EPOLL_CLOEXEC);
     if (d->events < 0) {
@@ -123,10 +124,47 @@ static int on_clock(struct device *d) {
     return GOES_ON;
 }
 
+/* While a client's answer waits, its next request is not read. */
+static int watch_client(struct device *d, int index) {
+    bool waits = waits_for(d, index);
+    if (waits == d->waits.clients[index].unwatched || d->control.clients[index] < 0)
+        return GOES_ON;
+    d->waits.clients[index].unwatched = waits;
+    return watch(d, EPOLL_CTL_MOD, d->control.clients[index], waits ? 0 : EPOLLIN, CLIENT + (uint32_t)index) == 0
+               ? GOES_ON
+               : ENDS_FAILED;
+}
+
+/* A connection that has ended needs no answer. */
+static int on_client(struct device *d, int index, uint32_t events) {
+    if (d->control.clients[index] < 0)
+        return GOES_ON;
+    if (waits_for(d, index) && (events & (EPOLLERR | EPOLLHUP)) == 0)
+        return GOES_ON;
+    waits_client_gone(d, index);
+    (void)control_answer(d, index);
+    return watch_client(d, index);
+}
+
+static int on_journal(struct device *d) {
+    numbers_go_on(d->numbers, d->endpoint);
+    return GOES_ON;
+}
+
+/* Sends answers whose time has come. */
+static int send_answers(struct device *d) {
+    int result = GOES_ON;
+    waits_send(d);
+    for (int i = 0; i < CLIENTS && result == GOES_ON; i++)
+        result = watch_client(d, i);
+    return result;
+}
+
 static int on_listener(struct device *d) {
     int index = control_accept(&d->control);
     if (index < 0)
         return GOES_ON;
+    d->waits.clients[index].unwatched = false;
     return watch(d, EPOLL_CTL_ADD, d->control.clients[index], EPOLLIN, CLIENT + (uint32_t)index) == 0 ? GOES_ON
                                                                                                       : ENDS_FAILED;
 }
@@ -145,10 +183,10 @@ static int on_event(struct device *d, const struct epoll_event *event) {
         return life_read(d) ? GOES_ON : ENDS_FAILED;
     case LISTENER:
         return on_listener(d);
+    case JOURNAL:
+        return on_journal(d);
     default:
-        if (d->control.clients[event->data.u32 - CLIENT] >= 0)
-            (void)control_answer(d, (int)(event->data.u32 - CLIENT));
-        return GOES_ON;
+        return on_client(d, (int)(event->data.u32 - CLIENT), event->events);
     }
 }
 
@@ -157,13 +195,15 @@ int loop_run(struct device *d) {
     int result = GOES_ON;
     while (result == GOES_ON) {
         struct epoll_event events[EVENTS];
-        int count = epoll_wait(d->events, events, EVENTS, -1);
+        int count = epoll_wait(d->events, events, EVENTS, waits_left(d));
         if (count < 0 && errno != EINTR) {
             message_of_errno("epoll");
             return ENDS_FAILED;
         }
         for (int i = 0; i < count && result == GOES_ON; i++)
             result = on_event(d, &events[i]);
+        if (result == GOES_ON)
+            result = send_answers(d);
         if (result == GOES_ON)
             result = watch_ports(d, &blocked);
     }

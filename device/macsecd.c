@@ -54,7 +54,11 @@ static int start(struct device *d) {
         result = life_open(d);
     if (result == 0)
         result = loop_open(d);
-    return result == 0 ? confine_rights(numbers_folder(d->numbers), d->control.folder) : result;
+    if (result == 0)
+        result = confine_rights(numbers_folder(d->numbers), d->control.folder);
+    if (result == 0)
+        result = numbers_start(d->numbers, d->endpoint); /* the thread of the journal has no other rights either */
+    return result == 0 ? confine_calls() : result;
 }
 
 /* Says which frames pass beside MACsec, which no line of the configuration can close. */
@@ -84,7 +88,8 @@ static int run(struct device *d) {
     service_notify("READY=1");
     result = loop_run(d);
     service_notify("STOPPING=1");
-    numbers_close(d->numbers, d->endpoint);
+    if (!numbers_close(d->numbers, d->endpoint) && result == 0)
+        result = ENDS_FAILED;
     control_close(&d->control);
     macsec_free(d->endpoint);
     keys_wipe();

@@ -1,5 +1,5 @@
-/* Packet numbers that outlive a run. The library decides what a frame may use and what the records are, journal.c keeps
- * them on the disk. */
+/* Packet numbers that outlive a run. The library decides what a frame may use and what the records are, names.c keeps
+ * the latest record of each name, and saver.c writes them. A reservation counts once its record is durable. */
 #define _GNU_SOURCE
 #include "device.h"
 #include "journal.h"
@@ -8,18 +8,50 @@
 #include <stdlib.h>
 #include <string.h>
 
-/* How many received packet numbers are saved in a second: each takes the time of a synchronization. */
-enum { SAVES = 8 };
+/* A reservation lasts for so many seconds at the highest rate so far. The next one is asked for when half of it is
+ * left, and can wait for two synchronizations: one that is under way, and its own. Where they take longer than usual,
+ * as many seconds, more is reserved in advance: JOURNAL_AMOUNT_MIN for each SLOW-th of a second. */
+enum { LASTS = 32, SLOW = 16, SLOWEST = 30 };
+#define USUAL 0.25
+
+/* The rate and the seconds that a synchronization takes are forgotten by one of so many parts at a time. */
+enum { FORGETS = 64 };
+
+/* From this part of the journal on, its fill is reported: at so many percent. */
+enum { FILLED = 50 };
+
+/* The octets of the file: it is written anew when it has so many, unless its names need more. */
+enum { FILE_LENGTH = 1 << 18 };
+
+/* How many milliseconds an order may take when macsecd ends. */
+enum { LAST = 15000 };
+
+/* What was saved of a receive association. */
+struct seen {
+    uint8_t sci[8];
+    uint16_t key;
+    uint64_t lowest;
+};
 
 struct numbers {
-    struct journal journal;
+    struct journal journal; /* the thread's, while it has an order */
+    struct names names;
+    struct saver *saver;
     struct counts *counts;
-    uint64_t amount; /* of a reservation */
-    uint64_t unseen; /* frames sent since the reservations were looked at */
-    uint64_t rate;   /* frames sent since the last tick */
-    unsigned next;   /* the place of the receive association that is saved next */
-    bool failed;     /* did the last record fail, and is that reported? */
-    bool waits;      /* is no record to be written before the next tick? */
+    uint8_t *octets; /* of the order */
+    size_t length, room;
+    uint64_t orders, done;         /* how many orders were given, and were carried out */
+    uint64_t amount;               /* of a reservation */
+    uint64_t unseen;               /* frames sent since the reservations were looked at */
+    uint64_t rate, highest;        /* frames sent since the last tick, and the highest rate */
+    double slow;                   /* how many seconds a synchronization takes */
+    unsigned ticks;                /* since the order was given */
+    bool anew;                     /* is the whole journal to be written, since the file is in doubt? */
+    bool failed;                   /* did the last order fail, and is that reported? */
+    bool waits;                    /* is no order to be given before the next tick? */
+    bool filled;                   /* is it reported that the journal fills? */
+    bool passes[MACSEC_KEY_COUNT]; /* has a key agreement brought the key of this number? */
+    struct seen seen[MACSEC_RX_CHANNEL_COUNT][MACSEC_AN_COUNT];
 };
 
 static struct numbers the_numbers;
@@ -50,16 +82,31 @@ int numbers_create(const char *name) {
     return ENDS_FAILED;
 }
 
+/* Reads the names in the open journal. */
+static int read_names(struct numbers *n) {
+    uint32_t status = names_read(&n->names, n->journal.octets, n->journal.length);
+    if (status == MACSEC_OK)
+        return 0;
+    if (status == MACSEC_E_NOT_JOURNAL)
+        message("the journal is none, one of another version, or its header is damaged");
+    else
+        message("out of memory");
+    return status == MACSEC_E_NOT_JOURNAL ? ENDS_WRONG : ENDS_FAILED;
+}
+
 int numbers_open(struct numbers **n, const char *name, struct counts *counts) {
     char path[PATH_MAX];
     struct journal_fault fault;
+    int result;
     *n = &the_numbers;
     the_numbers.counts = counts;
-    the_numbers.amount = journal_amount(0);
+    the_numbers.amount = JOURNAL_AMOUNT_MIN;
     if (!path_of(path, sizeof path, name))
         return ENDS_WRONG;
-    if (journal_open(&the_numbers.journal, path, JOURNAL_LIMIT, &fault) == 0)
-        return 0;
+    if (journal_open(&the_numbers.journal, path, FILE_LENGTH, &fault) == 0) {
+        result = read_names(&the_numbers);
+        return result == 0 ? saver_open(&the_numbers.saver, &the_numbers.journal) : result;
+    }
     report(path, &fault);
     if (fault.step != JOURNAL_OPEN || fault.error != ENOENT)
         return ENDS_FAILED;
@@ -71,172 +118,304 @@ int numbers_folder(const struct numbers *n) {
     return n->journal.folder;
 }
 
-/* Notes how a record went, and reports it when that changes. */
-static bool note(struct numbers *n, int result, const struct journal_fault *fault) {
-    if (result == 0) {
-        if (n->failed)
-            message("the journal can be written again");
-        n->failed = false;
-        return true;
-    }
+int numbers_file(const struct numbers *n) {
+    return saver_file(n->saver);
+}
+
+size_t numbers_names(const struct numbers *n) {
+    return names_count(&n->names);
+}
+
+size_t numbers_names_max(void) {
+    return JOURNAL_MAX / 2 / MACSEC_RECORD_LENGTH - 1 - KEPT_NAMES;
+}
+
+/* ---- Orders ---- */
+
+/* Reports why records can't be written, when that changes. */
+static void note_failure(struct numbers *n, const struct journal_fault *fault) {
     n->counts->journal_failed++;
     if (!n->failed)
         report("the journal can't be written, so frames will be dropped when their packet numbers are used up", fault);
-    n->failed = n->waits = true;
+    n->failed = n->waits = n->anew = true;
+}
+
+static bool fails_for_memory(struct numbers *n) {
+    const struct journal_fault fault = { JOURNAL_MEMORY, ENOMEM, MACSEC_OK };
+    note_failure(n, &fault);
     return false;
+}
+
+/* Makes room for the octets of an order, and in the journal. */
+static bool make_room(struct numbers *n, bool whole) {
+    struct journal_fault fault;
+    size_t length = whole ? names_room(&n->names) : names_change_room(&n->names);
+    if (length > n->room) {
+        uint8_t *grown = realloc(n->octets, 2 * length);
+        if (grown == NULL)
+            return fails_for_memory(n);
+        n->octets = grown;
+        n->room = 2 * length;
+    }
+    if (!whole || journal_make_room(&n->journal, 2 * length, &fault) == 0)
+        return true;
+    note_failure(n, &fault);
+    return false;
+}
+
+/* Gives an order, if there is something to be written and none is under way. */
+static void order(struct numbers *n) {
+    bool whole;
+    if (n->waits || saver_is_busy(n->saver) || (n->names.changed_count == 0 && !n->anew))
+        return;
+    whole = n->anew || n->journal.length + names_change_room(&n->names) > n->journal.room;
+    if (!make_room(n, whole))
+        return;
+    n->length = whole ? names_all(&n->names, n->octets) : names_changes(&n->names, n->octets);
+    if (n->length == 0)
+        return;
+    n->orders++;
+    n->ticks = 0;
+    saver_order(n->saver, n->octets, n->length, whole);
+}
+
+static void grant(void *endpoint, const macsec_record *record) {
+    (void)macsec_reserve_granted(endpoint, record); /* without an endpoint it does nothing */
+}
+
+/* Notes how long the disk takes. */
+static void note_seconds(struct numbers *n, double seconds) {
+    uint64_t by_rate = LASTS * n->highest, by_disk = JOURNAL_AMOUNT_MIN;
+    n->slow = seconds > n->slow ? seconds : n->slow - n->slow / FORGETS;
+    if (n->slow > SLOWEST)
+        n->slow = SLOWEST;
+    if (n->slow > USUAL)
+        by_disk = (uint64_t)(JOURNAL_AMOUNT_MIN * SLOW * n->slow);
+    n->amount = by_rate > by_disk ? by_rate : by_disk;
+}
+
+/* Takes the result of an order. Returns false if it is under way. */
+static bool take_result(struct numbers *n, macsec_endpoint *e) {
+    struct saved saved;
+    struct journal_fault fault;
+    if (!saver_is_done(n->saver, &saved))
+        return false;
+    n->done = n->orders;
+    note_seconds(n, saved.seconds);
+    fault = (struct journal_fault){ (enum journal_step)saved.step, saved.error, saved.status };
+    if (!saved.good) {
+        note_failure(n, &fault);
+        return true;
+    }
+    names_written(&n->names, n->octets, n->length, grant, e);
+    if (n->failed)
+        message("the journal can be written again");
+    n->failed = n->anew = false;
+    return true;
+}
+
+void numbers_go_on(struct numbers *n, macsec_endpoint *e) {
+    do
+        order(n);
+    while (take_result(n, e) && !n->waits && n->names.changed_count > 0);
+}
+
+uint64_t numbers_ticket(const struct numbers *n) {
+    return n->orders + (n->names.changed_count > 0 || n->anew);
+}
+
+bool numbers_is_written(const struct numbers *n, uint64_t ticket) {
+    return ticket <= n->done || n->waits;
+}
+
+int numbers_start(struct numbers *n, macsec_endpoint *e) {
+    numbers_reserve(n, e); /* the first reservation has shown how long the disk takes */
+    return saver_start(n->saver);
 }
 
 /* ---- Reserving ---- */
 
-/* Is there no endpoint? */
-static bool is_empty(const macsec_endpoint *e) {
-    uint32_t left;
-    return macsec_keys_left(e, &left) == MACSEC_E_EMPTY;
-}
-
-bool numbers_reserve(struct numbers *n, macsec_endpoint *e) {
-    struct journal_fault fault;
-    bool all = true;
-    n->unseen = 0;
-    if (is_empty(e))
-        return true;
-    for (uint8_t an = 0; an < MACSEC_AN_COUNT && all; an++) {
-        size_t before = n->journal.length;
-        int result = n->waits ? 0 : journal_reserve(&n->journal, e, an, n->amount, &fault);
-        if (result != 0 || n->journal.length != before)
-            all = note(n, result, &fault);
+/* Reserves for a transmit association. What is durable already is reported first: an endpoint that takes over goes on
+ * with the reservation of the one before. */
+static void reserve_for(struct numbers *n, macsec_endpoint *e, uint8_t an) {
+    macsec_tx_sa sa;
+    macsec_record record;
+    struct name *name;
+    if (macsec_get_tx_sa(e, an, &sa) != MACSEC_OK || macsec_reserve_wanted(e, an, n->amount, &record) != MACSEC_OK)
+        return;
+    name = names_find(&n->names, record.octets);
+    if (name != NULL && name->is_durable) {
+        grant(e, &name->durable);
+        if (macsec_reserve_wanted(e, an, n->amount, &record) != MACSEC_OK)
+            return;
     }
-    return all && !n->waits;
+    if (names_note(&n->names, &record, sa.key, true) == NULL)
+        (void)fails_for_memory(n);
 }
 
-void numbers_used(struct numbers *n, macsec_endpoint *e, unsigned frames) {
+void numbers_reserve(struct numbers *n, macsec_endpoint *e) {
+    n->unseen = 0;
+    for (uint8_t an = 0; an < MACSEC_AN_COUNT; an++)
+        reserve_for(n, e, an);
+    numbers_go_on(n, e);
+}
+
+/* Has each transmit association that is enabled a packet number reserved? */
+static bool has_reserved(const macsec_endpoint *e) {
+    macsec_tx_sa sa;
+    macsec_record record;
+    bool all = true;
+    for (uint8_t an = 0; an < MACSEC_AN_COUNT; an++)
+        if (macsec_get_tx_sa(e, an, &sa) == MACSEC_OK && sa.on)
+            all = macsec_reserve_wanted(e, an, 2, &record) != MACSEC_OK && all;
+    return all;
+}
+
+bool numbers_reserve_soon(struct numbers *n, macsec_endpoint *e, int milliseconds) {
+    numbers_reserve(n, e);
+    if (!has_reserved(e)) {
+        saver_wait(n->saver, milliseconds);
+        numbers_go_on(n, e);
+    }
+    return has_reserved(e) || !n->waits;
+}
+
+void numbers_used(struct numbers *n, macsec_endpoint *e, unsigned frames, bool lacked) {
     n->unseen += frames;
     n->rate += frames;
-    if (n->unseen >= n->amount / 8 && !n->waits)
-        (void)numbers_reserve(n, e); /* a failure is reported, and tried again at the next tick */
+    if (n->unseen >= n->amount / 16 || (lacked && !n->waits && !saver_is_busy(n->saver)))
+        numbers_reserve(n, e);
 }
 
 /* ---- Saving ---- */
 
-/* Saves the associations of the channel at a place. Returns the status of the channel. */
-static uint32_t save_at(struct numbers *n, macsec_endpoint *e, unsigned place, uint8_t an) {
-    struct journal_fault fault;
+/* Saves what a receive association has accepted, if that has changed. Returns false if memory runs out. */
+static bool save_sa(struct numbers *n, macsec_endpoint *e, const uint8_t sci[8], uint8_t an, struct seen *seen) {
+    macsec_rx_sa sa;
+    macsec_record record;
+    if (macsec_get_rx_sa(e, sci, an, &sa) != MACSEC_OK || (sa.lowest <= 1 && sa.lowest_high == 0))
+        return true;
+    if (seen->lowest == sa.lowest && seen->key == sa.key && memcmp(seen->sci, sci, sizeof seen->sci) == 0)
+        return true;
+    if (macsec_reserve_to_save(e, sci, an, &record) != MACSEC_OK)
+        return true;
+    if (names_note(&n->names, &record, sa.key, false) == NULL)
+        return fails_for_memory(n);
+    memcpy(seen->sci, sci, sizeof seen->sci);
+    seen->lowest = sa.lowest_high == 0 ? sa.lowest : 0;
+    seen->key = sa.key;
+    return true;
+}
+
+/* Saves those of one channel, or of all if there is no SCI. */
+static bool save_all(struct numbers *n, macsec_endpoint *e, const uint8_t *which) {
+    bool all = true;
     uint8_t sci[8];
-    size_t before = n->journal.length;
-    uint32_t status = macsec_get_rx_sc(e, place, sci);
-    int result = status == MACSEC_OK ? journal_save(&n->journal, e, sci, an, &fault) : 0;
-    if (result != 0 || n->journal.length != before)
-        (void)note(n, result, &fault);
-    return status;
+    for (size_t place = 0; macsec_get_rx_sc(e, place, sci) == MACSEC_OK; place++)
+        for (uint8_t an = 0; an < MACSEC_AN_COUNT; an++)
+            if (which == NULL || memcmp(which, sci, sizeof sci) == 0)
+                all = save_sa(n, e, sci, an, &n->seen[place][an]) && all;
+    return all;
+}
+
+void numbers_save(struct numbers *n, macsec_endpoint *e, const uint8_t *sci) {
+    (void)save_all(n, e, sci);
+    numbers_go_on(n, e);
+}
+
+void numbers_forget(struct numbers *n) {
+    names_detach(&n->names, NO_KEY);
+    memset(n->seen, 0, sizeof n->seen);
+}
+
+uint64_t numbers_accepted(const struct numbers *n, const macsec_endpoint *e, const uint8_t sci[8], uint8_t an) {
+    macsec_record record;
+    const struct name *name = NULL;
+    if (macsec_reserve_to_save(e, sci, an, &record) == MACSEC_OK)
+        name = names_find(&n->names, record.octets);
+    return name == NULL ? 0 : names_last(name);
+}
+
+/* ---- Keys that are given up ---- */
+
+void numbers_note_key(struct numbers *n, uint64_t key, bool passes) {
+    if (key < MACSEC_KEY_COUNT)
+        n->passes[key] = passes;
+}
+
+void numbers_note_retired(struct numbers *n, uint64_t key, bool passes) {
+    if (key >= MACSEC_KEY_COUNT)
+        return;
+    if (passes && n->passes[key])
+        names_give_up(&n->names, (uint32_t)key);
+    else
+        names_detach(&n->names, (uint32_t)key);
+}
+
+/* ---- The clock ---- */
+
+static void look_at_fill(struct numbers *n) {
+    size_t count = numbers_names(n);
+    bool filled = count * 100 >= numbers_names_max() * FILLED;
+    if (filled && !n->filled)
+        message("the journal is full to %d percent: it has %zu of at most %zu names. macsecd(8) says what to do",
+                FILLED, count, numbers_names_max());
+    n->filled = filled;
 }
 
 void numbers_tick(struct numbers *n, macsec_endpoint *e) {
     n->waits = false;
-    n->amount = journal_amount(n->rate);
+    n->highest = n->rate > n->highest ? n->rate : n->highest - n->highest / FORGETS;
     n->rate = 0;
-    (void)numbers_reserve(n, e);
-    for (int i = 0; i < SAVES && !n->waits; i++) {
-        if (save_at(n, e, n->next / MACSEC_AN_COUNT, (uint8_t)(n->next % MACSEC_AN_COUNT)) != MACSEC_OK)
-            n->next = 0;
-        else
-            n->next++;
+    note_seconds(n, saver_is_busy(n->saver) ? n->ticks : 0);
+    n->ticks++;
+    (void)save_all(n, e, NULL);
+    numbers_reserve(n, e);
+    look_at_fill(n);
+}
+
+/* Gives the last orders, and waits for them. */
+static bool write_last(struct numbers *n, macsec_endpoint *e) {
+    for (int i = 0; i < 4; i++) {
+        saver_wait(n->saver, LAST);
+        n->waits = false;
+        numbers_go_on(n, e);
+        if (!saver_is_busy(n->saver) && n->names.changed_count == 0 && !n->anew)
+            return true;
     }
-}
-
-void numbers_close(struct numbers *n, macsec_endpoint *e) {
-    n->waits = false;
-    for (unsigned i = 0; i < MACSEC_RX_CHANNEL_COUNT * MACSEC_AN_COUNT && !n->waits; i++)
-        (void)save_at(n, e, i / MACSEC_AN_COUNT, (uint8_t)(i % MACSEC_AN_COUNT));
-    journal_close(&n->journal);
-}
-
-/* ---- Lines ---- */
-
-/* A line that begins an association, in its words. */
-struct beginning {
-    struct words words;
-    unsigned number_at; /* which word is the packet number */
-};
-
-/* Splits a line. Returns false if it is not `A txsa ..` or `A rxsa ..`. */
-static bool begins(struct beginning *b, const char *line, size_t length) {
-    words_split(&b->words, line, length);
-    b->number_at = words_is(&b->words, 1, "txsa") ? 4 : 5;
-    return words_is(&b->words, 0, "A") && (b->number_at == 4 || words_is(&b->words, 1, "rxsa")) &&
-           b->words.count > b->number_at && b->words.count <= WORDS;
-}
-
-/* Carries out the line with another packet number. Its words are short, since the library has taken them. */
-static uint32_t begin_at(macsec_endpoint *e, const struct beginning *b, uint64_t number) {
-    char line[WORDS * WORD];
-    size_t length = 0;
-    for (unsigned i = 0; i < b->words.count && length + WORD < sizeof line; i++) {
-        if (i == b->number_at)
-            length += (size_t)snprintf(line + length, WORD, "%llx ", (unsigned long long)number);
-        else
-            length += (size_t)snprintf(line + length, WORD, "%.*s ", (int)b->words.length[i], b->words.at[i]);
-    }
-    return macsec_command_line(e, (const uint8_t *)line, length);
-}
-
-/* Would the endpoint refuse the line with this packet number, because it may have been used? An association that the
- * test begins is deleted again: it was never enabled, so it has sent and received nothing. */
-static bool is_used(macsec_endpoint *e, const struct beginning *b, uint64_t number) {
-    char line[3 * WORD], third[WORD] = "", fourth[WORD] = "";
-    int length;
-    uint32_t status = begin_at(e, b, number);
-    if (status != MACSEC_OK)
-        return status == MACSEC_E_PN_FLOOR;
-    (void)words_copy(&b->words, 2, third, sizeof third);
-    (void)words_copy(&b->words, 3, fourth, sizeof fourth);
-    length = b->number_at == 4 ? snprintf(line, sizeof line, "A txdel %s", third)
-                               : snprintf(line, sizeof line, "A rxdel %s %s", third, fourth);
-    (void)macsec_command_line(e, (const uint8_t *)line, (size_t)length); /* if memory runs out, it stays: AnTaken */
     return false;
 }
 
-/* Finds the lowest packet number above `used` that was not used: first by steps that double, then by halves. */
-static uint64_t first_unused(macsec_endpoint *e, const struct beginning *b, uint64_t used) {
-    uint64_t unused = used;
-    for (uint64_t step = 1; unused == used || is_used(e, b, unused); step *= 2) {
-        if (unused != used)
-            used = unused;
-        if (used == UINT64_MAX)
-            return used;
-        unused = UINT64_MAX - used < step ? UINT64_MAX : used + step;
+bool numbers_close(struct numbers *n, macsec_endpoint *e) {
+    bool good = save_all(n, e, NULL);
+    good = write_last(n, e) && good;
+    if (!good)
+        message("the journal could not be written at the end: frames that were received since it was written last can "
+                "be delivered again, if somebody has recorded them. Install new keys, or let no such frame reach LINK");
+    if (saver_close(n->saver)) {
+        journal_close(&n->journal);
+        free(n->octets);
     }
-    while (unused - used > 1) {
-        uint64_t middle = used + (unused - used) / 2;
-        if (is_used(e, b, middle))
-            used = middle;
-        else
-            unused = middle;
-    }
-    return unused;
+    names_free(&n->names);
+    return good;
 }
 
-/* Begins the association of a refused line above every packet number that may have been used. */
-static uint32_t begin_above(macsec_endpoint *e, const struct beginning *b, uint64_t *raised) {
-    char word[WORD];
-    uint64_t number;
-    uint32_t status;
-    if (!words_copy(&b->words, b->number_at, word, sizeof word))
-        return MACSEC_E_PN_FLOOR;
-    number = first_unused(e, b, strtoull(word, NULL, 16));
-    status = begin_at(e, b, number);
-    if (status == MACSEC_OK)
-        *raised = number;
-    return status == MACSEC_E_PN_RANGE ? MACSEC_E_PN_FLOOR : status; /* no packet number is left to the key */
-}
+/* ---- Creating an endpoint ---- */
 
-uint32_t numbers_command(macsec_endpoint *e, const char *line, size_t length, uint64_t *raised) {
-    struct beginning b;
-    uint32_t status = macsec_command_line(e, (const uint8_t *)line, length);
-    *raised = 0;
-    return status == MACSEC_E_PN_FLOOR && begins(&b, line, length) ? begin_above(e, &b, raised) : status;
-}
-
-uint32_t numbers_configure(const struct numbers *n, macsec_endpoint *e, const char *line, size_t length) {
+uint32_t numbers_configure_empty(const struct numbers *n, macsec_endpoint *e, const char *line, size_t length) {
     uint32_t number;
-    return macsec_reserve_configure(e, (const uint8_t *)line, length, n->journal.octets, n->journal.length, &number);
+    return macsec_reserve_configure(e, (const uint8_t *)line, length, n->names.header, sizeof n->names.header, &number);
+}
+
+uint32_t numbers_configure(const struct numbers *n, macsec_endpoint *e, const char *line, size_t length,
+                           const macsec_record *instead, size_t count) {
+    size_t octets = names_room(&n->names);
+    uint8_t *journal = malloc(octets);
+    uint32_t number, status;
+    if (journal == NULL)
+        return MACSEC_E_MEMORY;
+    octets = names_copy(&n->names, instead, count, journal);
+    status = macsec_reserve_configure(e, (const uint8_t *)line, length, journal, octets, &number);
+    free(journal);
+    return status;
 }

@@ -37,6 +37,10 @@ bool port_may_change(const struct device *d, int client) {
     return d->port.owner < 0 || d->port.owner == client;
 }
 
+bool port_has_owner(const struct device *d) {
+    return d->port.owner >= 0;
+}
+
 void port_own(struct device *d, int client) {
     d->port.owner = client;
 }

@@ -84,7 +84,14 @@ static struct result change(struct device *d, int client, const struct words *w,
     return r;
 }
 
-void requests_answer(struct device *d, struct text *t, int client, char *request, size_t length) {
+/* Does a request begin to send, or end receive associations? */
+static bool makes_records(const struct words *w) {
+    if (words_is(w, 0, "open") || words_is(w, 0, "close"))
+        return true;
+    return words_is(w, 0, "A") && (words_is(w, 1, "txsa") || words_is(w, 1, "rxdel") || words_is(w, 1, "rxscdel"));
+}
+
+bool requests_answer(struct device *d, struct text *t, int client, char *request, size_t length) {
     static const char load[] = "load\n";
     struct words w;
     struct result r = { "Owned", MACSEC_OK, 0 };
@@ -109,4 +116,5 @@ void requests_answer(struct device *d, struct text *t, int client, char *request
         t->length = 0;
         text_add(t, "fault AnswerLong\n");
     }
+    return makes_records(&w);
 }

@@ -37,7 +37,7 @@ def build(
     """Builds macsecd and macsecctl of a folder of sources. What wraps calls is for macsecd alone. Returns the folder of
     the programs."""
     out.mkdir(parents=True, exist_ok=True)
-    words = ["gcc", *WARNINGS, "-pedantic", "-O2", *options, *INCLUDED, "-I", str(source)]
+    words = ["gcc", *WARNINGS, "-pedantic", "-pthread", "-O2", *options, *INCLUDED, "-I", str(source)]
     call(*words, *wrapped, "-o", str(out / "macsecd"), *device_sources(source), str(library))
     call(*words, "-o", str(out / "macsecctl"), str(source / "macsecctl.c"))
     return out
@@ -290,6 +290,10 @@ A rxon 02000000000{peer}0001 0
             return
         if not until(self.answers, 20):
             raise Failed(f"macsecd does not answer: {self.log()}")
+        self.start_addresses()
+
+    def start_addresses(self) -> None:
+        """Gives TAP its addresses."""
         self.ip("addr", "replace", f"10.9.0.{self.number}/24", "dev", "macsec0")
         self.ip("addr", "replace", f"fd09::{self.number}/64", "dev", "macsec0", "nodad")
         self.ip("link", "set", "macsec0", "up")

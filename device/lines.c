@@ -1,0 +1,131 @@
+/* Lines for the endpoint that begin and end associations. An association must not begin at a packet number that was
+ * used under its key, or accepted, whether in this run or in an earlier one. */
+#include "device.h"
+#include <stdio.h>
+#include <stdlib.h>
+
+/* A line that begins an association, in its words. */
+struct beginning {
+    struct words words;
+    unsigned number_at; /* which word is the packet number */
+    bool sends;
+    uint8_t sci[8]; /* of a receive association */
+    uint64_t an, key;
+};
+
+/* Reads a line. Returns false if it is not `A txsa AN KEY ..` or `A rxsa SCI AN KEY ..`. */
+static bool begins(struct beginning *b, const struct words *w) {
+    b->words = *w;
+    b->sends = words_is(w, 1, "txsa");
+    b->number_at = b->sends ? 4 : 5;
+    if (!words_is(w, 0, "A") || (!b->sends && !words_is(w, 1, "rxsa")) || w->count <= b->number_at || w->count > WORDS)
+        return false;
+    return (b->sends || words_sci(w, 2, b->sci)) && words_number(w, b->number_at - 2, &b->an) &&
+           words_number(w, b->number_at - 1, &b->key) && b->an < MACSEC_AN_COUNT && b->key < MACSEC_KEY_COUNT;
+}
+
+/* Carries out the line with another packet number. Its words are short, since the library has taken them. */
+static uint32_t begin_at(macsec_endpoint *e, const struct beginning *b, uint64_t number) {
+    char line[WORDS * WORD];
+    size_t length = 0;
+    for (unsigned i = 0; i < b->words.count && length + WORD < sizeof line; i++) {
+        if (i == b->number_at)
+            length += (size_t)snprintf(line + length, WORD, "%llx ", (unsigned long long)number);
+        else
+            length += (size_t)snprintf(line + length, WORD, "%.*s ", (int)b->words.length[i], b->words.at[i]);
+    }
+    return macsec_command_line(e, (const uint8_t *)line, length);
+}
+
+/* ---- Above the numbers that were used ---- */
+
+/* Would the endpoint refuse to send from this packet number on, because it may have been used? An association that the
+ * test begins is deleted again: it was never enabled, so it has sent nothing. */
+static bool is_used(macsec_endpoint *e, const struct beginning *b, uint64_t number) {
+    uint32_t status = begin_at(e, b, number);
+    if (status != MACSEC_OK)
+        return status == MACSEC_E_PN_FLOOR;
+    (void)macsec_delete_tx_sa(e, (uint8_t)b->an); /* it is there */
+    return false;
+}
+
+/* Finds the lowest packet number above `used` that was not used: first by steps that double, then by halves. */
+static uint64_t first_unused(macsec_endpoint *e, const struct beginning *b, uint64_t used) {
+    uint64_t unused = used;
+    for (uint64_t step = 1; unused == used || is_used(e, b, unused); step *= 2) {
+        if (unused != used)
+            used = unused;
+        if (used == UINT64_MAX)
+            return used;
+        unused = UINT64_MAX - used < step ? UINT64_MAX : used + step;
+    }
+    while (unused - used > 1) {
+        uint64_t middle = used + (unused - used) / 2;
+        if (is_used(e, b, middle))
+            used = middle;
+        else
+            unused = middle;
+    }
+    return unused;
+}
+
+/* The highest packet number that may have been used: by the line, which was refused, and by the journal. */
+static uint64_t used_of(const macsec_endpoint *e, const struct beginning *b) {
+    char word[WORD];
+    uint64_t number = 0, floor = 0;
+    uint32_t status = b->sends ? macsec_reserve_tx_floor(e, (uint16_t)b->key, &floor)
+                               : macsec_reserve_rx_floor(e, b->sci, (uint8_t)b->an, (uint16_t)b->key, &floor);
+    if (words_copy(&b->words, b->number_at, word, sizeof word))
+        number = strtoull(word, NULL, 16);
+    return status == MACSEC_OK && floor > number ? floor : number;
+}
+
+/* Begins the association of a refused line above every packet number that may have been used. */
+static uint32_t begin_above(macsec_endpoint *e, const struct beginning *b, uint64_t used, uint64_t *raised) {
+    uint64_t next = used == UINT64_MAX ? used : used + 1;
+    uint64_t number = b->sends ? first_unused(e, b, used) : next;
+    uint32_t status = begin_at(e, b, number);
+    if (status == MACSEC_OK)
+        *raised = number;
+    return status == MACSEC_E_PN_RANGE ? MACSEC_E_PN_FLOOR : status; /* no packet number is left to the key */
+}
+
+/* ---- Above the numbers that were accepted ---- */
+
+/* A receive association has begun. If it would accept what an association of its key has accepted, it begins again. */
+static uint32_t begin_above_accepted(struct numbers *n, macsec_endpoint *e, const struct beginning *b,
+                                     uint64_t *raised) {
+    macsec_rx_sa sa;
+    uint64_t accepted = numbers_accepted(n, e, b->sci, (uint8_t)b->an);
+    uint32_t status = macsec_get_rx_sa(e, b->sci, (uint8_t)b->an, &sa);
+    if (status != MACSEC_OK || sa.lowest_high != 0 || sa.lowest > accepted)
+        return status;
+    status = macsec_delete_rx_sa(e, b->sci, (uint8_t)b->an);
+    if (status != MACSEC_OK)
+        return status;
+    return accepted == UINT64_MAX ? MACSEC_E_PN_FLOOR : begin_above(e, b, accepted, raised);
+}
+
+/* ---- Lines ---- */
+
+/* Does the line end receive associations? Then what they have accepted is saved first. */
+static void save_before(struct numbers *n, macsec_endpoint *e, const struct words *w) {
+    uint8_t sci[8];
+    if (words_is(w, 0, "A") && (words_is(w, 1, "rxdel") || words_is(w, 1, "rxscdel")) && words_sci(w, 2, sci))
+        numbers_save(n, e, sci);
+}
+
+uint32_t lines_carry_out(struct numbers *n, macsec_endpoint *e, const char *line, size_t length, uint64_t *raised) {
+    struct beginning b;
+    struct words w;
+    uint32_t status;
+    *raised = 0;
+    words_split(&w, line, length);
+    save_before(n, e, &w);
+    status = macsec_command_line(e, (const uint8_t *)line, length);
+    if ((status != MACSEC_OK && status != MACSEC_E_PN_FLOOR) || !begins(&b, &w))
+        return status;
+    if (status == MACSEC_E_PN_FLOOR)
+        status = begin_above(e, &b, used_of(e, &b), raised);
+    return status == MACSEC_OK && !b.sends ? begin_above_accepted(n, e, &b, raised) : status;
+}

@@ -1,0 +1,198 @@
+/* The thread that writes the journal. The disk can take seconds to answer, and frames, requests and the watchdog do not
+ * wait for it: the thread that has the endpoint gives octets to this one, and gets the result later. This thread calls
+ * nothing of the library and allocates nothing. */
+#define _GNU_SOURCE
+#include "device.h"
+#include "journal.h"
+#include <errno.h>
+#include <pthread.h>
+#include <string.h>
+#include <sys/eventfd.h>
+#include <time.h>
+#include <unistd.h>
+
+/* Octets of its stack. A journal's calls need less than a tenth of it. */
+enum { STACK = 256 * 1024 };
+
+enum state { IDLE, ORDERED, CARRIED_OUT };
+
+struct saver {
+    struct journal *journal;
+    pthread_t thread;
+    bool runs;  /* is there a thread? */
+    int events; /* an eventfd, written when an order was carried out */
+    pthread_mutex_t lock;
+    pthread_cond_t changed;
+    /* Guarded by the lock from here on. The octets, the journal and the result belong to the thread while the state is
+     * ORDERED, and to the other one else. */
+    enum state state;
+    bool begun, ends;
+    int confined;
+    const uint8_t *octets;
+    size_t length;
+    bool whole;
+    struct saved saved;
+};
+
+static struct saver the_saver = { .events = -1 };
+
+static double now(void) {
+    struct timespec t;
+    (void)clock_gettime(CLOCK_MONOTONIC, &t); /* there is such a clock */
+    return (double)t.tv_sec + (double)t.tv_nsec / 1e9;
+}
+
+static void carry_out(struct saver *s) {
+    struct journal_fault fault = { 0, 0, MACSEC_OK };
+    double began = now();
+    int result = s->whole ? journal_replace(s->journal, s->octets, s->length, &fault)
+                          : journal_append_all(s->journal, s->octets, s->length, &fault);
+    s->saved = (struct saved){ result == 0, (int)fault.step, fault.error, fault.status, now() - began };
+}
+
+/* ---- The thread ---- */
+
+/* The counter of an eventfd can't be full here. */
+static void tell(const struct saver *s) {
+    const uint64_t one = 1;
+    while (write(s->events, &one, sizeof one) < 0 && errno == EINTR)
+        ;
+}
+
+static void *work(void *argument) {
+    struct saver *s = argument;
+    int confined = confine_saver();
+    (void)pthread_mutex_lock(&s->lock);
+    s->confined = confined;
+    s->begun = true;
+    (void)pthread_cond_broadcast(&s->changed);
+    while (!s->ends) {
+        if (s->state != ORDERED) {
+            (void)pthread_cond_wait(&s->changed, &s->lock);
+            continue;
+        }
+        (void)pthread_mutex_unlock(&s->lock);
+        carry_out(s);
+        (void)pthread_mutex_lock(&s->lock);
+        s->state = CARRIED_OUT;
+        (void)pthread_cond_broadcast(&s->changed);
+        tell(s);
+    }
+    (void)pthread_mutex_unlock(&s->lock);
+    return NULL;
+}
+
+/* ---- Opening ---- */
+
+static int failed(int error) {
+    errno = error;
+    message_of_errno("the thread of the journal");
+    return ENDS_FAILED;
+}
+
+int saver_open(struct saver **s, struct journal *journal) {
+    pthread_condattr_t attributes;
+    int error;
+    *s = &the_saver;
+    the_saver.journal = journal;
+    the_saver.events = eventfd(0, EFD_NONBLOCK | EFD_CLOEXEC);
+    if (the_saver.events < 0)
+        return failed(errno);
+    error = pthread_condattr_init(&attributes);
+    if (error == 0)
+        error = pthread_condattr_setclock(&attributes, CLOCK_MONOTONIC);
+    if (error == 0)
+        error = pthread_cond_init(&the_saver.changed, &attributes);
+    if (error == 0)
+        error = pthread_mutex_init(&the_saver.lock, NULL);
+    (void)pthread_condattr_destroy(&attributes);
+    return error == 0 ? 0 : failed(error);
+}
+
+int saver_start(struct saver *s) {
+    pthread_attr_t attributes;
+    int error = pthread_attr_init(&attributes);
+    if (error == 0)
+        error = pthread_attr_setstacksize(&attributes, STACK);
+    if (error == 0)
+        error = pthread_create(&s->thread, &attributes, work, s);
+    if (error != 0)
+        return failed(error);
+    (void)pthread_attr_destroy(&attributes);
+    s->runs = true;
+    (void)pthread_mutex_lock(&s->lock);
+    while (!s->begun)
+        (void)pthread_cond_wait(&s->changed, &s->lock);
+    (void)pthread_mutex_unlock(&s->lock);
+    return s->confined;
+}
+
+int saver_file(const struct saver *s) {
+    return s->events;
+}
+
+/* ---- Orders ---- */
+
+bool saver_is_busy(const struct saver *s) {
+    return s->length > 0;
+}
+
+void saver_order(struct saver *s, const uint8_t *octets, size_t length, bool whole) {
+    (void)pthread_mutex_lock(&s->lock);
+    s->octets = octets;
+    s->length = length;
+    s->whole = whole;
+    if (s->runs) {
+        s->state = ORDERED;
+        (void)pthread_cond_broadcast(&s->changed);
+    } else {
+        carry_out(s);
+        s->state = CARRIED_OUT;
+    }
+    (void)pthread_mutex_unlock(&s->lock);
+}
+
+bool saver_is_done(struct saver *s, struct saved *saved) {
+    uint64_t count;
+    bool done;
+    if (read(s->events, &count, sizeof count) < 0 && errno != EAGAIN && errno != EINTR)
+        message_of_errno("the thread of the journal");
+    (void)pthread_mutex_lock(&s->lock);
+    done = s->state == CARRIED_OUT;
+    if (done) {
+        *saved = s->saved;
+        s->state = IDLE;
+        s->length = 0;
+    }
+    (void)pthread_mutex_unlock(&s->lock);
+    return done;
+}
+
+void saver_wait(struct saver *s, int milliseconds) {
+    struct timespec end;
+    int error = 0;
+    (void)clock_gettime(CLOCK_MONOTONIC, &end);
+    end.tv_sec += milliseconds / 1000;
+    end.tv_nsec += milliseconds % 1000 * 1000000L;
+    if (end.tv_nsec >= 1000000000L) {
+        end.tv_nsec -= 1000000000L;
+        end.tv_sec++;
+    }
+    (void)pthread_mutex_lock(&s->lock);
+    while (s->state == ORDERED && error == 0)
+        error = pthread_cond_timedwait(&s->changed, &s->lock, &end);
+    (void)pthread_mutex_unlock(&s->lock);
+}
+
+bool saver_close(struct saver *s) {
+    if (saver_is_busy(s))
+        return false;
+    (void)pthread_mutex_lock(&s->lock);
+    s->ends = true;
+    (void)pthread_cond_broadcast(&s->changed);
+    (void)pthread_mutex_unlock(&s->lock);
+    if (s->runs)
+        (void)pthread_join(s->thread, NULL);
+    s->runs = false;
+    return true;
+}

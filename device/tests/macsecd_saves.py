@@ -1,0 +1,344 @@
+"""The journal of macsecd: no frame is delivered twice, and nothing waits for the disk."""
+
+from __future__ import annotations
+
+import contextlib
+import json
+import pathlib
+import random
+import secrets
+import signal
+import socket
+import threading
+import time
+
+from house import ROOT
+from house.compiling import INCLUDED, WARNINGS
+from house.reporting import call, report, until
+from macsecd_handover import Client
+from macsecd_world import End, Packets, World, build
+
+CHANNELS = 64
+
+# A frame that was delivered longer before a kill may not be delivered again: the journal is written each second.
+OLDEST = 2.0
+
+# The longest answer to `port`, time between two reports to the service manager, and pause, in seconds.
+ANSWER, WATCHDOG, PAUSE = 0.1, 2.0, 0.05
+
+
+def build_sender(folder: pathlib.Path, library: pathlib.Path) -> pathlib.Path:
+    """Builds the program that sends frames."""
+    folder.mkdir(parents=True, exist_ok=True)
+    source, out = ROOT / "device/tests/macsecd_frames.c", folder / "macsecd_frames"
+    call("gcc", *WARNINGS, "-pedantic", "-O2", *INCLUDED, "-o", str(out), str(source), str(library))
+    return out
+
+
+def slow_programs(out: pathlib.Path, library: pathlib.Path, source: pathlib.Path) -> pathlib.Path:
+    """Builds macsecd over a slow disk. Returns the folder of the programs."""
+    wrapped = ["-Wl,--wrap=fdatasync", "-Wl,--wrap=fsync", str(ROOT / "device/tests/macsecd_disk.c")]
+    return build(out, library, ["-Wno-error"], source, wrapped)
+
+
+def sci_of(channel: int) -> str:
+    """The SCI of a channel."""
+    return f"0200000001{channel:02x}0001"
+
+
+# ---- No frame twice
+
+
+class Deliveries:
+    """What TAP delivers: when each frame of each channel arrived, in a thread."""
+
+    def __init__(self, end: End) -> None:
+        self.tap = Packets(end.namespace, "macsec0")
+        self.frames: list[tuple[int, int, float]] = []
+        self.goes_on = True
+        self.thread = threading.Thread(target=self.run)
+        self.thread.start()
+
+    def run(self) -> None:
+        """Reads until it is stopped."""
+        self.tap.socket.settimeout(0.05)
+        while self.goes_on:
+            with contextlib.suppress(OSError):
+                frame = self.tap.socket.recv(200)
+                if frame[12:14] == b"\x88\xb5":
+                    self.frames.append((frame[14], int.from_bytes(frame[15:19], "big"), time.monotonic()))
+
+    def stop(self) -> list[tuple[int, int, float]]:
+        """Stops it once no frame is left. Returns the frames."""
+        count = -1
+        while count != (count := len(self.frames)):
+            time.sleep(0.1)
+        self.goes_on = False
+        self.thread.join()
+        self.tap.close()
+        return self.frames
+
+
+class Receiver:
+    """An end that receives from 64 channels under one key, at window 0, and frames for it."""
+
+    def __init__(self, world: World, sender: pathlib.Path) -> None:
+        self.end, self.peer, self.sender = world.ends[0], world.ends[1], sender
+        self.key = secrets.token_hex(16)
+        lines = [f"device link link0\nend A gcm128 {self.end.sci} 1514 sci\nA key 9 {self.key} 0"]
+        for channel in range(CHANNELS):
+            sci = sci_of(channel)
+            lines += [f"A rxsc {sci}", f"A rxsa {sci} 0 9 1", f"A rxon {sci} 0"]
+        self.end.write_config()
+        self.end.config.write_text("\n".join([*lines, "device shared", "device transient", ""]))
+        self.end.create_journal()
+
+    def send(self, first: int, count: int, rate: int) -> None:
+        """Sends frames of all channels."""
+        words = ["sealed", "link0", self.key, str(first), str(count), str(rate)]
+        call("ip", "netns", "exec", self.peer.namespace, str(self.sender), *words)
+
+    def settle(self) -> None:
+        """Waits until no frame comes any more."""
+        last = -1
+        while last != (last := self.end.counters()["device LinkIn"]):
+            time.sleep(0.05)
+
+
+def check_kill(receiver: Receiver, first: int, rounds: int, rng: random.Random) -> tuple[float, int, int]:
+    """Frames, SIGKILL, and the same frames again. Returns the age of the oldest that was delivered again, and how many
+    were delivered, and again."""
+    end, rate = receiver.end, 64 * 40
+    end.start()
+    deliveries = Deliveries(end)
+    thread = threading.Thread(target=receiver.send, args=(first, rounds, rate))
+    thread.start()
+    time.sleep(rounds * 64 / rate + rng.uniform(-1, 0.1))
+    killed = time.monotonic()
+    end.stop(signal.SIGKILL)
+    thread.join()
+    before = {(channel, number): moment for channel, number, moment in deliveries.stop()}
+    end.start()
+    deliveries = Deliveries(end)
+    receiver.send(first, rounds, 20000)
+    receiver.settle()
+    again = {(channel, number) for channel, number, _ in deliveries.stop()} & set(before)
+    oldest = max((killed - before[it] for it in again), default=0.0)
+    end.stop()
+    return oldest, len(before), len(again)
+
+
+def check_replays(world: World, sender: pathlib.Path, kills: int, rng: random.Random) -> None:
+    """SIGKILL with traffic in 64 channels: what was accepted longer ago is not accepted again."""
+    receiver = Receiver(world, sender)
+    first, oldest, total, again = 1, 0.0, 0, 0
+    for _ in range(kills):
+        rounds = 40 * rng.choice([3, 4])
+        age, delivered, repeated = check_kill(receiver, first, rounds, rng)
+        report(delivered > 64 * 40, f"replays: only {delivered} frames were delivered before a kill")
+        oldest, total, again = max(oldest, age), total + delivered, again + repeated
+        first += rounds
+    report(oldest <= OLDEST, f"replays: a frame was delivered again {oldest:.2f} s after it was delivered first")
+    print(f"replays: {kills} kills, {total} frames, {again} delivered again, the oldest {oldest:.2f} s old", flush=True)
+
+
+def check_again(world: World, sender: pathlib.Path) -> None:
+    """An association that comes again under its key: nothing is delivered again, whatever ended it."""
+    receiver = Receiver(world, sender)
+    end, sci, key = receiver.end, sci_of(5), receiver.key
+    end.start()
+    begin = [f"A rxsa {sci} 0 9 1", f"A rxon {sci} 0"]
+    afresh = [f"A key 9 {key} 0", f"A rxsc {sci}", *begin]
+    for number, (what, requests) in enumerate(
+        {
+            "rxdel": [f"A rxdel {sci} 0", *begin],
+            "rxscdel": [f"A rxscdel {sci}", f"A rxsc {sci}", *begin],
+            "load": ["load\n" + "\n".join([f"A rxdel {sci} 0", *begin])],
+            "loads": [f"load\nA rxdel {sci} 0", "load\n#", "load\n" + "\n".join(begin)],
+            "open": [f"open {end.sci} gcm128", *afresh, "port on"],
+            "close": ["close", f"open {end.sci} gcm128", *afresh, "port on"],
+        }.items()
+    ):
+        first = 1 + 30 * number
+        receiver.send(first, 30, 20000)
+        receiver.settle()
+        deliveries = Deliveries(end)
+        answers = [end.ask(it) for it in requests]
+        report(all("ok" in it for it in answers), f"again: {what}: {answers}")
+        receiver.send(first, 30, 20000)
+        receiver.settle()
+        again = [it for it in deliveries.stop() if it[0] == 5]
+        report(not again, f"again: {what}: {len(again)} frames of 30 were delivered again")
+        report(f"rx {sci} 0 9 {first + 30:016x} " in end.ask("numbers"), f"again: {what}: {end.ask('numbers')[:300]}")
+    report(end.stop() == 0, f"again: macsecd does not end well: {end.log()}")
+
+
+def check_last_save(world: World, sender: pathlib.Path) -> None:
+    """A journal that can't be written at the end."""
+    receiver = Receiver(world, sender)
+    end = receiver.end
+    end.start()
+    receiver.send(1, 10, 20000)
+    journal = end.folder / "state/macsec0.journal"
+    journal.rename(journal.with_suffix(".moved"))
+    receiver.settle()
+    status = end.stop()
+    report(status == 1, f"the journal can't be written at the end: status {status}")
+    report("can be delivered again" in end.log(), f"the journal can't be written at the end: {end.log()}")
+
+
+# ---- The disk
+
+
+class Polls:
+    """Asks for the port over and over, in a thread, and notes how long the answers take."""
+
+    def __init__(self, end: End, interval: float) -> None:
+        self.client, self.interval, self.goes_on, self.count = Client(end), interval, True, 0
+        self.thread = threading.Thread(target=self.run)
+        self.thread.start()
+
+    def run(self) -> None:
+        """Asks until it is stopped."""
+        while self.goes_on:
+            self.client.ask("port")
+            self.count += 1
+            time.sleep(self.interval)
+
+    def stop(self) -> float:
+        """Stops it. Returns the slowest answer in seconds."""
+        self.goes_on = False
+        self.thread.join()
+        self.client.socket.close()
+        return self.client.slowest
+
+
+class Manager:
+    """A service manager, which notes the longest time between two reports that macsecd runs."""
+
+    def __init__(self, path: pathlib.Path) -> None:
+        self.socket = socket.socket(socket.AF_UNIX, socket.SOCK_DGRAM)
+        self.socket.bind(str(path))
+        self.socket.settimeout(0.05)
+        self.goes_on, self.longest, self.count = True, 0.0, 0
+        self.thread = threading.Thread(target=self.run)
+        self.thread.start()
+
+    def run(self) -> None:
+        """Reads until it is stopped."""
+        last = None
+        while self.goes_on:
+            with contextlib.suppress(socket.timeout):
+                if self.socket.recv(100) == b"WATCHDOG=1":
+                    now = time.monotonic()
+                    self.longest = max(self.longest, now - (last or now))
+                    last, self.count = now, self.count + 1
+
+    def stop(self) -> None:
+        """Stops it."""
+        self.goes_on = False
+        self.thread.join()
+        self.socket.close()
+
+
+def send_plain(end: End, sender: pathlib.Path, count: int, rate: int) -> int:
+    """A client sends frames. Returns how many TAP took."""
+    words = ["ip", "netns", "exec", end.namespace, str(sender), "plain", "macsec0", str(count), str(rate)]
+    return int(call(*words).split()[0])
+
+
+def check_slow_disk(
+    world: World, programs: pathlib.Path, sender: pathlib.Path, slow: float, seconds: int, rate: int
+) -> None:
+    """Each synchronization takes so many seconds: no frame is lost for want of it, and nothing else waits."""
+    world.prepare()
+    a, b = world.ends
+    a.program = programs / "macsecd"
+    a.more_environment = {"SLOW": str(int(1000 * slow)), "NOTIFY_SOCKET": str(world.folder / "notify")}
+    manager = Manager(world.folder / "notify")
+    b.start()
+    a.start(wait=False)
+    until(a.answers, 40)
+    a.start_addresses()
+    until(lambda: manager.count > 1, 10)
+    before, journal = a.counters(), (a.folder / "state/macsec0.journal").stat().st_size
+    polls = Polls(a, 0.005)
+    client = Client(a)
+    sent = send_plain(a, sender, rate * seconds, rate)
+    key = secrets.token_hex(16)
+    client.carry_out(f"A key 7 {key} 0", "A txsa 1 7 1 conf", "A txdel 1", "A retire 7")
+    slowest, after = polls.stop(), a.counters()
+    client.socket.close()
+    lost = after["device NoReservation"] - before["device NoReservation"]
+    protected = after["OutPktsProtected"] + after["OutPktsEncrypted"]
+    protected -= before["OutPktsProtected"] + before["OutPktsEncrypted"]
+    written = (a.folder / "state/macsec0.journal").stat().st_size - journal
+    report(lost == 0, f"disk: {lost} of {sent} frames were lost for want of a reservation")
+    report(protected > sent * 9 // 10, f"disk: only {protected} of {sent} frames were protected")
+    report(slowest < ANSWER, f"disk: an answer to `port` took {1000 * slowest:.0f} ms")
+    report(manager.longest < WATCHDOG, f"disk: {manager.longest:.1f} s between two reports to the service manager")
+    report(client.slowest < 1.5, f"disk: a request took {client.slowest:.1f} s")
+    print(
+        f"disk: synchronizations of {slow} s, {sent} frames at {rate} a second, {protected} protected, {lost} without a "
+        f"reservation, `port` in {1000 * slowest:.0f} ms of {polls.count}, a request in {client.slowest:.2f} s, watchdog "
+        f"{manager.longest:.2f} s, {written} octets written",
+        flush=True,
+    )
+    report(a.stop() == 0, f"disk: {a.log()[-300:]}")
+    manager.stop()
+
+
+# ---- Many keys
+
+
+def new_key(client: Client, number: int, key: str, peer: str) -> None:
+    """A new key in both directions, as a key agreement installs it; the old one goes."""
+    an, old, name, before = number % 4, (number - 1) % 4, number % 4096, (number - 1) % 4096
+    client.carry_out(
+        f"A key {name} {key} 0",
+        f"A rxsa {peer} {an} {name} 1",
+        f"A rxon {peer} {an}",
+        f"A txsa {an} {name} 1 conf",
+        f"A txon {an}",
+    )
+    if number > 0:
+        client.carry_out(f"A txdel {old}", f"A rxdel {peer} {old}", f"A retire {before}")
+
+
+def check_many_keys(world: World, keys: int) -> None:
+    """Keys of a key agreement, one after another: nothing pauses, and the journal stays short."""
+    a, b = world.ends
+    a.write_config()
+    a.config.write_text("device link link0\ndevice shared\ndevice transient\n")
+    a.create_journal()
+    a.start()
+    client = Client(a)
+    client.carry_out("own", f"open {a.sci} gcm128", f"A rxsc {b.sci}", "port on")
+    injector = Packets(a.namespace, "macsec0")
+    polls = Polls(a, 0.002)
+    began = time.monotonic()
+    for number in range(keys):
+        new_key(client, number, secrets.token_hex(16), b.sci)
+        injector.send(b"\xff" * 12 + b"\x88\xb5" + bytes(50))
+    seconds, pause = time.monotonic() - began, polls.stop()
+    injector.close()
+    shown = json.loads(client.ask("json"))
+    size = (a.folder / "state/macsec0.journal").stat().st_size
+    lacked = a.counters()["device NoReservation"]
+    report(pause < PAUSE, f"keys: a pause of {1000 * pause:.0f} ms")
+    report(shown["journal_names"] < 1000, f"keys: the journal has {shown['journal_names']} names after {keys} keys")
+    report(size <= 1 << 18, f"keys: the journal has {size} octets after {keys} keys")
+    report(lacked == 0, f"keys: {lacked} frames lacked a reservation")
+    client.socket.close()
+    a.stop(signal.SIGKILL)
+    began = time.monotonic()
+    a.start()
+    restart = time.monotonic() - began
+    with contextlib.closing(Client(a).socket):
+        pass
+    report(restart < 2, f"keys: a restart takes {restart:.1f} s")
+    print(
+        f"keys: {keys} in {seconds:.1f} s, longest pause {1000 * pause:.1f} ms of {polls.count} answers, "
+        f"{shown['journal_names']} names of {shown['journal_names_max']}, {size} octets, restart {restart:.2f} s",
+        flush=True,
+    )

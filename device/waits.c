@@ -1,0 +1,61 @@
+/* Answers that wait for the journal. A request that begins to send or ends an association is carried out at once, and
+ * answered when its records are on the disk: so a client that enables the new association then loses no frame, and
+ * knows that what the old one had accepted is saved. It does not wait for ever: a disk can be slow or fail. */
+#define _GNU_SOURCE
+#include "device.h"
+#include <errno.h>
+#include <string.h>
+#include <sys/epoll.h>
+#include <sys/socket.h>
+#include <time.h>
+
+/* How many milliseconds an answer waits. A key agreement that gets none for two seconds begins anew. */
+enum { LONGEST = 1000 };
+
+static int64_t now(void) {
+    struct timespec t;
+    (void)clock_gettime(CLOCK_MONOTONIC, &t); /* there is such a clock */
+    return (int64_t)t.tv_sec * 1000 + t.tv_nsec / 1000000;
+}
+
+bool waits_keep(struct device *d, int client, const char *answer, size_t length) {
+    struct waiting *w = &d->waits.clients[client];
+    uint64_t ticket = numbers_ticket(d->numbers);
+    if (numbers_is_written(d->numbers, ticket) || length > sizeof w->answer)
+        return false;
+    memcpy(w->answer, answer, length);
+    w->length = length;
+    w->ticket = ticket;
+    w->until = now() + LONGEST;
+    return true;
+}
+
+bool waits_for(const struct device *d, int client) {
+    return d->waits.clients[client].length > 0;
+}
+
+void waits_send(struct device *d) {
+    for (int client = 0; client < CLIENTS; client++) {
+        struct waiting *w = &d->waits.clients[client];
+        size_t length = w->length;
+        if (length == 0 || (!numbers_is_written(d->numbers, w->ticket) && now() < w->until))
+            continue;
+        w->length = 0;
+        control_send(d, client, w->answer, length);
+    }
+}
+
+int waits_left(const struct device *d) {
+    int64_t first = INT64_MAX, left;
+    for (int client = 0; client < CLIENTS; client++)
+        if (waits_for(d, client) && d->waits.clients[client].until < first)
+            first = d->waits.clients[client].until;
+    if (first == INT64_MAX)
+        return -1;
+    left = first - now();
+    return left < 0 ? 0 : (int)left;
+}
+
+void waits_client_gone(struct device *d, int client) {
+    d->waits.clients[client].length = 0;
+}
