@@ -40,9 +40,7 @@ static uint32_t create(struct device *d, const char *line, size_t length) {
     macsec_endpoint *e = &d->handles[d->endpoint == &d->handles[0]];
     struct words w;
     size_t end = 0;
-    uint32_t status;
-    numbers_save(d->numbers, d->endpoint, NULL); /* the new one reads what the old one has accepted */
-    status = numbers_configure(d->numbers, e, line, length, NULL, 0);
+    uint32_t status = numbers_configure(d->numbers, e, line, length, NULL, 0);
     if (status != MACSEC_OK)
         return status;
     endpoint_close(d);

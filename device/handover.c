@@ -139,7 +139,7 @@ macsec_endpoint *handover_begin(struct device *d) {
     macsec_record records[MACSEC_AN_COUNT];
     size_t count = sent_records(d, records);
     uint32_t status;
-    numbers_save(d->numbers, d->endpoint, NULL); /* the copy reads what the first one has accepted */
+    numbers_save(d->numbers, d->endpoint, NULL); /* also of the associations that are not in the copy */
     status = numbers_configure(d->numbers, e, d->end_line, strlen(d->end_line), records, count);
     if (status == MACSEC_OK)
         status = copy(d->numbers, e, d->endpoint);

@@ -237,18 +237,19 @@ static void drop_old(struct names *n) {
         fill_slots(n);
 }
 
-static int by_giving_up(const void *left, const void *right) {
-    const struct name *a = *(struct name *const *)left, *b = *(struct name *const *)right;
-    return a->given_up < b->given_up ? -1 : a->given_up > b->given_up;
-}
-
-/* Those that were given up, the oldest first: the next run reads them in this order. */
+/* Those that were given up, the oldest first: the next run reads them in this order. qsort of glibc makes a system call
+ * that is not allowed. */
 static size_t find_given_up(struct names *n, struct name *found[KEPT_NAMES]) {
     size_t count = 0;
-    for (size_t i = 0; i < n->count && count < KEPT_NAMES; i++)
-        if (n->at[i].given_up != 0)
-            found[count++] = &n->at[i];
-    qsort(found, count, sizeof *found, by_giving_up);
+    for (size_t i = 0; i < n->count && count < KEPT_NAMES; i++) {
+        size_t at = count;
+        if (n->at[i].given_up == 0)
+            continue;
+        for (; at > 0 && found[at - 1]->given_up > n->at[i].given_up; at--)
+            found[at] = found[at - 1];
+        found[at] = &n->at[i];
+        count++;
+    }
     return count;
 }
 

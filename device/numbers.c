@@ -21,7 +21,7 @@ enum { FORGETS = 64 };
 enum { FILLED = 50 };
 
 /* The octets of the file: it is written anew when it has so many, unless its names need more. */
-enum { FILE_LENGTH = 1 << 18 };
+enum { FILE_LENGTH = 1 << 17 };
 
 /* How many milliseconds an order may take when macsecd ends. */
 enum { LAST = 15000 };

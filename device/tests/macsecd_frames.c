@@ -1,8 +1,8 @@
 /* Sends frames at a rate, for the checks `replays` and `disk` of the test macsecd.
  *
- *     macsecd_frames sealed DEVICE KEY FIRST COUNT RATE    frames of 64 channels under one key, which are sealed here:
- *                                                          packet numbers from FIRST on, each by all channels
- *     macsecd_frames plain DEVICE COUNT RATE               frames of a client
+ *     macsecd_frames sealed DEVICE KEY FIRST COUNT RATE AN    frames of 64 channels under one key, which are sealed
+ *                                                             here: packet numbers from FIRST on, each by all channels
+ *     macsecd_frames plain DEVICE COUNT RATE                  frames of a client
  *
  * The SCI of channel C is 0200000001 C 0001. The same arguments give the same frames, so that they can stand for ones
  * that were recorded. It prints how many frames were sent, and how many the device did not take. */
@@ -46,10 +46,10 @@ static void read_key(const char *text, macsec_sak *key) {
 }
 
 /* A frame of a channel. Its data begin with an EtherType, the channel and the packet number. */
-static void seal(const macsec_sak *key, unsigned channel, uint32_t number, uint8_t frame[LENGTH]) {
+static void seal(const macsec_sak *key, unsigned channel, unsigned an, uint32_t number, uint8_t frame[LENGTH]) {
     const uint8_t sci[8] = { 2, 0, 0, 0, 1, (uint8_t)channel, 0, 1 };
     const uint8_t pn[4] = { (uint8_t)(number >> 24), (uint8_t)(number >> 16), (uint8_t)(number >> 8), (uint8_t)number };
-    const uint8_t tag[TAG] = { 0x88, 0xe5, 0x2c, DATA < 48 ? DATA : 0 };
+    const uint8_t tag[TAG] = { 0x88, 0xe5, (uint8_t)(0x2c | an), DATA };
     const uint8_t type[3] = { 0x88, 0xb5, (uint8_t)channel };
     memset(frame, 0, LENGTH);
     memcpy(frame, addresses, HEADER);
@@ -86,13 +86,14 @@ static void send_sealed(char **words, const struct timespec *began) {
     macsec_sak key;
     uint32_t first = (uint32_t)strtoul(words[2], NULL, 10);
     unsigned long count = strtoul(words[3], NULL, 10), rate = strtoul(words[4], NULL, 10);
+    unsigned an = (unsigned)strtoul(words[5], NULL, 10) & 3;
     int file = open_device(words[0]);
     read_key(words[1], &key);
     for (unsigned long i = 0; i < count; i++)
         for (unsigned channel = 0; channel < CHANNELS; channel++) {
             if (channel % 16 == 0)
                 wait_for(began, i * CHANNELS + channel, rate);
-            seal(&key, channel, first + (uint32_t)i, frame);
+            seal(&key, channel, an, first + (uint32_t)i, frame);
             give(file, frame, LENGTH);
         }
 }
@@ -114,7 +115,7 @@ static void send_plain(char **words, const struct timespec *began) {
 int main(int count, char **words) {
     struct timespec began;
     (void)clock_gettime(CLOCK_MONOTONIC, &began);
-    if (count == 7 && strcmp(words[1], "sealed") == 0)
+    if (count == 8 && strcmp(words[1], "sealed") == 0)
         send_sealed(words + 2, &began);
     else if (count == 5 && strcmp(words[1], "plain") == 0)
         send_plain(words + 2, &began);

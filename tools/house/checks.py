@@ -108,7 +108,7 @@ CHECKS: list[Check] = [
           25, "a package with mistakes, another text",
           test="--library {shared} --program {program} --seed {seed}", gate="--seed {seed}"),
     Check("device", "compiles the device", "make --no-print-directory device", LIBRARY, 10, None, gate=""),
-    Check("macsecd", "runs the device in network namespaces", "device/tests/macsecd", ROOT_USER, 40,
+    Check("macsecd", "runs the device in network namespaces", "device/tests/macsecd", ROOT_USER, 60,
           "the check macsecd-controls", gate="--short --seed {seed}", hand="--seed {seed}"),
     Check("controls", "sees that the checks report something wrong", "tests/program/controls", ALL, 60,
           "it is made of them", gate=""),
