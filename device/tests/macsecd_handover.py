@@ -228,6 +228,21 @@ def next_of(end: End) -> int:
     return int(end.ask("numbers tx 0").split()[3], 16)
 
 
+def check_numbers(a: End) -> None:
+    """A second endpoint goes on one packet number later, and uses no number of the first one again."""
+    before, last = next_of(a), 0
+    for _ in range(3):
+        report(a.ask("load\n#") == "ok\n", "`load` without a command is refused")
+        last = next_of(a)
+    report(before < last < before + 20, f"three loads: the next packet number rises from {before} to {last}")
+    a.carry_out("A txoff 0", "A txdel 0")
+    answer = a.ask("A txsa 0 0 1 conf")
+    report(
+        answer.startswith("ok pn ") and int(answer.split()[2], 16) >= last, f"a new association: {answer}, after {last}"
+    )
+    a.carry_out("A txon 0")
+
+
 def check_load(a: End, macsecctl: list[str]) -> None:
     """Lines that are all carried out, or none is."""
     peer = a.world.ends[2 - a.number]
