@@ -14,6 +14,10 @@
 enum { LASTS = 32, SLOW = 16, SLOWEST = 30 };
 #define USUAL 0.25
 
+/* After so many seconds a run reserves so many times JOURNAL_AMOUNT_MIN at least, so that frames may also begin while
+ * the disk stalls: it is unlikely then that runs end one after another, each of which skips what it has reserved. */
+enum { STEADY_AFTER = 10, STEADY = 16 };
+
 /* The rate and the seconds that a synchronization takes are forgotten by one of so many parts at a time. */
 enum { FORGETS = 64 };
 
@@ -46,6 +50,7 @@ struct numbers {
     uint64_t rate, highest;        /* frames sent since the last tick, and the highest rate */
     double slow;                   /* how many seconds a synchronization takes */
     unsigned ticks;                /* since the order was given */
+    unsigned age;                  /* in ticks, until it is steady */
     bool anew;                     /* is the whole journal to be written, since the file is in doubt? */
     bool failed;                   /* did the last order fail, and is that reported? */
     bool waits;                    /* is no order to be given before the next tick? */
@@ -185,13 +190,15 @@ static void grant(void *endpoint, const macsec_record *record) {
 
 /* Notes how long the disk takes. */
 static void note_seconds(struct numbers *n, double seconds) {
-    uint64_t by_rate = LASTS * n->highest, by_disk = JOURNAL_AMOUNT_MIN;
+    uint64_t by_rate = LASTS * n->highest, least = JOURNAL_AMOUNT_MIN;
     n->slow = seconds > n->slow ? seconds : n->slow - n->slow / FORGETS;
     if (n->slow > SLOWEST)
         n->slow = SLOWEST;
-    if (n->slow > USUAL)
-        by_disk = (uint64_t)(JOURNAL_AMOUNT_MIN * SLOW * n->slow);
-    n->amount = by_rate > by_disk ? by_rate : by_disk;
+    if (n->age >= STEADY_AFTER)
+        least *= STEADY;
+    if (n->slow > USUAL && JOURNAL_AMOUNT_MIN * SLOW * n->slow > (double)least)
+        least = (uint64_t)(JOURNAL_AMOUNT_MIN * SLOW * n->slow);
+    n->amount = by_rate > least ? by_rate : least;
 }
 
 /* Takes the result of an order. Returns false if it is under way. */
@@ -367,6 +374,7 @@ void numbers_tick(struct numbers *n, macsec_endpoint *e) {
     n->waits = false;
     n->highest = n->rate > n->highest ? n->rate : n->highest - n->highest / FORGETS;
     n->rate = 0;
+    n->age += n->age < STEADY_AFTER;
     note_seconds(n, saver_is_busy(n->saver) ? n->ticks : 0);
     n->ticks++;
     (void)save_all(n, e, NULL);

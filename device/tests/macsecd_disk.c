@@ -1,8 +1,10 @@
-/* A slow disk, for the check `disk` of the test macsecd: each synchronization takes as many milliseconds as SLOW says.
- * It is linked with --wrap. The thread of the journal may not sleep, so it waits for a lock. */
+/* A slow disk, for the check `disk` of the test macsecd: each synchronization takes as many milliseconds as SLOW says,
+ * if there is no SLOW_FILE or if there is a file of that name. It is linked with --wrap. The thread of the journal may
+ * not sleep, so it waits for a lock. */
 #define _GNU_SOURCE
 #include <pthread.h>
 #include <stdlib.h>
+#include <sys/stat.h>
 #include <time.h>
 
 int __real_fdatasync(int file);
@@ -13,9 +15,12 @@ int __wrap_fsync(int file);
 static void wait_long(void) {
     static pthread_mutex_t lock = PTHREAD_MUTEX_INITIALIZER;
     static pthread_cond_t never = PTHREAD_COND_INITIALIZER;
-    const char *text = getenv("SLOW");
+    const char *text = getenv("SLOW"), *name = getenv("SLOW_FILE");
     long left = text == NULL ? 0 : strtol(text, NULL, 10);
     struct timespec end;
+    struct stat status;
+    if (name != NULL && stat(name, &status) != 0)
+        return;
     (void)clock_gettime(CLOCK_REALTIME, &end);
     end.tv_sec += left / 1000;
     end.tv_nsec += left % 1000 * 1000000;

@@ -13,6 +13,7 @@ import signal
 import socket
 import threading
 import time
+from typing import NamedTuple
 
 from house import ROOT
 from house.compiling import INCLUDED, WARNINGS
@@ -25,8 +26,8 @@ CHANNELS = 64
 # A frame that was delivered longer before a kill may not be delivered again: the journal is written each second.
 OLDEST = 2.0
 
-# The longest answer to `port`, and time between two reports to the service manager, in seconds.
-ANSWER, WATCHDOG = 0.1, 2.0
+# The longest time between two reports to the service manager, in seconds.
+WATCHDOG = 2.0
 
 
 def build_sender(folder: pathlib.Path, library: pathlib.Path) -> pathlib.Path:
@@ -58,7 +59,7 @@ class Deliveries:
         self.tap = Packets(end.namespace, "macsec0")
         self.frames: list[tuple[int, int, float]] = []
         self.goes_on = True
-        self.thread = threading.Thread(target=self.run)
+        self.thread = threading.Thread(target=self.run, daemon=True)
         self.thread.start()
 
     def run(self) -> None:
@@ -197,15 +198,16 @@ class Polls:
 
     def __init__(self, end: End, interval: float) -> None:
         self.client, self.interval, self.goes_on, self.count = Client(end), interval, True, 0
-        self.thread = threading.Thread(target=self.run)
+        self.thread = threading.Thread(target=self.run, daemon=True)
         self.thread.start()
 
     def run(self) -> None:
-        """Asks until it is stopped."""
-        while self.goes_on:
-            self.client.ask("port")
-            self.count += 1
-            time.sleep(self.interval)
+        """Asks until it is stopped, or macsecd ends."""
+        with contextlib.suppress(OSError):
+            while self.goes_on:
+                self.client.ask("port")
+                self.count += 1
+                time.sleep(self.interval)
 
     def stop(self) -> float:
         """Stops it. Returns the slowest answer in seconds."""
@@ -223,7 +225,7 @@ class Manager:
         self.socket.bind(str(path))
         self.socket.settimeout(0.05)
         self.goes_on, self.longest, self.count = True, 0.0, 0
-        self.thread = threading.Thread(target=self.run)
+        self.thread = threading.Thread(target=self.run, daemon=True)
         self.thread.start()
 
     def run(self) -> None:
@@ -249,41 +251,55 @@ def send_plain(end: End, sender: pathlib.Path, count: int, rate: int) -> int:
     return int(call(*words).split()[0])
 
 
-def check_slow_disk(
-    world: World, programs: pathlib.Path, sender: pathlib.Path, slow: float, seconds: int, rate: int
-) -> None:
-    """Each synchronization takes so many seconds: no frame is lost for want of it, and nothing else waits."""
-    world.prepare()
-    a, b = world.ends
-    a.program = programs / "macsecd"
-    a.more_environment = {"SLOW": str(int(1000 * slow)), "NOTIFY_SOCKET": str(world.folder / "notify")}
-    manager = Manager(world.folder / "notify")
-    b.start()
+class Slow(NamedTuple):
+    """A disk: how many seconds a synchronization takes, whether from the start or when frames begin, and how many an
+    answer to `port` may take."""
+
+    seconds: float
+    suddenly: bool
+    answer: float
+
+
+def start_on_disk(a: End, slow: Slow, manager: Manager) -> None:
+    """Starts macsecd over such a disk."""
+    stalled = a.folder / "slow"
+    a.more_environment = {"SLOW": str(int(1000 * slow.seconds)), "NOTIFY_SOCKET": str(a.world.folder / "notify")}
+    if slow.suddenly:
+        a.more_environment["SLOW_FILE"] = str(stalled)
     a.start(wait=False)
     until(a.answers, 40)
     a.start_addresses()
-    until(lambda: manager.count > 1, 10)
-    before, journal = a.counters(), (a.folder / "state/macsec0.journal").stat().st_size
-    polls = Polls(a, 0.005)
-    client = Client(a)
+    until(lambda: manager.count > (12 if slow.suddenly else 1), 20)
+    stalled.touch()
+
+
+def check_slow_disk(
+    world: World, programs: pathlib.Path, sender: pathlib.Path, slow: Slow, seconds: int, rate: int
+) -> None:
+    """A slow disk: no frame is lost for want of it, and nothing else waits."""
+    world.prepare()
+    a, b = world.ends
+    a.program = programs / "macsecd"
+    manager = Manager(world.folder / "notify")
+    b.start()
+    start_on_disk(a, slow, manager)
+    before, polls, client = a.counters(), Polls(a, 0.005), Client(a)
     sent = send_plain(a, sender, rate * seconds, rate)
     key = secrets.token_hex(16)
     client.carry_out(f"A key 7 {key} 0", "A txsa 1 7 1 conf", "A txdel 1", "A retire 7")
     slowest, after = polls.stop(), a.counters()
     client.socket.close()
     lost = after["device NoReservation"] - before["device NoReservation"]
-    protected = after["OutPktsProtected"] + after["OutPktsEncrypted"]
-    protected -= before["OutPktsProtected"] + before["OutPktsEncrypted"]
-    written = (a.folder / "state/macsec0.journal").stat().st_size - journal
+    protected = after["OutPktsEncrypted"] - before["OutPktsEncrypted"]
     report(lost == 0, f"disk: {lost} of {sent} frames were lost for want of a reservation")
     report(protected > sent // 2, f"disk: only {protected} of {sent} frames were protected")
-    report(slowest < ANSWER, f"disk: an answer to `port` took {1000 * slowest:.0f} ms")
+    report(slowest < slow.answer, f"disk: an answer to `port` took {1000 * slowest:.0f} ms")
     report(manager.longest < WATCHDOG, f"disk: {manager.longest:.1f} s between two reports to the service manager")
-    report(client.slowest < 1.5, f"disk: a request took {client.slowest:.1f} s")
+    report(0.5 < client.slowest < 1.5, f"disk: a request took {client.slowest:.1f} s")
     print(
-        f"disk: synchronizations of {slow} s, {sent} frames at {rate} a second, {protected} protected, {lost} without a "
-        f"reservation, {dropped(a)} dropped by a full TAP, `port` in {1000 * slowest:.0f} ms of {polls.count}, a request in {client.slowest:.2f} s, watchdog "
-        f"{manager.longest:.2f} s, {written} octets written",
+        f"disk: synchronizations of {slow.seconds} s{' suddenly' * slow.suddenly}, {sent} frames at {rate} a second, {protected} protected, {lost} without a reservation, "
+        f"{dropped(a)} dropped by a full TAP, `port` in {1000 * slowest:.0f} ms of {polls.count}, a request in "
+        f"{client.slowest:.2f} s, watchdog {manager.longest:.2f} s",
         flush=True,
     )
     report(a.stop() == 0, f"disk: {a.log()[-300:]}")
@@ -424,10 +440,12 @@ def check_threads(world: World, programs: pathlib.Path) -> None:
             client.ask("load\n#" if number % 8 == 0 else "json")
         client.socket.close()
 
-    with concurrent.futures.ThreadPoolExecutor() as pool:
-        for done in [pool.submit(keys, own) for own in (1, 2, 3)]:
-            done.result()
-    sent, arrived = stream.stop()
+    try:
+        with concurrent.futures.ThreadPoolExecutor() as pool:
+            for done in [pool.submit(keys, own) for own in (1, 2, 3)]:
+                done.result()
+    finally:
+        sent, arrived = stream.stop()
     report(sent == arrived, f"threads: {sent} datagrams were sent and {arrived} arrived")
     report(a.stop() == 0, f"threads: {a.log()[-2000:]}")
 
