@@ -147,6 +147,7 @@ void answer_show(struct text *t, const struct device *d) {
     text_add(t, "%s\n", d->name);
     add_link(t, d);
     add_endpoint(t, d);
+    text_add(t, "  journal: %zu of %zu names\n", numbers_names(d->numbers), numbers_names_max());
     add_last(t, &d->history);
     add_transmit(t, d);
     add_peers(t, d);
