@@ -24,8 +24,10 @@ enum { FORGETS = 64 };
 /* From this part of the journal on, its fill is reported: at so many percent. */
 enum { FILLED = 50 };
 
-/* The octets of the file: it is written anew when it has so many, unless its names need more. */
-enum { FILE_LENGTH = 1 << 17 };
+/* The octets of the file: it is written anew when it has so many, unless its names need more. A test has fewer. */
+#ifndef NUMBERS_FILE_LENGTH
+#define NUMBERS_FILE_LENGTH ((size_t)1 << 17)
+#endif
 
 /* How many milliseconds an order may take when macsecd ends. */
 enum { LAST = 15000 };
@@ -108,7 +110,7 @@ int numbers_open(struct numbers **n, const char *name, struct counts *counts) {
     the_numbers.amount = JOURNAL_AMOUNT_MIN;
     if (!path_of(path, sizeof path, name))
         return ENDS_WRONG;
-    if (journal_open(&the_numbers.journal, path, FILE_LENGTH, &fault) == 0) {
+    if (journal_open(&the_numbers.journal, path, NUMBERS_FILE_LENGTH, &fault) == 0) {
         result = read_names(&the_numbers);
         return result == 0 ? saver_open(&the_numbers.saver, &the_numbers.journal) : result;
     }

@@ -35,9 +35,23 @@ class Options(NamedTuple):
     sanitized: pathlib.Path
     disk: pathlib.Path
     folder: pathlib.Path  # on a real disk
+    library: pathlib.Path
 
 
 # ---- Programs
+
+
+def build_numbers(library: pathlib.Path, folder: pathlib.Path) -> pathlib.Path:
+    """Builds the sender that reserves as macsecd does. Its file is short, and so are its reservations."""
+    folder.mkdir(parents=True, exist_ok=True)
+    program = folder / "journal_numbers"
+    parts = ("journal", "lines", "names", "numbers", "saver", "words", "tests/journal_numbers")
+    sizes = ["-DNUMBERS_FILE_LENGTH=320", "-DJOURNAL_AMOUNT_MIN=8"]
+    sources = [str(ROOT / f"device/{it}.c") for it in parts]
+    command = ["gcc", *FLAGS, "-pedantic", "-pthread", *sizes, "-o", str(program), *sources, str(library)]
+    if subprocess.call(command):
+        sys.exit("device/tests/journal: a program was not built")
+    return program
 
 
 def build(library: pathlib.Path, folder: pathlib.Path, memory: bool) -> tuple[pathlib.Path, pathlib.Path, pathlib.Path]:
@@ -214,7 +228,7 @@ class Chain:
             self.last[an] = max(self.last[an], number)
         octets = self.state.files.get("journal", b"")
         for an in ANS:
-            reserved = highest(octets, self.names[an])
+            reserved = highest(octets, self.names[an]) if an < len(self.names) else 0
             last = self.last[an]
             report(last <= reserved, f"{self.what}: packet number {last} was sent, {reserved} is reserved")
 

@@ -9,8 +9,11 @@ import json
 import pathlib
 import random
 import secrets
+import shutil
 import signal
 import socket
+import subprocess
+import sys
 import threading
 import time
 from typing import NamedTuple
@@ -194,27 +197,20 @@ def check_last_save(world: World, sender: pathlib.Path) -> None:
 
 
 class Polls:
-    """Asks for the port over and over, in a thread, and notes how long the answers take."""
+    """Asks for the port over and over, in a process of its own, and notes how long the answers take."""
 
     def __init__(self, end: End, interval: float) -> None:
-        self.client, self.interval, self.goes_on, self.count = Client(end), interval, True, 0
-        self.thread = threading.Thread(target=self.run, daemon=True)
-        self.thread.start()
-
-    def run(self) -> None:
-        """Asks until it is stopped, or macsecd ends."""
-        with contextlib.suppress(OSError):
-            while self.goes_on:
-                self.client.ask("port")
-                self.count += 1
-                time.sleep(self.interval)
+        words = [sys.executable, str(ROOT / "device/tests/macsecd_polls.py"), end.socket, str(interval)]
+        self.process = subprocess.Popen(words, stdin=subprocess.PIPE, stdout=subprocess.PIPE, text=True)
+        assert self.process.stdout is not None
+        self.process.stdout.readline()
+        self.count = 0
 
     def stop(self) -> float:
         """Stops it. Returns the slowest answer in seconds."""
-        self.goes_on = False
-        self.thread.join()
-        self.client.socket.close()
-        return self.client.slowest
+        words = self.process.communicate()[0].split()
+        self.count = int(words[0])
+        return float(words[1])
 
 
 class Manager:
@@ -356,6 +352,7 @@ def check_many_keys(world: World, sender: pathlib.Path, keys: int, longest: floa
     a.write_config()
     a.config.write_text("device link link0\ndevice shared\ndevice transient\n")
     a.create_journal()
+    a.prefix = ["chrt", "-f", "10"] if shutil.which("chrt") else []  # other processes make no pauses
     a.start()
     client = take_over(a)
     seconds, pause, polls = use_keys(client, range(keys), sender)
