@@ -533,14 +533,16 @@ void port_client_gone(struct device *d, int client);
 struct life {
     int socket; /* of rtnetlink */
     bool up;    /* is LINK up, with carrier? */
+    bool lost;  /* did the system drop reports since it was asked? */
 };
 
 /* Opens the socket, and gives TAP LINK's carrier. Returns 0, or the exit status after a message. */
 int life_open(struct device *d);
 /* Reads what the system reports. Returns false, after a message, if LINK is gone. */
 bool life_read(struct device *d);
-/* To be called each second: looks at TAP's address. */
-void life_tick(struct device *d);
+/* To be called each second: asks for LINK's state, looks at TAP's address, and sets its carrier. Returns false, after a
+ * message, if the system can't be asked. */
+bool life_tick(struct device *d);
 
 /* ---- service.c: the service manager ---- */
 

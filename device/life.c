@@ -1,5 +1,8 @@
 /* LINK goes up and down, changes and ends: what rtnetlink reports in LINK's namespace. TAP can be in another one, so
- * its file says what becomes of it. */
+ * its file says what becomes of it.
+ *
+ * The system drops reports while the socket's queue is full, and also the answer to a question. So a question is asked
+ * when the queue is empty, and each second, whatever was reported. */
 #define _GNU_SOURCE
 #include "device.h"
 #include <errno.h>
@@ -12,6 +15,9 @@
 
 /* A message of rtnetlink about a device has at most this many octets. */
 enum { MESSAGE = 32768 };
+
+/* The most messages that are read in one call, so that a busy system does not keep macsecd from its frames. */
+enum { MESSAGES = 256 };
 
 static _Alignas(struct nlmsghdr) char buffer[MESSAGE];
 
@@ -33,7 +39,8 @@ static int ask(const struct life *f, int index) {
     do
         sent = send(f->socket, &request, sizeof request, 0);
     while (sent < 0 && errno == EINTR);
-    if (sent == (ssize_t)sizeof request)
+    /* Without memory for it, the question is asked again in a second. */
+    if (sent == (ssize_t)sizeof request || errno == ENOBUFS || errno == ENOMEM || errno == EAGAIN)
         return 0;
     message_of_errno("rtnetlink");
     return ENDS_FAILED;
@@ -69,10 +76,13 @@ static void note_address(struct device *d, const uint8_t *address, size_t length
     link_make_promiscuous(&d->link);
 }
 
-void life_tick(struct device *d) {
+/* Nobody reports that a program has changed TAP's address or its carrier. */
+bool life_tick(struct device *d) {
     uint8_t address[6];
     if (tap_address(&d->tap, address) && memcmp(address, d->link.address, sizeof address) != 0)
         link_make_promiscuous(&d->link);
+    port_set_carrier(d);
+    return ask(&d->life, d->link.index) == 0;
 }
 
 static void note_attributes(struct device *d, const struct ifinfomsg *about, size_t length) {
@@ -138,32 +148,41 @@ static bool read_reports(struct device *d, size_t length) {
     return true;
 }
 
+/* Reads a message. Returns its length; 0 if none was there, or if it is not the system's; or -1. */
+static ssize_t read_message(struct life *f) {
+    struct sockaddr_nl from;
+    socklen_t room = sizeof from;
+    ssize_t length;
+    do
+        length = recvfrom(f->socket, buffer, sizeof buffer, MSG_DONTWAIT, (struct sockaddr *)&from, &room);
+    while (length < 0 && errno == EINTR);
+    return length > 0 && from.nl_pid != 0 ? 0 : length;
+}
+
 bool life_read(struct device *d) {
-    for (;;) {
-        struct sockaddr_nl from;
-        socklen_t room = sizeof from;
-        ssize_t length = recvfrom(d->life.socket, buffer, sizeof buffer, MSG_DONTWAIT, (struct sockaddr *)&from, &room);
-        if (length < 0 && errno == EINTR)
-            continue;
-        if (length < 0 && errno == EAGAIN)
+    for (int i = 0; i < MESSAGES; i++) {
+        ssize_t length = read_message(&d->life);
+        if (length < 0 && errno == EAGAIN && !d->life.lost)
             return true;
-        if (length < 0 && errno == ENOBUFS) { /* reports were lost: ask */
+        if (length < 0 && errno == EAGAIN) { /* the queue is empty now */
+            d->life.lost = false;
             if (ask(&d->life, d->link.index) != 0)
                 return false;
-            continue;
-        }
-        if (length < 0) {
+        } else if (length < 0 && errno == ENOBUFS) {
+            d->life.lost = true;
+        } else if (length < 0) {
             message_of_errno("rtnetlink");
             return false;
-        }
-        if (from.nl_pid == 0 && !read_reports(d, (size_t)length)) /* 0: the system, and no other process */
+        } else if (!read_reports(d, (size_t)length)) {
             return false;
+        }
     }
+    return true;
 }
 
 int life_open(struct device *d) {
     struct sockaddr_nl address = { .nl_family = AF_NETLINK, .nl_groups = RTMGRP_LINK };
-    d->life.up = false;
+    d->life.up = d->life.lost = false;
     d->life.socket = socket(AF_NETLINK, SOCK_RAW | SOCK_NONBLOCK | SOCK_CLOEXEC, NETLINK_ROUTE);
     if (d->life.socket < 0 || bind(d->life.socket, (const struct sockaddr *)&address, sizeof address) != 0) {
         message_of_errno("rtnetlink");

@@ -119,9 +119,8 @@ static int on_clock(struct device *d) {
     numbers_tick(d->numbers, d->endpoint);
     link_count_lost(&d->link, &d->counts);
     port_tick(d);
-    life_tick(d);
     service_notify("WATCHDOG=1");
-    return GOES_ON;
+    return life_tick(d) ? GOES_ON : ENDS_FAILED;
 }
 
 /* While a client's answer waits, its next request is not read. */

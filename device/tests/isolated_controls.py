@@ -118,7 +118,12 @@ CONTROLS: dict[str, list[Control]] = {
             (),
             ("TAP is deleted",),
         ),
-        Control("TAP's address is not read", ("loop.c", "    life_tick(d);\n", ""), (), ("TAP's new address",)),
+        Control(
+            "TAP's address is not read",
+            ("loop.c", "return life_tick(d) ?", "return true ?"),
+            (),
+            ("TAP's new address",),
+        ),
         Control(
             "no release with `device shared`",
             ("macsec-link", "release() {\n", 'release() {\n    [ "$way" != shared ] || return 0\n'),
