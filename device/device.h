@@ -105,7 +105,7 @@ void config_wipe(struct config *c);
 
 struct counts {
     uint64_t link_in;        /* frames that were read from LINK */
-    uint64_t link_lost;      /* frames that LINK's socket had no space for: they were not read */
+    uint64_t link_lost;      /* frames that LINK's socket had no space for, or that can't be read from it */
     uint64_t link_too_short; /* frames of LINK that the endpoint refused: fewer than 14 octets */
     uint64_t link_too_long;  /* frames of LINK that the endpoint refused: more than 9,248 octets */
     uint64_t no_endpoint;    /* frames of LINK while there is no endpoint */
@@ -137,6 +137,7 @@ struct link {
     uint32_t mtu;
     uint8_t address[6];
     bool promiscuous;
+    uint64_t unreadable; /* frames that the system can't describe, since they were last counted */
     char name[IF_NAMESIZE];
 };
 
@@ -146,15 +147,24 @@ struct frame {
     size_t length;
 };
 
+/* A frame of LINK as the system has it, which may leave work to a network card. */
+struct unfinished {
+    uint8_t *octets;
+    size_t length;
+    bool lacks_sum;                      /* is its checksum to be computed? */
+    bool is_udp;                         /* are its segments of UDP, and not of TCP? */
+    uint16_t sum_start, sum_at, segment; /* what the checksum covers, where it is, and the data of a segment or 0 */
+};
+
 /* What became of a call to a device: it was done, it can't be done now, or the device is gone. */
 enum outcome { DONE, BUSY, GONE };
 
 /* Opens LINK, in the namespace that the process is in. Returns 0, or the exit status after a message. */
 int link_open(struct link *l, const char *name);
 /* Reads at most BATCH frames. A VLAN tag that the system took out of a frame is in it again. */
-enum outcome link_read(struct link *l, struct frame frames[BATCH], unsigned *count);
-/* Adds a copy of a frame to those that wait. At most BATCH frames may wait. */
-void link_append(const uint8_t *octets, size_t length);
+enum outcome link_read(struct link *l, struct unfinished frames[BATCH], unsigned *count);
+/* Adds a copy of a frame to those that wait. If BATCH frames wait, it is counted as refused. */
+void link_append(const uint8_t *octets, size_t length, struct counts *c);
 /* How many frames wait. */
 unsigned link_waiting(void);
 /* Sends the frames that wait. BUSY: some still wait, until LINK can be written to. */
@@ -163,6 +173,25 @@ enum outcome link_flush(struct link *l, struct counts *c);
 void link_count_lost(struct link *l, struct counts *c);
 /* Makes LINK pass frames to any address. */
 void link_make_promiscuous(struct link *l);
+
+/* ---- segments.c: frames of LINK that the system has not completed ---- */
+
+/* The octets of the longest header that is divided from its data. */
+enum { HEAD = 256 };
+
+/* A frame of LINK that is divided into segments. */
+struct segments {
+    struct unfinished of;
+    size_t ip, transport, header; /* where the headers begin, and what each segment gets; 0: there is one segment */
+    size_t at;                    /* where the data of the next segment begin */
+    bool is_ipv4;
+    uint8_t head[HEAD];
+};
+
+/* Completes a frame. If it can't be divided it stays one, which may be too long. */
+void segments_begin(struct segments *s, const struct unfinished *u);
+/* Takes the next segment, which is there until the next call. Returns false if there is none. */
+bool segments_next(struct segments *s, struct frame *frame);
 
 /* ---- tap.c: TAP, the network device of the client ---- */
 

@@ -22,7 +22,7 @@ static uint32_t send_one(struct device *d, const struct frame *frame) {
         d->counts.no_reservation++;
     history_sent(&d->history, &sent);
     if (sent.length > 0)
-        link_append(sent.frame, sent.length);
+        link_append(sent.frame, sent.length, &d->counts);
     return sent.fate;
 }
 
@@ -53,19 +53,28 @@ enum outcome frames_from_client(struct device *d) {
     return link_flush(&d->link, &d->counts);
 }
 
+/* Judges a frame of LINK. Returns GONE if TAP is. */
+static enum outcome receive_one(struct device *d, const struct frame *frame) {
+    macsec_received got;
+    uint32_t status = macsec_receive(d->endpoint, frame->octets, frame->length, &got);
+    d->counts.link_in++;
+    count_fault(status, &d->counts.link_too_short, &d->counts.link_too_long);
+    d->counts.no_endpoint += status == MACSEC_E_EMPTY;
+    history_received(&d->history, &got);
+    return got.delivered ? deliver(d, &got) : DONE;
+}
+
 enum outcome frames_from_link(struct device *d) {
-    struct frame frames[BATCH];
+    struct unfinished frames[BATCH];
     unsigned count;
     enum outcome outcome = link_read(&d->link, frames, &count);
     for (unsigned i = 0; i < count; i++) {
-        macsec_received got;
-        uint32_t status = macsec_receive(d->endpoint, frames[i].octets, frames[i].length, &got);
-        d->counts.link_in++;
-        count_fault(status, &d->counts.link_too_short, &d->counts.link_too_long);
-        d->counts.no_endpoint += status == MACSEC_E_EMPTY;
-        history_received(&d->history, &got);
-        if (got.delivered && deliver(d, &got) == GONE)
-            return GONE;
+        struct segments s;
+        struct frame frame;
+        segments_begin(&s, &frames[i]);
+        while (segments_next(&s, &frame))
+            if (receive_one(d, &frame) == GONE)
+                return GONE;
     }
     return outcome;
 }

@@ -4,6 +4,7 @@
 #include <arpa/inet.h>
 #include <errno.h>
 #include <linux/if_packet.h>
+#include <linux/virtio_net.h>
 #include <net/ethernet.h>
 #include <net/if.h>
 #include <string.h>
@@ -17,17 +18,22 @@ enum { TAG = 4, TAG_AT = 12 };
 /* The octets that the socket can hold until macsecd reads them: some 2,000 frames of the usual length. */
 enum { BUFFER = 4 << 20 };
 
+/* The longest frame that the system makes of segments, and VIRTIO_NET_HDR_GSO_UDP_L4, which older headers lack. */
+enum { WHOLE = 65550, UDP_SEGMENTS = 5 };
+
 /* A received frame, with space before it for a VLAN tag. The buffer is one octet longer than the longest frame, so that
- * a longer one is seen. */
+ * a longer one is seen. The system gives a page of it once a frame is there. */
 struct received {
-    uint8_t octets[TAG + MACSEC_FRAME_MAX + 1];
+    struct virtio_net_hdr about;
+    uint8_t octets[TAG + WHOLE + 1];
     _Alignas(struct cmsghdr) uint8_t control[CMSG_SPACE(sizeof(struct tpacket_auxdata))];
 };
 
 static struct received received[BATCH];
+/* The frames that wait, in a ring: `waiting_count` from `waiting_first` on. */
 static uint8_t waiting[BATCH][MACSEC_FRAME_MAX];
 static size_t waiting_length[BATCH];
-static unsigned waiting_first, waiting_count; /* those from `first` to `count` wait */
+static unsigned waiting_first, waiting_count;
 
 /* ---- Opening ---- */
 
@@ -102,6 +108,8 @@ int link_open(struct link *l, const char *name) {
     if (result == 0)
         result = set(l->socket, SOL_PACKET, PACKET_AUXDATA, &one, sizeof one, "auxiliary data");
     if (result == 0)
+        result = set(l->socket, SOL_PACKET, PACKET_VNET_HDR, &one, sizeof one, "what frames lack");
+    if (result == 0)
         result = set(l->socket, SOL_PACKET, PACKET_IGNORE_OUTGOING, &one, sizeof one, "ignoring sent frames");
     if (result == 0)
         result = join(l, PACKET_MR_ALLMULTI, "all multicast frames");
@@ -136,16 +144,34 @@ static bool vlan_tag(struct msghdr *header, uint8_t tag[TAG]) {
     return false;
 }
 
-/* The frame as it was on the link. */
-static struct frame frame_of(struct received *r, size_t length, struct msghdr *header) {
+/* What the system left to a network card that is not there. A frame that is longer than the buffer is left alone. */
+static struct unfinished unfinished(struct received *r, size_t length) {
+    const struct virtio_net_hdr *v = &r->about;
+    uint8_t kind = v->gso_type & (uint8_t)~VIRTIO_NET_HDR_GSO_ECN;
+    struct unfinished u = { .octets = r->octets + TAG, .length = length };
+    if (length > WHOLE)
+        return u;
+    u.lacks_sum = (v->flags & VIRTIO_NET_HDR_F_NEEDS_CSUM) != 0;
+    u.sum_start = v->csum_start;
+    u.sum_at = (uint16_t)(v->csum_start + v->csum_offset);
+    u.is_udp = kind == UDP_SEGMENTS;
+    if (u.is_udp || kind == VIRTIO_NET_HDR_GSO_TCPV4 || kind == VIRTIO_NET_HDR_GSO_TCPV6)
+        u.segment = v->gso_size;
+    return u;
+}
+
+/* The frame with its VLAN tag. */
+static struct unfinished frame_of(struct received *r, size_t length, struct msghdr *header) {
     uint8_t tag[TAG];
-    struct frame frame = { r->octets + TAG, length };
+    struct unfinished frame = unfinished(r, length);
     if (length < TAG_AT || !vlan_tag(header, tag))
         return frame;
     memmove(r->octets, r->octets + TAG, TAG_AT);
     memcpy(r->octets + TAG_AT, tag, TAG);
     frame.octets = r->octets;
     frame.length += TAG;
+    frame.sum_start = (uint16_t)(frame.sum_start + TAG);
+    frame.sum_at = (uint16_t)(frame.sum_at + TAG);
     return frame;
 }
 
@@ -154,27 +180,34 @@ static bool is_gone(int error) {
     return error == ENODEV || error == ENXIO || error == EBADF;
 }
 
-enum outcome link_read(struct link *l, struct frame frames[BATCH], unsigned *count) {
-    struct mmsghdr headers[BATCH];
-    struct iovec parts[BATCH];
-    int got;
-    memset(headers, 0, sizeof headers);
+/* Prepares a call that reads frames. */
+static void prepare(struct mmsghdr headers[BATCH], struct iovec parts[BATCH][2]) {
+    memset(headers, 0, BATCH * sizeof *headers);
     for (unsigned i = 0; i < BATCH; i++) {
-        parts[i].iov_base = received[i].octets + TAG;
-        parts[i].iov_len = sizeof received[i].octets - TAG;
-        headers[i].msg_hdr.msg_iov = &parts[i];
-        headers[i].msg_hdr.msg_iovlen = 1;
+        parts[i][0] = (struct iovec){ &received[i].about, sizeof received[i].about };
+        parts[i][1] = (struct iovec){ received[i].octets + TAG, sizeof received[i].octets - TAG };
+        headers[i].msg_hdr.msg_iov = parts[i];
+        headers[i].msg_hdr.msg_iovlen = 2;
         headers[i].msg_hdr.msg_control = received[i].control;
         headers[i].msg_hdr.msg_controllen = sizeof received[i].control;
     }
+}
+
+enum outcome link_read(struct link *l, struct unfinished frames[BATCH], unsigned *count) {
+    struct mmsghdr headers[BATCH];
+    struct iovec parts[BATCH][2];
+    int got;
+    prepare(headers, parts);
     *count = 0;
     do
         got = recvmmsg(l->socket, headers, BATCH, MSG_DONTWAIT, NULL);
     while (got < 0 && errno == EINTR);
-    if (got < 0)
+    if (got < 0) {
+        l->unreadable += errno == EINVAL; /* segments of another protocol, or that a card has joined (LRO) */
         return is_gone(errno) ? GONE : BUSY;
+    }
     for (int i = 0; i < got; i++)
-        frames[i] = frame_of(&received[i], headers[i].msg_len, &headers[i].msg_hdr);
+        frames[i] = frame_of(&received[i], headers[i].msg_len - sizeof received[i].about, &headers[i].msg_hdr);
     *count = (unsigned)got;
     return DONE;
 }
@@ -184,49 +217,62 @@ void link_count_lost(struct link *l, struct counts *c) {
     socklen_t length = sizeof lost;
     if (getsockopt(l->socket, SOL_PACKET, PACKET_STATISTICS, &lost, &length) == 0) /* it also resets them */
         c->link_lost += lost.tp_drops;
+    c->link_lost += l->unreadable;
+    l->unreadable = 0;
 }
 
 /* ---- Sending ---- */
 
 unsigned link_waiting(void) {
-    return waiting_count - waiting_first;
+    return waiting_count;
 }
 
-void link_append(const uint8_t *octets, size_t length) {
-    if (waiting_first == waiting_count)
-        waiting_first = waiting_count = 0;
-    memcpy(waiting[waiting_count], octets, length);
-    waiting_length[waiting_count++] = length;
-}
-
-/* Sends what waits, as far as the system takes it. Returns what sendmmsg does. */
-static int send_waiting(const struct link *l) {
-    struct mmsghdr headers[BATCH];
-    struct iovec parts[BATCH];
-    unsigned count = link_waiting();
-    memset(headers, 0, sizeof headers);
-    for (unsigned i = 0; i < count; i++) {
-        parts[i].iov_base = waiting[waiting_first + i];
-        parts[i].iov_len = waiting_length[waiting_first + i];
-        headers[i].msg_hdr.msg_iov = &parts[i];
-        headers[i].msg_hdr.msg_iovlen = 1;
+void link_append(const uint8_t *octets, size_t length, struct counts *c) {
+    unsigned at = (waiting_first + waiting_count) % BATCH;
+    if (waiting_count == BATCH) {
+        c->link_refused++;
+        return;
     }
-    return sendmmsg(l->socket, headers, count, MSG_DONTWAIT);
+    memcpy(waiting[at], octets, length);
+    waiting_length[at] = length;
+    waiting_count++;
+}
+
+/* Removes the first frames that wait. */
+static void remove_waiting(unsigned count) {
+    waiting_first = (waiting_first + count) % BATCH;
+    waiting_count -= count;
+}
+
+/* Sends what waits, as far as the system takes it. Nothing is left to a network card. Returns what sendmmsg does. */
+static int send_waiting(const struct link *l) {
+    static struct virtio_net_hdr complete;
+    struct mmsghdr headers[BATCH];
+    struct iovec parts[BATCH][2];
+    memset(headers, 0, sizeof headers);
+    for (unsigned i = 0; i < waiting_count; i++) {
+        unsigned at = (waiting_first + i) % BATCH;
+        parts[i][0] = (struct iovec){ &complete, sizeof complete };
+        parts[i][1] = (struct iovec){ waiting[at], waiting_length[at] };
+        headers[i].msg_hdr.msg_iov = parts[i];
+        headers[i].msg_hdr.msg_iovlen = 2;
+    }
+    return sendmmsg(l->socket, headers, waiting_count, MSG_DONTWAIT);
 }
 
 enum outcome link_flush(struct link *l, struct counts *c) {
-    while (link_waiting() > 0) {
+    while (waiting_count > 0) {
         int sent = send_waiting(l);
         if (sent > 0) {
             c->link_out += (unsigned)sent;
-            waiting_first += (unsigned)sent;
+            remove_waiting((unsigned)sent);
         } else if (errno == EAGAIN) {
             return BUSY;
         } else if (is_gone(errno)) {
             return GONE;
         } else if (errno != EINTR) {
             c->link_refused++; /* this frame alone: too long for LINK, LINK is down, or its queue is full */
-            waiting_first++;
+            remove_waiting(1);
         }
     }
     return DONE;

@@ -1,0 +1,197 @@
+"""Validation modes that deliver frames without protection: over a virtual LINK these come without a checksum, and several
+segments in one."""
+
+from __future__ import annotations
+
+import hashlib
+import itertools
+import random
+import socket
+import struct
+import threading
+
+from house.reporting import call, report
+from macsecd_losses import count_all
+from macsecd_world import SOL_PACKET, End, Packets, World, checksum, inside
+
+UDP_SEGMENT = 103
+BROADCAST = bytes.fromhex("ffffffffffff")
+# An IPv4 address and an IPv6 address of each end, which are LINK's at the end without macsecd.
+FAMILIES = ((socket.AF_INET, "10.9.0."), (socket.AF_INET6, "fd09::"))
+
+
+def run(end: End, *words: str) -> str:
+    """Runs a command in the namespace of an end. Returns what it prints."""
+    return call("ip", "netns", "exec", end.namespace, *words)
+
+
+def wrong_sums(end: End) -> int:
+    """How many checksums of TCP and UDP the system has found wrong."""
+    shown = run(end, "cat", "/proc/net/snmp", "/proc/net/snmp6")
+    lines = [line.split() for line in shown.splitlines()]
+    found = 0
+    for names, values in zip(lines, lines[1:]):
+        if names[0] == values[0] and names[0] in ("Tcp:", "Udp:"):
+            found += int(dict(zip(names, values))["InCsumErrors"])
+    return found + sum(int(it[1]) for it in lines if it[0] in ("Udp6InCsumErrors", "Tcp6InCsumErrors"))
+
+
+def transfer(by: End, to: End, family: int, address: str, octets: int, seed: str) -> None:
+    """Sends random octets by TCP, which have to arrive as they are."""
+    data = random.Random(seed).randbytes(octets)
+    with inside(to.namespace):
+        listener = socket.socket(family, socket.SOCK_STREAM)
+    listener.bind((address, 9030))
+    listener.listen()
+    listener.settimeout(20)
+    with inside(by.namespace):
+        sender = socket.socket(family, socket.SOCK_STREAM)
+    sender.settimeout(20)
+    sender.connect((address, 9030))
+    receiver, _ = listener.accept()
+    receiver.settimeout(20)
+
+    def send() -> None:
+        sender.sendall(data)
+        sender.shutdown(socket.SHUT_WR)
+
+    thread = threading.Thread(target=send)
+    thread.start()
+    got = hashlib.sha256()
+    while part := receiver.recv(1 << 18):
+        got.update(part)
+    thread.join()
+    for each in (sender, receiver, listener):
+        each.close()
+    report(got.digest() == hashlib.sha256(data).digest(), f"plain: TCP to {address}: other octets arrived")
+
+
+def datagrams(by: End, to: End, family: int, address: str, seed: str) -> None:
+    """Sends datagrams, which the sender lets the system cut out of long ones. All have to arrive as they are."""
+    data = random.Random(seed).randbytes(20 * 1200 + 77)
+    with inside(to.namespace):
+        receiver = socket.socket(family, socket.SOCK_DGRAM)
+    receiver.bind((address, 9031))
+    receiver.settimeout(5)
+    with inside(by.namespace):
+        sender = socket.socket(family, socket.SOCK_DGRAM)
+    sender.setsockopt(socket.IPPROTO_UDP, UDP_SEGMENT, 1200)
+    sender.sendto(data, (address, 9031))
+    got = b""
+    try:
+        while len(got) < len(data):
+            got += receiver.recv(65536)
+    except socket.timeout:
+        pass
+    report(got == data, f"plain: UDP to {address}: {len(got)} octets of {len(data)}")
+    sender.close()
+    receiver.close()
+
+
+def check_mode(a: End, b: End, octets: int, seed: str) -> None:
+    """TCP and UDP both ways, by IPv4 and IPv6. End a has no macsecd."""
+    before = b.counters()
+    for family, address in FAMILIES:
+        for by, to in ((a, b), (b, a)):
+            transfer(by, to, family, f"{address}{to.number}", octets, seed)
+            datagrams(by, to, family, f"{address}{to.number}", seed)
+    report(wrong_sums(b) == 0 == wrong_sums(a), f"plain: wrong checksums: {wrong_sums(a)}, {wrong_sums(b)}")
+    c = b.counters()
+    untagged = c["InPktsUntagged"] - before["InPktsUntagged"]
+    report(untagged > 2 * octets // 1500, f"plain: only {untagged} frames without a tag were delivered")
+    report(c["device LinkTooLong"] == 0 == c["device LinkLost"], f"plain: frames were too long or lost: {c}")
+    count_all(b)
+
+
+def check_plain(world: World, octets: int, seed: str) -> None:
+    """A network that is changed over: one end has no macsecd, the other delivers and sends without protection."""
+    world.prepare()
+    a, b = world.ends
+    allowed = "device allow validate check\ndevice allow validate disabled\ndevice allow protect off\n"
+    b.write_config(device="device link link0\n" + allowed)
+    b.start()
+    b.carry_out("A protect off")
+    mtu = b.ip("link", "show", "macsec0").split(" mtu ")[1].split()[0]
+    run(a, "sysctl", "-qw", "net.ipv6.conf.link0.disable_ipv6=0")
+    a.ip("link", "set", "link0", "mtu", mtu)
+    a.ip("addr", "replace", "10.9.0.1/24", "dev", "link0")
+    a.ip("addr", "replace", "fd09::1/64", "dev", "link0", "nodad")
+    b.ip("neigh", "flush", "dev", "macsec0")
+    for mode in ("check", "disabled"):
+        b.carry_out(f"A validate {mode}")
+        check_mode(a, b, octets, seed)
+    check_segments(a, b)
+
+
+# ---- Frames with a VLAN tag, as a sender leaves them to a network card
+
+TCP4, TCP6, UDP, LACKS_SUM, SIZE = 1, 4, 5, 1, 1000
+FLAGS = 0x99  # FIN, PSH, ACK and CWR
+
+
+def unfinished(version: int, is_udp: bool, data: bytes) -> tuple[bytes, bytes]:
+    """What is before a frame at a packet socket, and a frame with a VLAN tag whose segments have SIZE octets of data."""
+    own, peer = (
+        (b"\x0a\x09\0\1", b"\x0a\x09\0\2") if version == 4 else (b"\xfd\x09" + bytes(14), b"\xfd\x0a" + bytes(14))
+    )
+    protocol, length = (17, 8 + len(data)) if is_udp else (6, 32 + len(data))
+    pseudo = ~checksum(own + peer + struct.pack("!II", length, protocol)) & 0xFFFF
+    if is_udp:
+        head = struct.pack("!HHHH", 7, 9, length, pseudo)
+    else:
+        head = struct.pack("!HHIIBBHHH", 7, 9, 0xFFFFFF00, 5, 0x80, FLAGS, 512, pseudo, 0) + b"\1\1\x08\x0a" + bytes(8)
+    if version == 4:
+        ip = struct.pack("!BBHHHBBH", 0x45, 1, 20 + length, 0xFFFE, 0x4000, 64, protocol, 0) + own + peer
+        ip = ip[:10] + struct.pack("!H", checksum(ip)) + ip[12:]
+    else:
+        ip = struct.pack("!IHBB", 0x60000000, length, protocol, 64) + own + peer
+    ethernet = BROADCAST + bytes.fromhex("020000000009" "81000005") + (b"\x08\0" if version == 4 else b"\x86\xdd")
+    kind, at = (UDP, 6) if is_udp else (TCP4 if version == 4 else TCP6, 16)
+    start = len(ethernet) + len(ip)
+    about = struct.pack("=BBHHHH", LACKS_SUM, kind, start + len(head), SIZE, start, at)
+    return about, ethernet + ip + head + data
+
+
+def segments(frames: list[bytes], version: int, is_udp: bool) -> list[bytes]:
+    """The data of the segments, each of which has to have right lengths and checksums."""
+    got = []
+    for number, frame in enumerate(frames):
+        report(frame[12:16] == bytes.fromhex("81000005"), f"plain: a segment without its tag: {frame[:20].hex()}")
+        packet = frame[18:]
+        if version == 4:
+            ip, whole = packet[:20], int.from_bytes(packet[2:4], "big")
+            addresses, right = (
+                ip[12:],
+                checksum(ip) == 0 and int.from_bytes(ip[4:6], "big") == (0xFFFE + number) % 65536,
+            )
+        else:
+            ip, whole = packet[:40], 40 + int.from_bytes(packet[4:6], "big")
+            addresses, right = ip[8:], True
+        body = packet[len(ip) :]
+        pseudo = addresses + struct.pack("!II", len(body), 17 if is_udp else 6)
+        right = right and whole == len(packet) and checksum(pseudo + body) == 0
+        if is_udp:
+            right = right and int.from_bytes(body[4:6], "big") == len(body)
+        else:
+            last = number == len(frames) - 1
+            flags = 0x10 | (0x09 if last else 0) | (0x80 if number == 0 else 0)
+            right = right and body[13] == flags
+            right = right and int.from_bytes(body[4:8], "big") == (0xFFFFFF00 + SIZE * number) % (1 << 32)
+        report(right, f"plain: segment {number} of IPv{version}: {packet[:60].hex()}")
+        got.append(body[8 if is_udp else 32 :])
+    return got
+
+
+def check_segments(a: End, b: End) -> None:
+    """Frames of several segments with a VLAN tag."""
+    wire, client = Packets(a.namespace, "link0"), Packets(b.namespace, "macsec0")
+    wire.socket.setsockopt(SOL_PACKET, 15, 1)  # PACKET_VNET_HDR
+    data = random.Random(1).randbytes(5 * SIZE - 321)
+    for version, is_udp in itertools.product((4, 6), (False, True)):
+        client.frames(0.1)
+        wire.send(b"".join(unfinished(version, is_udp, data)))
+        found = [it for it in client.frames(0.3) if it[6:12] == bytes.fromhex("020000000009")]
+        got = segments(found, version, is_udp)
+        report(len(got) == 5 and b"".join(got) == data, f"plain: IPv{version}: {[len(it) for it in got]}")
+    for each in (wire, client):
+        each.close()
