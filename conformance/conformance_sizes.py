@@ -34,16 +34,14 @@ def cited(name: str) -> tuple[str, ...]:
     return tuple(it for it in found if os.path.isfile(f"{ROOT}/crates/{it.replace('/', '/specs/')}.antt"))
 
 
+@functools.lru_cache(None)
+def whole(name: str) -> frozenset[str]:
+    return frozenset({name}).union(*map(whole, cited(name)))
+
+
 def below(names: Iterable[str]) -> set[str]:
     """These files, and all that they cite, directly or not."""
-    found: set[str] = set()
-    left = list(names)
-    while left:
-        name = left.pop()
-        if name not in found:
-            found.add(name)
-            left += cited(name)
-    return found
+    return set().union(*map(whole, names))
 
 
 def lines(paths: Iterable[str]) -> int:
