@@ -201,6 +201,18 @@ static void check_reserved(uint32_t status, const uint64_t *reserved, size_t cou
 
 #define RESERVED_OF(answer) (answer).reserved, sizeof(answer).reserved / sizeof(answer).reserved[0]
 
+/* What a call has to fill in, with these values before it: the functions show_.. print it, and return the status. */
+static void *filled;
+
+static void *room_with(const void *values, size_t size) {
+    filled = memcpy(room_of(size), values, size);
+    return filled;
+}
+
+#define ROOM(type, ...) room_with(&(type){ __VA_ARGS__ }, sizeof(type))
+#define RECORD (filled = room_of(sizeof(macsec_record)))
+#define RX_COUNTERS ROOM(macsec_rx_counters, 7, 7, 7, 7, 7, 7, { 7, 7, 7, 7, 7, 7, 7, 7, 7, 7 })
+
 /* Prints a number of 128 bits, given as two halves. */
 static void print_halves(uint64_t high, uint64_t low) {
     printf(" %llx%016llx", (unsigned long long)high, (unsigned long long)low);
@@ -263,34 +275,19 @@ static uint32_t journal_compacted(const char *word) {
     return status;
 }
 
-static uint32_t journal_header(const char *word) {
-    macsec_record *out = room_of(sizeof *out);
+static const uint8_t *sealed_salt(const char *word) {
     if (length_of(word) != 24)
         fail("a salt has another length");
-    uint32_t status = macsec_journal_header(sealed(word), out);
-    print_octets(out->octets, sizeof out->octets);
+    return sealed(word);
+}
+
+static uint32_t show_record(uint32_t status) {
+    print_octets(((macsec_record *)filled)->octets, sizeof(macsec_record));
     return status;
 }
 
-/* The record that a transmit association needs next, or what is to be saved of a receive association. */
-static uint32_t record(const macsec_endpoint *e, const char *name, char **w) {
-    macsec_record *out = room_of(sizeof *out);
-    uint32_t status = strcmp(name, "reserve_wanted") == 0
-                          ? macsec_reserve_wanted(e, (uint8_t)number(w[0]), number(w[1]), out)
-                          : macsec_reserve_to_save(e, sealed_sci(w[0]), (uint8_t)number(w[1]), out);
-    print_octets(out->octets, sizeof out->octets);
-    return status;
-}
-
-/* The floor of a key, or of a receive association under a key. */
-static uint32_t reserved_floor(const macsec_endpoint *e, const char *name, char **w) {
-    uint64_t *out = room_of(sizeof *out);
-    *out = 7;
-    uint32_t status =
-        strcmp(name, "reserve_tx_floor") == 0
-            ? macsec_reserve_tx_floor(e, (uint16_t)number(w[0]), out)
-            : macsec_reserve_rx_floor(e, sealed_sci(w[0]), (uint8_t)number(w[1]), (uint16_t)number(w[2]), out);
-    print_number(*out);
+static uint32_t show_floor(uint32_t status) {
+    print_number(*(uint64_t *)filled);
     return status;
 }
 
@@ -338,28 +335,21 @@ static uint32_t seal_frame(char **w) {
     return status;
 }
 
-static uint32_t options(const macsec_endpoint *e) {
-    macsec_options *shown = room_of(sizeof *shown);
-    *shown = (macsec_options){ 7, 7, 7, false, false, { 7, 7, 7, 7, 7 } };
-    uint32_t status = macsec_get_options(e, shown);
-    check_reserved(status, RESERVED_OF(*shown));
-    print_number(shown->window);
-    printf(" %u %u %d %d", (unsigned)shown->mode, (unsigned)shown->form, shown->protect, shown->replay);
+static uint32_t show_options(uint32_t status) {
+    macsec_options *it = filled;
+    check_reserved(status, RESERVED_OF(*it));
+    print_number(it->window);
+    printf(" %u %u %d %d", (unsigned)it->mode, (unsigned)it->form, it->protect, it->replay);
     return status;
 }
 
-static uint32_t keys_left(const macsec_endpoint *e) {
-    uint32_t *left = room_of(sizeof *left);
-    *left = 7;
-    uint32_t status = macsec_keys_left(e, left);
-    print_number(*left);
+static uint32_t show_keys_left(uint32_t status) {
+    print_number(*(uint32_t *)filled);
     return status;
 }
 
-static uint32_t counters(const macsec_endpoint *e) {
-    macsec_counters *c = room_of(sizeof *c);
-    *c = (macsec_counters){ 7, 7, 7, 7, 7, 7, 7, 7, 7, 7, 7, { 7, 7, 7, 7, 7 } };
-    uint32_t status = macsec_get_counters(e, c);
+static uint32_t show_counters(uint32_t status) {
+    macsec_counters *c = filled;
     check_reserved(status, RESERVED_OF(*c));
     const uint64_t all[] = { c->in_pkts_untagged,    c->in_pkts_no_tag,      c->in_pkts_bad_tag,
                              c->in_pkts_reserved,    c->in_pkts_no_sa,       c->in_pkts_no_sa_error,
@@ -370,10 +360,8 @@ static uint32_t counters(const macsec_endpoint *e) {
     return status;
 }
 
-static uint32_t tx_counters(const macsec_endpoint *e) {
-    macsec_tx_counters *c = room_of(sizeof *c);
-    *c = (macsec_tx_counters){ 7, 7, 7, 7, { 7, 7, 7, 7 } };
-    uint32_t status = macsec_get_tx_counters(e, c);
+static uint32_t show_tx_counters(uint32_t status) {
+    macsec_tx_counters *c = filled;
     check_reserved(status, RESERVED_OF(*c));
     print_number(c->out_pkts_protected);
     print_number(c->out_pkts_encrypted);
@@ -382,18 +370,8 @@ static uint32_t tx_counters(const macsec_endpoint *e) {
     return status;
 }
 
-/* The counters of a channel, of its SA with this AN, or of its deleted SAs. */
-static uint32_t rx_counters(const macsec_endpoint *e, const char *name, char **w) {
-    macsec_rx_counters *c = room_of(sizeof *c);
-    *c = (macsec_rx_counters){ 7, 7, 7, 7, 7, 7, { 7, 7, 7, 7, 7, 7, 7, 7, 7, 7 } };
-    const uint8_t *sci = sealed_sci(w[0]);
-    uint32_t status;
-    if (strcmp(name, "get_rx_counters") == 0)
-        status = macsec_get_rx_counters(e, sci, c);
-    else if (strcmp(name, "get_removed_counters") == 0)
-        status = macsec_get_removed_counters(e, sci, c);
-    else
-        status = macsec_get_rx_sa_counters(e, sci, (uint8_t)number(w[1]), c);
+static uint32_t show_rx_counters(uint32_t status) {
+    macsec_rx_counters *c = filled;
     check_reserved(status, RESERVED_OF(*c));
     print_number(c->in_pkts_ok);
     print_number(c->in_pkts_unchecked);
@@ -404,28 +382,21 @@ static uint32_t rx_counters(const macsec_endpoint *e, const char *name, char **w
     return status;
 }
 
-static uint32_t rx_sc(const macsec_endpoint *e, size_t place) {
-    uint8_t *sci = room_of(8);
-    uint32_t status = macsec_get_rx_sc(e, place, sci);
-    print_octets(sci, 8);
+static uint32_t show_sci(uint32_t status) {
+    print_octets(filled, 8);
     return status;
 }
 
-static uint32_t tx_sa(const macsec_endpoint *e, uint8_t an) {
-    macsec_tx_sa *row = room_of(sizeof *row);
-    *row = (macsec_tx_sa){ 7, 7, 7, false, false, { 7, 7, 7, 7, 7 } };
-    uint32_t status = macsec_get_tx_sa(e, an, row);
+static uint32_t show_tx_sa(uint32_t status) {
+    macsec_tx_sa *row = filled;
     check_reserved(status, RESERVED_OF(*row));
     print_halves(row->next_high, row->next);
     printf(" %u %d %d", (unsigned)row->key, row->conf, row->on);
     return status;
 }
 
-static uint32_t rx_sa(const macsec_endpoint *e, char **w) {
-    macsec_rx_sa *row = room_of(sizeof *row);
-    *row = (macsec_rx_sa){ 7, 7, 7, 7, 7, 7, false, { 7, 7, 7 } };
-    const uint8_t *sci = sealed_sci(w[0]);
-    uint32_t status = macsec_get_rx_sa(e, sci, (uint8_t)number(w[1]), row);
+static uint32_t show_rx_sa(uint32_t status) {
+    macsec_rx_sa *row = filled;
     check_reserved(status, RESERVED_OF(*row));
     print_halves(row->next_high, row->next);
     print_halves(row->lowest_high, row->lowest);
@@ -480,21 +451,28 @@ static uint32_t call(macsec_endpoint *e, const char *name, char **w) {
     CALL("receive", receive(e, w[0]));
     CALL("answer", answer(e, w));
     CALL("seal", seal_frame(w));
-    CALL("get_options", options(e));
-    CALL("keys_left", keys_left(e));
-    CALL("get_counters", counters(e));
-    CALL("get_tx_counters", tx_counters(e));
-    CALL("get_rx_counters", rx_counters(e, name, w));
-    CALL("get_rx_sa_counters", rx_counters(e, name, w));
-    CALL("get_removed_counters", rx_counters(e, name, w));
-    CALL("get_rx_sc", rx_sc(e, (size_t)number(w[0])));
-    CALL("get_tx_sa", tx_sa(e, (uint8_t)number(w[0])));
-    CALL("get_rx_sa", rx_sa(e, w));
-    CALL("reserve_wanted", record(e, name, w));
-    CALL("reserve_to_save", record(e, name, w));
-    CALL("reserve_tx_floor", reserved_floor(e, name, w));
-    CALL("reserve_rx_floor", reserved_floor(e, name, w));
-    CALL("journal_header", journal_header(w[0]));
+    CALL("get_options",
+         show_options(macsec_get_options(e, ROOM(macsec_options, 7, 7, 7, false, false, { 7, 7, 7, 7, 7 }))));
+    CALL("keys_left", show_keys_left(macsec_keys_left(e, ROOM(uint32_t, 7))));
+    CALL("get_counters", show_counters(macsec_get_counters(
+                             e, ROOM(macsec_counters, 7, 7, 7, 7, 7, 7, 7, 7, 7, 7, 7, { 7, 7, 7, 7, 7 }))));
+    CALL("get_tx_counters",
+         show_tx_counters(macsec_get_tx_counters(e, ROOM(macsec_tx_counters, 7, 7, 7, 7, { 7, 7, 7, 7 }))));
+    CALL("get_rx_counters", show_rx_counters(macsec_get_rx_counters(e, sealed_sci(w[0]), RX_COUNTERS)));
+    CALL("get_rx_sa_counters",
+         show_rx_counters(macsec_get_rx_sa_counters(e, sealed_sci(w[0]), (uint8_t)number(w[1]), RX_COUNTERS)));
+    CALL("get_removed_counters", show_rx_counters(macsec_get_removed_counters(e, sealed_sci(w[0]), RX_COUNTERS)));
+    CALL("get_rx_sc", show_sci(macsec_get_rx_sc(e, (size_t)number(w[0]), (filled = room_of(8)))));
+    CALL("get_tx_sa", show_tx_sa(macsec_get_tx_sa(e, (uint8_t)number(w[0]),
+                                                  ROOM(macsec_tx_sa, 7, 7, 7, false, false, { 7, 7, 7, 7, 7 }))));
+    CALL("get_rx_sa", show_rx_sa(macsec_get_rx_sa(e, sealed_sci(w[0]), (uint8_t)number(w[1]),
+                                                  ROOM(macsec_rx_sa, 7, 7, 7, 7, 7, 7, false, { 7, 7, 7 }))));
+    CALL("reserve_wanted", show_record(macsec_reserve_wanted(e, (uint8_t)number(w[0]), number(w[1]), RECORD)));
+    CALL("reserve_to_save", show_record(macsec_reserve_to_save(e, sealed_sci(w[0]), (uint8_t)number(w[1]), RECORD)));
+    CALL("reserve_tx_floor", show_floor(macsec_reserve_tx_floor(e, (uint16_t)number(w[0]), ROOM(uint64_t, 7))));
+    CALL("reserve_rx_floor", show_floor(macsec_reserve_rx_floor(e, sealed_sci(w[0]), (uint8_t)number(w[1]),
+                                                                (uint16_t)number(w[2]), ROOM(uint64_t, 7))));
+    CALL("journal_header", show_record(macsec_journal_header(sealed_salt(w[0]), RECORD)));
     CALL("journal_compacted", journal_compacted(w[0]));
     return command(e, name, w);
 }
