@@ -1,6 +1,8 @@
 pub mod Decimals
 pub mod Examples
+pub mod DigitCodes
 pub mod HexDigits
+pub mod KeyDigits
 pub mod Keywords
 pub mod LastLine
 pub mod LinesLeft

@@ -1,6 +1,7 @@
 pub mod Limits
 pub mod Words
 pub mod Numerals
+pub mod Digits
 pub mod Fields
 pub mod Kinds
 pub mod Parts

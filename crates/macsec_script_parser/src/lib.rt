@@ -8,12 +8,14 @@
 //! what it wrote, to a writer whose octets a contract can name, is the one line of the fault. `read_text` returns at
 //! most 1,048,576 octets, or `ScriptLong`, `Memory` or `Read`. Over a reader whose octets a contract can name it
 //! returns all of them, and `ScriptLong` only if there are more. Each `CheckedEnd` is a configuration without a fault.
+//! The digits of a key are read by arithmetic (`key_digits.rt`). That no branch depends on them is not proved.
 //!
 //! Proved of the definitions: more than eighty worked lines, and ten configurations (`proofs/Examples.antt`).
 #![tactic(auto)]
 
 mod ends;
 mod faults;
+mod key_digits;
 mod lines;
 mod script;
 mod text;

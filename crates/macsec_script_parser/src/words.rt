@@ -8,6 +8,7 @@ ghost use Rattle.macsec_script_parser.specs.Numerals.{decimal_in, packet_number,
 ghost use Rattle.macsec_script_parser.specs.Fields.{value_of_keyword, ends, suites, forms, protections, switches, modes, map_ok, as_octet, as_sci, as_ssci, key_of_word};
 ghost use Rattle.macsec_script_parser.specs.Readings.{Reads};
 
+use crate::key_digits::key_octets;
 use crate::lines::LineFault;
 use hex::FromHexError;
 use macsec_commands::{An, End, Frame, Key, KeyNumber, Mode, Sci, Suite, TagForm};
@@ -165,9 +166,9 @@ pub fn sci(word: &[u8]) -> Result<Sci, LineFault>
 pub fn key(word: &[u8]) -> Result<Key, LineFault>
     ensures { result ≡ key_of_word word.now }
 {
-    match fixed_octets(word) {
+    match key_octets(word) {
         Ok(bytes) => Ok(Key::K128(bytes)),
-        Err(_) => Ok(Key::K256(fixed_octets(word)?)),
+        Err(_) => Ok(Key::K256(key_octets(word)?)),
     }
 }
 
