@@ -123,29 +123,25 @@ file_takes direction s file taken old mid new after (Err (Pcap fault)) first run
 
 -- the reader was opened on this file: it has the header's unit of time, and holds the records
 pub taken_of_file : ((file : List ℕ) → FileIsOfFormat (captures_of file)) → (direction : Direction) (s : State) (reader : Reading) (unit : Resolution)
-    (taken : ℕ) (o m n x t u : Option (List ℕ)) (after : State) (answer : Result (Unit {0}) CaptureFault) →
-    x ≡ n → unit ≡ reader.resolution → Appends o m (header_octets unit) → RunsRecords direction s reader.ahead taken (known m t) (known n u) after answer →
-    (octets : List ℕ) (file : CaptureFile) → captures_of octets ≡ Ok file → reader ≡ opened file → TakesFile direction s file (known o t) (known x u) after answer
-taken_of_file law direction s reader unit taken o m n x t u after answer back same adds runs octets file read stands =
+    (taken : ℕ) (o m n t u : Option (List ℕ)) (after : State) (answer : Result (Unit {0}) CaptureFault) →
+    unit ≡ reader.resolution → Appends o m (header_octets unit) → RunsRecords direction s reader.ahead taken (known m t) (known n u) after answer →
+    (octets : List ℕ) (file : CaptureFile) → captures_of octets ≡ Ok file → reader ≡ opened file → TakesFile direction s file (known o t) (known n u) after answer
+taken_of_file law direction s reader unit taken o m n t u after answer same adds runs octets file read stands =
     let held : RunsRecords direction s (holds file.capture) taken (known m t) (known n u) after answer =
     subst (λ (r : Reading). RunsRecords direction s r.ahead taken (known m t) (known n u) after answer) stands runs in
-    subst (λ held. TakesFile direction s file (known o t) (known held u) after answer) (sym back)
-    (held_takes direction s file taken (known o t) (known m t) (known n u) after answer
+    held_takes direction s file taken (known o t) (known m t) (known n u) after answer
     (record { output = subst (λ u. Appends o m (header_octets u)) (same ∙ ap (λ (r : Reading). r.resolution) stands) adds; text = Appends-nil t })
     (subst FileIsOfFormat read (law octets))
-    (subst (λ c. RunsHeld direction s c taken (known m t) (known n u) after answer) held.1 held.2))
+    (subst (λ c. RunsHeld direction s c taken (known m t) (known n u) after answer) held.1 held.2)
 
 -- any reader: it has some unit of time and some records
-pub taken_of_some : (direction : Direction) (s : State) (ahead : Ahead) (unit : Resolution) (taken : ℕ) (o m n x t u : Option (List ℕ)) (after : State)
-    (answer : Result (Unit {0}) CaptureFault) → x ≡ n → Appends o m (header_octets unit) →
+pub taken_of_some : (direction : Direction) (s : State) (ahead : Ahead) (unit : Resolution) (taken : ℕ) (o m n t u : Option (List ℕ)) (after : State)
+    (answer : Result (Unit {0}) CaptureFault) → Appends o m (header_octets unit) →
     RunsRecords direction s ahead taken (known m t) (known n u) after answer →
-    (file : CaptureFile) × TakesFile direction s file (known o t) (known x u) after (as_read answer)
-taken_of_some direction s ahead unit taken o m n x t u after answer back adds runs =
-    let file : CaptureFile = record { resolution = unit; capture = runs.0 } in (
-      file,
-      subst (λ held. TakesFile direction s file (known o t) (known held u) after (as_read answer)) (sym back)
-          (file_takes direction s file taken (known o t) (known m t) (known n u) after answer (record { output = adds; text = Appends-nil t }) runs.2),
-    )
+    (file : CaptureFile) × TakesFile direction s file (known o t) (known n u) after (as_read answer)
+taken_of_some direction s ahead unit taken o m n t u after answer adds runs =
+    let file : CaptureFile = record { resolution = unit; capture = runs.0 } in
+    (file, file_takes direction s file taken (known o t) (known m t) (known n u) after answer (record { output = adds; text = Appends-nil t }) runs.2)
 
 -- the header can't be written
 headless_file : (direction : Direction) (s : State) (file : CaptureFile) (o m t : Option (List ℕ)) (after : State) → AppendsFront o m (header_octets file.resolution) →

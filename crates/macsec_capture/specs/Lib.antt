@@ -1,3 +1,4 @@
 pub mod Lines
 pub mod Captured
 pub mod Runs
+pub mod Outputs

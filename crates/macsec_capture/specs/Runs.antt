@@ -53,6 +53,11 @@ FailsIn part old new (Script fault) = (fault ≡ script.Write) × (new.output �
 FailsIn part old new (Pcap fault) =
     (fault ≡ pcap.Write) × Appends old.text new.text part.text × AppendsFront old.output new.output part.output
 
+-- what a part of a run returns and writes
+abbrev pub GivesPart : Part → Written → Written → State → Result (Unit {0}) CaptureFault → Type 0
+GivesPart part old new after (Ok done) = Adds part old new after
+GivesPart part old new after (Err fault) = FailsIn part old new fault
+
 -- a write to the text failed, or the fault is in `Pcap`
 abbrev pub IsLateFault : CaptureFault → Type 0
 IsLateFault (Script fault) = fault ≡ script.Write

@@ -23,6 +23,7 @@
 mod commands;
 mod fault;
 mod lines;
+mod outputs;
 mod records;
 mod running;
 

@@ -3,7 +3,7 @@
 ghost use Rattle.std.specs.Prelude.{◌≡◌, ◌≤◌, ◌-◌, IfErr, IfSome, None, OnErr, OnOk, length, option_copied};
 ghost use Rattle.macsec_secy.specs.Answers.{output_of_received, output_of_sent};
 ghost use Rattle.macsec_secy.specs.Sound.{IsSound};
-ghost use Rattle.macsec_secy.specs.Step.{client_frame, link_frame, step};
+ghost use Rattle.macsec_secy.specs.Step.{step};
 ghost use Rattle.std.specs.Io.KnownBytes.{Appends};
 ghost use Rattle.macsec_pcap.specs.Answers.{shown};
 ghost use Rattle.macsec_pcap.specs.Limits.{max_record_length, max_records};
@@ -11,8 +11,8 @@ ghost use Rattle.macsec_writes.specs.Fronts.{AppendsFront};
 ghost use Rattle.macsec_pcap.specs.Writing.{contents, fault_of, lent};
 ghost use Rattle.macsec_pcap.specs.declared.fault.PcapFault.TheVariants.{Write};
 ghost use Rattle.macsec_capture.specs.declared.fault.CaptureFault.TheVariants.{Pcap};
-ghost use Rattle.macsec_capture.specs.Captured.{frame_of_output, frame_part, record_of_frame, record_part};
-ghost use Rattle.macsec_capture.specs.Runs.{FailsIn, IsLateFault, RunsRecords, known};
+ghost use Rattle.macsec_capture.specs.Captured.{frame_of_output, frame_part, input_of, record_of_frame, record_part};
+ghost use Rattle.macsec_capture.specs.Runs.{GivesPart, IsLateFault, RunsRecords, known};
 
 use crate::lines::{write_link_type, write_partial, write_received, write_sent};
 use crate::{CaptureFault, Direction};
@@ -69,33 +69,26 @@ fn run_record<W: Write, T: Write>(
     requires no_fault { fault_of writer.old ≡ None }
     ensures lent { (lent writer.new).ghost_name ≡ (lent writer.old).ghost_name }
     ensures no_fault { OnOk result (fault_of writer.new ≡ None) }
-    ensures output { OnOk result (Appends (contents W.contents writer.old) (contents W.contents writer.new) (record_part direction endpoint.old k (shown «record».now)).output) }
-    ensures text { OnOk result (Appends (T.contents text.old) (T.contents text.new) (record_part direction endpoint.old k (shown «record».now)).text) }
-    ensures state { OnOk result (endpoint.new ≡ (record_part direction endpoint.old k (shown «record».now)).state) }
+    ensures written { GivesPart (record_part direction endpoint.old k (shown «record».now)) (known (contents W.contents writer.old) (T.contents text.old))
+        (known (contents W.contents writer.new) (T.contents text.new)) endpoint.new result }
     ensures sound { OnOk result (IsSound endpoint.new) }
-    ensures fault { IfErr result (FailsIn (record_part direction endpoint.old k (shown «record».now)) (known (contents W.contents writer.old) (T.contents text.old))
-        (known (contents W.contents writer.new) (T.contents text.new))) }
 {
-    match (record.body, direction) {
-        (Body::Partial, _) => {
+    match record.body {
+        Body::Partial => {
             write_fault(write_partial(text, k))?;
             Ok(())
         }
-        (Body::OtherLink(number), _) => {
+        Body::OtherLink(number) => {
             write_fault(write_link_type(text, k, number))?;
             Ok(())
         }
-        (Body::Whole(frame), Direction::Protect) => {
-            protect_frame(endpoint, k, record, frame, writer, text)
-        }
-        (Body::Whole(frame), Direction::Validate) => {
-            validate_frame(endpoint, k, record, frame, writer, text)
-        }
+        Body::Whole(frame) => run_frame(direction, endpoint, k, record, frame, writer, text),
     }
 }
 
-/// Protects the frame of record number `k`: prints its line, and writes what is sent for it.
-fn protect_frame<W: Write, T: Write>(
+/// Protects or validates the frame of record number `k`: prints its line, and writes what is sent or delivered.
+fn run_frame<W: Write, T: Write>(
+    direction: Direction,
     endpoint: &mut Secy,
     k: u32,
     record: &Record<'_>,
@@ -107,49 +100,25 @@ fn protect_frame<W: Write, T: Write>(
     requires no_fault { fault_of writer.old ≡ None }
     ensures lent { (lent writer.new).ghost_name ≡ (lent writer.old).ghost_name }
     ensures no_fault { OnOk result (fault_of writer.new ≡ None) }
-    ensures output { OnOk result (Appends (contents W.contents writer.old) (contents W.contents writer.new)
-        (frame_part k (shown «record».now) (step endpoint.old (client_frame frame.now))).output) }
-    ensures text { OnOk result (Appends (T.contents text.old) (T.contents text.new)
-        (frame_part k (shown «record».now) (step endpoint.old (client_frame frame.now))).text) }
-    ensures state { OnOk result (endpoint.new ≡ (step endpoint.old (client_frame frame.now)).1) }
+    ensures written { GivesPart (frame_part k (shown «record».now) (step endpoint.old (input_of direction frame.now)))
+        (known (contents W.contents writer.old) (T.contents text.old)) (known (contents W.contents writer.new) (T.contents text.new)) endpoint.new result }
     ensures sound { OnOk result (IsSound endpoint.new) }
-    ensures fault { IfErr result (FailsIn (frame_part k (shown «record».now) (step endpoint.old (client_frame frame.now)))
-        (known (contents W.contents writer.old) (T.contents text.old)) (known (contents W.contents writer.new) (T.contents text.new))) }
 {
     lengths_of_frames();
-    let sent = endpoint.send(frame);
-    write_fault(write_sent(text, k, &sent))?;
-    write_frame(writer, record, sent_frame(&sent))?;
-    Ok(())
-}
-
-/// Validates the frame of record number `k`: prints its line, and writes what is delivered of it.
-fn validate_frame<W: Write, T: Write>(
-    endpoint: &mut Secy,
-    k: u32,
-    record: &Record<'_>,
-    frame: &[u8],
-    writer: &mut PcapWriter<'_, W>,
-    text: &mut T,
-) -> Result<(), CaptureFault>
-    requires sound { IsSound endpoint.old }
-    requires no_fault { fault_of writer.old ≡ None }
-    ensures lent { (lent writer.new).ghost_name ≡ (lent writer.old).ghost_name }
-    ensures no_fault { OnOk result (fault_of writer.new ≡ None) }
-    ensures output { OnOk result (Appends (contents W.contents writer.old) (contents W.contents writer.new)
-        (frame_part k (shown «record».now) (step endpoint.old (link_frame frame.now))).output) }
-    ensures text { OnOk result (Appends (T.contents text.old) (T.contents text.new)
-        (frame_part k (shown «record».now) (step endpoint.old (link_frame frame.now))).text) }
-    ensures state { OnOk result (endpoint.new ≡ (step endpoint.old (link_frame frame.now)).1) }
-    ensures sound { OnOk result (IsSound endpoint.new) }
-    ensures fault { IfErr result (FailsIn (frame_part k (shown «record».now) (step endpoint.old (link_frame frame.now)))
-        (known (contents W.contents writer.old) (T.contents text.old)) (known (contents W.contents writer.new) (T.contents text.new))) }
-{
-    lengths_of_frames();
-    let received = endpoint.receive(frame);
-    write_fault(write_received(text, k, &received))?;
-    write_frame(writer, record, delivered_frame(&received))?;
-    Ok(())
+    match direction {
+        Direction::Protect => {
+            let sent = endpoint.send(frame);
+            write_fault(write_sent(text, k, &sent))?;
+            write_frame(writer, record, sent_frame(&sent))?;
+            Ok(())
+        }
+        Direction::Validate => {
+            let received = endpoint.receive(frame);
+            write_fault(write_received(text, k, &received))?;
+            write_frame(writer, record, delivered_frame(&received))?;
+            Ok(())
+        }
+    }
 }
 
 /// The frame that is sent for a client frame, if any.

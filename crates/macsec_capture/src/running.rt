@@ -8,9 +8,11 @@ ghost use Rattle.macsec_pcap.specs.Limits.{max_records};
 ghost use Rattle.macsec_pcap.specs.Reading.{opened};
 ghost use Rattle.macsec_pcapng.specs.Captures.{captures_of};
 ghost use Rattle.macsec_capture.specs.Captured.{captured, captured_after, captured_at, nothing};
-ghost use Rattle.macsec_capture.specs.Runs.{CaptureGives, IsAfterConfig, IsLateFault, JudgesConfig, LeavesBoth, RunsOverSome, RunsSome, TakesFile, as_read, flushed_end};
+ghost use Rattle.macsec_capture.specs.Runs.{CaptureGives, IsAfterConfig, IsLateFault, JudgesConfig, LeavesBoth, RunsOverSome, RunsSome, TakesFile, as_read, flushed_end, known};
+ghost use Rattle.macsec_capture.specs.Outputs.{BorrowsSame, written};
 
 use crate::commands::{endpoint_of, run_commands};
+use crate::outputs::Outputs;
 use crate::records::run_records;
 use crate::{CaptureFault, Direction};
 use macsec_commands::Command;
@@ -34,12 +36,9 @@ pub fn run_capture<C: Read, R: Read, W: Write, T: Write>(
     text: &mut T,
 ) -> Result<(), CaptureFault>
     ensures run { IfSome (C.remaining config.old) (λ config. IfSome (R.remaining input.old) (λ file.
-        CaptureGives (captured direction config file) (record { output = W.contents output.old; text = T.contents text.old })
-        (record { output = W.contents output.new; text = T.contents text.new }) result)) }
-    ensures some { RunsSome direction (C.remaining config.old) (record { output = W.contents output.old; text = T.contents text.old })
-        (record { output = W.contents output.new; text = T.contents text.new }) result }
-    ensures unwritten { IfErr result (LeavesBoth (record { output = W.contents output.old; text = T.contents text.old })
-        (record { output = W.contents output.new; text = T.contents text.new })) }
+        CaptureGives (captured direction config file) (known (W.contents output.old) (T.contents text.old)) (known (W.contents output.new) (T.contents text.new)) result)) }
+    ensures some { RunsSome direction (C.remaining config.old) (known (W.contents output.old) (T.contents text.old)) (known (W.contents output.new) (T.contents text.new)) result }
+    ensures unwritten { IfErr result (LeavesBoth (known (W.contents output.old) (T.contents text.old)) (known (W.contents output.new) (T.contents text.new))) }
 {
     let config = read_text(alloc, config)?;
     run_config(alloc, direction, config.as_slice(), input, output, text)
@@ -73,22 +72,19 @@ pub fn run_config<R: Read, W: Write, T: Write>(
 ) -> Result<(), CaptureFault>
     ensures config { JudgesConfig config.now result }
     ensures run { IfSome (R.remaining input.old) (λ file.
-        CaptureGives (captured direction config.now file) (record { output = W.contents output.old; text = T.contents text.old })
-        (record { output = W.contents output.new; text = T.contents text.new }) result) }
-    ensures some { RunsOverSome direction config.now (record { output = W.contents output.old; text = T.contents text.old })
-        (record { output = W.contents output.new; text = T.contents text.new }) result }
-    ensures unwritten { IfErr result (LeavesBoth (record { output = W.contents output.old; text = T.contents text.old })
-        (record { output = W.contents output.new; text = T.contents text.new })) }
+        CaptureGives (captured direction config.now file) (known (W.contents output.old) (T.contents text.old)) (known (W.contents output.new) (T.contents text.new)) result) }
+    ensures some { RunsOverSome direction config.now (known (W.contents output.old) (T.contents text.old)) (known (W.contents output.new) (T.contents text.new)) result }
+    ensures unwritten { IfErr result (LeavesBoth (known (W.contents output.old) (T.contents text.old)) (known (W.contents output.new) (T.contents text.new))) }
 {
     let config = parse_config(alloc, config)?;
+    let mut outputs = Outputs { output, text };
     run_configured(
         alloc,
         direction,
         config.end,
         config.commands.as_slice(),
         input,
-        output,
-        text,
+        &mut outputs,
     )
 }
 
@@ -99,22 +95,21 @@ fn run_configured<R: Read, W: Write, T: Write>(
     end: CheckedEnd,
     commands: &[(u32, Command)],
     input: &mut R,
-    output: &mut W,
-    text: &mut T,
+    outputs: &mut Outputs<'_, W, T>,
 ) -> Result<(), CaptureFault>
+    ensures lent { BorrowsSame outputs.old outputs.new }
     ensures run { IfSome (R.remaining input.old) (λ file.
-        CaptureGives (captured_at direction (record { end = end; commands = commands.now }) (captures_of file)) (record { output = W.contents output.old; text = T.contents text.old })
-        (record { output = W.contents output.new; text = T.contents text.new }) result) }
+        CaptureGives (captured_at direction (record { end = end; commands = commands.now }) (captures_of file)) (written W.contents T.contents outputs.old)
+        (written W.contents T.contents outputs.new) result) }
     ensures some { (file : Result CaptureFile PcapFault) ×
-        CaptureGives (captured_at direction (record { end = end; commands = commands.now }) file) (record { output = W.contents output.old; text = T.contents text.old })
-        (record { output = W.contents output.new; text = T.contents text.new }) (as_read result) }
+        CaptureGives (captured_at direction (record { end = end; commands = commands.now }) file) (written W.contents T.contents outputs.old)
+        (written W.contents T.contents outputs.new) (as_read result) }
     ensures fault { IfErr result IsAfterConfig }
-    ensures unwritten { IfErr result (LeavesBoth (record { output = W.contents output.old; text = T.contents text.old })
-        (record { output = W.contents output.new; text = T.contents text.new })) }
+    ensures unwritten { IfErr result (LeavesBoth (written W.contents T.contents outputs.old) (written W.contents T.contents outputs.new)) }
 {
     let mut endpoint = endpoint_of(alloc, end)?;
-    run_commands(&mut endpoint, text, commands)?;
-    run_file(alloc, direction, &mut endpoint, input, output, text)
+    run_commands(&mut endpoint, outputs.text, commands)?;
+    run_file(alloc, direction, &mut endpoint, input, outputs)
 }
 
 /// Runs an endpoint over a capture file.
@@ -123,22 +118,22 @@ fn run_file<R: Read, W: Write, T: Write>(
     direction: Direction,
     endpoint: &mut Secy,
     input: &mut R,
-    output: &mut W,
-    text: &mut T,
+    outputs: &mut Outputs<'_, W, T>,
 ) -> Result<(), CaptureFault>
     requires sound { IsSound endpoint.old }
+    ensures lent { BorrowsSame outputs.old outputs.new }
     ensures run { IfSome (R.remaining input.old) (λ file.
-        CaptureGives (captured_after direction (nothing endpoint.old) (captures_of file)) (record { output = W.contents output.old; text = T.contents text.old })
-        (record { output = W.contents output.new; text = T.contents text.new }) result) }
+        CaptureGives (captured_after direction (nothing endpoint.old) (captures_of file)) (written W.contents T.contents outputs.old)
+        (written W.contents T.contents outputs.new) result) }
     ensures some { (file : Result CaptureFile PcapFault) ×
-        CaptureGives (captured_after direction (nothing endpoint.old) file) (record { output = W.contents output.old; text = T.contents text.old })
-        (record { output = W.contents output.new; text = T.contents text.new }) (as_read result) }
+        CaptureGives (captured_after direction (nothing endpoint.old) file) (written W.contents T.contents outputs.old)
+        (written W.contents T.contents outputs.new) (as_read result) }
     ensures fault { IfErr result IsLateFault }
 {
     // A law that the proof cites.
     faults_are_of_format();
     let mut reader = CaptureReader::new(alloc, input)?;
-    run_opened(direction, endpoint, &mut reader, output, text)
+    run_opened(direction, endpoint, &mut reader, outputs)
 }
 
 /// Runs an endpoint over a capture file whose header was read, and prints its counters.
@@ -146,21 +141,20 @@ fn run_opened<R: Read, W: Write, T: Write>(
     direction: Direction,
     endpoint: &mut Secy,
     reader: &mut CaptureReader<R>,
-    output: &mut W,
-    text: &mut T,
+    outputs: &mut Outputs<'_, W, T>,
 ) -> Result<(), CaptureFault>
     requires sound { IsSound endpoint.old }
     requires places { reader.old.places ≡ max_records }
+    ensures lent { BorrowsSame outputs.old outputs.new }
     ensures run { (octets : List ℕ) (file : CaptureFile) → captures_of octets ≡ Ok file → reader.old ≡ opened file →
-        CaptureGives (captured_after direction (nothing endpoint.old) (Ok file)) (record { output = W.contents output.old; text = T.contents text.old })
-        (record { output = W.contents output.new; text = T.contents text.new }) result }
+        CaptureGives (captured_after direction (nothing endpoint.old) (Ok file)) (written W.contents T.contents outputs.old) (written W.contents T.contents outputs.new) result }
     ensures some { (file : CaptureFile) ×
-        CaptureGives (captured_after direction (nothing endpoint.old) (Ok file)) (record { output = W.contents output.old; text = T.contents text.old })
-        (record { output = W.contents output.new; text = T.contents text.new }) (as_read result) }
+        CaptureGives (captured_after direction (nothing endpoint.old) (Ok file)) (written W.contents T.contents outputs.old)
+        (written W.contents T.contents outputs.new) (as_read result) }
     ensures fault { IfErr result IsLateFault }
 {
-    write_and_flush(direction, endpoint, reader, output, text)?;
-    print_counters(text, Label::End, endpoint)?;
+    write_and_flush(direction, endpoint, reader, outputs)?;
+    print_counters(outputs.text, Label::End, endpoint)?;
     Ok(())
 }
 
@@ -169,21 +163,19 @@ fn write_and_flush<R: Read, W: Write, T: Write>(
     direction: Direction,
     endpoint: &mut Secy,
     reader: &mut CaptureReader<R>,
-    output: &mut W,
-    text: &mut T,
+    outputs: &mut Outputs<'_, W, T>,
 ) -> Result<(), CaptureFault>
     requires sound { IsSound endpoint.old }
     requires places { reader.old.places ≡ max_records }
+    ensures lent { BorrowsSame outputs.old outputs.new }
     ensures run { (octets : List ℕ) (file : CaptureFile) → captures_of octets ≡ Ok file → reader.old ≡ opened file →
-        TakesFile direction endpoint.old file (record { output = W.contents output.old; text = T.contents text.old })
-        (record { output = W.contents output.new; text = T.contents text.new }) endpoint.new result }
+        TakesFile direction endpoint.old file (written W.contents T.contents outputs.old) (written W.contents T.contents outputs.new) endpoint.new result }
     ensures some { (file : CaptureFile) ×
-        TakesFile direction endpoint.old file (record { output = W.contents output.old; text = T.contents text.old })
-        (record { output = W.contents output.new; text = T.contents text.new }) endpoint.new (as_read result) }
+        TakesFile direction endpoint.old file (written W.contents T.contents outputs.old) (written W.contents T.contents outputs.new) endpoint.new (as_read result) }
     ensures fault { IfErr result IsLateFault }
 {
-    let written = write_output(direction, endpoint, reader, output, text);
-    let flushed = output.flush();
+    let written = write_output(direction, endpoint, reader, outputs);
+    let flushed = outputs.output.flush();
     records_end(written, flushed)
 }
 
@@ -206,22 +198,20 @@ fn write_output<R: Read, W: Write, T: Write>(
     direction: Direction,
     endpoint: &mut Secy,
     reader: &mut CaptureReader<R>,
-    output: &mut W,
-    text: &mut T,
+    outputs: &mut Outputs<'_, W, T>,
 ) -> Result<(), CaptureFault>
     requires sound { IsSound endpoint.old }
     requires places { reader.old.places ≡ max_records }
+    ensures lent { BorrowsSame outputs.old outputs.new }
     ensures run { (octets : List ℕ) (file : CaptureFile) → captures_of octets ≡ Ok file → reader.old ≡ opened file →
-        TakesFile direction endpoint.old file (record { output = W.contents output.old; text = T.contents text.old })
-        (record { output = W.contents output.new; text = T.contents text.new }) endpoint.new result }
+        TakesFile direction endpoint.old file (written W.contents T.contents outputs.old) (written W.contents T.contents outputs.new) endpoint.new result }
     ensures some { (file : CaptureFile) ×
-        TakesFile direction endpoint.old file (record { output = W.contents output.old; text = T.contents text.old })
-        (record { output = W.contents output.new; text = T.contents text.new }) endpoint.new (as_read result) }
+        TakesFile direction endpoint.old file (written W.contents T.contents outputs.old) (written W.contents T.contents outputs.new) endpoint.new (as_read result) }
     ensures fault { IfErr result IsLateFault }
 {
     // A law that the proof cites.
     faults_are_of_format();
-    write_header(output, reader.resolution())?;
-    let mut writer = PcapWriter::behind_header(output);
-    run_records(direction, endpoint, reader, &mut writer, text)
+    write_header(outputs.output, reader.resolution())?;
+    let mut writer = PcapWriter::behind_header(outputs.output);
+    run_records(direction, endpoint, reader, &mut writer, outputs.text)
 }

@@ -20,7 +20,7 @@ loop-k-preserved g c =
     let later = subst (λ a. IsAfter c.loop-k.reader (answer_of a) c.next.follows.lender-at-none) got after in (
       taken_more _ _ _ _ _ _ _ _ _ _ _ _ inv.0
           (subst (λ a. Answers c.loop-k.reader.ahead (answer_of a)) got c.next.ensures.answer) later.ahead
-          (record { grows = record { output = it.output; text = it.text }; state = it.state }),
+          it.written,
       omega (arith, inv.1, later.places),
       it.sound,
       it.no_fault,
@@ -39,7 +39,7 @@ returns-in_err-run_record-clause-records g c =
     } in
     rw (p.1, p.2)
     (taken_write _ _ _ _ _ _ _ written _ _ _ _ _ _ (omega (arith, c.requires.places, c.loop-k.invariant.1, later.places)) c.loop-k.invariant.0
-    (subst (λ a. Answers c.loop-k.reader.ahead (answer_of a)) got c.next.ensures.answer) later.ahead c.in_err-run_record.ensures.fault)
+    (subst (λ a. Answers c.loop-k.reader.ahead (answer_of a)) got c.next.ensures.answer) later.ahead c.in_err-run_record.ensures.written)
 
 pub returns-in_err-record-clause-records : goal.returns-in_err-record-clause-records
 returns-in_err-record-clause-records g c =

@@ -1,7 +1,7 @@
-use Rattle.std.proofs.Common.{◌≡◌, ap, rules, subst, sym}
+use Rattle.std.proofs.Common.{subst, sym}
 use Rattle.std.proofs.lemmas.Result.{err_from_is_err_and}
 use Rattle.std.specs.Io.KnownBytes.{Appends}
-use Rattle.macsec_pcap.specs.Writing.{contents, lent}
+use Rattle.macsec_pcap.specs.Writing.{contents}
 use Rattle.macsec_pcap.specs.Written.{header_octets}
 use Rattle.macsec_capture.proofs.Whole.{headless, headless_some, taken_of_file, taken_of_some}
 use Rattle.macsec_capture.proofs.running.write_output.Goals as goal
@@ -18,16 +18,14 @@ returns-in_err-write_header-clause-some g c =
 
 pub returns-clause-run : goal.returns-clause-run
 returns-clause-run g c =
-    let back : c.output-1.given.0 ≡ (lent c.run_records.new.writer).now = search rules in
-    let header : Appends (g.W.Write.contents c.args.output.now) (contents g.W.Write.contents c.behind_header-writer.result) (header_octets c.resolution.result) =
-    subst (λ held. Appends (g.W.Write.contents c.args.output.now) held (header_octets c.resolution.result)) (sym c.behind_header-writer.ensures.header)
+    let header : Appends (g.W.Write.contents c.args.outputs.now.output.now) (contents g.W.Write.contents c.behind_header-writer.result) (header_octets c.resolution.result) =
+    subst (λ held. Appends (g.W.Write.contents c.args.outputs.now.output.now) held (header_octets c.resolution.result)) (sym c.behind_header-writer.ensures.header)
     c.in_ok-write_header.ensures.whole in
-    taken_of_file c.faults_are_of_format.ensures _ _ _ _ _ _ _ _ _ _ _ _ _ (ap g.W.Write.contents back) c.resolution.ensures header c.run_records.ensures.records
+    taken_of_file c.faults_are_of_format.ensures _ _ _ _ _ _ _ _ _ _ _ _ c.resolution.ensures header c.run_records.ensures.records
 
 pub returns-clause-some : goal.returns-clause-some
 returns-clause-some g c =
-    let back : c.output-1.given.0 ≡ (lent c.run_records.new.writer).now = search rules in
-    let header : Appends (g.W.Write.contents c.args.output.now) (contents g.W.Write.contents c.behind_header-writer.result) (header_octets c.resolution.result) =
-    subst (λ held. Appends (g.W.Write.contents c.args.output.now) held (header_octets c.resolution.result)) (sym c.behind_header-writer.ensures.header)
+    let header : Appends (g.W.Write.contents c.args.outputs.now.output.now) (contents g.W.Write.contents c.behind_header-writer.result) (header_octets c.resolution.result) =
+    subst (λ held. Appends (g.W.Write.contents c.args.outputs.now.output.now) held (header_octets c.resolution.result)) (sym c.behind_header-writer.ensures.header)
     c.in_ok-write_header.ensures.whole in
-    taken_of_some _ _ _ _ _ _ _ _ _ _ _ _ _ (ap g.W.Write.contents back) header c.run_records.ensures.records
+    taken_of_some _ _ _ _ _ _ _ _ _ _ _ _ header c.run_records.ensures.records
