@@ -5,7 +5,7 @@ ghost use Rattle.macsec_reserve.specs.Journal.{record_of, reserved_in};
 ghost use Rattle.macsec_reserve.specs.Keeping.{rx_floor, tx_floor};
 ghost use Rattle.macsec_c_calls.specs.Arguments.{an_of, key_number_of, sci_of};
 ghost use Rattle.macsec_c_calls.specs.Reserving.{Compacts, key_after, reported, saved_at, wanted_at};
-ghost use Rattle.macsec_c_calls.specs.Shown.{found_at, status_at};
+ghost use Rattle.macsec_c_calls.specs.Shown.{found_at, status_at, status_if};
 
 use crate::{DONE, NONE, NOT_JOURNAL, NOT_RECORD, an_of, key_number_of, status_of_new_fault};
 use macsec_reserve::{Keeper, Reservation, compacted, is_journal};
@@ -19,6 +19,36 @@ pub struct Record {
     pub octets: [u8; 64],
 }
 
+/// Shows the record of a reservation, if there is one.
+fn show_record(reservation: Option<Reservation>, out: &mut Record) -> u32
+    ensures status { result ≡ status_if reservation }
+    ensures shown { IfSome reservation (λ r. out.new.octets ≡ record_of r) }
+    ensures kept { IfNone reservation (out.new ≡ out.old) }
+{
+    match reservation {
+        Some(reservation) => {
+            out.octets = reservation.to_octets();
+            DONE
+        }
+        None => NONE,
+    }
+}
+
+/// Shows a floor, if there is one.
+fn show_floor(floor: Option<u64>, out: &mut u64) -> u32
+    ensures status { result ≡ status_if floor }
+    ensures shown { IfSome floor (λ highest. out.new ≡ highest) }
+    ensures kept { IfNone floor (out.new ≡ out.old) }
+{
+    match floor {
+        Some(floor) => {
+            *out = floor;
+            DONE
+        }
+        None => NONE,
+    }
+}
+
 /// Shows the record of the reservation that the transmit SA with this AN needs next, if fewer than half of `amount`
 /// packet numbers are left to it.
 pub fn show_wanted(keeper: &Keeper, an: u8, amount: u64, out: &mut Record) -> u32
@@ -26,16 +56,9 @@ pub fn show_wanted(keeper: &Keeper, an: u8, amount: u64, out: &mut Record) -> u3
     ensures shown { IfSome (found_at (an_of an) (wanted_at amount keeper.now)) (λ r. out.new.octets ≡ record_of r) }
     ensures kept { IfNone (found_at (an_of an) (wanted_at amount keeper.now)) (out.new ≡ out.old) }
 {
-    let an = match an_of(an) {
-        Ok(an) => an,
-        Err(fault) => return fault.status(),
-    };
-    match keeper.wanted(an, amount) {
-        Some(reservation) => {
-            out.octets = reservation.to_octets();
-            DONE
-        }
-        None => NONE,
+    match an_of(an) {
+        Ok(an) => show_record(keeper.wanted(an, amount), out),
+        Err(fault) => fault.status(),
     }
 }
 
@@ -45,16 +68,9 @@ pub fn show_to_save(keeper: &Keeper, sci: &[u8; 8], an: u8, out: &mut Record) ->
     ensures shown { IfSome (found_at (an_of an) (saved_at (sci_of sci.now) keeper.now)) (λ r. out.new.octets ≡ record_of r) }
     ensures kept { IfNone (found_at (an_of an) (saved_at (sci_of sci.now) keeper.now)) (out.new ≡ out.old) }
 {
-    let an = match an_of(an) {
-        Ok(an) => an,
-        Err(fault) => return fault.status(),
-    };
-    match keeper.to_save(Sci(*sci), an) {
-        Some(reservation) => {
-            out.octets = reservation.to_octets();
-            DONE
-        }
-        None => NONE,
+    match an_of(an) {
+        Ok(an) => show_record(keeper.to_save(Sci(*sci), an), out),
+        Err(fault) => fault.status(),
     }
 }
 
@@ -64,16 +80,9 @@ pub fn show_tx_floor(keeper: &Keeper, key: u16, out: &mut u64) -> u32
     ensures shown { IfSome (found_at (key_number_of key) (tx_floor keeper.now)) (λ floor. out.new ≡ floor) }
     ensures kept { IfNone (found_at (key_number_of key) (tx_floor keeper.now)) (out.new ≡ out.old) }
 {
-    let key = match key_number_of(key) {
-        Ok(key) => key,
-        Err(fault) => return fault.status(),
-    };
-    match keeper.tx_floor(key) {
-        Some(floor) => {
-            *out = floor;
-            DONE
-        }
-        None => NONE,
+    match key_number_of(key) {
+        Ok(key) => show_floor(keeper.tx_floor(key), out),
+        Err(fault) => fault.status(),
     }
 }
 
@@ -87,16 +96,9 @@ pub fn show_rx_floor(keeper: &Keeper, sci: &[u8; 8], an: u8, key: u16, out: &mut
         Ok(an) => an,
         Err(fault) => return fault.status(),
     };
-    let key = match key_number_of(key) {
-        Ok(key) => key,
-        Err(fault) => return fault.status(),
-    };
-    match keeper.rx_floor(Sci(*sci), an, key) {
-        Some(floor) => {
-            *out = floor;
-            DONE
-        }
-        None => NONE,
+    match key_number_of(key) {
+        Ok(key) => show_floor(keeper.rx_floor(Sci(*sci), an, key), out),
+        Err(fault) => fault.status(),
     }
 }
 

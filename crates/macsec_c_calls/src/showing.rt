@@ -219,13 +219,13 @@ fn rx_row_shown(row: RxRow) -> RxRowShown
     }
 }
 
-/// Shows the counters of the receive SC with this SCI.
-pub fn show_rx_counters(keeper: &Keeper, sci: &[u8; 8], out: &mut RxCountersShown) -> u32
-    ensures status { result ≡ status_if (rx_counters_of keeper.now.secy.rx_counters (sci_of sci.now)) }
-    ensures shown { IfSome (rx_counters_of keeper.now.secy.rx_counters (sci_of sci.now)) (λ c. out.new ≡ rx_counters_shown c) }
-    ensures kept { IfNone (rx_counters_of keeper.now.secy.rx_counters (sci_of sci.now)) (out.new ≡ out.old) }
+/// Shows the counters that a reader found, if it found any.
+fn show_found_counters(counters: Option<RxCounters>, out: &mut RxCountersShown) -> u32
+    ensures status { result ≡ status_if counters }
+    ensures shown { IfSome counters (λ c. out.new ≡ rx_counters_shown c) }
+    ensures kept { IfNone counters (out.new ≡ out.old) }
 {
-    match keeper.secy().rx_counters(Sci(*sci)) {
+    match counters {
         Some(counters) => {
             *out = rx_counters_shown(counters);
             DONE
@@ -234,22 +234,24 @@ pub fn show_rx_counters(keeper: &Keeper, sci: &[u8; 8], out: &mut RxCountersShow
     }
 }
 
+/// Shows the counters of the receive SC with this SCI.
+pub fn show_rx_counters(keeper: &Keeper, sci: &[u8; 8], out: &mut RxCountersShown) -> u32
+    ensures status { result ≡ status_if (rx_counters_of keeper.now.secy.rx_counters (sci_of sci.now)) }
+    ensures shown { IfSome (rx_counters_of keeper.now.secy.rx_counters (sci_of sci.now)) (λ c. out.new ≡ rx_counters_shown c) }
+    ensures kept { IfNone (rx_counters_of keeper.now.secy.rx_counters (sci_of sci.now)) (out.new ≡ out.old) }
+{
+    show_found_counters(keeper.secy().rx_counters(Sci(*sci)), out)
+}
+
 /// Shows the counters of the receive SA with this SCI and AN.
 pub fn show_rx_sa_counters(keeper: &Keeper, sci: &[u8; 8], an: u8, out: &mut RxCountersShown) -> u32
     ensures status { result ≡ status_at (an_of an) (λ n. rx_sa_counters_of keeper.now.secy.rx_counters (sci_of sci.now) n) }
     ensures shown { IfSome (found_at (an_of an) (λ n. rx_sa_counters_of keeper.now.secy.rx_counters (sci_of sci.now) n)) (λ c. out.new ≡ rx_counters_shown c) }
     ensures kept { IfNone (found_at (an_of an) (λ n. rx_sa_counters_of keeper.now.secy.rx_counters (sci_of sci.now) n)) (out.new ≡ out.old) }
 {
-    let an = match an_of(an) {
-        Ok(an) => an,
-        Err(fault) => return fault.status(),
-    };
-    match keeper.secy().rx_sa_counters(Sci(*sci), an) {
-        Some(counters) => {
-            *out = rx_counters_shown(counters);
-            DONE
-        }
-        None => NONE,
+    match an_of(an) {
+        Ok(an) => show_found_counters(keeper.secy().rx_sa_counters(Sci(*sci), an), out),
+        Err(fault) => fault.status(),
     }
 }
 
@@ -259,13 +261,7 @@ pub fn show_removed_counters(keeper: &Keeper, sci: &[u8; 8], out: &mut RxCounter
     ensures shown { IfSome (rx_removed_of keeper.now.secy.rx_counters (sci_of sci.now)) (λ c. out.new ≡ rx_counters_shown c) }
     ensures kept { IfNone (rx_removed_of keeper.now.secy.rx_counters (sci_of sci.now)) (out.new ≡ out.old) }
 {
-    match keeper.secy().rx_removed(Sci(*sci)) {
-        Some(counters) => {
-            *out = rx_counters_shown(counters);
-            DONE
-        }
-        None => NONE,
-    }
+    show_found_counters(keeper.secy().rx_removed(Sci(*sci)), out)
 }
 
 /// Shows the SCI of the receive SC at this index in the order of creation, from 0.
