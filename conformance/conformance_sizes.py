@@ -20,7 +20,9 @@ RESTARTS = [f"macsec_reserve/{it}" for it in ("Unique", "TwoEnds", "Replay", "Cr
 TEXTS = ["macsec_script/Printed", "macsec_script/Promised", "macsec_script_parser/Scripts", "macsec_capture/Captured"]
 TEXTS += ["macsec_pcapng/Captures", "macsec_cli_runs/Failures"]
 IN_C = [f"macsec_c/{it}" for it in ("Answers", "Found", "Texts")]
-IN_C += [f"macsec_c_calls/{it}" for it in ("Configs", "Keys", "SentParts", "ReceivedParts", "Shown", "Reserving")]
+IN_C += [
+    f"macsec_c_calls/{it}" for it in ("Configs", "Keys", "SentParts", "ReceivedParts", "Shown", "Reserving", "Texts")
+]
 
 
 @functools.lru_cache(None)

@@ -1,127 +1,14 @@
--- Texts that C gives: the configuration of an endpoint, and the line of one command.
-use Rattle.std.specs.Prelude.{◌≡◌, ℕ, Bool, true, false, List, [], ◌∷◌, Option, Some, None, Result, Ok, Err, unwrap_or}
-use Rattle.macsec_suite.specs.RefusalNumbers.{number_of_refusal}
+-- Texts that C gives to a handle: the configuration of an endpoint, and the line of one command.
+use Rattle.std.specs.Prelude.{◌≡◌, ℕ, List, Option, Some, None, Result, Ok, Err}
 use Rattle.macsec_commands.specs.declared.command.Command.{Command}
-use Rattle.macsec_commands.specs.declared.config.EndConfig.{EndConfig}
-use Rattle.macsec_commands.specs.declared.event.End.TheVariants.{A}
-use Rattle.macsec_commands.specs.declared.event.Event.TheVariants as event
-use Rattle.macsec_commands.specs.declared.fault.NewFault.{NewFault}
-use Rattle.macsec_commands.specs.declared.fault.NewFault.TheVariants as new
-use Rattle.macsec_commands.specs.Configs.{config_fault}
-use Rattle.macsec_script_parser.specs.declared.lines.Line.{Line}
-use Rattle.macsec_script_parser.specs.declared.lines.Line.TheVariants as line
-use Rattle.macsec_script_parser.specs.declared.lines.Action.TheVariants as action
 use Rattle.macsec_script_parser.specs.declared.lines.LineFault.{LineFault}
-use Rattle.macsec_script_parser.specs.declared.lines.LineFault.TheVariants.{Ends}
-use Rattle.macsec_script_parser.specs.declared.faults.ScriptFault.{ScriptFault}
-use Rattle.macsec_script_parser.specs.declared.faults.ScriptFault.TheVariants as script
-use Rattle.macsec_script_parser.specs.Faults.{fault_line}
-use Rattle.macsec_script_parser.specs.Kinds.{and_then, line_of}
 use Rattle.macsec_script_parser.specs.Readings.{Reads}
-use Rattle.macsec_script_parser.specs.Parts.{ConfigParts, NumberedCommand}
-use Rattle.macsec_script_parser.specs.Scripts.{config_of}
-use Rattle.macsec_secy.specs.Step.{Output, refused, operator_command}
-use Rattle.macsec_reserve.specs.declared.keeper.OpenFault.{OpenFault}
-use Rattle.macsec_reserve.specs.declared.keeper.OpenFault.TheVariants as open_fault
-use Rattle.macsec_reserve.specs.Journal.{is_journal}
-use Rattle.macsec_reserve.specs.Keeping.{Keeping, KeepingOutput, alone, dropped_no_reservation, endpoint_input, endpoint_output, keeping_step, noted, opened}
-use Rattle.macsec_c.specs.declared.configuring.ConfigFault.{ConfigFault}
-use Rattle.macsec_c.specs.declared.configuring.ConfigFault.TheVariants.{Text, New, NotJournal, Refused}
-use Rattle.macsec_c.specs.Answers.{commanded}
-use Rattle.macsec_c_calls.specs.Statuses.{done_status, empty_status, not_journal_status, taken_status, status_of_line_fault, status_of_new_fault, status_of_script_fault}
-
--- the command of a line, if it is a command at end A
-abbrev pub command_of : Line → Option Command
-command_of (line.Action (action.Event (event.Command A command))) = Some command
-command_of other = None
-
--- ---- a configuration
-
--- why no keeping endpoint is opened
-abbrev pub config_fault_of : OpenFault → ConfigFault
-config_fault_of (open_fault.Endpoint f) = New f
-config_fault_of open_fault.NotJournal = NotJournal
-config_fault_of open_fault.Memory = New new.Memory
-
--- the endpoint after the command of line n, or the refusal
-abbrev pub after_endpoint_output : ℕ → Output → Keeping → Result Keeping ConfigFault
-after_endpoint_output n (refused r) after = Err (Refused n r)
-after_endpoint_output n other after = Ok after
-
-abbrev pub after_output : ℕ → KeepingOutput → Keeping → Result Keeping ConfigFault
-after_output n (endpoint_output output) after = after_endpoint_output n output after
-after_output n dropped_no_reservation after = Ok after
-after_output n noted after = Ok after
-
-abbrev pub after_command : ℕ → Keeping → Command → Result Keeping ConfigFault
-after_command n k c =
-    let after = keeping_step k (endpoint_input (operator_command c)) in
-    after_output n after.0 after.1
-
--- the endpoint after these commands, which are carried out in order until one is refused
-abbrev pub carried_out : Keeping → List NumberedCommand → Result Keeping ConfigFault
-carried_out k [] = Ok k
-carried_out k (first ∷ more) = and_then (after_command first.0 k first.1) (λ after. carried_out after more)
-
--- what creates an endpoint of a configuration
-abbrev pub Creation : Type 0
-Creation = EndConfig → Result Keeping ConfigFault
-
--- the endpoint, unless the configuration has a fault
-abbrev pub unless_new_fault : Option NewFault → Keeping → Result Keeping ConfigFault
-unless_new_fault None made = Ok made
-unless_new_fault (Some f) made = Err (New f)
-
--- without a journal
-abbrev pub created_alone : Creation
-created_alone config = unless_new_fault (config_fault config) (alone config)
-
--- beside these octets, if they are a journal
-abbrev pub created_if : Bool → List ℕ → Creation
-created_if false journal config = Err NotJournal
-created_if true journal config = unless_new_fault (config_fault config) (opened config journal)
-
-abbrev pub created_beside : List ℕ → Creation
-created_beside journal config = created_if (is_journal journal) journal config
-
--- the endpoint of a configuration, after its commands
-abbrev pub endpoint_of : Creation → ConfigParts → Result Keeping ConfigFault
-endpoint_of creation config = and_then (creation config.end) (λ made. carried_out made config.commands)
-
--- the same for a text, or the text's first fault
-abbrev pub endpoint_of_parsed : Creation → Result ConfigParts ScriptFault → Result Keeping ConfigFault
-endpoint_of_parsed creation (Ok config) = endpoint_of creation config
-endpoint_of_parsed creation (Err f) = Err (Text f)
-
-abbrev pub configured : Creation → List ℕ → Result Keeping ConfigFault
-configured creation text = endpoint_of_parsed creation (config_of text)
-
--- a configuration gives its endpoint or its fault, unless memory runs out
-abbrev pub MakesConfigured : Result Keeping ConfigFault → Result Keeping ConfigFault → Type 0
-MakesConfigured meant (Ok k) = meant ≡ Ok k
-MakesConfigured meant (Err (Text script.Memory)) = Unit {0}
-MakesConfigured meant (Err (New new.Memory)) = Unit {0}
-MakesConfigured meant (Err f) = meant ≡ Err f
-
-abbrev pub status_of_config_fault : ConfigFault → ℕ
-status_of_config_fault (Text f) = status_of_script_fault f
-status_of_config_fault (New f) = status_of_new_fault f
-status_of_config_fault NotJournal = not_journal_status
-status_of_config_fault (Refused n r) = number_of_refusal r
-
--- the number of the line with the fault, from 1, or 0 if the fault is in no line
-abbrev pub line_of_config_fault : ConfigFault → ℕ
-line_of_config_fault (Text f) = unwrap_or (fault_line f) 0
-line_of_config_fault (New f) = 0
-line_of_config_fault NotJournal = 0
-line_of_config_fault (Refused n r) = n
-
--- the report on a configuration: its status, and the number of the line with the fault
-abbrev pub Report : Type 0
-Report = ℕ × ℕ
-
-abbrev pub report_of : ConfigFault → Report
-report_of f = (status_of_config_fault f, line_of_config_fault f)
+use Rattle.macsec_reserve.specs.Keeping.{Keeping}
+use Rattle.macsec_c_calls.specs.declared.configuring.ConfigFault.{ConfigFault}
+use Rattle.macsec_c_calls.specs.Statuses.{done_status, empty_status, taken_status}
+use Rattle.macsec_c_calls.specs.Texts.{Creation, MakesConfigured, Report, configured, line_command, report_of}
+use Rattle.macsec_c_calls.specs.Texts.{line_commanded as by_endpoint}
+use Rattle.macsec_c.specs.Answers.{held_after}
 
 -- the report on a text that is given to a handle, and what the handle holds afterwards. If the handle held no endpoint:
 -- the endpoint of the text with all commands carried out, or none, and why
@@ -131,26 +18,10 @@ Configures creation None text report (Some k) = (report ≡ (done_status, 0)) ×
 Configures creation None text report None =
     (f : ConfigFault) × (report ≡ report_of f) × MakesConfigured (configured creation text) (Err f)
 
--- ---- a line
-
--- the command of a line, or none if the line is skipped; `Ends` if the line is not a command at end A
-abbrev pub only_command : Option Command → Result (Option Command) LineFault
-only_command None = Err Ends
-only_command (Some c) = Ok (Some c)
-
-abbrev pub command_of_parsed : Option Line → Result (Option Command) LineFault
-command_of_parsed None = Ok None
-command_of_parsed (Some line) = only_command (command_of line)
-
-abbrev pub line_command : List ℕ → Result (Option Command) LineFault
-line_command text = and_then (line_of text) command_of_parsed
-
 -- the status of a line that was read, and what the handle holds afterwards
 abbrev pub line_commanded : Option Keeping → Result (Option Command) LineFault → ℕ × Option Keeping
 line_commanded None read = (empty_status, None)
-line_commanded (Some k) (Ok (Some c)) = commanded (Some k) (Ok c)
-line_commanded (Some k) (Ok None) = (done_status, Some k)
-line_commanded (Some k) (Err f) = (status_of_line_fault f, Some k)
+line_commanded (Some k) read = held_after (by_endpoint k read)
 
 -- the line is read, unless memory runs out, and then carried out
 abbrev pub CommandsLine : Option Keeping → List ℕ → ℕ → Option Keeping → Type 0

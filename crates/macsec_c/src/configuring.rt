@@ -1,182 +1,12 @@
 //! Texts that C gives: the configuration of an endpoint, and the line of one command.
 
-ghost use Rattle.std.specs.Prelude.{◌≡◌};
-ghost use Rattle.macsec_script_parser.specs.Fields.{map_ok};
-ghost use Rattle.macsec_script_parser.specs.Readings.{Reads};
-ghost use Rattle.macsec_c.specs.Texts.{CommandsLine, Configures, MakesConfigured, after_command, carried_out, command_of, configured, endpoint_of, line_command};
-ghost use Rattle.macsec_c.specs.Texts.{created_alone, created_beside};
-ghost use Rattle.macsec_c.specs.Texts.{line_of_config_fault, status_of_config_fault};
+ghost use Rattle.macsec_c_calls.specs.Texts.{created_alone, created_beside};
+ghost use Rattle.macsec_c.specs.Texts.{CommandsLine, Configures};
 
-use crate::commands::carry_out;
 use crate::endpoint::Endpoint;
 use crate::loose::Loose;
-use macsec_c_calls::{
-    DONE, EMPTY, NOT_JOURNAL, TAKEN, endpoint_alone, endpoint_beside, status_of_line_fault,
-    status_of_new_fault, status_of_script_fault,
-};
-use macsec_commands::{End, Event};
-use macsec_reserve::{Keeper, OpenFault};
-use macsec_script_parser::{Action, Line, LineFault, ScriptFault, parse_config, parse_line};
-use macsec_secy::{Command, EndConfig, NewFault, Refusal};
+use macsec_c_calls::{DONE, EMPTY, TAKEN, command_line, configured, configured_beside};
 use std::alloc::Global;
-
-/// Why a configuration creates no endpoint.
-#[derive(Clone, Copy)]
-pub enum ConfigFault {
-    /// The text has a fault, or memory ran out while it was parsed.
-    Text(ScriptFault),
-    /// No endpoint can be created.
-    New(NewFault),
-    /// The octets beside it are not a journal.
-    NotJournal,
-    /// The command of this line is refused.
-    Refused(u32, Refusal),
-}
-
-impl ConfigFault {
-    /// The status.
-    fn status(self) -> u32
-        ensures { result ≡ status_of_config_fault self }
-    {
-        match self {
-            ConfigFault::Text(fault) => status_of_script_fault(fault),
-            ConfigFault::New(fault) => status_of_new_fault(fault),
-            ConfigFault::NotJournal => NOT_JOURNAL,
-            ConfigFault::Refused(_, refusal) => u32::from(refusal.number()),
-        }
-    }
-
-    /// The number of the line with the fault, from 1, or 0 if the fault is in no line.
-    fn line(self) -> u32
-        ensures { result ≡ line_of_config_fault self }
-    {
-        match self {
-            ConfigFault::Text(fault) => fault.line().unwrap_or(0),
-            ConfigFault::NotJournal | ConfigFault::New(_) => 0,
-            ConfigFault::Refused(n, _) => n,
-        }
-    }
-}
-
-impl From<ScriptFault> for ConfigFault {
-    ghost use Rattle.macsec_c.specs.declared.configuring.ConfigFault.TheVariants.{Text};
-    ghost use Rattle.std.specs.Prelude.{◌≡◌};
-
-    ghost from_gives = { λ fault r. r ≡ Text fault };
-
-    fn from(fault: ScriptFault) -> ConfigFault {
-        ConfigFault::Text(fault)
-    }
-}
-
-impl From<NewFault> for ConfigFault {
-    ghost use Rattle.macsec_c.specs.declared.configuring.ConfigFault.TheVariants.{New};
-    ghost use Rattle.std.specs.Prelude.{◌≡◌};
-
-    ghost from_gives = { λ fault r. r ≡ New fault };
-
-    fn from(fault: NewFault) -> ConfigFault {
-        ConfigFault::New(fault)
-    }
-}
-
-impl From<OpenFault> for ConfigFault {
-    ghost use Rattle.macsec_c.specs.Texts.{config_fault_of};
-    ghost use Rattle.std.specs.Prelude.{◌≡◌};
-
-    ghost from_gives = { λ fault r. r ≡ config_fault_of fault };
-
-    fn from(fault: OpenFault) -> ConfigFault {
-        match fault {
-            OpenFault::Endpoint(fault) => ConfigFault::New(fault),
-            OpenFault::NotJournal => ConfigFault::NotJournal,
-            OpenFault::Memory => ConfigFault::New(NewFault::Memory),
-        }
-    }
-}
-
-/// The command of a line, if it is a command at end A.
-fn command_of(line: &Line) -> Option<Command>
-    ensures { result ≡ command_of line.now }
-{
-    match line {
-        Line::Action(Action::Event(Event::Command(End::A, command))) => Some(*command),
-        _ => None,
-    }
-}
-
-/// Carries out the command of line `n`.
-fn carry_out_line(keeper: &mut Keeper, n: u32, command: &Command) -> Result<(), ConfigFault>
-    ensures { map_ok (λ done. keeper.new) result ≡ after_command n keeper.old command.now }
-{
-    match keeper.command(command) {
-        Ok(()) => Ok(()),
-        Err(refusal) => Err(ConfigFault::Refused(n, refusal)),
-    }
-}
-
-/// Carries out the commands of these lines, until one is refused.
-fn carry_out_lines(keeper: &mut Keeper, commands: &[(u32, Command)]) -> Result<(), ConfigFault>
-    ensures { map_ok (λ done. keeper.new) result ≡ carried_out keeper.old commands.now }
-{
-    for (n, command) in commands {
-        carry_out_line(keeper, *n, command)?;
-    }
-    Ok(())
-}
-
-/// Creates an endpoint, and carries out these commands.
-fn endpoint_of(
-    alloc: Global,
-    end: EndConfig,
-    commands: &[(u32, Command)],
-) -> Result<Box<Keeper, Global>, ConfigFault>
-    ensures { MakesConfigured (endpoint_of created_alone (record { end = end; commands = commands.now })) (map_ok (λ keeper. keeper.value) result) }
-{
-    let mut keeper = endpoint_alone(alloc, end)?;
-    carry_out_lines(&mut *keeper, commands)?;
-    Ok(keeper)
-}
-
-/// Creates an endpoint beside a journal, and carries out these commands.
-fn endpoint_of_beside(
-    alloc: Global,
-    end: EndConfig,
-    commands: &[(u32, Command)],
-    journal: &[u8],
-) -> Result<Box<Keeper, Global>, ConfigFault>
-    ensures { MakesConfigured (endpoint_of (created_beside journal.now) (record { end = end; commands = commands.now }))
-        (map_ok (λ keeper. keeper.value) result) }
-{
-    let mut keeper = endpoint_beside(alloc, end, journal)?;
-    carry_out_lines(&mut *keeper, commands)?;
-    Ok(keeper)
-}
-
-/// Creates the endpoint of a configuration, and carries out its commands.
-fn configured(alloc: Global, text: &[u8]) -> Result<Box<Keeper, Global>, ConfigFault>
-    ensures { MakesConfigured (configured created_alone text.now) (map_ok (λ keeper. keeper.value) result) }
-{
-    let parsed = parse_config(alloc, text)?;
-    endpoint_of(alloc, parsed.end.config(), parsed.commands.as_slice())
-}
-
-/// Creates the endpoint of a configuration beside a journal, and carries out the configuration's commands.
-fn configured_beside(
-    alloc: Global,
-    text: &[u8],
-    journal: &[u8],
-) -> Result<Box<Keeper, Global>, ConfigFault>
-    ensures { MakesConfigured (configured (created_beside journal.now) text.now) (map_ok (λ keeper. keeper.value) result) }
-{
-    let parsed = parse_config(alloc, text)?;
-    endpoint_of_beside(
-        alloc,
-        parsed.end.config(),
-        parsed.commands.as_slice(),
-        journal,
-    )
-}
 
 /// Creates the endpoint of a configuration in a handle without one, and carries out the configuration's commands. If
 /// the text has a fault or a command is refused, the handle still holds no endpoint. `macsec_configure` of the header
@@ -234,19 +64,6 @@ pub extern "C" fn macsec_reserve_configure_raw(
     }
 }
 
-/// The command of a line at end A, or `None` if the line is skipped.
-fn line_command(alloc: Global, text: &[u8]) -> Result<Option<Command>, LineFault>
-    ensures { Reads (line_command text.now) result }
-{
-    let Some(line) = parse_line(alloc, text)? else {
-        return Ok(None);
-    };
-    match command_of(&line) {
-        Some(command) => Ok(Some(command)),
-        None => Err(LineFault::Ends),
-    }
-}
-
 /// Carries out the command of a line at end A, or refuses it and changes nothing. `macsec_command_line` of the header
 /// calls this with a text that is not null.
 #[unsafe(no_mangle)]
@@ -256,9 +73,5 @@ pub extern "C" fn macsec_command_line_raw(alloc: Global, e: &mut Endpoint, text:
     if !e.is_made() {
         return EMPTY;
     }
-    match line_command(alloc, text) {
-        Ok(Some(command)) => carry_out(e, Ok(command)),
-        Ok(None) => DONE,
-        Err(fault) => status_of_line_fault(fault),
-    }
+    command_line(alloc, e.keeper(), text)
 }

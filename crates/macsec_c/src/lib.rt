@@ -13,7 +13,7 @@
 //! it is freed, or freed twice. No clause says that the memory is given back.
 //!
 //! `macsec_seal_raw` has no handle: it seals a frame for a test as `protect_in_place` would, whatever its SecTAG is
-//! (`specs/Sealing.antt`).
+//! (`specs/Sealing.antt` of `macsec_c_calls`).
 //!
 //! No export has a `requires`. The caller in C has to ensure what references and handles mean. Each pointer leads to a
 //! value of its type, or to as many octets as the length beside it says, and nothing else points there. A handle begins

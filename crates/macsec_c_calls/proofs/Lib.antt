@@ -1,2 +1,3 @@
+pub mod Commanded
 pub mod Printed
 pub mod Short

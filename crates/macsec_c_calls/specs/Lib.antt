@@ -6,7 +6,9 @@ pub mod Keys
 pub mod Laws
 pub mod ReceivedParts
 pub mod Reserving
+pub mod Sealing
 pub mod SentParts
 pub mod Shown
 pub mod Statuses
+pub mod Texts
 pub mod Writing

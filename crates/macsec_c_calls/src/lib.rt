@@ -1,5 +1,5 @@
-//! What the calls of the library for C do, without its handles: the numbers of its interface, the answers to lines, and
-//! for an endpoint each command, each frame and each reader as C sees it. `macsec_c` exports these calls.
+//! What the calls of the library for C do, without its handles: the numbers of its interface, the texts that it reads,
+//! and for an endpoint each command, each frame and each reader as C sees it. `macsec_c` exports these calls.
 //!
 //! Proved:
 //! - Each number that is passed names what `specs/Arguments.antt` says, or is refused by the fault of its kind. The
@@ -8,6 +8,10 @@
 //!   nothing, its output is unchanged.
 //! - A command has the status of its output in the machine of `macsec_reserve` (`specs/Commands.antt`). The result for
 //!   a frame shows the output (`specs/SentParts.antt`, `specs/ReceivedParts.antt`).
+//! - `configured` and `configured_beside` create the endpoint of a text after the steps of all its commands, or give
+//!   the first fault or refusal, or run out of memory. `command_line` is the step of a line's command
+//!   (`specs/Texts.antt`).
+//! - `seal` seals a frame for a test as `protect_in_place` would, whatever its SecTAG is (`specs/Sealing.antt`).
 //! - `answer` writes the answer of `specs/Answers.antt` to the beginning of the buffer, and leaves the endpoint after
 //!   it. If the buffer is too small, or memory runs out, nothing is written and nothing has changed. A line that is
 //!   wrong, or that is not about end A alone, changes nothing; its answer is the fault's text. A law (`laws`): the text
@@ -18,10 +22,12 @@
 mod answering;
 mod arguments;
 mod commands;
+mod configuring;
 mod creating;
 pub mod laws;
 mod receiving;
 mod reserving;
+mod sealing;
 mod sending;
 mod showing;
 mod statuses;
@@ -32,11 +38,13 @@ pub use arguments::{
     ArgumentFault, an_of, form_of, key_number_of, key_of, key_suite_of, mode_of, suite_of,
 };
 pub use commands::{Sak, carry_out, new_key_of, rx_sa_of, tx_sa_of};
+pub use configuring::{ConfigFault, command_line, configured, configured_beside};
 pub use creating::{Config, config_of, endpoint_alone, endpoint_beside, status_of_open_fault};
 pub use receiving::{Received, received_of, unreceived};
 pub use reserving::{
     Record, note_durable, show_rx_floor, show_to_save, show_tx_floor, show_wanted, write_compacted,
 };
+pub use sealing::seal;
 pub use sending::{Sent, sent_of, unsent};
 pub use showing::{
     CountersShown, OptionsShown, RxCountersShown, RxRowShown, TxCountersShown, TxRowShown,

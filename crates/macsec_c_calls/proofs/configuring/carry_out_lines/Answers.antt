@@ -1,7 +1,7 @@
 use Rattle.std.proofs.Common.{arith}
 use Rattle.std.proofs.lemmas.Grind.{common_steps}
-use Rattle.macsec_c.proofs.Commanded.{one_more}
-use Rattle.macsec_c.proofs.configuring.carry_out_lines.Goals as goal
+use Rattle.macsec_c_calls.proofs.Commanded.{one_more}
+use Rattle.macsec_c_calls.proofs.configuring.carry_out_lines.Goals as goal
 
 pub loop-n-preserved : goal.loop-n-preserved
 loop-n-preserved c =

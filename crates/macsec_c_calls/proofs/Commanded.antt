@@ -10,8 +10,8 @@ use Rattle.macsec_commands.specs.declared.config.EndConfig.{EndConfig}
 use Rattle.macsec_commands.specs.Configs.{config_fault}
 use Rattle.macsec_reserve.specs.Journal.{is_journal}
 use Rattle.macsec_reserve.specs.Keeping.{Keeping, opened}
-use Rattle.macsec_c.specs.declared.configuring.ConfigFault.{ConfigFault}
-use Rattle.macsec_c.specs.Texts.{Creation, MakesConfigured, after_command, carried_out, created_beside, configured, created_if, endpoint_of, endpoint_of_parsed, unless_new_fault}
+use Rattle.macsec_c_calls.specs.declared.configuring.ConfigFault.{ConfigFault}
+use Rattle.macsec_c_calls.specs.Texts.{Creation, MakesConfigured, after_command, carried_out, created_beside, configured, created_if, endpoint_of, endpoint_of_parsed, unless_new_fault}
 
 first_left : (lines : List NumberedCommand) (i : ℕ) (entry : NumberedCommand) → entry ≡ get_or lines i entry → i < length lines →
     drop i lines ≡ entry ∷ drop (i + 1) lines

@@ -1,6 +1,6 @@
-use Rattle.macsec_c.specs.Texts.{created_alone}
-use Rattle.macsec_c.proofs.Commanded.{configured_by}
-use Rattle.macsec_c.proofs.configuring.configured.Goals as goal
+use Rattle.macsec_c_calls.specs.Texts.{created_alone}
+use Rattle.macsec_c_calls.proofs.Commanded.{configured_by}
+use Rattle.macsec_c_calls.proofs.configuring.configured.Goals as goal
 
 pub returns : goal.returns
 returns c =

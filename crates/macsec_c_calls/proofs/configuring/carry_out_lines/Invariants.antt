@@ -1,6 +1,6 @@
 use Rattle.std.proofs.Common.{◌≡◌, drop}
-use Rattle.macsec_c.specs.Texts.{carried_out}
-use Rattle.macsec_c.proofs.configuring.carry_out_lines.Given as goal
+use Rattle.macsec_c_calls.specs.Texts.{carried_out}
+use Rattle.macsec_c_calls.proofs.configuring.carry_out_lines.Given as goal
 
 -- the remaining commands, from here, give what all commands give
 abbrev pub invariant-loop-n : goal.invariant-loop-n

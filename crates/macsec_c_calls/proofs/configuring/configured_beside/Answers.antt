@@ -1,6 +1,6 @@
-use Rattle.macsec_c.specs.Texts.{created_beside}
-use Rattle.macsec_c.proofs.Commanded.{configured_by}
-use Rattle.macsec_c.proofs.configuring.configured_beside.Goals as goal
+use Rattle.macsec_c_calls.specs.Texts.{created_beside}
+use Rattle.macsec_c_calls.proofs.Commanded.{configured_by}
+use Rattle.macsec_c_calls.proofs.configuring.configured_beside.Goals as goal
 
 pub returns : goal.returns
 returns c =
