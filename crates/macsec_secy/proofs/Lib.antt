@@ -7,7 +7,7 @@ pub mod JudgedBy
 pub mod ChannelsCounted
 pub mod Steps
 pub mod SentFrames
-pub mod TaggedFrames
+pub mod ReceivedFrames
 pub mod Limits
 pub mod Sums
 pub mod ChannelAt

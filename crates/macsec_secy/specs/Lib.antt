@@ -18,3 +18,4 @@ pub mod Kept
 pub mod Protects
 pub mod Delivers
 pub mod Jobs
+pub mod Outcomes

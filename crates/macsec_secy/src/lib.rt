@@ -48,18 +48,16 @@ pub mod laws;
 mod managing;
 mod options;
 mod receiving;
+mod reception;
 mod showing;
 
 pub use answers::{DropReason, Planned, Received, Sent};
-use arrayvec::ArrayVec;
-use associations::count_at_row;
 pub use counters::{ChannelCounters, Counters, RxCounters, TxCounters};
 pub use fault::FrameFault;
 pub use macsec_commands::{
     An, Command, EndConfig, Key, KeyNumber, MAX_FRAME_LEN, MIN_MAX_FRAME, Mode, NewFault, NewKey,
     Sci, Suite, TagForm,
 };
-use macsec_rx::{MAX_CHANNEL_COUNT, RxChannels};
 pub use macsec_rx::{OpenJob, OpenedFrame, RxRow, Verdict};
 pub use macsec_suite::Refusal;
 use macsec_suite::{KeyTable, SuiteKey};
@@ -68,7 +66,7 @@ use macsec_tag::{ADDRESSES_LENGTH, MIN_FRAME_LEN, Read};
 pub use macsec_tx::{EnabledSa, SealJob, TxRow};
 use macsec_tx::{TxChannel, TxPlan};
 pub use options::Options;
-use receiving::{delivered_octets, delivered_untagged, sci_and_number, verdict_on_untagged};
+use reception::CountedChannels;
 use std::alloc::Global;
 use std::marker::Model;
 
@@ -79,10 +77,9 @@ pub struct Secy {
     options: Options,
     keys: KeyTable,
     tx: TxChannel,
-    rx: RxChannels,
+    rx: CountedChannels,
     counters: Counters,
     tx_counters: TxCounters,
-    rx_counters: ArrayVec<ChannelCounters, MAX_CHANNEL_COUNT>,
     /// A buffer for the longest frame. Protected frames, and frames delivered from tagged ones, are written here.
     room: Vec<u8>,
 }
@@ -99,10 +96,10 @@ impl Model for Secy {
       options = s.options;
       keys = s.keys;
       tx = s.tx;
-      rx = s.rx;
+      rx = s.rx.channels;
       counters = s.counters;
       tx_counters = s.tx_counters;
-      rx_counters = s.rx_counters.items;
+      rx_counters = s.rx.counters.items;
     } };
 
     // The state is sound, and the buffer holds the longest frame.
@@ -111,10 +108,10 @@ impl Model for Secy {
       options = s.options;
       keys = s.keys;
       tx = s.tx;
-      rx = s.rx;
+      rx = s.rx.channels;
       counters = s.counters;
       tx_counters = s.tx_counters;
-      rx_counters = s.rx_counters.items;
+      rx_counters = s.rx.counters.items;
     }) (vec_len s.room) };
 }
 
@@ -147,10 +144,9 @@ impl Secy {
             },
             keys,
             tx: TxChannel::new(),
-            rx: RxChannels::new(),
+            rx: CountedChannels::new(),
             counters: Counters::zero(),
             tx_counters: TxCounters::zero(),
-            rx_counters: ArrayVec::new(),
             room,
         })
     }
@@ -207,9 +203,9 @@ impl Secy {
                 ssci,
                 lowest,
             } => self.rx_sa(sci, an, key, ssci, lowest),
-            Command::RxOn(sci, an) => self.rx.rx_on(sci, an),
-            Command::RxOff(sci, an) => self.rx.rx_off(sci, an),
-            Command::RxLow { sci, an, pn } => self.rx.rx_low(&self.keys, sci, an, pn),
+            Command::RxOn(sci, an) => self.rx.channels.rx_on(sci, an),
+            Command::RxOff(sci, an) => self.rx.channels.rx_off(sci, an),
+            Command::RxLow { sci, an, pn } => self.rx.channels.rx_low(&self.keys, sci, an, pn),
             Command::RxDel(sci, an) => self.rx_del(sci, an),
         }
     }
@@ -351,46 +347,15 @@ impl Secy {
             return Err(fault);
         }
         let options = self.rx_options();
-        match read(frame) {
-            Read::Untagged => {
-                let verdict = verdict_on_untagged(options.mode);
-                self.counters.count_packet(verdict);
-                Ok(Received {
-                    verdict,
-                    row: None,
-                    uncontrolled: frame,
-                    controlled: delivered_untagged(options.mode, frame),
-                })
-            }
-            Read::Bad(_) => {
-                self.counters.count_packet(Verdict::BadTag);
-                Ok(Received {
-                    verdict: Verdict::BadTag,
-                    row: None,
-                    uncontrolled: frame,
-                    controlled: None,
-                })
-            }
-            Read::Tagged(mpdu) => {
-                let judged = self.rx.judge(
-                    &self.keys,
-                    &options,
-                    &mpdu,
-                    &None,
-                    self.room.as_mut_slice(),
-                );
-                let octets = mpdu.secure_data().len() as u64;
-                self.counters
-                    .count_tagged(options.mode, judged.verdict, mpdu.tag().e(), octets);
-                count_at_row(self.rx_counters.as_mut_slice(), &judged);
-                Ok(Received {
-                    verdict: judged.verdict,
-                    row: sci_and_number(judged.row),
-                    uncontrolled: frame,
-                    controlled: delivered_octets(&judged, self.room.as_slice()),
-                })
-            }
-        }
+        let outcome = self.rx.receive(
+            &mut self.counters,
+            &self.keys,
+            &options,
+            frame,
+            &None,
+            self.room.as_mut_slice(),
+        );
+        Ok(outcome.received(frame, self.room.as_slice()))
     }
 
     /// The opening that `finish_receive` would need for this frame now, if it would need one. Nothing changes, and
@@ -403,7 +368,7 @@ impl Secy {
         }
         let options = self.rx_options();
         match read(frame) {
-            Read::Tagged(mpdu) => self.rx.plan_open(&self.keys, &options, &mpdu),
+            Read::Tagged(mpdu) => self.rx.channels.plan_open(&self.keys, &options, &mpdu),
             Read::Untagged | Read::Bad(_) => None,
         }
     }
@@ -428,41 +393,8 @@ impl Secy {
             return Err(fault);
         }
         let options = self.rx_options();
-        match read(frame) {
-            Read::Untagged => {
-                let verdict = verdict_on_untagged(options.mode);
-                self.counters.count_packet(verdict);
-                Ok(Received {
-                    verdict,
-                    row: None,
-                    uncontrolled: frame,
-                    controlled: delivered_untagged(options.mode, frame),
-                })
-            }
-            Read::Bad(_) => {
-                let controlled = None;
-                self.counters.count_packet(Verdict::BadTag);
-                Ok(Received {
-                    verdict: Verdict::BadTag,
-                    row: None,
-                    uncontrolled: frame,
-                    controlled,
-                })
-            }
-            Read::Tagged(mpdu) => {
-                let judged = self.rx.judge(&self.keys, &options, &mpdu, opened, out);
-                let octets = mpdu.secure_data().len() as u64;
-                self.counters
-                    .count_tagged(options.mode, judged.verdict, mpdu.tag().e(), octets);
-                count_at_row(self.rx_counters.as_mut_slice(), &judged);
-                Ok(Received {
-                    verdict: judged.verdict,
-                    row: sci_and_number(judged.row),
-                    uncontrolled: frame,
-                    controlled: delivered_octets(&judged, out),
-                })
-            }
-        }
+        let outcome = self.rx.receive(&mut self.counters, &self.keys, &options, frame, opened, out);
+        Ok(outcome.received(frame, out))
     }
 
     /// The fault of a frame, if it has one. It depends only on the frame's length, not on the endpoint. This is a

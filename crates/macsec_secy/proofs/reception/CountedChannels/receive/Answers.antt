@@ -1,0 +1,23 @@
+-- A tagged frame: the SCs are as they were judged, and the counters as they were counted.
+use Rattle.std.proofs.Common.{◌≡◌, ◌∙◌, ap, length, refl, rules, sym}
+use Rattle.macsec_tag.specs.Table.{reading, tagged}
+use Rattle.macsec_secy.specs.Verdicts.{counted_at_place, counted_by}
+use Rattle.macsec_secy.proofs.ChannelsCounted.{counted_again}
+use Rattle.macsec_secy.proofs.ReceivedFrames.{tagged_step}
+use Rattle.macsec_secy.proofs.reception.CountedChannels.receive.Goals as goal
+
+pub returns-in-Tagged-clause-step : goal.returns-in-Tagged-clause-step
+returns-in-Tagged-clause-step c s parts =
+    let a = c.args in
+    let p = c.in-Tagged.mpdu in
+    let judged = c.judge-judged in
+    let shows = judged.ensures.judged in
+    let row = c.sci_and_number.ensures in
+    let rows = a.self.now.counters.items in
+    let reads : reading a.frame.now ≡ tagged p = search rules in
+    let after = counted_by a.options.now.mode judged.result.verdict p.tag.e (length p.secure_data) a.counters.now in
+    let counters : c.count_tagged.new.self ≡ after = rw (c.count_tagged.ensures, c.e.ensures, c.tag.ensures, c.secure_data.ensures) (refl {a = after}) in
+    let counted = counted_again rows c.as_mut_slice.result.now c.count_at_row.new.rows judged.result.verdict judged.result.row c.as_mut_slice.ensures.value c.count_at_row.ensures in
+    tagged_step s a.frame.now judged.new.out p reads c.requires.fits a.options.now a.keys.now a.self.now _ a.counters.now c.count_tagged.new.self _ parts
+    shows.verdict (row ∙ shows.row) (c.delivered_in_buffer.ensures.octets a.frame.now judged.new.out ∙ shows.delivered) judged.ensures.numbers counters
+    (counted ∙ ap (λ r. counted_at_place judged.result.verdict r rows) (sym row))

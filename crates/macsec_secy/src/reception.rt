@@ -1,0 +1,178 @@
+//! Reception of a link frame over the receive SCs (secure channels) and their counters (IEEE 802.1AE, 10.6). The
+//! caller has the buffer for the delivered frame.
+
+ghost use Rattle.std.specs.Prelude.{◌≡◌, ◌+◌, ◌≤◌, ℕ, List, [], Ok, None, IfSome, length, map, option_map};
+ghost use Rattle.macsec_tag.specs.Limits.{max_frame_len};
+ghost use Rattle.macsec_rx.specs.Channels.{no_channels};
+ghost use Rattle.macsec_rx.specs.Commands.{HaveRxKeys};
+ghost use Rattle.macsec_rx.specs.Judge.{octets_at};
+ghost use Rattle.macsec_rx.specs.Rows.{AreChannels};
+ghost use Rattle.macsec_secy.specs.Answers.{output_of_received};
+ghost use Rattle.macsec_secy.specs.Jobs.{OpensFrame};
+ghost use Rattle.macsec_secy.specs.Outcomes.{ArePartsOf, IsStep, IsWithin, octets_delivered, output_of_outcome};
+ghost use Rattle.macsec_secy.specs.Sound.{sci_of_counters};
+ghost use Rattle.macsec_secy.specs.State.{State};
+ghost use Rattle.macsec_secy.specs.Step.{frame_fault};
+ghost use Rattle.macsec_secy.specs.Verdicts.{delivered_untagged, verdict_on_untagged};
+
+use crate::associations::count_at_row;
+use crate::{An, ChannelCounters, Counters, Mode, OpenedFrame, Received, Sci, Verdict};
+use arrayvec::ArrayVec;
+use macsec_rx::{MAX_CHANNEL_COUNT, RxChannels, RxOptions};
+use macsec_suite::KeyTable;
+use macsec_tag::Read;
+use macsec_tag::reading::read;
+
+/// Where the delivered frame is.
+#[derive(Clone, Copy)]
+pub(crate) enum Delivered {
+    /// Nothing is delivered.
+    Nothing,
+    /// The received frame itself is delivered.
+    Frame,
+    /// The frame at this index of the buffer, with this length.
+    At(usize, usize),
+}
+
+/// The result for a link frame, without the frames themselves.
+#[derive(Clone, Copy)]
+pub(crate) struct Outcome {
+    verdict: Verdict,
+    row: Option<(Sci, u8)>,
+    delivered: Delivered,
+}
+
+impl Outcome {
+    /// The result for this frame, with the buffer that `CountedChannels::receive` wrote.
+    pub(crate) fn received<'a>(&self, frame: &'a [u8], room: &'a [u8]) -> Received<'a>
+        requires within { IsWithin self.now.delivered (length room.now) }
+        ensures { output_of_received (Ok result) ≡ output_of_outcome self.now frame.now room.now }
+    {
+        let controlled = match self.delivered {
+            Delivered::Nothing => None,
+            Delivered::Frame => Some(frame),
+            Delivered::At(place, length) => Some(&room[place..place + length]),
+        };
+        Received {
+            verdict: self.verdict,
+            row: self.row,
+            uncontrolled: frame,
+            controlled,
+        }
+    }
+}
+
+/// The receive SCs, each with its counters.
+#[derive(Drop)]
+pub(crate) struct CountedChannels {
+    pub(crate) channels: RxChannels,
+    /// In the order of the SCs.
+    pub(crate) counters: ArrayVec<ChannelCounters, MAX_CHANNEL_COUNT>,
+}
+
+impl CountedChannels {
+    /// No receive SCs.
+    pub(crate) fn new() -> CountedChannels
+        ensures channels { result.channels ≡ no_channels }
+        ensures counters { result.counters.items ≡ [] }
+        ensures sound { AreChannels result.channels }
+    {
+        CountedChannels {
+            channels: RxChannels::new(),
+            counters: ArrayVec::new(),
+        }
+    }
+
+    /// Receives a frame without a fault. `counters` are the endpoint's own. A frame that is delivered from a tagged one
+    /// is in `out` afterwards. `opened` is what `open_frame` gave for the frame, if anything.
+    pub(crate) fn receive(
+        &mut self,
+        counters: &mut Counters,
+        keys: &KeyTable,
+        options: &RxOptions,
+        frame: &[u8],
+        opened: &Option<OpenedFrame>,
+        out: &mut [u8],
+    ) -> Outcome
+        requires fits { frame_fault frame.now ≡ None }
+        requires sound { AreChannels self.old.channels }
+        requires keys_there { HaveRxKeys keys.now self.old.channels.rows }
+        requires counted { map sci_of_counters self.old.counters.items ≡ self.old.channels.scis }
+        requires room { max_frame_len ≤ length out.old }
+        requires opened { OpensFrame opened.now keys.now frame.now out.old }
+        ensures step { (s : State) → ArePartsOf s options.now keys.now self.old counters.old → IsStep s frame.now out.new result self.new counters.new }
+        ensures within { IsWithin result.delivered (length out.new) }
+        ensures channels { AreChannels self.new.channels }
+    {
+        match read(frame) {
+            Read::Untagged => {
+                let verdict = verdict_on_untagged(options.mode);
+                counters.count_packet(verdict);
+                Outcome {
+                    verdict,
+                    row: None,
+                    delivered: delivered_untagged(options.mode),
+                }
+            }
+            Read::Bad(_) => {
+                counters.count_packet(Verdict::BadTag);
+                Outcome {
+                    verdict: Verdict::BadTag,
+                    row: None,
+                    delivered: Delivered::Nothing,
+                }
+            }
+            Read::Tagged(mpdu) => {
+                let judged = self.channels.judge(keys, options, &mpdu, opened, out);
+                let octets = mpdu.secure_data().len() as u64;
+                counters.count_tagged(options.mode, judged.verdict, mpdu.tag().e(), octets);
+                count_at_row(self.counters.as_mut_slice(), &judged);
+                Outcome {
+                    verdict: judged.verdict,
+                    row: sci_and_number(judged.row),
+                    delivered: delivered_in_buffer(judged.delivered),
+                }
+            }
+        }
+    }
+}
+
+/// The verdict on an untagged frame.
+fn verdict_on_untagged(mode: Mode) -> Verdict
+    ensures { result ≡ verdict_on_untagged mode }
+{
+    match mode {
+        Mode::Strict => Verdict::NoTag,
+        Mode::Check | Mode::Disabled => Verdict::Untagged,
+    }
+}
+
+/// What is delivered for an untagged frame: the frame itself, or nothing.
+fn delivered_untagged(mode: Mode) -> Delivered
+    ensures octets { (frame room : List ℕ) → octets_delivered result frame room ≡ delivered_untagged mode frame }
+    ensures within { (room_length : ℕ) → IsWithin result room_length }
+{
+    match mode {
+        Mode::Strict => Delivered::Nothing,
+        Mode::Check | Mode::Disabled => Delivered::Frame,
+    }
+}
+
+/// What is delivered for a tagged frame: octets of the buffer, or nothing.
+fn delivered_in_buffer(place: Option<(usize, usize)>) -> Delivered
+    ensures octets { (frame room : List ℕ) → octets_delivered result frame room ≡ option_map (octets_at room) place }
+    ensures within { (room_length : ℕ) → IfSome place (λ at. at.0 + at.1 ≤ room_length) → IsWithin result room_length }
+{
+    match place {
+        Some((index, length)) => Delivered::At(index, length),
+        None => Delivered::Nothing,
+    }
+}
+
+/// An SA as its SCI and its association number.
+fn sci_and_number(row: Option<(Sci, An)>) -> Option<(Sci, u8)>
+    ensures { result ≡ row }
+{
+    let (sci, an) = row?;
+    Some((sci, an.number()))
+}
