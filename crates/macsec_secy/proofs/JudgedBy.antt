@@ -28,7 +28,7 @@ pub data JudgedBy (s : State) (frame : List ℕ) : Reading → Judgement → Typ
   step_4 : {p : MpduParts} → JudgedBy s frame (tagged p) (without_row 4 Reserved None)
   step_5 : {p : MpduParts} → JudgedBy s frame (tagged p) (without_row 5 NoSaError None)
   step_6 : {p : MpduParts} → JudgedBy s frame (tagged p) (without_row 6 NoSa (Some (bare_frame p)))
-  step_7 : {p : MpduParts} {row : RxRow} → used_in s (tagged p) ≡ Some row → JudgedBy s frame (tagged p) (at_row row 0 7 BadTag None)
+  step_7 : {p : MpduParts} {sa : RxRow} → used_in s (tagged p) ≡ Some sa → JudgedBy s frame (tagged p) (at_row sa 0 7 BadTag None)
   step_8 : {p : MpduParts} {row : RxRow} {number : ℕ} → used_in s (tagged p) ≡ Some row → JudgedBy s frame (tagged p) (at_row row number 8 Late None)
   step_9 : {p : MpduParts} {row : RxRow} {number : ℕ} → IsInTime s p row number → is_disabled s.options.mode ≡ true →
       JudgedBy s frame (tagged p) (at_row row number 9 NotValid None)

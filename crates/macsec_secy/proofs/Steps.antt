@@ -43,7 +43,7 @@ bad_tag_counted_elsewhere sci an (row ∷ rows) = by_test (same_sci row.sci sci)
     by_test false later = ap (λ rs. row ∷ rs) later
 
 pub tells_by : (s : State) (frame : List ℕ) (r : Reading) (j : Judgement) → JudgedBy s frame r j → Tells s.options.mode j
-tells_by s frame r j (step_7 {row = row} used) = record { packet = λ c. refl; channel = bad_tag_counted_elsewhere row.sci row.an; opened = refl }
+tells_by s frame r j (step_7 {sa = row} used) = record { packet = λ c. refl; channel = bad_tag_counted_elsewhere row.sci row.an; opened = refl }
 tells_by s frame r j (step_9 it disabled) = record { packet = λ c. refl; channel = λ rows. refl; opened = ap (λ b. not b) (sym disabled) }
 tells_by s frame r j (step_10 it disabled true) = record { packet = λ c. refl; channel = λ rows. refl; opened = ap (λ b. not b) (sym disabled) }
 tells_by s frame r j (step_11 it validates) = record { packet = λ c. refl; channel = λ rows. refl; opened = ap (λ b. not b) (sym validates) }
