@@ -11,7 +11,7 @@ use std::alloc::Global;
 use std::process::Abort;
 
 /// The sender, which has the SCI of the test frames.
-const SENDER: EndConfig = EndConfig {
+pub(crate) const SENDER: EndConfig = EndConfig {
     suite: Suite::Gcm128,
     sci: Sci(SCI),
     max_frame: 1518,
@@ -35,7 +35,7 @@ enum Answer {
     Fault(FrameFault),
 }
 
-fn key_number(rt: &impl Abort) -> KeyNumber {
+pub(crate) fn key_number(rt: &impl Abort) -> KeyNumber {
     KeyNumber::new(4095).expect(rt, "a key number")
 }
 
@@ -51,12 +51,17 @@ fn senders_key(rt: &impl Abort) -> NewKey {
     }
 }
 
-fn an(rt: &impl Abort, number: u8) -> An {
+pub(crate) fn an(rt: &impl Abort, number: u8) -> An {
     An::new(number).expect(rt, "an association number")
 }
 
 /// An endpoint with this configuration, after these commands, all of which it accepts.
-fn endpoint(rt: &impl Abort, alloc: Global, config: EndConfig, commands: &[Command]) -> Secy {
+pub(crate) fn endpoint(
+    rt: &impl Abort,
+    alloc: Global,
+    config: EndConfig,
+    commands: &[Command],
+) -> Secy {
     let mut secy = Secy::new(alloc, config).expect(rt, "an endpoint");
     for command in commands {
         carry_out(rt, &mut secy, command);
@@ -65,7 +70,7 @@ fn endpoint(rt: &impl Abort, alloc: Global, config: EndConfig, commands: &[Comma
 }
 
 /// Gives the endpoint a command, which it must accept.
-fn carry_out(rt: &impl Abort, secy: &mut Secy, command: &Command) {
+pub(crate) fn carry_out(rt: &impl Abort, secy: &mut Secy, command: &Command) {
     assert!(rt; secy.command(command).is_ok());
 }
 
@@ -78,7 +83,7 @@ fn answer_to(secy: &mut Secy, client: &[u8]) -> Answer {
 }
 
 /// The commands that enable an SA with the sender's key.
-fn sending(rt: &impl Abort, an: An, next: u64, conf: bool) -> [Command; 3] {
+pub(crate) fn sending(rt: &impl Abort, an: An, next: u64, conf: bool) -> [Command; 3] {
     let association = Command::TxSa {
         an,
         key: key_number(rt),
@@ -233,7 +238,7 @@ fn options(rt: HostRuntime) {
 
 /// The receiver of the test frames. Its key has another suite than its configuration. Its SA 2 is for the test frames,
 /// and its SA 3 starts with the last packet number.
-fn receiver(rt: &impl Abort, alloc: Global) -> Secy {
+pub(crate) fn receiver(rt: &impl Abort, alloc: Global) -> Secy {
     let config = EndConfig {
         sci: Sci([0, 0, 0, 0, 0, 0, 0, 2]),
         ..SENDER
@@ -269,7 +274,7 @@ fn receiver(rt: &impl Abort, alloc: Global) -> Secy {
 }
 
 /// The result for a link frame: the verdict, its SA, and what is delivered.
-type Wanted<'a> = (Verdict, Option<(Sci, u8)>, Option<&'a [u8]>);
+pub(crate) type Wanted<'a> = (Verdict, Option<(Sci, u8)>, Option<&'a [u8]>);
 
 /// The result for a link frame without a fault, and the frame shown at the uncontrolled port.
 fn received<'a>(secy: &'a mut Secy, link: &'a [u8]) -> Option<(Wanted<'a>, &'a [u8])> {
@@ -297,7 +302,7 @@ const REPLAY_OFF: Command = Command::Replay {
 };
 
 /// A command, a frame, the octets of it that are changed, and the result.
-type Case = (
+pub(crate) type Case = (
     Command,
     &'static [u8],
     &'static [(usize, u8)],
@@ -305,7 +310,7 @@ type Case = (
 );
 
 /// The frames that the receiver of the test frames gets, one after another.
-const CASES: [Case; 13] = [
+pub(crate) const CASES: [Case; 13] = [
     (STRICT, &CLIENT_54, &[], (Verdict::NoTag, None, None)),
     (
         CHECK,
@@ -376,7 +381,7 @@ const CASES: [Case; 13] = [
     ),
 ];
 
-fn set(link: &mut [u8], place: usize, octet: u8) {
+pub(crate) fn set(link: &mut [u8], place: usize, octet: u8) {
     if let Some(at) = link.get_mut(place) {
         *at = octet;
     }
@@ -397,7 +402,7 @@ fn assert_case(rt: &impl Abort, secy: &mut Secy, case: &Case) {
     assert_received(rt, secy, link, *wanted);
 }
 
-fn passed_and_late(counters: Option<RxCounters>) -> Option<(u64, u64)> {
+pub(crate) fn passed_and_late(counters: Option<RxCounters>) -> Option<(u64, u64)> {
     let counters = counters?;
     Some((counters.in_pkts_ok, counters.in_pkts_late))
 }

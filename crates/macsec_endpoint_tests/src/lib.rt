@@ -7,6 +7,8 @@
 #[cfg(test)]
 mod endpoint;
 #[cfg(test)]
+mod jobs;
+#[cfg(test)]
 mod numbers;
 #[cfg(test)]
 mod restarts;
