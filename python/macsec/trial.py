@@ -10,6 +10,7 @@ from .secy import Received, SecY
 
 # Verdicts on frames that were opened: the ICV is valid.
 OPENED = (Verdict.OK, Verdict.Delayed)
+_LAST_SSCI = 0xFFFF_FFFF
 _OWN_SCIS = (bytes.fromhex("02ffffffffff0001"), bytes.fromhex("02fffffffffe0001"))
 
 
@@ -50,14 +51,18 @@ class Trial:
         self.secy = SecY(own_sci(sci), key.suite)
         self.secy.set_replay(False)
         # The endpoint's own SSCI has to be another one.
-        self.secy.install_key(0, key.octets, offset=key.offset, ssci=ssci ^ 0xFFFF_FFFF, salt=key.salt)
+        self._own_ssci = 0 if ssci == _LAST_SSCI else _LAST_SSCI
+        self.secy.install_key(0, key.octets, offset=key.offset, ssci=self._own_ssci, salt=key.salt)
         self.secy.add_rx_sc(sci)
         self._has_sa = False
 
-    def begin(self, upper: int = 0) -> None:
-        """Begins the association anew, with this upper half of extended packet numbers."""
+    def begin(self, upper: int = 0, ssci: int | None = None) -> None:
+        """Begins the association anew, with this upper half of extended packet numbers, and another SSCI if one is
+        given."""
         if self._has_sa:
             self.secy.delete_rx_sa(self.sci, self.an)
+            self._has_sa = False
+        self.ssci = self.ssci if ssci is None else ssci
         self.secy.add_rx_sa(self.sci, self.an, 0, upper << 32 | 1, self.ssci)
         self.secy.enable_rx_sa(self.sci, self.an)
         self._has_sa = True
@@ -70,8 +75,45 @@ class Trial:
         """The whole packet number of the last frame, which was opened and has this PN in its SecTAG."""
         return whole_number(pn, self.secy.rx_sa(self.sci, self.an).next)
 
+    @property
+    def sci_of_iv(self) -> bytes | None:
+        """The SCI in the IVs, if it is not the one that the tags mean."""
+        return None
+
     def close(self) -> None:
         self.secy.close()
+
+
+def of_iv(key: Key, sci: bytes) -> Key:
+    """A key of an extended suite that opens what `key` protects under IVs with this SCI, whatever SCI the tags mean:
+    with SSCI 1 and upper half 0 its IVs are the same. There is no such key with an offset.
+
+    >>> of_iv(Key(bytes(16), Suite.gcm128), bytes.fromhex("0200000000010005")).salt.hex()
+    '020000010001000500000000'
+    """
+    assert not key.suite.is_extended and not key.offset
+    suite = Suite.xpn128 if key.suite == Suite.gcm128 else Suite.xpn256
+    return key._replace(suite=suite, salt=bytes([*sci[:3], sci[3] ^ 1, *sci[4:], 0, 0, 0, 0]))
+
+
+class IvTrial(Trial):
+    """A trial for tags with ES or SCB whose IVs have another SCI. No receiver of the standard opens such frames. Each is
+    opened as a first one: packet numbers have 32 bits."""
+
+    def __init__(self, key: Key, sci: bytes, meant: bytes, an: int) -> None:
+        super().__init__(of_iv(key, sci), meant, an, 1)
+        self._sci_of_iv = sci
+
+    def receive(self, frame: bytes) -> Received:
+        self.begin(0)
+        return super().receive(frame)
+
+    def packet_number(self, pn: int) -> int:
+        return pn
+
+    @property
+    def sci_of_iv(self) -> bytes | None:
+        return self._sci_of_iv
 
 
 class Trials:
@@ -80,7 +122,7 @@ class Trials:
     MOST = 64
 
     def __init__(self) -> None:
-        self._kept: dict[tuple[Key, bytes, int, int], Trial] = {}
+        self._kept: dict[tuple[Key, bytes, int, bool], Trial] = {}
 
     def opens(self, key: Key, sci: bytes, an: int, frame: bytes, ssci: int = 0, upper: int = 0) -> bool:
         """Does the frame open so, as the first one of its association?"""
@@ -90,13 +132,13 @@ class Trials:
         """Its verdict so; None if no suite has such a key or offset, or no endpoint takes such a frame."""
         try:
             trial = self._trial(key, sci, an, ssci)
-            trial.begin(upper)
+            trial.begin(upper, ssci)
             return trial.receive(frame).verdict
         except MacsecError:
             return None
 
     def _trial(self, key: Key, sci: bytes, an: int, ssci: int) -> Trial:
-        place = (key, sci, an, ssci)
+        place = (key, sci, an, ssci == _LAST_SSCI)
         if place not in self._kept:
             if len(self._kept) >= self.MOST:
                 self.close()
@@ -111,7 +153,8 @@ class Trials:
 
 
 class KeyArgument(NamedTuple):
-    """The value of an option --key: a key, and whose it is where that is said."""
+    """The value of an option --key: a key, and whose it is where that is said. What MKA says of a key is after `id`;
+    `sscis` are SSCIs that senders can have."""
 
     octets: bytes
     salt: bytes | None = None
@@ -119,9 +162,17 @@ class KeyArgument(NamedTuple):
     sci: bytes | None = None
     an: int | None = None
     id: str | None = None
+    upper: int | None = None
+    suite: Suite | None = None
+    offset: int | None = None
+    name: str = ""
+    sscis: tuple[tuple[bytes, int], ...] = ()
 
     def suites(self, asked: Suite | None = None) -> tuple[Suite, ...]:
-        """The suites that the key can be of: one that was asked for, or by its length and whether it has a salt."""
+        """The suites that the key can be of: its own, one that was asked for, or by its length and whether it has a
+        salt."""
+        if self.suite is not None:
+            return (self.suite,) if asked in (None, self.suite) else ()
         if asked is not None:
             return (asked,) if asked.key_octets == len(self.octets) else ()
         if len(self.octets) == 16:
@@ -141,24 +192,29 @@ def _hex(text: str, what: str, *lengths: int) -> bytes:
 
 
 def key_argument(text: str) -> KeyArgument:
-    """Reads [WHOSE=]KEY[:SALT[:SSCI]], where WHOSE is SCI, SCI/AN, /AN, or the identifier of the key for `ip macsec`.
+    """Reads [WHOSE=]KEY[:SALT[:SSCI[:UPPER]]], where WHOSE is SCI, SCI/AN, /AN, or the identifier of the key for
+    `ip macsec`. UPPER is the upper half of the packet number; SSCI can be empty before it.
 
     >>> key_argument("0200000000010001/3=ad7a2bd03eac835a6f620fdcb506b345").an
     3
     >>> key_argument("ad7a2bd03eac835a6f620fdcb506b345:a0a1a2a3a4a5a6a7a8a9aaab:00000002").ssci
     2
+    >>> key_argument("ad7a2bd03eac835a6f620fdcb506b345:a0a1a2a3a4a5a6a7a8a9aaab::1f4").upper
+    500
     """
     whose, _, rest = text.rpartition("=")
     parts = rest.split(":")
-    if len(parts) > 3:
-        raise UsageError("--key: KEY, KEY:SALT or KEY:SALT:SSCI expected")
+    if len(parts) > 4:
+        raise UsageError("--key: KEY, KEY:SALT, KEY:SALT:SSCI or KEY:SALT:SSCI:UPPER expected")
     octets = _hex(parts[0], "the key", 16, 32)
     salt = _hex(parts[1], "the salt", 12) if len(parts) > 1 else None
-    ssci = int.from_bytes(_hex(parts[2], "the SSCI", 4), "big") if len(parts) > 2 else None
+    has_ssci = len(parts) > 3 and parts[2] or len(parts) == 3
+    ssci = int.from_bytes(_hex(parts[2], "the SSCI", 4), "big") if has_ssci else None
+    upper = int.from_bytes(_hex(parts[3].zfill(8), "the upper half", 4), "big") if len(parts) > 3 else None
     sci_text, slash, an_text = whose.partition("/")
     if slash and an_text not in ("0", "1", "2", "3"):
         raise UsageError(f"--key: the association number {an_text!r} is not 0 to 3")
     an = int(an_text) if slash else None
     if sci_text and not slash and len(sci_text) != 16:
-        return KeyArgument(octets, salt, ssci, id=sci_text.lower().ljust(32, "0"))
-    return KeyArgument(octets, salt, ssci, _hex(sci_text, "the SCI", 8) if sci_text else None, an)
+        return KeyArgument(octets, salt, ssci, id=sci_text.lower().ljust(32, "0"), upper=upper)
+    return KeyArgument(octets, salt, ssci, _hex(sci_text, "the SCI", 8) if sci_text else None, an, upper=upper)

@@ -1,0 +1,234 @@
+"""SAKs from a CAK: captures of wpa_supplicant with what it logged, MKPDUs that the tests make, and hostile ones."""
+
+from __future__ import annotations
+
+import importlib.util
+import random
+import re
+import shutil
+import subprocess
+import sys
+import time
+import unittest
+from unittest import mock
+
+from macsec import Suite, UsageError, capture
+from macsec.cak import Cak, KeyAgreements, cak_of, caks_of_file, derived, salt_of
+from macsec.mka import read_mkpdu
+
+from .helpers import ROOT, InFolder
+
+DATA = ROOT / "python" / "tests" / "data"
+HAS_CRYPTOGRAPHY = importlib.util.find_spec("cryptography") is not None
+NEEDS = unittest.skipUnless(HAS_CRYPTOGRAPHY, "the Python package cryptography is not installed")
+CAK, CKN = bytes(range(16)), bytes(range(32, 64))
+# The captures that tests/data/README.md describes, with the suite, the offset, and how many SAKs there are.
+CAPTURES = (
+    ("cak-rekeys", Suite.gcm128, 0, 11), ("cak-256", Suite.gcm256, 0, 2), ("cak-integrity", Suite.gcm128, 0, 2),
+    ("cak-offset", Suite.gcm128, 30, 2), ("cak-linux", Suite.gcm128, 0, 5),
+)  # fmt: skip
+
+
+def frames_of(name: str) -> list[bytes]:
+    return [it.frame for it in capture.read(str(DATA / f"{name}.pcap"))]
+
+
+def logged(name: str) -> list[str]:
+    """The SAKs that wpa_supplicant logged, in order."""
+    return [it for it in (DATA / f"{name}.keys").read_text().splitlines() if not it.startswith("#")]
+
+
+def learned(frames: list[bytes], *caks: Cak) -> KeyAgreements:
+    it = KeyAgreements(caks)
+    for record, frame in enumerate(frames):
+        it.add(record, frame)
+    return it
+
+
+class Member:
+    """Makes MKPDUs, as a member of an agreement that knows the CAK."""
+
+    IDENTIFIERS = {suite: bytes.fromhex(f"0080c2000100000{number}") for number, suite in enumerate(Suite)}
+
+    def __init__(self, sci: str, cak: bytes = CAK, ckn: bytes = CKN) -> None:
+        from cryptography.hazmat.primitives import cmac, keywrap
+        from cryptography.hazmat.primitives.ciphers.algorithms import AES
+
+        self.sci, self.ckn = bytes.fromhex(sci), ckn
+        self.mi = bytes.fromhex("c0ffee00") + self.sci
+
+        def tag_of(key: bytes, octets: bytes) -> bytes:
+            made = cmac.CMAC(AES(key))
+            made.update(octets)
+            return made.finalize()
+
+        self._tag_of, self._wrap = tag_of, keywrap.aes_key_wrap
+        self._kek, self._ick = (derived(tag_of, cak, it, ckn) for it in (b"IEEE8021 KEK", b"IEEE8021 ICK"))
+
+    def frame(self, *sets: bytes) -> bytes:
+        """An MKPDU with these parameter sets."""
+        basic = self.sci + self.mi + bytes.fromhex("000000010080c201") + self.ckn
+        head = bytes([3, 16]) + (0xF000 | len(basic)).to_bytes(2, "big")
+        body = head + basic + bytes(-len(basic) % 4) + b"".join(sets)
+        start = bytes.fromhex("0180c2000003") + self.sci[:6] + b"\x88\x8e\x03\x05"
+        covered = start + (len(body) + 16).to_bytes(2, "big") + body
+        return covered + self._tag_of(self._ick, covered)
+
+    def live(self, *others: Member, ssci: int = 0) -> bytes:
+        """A list of live peers."""
+        return _set(1, ssci, b"".join(it.mi + bytes([0, 0, 0, 1]) for it in others))
+
+    def sak(self, key: bytes, suite: Suite, an: int = 0, number: int = 1) -> bytes:
+        """A Distributed SAK parameter set."""
+        identifier = b"" if suite == Suite.gcm128 else self.IDENTIFIERS[suite]
+        return _set(4, an << 6 | 0x10, number.to_bytes(4, "big") + identifier + self._wrap(self._kek, key))
+
+
+def _set(kind: int, octet: int, body: bytes) -> bytes:
+    return bytes([kind, octet]) + len(body).to_bytes(2, "big") + body + bytes(-len(body) % 4)
+
+
+@NEEDS
+class Distribution(InFolder):
+    def test_what_wpa_supplicant_logged(self) -> None:
+        for name, suite, offset, count in CAPTURES:
+            with self.subTest(name):
+                it = learned(frames_of(name), *caks_of_file(str(DATA / f"{name}.cak")))
+                keys = [sak.key for sak in it.saks]
+                self.assertEqual([key.octets.hex() for key in keys], logged(name))
+                self.assertEqual(({key.suite for key in keys}, {key.offset for key in keys}), ({suite}, {offset}))
+                self.assertEqual([key.an for key in keys], [number % 4 for number in range(count)])
+                self.assertEqual((it.invalid, it.unnamed, it.notes()), (0, 0, []))
+
+    def test_its_kek_and_ick(self) -> None:
+        for name, *_ in CAPTURES:
+            (cak,) = caks_of_file(str(DATA / f"{name}.cak"))
+            it = learned(frames_of(name), cak)
+            found = re.search(r"KEK (\w+), ICK (\w+)", (DATA / f"{name}.keys").read_text())
+            self.assertEqual(
+                [tuple(key.hex() for key in pair) for pair in it._keys.values()], [found and found.groups()]
+            )
+
+    def test_names_of_caks(self) -> None:
+        (cak,) = caks_of_file(str(DATA / "cak-256.cak"))
+        frames = frames_of("cak-256")
+        other, padded = bytes(32), Member("0200000000010001", ckn=b"\x07" + bytes(31))
+        for given, count, note in (
+            (cak, 2, None),
+            (cak._replace(ckn=None), 2, None),
+            (Cak(other, None), 0, "with another ICV"),
+            (Cak(other, cak.ckn), 0, "with another ICV"),
+            (cak._replace(ckn=b"\x01"), 0, "of another CAK name"),
+        ):
+            it = learned(frames, given)
+            self.assertEqual(len(it.saks), count)
+            self.assertIn(note or "", " ".join(it.notes()))
+            self.assertEqual(bool(it.notes()), note is not None)
+        # Devices that add zeros to a name have the same keys.
+        distributed = [padded.frame(padded.sak(other[:16], Suite.gcm128))]
+        self.assertEqual(len(learned(distributed, Cak(CAK, b"\x07")).saks), 1)
+        self.assertIn("from before the keys are agreed", learned(frames[:2], cak).notes()[0])
+
+    def test_no_octet_can_be_altered(self) -> None:
+        (cak,) = caks_of_file(str(DATA / "cak-rekeys.cak"))
+        frame = next(it for it in frames_of("cak-rekeys") if (found := read_mkpdu(it)) and found.sak)
+        self.assertEqual(len(learned([frame], cak).saks), 1)
+        for place in range(len(frame)):
+            altered = frame[:place] + bytes([frame[place] ^ 4]) + frame[place + 1 :]
+            self.assertEqual(learned([altered], cak).saks, [], place)
+
+    def test_tags_and_padding(self) -> None:
+        (cak,) = caks_of_file(str(DATA / "cak-rekeys.cak"))
+        frame = next(it for it in frames_of("cak-rekeys") if (found := read_mkpdu(it)) and found.sak)
+        for made in (frame[:12] + bytes.fromhex("81000005") + frame[12:], frame + bytes(9)):
+            self.assertEqual(len(learned([made], cak).saks), 1)
+
+    def test_extended_suites(self) -> None:
+        """wpa_supplicant 2.10 has none of them: these MKPDUs are made here."""
+        server, peer = Member("0200000000010001"), Member("0200000000020001")
+        for suite, key in ((Suite.xpn128, bytes(16)), (Suite.xpn256, bytes(range(32)))):
+            it = learned(
+                [peer.frame(), server.frame(server.live(peer), server.sak(key, suite, 2, 0x01020304))], Cak(CAK, CKN)
+            )
+            ((_, argument, number, sci, _),) = it.saks
+            self.assertEqual((argument.octets, argument.suite, argument.an), (key, suite, 2))
+            self.assertEqual((number, sci.hex()), (0x01020304, "0200000000010001"))
+            self.assertEqual(argument.salt, salt_of(server.mi, number))
+            self.assertEqual(argument.salt and argument.salt.hex(), "c3fbef020200000000010001")
+            self.assertEqual(argument.sscis[:2], ((peer.sci, 1), (server.sci, 2)))
+
+    def test_hostile_frames(self) -> None:
+        """Random ones, cut ones, and MKPDUs with many names, members, peers and SAKs: no fault, in bounded time."""
+        source, begun = random.Random(1), time.monotonic()
+        (cak,) = caks_of_file(str(DATA / "cak-linux.cak"))
+        real = [it for it in frames_of("cak-linux") if read_mkpdu(it)]
+        it = KeyAgreements([cak, Cak(CAK)])
+        for _ in range(4000):
+            frame = bytearray(source.choice(real))
+            for _ in range(source.randrange(1, 6)):
+                frame[source.randrange(14, len(frame))] = source.randrange(256)
+            it.add(0, bytes(frame[: source.randrange(1, len(frame) + 1)]))
+            it.add(0, bytes(frame))
+            it.add(0, bytes(frame[:14]) + source.randbytes(source.randrange(200)))
+        server = Member("0200000000010001")
+        for number in range(600):
+            it.add(0, Member("0200000000010001", bytes(16), number.to_bytes(4, "big")).frame())
+            it.add(0, server.frame(*[server.live(server)] * 80, b"\x04\x00\x0f\xff"))
+        self.assertEqual([sak for sak in it.saks if sak.ckn != cak.ckn], [])
+        self.assertLessEqual(len(it._keys), 512)
+        self.assertLess(time.monotonic() - begun, 30)
+
+    def test_texts(self) -> None:
+        settings = "network={\n\tmka_cak=" + CAK.hex() + "\n\tmka_ckn=" + CKN.hex() + "\n}\n"
+        for text in (f"# one\n{CAK.hex()} {CKN.hex()}\n", settings):
+            self.assertEqual(caks_of_file(self.put("FILE", text)), [Cak(CAK, CKN)])
+        self.assertEqual(caks_of_file(self.put("FILE", CAK.hex())), [Cak(CAK)])
+        for text in (
+            "",
+            "00",
+            "00 00 00",
+            f"{CAK.hex()}0 01",
+            f"{CAK.hex()} " + "00" * 33,
+            f"mka_cak={CAK.hex()[2:]}\nmka_ckn=01",
+        ):
+            with self.assertRaises(UsageError) as why:
+                caks_of_file(self.put("FILE", text))
+            self.assertNotIn(CAK.hex()[2:], str(why.exception))
+        self.assertEqual(cak_of(CAK.hex() * 2, None), Cak(CAK * 2))
+
+    @unittest.skipIf(shutil.which("tshark") is None, "tshark is not installed")
+    def test_the_grammar_is_that_of_tshark(self) -> None:
+        names = "mka.sci mka.actor_mi mka.cak_name mka.icv mka.peer_mi mka.key_number mka.distributed_an mka.aes_key_wrap_sak"
+        server, peer = Member("0200000000010001"), Member("0200000000020001")
+        made = [server.frame(server.live(peer, ssci=2), server.sak(bytes(32), Suite.xpn256, 3, 9)), peer.frame()]
+        for frames in ([it for name, *_ in CAPTURES for it in frames_of(name)], made):
+            words = ["tshark", "-r", self.put("IN", frames), "-Y", "mka", "-T", "fields", "-E", "aggregator=,"]
+            words += [word for name in names.split() for word in ("-e", name)]
+            shown = subprocess.run(words, capture_output=True, text=True, check=True).stdout.splitlines()
+            found = [it for it in map(read_mkpdu, frames) if it]
+            self.assertEqual(len(shown), len(found))
+            for line, it in zip(shown, found):
+                sci, member, ckn, icv, peers, number, an, wrapped = line.split("\t")
+                self.assertEqual((sci, member, ckn, icv), tuple(x.hex() for x in (it.sci, it.member, it.ckn, it.icv)))
+                self.assertEqual(set(filter(None, peers.split(","))) >= {x.hex() for x in it.live}, True)
+                if it.sak:
+                    self.assertEqual((number, an), (f"{it.sak.number:08x}", str(it.sak.an)))
+                    self.assertEqual(wrapped, it.sak.wrapped.hex())
+                else:
+                    self.assertEqual(wrapped, "")
+
+
+class Missing(unittest.TestCase):
+    def test_without_cryptography(self) -> None:
+        """The text says where the package is. Frames of MKA are read without it too, if no CAK is given."""
+        names = [it for it in sys.modules if it.split(".")[0] == "cryptography"]
+        with mock.patch.dict(sys.modules, {"cryptography": None, **dict.fromkeys(names)}):
+            with self.assertRaises(UsageError) as why:
+                KeyAgreements([Cak(CAK)])
+            self.assertEqual(learned(frames_of("cak-256")).seen, 6)
+        self.assertIn("python3-cryptography", str(why.exception))
+        self.assertIn("macsec[cak]", str(why.exception))
+
+
+if __name__ == "__main__":
+    unittest.main()
