@@ -195,12 +195,11 @@ class KeyAgreements:
             found.append(f"{mkpdus_text(self.invalid)} with another ICV: another CAK, or altered")
         if self.unnamed:
             found.append(f"{mkpdus_text(self.unnamed)} of another CAK name")
-        if not self.saks:
-            had = (
+        if self.valid and not self.saks:
+            found.append(
                 f"{mkpdus_text(self.valid)} with a valid ICV, none with a SAK: capture from before the keys are agreed"
             )
-            found.append(had if self.valid else "no MKPDU of these CAKs")
-        return found
+        return found if self.seen else ["the capture has no MKPDU"]
 
 
 def _is_same_name(one: bytes | None, other: bytes) -> bool:

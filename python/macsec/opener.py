@@ -6,17 +6,18 @@ from __future__ import annotations
 from collections.abc import Iterator, Sequence
 from typing import NamedTuple
 
+from .attempts import Attempt, Effort, Frame, Keys, Known, Place, usual_attempts, wide_attempts
+from .cak import Cak, KeyAgreements, mkpdus_text
 from .errors import FrameFault
-from .frames import MACSEC, SecTag, has_fcs, read_tag, sender_of, without_vlan
+from .frames import MACSEC, has_fcs, read_tag, sender_of, without_vlan
+from .hints import Hints
 from .ivs import UsedIvs
 from .names import Suite, Verdict
-from .trial import OPENED, Key, KeyArgument, Trial, Trials
+from .trial import OPENED, KeyArgument, Trial, Trials
 
 _MOST_LIVE = 8
-# How many frames of an association that never opened, and of all, are tried under all upper halves and SSCIs.
-_WIDE_SEARCHES, _WIDE_SEARCHES_OF_ALL = 3, 20
-_UPPER_HALVES, _SSCIS = 256, 16
-_FEW_UPPER_HALVES, _FEW_SSCIS = 4, 4
+# How many frames of an association that never opened, and of all, are searched widely; and for how many that is more.
+_WIDE_SEARCHES, _WIDE_SEARCHES_OF_ALL, _WIDER_SEARCHES = 3, 20, 1
 _FCS = 4
 
 
@@ -32,6 +33,7 @@ class Opened(NamedTuple):
     pn: int | None = None
     key: str = ""
     iv_also_in: int | None = None
+    note: str = ""
 
     @property
     def comment(self) -> str:
@@ -42,7 +44,8 @@ class Opened(NamedTuple):
         what = self.verdict if self.state == "opened" else f"{self.state} ({self.verdict})"
         key = f", {self.key}" if self.key else ""
         twice = "" if self.iv_also_in is None else f"; IV USED TWICE: also in record {self.iv_also_in}"
-        return f"macsec: {what}, SCI {self.sci}, AN {self.an}{number}{key}{twice}"
+        note = f"; {self.note}" if self.note else ""
+        return f"macsec: {what}, SCI {self.sci}, AN {self.an}{number}{key}{twice}{note}"
 
 
 class Live(NamedTuple):
@@ -78,7 +81,8 @@ class Event(NamedTuple):
 
 
 class Opener:
-    """Opens frames under keys, and notes their IVs. `ivs` has those of an earlier run over the same capture."""
+    """Opens frames under keys, and notes their IVs. `ivs` has those of an earlier run over the same capture. Keys of
+    `caks` come with the frames of MKA that distribute them."""
 
     def __init__(
         self,
@@ -86,14 +90,18 @@ class Opener:
         suite: Suite | None = None,
         offset: int | None = None,
         ivs: UsedIvs | None = None,
+        caks: Sequence[Cak] = (),
     ) -> None:
-        self._keys = list(keys)
-        self._suite = suite
-        self._offsets = (0, 30, 50) if offset is None else (offset,)
+        self._keys = Keys(keys, suite, offset)
         self._streams: dict[tuple[bytes, bool, int], _Stream] = {}
-        self._sscis: dict[bytes, int] = {}
         self._trials = Trials()
+        self._effort = Effort(len(keys))
         self._wide_searches = 0
+        # Of the last search: was it wide, was it still wider, and was something left out?
+        self._widths = False, False, False
+        self._hints = Hints()
+        self.agreements = KeyAgreements(caks)
+        self._known = Known(self.agreements.scis, {}, self.agreements.uppers)
         self.ivs = ivs or UsedIvs()
         self.events: list[Event] = []
         # How the last frame was opened, or None.
@@ -108,38 +116,47 @@ class Opener:
         plain, tags = without_vlan(whole)
         tag = read_tag(plain)
         if tag is None:
+            self._read_mka(record, whole)
             state = "not opened" if plain[12:14] == MACSEC else "not protected"
             return Opened(whole, state)
-        place = (tag.sci or plain[6:12], tag.sci is None, tag.an)
-        stream = self._streams.setdefault(place, _Stream())
+        stream = self._streams.setdefault((tag.sci or plain[6:12], tag.sci is None, tag.an), _Stream())
+        it = Frame(plain, tag)
         try:
-            return self._open(record, stream, plain, tag, tags, not is_cut) or self._failed(stream, whole, plain, tag)
+            return self._open(record, stream, it, tags, not is_cut) or self._failed(
+                record, stream, whole, it, not is_cut
+            )
         except FrameFault as why:
+            self._hints.add(record, it, why.name, len(self._keys), False, False, False)
             return Opened(whole, "not opened", why.name, sender_of(plain, tag).hex(), tag.an, tag.pn)
 
-    def _open(
-        self, record: int, stream: _Stream, plain: bytes, tag: SecTag, tags: bytes, may_cut: bool
-    ) -> Opened | None:
+    def _read_mka(self, record: int, frame: bytes) -> None:
+        """Takes a key from a frame of MKA."""
+        key = self.agreements.add(record, frame)
+        if key is not None:
+            self._keys.add(key)
+            self._effort.add_key()
+
+    def _open(self, record: int, stream: _Stream, frame: Frame, tags: bytes, may_cut: bool) -> Opened | None:
         """Opens a frame under an association of its stream, or under another key."""
         for live in stream.live:
-            opened = self._under(record, live, stream, plain, tag, tags)
+            opened = self._under(record, live, stream, frame, tags)
             if opened:
                 return opened
-        found = self._search(stream, plain, tag, may_cut)
+        found = self._search(stream, frame, may_cut)
         if found is None:
             return None
-        key, sci, ssci, upper, cut = found
-        trial = Trial(key, sci, tag.an, ssci)
-        trial.begin(upper)
-        self._sscis[sci] = ssci
-        event = Event(record, sci.hex(), tag.an, key.name)
-        if self._latest.get(event[1:3]) != key.name:
+        attempt, cut = found
+        trial = attempt.trial(frame)
+        self._keys.opened(trial.key.name)
+        self._known.note(trial, attempt.upper)
+        event = Event(record, (trial.sci_of_iv or trial.sci).hex(), frame.tag.an, trial.key.name)
+        if self._latest.get(event[1:3]) != event.key:
             self.events.append(event)
-            self._latest[event[1:3]] = key.name
-        return self._under(record, Live(trial, cut), stream, plain, tag, tags)
+            self._latest[event[1:3]] = event.key
+        return self._under(record, Live(trial, cut), stream, frame, tags)
 
-    def _under(self, record: int, live: Live, stream: _Stream, plain: bytes, tag: SecTag, tags: bytes) -> Opened | None:
-        octets = plain[: len(plain) - live.cut] if live.cut else plain
+    def _under(self, record: int, live: Live, stream: _Stream, frame: Frame, tags: bytes) -> Opened | None:
+        octets = frame.octets[: len(frame.octets) - live.cut] if live.cut else frame.octets
         received = live.trial.receive(octets)
         if received.verdict not in OPENED or received.frame is None:
             return None
@@ -147,7 +164,7 @@ class Opener:
             stream.keep(live)
         stream.failures = 0
         self.last = live
-        trial = live.trial
+        trial, tag = live.trial, frame.tag
         number = tag.pn
         if trial.key.suite.is_extended:
             number = trial.packet_number(tag.pn)
@@ -155,81 +172,65 @@ class Opener:
         client = received.frame[:12] + tags + received.frame[12:]
         again = self.ivs.add(record, trial.key, trial.sci, trial.ssci, number, octets, tag)
         other = again[1] if again else None
+        sci, note = trial.sci, ""
+        if trial.sci_of_iv is not None:
+            sci, note = trial.sci_of_iv, f"its IV has this SCI, its tag means {trial.sci.hex()}"
         verdict = received.verdict.name
-        return Opened(client, "opened", verdict, trial.sci.hex(), tag.an, number, trial.key.name, other)
+        return Opened(client, "opened", verdict, sci.hex(), tag.an, number, trial.key.name, other, note)
 
-    def _failed(self, stream: _Stream, whole: bytes, plain: bytes, tag: SecTag) -> Opened:
+    def _failed(self, record: int, stream: _Stream, whole: bytes, frame: Frame, may_cut: bool) -> Opened:
         """A frame that no key opens: its verdict is that under the first one which it can have."""
         stream.failures += 1
         found: Verdict | None = None
-        for argument, sci in self._candidates(plain, tag):
-            found = self._trials.verdict(next(self._forms_of(argument)), sci, tag.an, plain, 1)
+        for _, key in self._keys.fitting(frame):
+            found = self._trials.verdict(key, frame.meant, frame.tag.an, frame.octets, 1)
             break
         verdict = found.name if found else Verdict.NoSAError.name
-        return Opened(whole, "not opened", verdict, sender_of(plain, tag).hex(), tag.an, tag.pn)
+        self._hints.add(record, frame, verdict, len(self._keys), *self._widths)
+        return Opened(whole, "not opened", verdict, frame.meant.hex(), frame.tag.an, frame.tag.pn)
 
     # The search.
 
-    def _search(
-        self, stream: _Stream, plain: bytes, tag: SecTag, may_cut: bool
-    ) -> tuple[Key, bytes, int, int, int] | None:
-        """A key under which a frame opens, with the sender's SCI and SSCI, the upper half, and what is cut off."""
-        is_wide = not stream.live and stream.failures < _WIDE_SEARCHES and self._wide_searches < _WIDE_SEARCHES_OF_ALL
+    def _search(self, stream: _Stream, frame: Frame, may_cut: bool) -> tuple[Attempt, int] | None:
+        """A setting under which a frame opens, and how many octets are cut off at its end."""
+        failures = stream.failures
+        is_wide = not stream.live and failures < _WIDE_SEARCHES and self._wide_searches < _WIDE_SEARCHES_OF_ALL
+        is_wider = is_wide and failures < _WIDER_SEARCHES
         self._wide_searches += is_wide
+        self._effort.begin()
         for cut in (0, _FCS) if may_cut else (0,):
-            octets = plain[: len(plain) - cut] if cut else plain
+            octets = frame.octets[: len(frame.octets) - cut] if cut else frame.octets
             if len(octets) < 14 or read_tag(octets) is None:
                 continue
-            for argument, sci in self._candidates(plain, tag):
-                for key in self._forms_of(argument):
-                    for ssci, upper in self._numbers(stream, argument, key, sci, is_wide and not cut):
-                        if self._trials.opens(key, sci, tag.an, octets, ssci, upper):
-                            return key, sci, ssci, upper, cut
+            # Likely and usual settings with the octets cut off come before all others of the whole frame.
+            place = Place(stream.upper, is_wide and not cut)
+            found = self._first_that_opens(usual_attempts(self._keys, frame, self._known, place), frame, octets)
+            if found:
+                return found, cut
+        found = (
+            self._first_that_opens(wide_attempts(self._keys, frame, self._known), frame, frame.octets)
+            if is_wider
+            else None
+        )
+        self._widths = is_wide, is_wider, self._effort.is_spent
+        return (found, 0) if found else None
+
+    def _first_that_opens(self, settings: Iterator[Attempt], frame: Frame, octets: bytes) -> Attempt | None:
+        for it in settings:
+            if not self._effort.take(it.key, octets):
+                return None
+            if it.opens(self._trials, frame.tag.an, octets):
+                self._effort.refund()
+                return it
         return None
 
-    def _candidates(self, plain: bytes, tag: SecTag) -> Iterator[tuple[KeyArgument, bytes]]:
-        """The keys for a frame, each with the SCI that its sender can have."""
-        for argument in self._keys:
-            if not argument.suites(self._suite):
-                continue
-            if argument.an is not None and argument.an != tag.an:
-                continue
-            named = sender_of(plain, tag)
-            if tag.sci or tag.tci & 0x50:
-                scis = [named]
-            else:
-                # A tag without SCI, ES and SCB names nobody: the address that sends, with a usual port.
-                scis = [argument.sci] if argument.sci else [named, *(named[:6] + bytes([0, n]) for n in (0, 2, 3))]
-            for sci in scis:
-                if sci is not None and argument.sci in (None, sci):
-                    yield argument, sci
-
-    def _forms_of(self, argument: KeyArgument) -> Iterator[Key]:
-        """A key of each suite and with each offset that it can have."""
-        for suite in argument.suites(self._suite):
-            for offset in (0,) if suite.is_extended else self._offsets:
-                number = self._keys.index(argument) + 1
-                yield Key(argument.octets, suite, offset, argument.salt or bytes(12), argument.id or f"key {number}")
-
-    def _numbers(
-        self, stream: _Stream, argument: KeyArgument, key: Key, sci: bytes, is_wide: bool
-    ) -> Iterator[tuple[int, int]]:
-        """The SSCIs and upper halves that a sender can have."""
-        if not key.suite.is_extended:
-            yield 0, 0
-            return
-        if argument.ssci is not None:
-            sscis = [argument.ssci]
-        else:
-            count = _SSCIS if is_wide else _FEW_SSCIS
-            sscis = [*([self._sscis[sci]] if sci in self._sscis else []), *range(1, count + 1)]
-            sscis += [it << 24 for it in range(1, _FEW_SSCIS + 1)]
-        near = [stream.upper, stream.upper + 1, max(stream.upper - 1, 0)]
-        uppers = [*near, *range(_UPPER_HALVES if is_wide else _FEW_UPPER_HALVES)]
-        # One endpoint tries all upper halves, so these are the inner loop.
-        for ssci in dict.fromkeys(sscis):
-            for upper in dict.fromkeys(uppers):
-                yield ssci, upper
+    def hints(self) -> list[str]:
+        """What was tried for the frames that did not open, and what was not."""
+        found = self._hints.lines(self._keys)
+        count = self.agreements.seen
+        if found and count and not self.agreements.has_caks:
+            found.append(f"the capture has {mkpdus_text(count)}: with the CAK, --cak takes the keys from them")
+        return found + self.agreements.notes()
 
     def close(self) -> None:
         """Closes all endpoints."""

@@ -8,6 +8,7 @@ from collections.abc import Sequence
 from typing import NamedTuple
 
 from . import capture
+from .cak import Cak
 from .frames import ethertype, has_fcs, read_tag, sender_of, vlan_octets, without_vlan
 from .names import Suite
 from .opener import Live, Opener
@@ -34,20 +35,27 @@ class Scan:
         self.uses: dict[tuple[bytes, int], list[_Use]] = {}
         self.vlan, self.fcs, self.partial = 0, 0, 0
         self.unopened: list[int] = []
+        self.other_ivs: dict[str, None] = {}
         for packet in capture.read(path):
             if not packet.is_whole:
                 self.partial += 1
                 continue
             self._add(packet, opener)
+        self.saks, self.hints = [str(it) for it in opener.agreements.saks], opener.hints()
 
     def _add(self, packet: capture.Packet, opener: Opener) -> None:
         plain, tags = without_vlan(packet.frame)
         tag = read_tag(plain)
         if tag is None:
+            opener.open(packet.number, packet.frame, packet.fcs)
             self.others[ethertype(packet.frame)] += 1
             return
         opened = opener.open(packet.number, packet.frame, packet.fcs)
         live = opener.last
+        if live and live.trial.sci_of_iv is not None:
+            # No CONFIG opens such a frame.
+            self.other_ivs[opened.sci] = None
+            live = None
         place = live.trial.sci if live else sender_of(plain, tag), tag.an
         self.forms.setdefault(place, collections.Counter())[tag.flags] += 1
         self.numbers.setdefault(place, []).append(tag.pn)
@@ -62,7 +70,7 @@ class Scan:
 
     def notes(self) -> list[str]:
         """What was found, a line each."""
-        found = []
+        found = list(self.saks)
         for (sci, an), forms in self.forms.items():
             numbers = self.numbers[(sci, an)]
             flags = ", ".join(f"{name} x{count}" for name, count in forms.items())
@@ -96,7 +104,10 @@ class Scan:
             found.append(f"{frames_text(self.partial)} not captured whole, or not Ethernet")
         if self.unopened:
             found.append(f"not opened by any key: record {ranges(self.unopened)}")
-        return found
+        if self.other_ivs:
+            named = ", ".join(list(self.other_ivs)[:8])
+            found.append(f"tags with ES or SCB whose IVs have SCI {named}: no CONFIG opens these; macsec-decrypt does")
+        return found + self.hints
 
     def plan(self, own: bytes | None = None, suite: Suite | None = None) -> Plan:
         """The endpoint that opens the capture: an observer, or the end with this SCI."""
@@ -131,9 +142,15 @@ def _without_keys(plan: Plan, scan: Scan, own: bytes | None) -> None:
             )
 
 
-def scan(path: str, keys: Sequence[KeyArgument], suite: Suite | None = None, offset: int | None = None) -> Scan:
-    """Reads a capture under keys."""
-    opener = Opener(keys, suite, offset)
+def scan(
+    path: str,
+    keys: Sequence[KeyArgument],
+    suite: Suite | None = None,
+    offset: int | None = None,
+    caks: Sequence[Cak] = (),
+) -> Scan:
+    """Reads a capture under keys, and under those that its frames of MKA distribute."""
+    opener = Opener(keys, suite, offset, caks=caks)
     try:
         return Scan(path, opener)
     finally:

@@ -3,6 +3,7 @@
 from __future__ import annotations
 
 import importlib.util
+import json
 import random
 import re
 import shutil
@@ -12,11 +13,12 @@ import time
 import unittest
 from unittest import mock
 
-from macsec import Suite, UsageError, capture
+from macsec import SecY, Suite, UsageError, capture
 from macsec.cak import Cak, KeyAgreements, cak_of, caks_of_file, derived, salt_of
+from macsec.cli import config, decrypt
 from macsec.mka import read_mkpdu
 
-from .helpers import ROOT, InFolder
+from .helpers import KEYS, OTHER, ROOT, SALT, InFolder, client_frames, main_of, protected
 
 DATA = ROOT / "python" / "tests" / "data"
 HAS_CRYPTOGRAPHY = importlib.util.find_spec("cryptography") is not None
@@ -216,6 +218,106 @@ class Distribution(InFolder):
                     self.assertEqual(wrapped, it.sak.wrapped.hex())
                 else:
                     self.assertEqual(wrapped, "")
+
+
+@NEEDS
+class Commands(InFolder):
+    def decrypted(self, path: object, *words: object) -> tuple[int, list[dict], list[bytes]]:
+        """The status, what is printed, and the frames of OUT."""
+        (self.folder / "OUT").unlink(missing_ok=True)
+        status, out, error = main_of(decrypt.main, path, self.folder / "OUT", "--json", *words)
+        self.assertEqual(error, "")
+        return (
+            status,
+            list(map(json.loads, out.splitlines())),
+            [it.frame for it in capture.read(str(self.folder / "OUT"))],
+        )
+
+    def test_a_cak_opens_what_the_logged_keys_open(self) -> None:
+        for name, suite, offset, count in CAPTURES:
+            path, keys = DATA / f"{name}.pcap", DATA / f"{name}.keys"
+            for words in (["--cak-file", DATA / f"{name}.cak"], self.words_of(name)):
+                status, shown, frames = self.decrypted(path, *words)
+                self.assertEqual((status, frames), (0, self.decrypted(path, "--keys", keys)[2]))
+                saks = [it["sak"] for it in shown if "sak" in it]
+                self.assertEqual([it["key_number"] for it in saks], list(range(1, count + 1)))
+                self.assertEqual({(it["suite"], it["offset"]) for it in saks}, {(suite.name, offset)})
+                self.assertEqual(
+                    {it.get("key") for it in shown if it.get("state") == "opened"}, {it["name"] for it in saks}
+                )
+                self.assertFalse([it for it in logged(name) if it in json.dumps(shown)])
+
+    def words_of(self, name: str) -> list[str]:
+        (cak,) = caks_of_file(str(DATA / f"{name}.cak"))
+        return ["--cak", cak.octets.hex(), "--ckn", (cak.ckn or b"").hex()]
+
+    def test_a_config_from_a_capture(self) -> None:
+        for name in ("cak-256", "cak-offset"):
+            path = DATA / f"{name}.pcap"
+            status, text, _ = main_of(config.main, "--capture", path, "--cak-file", DATA / f"{name}.cak")
+            status_of_keys, by_keys, _ = main_of(config.main, "--capture", path, "--keys", DATA / f"{name}.keys")
+            self.assertEqual((status, status_of_keys), (0, 0))
+            self.assertEqual([it for it in text.splitlines() if not it.startswith("# record")], by_keys.splitlines())
+        self.assertIn("# the capture has 6 MKPDUs", main_of(config.main, "--capture", DATA / "cak-256.pcap")[1])
+
+    def test_extended_packet_numbers(self) -> None:
+        """20 members with SSCIs by their SCIs, and by their order in the list of live peers: the CAK is enough."""
+        for is_by_order in (False, True):
+            members = [Member(f"02000000{number:04x}0001") for number in range(1, 21)]
+            server, key = members[0], bytes(range(32))
+            salt = salt_of(server.mi, 5)
+            frames = [it.frame() for it in members]
+            live = server.live(*members[1:], ssci=1 if is_by_order else 0)
+            frames.append(server.frame(live, server.sak(key, Suite.xpn256, 1, 5)))
+            for number, member in enumerate(members, 1):
+                ssci = number if is_by_order else 21 - number
+                with SecY(member.sci, Suite.xpn256) as it:
+                    it.install_key(0, key, ssci=ssci, salt=salt)
+                    it.add_tx_sa(1, 0, 1, True)
+                    it.enable_tx_sa(1)
+                    frames.append(it.send(client_frames(1, member.sci.hex())[0]).frame or b"")
+            status, shown, _ = self.decrypted(self.put("IN", frames), "--cak", CAK.hex())
+            self.assertEqual((status, sum(it.get("state") == "opened" for it in shown)), (0, 20))
+
+    def test_what_mka_shows_of_numbers_without_a_cak(self) -> None:
+        """The upper half that an MKPDU names, and the SCIs of the members."""
+        member = Member(OTHER)
+        frames = [member.frame(_set(8, 0, bytes.fromhex("0012345600000000")))]
+        frames += protected(client_frames(3), suite=Suite.xpn128, pn=0x12_3456_0000_0001)
+        self.assertEqual(self.decrypted(self.put("IN", frames), "--key", f"{KEYS[0].hex()}:{SALT.hex()}")[0], 0)
+
+    def test_hints(self) -> None:
+        (cak,) = caks_of_file(str(DATA / "cak-256.cak"))
+        later = self.put("LATER", frames_of("cak-256")[5:9])
+        for path, words, text in (
+            (
+                DATA / "cak-256.pcap",
+                ("--key", "00" * 16),
+                "the capture has 6 MKPDUs: with the CAK, --cak takes the keys",
+            ),
+            (DATA / "cak-256.pcap", ("--cak", "00" * 16), "6 MKPDUs with another ICV: another CAK, or altered"),
+            (DATA / "cak-256.pcap", ("--cak", "00" * 16, "--ckn", "01"), "6 MKPDUs of another CAK name"),
+            (later, ("--cak", cak.octets.hex()), "the capture has no MKPDU"),
+        ):
+            status, shown, _ = self.decrypted(path, *words)
+            self.assertEqual(status, 3)
+            self.assertIn(text, " ".join(it.get("hint", "") for it in shown))
+
+    def test_options(self) -> None:
+        path = DATA / "cak-256.pcap"
+        for words in (
+            ("--cak", "00"),
+            ("--ckn", "01"),
+            ("--cak", "00" * 16, "--ckn", "0"),
+            ("--cak-file", self.put("E", "")),
+        ):
+            for command in ((decrypt.main, path, self.folder / "OUT"), (config.main, "--capture", path)):
+                status, out, error = main_of(command[0], *command[1:], *words)
+                self.assertEqual((status, out), (2, ""), words)
+                self.assertTrue(error)
+        self.assertEqual(main_of(config.main, "--lint", path, "--cak", "00" * 16)[0], 2)
+        self.assertEqual(main_of(decrypt.main, path, self.folder / "OUT", "--cak-file", self.folder / "none")[0], 1)
+        self.assertEqual(self.names(), ["E"])
 
 
 class Missing(unittest.TestCase):

@@ -22,6 +22,7 @@ from ..trial import KeyArgument
 from ..wpalog import plan_of_log
 from . import run
 from .decrypt import add_key_options, key_arguments
+from .key_agreement import caks_of
 
 _SENDS = (
     "# This end sends. If the same SCI sent these packet numbers under its key before, or another endpoint does, IVs\n"
@@ -84,6 +85,8 @@ def _read(path: str) -> bytes:
 
 
 def _config(asked: argparse.Namespace) -> int:
+    if caks_of(asked) and not asked.capture:
+        raise UsageError("--cak and --cak-file are for --capture")
     if asked.lint:
         return _lint(asked)
     if asked.next:
@@ -134,7 +137,7 @@ def _text(plan: Plan) -> str:
 def _from_capture(asked: argparse.Namespace) -> int:
     keys: list[KeyArgument] = key_arguments(asked) if asked.key or asked.keys or asked.wpa else []
     suite = Suite[asked.suite] if asked.suite else None
-    made = scan(asked.capture, keys, suite, asked.offset)
+    made = scan(asked.capture, keys, suite, asked.offset, caks_of(asked))
     try:
         own = sci_of(asked.own) if asked.own else None
     except ValueError as why:

@@ -18,6 +18,7 @@ from ..summary import frames_text
 from ..trial import KeyArgument, key_argument
 from ..wpalog import keys_of
 from . import run
+from .key_agreement import add_cak_options, caks_of
 
 
 def key_arguments(asked: argparse.Namespace) -> list[KeyArgument]:
@@ -31,14 +32,14 @@ def key_arguments(asked: argparse.Namespace) -> list[KeyArgument]:
         with open(path, encoding="utf-8", errors="replace") as file:
             found += [KeyArgument(it.octets) for it in keys_of(file.read())]
     distinct = list(dict.fromkeys(found))
-    if not distinct:
-        raise UsageError("no key: give one by --key, --keys or --wpa")
+    if not distinct and not (asked.cak or asked.cak_file):
+        raise UsageError("no key: give one by --key, --keys or --wpa, or a CAK by --cak or --cak-file")
     return distinct
 
 
 def add_key_options(parser: argparse.ArgumentParser) -> None:
     """The options that give keys."""
-    spec = "[WHOSE=]KEY[:SALT[:SSCI]]"
+    spec = "[WHOSE=]KEY[:SALT[:SSCI[:UPPER]]]"
     parser.add_argument(
         "--key", action="append", default=[], metavar=spec, help="a key in hex; WHOSE is SCI, SCI/AN or /AN"
     )
@@ -50,6 +51,7 @@ def add_key_options(parser: argparse.ArgumentParser) -> None:
     parser.add_argument(
         "--suite", choices=suites, help="the suite of all keys; else by length, and extended with a salt"
     )
+    add_cak_options(parser)
 
 
 def main(words: Sequence[str] | None = None) -> int:
@@ -88,12 +90,15 @@ def _decrypt(asked: argparse.Namespace) -> int:
         made.out.discard()
     twice = made.ivs.twice
     if asked.json:
-        lines = [*map(json.dumps, dicts_of(twice)), *made.records]
+        lines = [*map(json.dumps, dicts_of(twice)), *(json.dumps({"sak": it.as_dict()}) for it in made.saks)]
+        lines += [*made.records, *(json.dumps({"hint": it}) for it in made.hints)]
     else:
         lines = lines_of(twice)
+        lines += [str(it) for it in made.saks]
         lines += [f"record {it.record}: SCI {it.sci} AN {it.an} under {it.key}" for it in made.events]
         counts = made.counts.items()
         lines.append("; ".join(f"{frames_text(count)} {state}" for state, count in counts) or "0 frames")
+        lines += [f"hint: {it}" for it in made.hints]
     sys.stdout.write("".join(f"{it}\n" for it in lines))
     return 3 if made.counts["not opened"] or twice else 0
 
@@ -107,7 +112,7 @@ class _Made:
         self.counts: Counter[str] = collections.Counter()
         self.records: list[str] = []
         self._asked = asked
-        opener = Opener(keys, Suite[asked.suite] if asked.suite else None, asked.offset, ivs)
+        opener = Opener(keys, Suite[asked.suite] if asked.suite else None, asked.offset, ivs, caks_of(asked))
         # The input is opened first, so that a wrong name leaves no file.
         with open(asked.capture, "rb"):
             self.out = capture.PcapngFile(asked.out)
@@ -119,7 +124,7 @@ class _Made:
             raise
         finally:
             opener.close()
-        self.events = opener.events
+        self.events, self.saks, self.hints = opener.events, opener.agreements.saks, opener.hints()
 
     def _add(self, opener: Opener, packet: capture.Packet) -> None:
         """Opens a record, writes it and counts it."""

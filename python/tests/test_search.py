@@ -1,0 +1,221 @@
+"""What macsec-decrypt finds for frames that need more than a key, and what it says of those that stay closed."""
+
+from __future__ import annotations
+
+import json
+import time
+import unittest
+from collections.abc import Sequence
+from unittest import mock
+
+from macsec import Suite, capture, seal
+from macsec.cli.decrypt import main
+
+from .helpers import KEYS, LONG_KEY, OTHER, SALT, SENDER, InFolder, client_frames, main_of, protected
+
+KEY, LONG, SALTED = KEYS[0].hex(), LONG_KEY.hex(), f"{KEYS[0].hex()}:{SALT.hex()}"
+LONG_SALTED = f"{LONG}:{SALT.hex()}"
+OTHER_PORT, FAR = "0200000000010005", "02000000009912ff"
+NONE, ES, SCB = 0x0C, 0x4C, 0x1C
+
+
+def sealed(
+    tci: int, sci: str, count: int = 3, key: bytes = KEYS[0], pn: int = 1, suite: Suite = Suite.gcm128, ssci: int = 0,
+    offset: int = 0,
+) -> list[bytes]:  # fmt: skip
+    """Frames with tags that have no SCI, whose IVs have this one, as Linux makes them with `end_station on` or `scb on`
+    at any port."""
+    made = []
+    for number, frame in enumerate(client_frames(count), pn):
+        head = frame[:12] + b"\x88\xe5" + bytes([tci, 0]) + (number & 0xFFFF_FFFF).to_bytes(4, "big")
+        salt = SALT if suite.is_extended else bytes(12)
+        how = {"suite": suite, "ssci": ssci, "salt": salt, "offset": offset, "conf": bool(tci & 8)}
+        made.append(seal(head + frame[12:], len(head), key=key, sci=sci, pn=number, **how))  # type: ignore[arg-type]
+    return made
+
+
+def xpn(upper: int, suite: Suite = Suite.xpn128, ssci: int = 1, low: int = 1, **how: object) -> list[bytes]:
+    """Frames under extended packet numbers."""
+    key = LONG_KEY if suite == Suite.xpn256 else KEYS[0]
+    return protected(client_frames(3), suite=suite, key=key, pn=upper << 32 | low, ssci=ssci, **how)
+
+
+class Decrypted(InFolder):
+    """Searches end earlier here, so that the tests do not take long."""
+
+    WIDTH = 0x800
+
+    def setUp(self) -> None:
+        super().setUp()
+        patched = mock.patch.multiple("macsec.attempts", WIDE=self.WIDTH, PORTS=self.WIDTH)
+        patched.start()
+        self.addCleanup(patched.stop)
+
+    def shown(self, frames: Sequence[bytes], *keys: str, options: Sequence[str] = ()) -> tuple[int, list[dict]]:
+        """The status, and what is printed as JSON."""
+        (self.folder / "OUT").unlink(missing_ok=True)
+        words = [word for key in keys for word in ("--key", key)]
+        status, out, error = main_of(main, self.put("IN", frames), self.folder / "OUT", "--json", *words, *options)
+        self.assertEqual(error, "")
+        return status, [json.loads(it) for it in out.splitlines()]
+
+    def hint(self, frames: Sequence[bytes], *keys: str, options: Sequence[str] = ()) -> str:
+        """The hints for frames none of which opens."""
+        status, shown = self.shown(frames, *keys, options=options)
+        self.assertEqual(status, 3)
+        self.assertEqual({it["state"] for it in shown if "state" in it}, {"not opened"})
+        return "\n".join(it["hint"] for it in shown if "hint" in it)
+
+    def opens(self, frames: Sequence[bytes], *keys: str, clients: int = 3) -> list[dict]:
+        """The records, all of which open and are those of the clients."""
+        status, shown = self.shown(frames, *keys)
+        self.assertEqual((status, [it for it in shown if "hint" in it]), (0, []))
+        opened = [it.frame for it in capture.read(str(self.folder / "OUT"))]
+        self.assertEqual(opened, client_frames(clients))
+        return [it for it in shown if "record" in it]
+
+
+class Opened(Decrypted):
+    def test_frames_that_need_more_than_a_key(self) -> None:
+        for name, frames, key in (
+            ("upper half above ff", xpn(0x100), f"{SALTED}:00000001"),
+            ("of a long key", xpn(0x734, Suite.xpn256), f"{LONG_SALTED}:00000001"),
+            ("one that is given", xpn(0x800, Suite.xpn256), f"{LONG_SALTED}:00000001:800"),
+            ("the highest", xpn(0xFFFF_FFFF, ssci=7), f"{SALTED}:00000007:ffffffff"),
+            ("across an upper half", xpn(0x1FF, low=0xFFFF_FFFE), f"{SALTED}:00000001"),
+            ("without an SCI", xpn(0x300, conf=False, form="auto"), f"{SALTED}:00000001"),
+            ("with ES", xpn(0x300, form="es"), f"{SALTED}:00000001"),
+            ("SSCI above 16", xpn(0, ssci=0x1122_3344), f"{SALTED}:11223344"),
+            ("SSCI that is found", xpn(0x2_0000, ssci=0x1FF), f"{SALTED}::20000"),
+            ("the highest SSCI", xpn(0, ssci=0xFFFF_FFFF), f"{SALTED}:ffffffff"),
+            ("a usual one", xpn(0x99, ssci=16), SALTED),
+            ("another port, no SCI", sealed(NONE, OTHER_PORT), KEY),
+            ("a far port, no SCI", sealed(NONE, SENDER[:12] + "07ff"), KEY),
+            ("another address, no SCI", sealed(NONE, FAR), f"{FAR}={KEY}"),
+            ("another address, no SCI, integrity only", sealed(0, FAR, offset=30), f"{FAR}={KEY}"),
+            ("another port, ES", sealed(ES, OTHER_PORT), KEY),
+            ("another port, SCB", sealed(SCB, OTHER_PORT), KEY),
+            ("a far port, SCB, long key", sealed(SCB, SENDER[:12] + "07fe", key=LONG_KEY, suite=Suite.gcm256), LONG),
+            ("another address, ES", sealed(ES, FAR), f"{FAR}={KEY}"),
+            ("another address, SCB, AN", sealed(SCB | 2, FAR), f"{FAR}/2={KEY}"),
+            ("ES, high packet numbers", sealed(ES, OTHER_PORT, pn=0x8000_0001), KEY),
+            ("ES, XPN", sealed(ES, FAR, pn=0x1F_0000_0001, suite=Suite.xpn128, ssci=3), SALTED),
+        ):  # fmt: skip
+            with self.subTest(name):
+                self.opens(frames, key)
+
+    def test_the_sci_of_the_iv_is_named(self) -> None:
+        (first, *_) = self.opens(sealed(ES, OTHER_PORT), KEY)
+        self.assertEqual((first["sci"], first["note"]), (OTHER_PORT, f"its IV has this SCI, its tag means {SENDER}"))
+        (first, *_) = self.opens(sealed(NONE, OTHER_PORT), KEY)
+        self.assertEqual((first["sci"], "note" in first), (OTHER_PORT, False))
+
+    def test_repeats_and_reordered_numbers(self) -> None:
+        """Frames with ES and another SCI in the IV open in any order."""
+        frames = sealed(ES, OTHER_PORT, pn=0x7FFF_FFFE)
+        status, shown = self.shown([*frames, frames[0], frames[2], frames[0]], KEY)
+        self.assertEqual([it["pn"] - 0x7FFF_FFFE for it in shown if "record" in it], [0, 1, 2, 0, 2, 0])
+        self.assertEqual(status, 0)
+
+    def test_an_iv_used_twice_is_found(self) -> None:
+        twice = sealed(ES, OTHER_PORT) + sealed(ES, OTHER_PORT, count=4)[3:] + sealed(ES, OTHER_PORT, count=2, pn=2)[:1]
+        status, shown = self.shown(twice, KEY)
+        self.assertEqual((status, shown[0]["iv used twice"]["records"]), (3, [1, 4]))
+
+    def test_what_one_sender_shows_helps_with_another(self) -> None:
+        """The upper half, and the SCIs of tags that carry one."""
+        first, second = xpn(0x444), xpn(0x444, ssci=2, sci=OTHER)
+        status, _ = self.shown(first + second, f"{SENDER}={SALTED}:00000001", f"{OTHER}={SALTED}")
+        self.assertEqual(status, 0)
+        tagged = protected(client_frames(3), sci=FAR)
+        status, _ = self.shown(tagged + sealed(NONE, FAR, pn=9), KEY)
+        self.assertEqual(status, 0)
+
+
+class Width(Decrypted):
+    WIDTH = 0x1_0000
+
+    def test_how_far_a_search_goes(self) -> None:
+        """As it is: to the last of 65,536, and no further."""
+        self.opens(xpn(0xFFFF), f"{SALTED}:00000001")
+        self.assertIn("upper halves below 10000", self.hint(xpn(0x1_0000), f"{SALTED}:00000001"))
+
+
+class Hints(Decrypted):
+    def test_what_is_missing_is_named_and_opens_it(self) -> None:
+        wide = "SSCIs 1 to 16, upper halves below 100"
+        for frames, key, texts, better in (
+            (xpn(0x300), SALTED, (f"key 1 as xpn128 with {wide}", "KEY:SALT:SSCI:UPPER", "offset 0, 30, 50"),
+             f"{SALTED}:00000001"),
+            (xpn(0x800), f"{SALTED}:00000001", ("SSCI 1, upper halves below 800", "other upper halves"),
+             f"{SALTED}:00000001:800"),
+            (xpn(0, ssci=17), SALTED, (wide, "other SSCIs and upper halves"), f"{SALTED}:00000011"),
+            (xpn(7, ssci=0x800), f"{SALTED}::7", ("SSCIs below 800, upper half 7",), f"{SALTED}:00000800:7"),
+            (xpn(0), KEY, ("Not tried: xpn128, which needs a salt (KEY:SALT)",), SALTED),
+            (sealed(NONE, FAR), KEY, ("all ports of the source address", "SCIs of other addresses (SCI=KEY)"),
+             f"{FAR}={KEY}"),
+            (sealed(ES, FAR), KEY, ("all ports of the source address", "ES E C", "(SCI=KEY)"), f"{FAR}={KEY}"),
+            (sealed(ES, FAR), f"{OTHER}={KEY}", ("the SCI of the key",), f"{FAR}={KEY}"),
+            (protected(client_frames(3), an=2), f"/1={KEY}", ("no key is for AN 2",), f"/2={KEY}"),
+            (protected(client_frames(3)), f"{OTHER}={KEY}", ("is for this SCI",), f"{SENDER}={KEY}"),
+            (protected(client_frames(3)), LONG, ("another key",), KEY),
+        ):  # fmt: skip
+            found = self.hint(frames, key)
+            for text in texts:
+                self.assertIn(text, found)
+            self.assertNotIn(KEY, found)
+            self.opens(frames, better)
+
+    def test_what_options_left_out(self) -> None:
+        frames = protected(client_frames(3), offset=30)
+        self.assertIn("offsets other than 50 (--offset)", self.hint(frames, KEY, options=("--offset", "50")))
+        self.assertIn("suites other than gcm128 (--suite)", self.hint(xpn(0), SALTED, options=("--suite", "gcm128")))
+        self.assertIn("of the suite gcm256", self.hint(frames, KEY, options=("--suite", "gcm256")))
+
+    def test_malformed_frames(self) -> None:
+        cut = [it[:-3] for it in protected(client_frames(3, length=40))]
+        self.assertIn(
+            "3 frames not opened, SCI 0200000000010001 AN 0, SC E C, from record 0: BadTag", self.hint(cut, KEY)
+        )
+
+    def test_groups(self) -> None:
+        """One hint for each tag form, the largest group first; senders with the same text share one."""
+        frames = protected(client_frames(2), key=KEYS[1]) + sealed(ES, OTHER_PORT, key=KEYS[1])
+        first, second = self.hint(frames, KEY).splitlines()
+        self.assertTrue(
+            first.startswith("3 frames not opened, SCI 0200000000010001 AN 0, ES E C, from record 2: "), first
+        )
+        self.assertTrue(
+            second.startswith("2 frames not opened, SCI 0200000000010001 AN 0, SC E C, from record 0: "), second
+        )
+        many = [it for n in range(40) for it in protected(client_frames(1), key=KEYS[1], sci=f"02000000{n:04x}0001")]
+        many += [it for n in range(30) for it in protected(client_frames(1), an=3, sci=f"02010000{n:04x}0001")]
+        keys = [f"{0x0200000000000001 + (n << 16):016x}/0={KEYS[2].hex()}" for n in range(20)]
+        lines = self.hint(many, *keys).splitlines()
+        self.assertEqual(len(lines), 17)
+        self.assertTrue(
+            lines[0].startswith("30 frames not opened, SCI 0201000000000001 AN 3 and 29 more senders"), lines[0]
+        )
+
+    def test_the_time_grows_with_keys_and_frames(self) -> None:
+        """200 keys whose salts do not fit, over 90 frames."""
+        keys = [f"{number:032x}:{SALT[::-1].hex()}" for number in range(1, 200)]
+        begun = time.monotonic()
+        found = self.hint(xpn(0) * 30, SALTED.replace(SALT.hex(), SALT[::-1].hex()), *keys)
+        self.assertIn("the search was cut short", found)
+        self.assertLess(time.monotonic() - begun, 20)
+
+    def test_many_keys_in_any_order(self) -> None:
+        """60 rekeys under XPN, with the keys in another order: each of them is found."""
+        octets = [bytes([number]) * 16 for number in range(1, 61)]
+        frames = [
+            it for place in range(60) for it in protected(
+                client_frames(1), suite=Suite.xpn128, key=octets[place * 7 % 60], an=place % 4
+            )
+        ]  # fmt: skip
+        status, shown = self.shown(frames, *(f"{it.hex()}:{SALT.hex()}" for it in octets))
+        self.assertEqual((status, sum(it.get("state") == "opened" for it in shown)), (0, 60))
+
+
+if __name__ == "__main__":
+    unittest.main()
