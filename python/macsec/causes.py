@@ -3,129 +3,109 @@
 from __future__ import annotations
 
 import itertools
-from collections.abc import Iterator, Sequence
-from typing import NamedTuple
+from collections.abc import Iterable, Iterator, Sequence
 
-from .endpoint_of_config import Configuration, KeyLine
-from .frames import read_tag, sender_of, without_vlan
-from .names import Suite, Verdict
+from .altered import altered, cut_of
+from .alternatives import WIDE, Alternatives, Shown, key_of, names_nobody
+from .endpoint_of_config import Configuration, Refusal
+from .frames import SecTag, read_tag, sender_of, without_vlan
+from .grammar import Command
+from .names import Verdict
 from .secy import RxSa
-from .trial import OPENED, Key, Trials
+from .settings import Change, Found, Option, Setting, changed
+from .trial import OPENED, Key, KeyArgument, Trials
 
-_TWINS = {
-    Suite.gcm128: Suite.xpn128,
-    Suite.xpn128: Suite.gcm128,
-    Suite.gcm256: Suite.xpn256,
-    Suite.xpn256: Suite.gcm256,
-}
-_UPPER_HALVES, _FEW_UPPER_HALVES = 256, 8
-_SSCIS, _FEW_SSCIS = 16, 4
-_LONGEST_TRAILER = 64
-_MOST_KEYS = 64
-
-
-class Change(NamedTuple):
-    """A change of the settings: what kind of cause it is, and what it is, in words."""
-
-    cause: str
-    text: str
-    line: int | None = None
-
-
-class Setting(NamedTuple):
-    """What a frame is opened under. `cut` octets are left out at its end."""
-
-    key: Key
-    sci: bytes
-    an: int
-    ssci: int = 0
-    upper: int = 0
-    cut: int = 0
-
-    def opens(self, trials: Trials, frame: bytes) -> bool:
-        """Does the library open a frame so?"""
-        octets = frame[: len(frame) - self.cut] if self.cut else frame
-        return trials.opens(self.key, self.sci, self.an, octets, self.ssci, self.upper)
-
-
-class Found(NamedTuple):
-    """Changes under which a frame opens, and the setting. Without a setting, it was not opened."""
-
-    changes: tuple[Change, ...]
-    setting: Setting | None = None
-
-
-# One way to change a setting: its name among the ways, and what it gives.
-_Option = tuple[Change, dict[str, object]]
-
-
-def _reversed(ssci: int) -> int:
-    return int.from_bytes(ssci.to_bytes(4, "big"), "little")
-
-
-def _key_of(line: KeyLine) -> Key:
-    return Key(line.octets, line.suite, line.offset, line.salt, line.name)
+# How many settings a run tries, and how many searches of it may be wide.
+_MOST_TRIES, _MOST_WIDE = 200_000, 1
 
 
 class Search:
-    """Searches for the changes of one CONFIG that open frames."""
+    """Searches for the changes of one CONFIG that open frames. `shown` is what the capture shows."""
 
-    def __init__(self, configuration: Configuration, more_keys: Sequence[Key] = ()) -> None:
-        self.configuration, self.trials = configuration, Trials()
-        self._more_keys = list(more_keys)
+    def __init__(self, configuration: Configuration) -> None:
+        self.configuration, self.trials, self.shown = configuration, Trials(), Shown()
+        self._more_keys: list[tuple[Key, int | None]] = []
+        self._ways = Alternatives(configuration, self._more_keys, self.shown)
+        self._left, self._wide_left = _MOST_TRIES, _MOST_WIDE
 
-    def _options(self, base: Setting, line: int | None, source: bytes, is_wide: bool) -> dict[str, list[_Option]]:
-        """The ways to change a setting: all of them, or the likely ones. `source` is the source address of a frame
-        that names no sender."""
-        lines = list(self.configuration.keys.values())[:_MOST_KEYS]
-        of_key = next((it.line for it in lines if it.octets == base.key.octets), None)
-        found: dict[str, list[_Option]] = {"key": [], "sci": []}
-        for each in [*map(_key_of, lines), *self._more_keys]:
-            if each.octets != base.key.octets:
-                change = Change("key", f"{each.name} in place of {base.key.name}", line)
-                found["key"].append((change, {"key": each}))
-        twin = _TWINS[base.key.suite]
-        text = f"suite {twin.name}, not {base.key.suite.name}"
-        found["suite"] = [(Change("suite", text, of_key), {"suite": twin})]
-        found["offset"] = [
-            (Change("offset", f"offset {it}, not {base.key.offset}", of_key), {"offset": it}) for it in (0, 30, 50)
-        ]
-        uppers = range(_UPPER_HALVES if is_wide else _FEW_UPPER_HALVES)
-        found["upper"] = [
-            (Change("upper", f"upper half {it:x} of the packet number, not {base.upper:x}", line), {"upper": it})
-            for it in dict.fromkeys([max(base.upper - 1, 0), base.upper + 1, *uppers]) if it != base.upper
-        ]  # fmt: skip
-        sscis = [_reversed(base.ssci), *range(1, 1 + (_SSCIS if is_wide else _FEW_SSCIS))]
-        sscis += [own for it in lines for own in (it.ssci, _reversed(it.ssci))]
-        found["ssci"] = [
-            (Change("ssci", f"SSCI {it:08x}, not {base.ssci:08x}" + (
-                ": its octets in the other order" if it == _reversed(base.ssci) else ""), line), {"ssci": it})
-            for it in dict.fromkeys(sscis) if it != base.ssci
-        ]  # fmt: skip
-        found["salt"] = [(Change("salt", "the salt's octets in the other order", of_key), {"salt": True})]
-        cuts = [4, *range(1, 4), *range(5, _LONGEST_TRAILER + 1)] if is_wide else [4]
-        found["cut"] = [(_trailer(it), {"cut": it}) for it in cuts]
-        if source:
-            found["sci"] = [
-                (Change("sci", f"SCI {it.hex()}, not {base.sci.hex()}", line), {"sci": it})
-                for it in dict.fromkeys(_ports_of(base.sci) + _ports_of(source)) if it != base.sci
-            ]  # fmt: skip
-        return found
+    def add_key(self, argument: KeyArgument, name: str) -> None:
+        """Adds a key that is tried too, with what is known of it."""
+        suite, offset, salt = argument.suites()[0], argument.offset or 0, argument.salt or bytes(12)
+        self._more_keys.append((Key(argument.octets, suite, offset, salt, name), argument.an))
+        self.shown.add_key(argument)
+
+    @property
+    def is_spent(self) -> bool:
+        """Was something left out, since the run had tried enough?"""
+        return self._left <= 0
+
+    def _opens(self, setting: Setting | None, frame: bytes) -> bool:
+        """Does a frame open so? Nothing is tried once the run has tried enough."""
+        if setting is None or self._left <= 0:
+            return False
+        self._left -= 1 + len(frame) // 800
+        return setting.opens(self.trials, frame)
+
+    def _first(self, options: Iterable[Sequence[Option]], base: Setting, frame: bytes) -> Found | None:
+        """The first of some changes that opens a frame."""
+        for chosen in options:
+            made = changed(base, chosen)
+            if self._opens(made, frame):
+                return Found(tuple(it[0] for it in chosen), made)
+        return None
 
     def changes(self, frame: bytes, base: Setting, line: int | None, most: int = 3) -> Found | None:
         """The fewest changes of a setting, up to `most`, under which a frame opens; None if there are none."""
         tag = read_tag(frame)
-        source = b"" if tag is None or tag.sci is not None or tag.tci & 0x50 else frame[6:12]
-        if base.opens(self.trials, frame):
+        if self._opens(base, frame):
             return Found((), base)
         for count in range(1, most + 1):
-            options = self._options(base, line, source, count == 1)
+            options = self._ways.usual(base, line, frame, tag, count == 1)
             for ways in itertools.combinations(options, count):
-                for chosen in itertools.product(*(options[it] for it in ways)):
-                    made = _changed(base, chosen)
-                    if made is not None and made.opens(self.trials, frame):
-                        return Found(tuple(it[0] for it in chosen), made)
+                found = self._first(itertools.product(*(options[it] for it in ways)), base, frame)
+                if found:
+                    return found
+            if count == 1:
+                found = self._rewritten(frame, base)
+                if found:
+                    return found
         return None
+
+    def _rewritten(self, frame: bytes, base: Setting) -> Found | None:
+        """Other addresses of a frame."""
+        return self._first(([it] for it in self._ways.addresses(base, frame)), base, frame)
+
+    def _widely(self, frame: bytes, base: Setting, line: int | None) -> Found | None:
+        """The changes that take long to try."""
+        if not self._wide_left:
+            return None
+        self._wide_left -= 1
+        tag = read_tag(frame)
+        for found in self._ways.wide(base, line, frame, tag):
+            if self._opens(found.setting, frame):
+                self._wide_left += 1
+                assert found.setting is not None
+                return Found(found.changes, _with_tagless_sci(found.setting, tag))
+        return None
+
+    def tried(self, frame: bytes) -> str:
+        """What was tried for a frame that no change opens."""
+        plain, _ = without_vlan(frame)
+        row = self._row_of(plain) if read_tag(plain) else None
+        base = self._setting(*row) if row else None
+        if base is None:
+            return ""
+        tag = read_tag(plain)
+        parts = ["all keys of CONFIG and of the options", "the other suite of the key's length"]
+        if base.key.suite.is_extended:
+            parts += ["the salt reversed", f"upper halves and SSCIs below {WIDE if not self._wide_left else 256:x}"]
+        else:
+            parts.append("offsets 0, 30 and 50")
+            if tag is not None and tag.sci is None:
+                parts.append("all ports of the source address" if not base.key.offset else "its usual ports")
+        parts += ["addresses that the capture shows", "up to 64 octets cut off"]
+        cut = "; the search was cut short" if self.is_spent else ""
+        return f"tried: {', '.join(parts)}{cut}"
 
     # The causes of a verdict.
 
@@ -141,11 +121,17 @@ class Search:
                 return Found(first, self._setting(*row) if row else None)
         if read_tag(plain) is None:
             return Found(first) if first else None
-        if verdict in (Verdict.NoSAError, Verdict.NoSA):
-            found = self._without_association(plain)
-        else:
-            found = self._with_association(plain, verdict)
+        found = self._of_plain(plain, verdict)
         return Found(first + found.changes, found.setting) if found else Found(first) if first else None
+
+    def _of_plain(self, plain: bytes, verdict: Verdict) -> Found | None:
+        """The same, of a frame without VLAN tags before its SecTAG."""
+        cut = cut_of(plain) if verdict == Verdict.BadTag else None
+        if cut:
+            return Found((cut,))
+        if verdict in (Verdict.NoSAError, Verdict.NoSA):
+            return self._without_association(plain)
+        return self._with_association(plain, verdict)
 
     def _with_association(self, frame: bytes, verdict: Verdict) -> Found | None:
         row = self._row_of(frame)
@@ -157,7 +143,9 @@ class Search:
         if base is None:
             return None
         if verdict != Verdict.Late:
-            return self.changes(frame, base, line)
+            found = self.changes(frame, base, line)
+            change = None if found else altered(frame, base)
+            return found or (Found((change,)) if change else self._widely(frame, base, line))
         if self.configuration.alone(frame).verdict in OPENED:
             return Found((Change("replay", "replay protection is on: the frame repeats an accepted one or is late"),))
         found = self.changes(frame, base, line, 2)
@@ -171,7 +159,7 @@ class Search:
         named = sender_of(frame, tag)
         scis = self.configuration.channels()
         # Without an SCI, ES and SCB a receiver takes its only channel.
-        if tag.sci is None and not tag.tci & 0x50:
+        if names_nobody(tag):
             named = scis[0] if len(scis) == 1 else named
         sa = self.configuration.rx_sa(named, tag.an)
         return (named, tag.an, sa) if sa else None
@@ -183,7 +171,7 @@ class Search:
 
     def _setting(self, sci: bytes, an: int, sa: RxSa) -> Setting | None:
         line = self.configuration.keys.get(sa.key)
-        return Setting(_key_of(line), sci, an, sa.ssci, sa.lowest >> 32) if line else None
+        return Setting(key_of(line), sci, an, sa.ssci, sa.lowest >> 32) if line else None
 
     def _without_association(self, frame: bytes) -> Found | None:
         """Why CONFIG has no association for a frame, and under which key it opens."""
@@ -193,38 +181,94 @@ class Search:
         sci, an = sender_of(frame, tag), tag.an
         channels = configuration.channels()
         rows = [(it, n, sa) for it in channels for n in range(4) for sa in [configuration.rx_sa(it, n)] if sa]
-        if tag.sci is None and not tag.tci & 0x50 and channels:
+        if names_nobody(tag) and channels:
             return self._only_channel(frame, an, rows, channels)
-        off = configuration.rx_sa(sci, an)
-        if off is not None and not off.on:
-            change = Change(
-                "off", f"SCI {sci.hex()} AN {an} is not enabled: rxon is missing", configuration.line_of_rxsa(sci, an)
-            )
-        elif sci == configuration.sci:
-            change = Change(
-                "own-sci", f"the line end has the frame's SCI {sci.hex()} as its own", configuration.end_line
-            )
-        elif sci in channels:
-            has = ", ".join(f"AN {n}" for it, n, _ in rows if it == sci) or "no association"
-            change = Change("an", f"AN {an} of SCI {sci.hex()}; CONFIG has {has}", configuration.line_of_rxsc(sci))
-        else:
-            has = ", ".join(it.hex() for it in channels) or "none"
-            change = Change("sci", f"SCI {sci.hex()}; CONFIG has {has}")
+        change = self._why_no_association(sci, an, rows, channels)
+        opens = next((it for it in self._likely(sci, an, rows) if self._opens(it, frame)), None)
+        if opens:
+            return Found((self._with_hint(change),), opens)
         for setting in self._likely(sci, an, rows):
             found = self.changes(frame, setting, None, 1)
             if found:
-                return Found((change, *found.changes), found.setting)
+                is_iv = any(it.cause in ("iv-sci", "address") for it in found.changes)
+                return Found(
+                    found.changes if is_iv and change.cause == "sci" else (change, *found.changes), found.setting
+                )
+        return self._closed(frame, change, sci, an, rows)
+
+    def _closed(
+        self, frame: bytes, change: Change, sci: bytes, an: int, rows: Sequence[tuple[bytes, int, RxSa]]
+    ) -> Found:
+        """What is known of a frame for which CONFIG has no association and that no likely setting opens."""
+        for setting in itertools.islice(self._likely(sci, an, rows), 4):
+            known = altered(frame, setting)
+            if known:
+                return Found((change, known))
+            found = self._widely(frame, setting, None)
+            if found:
+                is_iv = change.cause == "sci" and any(it.cause == "iv-sci" for it in found.changes)
+                return Found(found.changes if is_iv else (change, *found.changes), found.setting)
         return Found((change,))
 
+    def _why_no_association(
+        self, sci: bytes, an: int, rows: Sequence[tuple[bytes, int, RxSa]], channels: Sequence[bytes]
+    ) -> Change:
+        configuration = self.configuration
+        off = configuration.rx_sa(sci, an)
+        refused = self._refused(sci, an)
+        if off is not None and not off.on:
+            text = f"SCI {sci.hex()} AN {an} is not enabled: rxon is missing"
+            return Change("off", text, configuration.line_of_rxsa(sci, an))
+        if sci == configuration.sci:
+            text = f"the line end has the frame's SCI {sci.hex()} as its own"
+            return Change("own-sci", text, configuration.end_line)
+        if refused:
+            command, refusal = refused
+            text = f"this line is refused, so there is no association: {refusal.name}"
+            return Change("refused", text, command.line)
+        if sci in channels:
+            has = ", ".join(f"AN {n}" for it, n, _ in rows if it == sci) or "no association"
+            return Change("an", f"AN {an} of SCI {sci.hex()}; CONFIG has {has}", configuration.line_of_rxsc(sci))
+        has = ", ".join(it.hex() for it in channels) or "none"
+        return Change("sci", f"SCI {sci.hex()}; CONFIG has {has}")
+
+    def _with_hint(self, change: Change) -> Change:
+        """The cause, and what is likely if it is a refused line whose packet number is too large."""
+        command = next((it for it in self.configuration.commands if it.line == change.line), None)
+        if change.cause != "refused" or command is None or command.keyword != "rxsa":
+            return change
+        digits = f"{command.values[3]:x}"
+        if len(digits) < 9 or not digits.isdecimal():
+            return change
+        return change._replace(text=f"{change.text}; packet numbers are hex, and decimal {digits} is {int(digits):x}")
+
+    def _refused(self, sci: bytes, an: int) -> tuple[Command, Refusal] | None:
+        """The first refused line without which there is no such association: that of its key, its channel or itself."""
+        refusals = {it.line: it for it in self.configuration.refusals}
+        wanted = [it for it in self.configuration.commands if it.keyword == "rxsa" and it.values[:2] == (sci, an)]
+        keys = [it.values[2] for it in wanted]
+        for command in self.configuration.commands:
+            is_of = command.keyword == "key" and command.values[0] in keys
+            is_of = is_of or command.keyword == "rxsc" and command.values[0] == sci or command in wanted
+            if is_of and command.line in refusals:
+                return command, refusals[command.line]
+        return None
+
     def _likely(self, sci: bytes, an: int, rows: Sequence[tuple[bytes, int, RxSa]]) -> Iterator[Setting]:
-        """Settings for an association that CONFIG lacks: those of its other ones, of the same SCI or AN first."""
+        """Settings for an association that CONFIG lacks: those of its own line if that is refused, then those of the
+        other ones, of the same SCI or AN first."""
+        refused = self.configuration.refused_keys()
+        lines = {**{it.number: it for it in refused}, **self.configuration.keys}
+        for it in self.configuration.commands:
+            line = lines.get(it.values[2]) if it.keyword == "rxsa" and it.values[:2] == (sci, an) else None
+            if line:
+                ssci = int.from_bytes(it.values[4], "big") if len(it.values) > 4 else 1
+                yield Setting(key_of(line), sci, an, ssci, it.values[3] >> 32)
         for _, _, sa in sorted(rows, key=lambda it: (it[0] != sci) + (it[1] != an)):
             setting = self._setting(sci, an, sa)
             if setting:
                 yield setting
-        for line in self.configuration.keys.values():
-            yield Setting(_key_of(line), sci, an, 1)
-        for key in self._more_keys:
+        for key in [*map(key_of, refused), *self._ways.keys(an)]:
             yield Setting(key, sci, an, 1)
 
     def _only_channel(
@@ -244,37 +288,8 @@ class Search:
         return Found((change,))
 
 
-def _trailer(count: int) -> Change:
-    if count == 4:
-        return Change("fcs", "without the last 4 octets: a frame check sequence")
-    return Change("padding", f"without the last {count} octets: padding or a trailer")
-
-
-def _ports_of(sci: bytes) -> list[bytes]:
-    """The SCIs of the address with the usual ports."""
-    return [sci[:6] + port.to_bytes(2, "big") for port in (1, 0, 2, 3)]
-
-
-def _changed(base: Setting, chosen: Sequence[_Option]) -> Setting | None:
-    """A setting with some changes; None if they do not go together, or change nothing."""
-    given: dict[str, object] = {}
-    for _, values in chosen:
-        given.update(values)
-    key = given.get("key", base.key)
-    assert isinstance(key, Key)
-    suite = given.get("suite")
-    if suite is not None:
-        assert isinstance(suite, Suite)
-        if suite.key_octets != len(key.octets):
-            return None
-        key = key._replace(suite=suite, offset=0 if suite.is_extended else key.offset)
-    is_extended = key.suite.is_extended
-    if is_extended and "offset" in given or not is_extended and {"upper", "ssci", "salt"} & given.keys():
-        return None
-    offset = given.get("offset", key.offset)
-    if "offset" in given and offset == key.offset:
-        return None
-    assert isinstance(offset, int)
-    key = key._replace(offset=offset, salt=key.salt[::-1] if "salt" in given else key.salt)
-    others = {name: given[name] for name in ("sci", "ssci", "upper", "cut") if name in given}
-    return base._replace(key=key, **others)  # type: ignore[arg-type]
+def _with_tagless_sci(setting: Setting, tag: SecTag | None) -> Setting:
+    """A frame whose tag names nobody opens under the SCI of its IV."""
+    if setting.iv_sci is None or not names_nobody(tag):
+        return setting
+    return setting._replace(sci=setting.iv_sci, iv_sci=None)

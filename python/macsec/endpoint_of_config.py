@@ -35,6 +35,11 @@ class Refusal(NamedTuple):
     message: str
 
 
+_OTHER_LENGTH = {
+    Suite.gcm128: Suite.gcm256, Suite.gcm256: Suite.gcm128, Suite.xpn128: Suite.xpn256, Suite.xpn256: Suite.xpn128,
+}  # fmt: skip
+
+
 def key_line(command: Command, default: Suite) -> KeyLine:
     """The key of a line `key`. After the offset come no words, a suite, an SSCI and a salt, or all three."""
     number, octets, offset, *rest = command.values
@@ -77,6 +82,12 @@ class Configuration:
                 made = key_line(command, self.suite)
                 self.keys[made.number] = made
         return secy
+
+    def refused_keys(self) -> list[KeyLine]:
+        """The keys that have another length than those of their suite, as keys of the suite that fits."""
+        refused = {it.line for it in self.refusals if it.name == "KeyLength"}
+        lines = [key_line(it, self.suite) for it in self.commands if it.keyword == "key" and it.line in refused]
+        return [it._replace(suite=_OTHER_LENGTH[it.suite]) for it in lines]
 
     def fresh(self) -> SecY:
         """Another endpoint of the same text, for receiving alone."""

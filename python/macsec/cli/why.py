@@ -10,16 +10,19 @@ from collections.abc import Sequence
 from typing import NamedTuple, Optional
 
 from .. import capture
-from ..causes import Change, Found, Search, Setting
+from ..cak import Cak, KeyAgreements
+from ..causes import Search
 from ..endpoint_of_config import Configuration
 from ..errors import FrameFault, UsageError
 from ..frames import SecTag, ethertype, read_tag, without_vlan
 from ..ivs import UsedIvs, UsedTwice, dicts_of, lines_of
 from ..names import Verdict
 from ..secy import Received
+from ..settings import Change, Found, Setting
 from ..summary import Summary, frames_text, ranges
-from ..trial import OPENED, Key, Trial, key_argument, whole_number
+from ..trial import OPENED, key_argument, whole_number
 from . import run
+from .key_agreement import add_cak_options, caks_of
 
 _DELIVERED_AS_SENT = (Verdict.OK, Verdict.Delayed)
 # How many frames of a kind, and of all kinds, other settings are searched for; and how many of a kind are kept.
@@ -106,8 +109,13 @@ class Ivs:
 class Run:
     """What `macsec validate` makes of a capture, and the frames that it did not open."""
 
-    def __init__(self, configuration: Configuration, search: Search, path: str, only: int | None) -> None:
+    def __init__(
+        self, configuration: Configuration, search: Search, path: str, only: int | None, caks: Sequence[Cak] = ()
+    ) -> None:
         self.summary = Summary()
+        self.agreements = KeyAgreements(caks)
+        # The record of each frame that was accepted, by a hash of its octets.
+        self.accepted: dict[int, int] = {}
         self.ivs = Ivs(configuration, search, only)
         self.unopened: dict[_Kind, list[Seen]] = {}
         self.first_opened: dict[tuple[str, int | None], int] = {}
@@ -115,12 +123,28 @@ class Run:
         self.only: capture.Packet | None = None
         self.only_verdict = ""
         for packet in capture.read(path):
+            self._show(search, packet)
             verdict = self._add(configuration, packet, only)
             if packet.number == only:
                 self.only, self.only_verdict = packet, verdict
                 break
         if only is not None and self.only is None:
             raise UsageError(f"the capture has no record {only}")
+
+    def _show(self, search: Search, packet: capture.Packet) -> None:
+        """Notes what a record shows: addresses, SCIs, and keys that MKA distributes."""
+        plain, _ = without_vlan(packet.frame)
+        tag = read_tag(plain)
+        search.shown.add(plain, tag)
+        if tag is not None:
+            return
+        count = self.agreements.seen
+        key = self.agreements.add(packet.number, packet.frame)
+        if key is not None:
+            search.add_key(key, key.name)
+        if count < self.agreements.seen:
+            for sci in self.agreements.scis:
+                search.shown.add_sci(sci)
 
     def _add(self, configuration: Configuration, packet: capture.Packet, only: int | None) -> str:
         """Gives a record to the endpoint."""
@@ -139,6 +163,7 @@ class Run:
         of = self.summary.add(packet.number, packet.frame, verdict.name)
         if verdict in _DELIVERED_AS_SENT:
             self.first_opened.setdefault(of, packet.number)
+            self.accepted.setdefault(hash(packet.frame), packet.number)
         elif only is None or only == packet.number:
             kept = self.unopened.setdefault((verdict, *of), [])
             if len(kept) < _MOST_FRAMES:
@@ -148,12 +173,11 @@ class Run:
 
 def _opened_by(setting: Setting, seen: Sequence[Seen], ivs: Ivs) -> list[int]:
     """The records of the frames that open under a setting, one after another. Their IVs are noted."""
-    trial = Trial(setting.key, setting.sci, setting.an, setting.ssci)
-    trial.begin(setting.upper)
+    trial = setting.trial()
     found = []
     for each in seen:
         plain, _ = without_vlan(each.frame)
-        octets = plain[: len(plain) - setting.cut] if setting.cut else plain
+        octets = setting.octets(plain)
         tag = read_tag(octets)
         if tag is not None and len(octets) >= 14 and trial.receive(octets).verdict in OPENED:
             found.append(each.record)
@@ -162,8 +186,8 @@ def _opened_by(setting: Setting, seen: Sequence[Seen], ivs: Ivs) -> list[int]:
     return found
 
 
-def _note_of(run_: Run, kind: _Kind, seen: Seen) -> str:
-    """What is known of a frame for which no change was found."""
+def _note_of(run_: Run, search: Search, kind: _Kind, seen: Seen) -> str:
+    """What is known of a frame for which no change was found, and what was tried."""
     verdict, sender, an = kind
     if an is None:
         return f"the frame has no SecTAG: EtherType {ethertype(seen.frame)}"
@@ -172,15 +196,17 @@ def _note_of(run_: Run, kind: _Kind, seen: Seen) -> str:
     if verdict == Verdict.Reserved:
         return "E is set and C is clear: not a data frame"
     first = run_.first_opened.get((sender, an))
+    tried = search.tried(seen.frame)
+    after = f" ({tried})" if tried else ""
     if first is not None and verdict in (Verdict.NotValid, Verdict.Invalid):
         return (
             f"no change that was tried opens it; others of the association open (record {first}): altered, or under a "
-            "key that is not given"
+            f"key that is not given{after}"
         )
-    return "no change that was tried opens it: another key, or salt; give more keys by --key"
+    return f"no change that was tried opens it: another key or salt, or altered; give more keys by --key{after}"
 
 
-def _with_rekey(run_: Run, kind: _Kind, found: Found, record: int) -> tuple[Change, ...]:
+def _with_rekey(run_: Run, kind: _Kind, found: Found, record: int, frame: bytes) -> tuple[Change, ...]:
     """The changes; a key that follows another one of the same association is a rekey."""
     first = run_.first_opened.get((kind[1], kind[2]))
     changes = tuple(
@@ -189,6 +215,9 @@ def _with_rekey(run_: Run, kind: _Kind, found: Found, record: int) -> tuple[Chan
     )  # fmt: skip
     if changes or found.setting is None:
         return changes
+    earlier = run_.accepted.get(hash(frame))
+    if earlier is not None and earlier < record:
+        return (Change("replay", f"it repeats record {earlier}, from before the upper half of the numbers changed"),)
     return (Change("order", "it opens as the first frame: its packet number is far from those that were accepted"),)
 
 
@@ -213,11 +242,11 @@ class Explanation:
                 unexplained.append(left.pop(0))
                 continue
             records = self._records(found, left, kind[0])
-            self.groups.append(Group(*kind, records, _with_rekey(self._run, kind, found, first.record)))
+            self.groups.append(Group(*kind, records, _with_rekey(self._run, kind, found, *first)))
             chosen = set(records)
             left = [it for it in left if it.record not in chosen]
         if unexplained or left:
-            note = _note_of(self._run, kind, (unexplained + left)[0])
+            note = _note_of(self._run, self._search, kind, (unexplained + left)[0])
             self.groups.append(Group(*kind, [it.record for it in unexplained + left], (), note))
 
     def _records(self, found: Found, left: list[Seen], verdict: Verdict) -> list[int]:
@@ -250,17 +279,6 @@ def _record_lines(packet: capture.Packet, verdict: str) -> list[str]:
     return [*lines, f"  SecTAG: {tag.flags}, AN {tag.an}, SL {tag.sl}, PN {tag.pn:08x}, SCI {sci}"]
 
 
-def _more_keys(texts: Sequence[str]) -> list[Key]:
-    """The keys of the options --key."""
-    found = []
-    for place, text in enumerate(texts, 1):
-        it = key_argument(text)
-        for suite in it.suites():
-            found.append(Key(it.octets, suite, 0, it.salt or bytes(12), f"--key {place}"))
-            break
-    return found
-
-
 def main(words: Sequence[str] | None = None) -> int:
     """Runs the command, and returns its exit status."""
     parser = argparse.ArgumentParser(
@@ -273,7 +291,10 @@ def main(words: Sequence[str] | None = None) -> int:
     parser.add_argument("config", metavar="CONFIG", help="the configuration of `macsec validate`")
     parser.add_argument("capture", metavar="IN", help="pcap or pcapng, also compressed by gzip")
     parser.add_argument("record", metavar="K", type=int, nargs="?", help="a record alone, from 0")
-    parser.add_argument("--key", action="append", default=[], metavar="KEY[:SALT]", help="one more key to try, in hex")
+    parser.add_argument(
+        "--key", action="append", default=[], metavar="KEY[:SALT[:SSCI[:UPPER]]]", help="one more key to try, in hex"
+    )
+    add_cak_options(parser)
     parser.add_argument("--json", action="store_true", help="one JSON object on each line")
     asked = parser.parse_args(words)
     return run("macsec-why", lambda: _why(asked))
@@ -282,8 +303,10 @@ def main(words: Sequence[str] | None = None) -> int:
 def _why(asked: argparse.Namespace) -> int:
     with open(asked.config, "rb") as file:
         configuration = Configuration(file.read())
-    search = Search(configuration, _more_keys(asked.key))
-    made = Run(configuration, search, asked.capture, asked.record)
+    search = Search(configuration)
+    for place, text in enumerate(asked.key, 1):
+        search.add_key(key_argument(text), f"--key {place}")
+    made = Run(configuration, search, asked.capture, asked.record, caks_of(asked))
     groups = Explanation(made, search).groups
     search.trials.close()
     made.summary.note_keys(made.ivs.keys)

@@ -1,0 +1,228 @@
+"""Forty-eight planted causes over captures of Linux 6.1 and wpa_supplicant, and over frames that the library makes:
+macsec-why has to name each one, and nothing else."""
+
+from __future__ import annotations
+
+import json
+import struct
+import unittest
+import zlib
+from collections.abc import Sequence
+from typing import Callable, NamedTuple, Union
+
+from macsec import Suite, capture, seal
+from macsec.capture import pcap_header
+from macsec.cli.config import main as config_main
+from macsec.cli.why import main
+from macsec.frames import without_vlan
+
+from .helpers import KEYS, OTHER, RECEIVER, ROOT, SALT, SENDER, InFolder, main_of, protected
+from .test_cak import NEEDS
+
+DATA = ROOT / "python" / "tests" / "data"
+ICV = 16
+Frames = Sequence[bytes]
+
+
+class Planted(NamedTuple):
+    """A planted cause: its name, the capture, what is done to CONFIG (old and new texts) and to the frames, more
+    options, and what has to be named: kinds of causes of all frames that stay closed, in any order, or `note:` and a
+    part of the note. Nothing, if every frame opens."""
+
+    name: str
+    source: str
+    config: Sequence[tuple[str, str]]
+    frames: Callable[[Frames], Union[Frames, bytes]]
+    expected: str
+    options: Sequence[str] = ()
+
+
+def same(frames: Frames) -> Frames:
+    return frames
+
+
+def each(change: Callable[[bytes], bytes]) -> Callable[[Frames], Frames]:
+    return lambda frames: [change(it) for it in frames]
+
+
+def vlan(tags: str) -> Callable[[bytes], bytes]:
+    return lambda it: it[:12] + bytes.fromhex(tags) + it[12:]
+
+
+def with_fcs(frame: bytes) -> bytes:
+    return frame + zlib.crc32(frame).to_bytes(4, "little")
+
+
+def long_ones(frames: Frames) -> Frames:
+    """Without frames whose SL is not 0: of them the octets after the ICV are no fault."""
+    return [it for it in frames if it[15] == 0 or it[12:14] != b"\x88\xe5"]
+
+
+def flipped(frame: bytes) -> bytes:
+    return frame[:-20] + bytes([frame[-20] ^ 1]) + frame[-19:]
+
+
+def snapped(frames: Frames) -> bytes:
+    """A capture of 60 octets of each frame."""
+    records = (struct.pack("<IIII", 1_700_000_000, 0, 60, len(it)) + it[:60] for it in frames)
+    return pcap_header() + b"".join(records)
+
+
+def ip_frames(count: int, source: str = SENDER) -> list[bytes]:
+    """IPv4 packets of a client, with right header checksums."""
+    made = []
+    for number in range(count):
+        head = bytearray(
+            struct.pack("!BBHHHBBH4s4s", 0x45, 0, 84, number, 0, 64, 1, 0, b"\x0a\x09\0\1", b"\x0a\x09\0\2")
+        )
+        total = sum(int.from_bytes(head[at : at + 2], "big") for at in range(0, 20, 2))
+        total = (total & 0xFFFF) + (total >> 16)
+        head[10:12] = ((total & 0xFFFF) + (total >> 16) ^ 0xFFFF).to_bytes(2, "big")
+        made.append(bytes.fromhex(OTHER)[:6] + bytes.fromhex(source)[:6] + b"\x08\x00" + bytes(head) + bytes(range(64)))
+    return made
+
+
+def tagless(tci: int, sci: str) -> list[bytes]:
+    """Frames whose tags have no SCI and whose IVs have this one, as Linux makes them."""
+    made = []
+    for number, frame in enumerate(ip_frames(6), 1):
+        head = frame[:12] + b"\x88\xe5" + bytes([tci, 0]) + number.to_bytes(4, "big")
+        made.append(seal(head + frame[12:], len(head), key=KEYS[0], sci=sci, pn=number))
+    return made
+
+
+def xpn_frames(suite: Suite = Suite.xpn128, **how: object) -> list[bytes]:
+    return protected(ip_frames(6), suite=suite, key=KEYS[0] if suite == Suite.xpn128 else KEYS[0] * 2, **how)
+
+
+def linux(frames: Frames) -> Frames:
+    """The capture `below` without its VLAN tags: plain MACsec of Linux."""
+    return [without_vlan(it)[0] for it in frames]
+
+
+ONE, TWO = KEYS[0].hex(), KEYS[1].hex()
+LONG = "e3c08a8f06c6e3ad95a70557b23f75483ce33021a9c72b7025666204c69c0b72"
+FAR = "0200000000010009"
+SWAP = (("rxsa 0200000000010001 0 0", "rxsa 0200000000010001 0 9"), ("rxsa 0200000000020001 0 1", "rxsa 0200000000020001 0 0"),
+        ("rxsa 0200000000010001 0 9", "rxsa 0200000000010001 0 1"))  # fmt: skip
+OF_FIRST = "note:another key"
+EXTENDED = f"end A xpn128 {RECEIVER} 1546 sci\nA key 0 {ONE} 0 0000000f {SALT.hex()}\nA rxsc {SENDER}\n"
+EXTENDED += f"A rxsa {SENDER} 0 0 1 00000001\nA rxon {SENDER} 0\n"
+LONGER = EXTENDED.replace("xpn128", "xpn256").replace(ONE, ONE * 2)
+PLAIN = f"end A gcm128 {RECEIVER} 1546 sci\nA key 0 {ONE} 0\nA rxsc {FAR}\nA rxsa {FAR} 0 0 1\nA rxon {FAR} 0\n"
+CHANNEL = f"A rxsc {OTHER}\nA rxsa {OTHER} 0 0 1\nA rxon {OTHER} 0\n"
+REPLAY, BACK = ("replay off 0", "replay on 0"), SALT[::-1].hex()
+CAUSES = (
+    Planted("key", "linux", [(ONE, "00" * 16), ("A rxsc 0200000000010001", f"A key 7 {ONE} 0\nA rxsc 0200000000010001")],
+            same, "key"),
+    Planted("key of an option", "linux", [(ONE, "00" * 16)], same, "key", ("--key", ONE)),
+    Planted("key of MKA", "cak-256", [("a8467657", "00000000")], same, "key",
+            ("--cak-file", str(DATA / "cak-256.cak"))),
+    Planted("keys of two channels swapped", "linux", SWAP, same, "key"),
+    Planted("SCI", "linux", [("020000000001", "020000000077")], same, "sci"),
+    Planted("a channel missing", "linux", [("A rxsc 0200000000020001\n", ""), ("A rxsa 0200000000020001 0 1 1\n", ""),
+            ("A rxon 0200000000020001 0\n", "")], same, "sci"),
+    Planted("AN", "linux", [("0001 0 0 1", "0001 3 0 1"), ("rxon 0200000000010001 0", "rxon 0200000000010001 3")], same,
+            "an"),
+    Planted("suite", "linux", [("end A gcm128", "end A xpn128"), ("0 0 1\n", "0 0 1 00000001\n"),
+            ("0 1 1\n", "0 1 1 00000002\n")], same, "suite"),
+    Planted("offset 0 for 30", "cak-offset", [(" 30\n", " 0\n")], same, "offset"),
+    Planted("offset 50 for 30", "cak-offset", [(" 30\n", " 50\n")], same, "offset"),
+    Planted("offset 30 for 0", "linux", [(f"{ONE} 0", f"{ONE} 30")], same, "offset"),
+    Planted("rxon missing", "linux", [("A rxon 0200000000010001 0\n", "")], same, "off"),
+    Planted("PN too high", "linux", [("0001 0 0 1\n", "0001 0 0 9\n"), REPLAY], same, "pn"),
+    Planted("own SCI", "linux", [("02ffffffffff0001", "0200000000010001"), ("A rxsc 0200000000010001\n", ""),
+            ("A rxsa 0200000000010001 0 0 1\n", ""), ("A rxon 0200000000010001 0\n", "")], same, "own-sci"),
+    Planted("check sequence", "linux", [], lambda it: [*map(with_fcs, long_ones(it))], "fcs"),
+    Planted("VLAN tag", "linux", [], each(vlan("81000064")), "vlan"),
+    Planted("two VLAN tags", "linux", [], each(vlan("88a8000a81000064")), "vlan"),
+    Planted("VLAN tag and check sequence", "linux", [],
+            lambda it: [with_fcs(vlan("81000064")(each_)) for each_ in long_ones(it)], "vlan fcs"),
+    Planted("offset, VLAN tag and check sequence", "cak-offset", [(" 30\n", " 0\n")],
+            lambda it: [with_fcs(vlan("81000064")(each_)) for each_ in long_ones(it)], "offset vlan fcs"),
+    Planted("salt reversed", "xpn", [(SALT.hex(), BACK)], same, "salt"),
+    Planted("salt reversed, VLAN tag, check sequence", "xpn", [(SALT.hex(), BACK)],
+            lambda it: [with_fcs(vlan("81000064")(each_)) for each_ in long_ones(it)], "salt vlan fcs"),
+    Planted("SSCI reversed", "xpn", [(" 00000001\n", " 01000000\n")], same, "ssci"),
+    Planted("SSCI reversed, check sequence", "xpn", [(" 00000001\n", " 01000000\n")],
+            lambda it: [*map(with_fcs, long_ones(it))], "ssci fcs"),
+    Planted("SSCIs swapped", "above", [("1 00000001\n", "1 0000000x\n"), ("1 00000002\n", "1 00000001\n"),
+            ("1 0000000x\n", "1 00000002\n")], same, "ssci"),
+    Planted("no SCI, two channels", PLAIN + CHANNEL, [], lambda _: tagless(0x0C, FAR), "channel"),
+    Planted("trailer of 7 octets", "linux", [], lambda it: [each_ + bytes(7) for each_ in long_ones(it)], "padding"),
+    Planted("padding of short frames", "linux", [], lambda it: [i + bytes(9) for i in it if i[15]], ""),
+    Planted("bit flips", "linux", [], lambda it: [*it[:9], flipped(it[9]), *it[10:]], "altered"),
+    Planted("replay", "linux", [REPLAY], lambda it: [*it, *it[2:6]], "replay"),
+    Planted("reorder", "linux", [REPLAY], lambda it: [*it[:6], it[8], it[7], it[6], *it[9:]], "replay"),
+    Planted("loss", "linux", [REPLAY], lambda it: [*it[:6], *it[13:]], ""),
+    Planted("EtherType", "linux", [], each(lambda it: it[:12] + b"\x88\xe6" + it[14:]), "note:EtherType 88e6"),
+    Planted("cut to 64 octets", "linux", [], each(lambda it: it[:64]), "cut"),
+    Planted("snapshot length", "linux", [], snapped, "partial"),
+    Planted("wrong salt", "xpn", [(SALT.hex(), "00" * 12)], same, "note:another key or salt"),
+    Planted("key length", "above", [("end A xpn256", "end A xpn128")], same, "refused"),
+    Planted("wrong key, integrity alone", "cak-integrity", [("7f81f62a", "00000000"), ("6d6362e2", "00000001")], same,
+            OF_FIRST),
+    Planted("3 octets cut", "linux", [], each(lambda it: it[:-3]), "cut"),
+    Planted("replay across an upper half", "xpn", [REPLAY], lambda it: [*it, *it[2:5]], "replay"),
+    Planted("gcm256 for xpn256", "xpn", [("end A xpn256", "end A gcm256")], same, "refused suite"),
+    Planted("decimal PN of 10 digits", "linux", [("0001 0 0 1\n", "0001 0 0 4294967297\n")], same, "refused"),
+    Planted("SSCI above 16", EXTENDED, [], lambda _: xpn_frames(ssci=0x1234), "ssci"),
+    Planted("upper half above ff", EXTENDED, [], lambda _: xpn_frames(pn=0x100_0000_0001), "upper"),
+    Planted("upper half above ff, long key", LONGER, [], lambda _: xpn_frames(Suite.xpn256, pn=0x1AF3_0000_0001), "upper"),
+    Planted("destination rewritten", "linux", [], each(lambda it: b"\x02\x77" + it[2:]), "address"),
+    Planted("source rewritten", "linux", [], each(lambda it: it[:6] + bytes.fromhex("027700000001") + it[12:]), "address"),
+    Planted("no SCI, a wrong one in CONFIG", PLAIN.replace(FAR, OTHER), [], lambda _: tagless(0x0C, SENDER[:12] + "1234"), "sci"),
+    Planted("ES, another SCI", PLAIN, [], lambda _: tagless(0x4C, FAR), "iv-sci"),
+    Planted("SCB, another SCI", PLAIN.replace(FAR, SENDER[:12] + "0000"), [], lambda _: tagless(0x1C, FAR), "iv-sci"),
+)  # fmt: skip
+
+
+class Causes(InFolder):
+    def source(self, name: str) -> tuple[str, Frames]:
+        """The CONFIG that opens a capture, and its frames."""
+        if name.startswith("end "):
+            return name, []
+        file = "below" if name == "linux" else name
+        frames: Frames = [it.frame for it in capture.read(str(DATA / f"{file}.pcap"))]
+        if name == "linux":
+            frames = linux(frames)
+        keys = DATA / f"{file}.keys"
+        words = ["--keys", keys] if keys.exists() else ["--key", f"{LONG}:{SALT.hex()}"]
+        status, text, error = main_of(config_main, "--capture", self.put("SOURCE", frames), *words)
+        self.assertEqual((status, error), (0, ""))
+        return text, frames
+
+    def named(self, it: Planted) -> tuple[int, set[str], str]:
+        """The status, the kinds of causes, and all notes."""
+        text, frames = self.source(it.source)
+        for old, new in it.config:
+            self.assertIn(old, text, it.name)
+            text = text.replace(old, new)
+        path = self.put("IN", it.frames(frames))
+        status, out, error = main_of(main, self.put("CONFIG", text), path, "--json", *it.options)
+        self.assertEqual(error, "", it.name)
+        shown = [json.loads(line) for line in out.splitlines()]
+        groups = [group["unopened"] for group in shown if "unopened" in group]
+        names = {cause["cause"] for group in groups for cause in group["causes"]}
+        names |= {seen["not seen"] for seen in shown if "not seen" in seen}
+        notes = "; ".join(group["note"] for group in groups if "note" in group and group.get("ethertype") != "888e")
+        return status, names, notes
+
+    @NEEDS
+    def test_all(self) -> None:
+        self.assertEqual(len(CAUSES), 49)
+        self.assertEqual(len({it.name for it in CAUSES}), 49)
+        for it in CAUSES:
+            with self.subTest(it.name):
+                status, names, notes = self.named(it)
+                if it.expected.startswith("note:"):
+                    self.assertEqual(names, set(), it.name)
+                    self.assertIn(it.expected[5:], notes)
+                else:
+                    self.assertEqual((names, notes), (set(it.expected.split()), ""), it.name)
+                if it.name not in ("EtherType", "snapshot length"):
+                    self.assertEqual(status, 3 if it.expected else 0, it.name)
+
+
+if __name__ == "__main__":
+    unittest.main()
